@@ -1,0 +1,12 @@
+//! Command and response frames of the SD and e.MMC bus, with their CRC7.
+//!
+//! Begin at `specs/Frame.antt`, which says what a frame is as a list of bits.
+#![tactic(auto)]
+
+mod command;
+mod fault;
+mod reply;
+
+pub use command::Command;
+pub use fault::FrameFault;
+pub use reply::{Expect, Reply};
