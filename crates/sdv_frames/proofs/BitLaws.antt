@@ -1,5 +1,6 @@
 -- Laws of lists of bits: their lengths, how they join, and the numbers that they spell.
-use Rattle.std.proofs.Common.{◌≡◌, Bool, true, false, ℕ, zero, suc, ◌+◌, ◌-◌, ◌*◌, ◌/◌, ◌%◌, ◌^◌, ◌<◌, ◌≤◌, List, [], ◌∷◌, ◌++◌, length, refl, sym, ◌∙◌, ap, arith, append_assoc, length-append, one-add, add_comm, zero-add}
+use Rattle.std.proofs.Common.{◌≡◌, Bool, true, false, ℕ, zero, suc, ◌+◌, ◌-◌, ◌*◌, ◌/◌, ◌%◌, ◌^◌, ◌<◌, ◌≤◌, List, [], ◌∷◌, ◌++◌, length, refl, sym, ◌∙◌, ap, arith, append_assoc, length-append, one-add, add_comm, zero-add, append-nil, take, get_or}
+use Rattle.std.proofs.lemmas.Grind.{take_at_read}
 use Rattle.std.specs.Prelude.{◌==◌, if◌then◌else◌}
 use Rattle.std.proofs.Math.Nat.{suc-add, mod-mod, pow-suc, one-mul, div-eq_of_lt}
 use Rattle.std.proofs.Math.Pow.{mod-mod-pow}
@@ -81,3 +82,12 @@ pub length-bits_of : (bytes : List ℕ) → length (bits_of bytes) ≡ 8 * lengt
 unfolding bits_of
 length-bits_of [] = refl
 length-bits_of (x ∷ xs) = rw (length-append (bits 8 x) (bits_of xs), length-bits 8 x, length-bits_of xs) (omega arith)
+
+-- the bits of one byte
+pub bits_of-one : (byte : ℕ) → bits_of (byte ∷ []) ≡ bits 8 byte
+unfolding bits_of
+bits_of-one byte = append-nil (bits 8 byte)
+
+-- the bits of one byte more
+pub bits_of-take : (bytes : List ℕ) (i : ℕ) → i < length bytes → bits_of (take (i + 1) bytes) ≡ bits_of (take i bytes) ++ bits 8 (get_or bytes i 0)
+bits_of-take bytes i h = rw ((take_at_read bytes i 0 h).1, bits_of-append (take i bytes) (get_or bytes i 0 ∷ []), bits_of-one (get_or bytes i 0)) refl

@@ -1,1 +1,4 @@
 pub mod BitLaws
+pub mod CrcLaws
+pub mod Tried
+pub mod BitStep

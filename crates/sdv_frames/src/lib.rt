@@ -4,9 +4,11 @@
 #![tactic(auto)]
 
 mod command;
+mod crc;
 mod fault;
 mod reply;
 
 pub use command::Command;
+pub use crc::crc7;
 pub use fault::FrameFault;
 pub use reply::{Expect, Reply};
