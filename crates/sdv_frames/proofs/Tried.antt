@@ -35,7 +35,7 @@ same_bits [] (b ∷ q) = false
 same_bits (a ∷ p) [] = false
 same_bits (a ∷ p) (b ∷ q) = same_bit a b && same_bits p q
 
-same_bit_is : (a b : Bool) → same_bit a b ≡ true → a ≡ b
+pub same_bit_is : (a b : Bool) → same_bit a b ≡ true → a ≡ b
 same_bit_is true true h = refl
 same_bit_is true false h = cc
 same_bit_is false true h = cc

@@ -1,21 +1,14 @@
 -- What a frame on the command line is, in both directions.
 -- SD Physical Layer Simplified Specification, sections 4.7.2 (command format) and 4.9 (responses);
--- JESD84-B51, sections 6.11 (commands) and 6.12 (responses).
+-- JESD84-B51, sections 6.10.2 (command format) and 6.12 (responses).
 use Rattle.std.specs.Prelude.{◌≡◌, Bool, true, false, ℕ, List, [], ◌∷◌, ◌++◌}
 use Rattle.sdv_frames.specs.Bits.{Bits, bits, bits_of}
 use Rattle.sdv_frames.specs.Polynomial.{IsCrc7}
+use Rattle.sdv_frames.specs.declared.layout.Check.{Check}
+use Rattle.sdv_frames.specs.declared.layout.Check.TheVariants.{CrcOfAll, CrcOfContents, AllOnes}
 use Rattle.sdv_frames.specs.declared.command.Command.{Command}
 use Rattle.sdv_frames.specs.declared.reply.Reply.{Reply}
 use Rattle.sdv_frames.specs.declared.reply.Reply.TheVariants.{R1, R2, R3, R6, R7}
-
--- what stands in the seven bits before the end bit
-pub data Check : Type 0 where
-  -- the CRC7 of all bits before it
-  CrcOfAll : Check
-  -- the CRC7 of the contents alone, for a register has its own
-  CrcOfContents : Check
-  -- no CRC7, but reserved bits that are all 1
-  AllOnes : Check
 
 -- a frame, field by field
 pub record Frame : Type 0 where
@@ -64,3 +57,9 @@ IsCommandFrame c bytes = Spells (command_frame c) (bits_of bytes)
 
 abbrev pub IsReplyFrame : Reply → List ℕ → Type 0
 IsReplyFrame r bytes = Spells (reply_frame r) (bits_of bytes)
+
+-- bits are a message under its CRC7, with the end bit
+pub record IsSealed (message spelling : Bits) : Type 0 where
+  pub seven : Bits
+  pub crc : IsCrc7 message seven
+  pub spelled : spelling ≡ message ++ (seven ++ true ∷ [])

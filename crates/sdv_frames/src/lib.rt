@@ -6,7 +6,9 @@
 mod command;
 mod crc;
 mod fault;
+mod layout;
 mod reply;
+mod seal;
 
 pub use command::Command;
 pub use crc::crc7;
