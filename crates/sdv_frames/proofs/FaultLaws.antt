@@ -53,7 +53,7 @@ module _ (l : Layout) (xs : List ℕ) (long : 2 ≤ l.length) (fits : length xs 
   goes : take 1 (drop 1 (bits_of xs)) ≡ bit_at 6 (get_or xs 0 0) ∷ []
   goes = ap (λ all. take 1 (drop 1 all)) (first_bits xs (omega arith))
 
-  indexed : number_of (take 6 (drop 2 (bits_of xs))) ≡ bit_and (get_or xs 0 0) 63
+  pub indexed : number_of (take 6 (drop 2 (bits_of xs))) ≡ bit_and (get_or xs 0 0) 63
   unfolding bits
   indexed = ap (λ all. number_of (take 6 (drop 2 all))) (first_bits xs (omega arith)) ∙ index_means (get_or xs 0 0)
 

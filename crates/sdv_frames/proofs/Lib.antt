@@ -6,3 +6,6 @@ pub mod ByteLaws
 pub mod PartLaws
 pub mod FaultLaws
 pub mod CheckLaws
+pub mod Parted
+pub mod Spelled
+pub mod FrameLaws

@@ -86,3 +86,10 @@ pub record IsFirstFault (l : Layout) (received : Bits) (fault : FrameFault) : Ty
 -- no fault is there
 abbrev pub HasNoFault : Layout → Bits → Type 0
 HasNoFault l received = HasNone l received (Length ∷ StartBit ∷ Direction ∷ Index ∷ Crc ∷ EndBit ∷ Reserved ∷ [])
+
+-- what refuses six bytes as a command: not their length, nor an index, and there are no reserved bits
+abbrev pub MayRefuseCommand : FrameFault → Type 0
+MayRefuseCommand Length   = ⊥
+MayRefuseCommand Index    = ⊥
+MayRefuseCommand Reserved = ⊥
+MayRefuseCommand fault    = Unit {0}

@@ -1,7 +1,7 @@
 -- What a frame on the command line is, in both directions.
 -- SD Physical Layer Simplified Specification, sections 4.7.2 (command format) and 4.9 (responses);
 -- JESD84-B51, sections 6.10.2 (command format) and 6.12 (responses).
-use Rattle.std.specs.Prelude.{◌≡◌, Bool, true, false, ℕ, List, [], ◌∷◌, ◌++◌}
+use Rattle.std.specs.Prelude.{◌≡◌, Bool, true, false, ℕ, ◌^◌, ◌<◌, List, [], ◌∷◌, ◌++◌}
 use Rattle.sdv_frames.specs.Bits.{Bits, bits, bits_of}
 use Rattle.sdv_frames.specs.Polynomial.{IsCrc7}
 use Rattle.sdv_frames.specs.declared.layout.Check.{Check}
@@ -38,6 +38,11 @@ pub record Spells (f : Frame) (spelling : Bits) : Type 0 where
   pub seven : Bits
   pub check : CheckIs f.check (head f) f.contents seven
   pub spelled : spelling ≡ head f ++ (seven ++ true ∷ [])
+
+-- a command has an index of six bits and an argument of 32
+pub record IsCommand (c : Command) : Type 0 where
+  pub index : c.index < 2 ^ 6
+  pub argument : c.argument < 2 ^ 32
 
 -- the frame of a command
 abbrev pub command_frame : Command → Frame

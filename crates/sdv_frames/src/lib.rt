@@ -10,7 +10,7 @@ mod layout;
 mod reply;
 mod seal;
 
-pub use command::Command;
+pub use command::{Command, decode_command, encode};
 pub use crc::crc7;
 pub use fault::FrameFault;
 pub use reply::{Expect, Reply};
