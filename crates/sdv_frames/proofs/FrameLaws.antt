@@ -60,7 +60,7 @@ first_five (a ∷ b ∷ c ∷ d ∷ []) h = absurd (omega arith)
 first_five (a ∷ b ∷ c ∷ d ∷ e ∷ xs) h = refl
 
 -- without the first byte
-drop_byte : (byte : ℕ) (bytes : List ℕ) → drop 8 (bits_of (byte ∷ bytes)) ≡ bits_of bytes
+pub drop_byte : (byte : ℕ) (bytes : List ℕ) → drop 8 (bits_of (byte ∷ bytes)) ≡ bits_of bytes
 unfolding bits bits_of
 drop_byte byte bytes = refl
 

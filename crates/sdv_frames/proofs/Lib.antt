@@ -9,3 +9,4 @@ pub mod CheckLaws
 pub mod Parted
 pub mod Spelled
 pub mod FrameLaws
+pub mod ReplyLaws

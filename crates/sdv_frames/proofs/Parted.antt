@@ -73,6 +73,12 @@ pub record Cut (received : Bits) (n : ℕ) : Type 0 where
   pub parts : Parted received start from_host index contents seven end
   pub room : length contents ≡ 8 * n - 16
 
+-- the front and the back of bits, cut at their second bit, their eighth and before their last
+joined : (received front back rest index contents seven : Bits) (start from_host end : Bool) → received ≡ front ++ back → front ≡ start ∷ from_host ∷ rest → rest ≡ index ++ contents → back ≡ seven ++ end ∷ [] →
+    received ≡ (start ∷ from_host ∷ (index ++ contents)) ++ (seven ++ end ∷ [])
+joined received front back rest index contents seven start from_host end e f g h =
+    e ∙ (ap (λ xs. xs ++ back) (f ∙ ap (λ xs. start ∷ from_host ∷ xs) g) ∙ ap (λ xs. (start ∷ from_host ∷ (index ++ contents)) ++ xs) h)
+
 pub cut_of : (received : Bits) (n : ℕ) → 2 ≤ n → length received ≡ 8 * n → Cut received n
 cut_of received n long whole =
     let front : Bits = take (8 * n - 8) received in
@@ -82,6 +88,7 @@ cut_of received n long whole =
     let firsts = two_long front (omega arith) in
     let last = one_long (drop 7 back) (length-drop 7 back ∙ omega arith) in
     let rest_long : length firsts.2 ≡ 8 * n - 10 = omega (arith, ap length firsts.3) in
+    let whole_back : back ≡ take 7 back ++ last.0 ∷ [] = sym (take-append-drop 7 back) ∙ ap (λ xs. take 7 back ++ xs) last.1 in
     record {
       start = firsts.0;
       from_host = firsts.1;
@@ -90,8 +97,8 @@ cut_of received n long whole =
       seven = take 7 back;
       end = last.0;
       parts = record {
-        all = sym (take-append-drop (8 * n - 8) received) ∙ (ap (λ xs. xs ++ back) (firsts.3 ∙ ap (λ xs. firsts.0 ∷ firsts.1 ∷ xs) (sym (take-append-drop 6 firsts.2)))
-          ∙ ap (λ xs. (firsts.0 ∷ firsts.1 ∷ (take 6 firsts.2 ++ drop 6 firsts.2)) ++ xs) (sym (take-append-drop 7 back) ∙ ap (λ xs. take 7 back ++ xs) last.1));
+        all = joined received front back firsts.2 (take 6 firsts.2) (drop 6 firsts.2) (take 7 back) firsts.0 firsts.1 last.0
+          (sym (take-append-drop (8 * n - 8) received)) firsts.3 (sym (take-append-drop 6 firsts.2)) whole_back;
         six = length-take-le 6 firsts.2 (omega arith);
         seven_long = length-take-le 7 back (omega arith);
       };

@@ -92,7 +92,7 @@ is_other true false h = absurd (h refl)
 is_other false true h = absurd (h refl)
 is_other false false h = refl
 
-length_sure : (a b : ℕ) → ¬ (a ≢ b) → a ≡ b
+pub length_sure : (a b : ℕ) → ¬ (a ≢ b) → a ≡ b
 length_sure a b h = elim (cases_eq a b) [ | inl e ↦ e | inr n ↦ absurd (h n) ]
 
 -- what bits without a fault say

@@ -1,6 +1,6 @@
 -- What a receiver waits for, and which fault the bits that came have.
 -- SD Physical Layer Simplified Specification, sections 4.7.2 and 4.9; JESD84-B51, sections 6.10.2 and 6.12.
-use Rattle.std.specs.Prelude.{◌≡◌, ◌≢◌, Bool, true, false, not, ℕ, ◌-◌, ◌*◌, ◌<◌, Option, Some, None, List, [], ◌∷◌, ◌++◌, length, take, drop, IfSome}
+use Rattle.std.specs.Prelude.{◌≡◌, ◌≢◌, Bool, true, false, not, ℕ, ◌-◌, ◌*◌, ◌<◌, Option, Some, None, List, [], ◌∷◌, ◌++◌, length, take, drop, MatchOption}
 use Rattle.std.specs.List.{AllByRecursion}
 use Rattle.sdv_frames.specs.Bits.{Bits, bits, number_of}
 use Rattle.sdv_frames.specs.Polynomial.{IsCrc7}
@@ -93,3 +93,7 @@ MayRefuseCommand Length   = ⊥
 MayRefuseCommand Index    = ⊥
 MayRefuseCommand Reserved = ⊥
 MayRefuseCommand fault    = Unit {0}
+
+-- the fault that is answered where a response was waited for, or none
+abbrev pub IsFirstFaultOf : Expect → Bits → FrameFault → Type 0
+IsFirstFaultOf expect received fault = MatchOption (layout_of expect) (fault ≡ Length) (λ l. IsFirstFault l received fault)

@@ -1,12 +1,15 @@
 -- What a frame on the command line is, in both directions.
 -- SD Physical Layer Simplified Specification, sections 4.7.2 (command format) and 4.9 (responses);
 -- JESD84-B51, sections 6.10.2 (command format) and 6.12 (responses).
-use Rattle.std.specs.Prelude.{◌≡◌, Bool, true, false, ℕ, ◌^◌, ◌<◌, List, [], ◌∷◌, ◌++◌}
+use Rattle.std.specs.Prelude.{◌≡◌, Bool, true, false, ℕ, ◌^◌, ◌<◌, List, [], ◌∷◌, ◌++◌, length}
+use Rattle.std.specs.List.{AllByRecursion}
 use Rattle.sdv_frames.specs.Bits.{Bits, bits, bits_of}
 use Rattle.sdv_frames.specs.Polynomial.{IsCrc7}
 use Rattle.sdv_frames.specs.declared.layout.Check.{Check}
 use Rattle.sdv_frames.specs.declared.layout.Check.TheVariants.{CrcOfAll, CrcOfContents, AllOnes}
 use Rattle.sdv_frames.specs.declared.command.Command.{Command}
+use Rattle.sdv_frames.specs.declared.reply.Expect.{Expect}
+use Rattle.sdv_frames.specs.declared.reply.Expect.TheVariants as expected
 use Rattle.sdv_frames.specs.declared.reply.Reply.{Reply}
 use Rattle.sdv_frames.specs.declared.reply.Reply.TheVariants.{R1, R2, R3, R6, R7}
 
@@ -47,6 +50,32 @@ pub record IsCommand (c : Command) : Type 0 where
 -- the frame of a command
 abbrev pub command_frame : Command → Frame
 command_frame c = record { from_host = true; index = c.index; contents = bits 32 c.argument; check = CrcOfAll }
+
+-- bytes are numbers below 256
+abbrev pub AreBytes : List ℕ → Type 0
+AreBytes bytes = AllByRecursion (λ byte. byte < 2 ^ 8) bytes
+
+-- a response has an index of six bits, words of 32 bits, a register of 15 bytes
+abbrev pub IsReply : Reply → Type 0
+IsReply (R1 index status) = (index < 2 ^ 6) × (status < 2 ^ 32)
+IsReply (R2 register)     = (length register ≡ 15) × AreBytes register
+IsReply (R3 ocr)          = ocr < 2 ^ 32
+IsReply (R6 word)         = word < 2 ^ 32
+IsReply (R7 word)         = word < 2 ^ 32
+
+-- the index of an R1 has six bits
+abbrev pub HasIndex : Reply → Type 0
+HasIndex (R1 index status) = index < 2 ^ 6
+HasIndex reply             = Unit {0}
+
+-- a response is of the format, and to the index, that is waited for
+abbrev pub Answers : Expect → Reply → Type 0
+Answers (expected.R1 wanted) (R1 index status) = index ≡ wanted
+Answers expected.R2 (R2 register)              = Unit {0}
+Answers expected.R3 (R3 ocr)                   = Unit {0}
+Answers expected.R6 (R6 word)                  = Unit {0}
+Answers expected.R7 (R7 word)                  = Unit {0}
+Answers expect reply                         = ⊥
 
 -- the frame of a response
 abbrev pub reply_frame : Reply → Frame

@@ -13,4 +13,4 @@ mod seal;
 pub use command::{Command, decode_command, encode};
 pub use crc::crc7;
 pub use fault::FrameFault;
-pub use reply::{Expect, Reply};
+pub use reply::{Expect, Reply, decode_reply, encode_reply};
