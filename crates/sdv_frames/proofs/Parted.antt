@@ -79,6 +79,9 @@ joined : (received front back rest index contents seven : Bits) (start from_host
 joined received front back rest index contents seven start from_host end e f g h =
     e ∙ (ap (λ xs. xs ++ back) (f ∙ ap (λ xs. start ∷ from_host ∷ xs) g) ∙ ap (λ xs. (start ∷ from_host ∷ (index ++ contents)) ++ xs) h)
 
+with_last : (back : Bits) (b : Bool) → drop 7 back ≡ b ∷ [] → back ≡ take 7 back ++ b ∷ []
+with_last back b e = sym (take-append-drop 7 back) ∙ ap (λ xs. take 7 back ++ xs) e
+
 pub cut_of : (received : Bits) (n : ℕ) → 2 ≤ n → length received ≡ 8 * n → Cut received n
 cut_of received n long whole =
     let front : Bits = take (8 * n - 8) received in
@@ -88,7 +91,6 @@ cut_of received n long whole =
     let firsts = two_long front (omega arith) in
     let last = one_long (drop 7 back) (length-drop 7 back ∙ omega arith) in
     let rest_long : length firsts.2 ≡ 8 * n - 10 = omega (arith, ap length firsts.3) in
-    let whole_back : back ≡ take 7 back ++ last.0 ∷ [] = sym (take-append-drop 7 back) ∙ ap (λ xs. take 7 back ++ xs) last.1 in
     record {
       start = firsts.0;
       from_host = firsts.1;
@@ -98,7 +100,7 @@ cut_of received n long whole =
       end = last.0;
       parts = record {
         all = joined received front back firsts.2 (take 6 firsts.2) (drop 6 firsts.2) (take 7 back) firsts.0 firsts.1 last.0
-          (sym (take-append-drop (8 * n - 8) received)) firsts.3 (sym (take-append-drop 6 firsts.2)) whole_back;
+          (sym (take-append-drop (8 * n - 8) received)) firsts.3 (sym (take-append-drop 6 firsts.2)) (with_last back last.0 last.1);
         six = length-take-le 6 firsts.2 (omega arith);
         seven_long = length-take-le 7 back (omega arith);
       };

@@ -4,8 +4,8 @@ use Rattle.std.specs.Prelude.{not, replicate}
 use Rattle.std.proofs.lemmas.Bool.{cases_eq}
 use Rattle.std.proofs.Math.Nat.{mod-eq_of_lt}
 use Rattle.sdv_frames.specs.Bits.{Bits, bits, number_of}
-use Rattle.sdv_frames.specs.Polynomial.{IsCrc7, zeros}
-use Rattle.sdv_frames.specs.Frame.{Frame, Spells, head, CheckIs, all_ones}
+use Rattle.sdv_frames.specs.Polynomial.{IsCrc7, zeros, EachHasCrc7}
+use Rattle.sdv_frames.specs.Frame.{Frame, Spells, head, CheckIs, all_ones, SpellingIsOne}
 use Rattle.sdv_frames.specs.Fault.{HasFault, HasNoFault, IsFirstFault, front, seven_of, CrcDiffers, ReservedDiffer, IndexDiffers}
 use Rattle.sdv_frames.specs.declared.layout.Layout.{Layout}
 use Rattle.sdv_frames.specs.declared.layout.Check.{Check}
@@ -184,3 +184,16 @@ spells_same n f g received long s t fs gs =
 -- numbers with the same lowest bits are the same
 pub same_number : (k a b : ℕ) → a < 2 ^ k → b < 2 ^ k → bits k a ≡ bits k b → a ≡ b
 same_number k a b ha hb e = sym (mod-eq_of_lt ha) ∙ (sym (number_of-bits k a) ∙ (ap number_of e ∙ (number_of-bits k b ∙ mod-eq_of_lt hb)))
+
+-- a frame has one check
+one_check : (check : Check) (before contents a b : Bits) → CheckIs check before contents a → CheckIs check before contents b → a ≡ b
+one_check CrcOfAll before contents a b s t = one_crc7 before a b s t
+one_check CrcOfContents before contents a b s t = one_crc7 contents a b s t
+one_check AllOnes before contents a b s t = s ∙ sym t
+
+pub one_spelling : SpellingIsOne
+one_spelling f first second s t =
+    s.spelled ∙ (ap (λ seven. head f ++ (seven ++ true ∷ [])) (one_check f.check (head f) f.contents s.seven t.seven s.check t.check) ∙ sym t.spelled)
+
+pub each_crc7 : EachHasCrc7
+each_crc7 message = let h = crc7_of message in (h.crc, h.is)

@@ -92,6 +92,10 @@ IsCommandFrame c bytes = Spells (command_frame c) (bits_of bytes)
 abbrev pub IsReplyFrame : Reply → List ℕ → Type 0
 IsReplyFrame r bytes = Spells (reply_frame r) (bits_of bytes)
 
+-- a frame has one spelling
+abbrev pub SpellingIsOne : Type 0
+SpellingIsOne = (f : Frame) (first second : Bits) → Spells f first → Spells f second → first ≡ second
+
 -- bits are a message under its CRC7, with the end bit
 pub record IsSealed (message spelling : Bits) : Type 0 where
   pub seven : Bits

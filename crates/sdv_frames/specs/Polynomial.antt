@@ -41,6 +41,10 @@ pub record IsCrc7 (message crc : Bits) : Type 0 where
   pub below : length crc ≡ 7
   pub sum : multiple quotient ⊕ (zeros (length message) ++ crc) ≡ message ++ zeros 7
 
+-- each message has a CRC7
+abbrev pub EachHasCrc7 : Type 0
+EachHasCrc7 = (message : Bits) → (crc : Bits) × IsCrc7 message crc
+
 -- a message has one CRC7
 abbrev pub Crc7IsOne : Type 0
 Crc7IsOne = (message first second : Bits) → IsCrc7 message first → IsCrc7 message second → first ≡ second
