@@ -1,10 +1,10 @@
 -- Laws of lists of bits: their lengths, how they join, and the numbers that they spell.
-use Rattle.std.proofs.Common.{◌≡◌, Bool, true, false, ℕ, zero, suc, ◌+◌, ◌-◌, ◌*◌, ◌/◌, ◌%◌, ◌^◌, ◌<◌, ◌≤◌, List, [], ◌∷◌, ◌++◌, length, refl, sym, ◌∙◌, ap, arith, append_assoc, length-append, one-add, add_comm, zero-add, append-nil, take, get_or}
+use Rattle.std.proofs.Common.{◌≡◌, Bool, true, false, ℕ, zero, suc, ◌+◌, ◌*◌, ◌/◌, ◌%◌, ◌^◌, ◌<◌, List, [], ◌∷◌, ◌++◌, length, refl, sym, ◌∙◌, ap, arith, append_assoc, length-append, one-add, add_comm, zero-add, append-nil, take, get_or}
 use Rattle.std.proofs.lemmas.Grind.{take_at_read}
 use Rattle.std.specs.Prelude.{◌==◌, if◌then◌else◌}
 use Rattle.std.proofs.Math.Nat.{suc-add, mod-mod, pow-suc, one-mul, div-eq_of_lt}
 use Rattle.std.proofs.Math.Pow.{mod-mod-pow}
-use Rattle.std.proofs.lemmas.Nat.{pow_pos, shr-shr, mod-pow-add, mod_below, shr_high, mod_low, field_of, pow-add}
+use Rattle.std.proofs.lemmas.Nat.{shr-shr, mod-pow-add, mod_below, shr_high, mod_low, field_of, pow-add}
 use Rattle.sdv_frames.specs.Bits.{Bits, bits, bits_of, number_of}
 
 -- the n lowest bits are n bits
@@ -58,8 +58,12 @@ pub bits-number_of : (bs : Bits) → bits (length bs) (number_of bs) ≡ bs
 unfolding bits number_of
 bits-number_of [] = refl
 bits-number_of (true ∷ bs) =
-    rw (above_div (length bs) (number_of bs) (number_of_below bs), ← bits-mod (length bs) (2 ^ length bs + number_of bs),
-    above_mod (length bs) (number_of bs) (number_of_below bs), bits-number_of bs) refl
+    rw (
+      above_div (length bs) (number_of bs) (number_of_below bs),
+      ← bits-mod (length bs) (2 ^ length bs + number_of bs),
+      above_mod (length bs) (number_of bs) (number_of_below bs),
+      bits-number_of bs,
+    ) refl
 bits-number_of (false ∷ bs) =
     rw (zero-add (number_of bs), div-eq_of_lt (number_of_below bs), bits-number_of bs) refl
 

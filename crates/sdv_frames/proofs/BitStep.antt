@@ -1,7 +1,7 @@
 -- What the code makes of a remainder of seven bits and one more bit of the message.
 use mathlib.Core.Bool.{beq}
 use borrow.Author.Tests.{ltb-true}
-use Rattle.std.proofs.Common.{◌≡◌, Bool, true, false, ℕ, ◌+◌, ◌-◌, ◌*◌, ◌/◌, ◌%◌, ◌^◌, ◌<◌, List, [], ◌∷◌, ◌++◌, refl, bit_and, arith, ap, ◌∙◌, sym}
+use Rattle.std.proofs.Common.{◌≡◌, Bool, true, false, ℕ, ◌+◌, ◌-◌, ◌*◌, ◌/◌, ◌%◌, ◌^◌, ◌<◌, [], ◌∷◌, ◌++◌, refl, bit_and, arith, ap}
 use Rattle.std.specs.Prelude.{◌==◌, if◌then◌else◌, nat_le, nat_lt, bit_xor, ◌&&◌}
 use Rattle.sdv_frames.specs.Bits.{Bits, bits}
 use Rattle.sdv_frames.specs.Polynomial.{IsCrc7}

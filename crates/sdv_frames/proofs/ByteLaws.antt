@@ -1,7 +1,6 @@
 -- The bits of the bytes that the code writes and reads.
-use Rattle.std.proofs.Common.{◌≡◌, Bool, true, false, ℕ, ◌+◌, ◌*◌, ◌/◌, ◌%◌, ◌^◌, ◌<◌, List, [], ◌∷◌, ◌++◌, refl, sym, ◌∙◌, ap, bit_and, bit_or, append_assoc, append-nil}
-use Rattle.std.specs.Prelude.{◌==◌}
-use Rattle.sdv_frames.specs.Bits.{Bits, bits, bits_of}
+use Rattle.std.proofs.Common.{◌≡◌, Bool, true, ℕ, ◌*◌, ◌/◌, ◌%◌, ◌^◌, ◌<◌, [], ◌∷◌, ◌++◌, refl, sym, ◌∙◌, ap, bit_or, append-nil}
+use Rattle.sdv_frames.specs.Bits.{bits, bits_of}
 use Rattle.sdv_frames.proofs.BitLaws.{bits-append, bits-mod, bits_of-append, bits_of-one}
 use Rattle.sdv_frames.proofs.Tried.{holds_below, tried, same_bits, same_bits_are}
 

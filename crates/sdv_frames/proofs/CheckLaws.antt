@@ -1,8 +1,8 @@
 -- What the test of the seven bits before the end bit says.
-use Rattle.std.proofs.Common.{◌≡◌, ◌≢◌, Bool, true, false, ℕ, ◌-◌, ◌^◌, ◌<◌, ◌≤◌, List, [], ◌∷◌, length, take, drop, refl, sym, ◌∙◌, ap, arith, subst, inl, inr}
+use Rattle.std.proofs.Common.{◌≡◌, ◌≢◌, ℕ, ◌-◌, ◌^◌, ◌<◌, ◌≤◌, List, [], ◌∷◌, length, take, drop, sym, ◌∙◌, ap, arith, subst, inl, inr}
 use Rattle.std.specs.Prelude.{not, nat_eq, MatchBool}
 use Rattle.std.proofs.Math.Seq.{take-length}
-use borrow.Author.Tests.{eqb-true, eqb-false, eq-eqb, ne_eqb}
+use borrow.Author.Tests.{eq-eqb, ne_eqb}
 use Rattle.std.proofs.lemmas.Bool.{cases_eq}
 use Rattle.sdv_frames.specs.Bits.{Bits, bits, bits_of}
 use Rattle.sdv_frames.specs.Polynomial.{IsCrc7}

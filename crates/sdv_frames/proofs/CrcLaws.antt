@@ -1,8 +1,8 @@
 -- Sums of polynomials, multiples of the generator, and the CRC7: it is one, and how one more bit changes it.
-use Rattle.std.proofs.Common.{◌≡◌, Bool, true, false, ℕ, zero, suc, ◌+◌, ◌*◌, ◌<◌, ◌≤◌, List, [], ◌∷◌, ◌++◌, length, refl, sym, ◌∙◌, ap, arith, append_assoc, length-append}
-use Rattle.std.specs.Prelude.{◌==◌, if◌then◌else◌, replicate}
+use Rattle.std.proofs.Common.{◌≡◌, Bool, true, false, ℕ, zero, suc, ◌+◌, [], ◌∷◌, ◌++◌, length, refl, sym, ◌∙◌, ap, arith, append_assoc, length-append}
+use Rattle.std.specs.Prelude.{if◌then◌else◌}
 use Rattle.sdv_frames.specs.Bits.{Bits}
-use Rattle.sdv_frames.specs.Polynomial.{xor, ◌⊕◌, zeros, generator, times_generator, multiple, IsCrc7, Crc7IsOne}
+use Rattle.sdv_frames.specs.Polynomial.{xor, ◌⊕◌, zeros, times_generator, multiple, IsCrc7, Crc7IsOne}
 
 xor_assoc : (a b c : Bool) → xor (xor a b) c ≡ xor a (xor b c)
 xor_assoc true true true = refl
@@ -102,10 +102,10 @@ others_same : (b : Bool) (q q' r r' : Bits) → length q ≡ length q' → lengt
     multiple q ⊕ (zeros (length q) ++ r) ≡ multiple q' ⊕ (zeros (length q') ++ r')
 others_same b q q' r r' e f g h =
     let all : b ∷ (((low b ++ zeros (length q)) ⊕ multiple q) ⊕ (zeros (length q) ++ r)) ≡ b ∷ (((low b ++ zeros (length q')) ⊕ multiple q') ⊕ (zeros (length q') ++ r')) =
-      sym (first_apart b q r) ∙ (h ∙ first_apart b q' r') in
+    sym (first_apart b q r) ∙ (h ∙ first_apart b q' r') in
     let others : ((low b ++ zeros (length q)) ⊕ multiple q) ⊕ (zeros (length q) ++ r) ≡ ((low b ++ zeros (length q')) ⊕ multiple q') ⊕ (zeros (length q') ++ r') = cc in
     let one : ((low b ++ zeros (length q)) ⊕ multiple q) ⊕ (zeros (length q) ++ r) ≡ ((low b ++ zeros (length q)) ⊕ multiple q') ⊕ (zeros (length q') ++ r') =
-      others ∙ ap (λ n. ((low b ++ zeros n) ⊕ multiple q') ⊕ (zeros (length q') ++ r')) (sym e) in
+    others ∙ ap (λ n. ((low b ++ zeros n) ⊕ multiple q') ⊕ (zeros (length q') ++ r')) (sym e) in
     peeled (length q + 7) (low b ++ zeros (length q)) (multiple q) (multiple q') (zeros (length q) ++ r) (zeros (length q') ++ r')
     (length-low b (length q)) (length-multiple q) (omega (arith, length-multiple q')) (length-padded (length q) r f) (omega (arith, length-padded (length q') r' g)) one
 
@@ -232,17 +232,18 @@ pub crc7-append : (message : Bits) (s : Bool) (rest : Bits) (b : Bool) → IsCrc
 crc7-append message s rest b c =
     let six : length rest ≡ 6 = omega (arith, c.below) in
     let product : multiple (c.quotient ++ xor s b ∷ []) ≡ (multiple c.quotient ++ false ∷ []) ⊕ (zeros (length message) ++ times_generator (xor s b)) =
-      multiple-append c.quotient (xor s b) ∙ ap (λ n. (multiple c.quotient ++ false ∷ []) ⊕ (zeros n ++ times_generator (xor s b))) c.degree in
+    multiple-append c.quotient (xor s b) ∙ ap (λ n. (multiple c.quotient ++ false ∷ []) ⊕ (zeros n ++ times_generator (xor s b))) c.degree in
     let place : zeros (length (message ++ b ∷ [])) ++ step s rest b ≡ zeros (length message) ++ false ∷ step s rest b =
-      ap (λ n. zeros n ++ step s rest b) (length-more message b) ∙ zeros_moved (length message) (step s rest b) in
+    ap (λ n. zeros n ++ step s rest b) (length-more message b) ∙ zeros_moved (length message) (step s rest b) in
     record {
       quotient = c.quotient ++ xor s b ∷ [];
       degree = length-more c.quotient (xor s b) ∙ (omega (arith, c.degree) ∙ sym (length-more message b));
       below = length-step s rest b six;
       sum =
-        ap (λ x. x ⊕ (zeros (length (message ++ b ∷ [])) ++ step s rest b)) product
-        ∙ (ap (λ x. ((multiple c.quotient ++ false ∷ []) ⊕ (zeros (length message) ++ times_generator (xor s b))) ⊕ x) place
-        ∙ sum_with_bit message (multiple c.quotient) s rest b (length-multiple c.quotient ∙ omega (arith, c.degree)) six c.sum) }
+          ap (λ x. x ⊕ (zeros (length (message ++ b ∷ [])) ++ step s rest b)) product
+          ∙ (ap (λ x. ((multiple c.quotient ++ false ∷ []) ⊕ (zeros (length message) ++ times_generator (xor s b))) ⊕ x) place
+          ∙ sum_with_bit message (multiple c.quotient) s rest b (length-multiple c.quotient ∙ omega (arith, c.degree)) six c.sum);
+    }
 
 -- the empty message has CRC7 0
 pub crc7-nothing : IsCrc7 [] (zeros 7)

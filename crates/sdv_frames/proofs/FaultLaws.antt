@@ -1,15 +1,14 @@
 -- What the tests of the code say of the faults.
-use Rattle.std.proofs.Common.{◌≡◌, ◌≢◌, Bool, true, false, ℕ, zero, suc, ◌+◌, ◌-◌, ◌*◌, ◌/◌, ◌%◌, ◌^◌, ◌<◌, ◌≤◌, List, [], ◌∷◌, ◌++◌, length, take, drop, get_or, refl, sym, ◌∙◌, ap, arith, bit_and, Option, Some, None, subst}
+use Rattle.std.proofs.Common.{◌≡◌, ◌≢◌, Bool, true, false, ℕ, suc, ◌-◌, ◌*◌, ◌/◌, ◌^◌, ◌<◌, ◌≤◌, List, [], ◌∷◌, length, take, drop, get_or, refl, sym, ◌∙◌, ap, arith, bit_and}
 use Rattle.std.specs.Prelude.{not, nat_eq}
 use mathlib.Core.Bool.{beq}
 use Rattle.std.proofs.Math.Nat.{mod-eq_of_lt}
 use Rattle.sdv_frames.specs.Bits.{Bits, bits, bits_of, number_of}
 use Rattle.sdv_frames.specs.Polynomial.{IsCrc7}
 use Rattle.sdv_frames.specs.declared.layout.Layout.{Layout}
-use Rattle.sdv_frames.specs.declared.layout.Check.{Check}
 use Rattle.sdv_frames.specs.declared.fault.FrameFault.TheVariants.{Length, StartBit, Direction, Index, Crc, EndBit, Reserved}
 use Rattle.sdv_frames.specs.Fault.{HasFault, IsFirstFault, HasNoFault, front, seven_of, IndexDiffers, CrcDiffers, ReservedDiffer}
-use Rattle.sdv_frames.proofs.BitLaws.{number_of-bits, length-bits_of, length-bits}
+use Rattle.sdv_frames.proofs.BitLaws.{number_of-bits, length-bits_of}
 use Rattle.sdv_frames.proofs.CrcLaws.{one_crc7}
 use Rattle.sdv_frames.proofs.PartLaws.{bit_at, first_bits, front_bits, seven_bits, end_bit, start_means, end_means, transmission_means, index_means}
 
@@ -59,18 +58,18 @@ module _ (l : Layout) (xs : List ℕ) (long : 2 ≤ l.length) (fits : length xs 
 
   fronts : front l (bits_of xs) ≡ bits_of (take (l.length - 1) xs)
   fronts =
-    let whole : l.length ≡ suc (l.length - 1) = omega arith in
-    ap (λ n. take (8 * n - 8) (bits_of xs)) whole ∙ front_bits xs (l.length - 1) (fits ∙ whole)
+      let whole : l.length ≡ suc (l.length - 1) = omega arith in
+      ap (λ n. take (8 * n - 8) (bits_of xs)) whole ∙ front_bits xs (l.length - 1) (fits ∙ whole)
 
   sevens : seven_of l (bits_of xs) ≡ bits 7 (get_or xs (l.length - 1) 0 / 2)
   sevens =
-    let whole : l.length ≡ suc (l.length - 1) = omega arith in
-    ap (λ n. take 7 (drop (8 * n - 8) (bits_of xs))) whole ∙ seven_bits xs (l.length - 1) (fits ∙ whole)
+      let whole : l.length ≡ suc (l.length - 1) = omega arith in
+      ap (λ n. take 7 (drop (8 * n - 8) (bits_of xs))) whole ∙ seven_bits xs (l.length - 1) (fits ∙ whole)
 
   ends : drop (8 * l.length - 1) (bits_of xs) ≡ bit_at 0 (get_or xs (l.length - 1) 0) ∷ []
   ends =
-    let whole : l.length ≡ suc (l.length - 1) = omega arith in
-    ap (λ n. drop (8 * n - 1) (bits_of xs)) whole ∙ end_bit xs (l.length - 1) (fits ∙ whole)
+      let whole : l.length ≡ suc (l.length - 1) = omega arith in
+      ap (λ n. drop (8 * n - 1) (bits_of xs)) whole ∙ end_bit xs (l.length - 1) (fits ∙ whole)
 
   -- each fault, by what the code tested
 
@@ -106,8 +105,8 @@ module _ (l : Layout) (xs : List ℕ) (long : 2 ≤ l.length) (fits : length xs 
 
   pub no_end : (bit_and (get_or xs (l.length - 1) 0) 1 ≡ 0 → ⊥) → ¬ HasFault l (bits_of xs) EndBit
   no_end h e =
-    let one : bit_at 0 (get_or xs (l.length - 1) 0) ≡ true = (end_means (get_or xs (l.length - 1) 0) (bytes (l.length - 1))).1 h in
-    let zero : bit_at 0 (get_or xs (l.length - 1) 0) ≡ false = one_bit _ false ends e in cc
+      let one : bit_at 0 (get_or xs (l.length - 1) 0) ≡ true = (end_means (get_or xs (l.length - 1) 0) (bytes (l.length - 1))).1 h in
+      let zero : bit_at 0 (get_or xs (l.length - 1) 0) ≡ false = one_bit _ false ends e in cc
 
   pub reserved_there : ReservedDiffer l.check (bits 7 (get_or xs (l.length - 1) 0 / 2)) → HasFault l (bits_of xs) Reserved
   reserved_there h = rw sevens h

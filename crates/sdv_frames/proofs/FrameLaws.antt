@@ -1,9 +1,9 @@
 -- The frames that the code writes and reads, from their bytes.
-use Rattle.std.proofs.Common.{◌≡◌, Bool, true, false, ℕ, zero, suc, ◌+◌, ◌-◌, ◌*◌, ◌/◌, ◌%◌, ◌^◌, ◌<◌, ◌≤◌, List, [], ◌∷◌, ◌++◌, length, take, drop, get_or, refl, sym, ◌∙◌, ap, arith, subst, bit_and, bit_or, append-nil}
+use Rattle.std.proofs.Common.{◌≡◌, Bool, true, false, ℕ, zero, suc, ◌^◌, ◌<◌, ◌≤◌, List, [], ◌∷◌, ◌++◌, length, take, drop, get_or, refl, sym, ◌∙◌, ap, arith, subst, bit_and, bit_or}
 use Rattle.std.specs.Int.{w32, from_be_bytes}
 use Rattle.std.proofs.lemmas.Nat.{be_bytes_4, and_mask, mod_below}
 use Rattle.sdv_frames.specs.Bits.{Bits, bits, bits_of, number_of}
-use Rattle.sdv_frames.specs.Frame.{Frame, Spells, IsSealed, head, IsCommand, IsCommandFrame, command_frame}
+use Rattle.sdv_frames.specs.Frame.{Spells, IsSealed, IsCommand, IsCommandFrame, command_frame}
 use Rattle.sdv_frames.specs.declared.command.Command.{Command}
 use Rattle.sdv_frames.specs.declared.layout.Check.TheVariants.{CrcOfAll}
 use Rattle.sdv_frames.proofs.Tried.{holds_below, tried, same_bits, same_bits_are}
@@ -101,10 +101,11 @@ spells_as l received index contents long none i c =
 pub command_found : (xs : List ℕ) (argument : ℕ) → length xs ≡ 6 → ((i : ℕ) → get_or xs i 0 < 256) → argument < 2 ^ 32 →
     argument ≡ from_be_bytes w32 (get_or xs 1 0 ∷ get_or xs 2 0 ∷ get_or xs 3 0 ∷ get_or xs 4 0 ∷ []) → HasNoFault command_layout (bits_of xs) →
     IsCommand (record { index = bit_and (get_or xs 0 0) 63; argument = argument }) × IsCommandFrame (record { index = bit_and (get_or xs 0 0) 63; argument = argument }) xs
-command_found xs argument six bytes small is none =
-    ( record { index = rw (and_mask (get_or xs 0 0) 6) (mod_below (get_or xs 0 0) 64 (omega arith)); argument = small }
-    , spells_as command_layout (bits_of xs) (bit_and (get_or xs 0 0) 63) (bits 32 argument) (omega arith) none
-      (indexed command_layout xs (omega arith) six bytes) (word_in xs six bytes ∙ ap (bits 32) (sym is)) )
+command_found xs argument six bytes small is none = (
+  record { index = rw (and_mask (get_or xs 0 0) 6) (mod_below (get_or xs 0 0) 64 (omega arith)); argument = small },
+  spells_as command_layout (bits_of xs) (bit_and (get_or xs 0 0) 63) (bits 32 argument) (omega arith) none
+      (indexed command_layout xs (omega arith) six bytes) (word_in xs six bytes ∙ ap (bits 32) (sym is)),
+)
 
 -- the bits of a command have no fault
 pub command_fits : (c : Command) (received : Bits) → IsCommand c → Spells (command_frame c) received → HasNoFault command_layout received

@@ -1,12 +1,12 @@
 -- The parts of the bits that bytes have: the first byte, the bits before the last byte, the seven bits before the end bit.
-use Rattle.std.proofs.Common.{◌≡◌, Bool, true, false, ℕ, zero, suc, ◌+◌, ◌-◌, ◌*◌, ◌/◌, ◌%◌, ◌^◌, ◌<◌, ◌≤◌, List, [], ◌∷◌, ◌++◌, length, take, drop, get_or, refl, sym, ◌∙◌, ap, arith, bit_and, append-nil, length-append, ◌⊎◌, inl, inr, length-take-le}
+use Rattle.std.proofs.Common.{◌≡◌, Bool, true, false, ℕ, zero, suc, ◌+◌, ◌-◌, ◌*◌, ◌/◌, ◌%◌, ◌^◌, ◌<◌, List, [], ◌∷◌, ◌++◌, length, take, drop, get_or, refl, sym, ◌∙◌, ap, arith, bit_and, length-take-le}
 use Rattle.std.specs.Prelude.{◌==◌, not, nat_eq}
 use Rattle.std.proofs.Math.Seq.{take-append_seam, drop-append_seam, drop-append-add, take-length}
 use Rattle.std.proofs.lemmas.Grind.{take_at_read}
 use Rattle.std.proofs.lemmas.Nat.{and_mask}
 use borrow.Author.Tests.{eqb-true}
-use Rattle.sdv_frames.specs.Bits.{Bits, bits, bits_of, number_of}
-use Rattle.sdv_frames.proofs.BitLaws.{bits-append, bits_of-append, bits_of-one, length-bits_of, length-bits, number_of-bits}
+use Rattle.sdv_frames.specs.Bits.{bits, bits_of, number_of}
+use Rattle.sdv_frames.proofs.BitLaws.{bits-append, bits_of-append, bits_of-one, length-bits_of, number_of-bits}
 use Rattle.sdv_frames.proofs.Tried.{holds_below, tried, same_bit, same_bit_is}
 
 -- the bit at a place of a number

@@ -1,10 +1,10 @@
 -- The frames of responses, from their bytes.
-use Rattle.std.proofs.Common.{◌≡◌, Bool, true, false, ℕ, zero, suc, ◌+◌, ◌-◌, ◌*◌, ◌/◌, ◌%◌, ◌^◌, ◌<◌, ◌≤◌, List, [], ◌∷◌, ◌++◌, length, take, drop, get_or, refl, sym, ◌∙◌, ap, arith, subst, append_assoc, Option, Some, None, length-take-le, length-drop}
+use Rattle.std.proofs.Common.{◌≡◌, true, false, ℕ, zero, suc, ◌+◌, ◌-◌, ◌*◌, ◌^◌, ◌<◌, ◌≤◌, List, [], ◌∷◌, ◌++◌, length, take, drop, get_or, refl, sym, ◌∙◌, ap, arith, subst, Option, Some, length-take-le, length-drop}
 use Rattle.std.specs.Prelude.{MatchOption}
 use Rattle.std.proofs.lemmas.Grind.{get_or_after_one}
 use Rattle.sdv_frames.specs.Bits.{Bits, bits, bits_of, number_of}
 use Rattle.sdv_frames.specs.Polynomial.{IsCrc7}
-use Rattle.sdv_frames.specs.Frame.{Frame, Spells, head, all_ones, AreBytes, IsReply, Answers, IsReplyFrame, reply_frame}
+use Rattle.sdv_frames.specs.Frame.{Spells, all_ones, AreBytes, IsReply, Answers, IsReplyFrame, reply_frame}
 use Rattle.sdv_frames.specs.Fault.{HasNoFault, IsFirstFault, short, layout_of}
 use Rattle.sdv_frames.specs.declared.layout.Layout.{Layout}
 use Rattle.sdv_frames.specs.declared.layout.Check.{Check}
@@ -46,10 +46,10 @@ module _ (index : ℕ) (check : Check) (l : Layout) (received : Bits) (is : shor
 
   pub index_small : index < 2 ^ 6
   index_small =
-    let whole : length received ≡ 48 = length_sure (length received) 48 clean.0 in
-    let six : length (take 6 (drop 2 received)) ≡ 6 = length-take-le 6 (drop 2 received) (simp length-drop (omega arith)) in
-    let below : number_of (take 6 (drop 2 received)) < 2 ^ length (take 6 (drop 2 received)) = number_of_below (take 6 (drop 2 received)) in
-    subst (λ i. i < 2 ^ 6) found_index (subst (λ k. number_of (take 6 (drop 2 received)) < 2 ^ k) six below)
+      let whole : length received ≡ 48 = length_sure (length received) 48 clean.0 in
+      let six : length (take 6 (drop 2 received)) ≡ 6 = length-take-le 6 (drop 2 received) (simp length-drop (omega arith)) in
+      let below : number_of (take 6 (drop 2 received)) < 2 ^ length (take 6 (drop 2 received)) = number_of_below (take 6 (drop 2 received)) in
+      subst (λ i. i < 2 ^ 6) found_index (subst (λ k. number_of (take 6 (drop 2 received)) < 2 ^ k) six below)
 
   pub word_spelled : (word : ℕ) → bits 32 word ≡ drop 8 (take 40 received) → Spells (record { from_host = false; index = index; contents = bits 32 word; check = check }) received
   word_spelled word e = spells_as (record { length = 6; from_host = false; index = Some index; check = check }) received index (bits 32 word) (omega arith) clean found_index (sym e)
@@ -216,9 +216,12 @@ pub found_r2 : (l : Layout) (xs register : List ℕ) → length register ≡ 15 
     IsReply (R2 register) × Answers expects.R2 (R2 register) × IsReplyFrame (R2 register) xs
 found_r2 l xs register long bytes is none e =
     let same : record { length = 17; from_host = false; index = Some 63; check = CrcOfContents } ≡ l = cc in
-    let clean : HasNoFault (record { length = 17; from_host = false; index = Some 63; check = CrcOfContents }) (bits_of xs) = subst (λ k. HasNoFault k (bits_of xs)) (sym same) none in
-    ((long, bytes), tt, spells_as (record { length = 17; from_host = false; index = Some 63; check = CrcOfContents }) (bits_of xs) 63 (bits_of register) (omega arith) clean
-      (length_sure (number_of (take 6 (drop 2 (bits_of xs)))) 63 clean.1.1.1.0) (sym e))
+    let clean : HasNoFault (record { length = 17; from_host = false; index = Some 63; check = CrcOfContents }) (bits_of xs) = subst (λ k. HasNoFault k (bits_of xs)) (sym same) none in (
+      (long, bytes),
+      tt,
+      spells_as (record { length = 17; from_host = false; index = Some 63; check = CrcOfContents }) (bits_of xs) 63 (bits_of register) (omega arith) clean
+          (length_sure (number_of (take 6 (drop 2 (bits_of xs)))) 63 clean.1.1.1.0) (sym e),
+    )
 
 -- the length that a response without a fault has
 pub six_long : (index : ℕ) (check : Check) (l : Layout) (xs : List ℕ) → short index check ≡ Some l → HasNoFault l (bits_of xs) → length xs ≡ 6

@@ -1,19 +1,18 @@
 -- Bits without a fault spell a frame, and the bits of a frame have no fault.
-use Rattle.std.proofs.Common.{◌≡◌, ◌≢◌, Bool, true, false, ℕ, zero, suc, ◌+◌, ◌-◌, ◌*◌, ◌^◌, ◌<◌, ◌≤◌, List, [], ◌∷◌, ◌++◌, length, take, drop, refl, sym, ◌∙◌, ap, arith, subst, inl, inr, ◌⊎◌, Option, Some, None, append-nil, append_assoc}
-use Rattle.std.specs.Prelude.{not, replicate}
+use Rattle.std.proofs.Common.{◌≡◌, ◌≢◌, Bool, true, false, ℕ, ◌-◌, ◌*◌, ◌^◌, ◌<◌, ◌≤◌, [], ◌∷◌, ◌++◌, length, take, drop, refl, sym, ◌∙◌, ap, arith, subst, inl, inr, ◌⊎◌, Option, append-nil, append_assoc}
+use Rattle.std.specs.Prelude.{not}
 use Rattle.std.proofs.lemmas.Bool.{cases_eq}
 use Rattle.std.proofs.Math.Nat.{mod-eq_of_lt}
 use Rattle.sdv_frames.specs.Bits.{Bits, bits, number_of}
 use Rattle.sdv_frames.specs.Polynomial.{IsCrc7, zeros, EachHasCrc7}
 use Rattle.sdv_frames.specs.Frame.{Frame, Spells, head, CheckIs, all_ones, SpellingIsOne}
-use Rattle.sdv_frames.specs.Fault.{HasFault, HasNoFault, IsFirstFault, front, seven_of, CrcDiffers, ReservedDiffer, IndexDiffers}
+use Rattle.sdv_frames.specs.Fault.{HasNoFault, front, seven_of, CrcDiffers, ReservedDiffer, IndexDiffers}
 use Rattle.sdv_frames.specs.declared.layout.Layout.{Layout}
 use Rattle.sdv_frames.specs.declared.layout.Check.{Check}
 use Rattle.sdv_frames.specs.declared.layout.Check.TheVariants.{CrcOfAll, CrcOfContents, AllOnes}
 use Rattle.sdv_frames.proofs.BitLaws.{bits-number_of, number_of-bits, length-bits}
 use Rattle.sdv_frames.proofs.CrcLaws.{one_crc7, crc7-append, crc7-nothing, step}
 use Rattle.sdv_frames.proofs.Parted.{Parted, Cut, cut_of, start_is, from_host_is, index_is, front_is, contents_are, seven_is, end_is, whole}
-use Rattle.sdv_frames.proofs.Tried.{same_bits, same_bits_are}
 
 -- a message has a CRC7
 pub record Has7 (message : Bits) : Type 0 where
@@ -60,7 +59,7 @@ crc_sure message seven h =
     ]
 
 pub ones_sure : (seven : Bits) → ¬ (seven ≢ all_ones) → seven ≡ all_ones
-ones_sure seven h = elim (same_or_not seven all_ones) [ | inl e ↦ e | inr n ↦ absurd (h n) ]
+ones_sure seven h = elim (same_or_not seven all_ones) [ inl e ↦ e | inr n ↦ absurd (h n) ]
 
 -- the seven bits are the check
 check_sure : (check : Check) (before contents seven : Bits) → drop 8 before ≡ contents → ¬ CrcDiffers check before seven → ¬ ReservedDiffer check seven → CheckIs check before contents seven
@@ -93,7 +92,7 @@ is_other false true h = absurd (h refl)
 is_other false false h = refl
 
 pub length_sure : (a b : ℕ) → ¬ (a ≢ b) → a ≡ b
-length_sure a b h = elim (cases_eq a b) [ | inl e ↦ e | inr n ↦ absurd (h n) ]
+length_sure a b h = elim (cases_eq a b) [ inl e ↦ e | inr n ↦ absurd (h n) ]
 
 -- what bits without a fault say
 abbrev pub frame_in : Layout → Bits → Frame
@@ -114,18 +113,18 @@ module _ (l : Layout) (received : Bits) (start from_host : Bool) (index contents
 
   parts_spell : HasNoFault l received → Spells (frame_in l received) received
   parts_spell none =
-    let starts : start ≡ false = is_false start (λ h. none.1.0 (start_is received l.length start from_host index contents seven end p long room ∙ ap (λ b. b ∷ []) h)) in
-    let goes : from_host ≡ l.from_host = is_other from_host l.from_host (λ h. none.1.1.0 (from_host_is received l.length start from_host index contents seven end p long room ∙ ap (λ b. b ∷ []) h)) in
-    let ends : end ≡ true = is_true end (λ h. none.1.1.1.1.1.0 (end_is received l.length start from_host index contents seven end p long room ∙ ap (λ b. b ∷ []) h)) in
-    let same : front l received ≡ head (frame_in l received) =
+      let starts : start ≡ false = is_false start (λ h. none.1.0 (start_is received l.length start from_host index contents seven end p long room ∙ ap (λ b. b ∷ []) h)) in
+      let goes : from_host ≡ l.from_host = is_other from_host l.from_host (λ h. none.1.1.0 (from_host_is received l.length start from_host index contents seven end p long room ∙ ap (λ b. b ∷ []) h)) in
+      let ends : end ≡ true = is_true end (λ h. none.1.1.1.1.1.0 (end_is received l.length start from_host index contents seven end p long room ∙ ap (λ b. b ∷ []) h)) in
+      let same : front l received ≡ head (frame_in l received) =
       front_in ∙ (ap (λ b. b ∷ from_host ∷ (index ++ contents)) starts ∙ (ap (λ b. false ∷ b ∷ (index ++ contents)) goes
       ∙ (ap (λ i. false ∷ l.from_host ∷ (i ++ contents)) (sym index_in) ∙ ap (λ c. false ∷ l.from_host ∷ (bits 6 (number_of (take 6 (drop 2 received))) ++ c)) (sym contents_in)))) in
-    record {
-      seven = seven_of l received;
-      check = subst (λ before. CheckIs l.check before (drop 8 (front l received)) (seven_of l received)) same
-        (check_sure l.check (front l received) (drop 8 (front l received)) (seven_of l received) refl none.1.1.1.1.0 none.1.1.1.1.1.1.0);
-      spelled = p.all ∙ (ap (λ xs. xs ++ (seven ++ end ∷ [])) (sym front_in ∙ same) ∙ (ap (λ xs. head (frame_in l received) ++ (xs ++ end ∷ [])) (sym seven_in) ∙ ap (λ b. head (frame_in l received) ++ (seven_of l received ++ b ∷ [])) ends));
-    }
+      record {
+        seven = seven_of l received;
+        check = subst (λ before. CheckIs l.check before (drop 8 (front l received)) (seven_of l received)) same
+            (check_sure l.check (front l received) (drop 8 (front l received)) (seven_of l received) refl none.1.1.1.1.0 none.1.1.1.1.1.1.0);
+        spelled = p.all ∙ (ap (λ xs. xs ++ (seven ++ end ∷ [])) (sym front_in ∙ same) ∙ (ap (λ xs. head (frame_in l received) ++ (xs ++ end ∷ [])) (sym seven_in) ∙ ap (λ b. head (frame_in l received) ++ (seven_of l received ++ b ∷ [])) ends));
+      }
 
 -- bits without a fault spell what they say
 pub none_spells : (l : Layout) (received : Bits) → 2 ≤ l.length → HasNoFault l received → Spells (frame_in l received) received
@@ -159,27 +158,41 @@ spells_none l f received long s from check room small index =
     let p = frame_parts f received s in
     let n = l.length in
     let found : number_of (take 6 (drop 2 received)) ≡ f.index =
-      ap number_of (index_is received n false f.from_host (bits 6 f.index) f.contents s.seven true p long room) ∙ (number_of-bits 6 f.index ∙ mod-eq_of_lt small) in
+    ap number_of (index_is received n false f.from_host (bits 6 f.index) f.contents s.seven true p long room) ∙ (number_of-bits 6 f.index ∙ mod-eq_of_lt small) in
     let before : front l received ≡ head f = front_is received n false f.from_host (bits 6 f.index) f.contents s.seven true p long room in
     let inside : drop 8 (front l received) ≡ f.contents = contents_are received n false f.from_host (bits 6 f.index) f.contents s.seven true p long room in
     let seven : seven_of l received ≡ s.seven = seven_is received n false f.from_host (bits 6 f.index) f.contents s.seven true p long room in
     let checks : (¬ CrcDiffers l.check (front l received) (seven_of l received)) × (¬ ReservedDiffer l.check (seven_of l received)) =
-      rw (before, seven, ← check) (check_fits f.check (head f) f.contents s.seven (ap (drop 8) (sym before) ∙ inside) s.check) in
-    ( (λ h. h (whole received n false f.from_host (bits 6 f.index) f.contents s.seven true p long room))
-    , ( (λ h. let e : false ≡ true = other_start false true (start_is received n false f.from_host (bits 6 f.index) f.contents s.seven true p long room) h in cc)
-    , ( (λ h. not_other l.from_host (sym from ∙ other_start f.from_host (not l.from_host) (from_host_is received n false f.from_host (bits 6 f.index) f.contents s.seven true p long room) h))
-    , ( no_differ l.index (number_of (take 6 (drop 2 received))) f.index found index
-    , ( checks.0
-    , ( (λ h. let e : true ≡ false = other_start true false (end_is received n false f.from_host (bits 6 f.index) f.contents s.seven true p long room) h in cc)
-    , ( checks.1
-    , tt )))))))
+    rw (before, seven, ← check) (check_fits f.check (head f) f.contents s.seven (ap (drop 8) (sym before) ∙ inside) s.check) in (
+      (λ h. h (whole received n false f.from_host (bits 6 f.index) f.contents s.seven true p long room)),
+      (
+        (λ h. let e : false ≡ true = other_start false true (start_is received n false f.from_host (bits 6 f.index) f.contents s.seven true p long room) h in cc),
+        (
+          (λ h. not_other l.from_host (sym from ∙ other_start f.from_host (not l.from_host) (from_host_is received n false f.from_host (bits 6 f.index) f.contents s.seven true p long room) h)),
+          (
+            no_differ l.index (number_of (take 6 (drop 2 received))) f.index found index,
+            (
+              checks.0,
+              (
+                (λ h. let e : true ≡ false = other_start true false (end_is received n false f.from_host (bits 6 f.index) f.contents s.seven true p long room) h in cc),
+                (
+                  checks.1,
+                  tt,
+                ),
+              ),
+            ),
+          ),
+        ),
+      ),
+    )
 
 -- two frames with the same bits say the same
 pub spells_same : (n : ℕ) (f g : Frame) (received : Bits) → 2 ≤ n → Spells f received → Spells g received → length f.contents ≡ 8 * n - 16 → length g.contents ≡ 8 * n - 16 →
     (bits 6 f.index ≡ bits 6 g.index) × (f.contents ≡ g.contents)
-spells_same n f g received long s t fs gs =
-    ( sym (index_is received n false f.from_host (bits 6 f.index) f.contents s.seven true (frame_parts f received s) long fs) ∙ index_is received n false g.from_host (bits 6 g.index) g.contents t.seven true (frame_parts g received t) long gs
-    , sym (contents_are received n false f.from_host (bits 6 f.index) f.contents s.seven true (frame_parts f received s) long fs) ∙ contents_are received n false g.from_host (bits 6 g.index) g.contents t.seven true (frame_parts g received t) long gs )
+spells_same n f g received long s t fs gs = (
+  sym (index_is received n false f.from_host (bits 6 f.index) f.contents s.seven true (frame_parts f received s) long fs) ∙ index_is received n false g.from_host (bits 6 g.index) g.contents t.seven true (frame_parts g received t) long gs,
+  sym (contents_are received n false f.from_host (bits 6 f.index) f.contents s.seven true (frame_parts f received s) long fs) ∙ contents_are received n false g.from_host (bits 6 g.index) g.contents t.seven true (frame_parts g received t) long gs,
+)
 
 -- numbers with the same lowest bits are the same
 pub same_number : (k a b : ℕ) → a < 2 ^ k → b < 2 ^ k → bits k a ≡ bits k b → a ≡ b

@@ -1,8 +1,8 @@
 -- What a receiver waits for, and which fault the bits that came have.
 -- SD Physical Layer Simplified Specification, sections 4.7.2 and 4.9; JESD84-B51, sections 6.10.2 and 6.12.
-use Rattle.std.specs.Prelude.{◌≡◌, ◌≢◌, Bool, true, false, not, ℕ, ◌-◌, ◌*◌, ◌<◌, Option, Some, None, List, [], ◌∷◌, ◌++◌, length, take, drop, MatchOption}
+use Rattle.std.specs.Prelude.{◌≡◌, ◌≢◌, true, false, not, ℕ, ◌-◌, ◌*◌, Option, Some, None, List, [], ◌∷◌, length, take, drop, MatchOption}
 use Rattle.std.specs.List.{AllByRecursion}
-use Rattle.sdv_frames.specs.Bits.{Bits, bits, number_of}
+use Rattle.sdv_frames.specs.Bits.{Bits, number_of}
 use Rattle.sdv_frames.specs.Polynomial.{IsCrc7}
 use Rattle.sdv_frames.specs.Frame.{all_ones}
 use Rattle.sdv_frames.specs.declared.layout.Check.{Check}
@@ -23,12 +23,12 @@ short index check = Some (record { length = 6; from_host = false; index = Some i
 
 -- the response that is waited for; where there is none, every input has another length
 abbrev pub layout_of : Expect → Option Layout
-layout_of Nothing    = None
+layout_of Nothing = None
 layout_of (R1 index) = short index CrcOfAll
-layout_of R2         = Some (record { length = 17; from_host = false; index = Some 63; check = CrcOfContents })
-layout_of R3         = short 63 AllOnes
-layout_of R6         = short 3 CrcOfAll
-layout_of R7         = short 8 CrcOfAll
+layout_of R2 = Some (record { length = 17; from_host = false; index = Some 63; check = CrcOfContents })
+layout_of R3 = short 63 AllOnes
+layout_of R6 = short 3 CrcOfAll
+layout_of R7 = short 8 CrcOfAll
 
 -- the bits before the last byte; behind the first byte of them stand the contents
 abbrev pub front : Layout → Bits → Bits
@@ -40,39 +40,39 @@ seven_of l received = take 7 (drop (8 * l.length - 8) received)
 
 -- an index was asked for, and another one came
 abbrev pub IndexDiffers : Option ℕ → ℕ → Type 0
-IndexDiffers None index          = ⊥
+IndexDiffers None index = ⊥
 IndexDiffers (Some wanted) index = index ≢ wanted
 
 -- the seven bits are not the CRC7 that they are to be
 abbrev pub CrcDiffers : Check → Bits → Bits → Type 0
-CrcDiffers CrcOfAll before seven      = ¬ IsCrc7 before seven
+CrcDiffers CrcOfAll before seven = ¬ IsCrc7 before seven
 CrcDiffers CrcOfContents before seven = ¬ IsCrc7 (drop 8 before) seven
-CrcDiffers AllOnes before seven       = ⊥
+CrcDiffers AllOnes before seven = ⊥
 
 -- reserved bits are not all 1
 abbrev pub ReservedDiffer : Check → Bits → Type 0
 ReservedDiffer AllOnes seven = seven ≢ all_ones
-ReservedDiffer check seven   = ⊥
+ReservedDiffer check seven = ⊥
 
 -- the bits that came have a fault
 abbrev pub HasFault : Layout → Bits → FrameFault → Type 0
-HasFault l received Length    = length received ≢ 8 * l.length
-HasFault l received StartBit  = take 1 received ≡ true ∷ []
+HasFault l received Length = length received ≢ 8 * l.length
+HasFault l received StartBit = take 1 received ≡ true ∷ []
 HasFault l received Direction = take 1 (drop 1 received) ≡ not l.from_host ∷ []
-HasFault l received Index     = IndexDiffers l.index (number_of (take 6 (drop 2 received)))
-HasFault l received Crc       = CrcDiffers l.check (front l received) (seven_of l received)
-HasFault l received EndBit    = drop (8 * l.length - 1) received ≡ false ∷ []
-HasFault l received Reserved  = ReservedDiffer l.check (seven_of l received)
+HasFault l received Index = IndexDiffers l.index (number_of (take 6 (drop 2 received)))
+HasFault l received Crc = CrcDiffers l.check (front l received) (seven_of l received)
+HasFault l received EndBit = drop (8 * l.length - 1) received ≡ false ∷ []
+HasFault l received Reserved = ReservedDiffer l.check (seven_of l received)
 
 -- the faults that are answered before one
 abbrev pub earlier : FrameFault → List FrameFault
-earlier Length    = []
-earlier StartBit  = Length ∷ []
+earlier Length = []
+earlier StartBit = Length ∷ []
 earlier Direction = Length ∷ StartBit ∷ []
-earlier Index     = Length ∷ StartBit ∷ Direction ∷ []
-earlier Crc       = Length ∷ StartBit ∷ Direction ∷ Index ∷ []
-earlier EndBit    = Length ∷ StartBit ∷ Direction ∷ Index ∷ Crc ∷ []
-earlier Reserved  = Length ∷ StartBit ∷ Direction ∷ Index ∷ Crc ∷ EndBit ∷ []
+earlier Index = Length ∷ StartBit ∷ Direction ∷ []
+earlier Crc = Length ∷ StartBit ∷ Direction ∷ Index ∷ []
+earlier EndBit = Length ∷ StartBit ∷ Direction ∷ Index ∷ Crc ∷ []
+earlier Reserved = Length ∷ StartBit ∷ Direction ∷ Index ∷ Crc ∷ EndBit ∷ []
 
 -- none of the faults is there
 abbrev pub HasNone : Layout → Bits → List FrameFault → Type 0
@@ -89,10 +89,10 @@ HasNoFault l received = HasNone l received (Length ∷ StartBit ∷ Direction �
 
 -- what refuses six bytes as a command: not their length, nor an index, and there are no reserved bits
 abbrev pub MayRefuseCommand : FrameFault → Type 0
-MayRefuseCommand Length   = ⊥
-MayRefuseCommand Index    = ⊥
+MayRefuseCommand Length = ⊥
+MayRefuseCommand Index = ⊥
 MayRefuseCommand Reserved = ⊥
-MayRefuseCommand fault    = Unit {0}
+MayRefuseCommand fault = Unit {0}
 
 -- the fault that is answered where a response was waited for, or none
 abbrev pub IsFirstFaultOf : Expect → Bits → FrameFault → Type 0

@@ -32,9 +32,9 @@ all_ones = true ∷ true ∷ true ∷ true ∷ true ∷ true ∷ true ∷ []
 
 -- what the check of a kind is, by the bits before it and the contents
 abbrev pub CheckIs : Check → Bits → Bits → Bits → Type 0
-CheckIs CrcOfAll before contents seven      = IsCrc7 before seven
+CheckIs CrcOfAll before contents seven = IsCrc7 before seven
 CheckIs CrcOfContents before contents seven = IsCrc7 contents seven
-CheckIs AllOnes before contents seven       = seven ≡ all_ones
+CheckIs AllOnes before contents seven = seven ≡ all_ones
 
 -- bits spell a frame: the head, the check, and the end bit 1
 pub record Spells (f : Frame) (spelling : Bits) : Type 0 where
@@ -58,32 +58,32 @@ AreBytes bytes = AllByRecursion (λ byte. byte < 2 ^ 8) bytes
 -- a response has an index of six bits, words of 32 bits, a register of 15 bytes
 abbrev pub IsReply : Reply → Type 0
 IsReply (R1 index status) = (index < 2 ^ 6) × (status < 2 ^ 32)
-IsReply (R2 register)     = (length register ≡ 15) × AreBytes register
-IsReply (R3 ocr)          = ocr < 2 ^ 32
-IsReply (R6 word)         = word < 2 ^ 32
-IsReply (R7 word)         = word < 2 ^ 32
+IsReply (R2 register) = (length register ≡ 15) × AreBytes register
+IsReply (R3 ocr) = ocr < 2 ^ 32
+IsReply (R6 word) = word < 2 ^ 32
+IsReply (R7 word) = word < 2 ^ 32
 
 -- the index of an R1 has six bits
 abbrev pub HasIndex : Reply → Type 0
 HasIndex (R1 index status) = index < 2 ^ 6
-HasIndex reply             = Unit {0}
+HasIndex reply = Unit {0}
 
 -- a response is of the format, and to the index, that is waited for
 abbrev pub Answers : Expect → Reply → Type 0
 Answers (expected.R1 wanted) (R1 index status) = index ≡ wanted
-Answers expected.R2 (R2 register)              = Unit {0}
-Answers expected.R3 (R3 ocr)                   = Unit {0}
-Answers expected.R6 (R6 word)                  = Unit {0}
-Answers expected.R7 (R7 word)                  = Unit {0}
-Answers expect reply                         = ⊥
+Answers expected.R2 (R2 register) = Unit {0}
+Answers expected.R3 (R3 ocr) = Unit {0}
+Answers expected.R6 (R6 word) = Unit {0}
+Answers expected.R7 (R7 word) = Unit {0}
+Answers expect reply = ⊥
 
 -- the frame of a response
 abbrev pub reply_frame : Reply → Frame
 reply_frame (R1 index status) = record { from_host = false; index = index; contents = bits 32 status; check = CrcOfAll }
-reply_frame (R2 register)     = record { from_host = false; index = 63; contents = bits_of register; check = CrcOfContents }
-reply_frame (R3 ocr)          = record { from_host = false; index = 63; contents = bits 32 ocr; check = AllOnes }
-reply_frame (R6 word)         = record { from_host = false; index = 3; contents = bits 32 word; check = CrcOfAll }
-reply_frame (R7 word)         = record { from_host = false; index = 8; contents = bits 32 word; check = CrcOfAll }
+reply_frame (R2 register) = record { from_host = false; index = 63; contents = bits_of register; check = CrcOfContents }
+reply_frame (R3 ocr) = record { from_host = false; index = 63; contents = bits 32 ocr; check = AllOnes }
+reply_frame (R6 word) = record { from_host = false; index = 3; contents = bits 32 word; check = CrcOfAll }
+reply_frame (R7 word) = record { from_host = false; index = 8; contents = bits 32 word; check = CrcOfAll }
 
 -- the bytes are the frame of a command; of a response
 abbrev pub IsCommandFrame : Command → List ℕ → Type 0

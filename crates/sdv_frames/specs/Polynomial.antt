@@ -1,7 +1,7 @@
 -- Polynomials over the field of two elements, and the CRC7 as a remainder.
 -- SD Physical Layer Simplified Specification, section 4.5; JESD84-B51, section 8.2.1.
 -- A polynomial is the list of its coefficients, the highest power first.
-use Rattle.std.specs.Prelude.{◌≡◌, Bool, true, false, ℕ, not, List, [], ◌∷◌, ◌++◌, length, replicate, if◌then◌else◌}
+use Rattle.std.specs.Prelude.{◌≡◌, Bool, true, false, ℕ, not, [], ◌∷◌, ◌++◌, length, replicate, if◌then◌else◌}
 use Rattle.sdv_frames.specs.Bits.{Bits}
 
 -- the sum of two elements of the field

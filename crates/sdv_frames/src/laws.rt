@@ -7,11 +7,9 @@ ghost use Rattle.sdv_frames.specs.Frame.{SpellingIsOne};
 pub fn crc7_is_one()
     ensures each { EachHasCrc7 }
     ensures one { Crc7IsOne }
-{
-}
+{}
 
 /// A frame has one spelling.
 pub fn spelling_is_one()
     ensures { SpellingIsOne }
-{
-}
+{}

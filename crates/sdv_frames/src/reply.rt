@@ -9,7 +9,7 @@ ghost use Rattle.sdv_frames.specs.Fault.{IsFirstFaultOf};
 
 use crate::crc::crc7;
 use crate::fault::FrameFault;
-use crate::layout::{ALL_ONES, INDEX, Layout, END_BIT, examine};
+use crate::layout::{ALL_ONES, END_BIT, INDEX, Layout, examine};
 use crate::seal::{frame_of, last_byte, sealed};
 use arrayvec::ArrayVec;
 

@@ -42,7 +42,11 @@ fn single_bits(rt: HostRuntime) {
 }
 
 fn refused(rt: &impl Abort, expect: Expect, bytes: &[u8], fault: FrameFault) {
-    assert_eq!(rt; decode_reply(expect, bytes), Err(fault), "{expect:?} {bytes:?}");
+    assert_eq!(rt;
+        decode_reply(expect, bytes),
+        Err(fault),
+        "{expect:?} {bytes:?}"
+    );
 }
 
 /// One byte of a response changed, and the fault that answers it.
@@ -79,17 +83,43 @@ fn operating_conditions(rt: HostRuntime) {
     let frame = [0x3f, 0x80, 0xff, 0x80, 0x00, 0xff];
     assert_eq!(rt; decode_reply(Expect::R3, &frame), Ok(Reply::R3(0x80ff8000)));
     refused(&rt, Expect::R1(17), &frame, FrameFault::Index);
-    refused(&rt, Expect::R3, &[0x3f, 0x80, 0xff, 0x80, 0x00, 0x7f], FrameFault::Reserved);
-    refused(&rt, Expect::R3, &[0x3f, 0x80, 0xff, 0x80, 0x00, 0xfe], FrameFault::EndBit);
-    refused(&rt, Expect::R3, &[0x3e, 0x80, 0xff, 0x80, 0x00, 0xff], FrameFault::Index);
+    refused(
+        &rt,
+        Expect::R3,
+        &[0x3f, 0x80, 0xff, 0x80, 0x00, 0x7f],
+        FrameFault::Reserved,
+    );
+    refused(
+        &rt,
+        Expect::R3,
+        &[0x3f, 0x80, 0xff, 0x80, 0x00, 0xfe],
+        FrameFault::EndBit,
+    );
+    refused(
+        &rt,
+        Expect::R3,
+        &[0x3e, 0x80, 0xff, 0x80, 0x00, 0xff],
+        FrameFault::Index,
+    );
 }
 
 /// What is written is read again, and no other length is read.
 #[test]
 fn round_trips(rt: HostRuntime) {
     let rows = [
-        (Expect::R1(13), Reply::R1 { index: 13, status: 0xfdf90080 }),
-        (Expect::R2, Reply::R2([0x00, 0x58, 0x58, 0x53, 0x44, 0x56, 0x20, 0x20, 0x10, 0, 0, 0, 1, 1, 0x81])),
+        (
+            Expect::R1(13),
+            Reply::R1 {
+                index: 13,
+                status: 0xfdf90080,
+            },
+        ),
+        (
+            Expect::R2,
+            Reply::R2([
+                0x00, 0x58, 0x58, 0x53, 0x44, 0x56, 0x20, 0x20, 0x10, 0, 0, 0, 1, 1, 0x81,
+            ]),
+        ),
         (Expect::R3, Reply::R3(0xc0ff8000)),
         (Expect::R6, Reply::R6(0x12340500)),
         (Expect::R7, Reply::R7(0x1aa)),
@@ -102,7 +132,11 @@ fn round_trips(rt: HostRuntime) {
             }
             _ => encode_reply(&reply),
         };
-        assert_eq!(rt; decode_reply(expect, frame.as_slice()), Ok(reply), "{reply:?}");
+        assert_eq!(rt;
+            decode_reply(expect, frame.as_slice()),
+            Ok(reply),
+            "{reply:?}"
+        );
         refused(&rt, Expect::Nothing, frame.as_slice(), FrameFault::Length);
     }
 }
@@ -110,7 +144,14 @@ fn round_trips(rt: HostRuntime) {
 #[test]
 fn lengths(rt: HostRuntime) {
     let bytes = [0u8; 18];
-    let expects = [Expect::Nothing, Expect::R1(0), Expect::R2, Expect::R3, Expect::R6, Expect::R7];
+    let expects = [
+        Expect::Nothing,
+        Expect::R1(0),
+        Expect::R2,
+        Expect::R3,
+        Expect::R6,
+        Expect::R7,
+    ];
     for expect in expects {
         let wanted = match expect {
             Expect::Nothing => None,
@@ -129,7 +170,10 @@ fn fault_texts(rt: HostRuntime) -> Result<(), Fail> {
     let rows = [
         (FrameFault::Length, "the frame has another length"),
         (FrameFault::StartBit, "the start bit is not 0"),
-        (FrameFault::Direction, "the direction bit is that of the other side"),
+        (
+            FrameFault::Direction,
+            "the direction bit is that of the other side",
+        ),
         (FrameFault::Index, "the command index is another one"),
         (FrameFault::Crc, "the CRC7 is wrong"),
         (FrameFault::EndBit, "the end bit is not 1"),

@@ -2,7 +2,7 @@ use Rattle.std.proofs.Common.{ap, subst}
 use Rattle.std.specs.Prelude.{Ok}
 use Rattle.std.proofs.lemmas.Result.{err_from_is_err_and}
 use Rattle.sdv_frames.specs.Bits.{bits_of}
-use Rattle.sdv_frames.specs.Fault.{HasNoFault, IsFirstFault}
+use Rattle.sdv_frames.specs.Fault.{HasNoFault}
 use Rattle.sdv_frames.proofs.FaultLaws.{length_fits}
 use Rattle.sdv_frames.proofs.FrameLaws.{command_found, one_command, no_command, may_refuse}
 use Rattle.sdv_frames.proofs.command.decode_command.Goals as goal
@@ -23,5 +23,5 @@ returns-clause-found c =
 pub returns-clause-only : goal.returns-clause-only
 returns-clause-only c d h s =
     let found = command_found c.args.bytes.now c.from_be_bytes.result c.told-bytes c.fits-bytes c.from_be_bytes.type_inv c.from_be_bytes.ensures
-      (subst (λ l. HasNoFault l (bits_of c.args.bytes.now)) c.of_command.ensures c.in_ok-examine.ensures.ok) in
+    (subst (λ l. HasNoFault l (bits_of c.args.bytes.now)) c.of_command.ensures c.in_ok-examine.ensures.ok) in
     ap Ok (one_command _ d (bits_of c.args.bytes.now) found.0 h found.1 s)

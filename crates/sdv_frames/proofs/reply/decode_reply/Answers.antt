@@ -1,12 +1,11 @@
-use Rattle.std.proofs.Common.{◌≡◌, ◌<◌, ℕ, get_or, subst, sym, ap, ◌∙◌, arith}
+use Rattle.std.proofs.Common.{subst, sym, ap, ◌∙◌, arith}
 use Rattle.std.specs.Prelude.{Ok}
-use Rattle.std.proofs.lemmas.Result.{err_from_is_err_and}
 use Rattle.sdv_frames.specs.Bits.{bits_of}
 use Rattle.sdv_frames.specs.Frame.{IsReply, Answers, IsReplyFrame}
 use Rattle.sdv_frames.specs.declared.layout.Check.TheVariants.{CrcOfAll, AllOnes}
 use Rattle.sdv_frames.specs.declared.reply.Reply.TheVariants.{R1, R2, R3, R6, R7}
 use Rattle.sdv_frames.specs.declared.reply.Expect.TheVariants as expects
-use Rattle.sdv_frames.proofs.ReplyLaws.{no_reply, one_reply, waited_for, six_long, seventeen_long, all_bytes, found_r1, found_register, found_r3, found_r6, found_r7}
+use Rattle.sdv_frames.proofs.ReplyLaws.{no_reply, one_reply, waited_for, six_long, seventeen_long, found_r1, found_register, found_r3, found_r6, found_r7}
 use Rattle.sdv_frames.proofs.reply.decode_reply.Goals as goal
 
 pub returns-in_err-examine-clause-only : goal.returns-in_err-examine-clause-only

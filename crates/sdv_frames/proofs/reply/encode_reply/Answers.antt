@@ -1,6 +1,5 @@
 use Rattle.std.proofs.Common.{false, arith, ap, ◌∙◌}
 use Rattle.sdv_frames.specs.Bits.{bits_of}
-use Rattle.sdv_frames.specs.Frame.{HasIndex}
 use Rattle.sdv_frames.proofs.FrameLaws.{reply_byte, sealed_frame}
 use Rattle.sdv_frames.proofs.ReplyLaws.{ones_frame}
 use Rattle.sdv_frames.proofs.reply.encode_reply.Goals as goal
