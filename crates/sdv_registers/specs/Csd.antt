@@ -1,0 +1,60 @@
+-- What the card-specific data register (CSD) says, which registers are read, and the capacity.
+-- SD Physical Layer Simplified Specification, section 5.3 (CSD register, versions 1.0 and 2.0);
+-- JESD84-B51, section 7.3 (CSD register).
+-- The register is given by its bits 127..8: those below are the CRC7 of these and the end bit.
+use Rattle.std.specs.Prelude.{ℕ, ◌+◌, ◌-◌, ◌*◌, ◌^◌, Bool, ◌==◌, ◌&&◌, nat_le, if◌then◌else◌, Option, Some, None}
+use Rattle.sdv_frames.specs.Bits.{Bits}
+use Rattle.sdv_registers.specs.Field.{field}
+use Rattle.sdv_registers.specs.declared.kind.Kind.{Kind}
+use Rattle.sdv_registers.specs.declared.kind.Kind.TheVariants.{Sd, Emmc}
+use Rattle.sdv_registers.specs.declared.fault.RegisterFault.{RegisterFault}
+use Rattle.sdv_registers.specs.declared.fault.RegisterFault.TheVariants.{Structure, BlockLength}
+use Rattle.sdv_registers.specs.declared.csd.Layout.{Layout}
+use Rattle.sdv_registers.specs.declared.csd.Layout.TheVariants.{Version1, Version2}
+
+-- CSD_STRUCTURE and READ_BL_LEN, in both layouts
+abbrev pub csd_structure : Bits → ℕ
+csd_structure csd = field 127 127 126 csd
+
+abbrev pub read_bl_len : Bits → ℕ
+read_bl_len csd = field 127 83 80 csd
+
+-- C_SIZE, by the layout
+abbrev pub c_size : Layout → Bits → ℕ
+c_size Version1 csd = field 127 73 62 csd
+c_size Version2 csd = field 127 69 48 csd
+
+-- C_SIZE_MULT, which a register of version 2 has not
+abbrev pub c_size_mult : Bits → ℕ
+c_size_mult csd = field 127 49 47 csd
+
+-- the layout of a register, if there is one: every e.MMC device has that of version 1
+abbrev pub layout : Kind → Bits → Option Layout
+layout Sd csd =
+    if csd_structure csd == 0 then Some Version1 else if csd_structure csd == 1 then Some Version2 else None
+layout Emmc csd = Some Version1
+
+-- READ_BL_LEN is a block length of 512, 1,024 or 2,048 bytes
+abbrev pub is_block_length : Bits → Bool
+is_block_length csd = nat_le 9 (read_bl_len csd) && nat_le (read_bl_len csd) 11
+
+-- why a register of this layout is not read, if it is not: READ_BL_LEN counts in version 1 alone
+abbrev pub fault_of : Option Layout → Bits → Option RegisterFault
+fault_of None csd = Some Structure
+fault_of (Some Version1) csd = if is_block_length csd then None else Some BlockLength
+fault_of (Some Version2) csd = None
+
+-- why a register is not read; none for one that is
+abbrev pub fault : Kind → Bits → Option RegisterFault
+fault kind csd = fault_of (layout kind csd) csd
+
+-- the capacity in blocks of 512 bytes, by the layout
+abbrev pub blocks_of : Option Layout → Bits → ℕ
+blocks_of None csd = 0
+blocks_of (Some Version1) csd =
+    (c_size Version1 csd + 1) * 2 ^ (c_size_mult csd + 2) * 2 ^ (read_bl_len csd - 9)
+blocks_of (Some Version2) csd = (c_size Version2 csd + 1) * 1024
+
+-- the capacity that a register gives
+abbrev pub blocks : Kind → Bits → ℕ
+blocks kind csd = blocks_of (layout kind csd) csd
