@@ -2,7 +2,7 @@
 -- SD Physical Layer Simplified Specification, section 5.3 (CSD register, versions 1.0 and 2.0);
 -- JESD84-B51, section 7.3 (CSD register).
 -- The register is given by its bits 127..8: those below are the CRC7 of these and the end bit.
-use Rattle.std.specs.Prelude.{ℕ, ◌+◌, ◌-◌, ◌*◌, ◌^◌, Bool, ◌==◌, ◌&&◌, nat_le, if◌then◌else◌, Option, Some, None}
+use Rattle.std.specs.Prelude.{ℕ, ◌+◌, ◌-◌, ◌*◌, ◌^◌, Bool, false, ◌==◌, ◌||◌, nat_lt, if◌then◌else◌, Option, Some, None}
 use Rattle.sdv_frames.specs.Bits.{Bits}
 use Rattle.sdv_registers.specs.Field.{field}
 use Rattle.sdv_registers.specs.declared.kind.Kind.{Kind}
@@ -28,33 +28,35 @@ c_size Version2 csd = field 127 69 48 csd
 abbrev pub c_size_mult : Bits → ℕ
 c_size_mult csd = field 127 49 47 csd
 
--- the layout of a register, if there is one: every e.MMC device has that of version 1
-abbrev pub layout : Kind → Bits → Option Layout
-layout Sd csd =
-    if csd_structure csd == 0 then Some Version1 else if csd_structure csd == 1 then Some Version2 else None
-layout Emmc csd = Some Version1
+-- the layout of a register that is read: every e.MMC device has that of version 1
+abbrev pub layout : Kind → Bits → Layout
+layout Sd csd = if csd_structure csd == 1 then Version2 else Version1
+layout Emmc csd = Version1
 
--- READ_BL_LEN is a block length of 512, 1,024 or 2,048 bytes
-abbrev pub is_block_length : Bits → Bool
-is_block_length csd = nat_le 9 (read_bl_len csd) && nat_le (read_bl_len csd) 11
+-- the structure is one that the standard does not know; on e.MMC it is not tested
+abbrev pub has_unknown_structure : Kind → Bits → Bool
+has_unknown_structure Sd csd = nat_lt 1 (csd_structure csd)
+has_unknown_structure Emmc csd = false
 
--- why a register of this layout is not read, if it is not: READ_BL_LEN counts in version 1 alone
-abbrev pub fault_of : Option Layout → Bits → Option RegisterFault
-fault_of None csd = Some Structure
-fault_of (Some Version1) csd = if is_block_length csd then None else Some BlockLength
-fault_of (Some Version2) csd = None
+-- READ_BL_LEN is no block length of 512, 1,024 or 2,048 bytes; in version 2 it is not tested, as the
+-- capacity does not depend on it
+abbrev pub has_other_block_length : Layout → Bits → Bool
+has_other_block_length Version1 csd = nat_lt (read_bl_len csd) 9 || nat_lt 11 (read_bl_len csd)
+has_other_block_length Version2 csd = false
 
 -- why a register is not read; none for one that is
 abbrev pub fault : Kind → Bits → Option RegisterFault
-fault kind csd = fault_of (layout kind csd) csd
+fault kind csd =
+    if has_unknown_structure kind csd then Some Structure
+    else if has_other_block_length (layout kind csd) csd then Some BlockLength
+    else None
 
 -- the capacity in blocks of 512 bytes, by the layout
-abbrev pub blocks_of : Option Layout → Bits → ℕ
-blocks_of None csd = 0
-blocks_of (Some Version1) csd =
+abbrev pub blocks_of : Layout → Bits → ℕ
+blocks_of Version1 csd =
     (c_size Version1 csd + 1) * 2 ^ (c_size_mult csd + 2) * 2 ^ (read_bl_len csd - 9)
-blocks_of (Some Version2) csd = (c_size Version2 csd + 1) * 1024
+blocks_of Version2 csd = (c_size Version2 csd + 1) * 1024
 
--- the capacity that a register gives
+-- the capacity that a register which is read gives
 abbrev pub blocks : Kind → Bits → ℕ
 blocks kind csd = blocks_of (layout kind csd) csd
