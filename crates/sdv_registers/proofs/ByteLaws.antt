@@ -48,8 +48,13 @@ unfolding bits bits_of
 bits_of-little i zero xs bytes h = refl
 bits_of-little i (suc n) xs bytes h =
     let last_first = reverse-append (slice_index xs i ∷ []) (take n (drop (suc i) xs)) in
-    rw (drop-cons xs i 0 (omega arith), last_first, bits_of-append (reverse (take n (drop (suc i) xs))) (slice_index xs i ∷ []),
-    bits_of-little (suc i) n xs bytes (omega arith), byte_after n (slice_index xs i) (little_from (suc i) n xs) (bytes i)) refl
+    rw (
+      drop-cons xs i 0 (omega arith),
+      last_first,
+      bits_of-append (reverse (take n (drop (suc i) xs))) (slice_index xs i ∷ []),
+      bits_of-little (suc i) n xs bytes (omega arith),
+      byte_after n (slice_index xs i) (little_from (suc i) n xs) (bytes i),
+    ) refl
 
 -- A field of the bits that n bytes fill, which end before the bit numbered below: a remainder of a
 -- quotient of the number that the bytes spell, the highest first.
@@ -71,14 +76,14 @@ pub bits_of-drop : (k : ℕ) (xs : List ℕ) → k ≤ length xs → drop (8 * k
 bits_of-drop k xs h =
     let places : length (bits_of (take k xs)) ≡ 8 * k = rw (length-bits_of (take k xs), length-take-le k xs h) refl in
     let parts : bits_of xs ≡ bits_of (take k xs) ++ bits_of (drop k xs) =
-        rw (take-append-drop k xs) at (bits_of-append (take k xs) (drop k xs)) in
+    rw (take-append-drop k xs) at (bits_of-append (take k xs) (drop k xs)) in
     rw parts (rw places at (drop-append_seam (bits_of (take k xs)) (bits_of (drop k xs))))
 
 pub bits_of-take : (k : ℕ) (xs : List ℕ) → k ≤ length xs → take (8 * k) (bits_of xs) ≡ bits_of (take k xs)
 bits_of-take k xs h =
     let places : length (bits_of (take k xs)) ≡ 8 * k = rw (length-bits_of (take k xs), length-take-le k xs h) refl in
     let parts : bits_of xs ≡ bits_of (take k xs) ++ bits_of (drop k xs) =
-        rw (take-append-drop k xs) at (bits_of-append (take k xs) (drop k xs)) in
+    rw (take-append-drop k xs) at (bits_of-append (take k xs) (drop k xs)) in
     rw parts (rw places at (take-append_seam (bits_of (take k xs)) (bits_of (drop k xs))))
 
 -- the bits of the n bytes from place k

@@ -12,13 +12,13 @@ use Rattle.sdv_registers.specs.Field.{field}
 pub drop-bits : (m n number : ℕ) → drop m (bits (m + n) number) ≡ bits n number
 drop-bits m n number =
     let e : drop m (bits m (number / 2 ^ n) ++ bits n number) ≡ bits n number =
-        rw (length-bits m (number / 2 ^ n)) at (drop-append_seam (bits m (number / 2 ^ n)) (bits n number)) in
+    rw (length-bits m (number / 2 ^ n)) at (drop-append_seam (bits m (number / 2 ^ n)) (bits n number)) in
     rw (bits-append m n number) e
 
 pub take-bits : (m n number : ℕ) → take m (bits (m + n) number) ≡ bits m (number / 2 ^ n)
 take-bits m n number =
     let e : take m (bits m (number / 2 ^ n) ++ bits n number) ≡ bits m (number / 2 ^ n) =
-        rw (length-bits m (number / 2 ^ n)) at (take-append_seam (bits m (number / 2 ^ n)) (bits n number)) in
+    rw (length-bits m (number / 2 ^ n)) at (take-append_seam (bits m (number / 2 ^ n)) (bits n number)) in
     rw (bits-append m n number) e
 
 -- a field of a number is a remainder of a quotient: the lowest n of its bits, without m in front and

@@ -33,7 +33,8 @@ impl Csd {
     /// [`RegisterFault::Structure`] for an SD card whose CSD_STRUCTURE is above 1, else
     /// [`RegisterFault::BlockLength`] for a READ_BL_LEN outside 9 to 11 in the layout of version 1.
     pub fn read(kind: Kind, register: &[u8; 15]) -> Result<Csd, RegisterFault>
-        ensures fault { MatchResult result (λ csd. fault kind (bits_of register.now) ≡ None) (λ e. fault kind (bits_of register.now) ≡ Some e) }
+        ensures fault { let csd = bits_of register.now in
+            MatchResult result (λ _. fault kind csd ≡ None) (λ e. fault kind csd ≡ Some e) }
         ensures kind { IfOk result (λ csd. csd.kind ≡ kind) }
         ensures register { IfOk result (λ csd. csd.register ≡ register.now) }
     {
@@ -45,7 +46,10 @@ impl Csd {
         {
             return Err(RegisterFault::BlockLength);
         }
-        Ok(Csd { kind, register: *register })
+        Ok(Csd {
+            kind,
+            register: *register,
+        })
     }
 
     /// CSD_STRUCTURE `[127:126]`.
@@ -71,7 +75,7 @@ impl Csd {
 
     /// C_SIZE, `[73:62]` in version 1 and `[69:48]` in version 2.
     pub fn c_size(&self) -> u32
-        ensures { result ≡ c_size (layout self.now.kind (bits_of self.now.register)) (bits_of self.now.register) }
+        ensures { let csd = bits_of self.now.register in result ≡ c_size (layout self.now.kind csd) csd }
     {
         match self.layout() {
             Layout::Version1 => register_field(&self.register, 73, 62) as u32,
@@ -81,7 +85,8 @@ impl Csd {
 
     /// C_SIZE_MULT `[49:47]`, which stands in version 1 alone.
     pub fn c_size_mult(&self) -> Option<u8>
-        ensures value { result ≡ c_size_mult (layout self.now.kind (bits_of self.now.register)) (bits_of self.now.register) }
+        ensures value { let csd = bits_of self.now.register in
+            result ≡ c_size_mult (layout self.now.kind csd) csd }
         ensures narrow { IfSome result (λ mult. mult < 8) }
     {
         match self.layout() {

@@ -8,6 +8,13 @@ use byteorder::{ByteOrder, LittleEndian};
 pub struct ExtCsd<'a>(pub &'a [u8; 512]);
 
 impl<'a> ExtCsd<'a> {
+    /// The register of these bytes, as a device sends them.
+    pub fn new(register: &'a [u8; 512]) -> ExtCsd<'a>
+        ensures { result.0.now ≡ register.now }
+    {
+        ExtCsd(register)
+    }
+
     /// PARTITION_CONFIG, byte 179.
     pub fn partition_config(&self) -> u8
         ensures { result ≡ partition_config self.now.0.now }

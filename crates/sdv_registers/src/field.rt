@@ -1,6 +1,6 @@
 // How fields are cut out of registers: everywhere by `cut`.
 
-ghost use Rattle.std.specs.Prelude.{◌≡◌, ◌+◌, ◌-◌, ◌*◌, ◌/◌, ◌%◌, ◌^◌, ◌<◌, ◌≤◌, length};
+ghost use Rattle.std.specs.Prelude.{◌≡◌, ◌+◌, ◌-◌, ◌*◌, ◌/◌, ◌%◌, ◌^◌, ◌<◌, ◌≤◌, length, take, drop};
 ghost use Rattle.sdv_frames.specs.Bits.{bits, bits_of};
 ghost use Rattle.sdv_registers.specs.Field.{field};
 
@@ -37,4 +37,12 @@ pub(crate) fn register_field(register: &[u8; 15], high: u32, low: u32) -> u64
 {
     let number = BigEndian::read_uint128(register, 15);
     cut(number, low - 8, high + 1 - low)
+}
+
+/// The bytes of a register from this place on, as many as `count`.
+pub(crate) fn characters(register: &[u8; 15], place: usize, count: usize) -> &[u8]
+    requires { place + count ≤ 15 }
+    ensures { bits_of result.now ≡ take (8 * count) (drop (8 * place) (bits_of register.now)) }
+{
+    &register[place..place + count]
 }

@@ -6,6 +6,7 @@
 
 mod cid;
 mod csd;
+mod emmc_cid;
 mod ext_csd;
 mod fault;
 mod field;
@@ -13,14 +14,20 @@ mod kind;
 mod ocr;
 mod published;
 mod scr;
+mod sd_cid;
 mod status;
 
-pub use cid::{Cid, EmmcCid, SdCid};
+pub use cid::Cid;
 pub use csd::{Csd, Layout};
+pub use emmc_cid::EmmcCid;
 pub use ext_csd::ExtCsd;
 pub use fault::RegisterFault;
 pub use kind::Kind;
 pub use ocr::Ocr;
 pub use published::PublishedRca;
 pub use scr::Scr;
+pub use sd_cid::SdCid;
 pub use status::Status;
+
+#[cfg(test)]
+mod tests;

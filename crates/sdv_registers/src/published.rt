@@ -12,6 +12,13 @@ use crate::status::Status;
 pub struct PublishedRca(pub u32);
 
 impl PublishedRca {
+    /// The CRC check of the command before failed: bit 23 of the card status.
+    pub const COM_CRC_ERROR: u32 = 0x8000;
+    /// The command before was not legal in the card's state: bit 22 of the card status.
+    pub const ILLEGAL_COMMAND: u32 = 0x4000;
+    /// An error of another or an unknown kind: bit 19 of the card status.
+    pub const ERROR: u32 = 0x2000;
+
     /// The card's new relative card address, bits 31..16.
     pub fn rca(self) -> u16
         ensures { result ≡ rca self.0 }
@@ -33,17 +40,17 @@ impl PublishedRca {
         Status(self.0).is_ready_for_data()
     }
 
-    /// Whether the one error of [`Status::DOUBT`] that an R6 shows is set, ERROR.
+    /// Whether ERROR is set, the one error of [`Status::DOUBT`] that an R6 shows.
     pub fn has_doubt(self) -> bool
         ensures { result ≡ has_doubt_r6 self.0 }
     {
-        self.0 & 0x2000 != 0
+        self.0 & Self::ERROR != 0
     }
 
     /// Whether none of the errors that an R6 shows is set: COM_CRC_ERROR, ILLEGAL_COMMAND and ERROR.
     pub fn is_clean(self) -> bool
         ensures { result ≡ is_clean_r6 self.0 }
     {
-        self.0 & 0xe000 == 0
+        self.0 & (Self::COM_CRC_ERROR | Self::ILLEGAL_COMMAND | Self::ERROR) == 0
     }
 }

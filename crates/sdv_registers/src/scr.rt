@@ -3,15 +3,21 @@ ghost use Rattle.sdv_frames.specs.Bits.{bits_of};
 ghost use Rattle.sdv_registers.specs.Field.{field};
 ghost use Rattle.sdv_registers.specs.Scr.{scr_structure, sd_spec, data_stat_after_erase, sd_bus_widths, has_one_line, has_four_lines};
 
-use byteorder::{BigEndian, ByteOrder};
-
 use crate::field::cut;
+use byteorder::{BigEndian, ByteOrder};
 
 /// The SD configuration register: its 64 bits, the highest byte first.
 #[derive(Clone, Copy, Debug, PartialEq, Eq)]
 pub struct Scr(pub [u8; 8]);
 
 impl Scr {
+    /// The register of these bytes, as a card sends them.
+    pub fn new(register: [u8; 8]) -> Scr
+        ensures { result.0 ≡ register }
+    {
+        Scr(register)
+    }
+
     /// SCR_STRUCTURE `[63:60]`.
     pub fn scr_structure(&self) -> u8
         ensures { result ≡ scr_structure (bits_of self.now.0) }

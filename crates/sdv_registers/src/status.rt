@@ -1,10 +1,10 @@
 ghost use Rattle.std.specs.Prelude.{⊤, ◌≡◌, [], ◌∷◌, codes};
-ghost use Rattle.sdv_registers.specs.Status.{state, is_ready_for_data, is_switch_error, is_app_cmd, has_doubt, is_clean, clean_mask, doubt_mask, has_doubt_r6, is_clean_r6, rca};
-
-use bitflags::{bitflag_items, Flag, Flags};
+ghost use Rattle.sdv_registers.specs.Status.{state, is_ready_for_data, is_switch_error, is_app_cmd, has_doubt, is_clean, clean_mask};
 
 use crate::field::word_field;
 use crate::kind::Kind;
+use bitflags::{Flag, Flags, bitflag_items};
+use std::fmt;
 
 /// The card status: the 32 bits of an R1.
 ///
@@ -61,8 +61,7 @@ impl Flags for Status {
 
     ghost exact = { ⊤ };
 
-    ghost table = {
-        (codes "OUT_OF_RANGE", 0x8000_0000) ∷ (codes "ADDRESS_ERROR", 0x4000_0000)
+    ghost table = { (codes "OUT_OF_RANGE", 0x8000_0000) ∷ (codes "ADDRESS_ERROR", 0x4000_0000)
         ∷ (codes "BLOCK_LEN_ERROR", 0x2000_0000) ∷ (codes "ERASE_SEQ_ERROR", 0x1000_0000)
         ∷ (codes "ERASE_PARAM", 0x0800_0000) ∷ (codes "WP_VIOLATION", 0x0400_0000)
         ∷ (codes "CARD_IS_LOCKED", 0x0200_0000) ∷ (codes "LOCK_UNLOCK_FAILED", 0x0100_0000)
@@ -71,8 +70,7 @@ impl Flags for Status {
         ∷ (codes "ERROR", 0x0008_0000) ∷ (codes "CSD_OVERWRITE", 0x0001_0000)
         ∷ (codes "WP_ERASE_SKIP", 0x0000_8000) ∷ (codes "ERASE_RESET", 0x0000_2000)
         ∷ (codes "READY_FOR_DATA", 0x0000_0100) ∷ (codes "SWITCH_ERROR", 0x0000_0080)
-        ∷ (codes "APP_CMD", 0x0000_0020) ∷ []
-    };
+        ∷ (codes "APP_CMD", 0x0000_0020) ∷ [] };
 
     ghost set_of = { λ status. status.0 };
 
@@ -159,5 +157,25 @@ impl Status {
         ensures { result ≡ is_clean kind self.0 }
     {
         !self.intersects(Status::errors(kind))
+    }
+}
+
+/// The states of a card, by their numbers in the card status.
+const STATES: [&str; 9] = [
+    "idle", "ready", "ident", "stby", "tran", "data", "rcv", "prg", "dis",
+];
+
+/// The word in hexadecimal, the name of the state, and the names of the bits that are set.
+impl fmt::Display for Status {
+    fn fmt<W: fmt::Write>(&self, f: &mut fmt::Formatter<W>) -> fmt::Result {
+        let state = STATES
+            .get(self.state() as usize)
+            .copied()
+            .unwrap_or("reserved");
+        write!(f, "{:08x} {state}", self.0)?;
+        for (name, _) in self.iter_names() {
+            write!(f, " {name}")?;
+        }
+        Ok(())
     }
 }

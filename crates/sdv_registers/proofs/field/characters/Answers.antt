@@ -1,6 +1,6 @@
 use Rattle.std.proofs.Common.{◌≡◌, ◌+◌, ◌-◌, arith}
 use Rattle.sdv_registers.proofs.ByteLaws.{bits_of-part}
-use Rattle.sdv_registers.proofs.cid.characters.Goals as goal
+use Rattle.sdv_registers.proofs.field.characters.Goals as goal
 
 pub returns : goal.returns
 returns c =
