@@ -24,10 +24,13 @@ abbrev pub c_size : Layout → Bits → ℕ
 c_size Version1 csd = field 127 73 62 csd
 c_size Version2 csd = field 127 69 48 csd
 
--- C_SIZE_MULT, which version 2 has not
-abbrev pub c_size_mult : Layout → Bits → Option ℕ
-c_size_mult Version1 csd = Some (field 127 49 47 csd)
-c_size_mult Version2 csd = None
+-- C_SIZE_MULT, which stands in version 1 alone
+abbrev pub c_size_mult : Bits → ℕ
+c_size_mult csd = field 127 49 47 csd
+
+abbrev pub c_size_mult_of : Layout → Bits → Option ℕ
+c_size_mult_of Version1 csd = Some (c_size_mult csd)
+c_size_mult_of Version2 csd = None
 
 -- the layout of a register that is read: every e.MMC device has that of version 1
 abbrev pub layout : Kind → Bits → Layout
@@ -55,7 +58,7 @@ fault kind csd =
 -- the capacity in blocks of 512 bytes, by the layout
 abbrev pub blocks_of : Layout → Bits → ℕ
 blocks_of Version1 csd =
-    (c_size Version1 csd + 1) * 2 ^ (field 127 49 47 csd + 2) * 2 ^ (read_bl_len csd - 9)
+    (c_size Version1 csd + 1) * 2 ^ (c_size_mult csd + 2) * 2 ^ (read_bl_len csd - 9)
 blocks_of Version2 csd = (c_size Version2 csd + 1) * 1024
 
 -- the capacity that a register which is read gives

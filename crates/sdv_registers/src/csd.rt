@@ -1,6 +1,6 @@
 ghost use Rattle.std.specs.Prelude.{◌≡◌, ◌+◌, ◌-◌, ◌*◌, ◌^◌, ◌<◌, ◌≤◌, Some, None, IfOk, IfSome, MatchResult, IsTrue, is_none};
 ghost use Rattle.sdv_frames.specs.Bits.{bits_of};
-ghost use Rattle.sdv_registers.specs.Csd.{csd_structure, read_bl_len, c_size, c_size_mult, layout, has_unknown_structure, has_other_block_length, fault, blocks};
+ghost use Rattle.sdv_registers.specs.Csd.{csd_structure, read_bl_len, c_size, c_size_mult_of, layout, fault, blocks};
 
 use crate::fault::RegisterFault;
 use crate::field::register_field;
@@ -86,7 +86,7 @@ impl Csd {
     /// C_SIZE_MULT `[49:47]`, which stands in version 1 alone.
     pub fn c_size_mult(&self) -> Option<u8>
         ensures value { let csd = bits_of self.now.register in
-            result ≡ c_size_mult (layout self.now.kind csd) csd }
+            result ≡ c_size_mult_of (layout self.now.kind csd) csd }
         ensures narrow { IfSome result (λ mult. mult < 8) }
     {
         match self.layout() {
