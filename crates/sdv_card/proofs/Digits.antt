@@ -1,5 +1,5 @@
 -- A code is read back: the digits of a sum of digits are those digits.
-use Rattle.std.proofs.Common.{◌≡◌, ℕ, ◌+◌, ◌*◌, ◌/◌, ◌%◌, ◌<◌, ◌≤◌, refl, ap, subst, sym, ◌∙◌, Bool, true, false, ◌==◌, Option, Some, None, if◌then◌else◌, rules, arith}
+use Rattle.std.proofs.Common.{◌≡◌, ℕ, ◌+◌, ◌*◌, ◌/◌, ◌%◌, ◌<◌, refl, ap, ◌∙◌, Bool, true, false, ◌==◌, Some, None, if◌then◌else◌, rules, arith}
 use Rattle.sdv_card.specs.declared.state.State.{State}
 use Rattle.sdv_card.specs.declared.state.State.TheVariants.{Idle, Ready, Ident, Stby, Tran, Data, Rcv, Prg, Dis}
 use Rattle.sdv_card.specs.declared.state.Transfer.{Transfer}

@@ -2,15 +2,14 @@
 -- SD Physical Layer Simplified Specification, sections 4.9 (responses), 4.10.1 (card status), 4.2.3.1 (ACMD41) and 5.1 (OCR);
 -- JESD84-B51, sections 6.12, 6.13, 6.4.2 and 7.1. What a doubt leaves open is this project's profile. All bits of which
 -- nothing is said here are free.
-use Rattle.std.specs.Prelude.{◌≡◌, ◌≢◌, ◌<◌, ◌⊎◌, ◌/◌, ◌%◌, ◌^◌, ◌==◌, ◌&&◌, not, Bool, true, false, IsTrue, ℕ, List, Option, Some, None, if◌then◌else◌}
+use Rattle.std.specs.Prelude.{◌≡◌, ◌<◌, ◌⊎◌, ◌/◌, ◌%◌, ◌^◌, ◌&&◌, not, Bool, true, IsTrue, ℕ, Some, if◌then◌else◌}
 use Rattle.sdv_frames.specs.declared.reply.Reply.{Reply}
 use Rattle.sdv_frames.specs.declared.reply.Reply.TheVariants.{R1, R2, R3, R6, R7}
-use Rattle.sdv_card.specs.declared.state.State.{State}
 use Rattle.sdv_card.specs.declared.state.State.TheVariants.{Tran}
 use Rattle.sdv_card.specs.declared.command.Row.{Row}
-use Rattle.sdv_card.specs.declared.command.Row.TheVariants.{Cmd0, Cmd1, Cmd2, Cmd3Sd, Cmd3Emmc, Cmd7Addressed, Cmd7NotAddressed, Cmd8Sd, Cmd8Emmc, Cmd9, Cmd10, Cmd12, Cmd13, Cmd16, Cmd17, Cmd18, Cmd23, Cmd24, Cmd25, Cmd32, Cmd33, Cmd35, Cmd36, Cmd38, Cmd55, Acmd13, Acmd41, Acmd51}
+use Rattle.sdv_card.specs.declared.command.Row.TheVariants.{Cmd1, Cmd2, Cmd8Sd, Cmd9, Cmd10, Cmd55}
 use Rattle.sdv_card.specs.declared.command.Response.{Response}
-use Rattle.sdv_card.specs.declared.command.Response.TheVariants.{Absent, NotAddressed, CardStatus, NewAddress, Contents, Conditions}
+use Rattle.sdv_card.specs.declared.command.Response.TheVariants.{CardStatus, NewAddress, Contents, Conditions}
 use Rattle.sdv_card.specs.States.{state_number, is_ready}
 use Rattle.sdv_card.specs.Responses.{row_index}
 use Rattle.sdv_card.specs.Status.{bit, state_field, in_doubt}

@@ -1,6 +1,6 @@
 -- What a card is: its registers, its capacity, its state, and the blocks that it holds.
 -- SD Physical Layer Simplified Specification, chapters 4 and 5; JESD84-B51, chapters 6 and 7.
-use Rattle.std.specs.Prelude.{◌≡◌, ◌<◌, ◌≤◌, ◌==◌, ◌&&◌, Bool, true, false, not, IsTrue, ℕ, List, length, All, Option, Some, None, if◌then◌else◌}
+use Rattle.std.specs.Prelude.{◌≡◌, ◌<◌, ◌==◌, Bool, true, false, not, IsTrue, ℕ, List, length, All, Option, Some, None}
 use Rattle.sdv_registers.specs.declared.kind.Kind.{Kind}
 use Rattle.sdv_registers.specs.declared.kind.Kind.TheVariants.{Sd, Emmc}
 use Rattle.sdv_card.specs.declared.state.State.{State}

@@ -1,12 +1,12 @@
 -- One command and what comes of it: the exchanges that a card makes.
 -- SD Physical Layer Simplified Specification, sections 4.6 (error conditions) and 4.12 (timings); JESD84-B51, section 6.8.
 -- Which commands and responses are lost, and what a loss leaves, is this project's profile.
-use Rattle.std.specs.Prelude.{◌≡◌, ◌⊎◌, ◌/◌, Bool, true, false, ℕ}
+use Rattle.std.specs.Prelude.{◌≡◌, ◌⊎◌, ◌/◌, false, ℕ}
 use Rattle.sdv_card.specs.declared.command.Order.{Order}
 use Rattle.sdv_card.specs.declared.command.Order.TheVariants.{DeselectCards}
 use Rattle.sdv_card.specs.declared.command.Row.{Row}
 use Rattle.sdv_card.specs.declared.command.Response.{Response}
-use Rattle.sdv_card.specs.declared.command.Response.TheVariants.{Absent, NotAddressed, CardStatus, NewAddress, Contents, Conditions}
+use Rattle.sdv_card.specs.declared.command.Response.TheVariants.{Absent, NotAddressed, CardStatus, NewAddress}
 use Rattle.sdv_card.specs.declared.command.TakenAs.{TakenAs}
 use Rattle.sdv_card.specs.declared.command.TakenAs.TheVariants.{Forbidden, Ignored, By}
 use Rattle.sdv_card.specs.declared.answer.Answer.{Answer}

@@ -1,19 +1,19 @@
 -- What a guard of a script says of what came of an event, and what it makes of what is seen there.
 -- SD Physical Layer Simplified Specification, sections 4.10.1 and 5.1; JESD84-B51, sections 6.13 and 7.1.
-use Rattle.std.specs.Prelude.{Bool, true, false, ℕ, ◌%◌, ◌^◌, ◌==◌, ◌||◌, not, Option, Some, None, if◌then◌else◌}
+use Rattle.std.specs.Prelude.{Bool, true, false, ◌%◌, ◌^◌, ◌==◌, Option, Some, None}
 use Rattle.sdv_registers.specs.declared.kind.Kind.{Kind}
 use Rattle.sdv_frames.specs.declared.reply.Reply.{Reply}
-use Rattle.sdv_frames.specs.declared.reply.Reply.TheVariants.{R1, R2, R3, R6, R7}
+use Rattle.sdv_frames.specs.declared.reply.Reply.TheVariants.{R1, R3, R6, R7}
 use Rattle.sdv_card.specs.declared.guard.Guard.{Guard}
 use Rattle.sdv_card.specs.declared.guard.Guard.TheVariants.{Timeout, Answer as SomeAnswer, Clean, Ready as ReadyForData, App, Echo, OcrReady, OcrBlock, State as InState, Ok as WentWell}
 use Rattle.sdv_card.specs.declared.event.Seen.{Seen}
-use Rattle.sdv_card.specs.declared.event.Seen.TheVariants.{Sent, TimeOut, Bare, Ocr, Status, Ok as SeenOk, NotOk}
+use Rattle.sdv_card.specs.declared.event.Seen.TheVariants.{TimeOut, Bare, Ocr, Status, Ok as SeenOk}
 use Rattle.sdv_card.specs.declared.command.Order.{Order}
-use Rattle.sdv_card.specs.declared.command.Order.TheVariants.{GoIdleState, SendOpCond, AllSendCid, SendRelativeAddress, DeselectCards, SendIfCond, SendCsd, SendCid, SdSendOpCond, AppCommand}
+use Rattle.sdv_card.specs.declared.command.Order.TheVariants.{GoIdleState, SendOpCond, AllSendCid, DeselectCards, SendIfCond, SendCsd, SendCid, SdSendOpCond, AppCommand}
 use Rattle.sdv_card.specs.declared.answer.Answer.{Answer}
-use Rattle.sdv_card.specs.declared.answer.Answer.TheVariants.{Sent as WasSent, TimeOut as TimedOut, Reply as Replied, Damaged}
-use Rattle.sdv_card.specs.declared.answer.DataEnd.TheVariants.{Ok, Cut}
-use Rattle.sdv_card.specs.declared.answer.WaitEnd.TheVariants.{Ok as Over, Late}
+use Rattle.sdv_card.specs.declared.answer.Answer.TheVariants.{Sent as WasSent, TimeOut as TimedOut, Reply as Replied}
+use Rattle.sdv_card.specs.declared.answer.DataEnd.TheVariants.{Ok}
+use Rattle.sdv_card.specs.declared.answer.WaitEnd.TheVariants.{Ok as Over}
 use Rattle.sdv_card.specs.States.{state_number}
 use Rattle.sdv_card.specs.Status.{bit, state_field, is_clean}
 use Rattle.sdv_card.specs.Seen.{tells_blocks}

@@ -1,8 +1,7 @@
 -- What a host knows of a card, beside the script's variables and flags; how an event changes it; and when it is true.
 -- SD Physical Layer Simplified Specification, sections 4.2.3 and 4.3.1; JESD84-B51, sections 6.4.2 and 6.6.
-use Rattle.std.specs.Prelude.{◌≡◌, ◌<◌, ◌==◌, ◌/◌, Bool, true, false, IsTrue, ℕ, List, Option, Some, None, if◌then◌else◌}
+use Rattle.std.specs.Prelude.{◌==◌, ◌/◌, ℕ, List, Option, Some, None, if◌then◌else◌}
 use Rattle.sdv_registers.specs.declared.kind.Kind.{Kind}
-use Rattle.sdv_registers.specs.declared.kind.Kind.TheVariants.{Emmc}
 use Rattle.sdv_frames.specs.declared.reply.Reply.TheVariants.{R2, R6}
 use Rattle.sdv_card.specs.declared.command.Order.{Order}
 use Rattle.sdv_card.specs.declared.command.Order.TheVariants.{GoIdleState, SendRelativeAddress, SetRelativeAddress, SendCsd, SendExtCsd, SendStatus, SendScr, ReadSingleBlock, ReadMultipleBlock, WriteBlock, WriteMultipleBlock}
@@ -11,7 +10,7 @@ use Rattle.sdv_card.specs.declared.answer.Answer.TheVariants.{Reply}
 use Rattle.sdv_card.specs.declared.answer.DataEnd.{DataEnd}
 use Rattle.sdv_card.specs.declared.answer.DataEnd.TheVariants.{Ok, Cut}
 use Rattle.sdv_card.specs.CommandTable.{order_of}
-use Rattle.sdv_card.specs.ScriptEvent.{ScriptEvent, SendCommand, ReceiveBlocks, ReceiveRegister, GiveBlocks, AwaitReady, Return, Answered, RegisterIn}
+use Rattle.sdv_card.specs.ScriptEvent.{ScriptEvent, SendCommand, ReceiveRegister, Return, Answered, RegisterIn}
 
 pub record Host : Type 0 where
   -- the script's number variables, and its flags as bits, the first declared ones first and lowest

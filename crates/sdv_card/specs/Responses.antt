@@ -1,6 +1,6 @@
 -- How each row is answered, and the index that an answer repeats.
 -- SD Physical Layer Simplified Specification, sections 4.7.4 and 4.9; JESD84-B51, sections 6.10.4 and 6.12.
-use Rattle.std.specs.Prelude.{◌≡◌, ℕ}
+use Rattle.std.specs.Prelude.{ℕ}
 use Rattle.sdv_card.specs.declared.command.Response.{Response}
 use Rattle.sdv_card.specs.declared.command.Response.TheVariants.{Absent, NotAddressed, CardStatus, NewAddress, Contents, Conditions}
 use Rattle.sdv_card.specs.declared.command.Row.{Row}

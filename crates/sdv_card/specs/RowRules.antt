@@ -2,7 +2,7 @@
 -- SD Physical Layer Simplified Specification, sections 4.2.3, 4.3.3 to 4.3.5, 4.3.9 and 4.3.10; JESD84-B51, sections 6.4.2,
 -- 6.6.7 to 6.6.9 and 6.10.4. All rules of the preset count, and what follows a loss, are this project's profile.
 -- Each rule gives the list of all that may stand there afterwards, or the one value.
-use Rattle.std.specs.Prelude.{◌≡◌, ◌==◌, ◌||◌, Bool, true, false, ℕ, List, [], ◌∷◌, filter, if◌then◌else◌}
+use Rattle.std.specs.Prelude.{◌==◌, ◌||◌, Bool, true, false, ℕ, List, [], ◌∷◌, filter, if◌then◌else◌}
 use Rattle.sdv_registers.specs.declared.kind.Kind.{Kind}
 use Rattle.sdv_registers.specs.declared.kind.Kind.TheVariants.{Sd, Emmc}
 use Rattle.sdv_card.specs.declared.state.State.{State}
@@ -12,7 +12,7 @@ use Rattle.sdv_card.specs.declared.state.Transfer.TheVariants.{Nothing, ReadDue,
 use Rattle.sdv_card.specs.declared.state.EraseStage.{EraseStage}
 use Rattle.sdv_card.specs.declared.state.EraseStage.TheVariants.{Outside, Begun, Both}
 use Rattle.sdv_card.specs.declared.command.Row.{Row}
-use Rattle.sdv_card.specs.declared.command.Row.TheVariants.{Cmd0, Cmd1, Cmd2, Cmd3Sd, Cmd3Emmc, Cmd7Addressed, Cmd7NotAddressed, Cmd8Sd, Cmd8Emmc, Cmd9, Cmd10, Cmd12, Cmd13, Cmd16, Cmd17, Cmd18, Cmd23, Cmd24, Cmd25, Cmd32, Cmd33, Cmd35, Cmd36, Cmd38, Cmd55, Acmd13, Acmd41, Acmd51}
+use Rattle.sdv_card.specs.declared.command.Row.TheVariants.{Cmd0, Cmd3Sd, Cmd3Emmc, Cmd8Emmc, Cmd12, Cmd13, Cmd16, Cmd17, Cmd18, Cmd23, Cmd24, Cmd25, Cmd32, Cmd33, Cmd35, Cmd36, Cmd38, Cmd55, Acmd13, Acmd41, Acmd51}
 use Rattle.sdv_card.specs.StateTable.{rows, targets}
 
 -- STATE. A block-addressed SD card does not go to ready for a host that cannot work with block addresses.

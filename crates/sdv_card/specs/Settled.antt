@@ -1,6 +1,6 @@
 -- The card that a command meets: the card as it is, or after one step of its own.
 -- SD Physical Layer Simplified Specification, section 4.3 (data transfer state diagram); JESD84-B51, section 6.6.
-use Rattle.std.specs.Prelude.{◌≡◌, ◌⊎◌, Option, Some, None}
+use Rattle.std.specs.Prelude.{◌≡◌, ◌⊎◌, Some}
 use Rattle.sdv_card.specs.declared.state.State.{State}
 use Rattle.sdv_card.specs.declared.state.Transfer.TheVariants.{Nothing}
 use Rattle.sdv_card.specs.States.{own_target}

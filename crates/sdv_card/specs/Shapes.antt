@@ -1,6 +1,6 @@
 -- The shape of a card beside its host, and which fields are those of a shape.
 -- The code is this project's own; its rules are those of cards.
-use Rattle.std.specs.Prelude.{◌≡◌, ◌<◌, ◌==◌, ◌&&◌, Bool, true, false, ℕ, List, [], ◌∷◌}
+use Rattle.std.specs.Prelude.{◌≡◌, ◌<◌, ◌==◌, ◌&&◌, Bool, true, ℕ, List, [], ◌∷◌}
 use Rattle.sdv_registers.specs.declared.kind.Kind.{Kind}
 use Rattle.sdv_card.specs.declared.state.State.{State}
 use Rattle.sdv_card.specs.declared.state.State.TheVariants.{Idle, Ready, Ident}

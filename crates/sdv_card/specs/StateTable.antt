@@ -3,7 +3,7 @@
 -- JESD84-B51, section 6.11 (device state transition table).
 -- A row from a state that is not listed is not legal. The e.MMC rows of CMD7 not addressed from stand-by,
 -- CMD12 and CMD23 as they stand are this project's profile.
-use Rattle.std.specs.Prelude.{ℕ, List, [], ◌∷◌, ◌==◌, if◌then◌else◌}
+use Rattle.std.specs.Prelude.{List, [], ◌∷◌, ◌==◌, if◌then◌else◌}
 use Rattle.sdv_registers.specs.declared.kind.Kind.{Kind}
 use Rattle.sdv_registers.specs.declared.kind.Kind.TheVariants.{Sd, Emmc}
 use Rattle.sdv_card.specs.declared.state.State.{State}

@@ -1,11 +1,11 @@
 -- The bits of a card status, and what they leave in doubt.
 -- SD Physical Layer Simplified Specification, sections 4.9.1 (R1), 4.9.5 (R6) and 4.10.1 (card status);
 -- JESD84-B51, sections 6.12 (responses) and 6.13 (device status). The two masks are this project's own.
-use Rattle.std.specs.Prelude.{Bool, true, false, ℕ, ◌/◌, ◌%◌, ◌^◌, ◌==◌, bit_and, not}
+use Rattle.std.specs.Prelude.{Bool, false, ℕ, ◌/◌, ◌%◌, ◌^◌, ◌==◌, bit_and, not}
 use Rattle.sdv_registers.specs.declared.kind.Kind.{Kind}
 use Rattle.sdv_registers.specs.declared.kind.Kind.TheVariants.{Sd, Emmc}
 use Rattle.sdv_frames.specs.declared.reply.Reply.{Reply}
-use Rattle.sdv_frames.specs.declared.reply.Reply.TheVariants.{R1, R2, R3, R6, R7}
+use Rattle.sdv_frames.specs.declared.reply.Reply.TheVariants.{R1, R6}
 use Rattle.sdv_card.specs.declared.status.TheConstants.{DOUBT_MASK, DOUBT_MASK_R6, CLEAN_MASK_SD, CLEAN_MASK_EMMC, CLEAN_MASK_R6}
 
 -- bit n of a word

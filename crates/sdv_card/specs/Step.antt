@@ -1,6 +1,6 @@
 -- The steps of a card: at each event, what it may return and the card afterwards.
 -- SD Physical Layer Simplified Specification, sections 4.2 and 4.3; JESD84-B51, sections 6.4 and 6.6.
-use Rattle.std.specs.Prelude.{◌≡◌, ◌⊎◌, ℕ}
+use Rattle.std.specs.Prelude.{ℕ}
 use Rattle.sdv_card.specs.declared.event.Ask.{Ask}
 use Rattle.sdv_card.specs.declared.command.Order.{Order}
 use Rattle.sdv_card.specs.declared.answer.Answer.{Answer}

@@ -1,8 +1,8 @@
 -- What becomes of a settled card that takes a row, and of one that was reached by the command and stayed.
 -- SD Physical Layer Simplified Specification, sections 4.2.3, 4.3 and 4.8; JESD84-B51, sections 6.4.2, 6.6 and 6.11.
-use Rattle.std.specs.Prelude.{◌≡◌, ◌<◌, ◌/◌, ◌==◌, Bool, true, false, IsTrue, ℕ, List, Option, Some, None, if◌then◌else◌}
+use Rattle.std.specs.Prelude.{◌≡◌, ◌<◌, ◌/◌, Bool, true, false, IsTrue, ℕ, List, Option, Some, None}
 use Rattle.sdv_card.specs.declared.command.Row.{Row}
-use Rattle.sdv_card.specs.declared.command.Row.TheVariants.{Cmd0, Cmd1, Cmd2, Cmd3Sd, Cmd3Emmc, Cmd7Addressed, Cmd7NotAddressed, Cmd8Sd, Cmd8Emmc, Cmd9, Cmd10, Cmd12, Cmd13, Cmd16, Cmd17, Cmd18, Cmd23, Cmd24, Cmd25, Cmd32, Cmd33, Cmd35, Cmd36, Cmd38, Cmd55, Acmd13, Acmd41, Acmd51}
+use Rattle.sdv_card.specs.declared.command.Row.TheVariants.{Cmd0, Cmd3Sd, Cmd3Emmc, Cmd16, Cmd17, Cmd18, Cmd24, Cmd25, Cmd38}
 use Rattle.sdv_card.specs.Lists.{May}
 use Rattle.sdv_card.specs.StateTable.{◌to◌, rows}
 use Rattle.sdv_card.specs.RowRules.{may_reach, app_after, erase_after, erase_stayed, preset_after, preset_kept, transfer_after}
