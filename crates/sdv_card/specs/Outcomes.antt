@@ -4,6 +4,7 @@ use Rattle.std.specs.Prelude.{Bool, true, false, ℕ, List, [], ◌∷◌, ◌++
 use Rattle.sdv_registers.specs.declared.kind.Kind.{Kind}
 use Rattle.sdv_card.specs.declared.state.State.{State}
 use Rattle.sdv_card.specs.declared.state.Transfer.TheVariants.{Nothing}
+use Rattle.sdv_card.specs.declared.state.Place.{Place}
 use Rattle.sdv_card.specs.declared.fields.Fields.{Fields}
 use Rattle.sdv_card.specs.declared.event.Event.{Event}
 use Rattle.sdv_card.specs.declared.event.Event.TheVariants.{Send, RecvBlocks, RecvReg, Give, Wait}
@@ -29,7 +30,7 @@ use Rattle.sdv_card.specs.Takes.{taken_as_of}
 use Rattle.sdv_card.specs.RowRules.{states_after, app_after, erase_after, erase_stayed, preset_after, preset_kept, length_after, matched_after, matched_stayed, transfer_after}
 use Rattle.sdv_card.specs.Responses.{response_of}
 use Rattle.sdv_card.specs.CommandTable.{order_of}
-use Rattle.sdv_card.specs.Phases.{Place, after_phase, after_wait}
+use Rattle.sdv_card.specs.Phases.{after_phase, after_wait}
 use Rattle.sdv_card.specs.Code.{code_of, fields_of}
 
 abbrev pub branch : Fields → Seen → Branch

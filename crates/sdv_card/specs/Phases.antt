@@ -3,6 +3,7 @@
 -- JESD84-B51, sections 6.6.7, 6.6.8 and 7.4. What a cut phase and a wait leave is this project's profile.
 use Rattle.std.specs.Prelude.{◌≡◌, ◌⊎◌, ◌+◌, Bool, true, false, ℕ, List, [], ◌∷◌, length, take, drop}
 use Rattle.sdv_card.specs.declared.state.State.{State}
+use Rattle.sdv_card.specs.declared.state.Place.{Place}
 use Rattle.sdv_card.specs.declared.state.State.TheVariants.{Tran, Data, Rcv, Prg}
 use Rattle.sdv_card.specs.declared.state.Transfer.{Transfer}
 use Rattle.sdv_card.specs.declared.state.Transfer.TheVariants.{Nothing, ReadDue, OpenReadDue, ScrDue, SdStatusDue, ExtCsdDue, ReadOver, OpenReadOver, WriteDue, OpenWriteDue, WriteOver, OpenWriteOver}
@@ -14,11 +15,6 @@ use Rattle.sdv_card.specs.Lists.{May}
 use Rattle.sdv_card.specs.Card.{Card, Block, AreBlocks}
 
 -- WHERE A CARD IS AFTERWARDS
-
--- a state with its transfer
-pub record Place : Type 0 where
-  pub state : State
-  pub transfer : Transfer
 
 infixl 40 ◌with◌
 abbrev pub ◌with◌ : State → Transfer → Place

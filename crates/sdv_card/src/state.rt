@@ -65,3 +65,12 @@ pub enum EraseStage {
     /// The first and the last block are set.
     Both,
 }
+
+/// A state with its transfer.
+#[derive(Clone, Copy, Debug, PartialEq, Eq)]
+pub struct Place {
+    /// The state.
+    pub state: State,
+    /// The transfer.
+    pub transfer: Transfer,
+}
