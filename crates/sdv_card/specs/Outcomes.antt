@@ -4,6 +4,7 @@ use Rattle.std.specs.Prelude.{Bool, true, false, ℕ, List, [], ◌∷◌, ◌++
 use Rattle.sdv_registers.specs.declared.kind.Kind.{Kind}
 use Rattle.sdv_card.specs.declared.state.State.{State}
 use Rattle.sdv_card.specs.declared.state.Transfer.TheVariants.{Nothing}
+use Rattle.sdv_card.specs.declared.state.EraseStage.{EraseStage}
 use Rattle.sdv_card.specs.declared.state.Place.{Place}
 use Rattle.sdv_card.specs.declared.fields.Fields.{Fields}
 use Rattle.sdv_card.specs.declared.event.Event.{Event}
@@ -48,31 +49,35 @@ own_steps f (Some s) = record f { state = s; transfer = Nothing } ∷ []
 abbrev pub settled : Fields → List Fields
 settled f = f ∷ own_steps f (own_target f.state f.transfer)
 
+-- ALL VALUES of a part, and with each those of the parts after it
+abbrev pub with_presets : Fields → List ℕ → List Fields
+with_presets t presets = map (λ preset. record t { preset = preset }) presets
+
+abbrev pub with_matches : Fields → List Bool → List ℕ → List Fields
+with_matches t matches presets = each matches (λ matched. with_presets (record t { matched = matched }) presets)
+
+abbrev pub with_lengths : Fields → (lengths matches : List Bool) → List ℕ → List Fields
+with_lengths t lengths matches presets = each lengths (λ length. with_matches (record t { length_512 = length }) matches presets)
+
+abbrev pub with_apps : Fields → (apps lengths matches : List Bool) → List ℕ → List Fields
+with_apps t apps lengths matches presets = each apps (λ app. with_lengths (record t { app = app }) lengths matches presets)
+
+abbrev pub with_states : Fields → List State → (apps lengths matches : List Bool) → List ℕ → List Fields
+with_states t states apps lengths matches presets = each states (λ state. with_apps (record t { state = state }) apps lengths matches presets)
+
+abbrev pub with_erases : Fields → List EraseStage → List Bool → List ℕ → List Fields
+with_erases t erases matches presets = each erases (λ erase. with_matches (record t { erase = erase }) matches presets)
+
 -- TAKEN: a settled t after the row; known: the host saw the address that an SD card chose
 abbrev pub taken : Kind → Row → Bool → Fields → List Fields
 taken k row known t =
-    each (states_after k row t.block_unit t.state) (λ state.
-    each (app_after row) (λ app.
-    each (length_after row t.block_unit t.length_512) (λ length.
-    each (matched_after row known t.matched) (λ matched.
-    each (preset_after k row t.preset) (λ preset.
-    record t {
-      state = state;
-      transfer = transfer_after row t.preset t.transfer;
-      erase = erase_after row t.erase;
-      length_512 = length;
-      app = app;
-      matched = matched;
-      preset = preset;
-    } ∷ [])))))
+    with_states (record t { transfer = transfer_after row t.preset t.transfer; erase = erase_after row t.erase })
+    (states_after k row t.block_unit t.state) (app_after row) (length_after row t.block_unit t.length_512)
+    (matched_after row known t.matched) (preset_after k row t.preset)
 
 -- STAYED: a settled t that lost its application flag, with each match of a list
 abbrev pub stayed : Kind → Row → List Bool → Fields → List Fields
-stayed k row matches t =
-    each (erase_stayed row t.erase) (λ erase.
-    each matches (λ matched.
-    each (preset_kept k t.preset) (λ preset.
-    record t { erase = erase; app = false; matched = matched; preset = preset } ∷ [])))
+stayed k row matches t = with_erases (record t { app = false }) (erase_stayed row t.erase) matches (preset_kept k t.preset)
 
 -- with a status or an address as response a card may have stayed
 abbrev pub lost_stayed : Kind → Response → Row → Fields → List Fields
