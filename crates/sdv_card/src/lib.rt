@@ -16,6 +16,8 @@ mod shape;
 mod state;
 mod status;
 mod table;
+#[cfg(test)]
+mod tests;
 
 pub use answer::{Answer, DataEnd, WaitEnd};
 pub use command::{Move, Order, Response, Row, TakenAs};
