@@ -1,0 +1,104 @@
+-- The laws that tie what is computed at codes to cards: stated here for a kind, and proved where a table is.
+use Rattle.std.specs.Prelude.{◌≡◌, ◌<◌, ◌↔◌, Bool, false, IsTrue, ℕ, List, Option, Some, None}
+use Rattle.sdv_registers.specs.declared.kind.Kind.{Kind}
+use Rattle.sdv_registers.specs.declared.kind.Kind.TheVariants.{Emmc}
+use Rattle.sdv_card.specs.declared.guard.Guard.{Guard}
+use Rattle.sdv_card.specs.declared.guard.Guard.TheVariants.{Ok as WentWell}
+use Rattle.sdv_card.specs.declared.command.Order.{Order}
+use Rattle.sdv_card.specs.Lists.{May}
+use Rattle.sdv_card.specs.Card.{Card}
+use Rattle.sdv_card.specs.Host.{Host, host_after}
+use Rattle.sdv_card.specs.ScriptEvent.{ScriptEvent, SendCommand, Return, event_of}
+use Rattle.sdv_card.specs.CommandTable.{order_of}
+use Rattle.sdv_card.specs.HostEvents.{Makes}
+use Rattle.sdv_card.specs.Taken.{SameCard}
+use Rattle.sdv_card.specs.Phases.{blocks_due, register_due}
+use Rattle.sdv_card.specs.Legal.{EventLegal, InBounds, TransferOnCard}
+use Rattle.sdv_card.specs.Step.{Step}
+use Rattle.sdv_card.specs.Shapes.{view, pair_code, is_shape, IsPair, start_codes}
+use Rattle.sdv_card.specs.Profile.{IsAtStart, host_at_start}
+use Rattle.sdv_card.specs.Outcomes.{branch, outcome_of, outcomes_code}
+use Rattle.sdv_card.specs.LegalShapes.{legal_code}
+use Rattle.sdv_card.specs.Seen.{seen_of}
+use Rattle.sdv_card.specs.Guards.{guard_fits, passes, verdict, may_hold, may_fail}
+
+-- what a host knows of a card is true
+pub record Sound (c : Card) (h : Host) : Type 0 where
+  -- the registers that it holds are the card's; an SD card has no EXT_CSD
+  pub csd : (bytes : List ℕ) → h.csd ≡ Some bytes → bytes ≡ c.csd
+  pub ext_csd : (bytes : List ℕ) → c.kind ≡ Emmc → h.ext_csd ≡ Some bytes → bytes ≡ c.ext_csd
+  -- a block transfer that is due has the count that it announced last
+  pub blocks : IsTrue (blocks_due c.transfer) → h.announced ≡ c.announced
+  -- where a register is due, it sent a command that fixes the register's length
+  pub register : IsTrue (register_due c.transfer) → 0 < h.register_length
+
+-- the code of a card beside its host is a shape
+abbrev pub PairsHaveShapes : Kind → Type 0
+PairsHaveShapes k = (c : Card) (h : Host) → IsPair k c h → IsTrue (is_shape k (view c h))
+
+-- an event is legal at a card beside its host exactly where it is legal at their code
+abbrev pub LegalIsExact : Kind → Type 0
+LegalIsExact k = (event : ScriptEvent) (c : Card) (h : Host) → IsPair k c h → Makes k event h →
+    EventLegal event c ↔ IsTrue (legal_code k (pair_code c h) (event_of event))
+
+-- a card has a step at each legal event
+pub record SomeStep (event : ScriptEvent) (c : Card) : Type 0 where
+  pub returned : Return
+  pub after : Card
+  pub step : Step event c returned after
+
+abbrev pub HasStep : Kind → Type 0
+HasStep k = (event : ScriptEvent) (c : Card) (h : Host) → IsPair k c h → EventLegal event c → SomeStep event c
+
+-- each step of a card beside its host is among the outcomes at their code
+abbrev pub StepsAreOutcomes : Kind → Type 0
+StepsAreOutcomes k = (event : ScriptEvent) (c : Card) (h : Host) (returned : Return) (u : Card) →
+    IsPair k c h → Makes k event h → Step event c returned u →
+    May (outcomes_code k (pair_code c h) (event_of event)) (outcome_of (branch (view u (host_after k event returned h)) (seen_of k returned)))
+
+-- a step leads from a card beside its host to a card beside its host
+abbrev pub StepsKeepPairs : Kind → Type 0
+StepsKeepPairs k = (event : ScriptEvent) (c : Card) (h : Host) (returned : Return) (u : Card) →
+    IsPair k c h → Makes k event h → Step event c returned u → IsPair k u (host_after k event returned h)
+
+-- a step changes neither the size of a card nor its registers
+abbrev pub StepsKeepSame : Kind → Type 0
+StepsKeepSame k = (event : ScriptEvent) (c : Card) (returned : Return) (u : Card) → Step event c returned u → SameCard c u
+
+-- a legal step keeps what the host knows true
+abbrev pub StepsKeepSound : Kind → Type 0
+StepsKeepSound k = (event : ScriptEvent) (c : Card) (h : Host) (returned : Return) (u : Card) →
+    IsPair k c h → Makes k event h → EventLegal event c → Step event c returned u → Sound c h → Sound u (host_after k event returned h)
+
+-- a legal step in bounds keeps the blocks of a transfer on the card
+abbrev pub StepsKeepOnCard : Kind → Type 0
+StepsKeepOnCard k = (event : ScriptEvent) (c : Card) (returned : Return) (u : Card) →
+    EventLegal event c → InBounds event c → Step event c returned u → TransferOnCard c → TransferOnCard u
+
+-- before the first command
+pub record StartHolds (k : Kind) (c : Card) (h : Host) : Type 0 where
+  pub pair : IsPair k c h
+  pub shape : May start_codes (pair_code c h)
+  pub sound : Sound c h
+  pub on_card : TransferOnCard c
+
+abbrev pub StartsHold : Kind → Type 0
+StartsHold k = (c : Card) (n : ℕ) → k ≡ c.kind → IsAtStart c → StartHolds k c (host_at_start n)
+
+abbrev pub fits_order : Guard → Option Order → Bool
+fits_order guard None = false
+fits_order guard (Some order) = guard_fits guard order
+
+-- the guard may stand in a case of the event
+abbrev pub FitsEvent : Kind → Guard → ScriptEvent → Type 0
+FitsEvent k guard (SendCommand ask argument) = IsTrue (fits_order guard (order_of k ask))
+FitsEvent k guard event = guard ≡ WentWell
+
+-- a guard that holds of an answer may hold of what is seen there, and one that fails may fail
+pub record VerdictHolds (k : Kind) (guard : Guard) (returned : Return) : Type 0 where
+  pub held : IsTrue (passes k guard returned) → IsTrue (may_hold (verdict guard (seen_of k returned)))
+  pub failed : passes k guard returned ≡ false → IsTrue (may_fail (verdict guard (seen_of k returned)))
+
+abbrev pub VerdictsHold : Kind → Type 0
+VerdictsHold k = (guard : Guard) (event : ScriptEvent) (c : Card) (h : Host) (returned : Return) (u : Card) →
+    IsPair k c h → FitsEvent k guard event → Step event c returned u → VerdictHolds k guard returned

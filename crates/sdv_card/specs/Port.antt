@@ -1,0 +1,57 @@
+-- The calls of a port, and what it means that a port which shows a card keeps the tables.
+use Rattle.std.specs.Prelude.{◌≡◌, ℕ, List, Option, Some}
+use Rattle.sdv_registers.specs.declared.kind.Kind.{Kind}
+use Rattle.sdv_frames.specs.declared.command.Command.{Command}
+use Rattle.sdv_frames.specs.declared.reply.Expect.{Expect}
+use Rattle.sdv_card.specs.CommandTable.{expect_of}
+use Rattle.sdv_card.specs.Card.{Card, Block}
+use Rattle.sdv_card.specs.Host.{Host}
+use Rattle.sdv_card.specs.HostEvents.{Makes}
+use Rattle.sdv_card.specs.ScriptEvent.{ScriptEvent, SendCommand, ReceiveBlocks, ReceiveRegister, GiveBlocks, AwaitReady, Return}
+use Rattle.sdv_card.specs.Shapes.{IsPair}
+use Rattle.sdv_card.specs.Legal.{EventLegal, InBounds, TransferOnCard}
+use Rattle.sdv_card.specs.Step.{Step}
+
+-- a call of a port, without what it returns
+pub data Call : Type 0 where
+  Exchange : (command : Command) (expect : Expect) → Call
+  -- room for so many blocks, and for so many bytes of a register
+  DataIn : (count : ℕ) → Call
+  DataInRegister : (count : ℕ) → Call
+  DataOut : (blocks : List Block) → Call
+  WaitWhileBusy : Call
+
+-- the call that an event becomes
+abbrev pub call_of : Kind → ScriptEvent → Call
+call_of k (SendCommand ask argument) = Exchange (record { index = ask.index; argument = argument }) (expect_of k ask)
+call_of k (ReceiveBlocks count) = DataIn count
+call_of k (ReceiveRegister count) = DataInRegister count
+call_of k (GiveBlocks blocks) = DataOut blocks
+call_of k AwaitReady = WaitWhileBusy
+
+-- The card that a port shows, but for the announced count, which no frame carries: that of the card is the count of the
+-- script's events.
+pub record Shows {S : Type 0} (card : S → Option Card) (s : S) (c : Card) : Type 0 where
+  pub shown : Card
+  pub shows : card s ≡ Some shown
+  pub same : record shown { announced = c.announced } ≡ c
+
+-- a legal event in bounds of a host beside a card
+pub record IsFine (k : Kind) (event : ScriptEvent) (c : Card) (h : Host) : Type 0 where
+  pub pair : IsPair k c h
+  pub made : Makes k event h
+  pub legal : EventLegal event c
+  pub bounds : InBounds event c
+  pub on_card : TransferOnCard c
+
+-- what a call did is a step of the card, and the port shows the card after it
+pub record Kept {S : Type 0} (card : S → Option Card) (event : ScriptEvent) (c : Card) (returned : Return) (s' : S) : Type 0 where
+  pub after : Card
+  pub step : Step event c returned after
+  pub shown : Shows card s' after
+
+-- Where a port shows a card, the call of each legal event in bounds is a step of that card. Of other events nothing is known.
+abbrev pub KeepsTables : {S : Type 0} → (S → Call → Return → S → Type 0) → (S → Option Card) → Type 0
+KeepsTables steps card =
+    (s s' : _) (k : Kind) (event : ScriptEvent) (c : Card) (h : Host) (returned : Return) →
+    Shows card s c → IsFine k event c h → steps s (call_of k event) returned s' → Kept card event c returned s'

@@ -1,0 +1,32 @@
+//! Cards of SD and e.MMC as data: what a card is, what it may do at each event of a script, and the shape under which
+//! the tools see it beside a host.
+//!
+//! The definitions stand in `specs/`. Begin at `specs/StateTable.antt`, `specs/Card.antt` and `specs/Step.antt` for
+//! cards, and at `specs/Code.antt` and `specs/Outcomes.antt` for shapes; `specs/Laws.antt` says how the two agree.
+#![tactic(auto)]
+
+mod answer;
+mod command;
+mod event;
+mod fields;
+mod guard;
+pub mod laws;
+mod port;
+mod shape;
+mod state;
+mod status;
+mod table;
+#[cfg(test)]
+mod tests;
+
+pub use answer::{Answer, DataEnd, WaitEnd};
+pub use command::{Move, Order, Response, Row, TakenAs};
+pub use event::{Aim, Ask, Branch, Event, Outcome, Seen};
+pub use fields::Fields;
+pub use guard::Guard;
+pub use port::CardPort;
+pub use sdv_registers::Kind;
+pub use shape::{START_SHAPES, Shape};
+pub use state::{EraseStage, Place, State, Transfer};
+pub use status::{CLEAN_MASK_EMMC, CLEAN_MASK_R6, CLEAN_MASK_SD, DOUBT_MASK, DOUBT_MASK_R6};
+pub use table::CardTable;
