@@ -5,7 +5,7 @@ use Rattle.std.proofs.lemmas.Grind.{get_or_after_one}
 use Rattle.sdv_frames.specs.Bits.{Bits, bits, bits_of, number_of}
 use Rattle.sdv_frames.specs.Polynomial.{IsCrc7}
 use Rattle.sdv_frames.specs.Frame.{Spells, all_ones, AreBytes, IsReply, Answers, IsReplyFrame, reply_frame}
-use Rattle.sdv_frames.specs.Fault.{HasNoFault, IsFirstFault, short, layout_of}
+use Rattle.sdv_frames.specs.Fault.{HasNoFault, IsFirstFault, IsFirstFaultOf, short, layout_of}
 use Rattle.sdv_frames.specs.declared.layout.Layout.{Layout}
 use Rattle.sdv_frames.specs.declared.layout.Check.{Check}
 use Rattle.sdv_frames.specs.declared.fault.FrameFault.{FrameFault}
@@ -139,6 +139,14 @@ pub no_reply : (expect : Expect) (l : Layout) (r : Reply) (received : Bits) {fau
 no_reply expect l r received {fault} e f h a s =
     none_at fault l received (subst (λ o. MatchOption o ⊥ (λ k. HasNoFault k received)) e (reply_fits expect r a received h s)) f.there
 
+pub no_reply_of : (expect : Expect) (r : Reply) (received : Bits) (fault : FrameFault) → IsFirstFaultOf expect received fault → IsReply r → Answers expect r → Spells (reply_frame r) received → ⊥
+no_reply_of expects.Nothing r received fault f h a s = no_answer r a
+no_reply_of (expects.R1 index) r received fault f h a s = no_reply (expects.R1 index) _ r received refl f h a s
+no_reply_of expects.R2 r received fault f h a s = no_reply expects.R2 _ r received refl f h a s
+no_reply_of expects.R3 r received fault f h a s = no_reply expects.R3 _ r received refl f h a s
+no_reply_of expects.R6 r received fault f h a s = no_reply expects.R6 _ r received refl f h a s
+no_reply_of expects.R7 r received fault f h a s = no_reply expects.R7 _ r received refl f h a s
+
 -- where the contents are the same, the responses are
 
 same_word : (a b : ℕ) → a < 2 ^ 32 → b < 2 ^ 32 → bits 32 a ≡ bits 32 b → a ≡ b
@@ -159,7 +167,7 @@ contents_same : (r q : Reply) (n : ℕ) (received : Bits) → 2 ≤ n → Spells
     length (reply_frame r).contents ≡ 8 * n - 16 → length (reply_frame q).contents ≡ 8 * n - 16 → (reply_frame r).contents ≡ (reply_frame q).contents
 contents_same r q n received long s t hr hq = (spells_same n (reply_frame r) (reply_frame q) received long s t hr hq).1
 
-abbrev One : Reply → Reply → Type 0
+abbrev pub One : Reply → Reply → Type 0
 One r q = (received : Bits) → IsReply r → IsReply q → Spells (reply_frame r) received → Spells (reply_frame q) received → r ≡ q
 
 one_r1 : (index a b : ℕ) → One (R1 index a) (R1 index b)

@@ -1,0 +1,5 @@
+pub mod Answers
+pub mod Controlled
+pub mod Keeps
+pub mod Silent
+pub mod Wire

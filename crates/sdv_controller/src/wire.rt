@@ -1,0 +1,52 @@
+ghost use Rattle.std.specs.Prelude.{length, Option};
+ghost use Rattle.sdv_card.specs.Card.{Card};
+ghost use Rattle.sdv_card.specs.Port.{DataIn, DataInRegister, DataOut, WaitWhileBusy};
+ghost use Rattle.sdv_card.specs.ScriptEvent.{BlocksIn, RegisterIn, BlocksOut, Waited};
+ghost use Rattle.sdv_controller.specs.Wire.{WireCall, WireReturn, Transfer, OtherCall, Transferred, OtherReturn, WireKeepsTables};
+
+use sdv_card::{DataEnd, WaitEnd};
+
+/// What came back over a wire.
+#[derive(Clone, Copy, Debug, PartialEq, Eq)]
+pub enum WireEnd {
+    /// Nothing, until the host gave up.
+    Silent,
+    /// So many bytes. A wire that says more than it has room for, 17, gives no frame.
+    Bytes(usize),
+}
+
+/// A way that carries frames as bytes.
+///
+/// Each call is one step of a relation of the wire's own. A wire may also show, to contracts alone, the card behind it;
+/// then, to the frame of a command that is legal at that card and in bounds, it answers with the frame of a response of
+/// the card, or is silent where the card gives none, and its other calls are steps of the card.
+pub trait Wire {
+    /// From a state of the wire, a call may return this and leave that state.
+    ghost steps: { Self → WireCall → WireReturn → Self → Type 0 };
+
+    /// The card behind the wire, if the wire shows one.
+    ghost card: { Self → Option Card };
+
+    /// Sends the frame of a command, and waits for a response, of which it writes the bytes from the first on.
+    fn transfer(&mut self, frame: &[u8; 6], response: &mut [u8; 17]) -> WireEnd
+        ensures { steps self.old (Transfer frame.now) (Transferred result response.new) self.new };
+
+    /// Receives as many blocks as there is room for. Where the phase is cut, the blocks hold anything.
+    fn data_in(&mut self, blocks: &mut [[u8; 512]]) -> DataEnd
+        ensures { steps self.old (OtherCall (DataIn (length blocks.old))) (OtherReturn (BlocksIn result blocks.new)) self.new };
+
+    /// Receives as many bytes of a register as there is room for. Where the phase is cut, the bytes are anything.
+    fn data_in_reg(&mut self, bytes: &mut [u8]) -> DataEnd
+        ensures { steps self.old (OtherCall (DataInRegister (length bytes.old))) (OtherReturn (RegisterIn result bytes.new)) self.new };
+
+    /// Sends blocks.
+    fn data_out(&mut self, blocks: &[[u8; 512]]) -> DataEnd
+        ensures { steps self.old (OtherCall (DataOut blocks.now)) (OtherReturn (BlocksOut result)) self.new };
+
+    /// Waits while the card is busy.
+    fn wait(&mut self) -> WaitEnd
+        ensures { steps self.old (OtherCall WaitWhileBusy) (OtherReturn (Waited result)) self.new };
+
+    /// Where the wire shows a card, it keeps the tables.
+    ghost keeps_tables: { WireKeepsTables steps card };
+}
