@@ -7,7 +7,6 @@ pub mod RowRules
 pub mod Responses
 pub mod Status
 pub mod Card
-pub mod CsdCapacity
 pub mod ScriptEvent
 pub mod Host
 pub mod HostEvents
