@@ -8,6 +8,7 @@ pub mod Responses
 pub mod Status
 pub mod Card
 pub mod ScriptEvent
+pub mod Expected
 pub mod Host
 pub mod HostEvents
 pub mod Profile
@@ -26,3 +27,4 @@ pub mod Seen
 pub mod Guards
 pub mod Laws
 pub mod Port
+pub mod BringUp

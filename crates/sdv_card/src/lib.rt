@@ -8,6 +8,7 @@
 mod answer;
 mod command;
 mod event;
+pub mod examples;
 mod fields;
 mod guard;
 pub mod laws;
