@@ -1,3 +1,4 @@
 mod AnswerLaws
 mod CommandLineLaws
 mod FrameTextLaws
+mod WordsGiven

@@ -1,8 +1,7 @@
 -- What the words of a call of the program mean: the command line as clap reads it.
-use Rattle.std.specs.Prelude.{List, [], Option, Some, None, codes, if◌then◌else◌, option_and_then, true}
+use Rattle.std.specs.Prelude.{List, [], ◌∷◌, Option, Some, None, codes, if◌then◌else◌, option_and_then, true}
 use Rattle.std.specs.Str.{bytes_eq}
-use Rattle.clap.specs.Walk.{is_empty}
-use Rattle.clap.specs.Words.{App, Row, Rule, Shape, Text, fault_of, first_of, new_app, new_rule, subcommand_of, with_rule, with_subcommand}
+use Rattle.clap.specs.Words.{App, Kinds, Row, Rule, Shape, Text, fault_of, first_of, new_app, new_rule, subcommand_of, with_rule, with_subcommand}
 use Rattle.sdv.specs.declared.line.Line.{Line}
 use Rattle.sdv.specs.declared.line.Line.TheVariants.{Frame}
 
@@ -14,9 +13,10 @@ required name = record (new_rule name) { required = true }
 abbrev pub frame_command : App
 frame_command = with_rule (with_rule (new_app (codes "frame")) (required (codes "INDEX"))) (required (codes "ARG"))
 
--- the program's own settings: its words leave out its name, and one of its commands is named
+-- the program's own settings: its words leave out its name, and one of its commands is named; help is
+-- asked for by `-h` or `--help`
 abbrev pub program_shape : Shape
-program_shape = record (new_app (codes "sdv")).top { no_binary_name = true; subcommand_required = true }
+program_shape = record (new_app (codes "sdv")).top { no_binary_name = true; subcommand_required = true; disable_help_subcommand = true }
 
 -- `sdv`, and its commands
 abbrev pub command_line : App
@@ -42,9 +42,11 @@ frame_request matched = frame_of (first_of (codes "INDEX") matched) (first_of (c
 abbrev pub request_in : Text × List Row → Option Request
 request_in used = if bytes_eq used.0 (codes "frame") then frame_request used.1 else None
 
--- the request that words mean, where clap finds no fault in them
+-- the request in a command's name and matches, where clap finds no fault
+abbrev pub request_without : Kinds → Option (Text × List Row) → Option Request
+request_without [] used             = option_and_then request_in used
+request_without (kind ∷ kinds) used = None
+
+-- the request that words mean
 abbrev pub meaning_of : List Text → Option Request
-meaning_of words =
-    if is_empty (fault_of command_line words)
-    then option_and_then request_in (subcommand_of command_line words)
-    else None
+meaning_of words = request_without (fault_of command_line words) (subcommand_of command_line words)

@@ -40,23 +40,26 @@ impl From<LineFault> for Fault {
 }
 
 impl Fault {
-    /// Says what is wrong on a line of standard error, but of a failed output nothing, and answers
+    /// The exit status that the program ends with.
+    fn status(self) -> u8
+        ensures { result ≡ status_of self }
+    {
+        match self {
+            Fault::Usage | Fault::Output => 2,
+            Fault::Memory => 3,
+        }
+    }
+
+    /// Says on a line of standard error what is wrong, but nothing of a failed output, and answers
     /// the exit status. Where standard error fails too, the line may be missing.
     pub fn report<E: Write>(self, err: &mut E) -> u8
         ensures status { result ≡ status_of self }
         ensures silent { self ≡ Fault.Output → Keeps (E.contents err.old) (E.contents err.new) }
     {
-        match self {
-            Fault::Output => 2,
-            Fault::Usage => {
-                let _ = writeln!(err, "{self}");
-                2
-            }
-            Fault::Memory => {
-                let _ = writeln!(err, "{self}");
-                3
-            }
+        if self != Fault::Output {
+            let _ = writeln!(err, "{self}");
         }
+        self.status()
     }
 }
 

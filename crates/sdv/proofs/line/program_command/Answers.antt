@@ -10,5 +10,5 @@ returns c =
     let argument : rule_of c.required-argument.result ≡ required (codes "ARG") = search rules in
     let frame : app_of c.in_ok-frame.frame ≡ frame_command =
     c.in_ok-frame.ensures.shape (search rules) ∙ ap₂ with_rule (c.in_ok-arg.ensures.shape (search rules) ∙ ap₂ with_rule c.new-3.ensures.app index) argument in
-    let top : app_of c.subcommand_required.result ≡ record { top = program_shape; subs = [] } = search rules in
+    let top : app_of c.disable_help_subcommand.result ≡ record { top = program_shape; subs = [] } = search rules in
     IfOk-weaker c.subcommand.result _ _ (λ command added. added.shape (search rules) ∙ ap₂ with_subcommand top (ap (λ (a : App). a.top) frame)) c.subcommand.ensures
