@@ -1,5 +1,5 @@
 -- What words ask for, and the faults of the program by cases.
-use Rattle.std.proofs.Common.{◌≡◌, ◌≢◌, ◌∙◌, refl, sym, ap, List, [], Some, None, Result, Err, IsErrAnd}
+use Rattle.std.proofs.Common.{◌≡◌, ◌≢◌, ◌∙◌, refl, sym, List, [], Some, Result, Err, IsErrAnd}
 use Rattle.clap.specs.Words.{Text, fault_of}
 use Rattle.sdv.specs.Answer.{AsksNothing, fault_of_line}
 use Rattle.sdv.specs.CommandLine.{command_line, frame, meaning_of}

@@ -3,7 +3,7 @@ use Rattle.std.proofs.Common.{Bool, false, not, ◌||◌, ◌≢◌, cond, codes
 use Rattle.std.specs.Prelude.{slice_get, unwrap_or}
 use Rattle.std.specs.List.{AllByRecursion}
 use Rattle.std.specs.Option.{ok_or, option_map_or}
-use Rattle.clap.specs.Walk.{answers_to, is_empty, nothing_held, rows_after, stop_after}
+use Rattle.clap.specs.Walk.{answers_to, nothing_held, rows_after, stop_after}
 use Rattle.clap.specs.Simple.{entered, label_of, names_of, rows_at}
 use Rattle.clap.specs.Takes.{is_given}
 use Rattle.clap.specs.Faults.{entered_fault, level_fault}

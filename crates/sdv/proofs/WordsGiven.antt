@@ -1,18 +1,18 @@
 -- Where clap finds no fault in the words of a command whose arguments take one word each, every
 -- required one has a text.
-use Rattle.std.proofs.Common.{◌≡◌, ◌∙◌, ◌⊎◌, ◌<◌, ◌+◌, ℕ, zero, suc, Bool, true, false, not, ◌&&◌, ◌||◌, cond, refl, arith, inl, inr, List, [], ◌∷◌, ◌++◌, length, Option, Some, None, is_some, length-append}
-use Rattle.std.specs.Prelude.{find, fold, slice_get, drop, option_and_then, encode_utf8, IfSome, if◌then◌else◌}
+use Rattle.std.proofs.Common.{◌≡◌, ◌∙◌, ◌⊎◌, ◌<◌, ℕ, zero, suc, Bool, true, false, not, ◌&&◌, cond, refl, arith, inl, inr, List, [], ◌∷◌, ◌++◌, length, Option, Some, None, is_some, length-append}
+use Rattle.std.specs.Prelude.{find, fold, slice_get, drop, option_and_then, encode_utf8, IfSome}
 use Rattle.std.specs.Option.{option_map_or}
 use Rattle.std.specs.List.{AllByRecursion, list_any}
 use Rattle.std.specs.Str.{bytes_eq, chars}
 use Rattle.clap.specs.Values.{is_request}
 use Rattle.clap.specs.Facts.{explicit_source, unwrap_or_range}
 use Rattle.clap.specs.Kinds.{Kinds, check_kinds, or_else, range_kinds, request_kinds}
-use Rattle.clap.specs.Walk.{Held, Names, Outcome, Row, Rule, Step, Text, Waiting, Walk, action_of, after_flag, after_step, arg_by_id, arg_by_index, arg_by_long, arg_by_short, attached_value, at_row, bundle, bundle_met, bundle_step, done, finished, first_of, flag_met, has_row, idle, is_pending, long_met, long_or_other, more_values, next, nothing_held, option, option_met, option_word, plain, plain_word, positional, positional_held, pushed, reacted, refused, rows_after, settled, settled_rows, short_met, short_or_plain, step_of, subcommand, subcommand_met, subcommand_or_other, takes_several, takes_values, to_positional, trailing, used, used_by_id, value, waits, walk, walk_from, walked, walked_from, with_default, with_values, without, word_met}
+use Rattle.clap.specs.Walk.{Held, Names, Outcome, Row, Rule, Step, Text, Waiting, Walk, action_of, after_flag, after_step, arg_by_id, arg_by_index, arg_by_long, arg_by_short, attached_value, at_row, bundle, bundle_met, bundle_step, done, finished, first_of, flag_met, has_row, idle, is_pending, long_met, long_or_other, more_values, next, nothing_held, option, option_met, option_word, plain, plain_word, positional, pushed, reacted, refused, rows_after, settled, settled_rows, short_met, short_or_plain, subcommand, subcommand_met, subcommand_or_other, takes_several, takes_values, to_positional, trailing, used, used_by_id, value, waits, walk, walk_from, walked, walked_from, with_default, with_values, without, word_met}
 use Rattle.clap.specs.Lexer.{long_of, short_of}
 use Rattle.clap.specs.Simple.{Shape}
 use Rattle.clap.specs.Takes.{is_given}
-use Rattle.clap.specs.Faults.{bundle_fault, bundle_step_fault, check_fault, defaults_fault, flag_word_fault, flags_fault, level_fault, long_fault, option_fault, other_fault, positional_fault, react_fault, settle_fault, short_fault, step_fault, stray_fault, turn_fault, use_fault, walk_fault, word_fault, action_fault}
+use Rattle.clap.specs.Faults.{bundle_fault, bundle_step_fault, check_fault, defaults_fault, flag_word_fault, flags_fault, level_fault, long_fault, option_fault, other_fault, positional_fault, react_fault, settle_fault, short_fault, step_fault, stray_fault, turn_fault, use_fault, walk_fault, word_fault}
 use Rattle.clap.proofs.FaultLemmas.{request_fault}
 use Rattle.clap.specs.declared.error.kind.ErrorKind.TheVariants as kind
 use Rattle.clap.specs.declared.builder.action.ArgAction.{ArgAction}
@@ -89,6 +89,7 @@ module _ (c : List Rule) (again : Bool) (each : AllByRecursion TakesOneWord c) w
           → HaveTexts (used_by_id found values h.rows)
       by_rule None values one none = have
       by_rule (Some a) values one none = used_texts a values h.rows one none have
+
       go : (p : Option (Text × List Text)) → option_map_or (λ p. option_map_or (λ a. use_fault again a p.1 h.rows) (arg_by_id c p.0) []) p [] ≡ []
           → HaveTexts (settled_rows c p h.rows)
       go None none = have
@@ -190,6 +191,7 @@ module _ (s : Shape) (names : Names) (each : AllByRecursion TakesOneWord s.rules
           → HaveTexts (cond b (h, trailing position) (long_or_other s.rules waiting word (long_of word) h)).0.rows
       dashes true none = have
       dashes false none = dashes_texts s.rules s.args_override_self each waiting word (long_of word) h none have
+
       go : (met : Option Text) → other_fault s met word h ≡ [] → HaveTexts (subcommand_or_other s.rules met waiting position word h).0.rows
       go None none = dashes (bytes_eq word (45 ∷ 45 ∷ [])) none
       go (Some name) none = have
@@ -211,6 +213,7 @@ module _ (s : Shape) (names : Names) (each : AllByRecursion TakesOneWord s.rules
     where
       met : Held × Step
       met = word_met s.rules names w.is_trailing w.waiting w.position word w.held
+
       go : (stop : Option (Text × List Text)) → cond (is_some stop) [] (or_else (word_fault s names w.is_trailing w.waiting word w.held)
           (step_fault s w.position (word_met s.rules names w.is_trailing w.waiting w.position word w.held).0 (word_met s.rules names w.is_trailing w.waiting w.position word w.held).1)) ≡ []
           → HaveTexts (walked_from s.rules names stop w word).held.rows
@@ -236,6 +239,7 @@ given_text id (r ∷ rows) have given = go (bytes_eq r.id id) given (given_text 
     some : (values : List Text) → 0 < length values → is_some (slice_get values 0) ≡ true
     some [] has = absurd (omega arith)
     some (v ∷ vs) has = refl
+
     go : (b : Bool) → option_map_or (λ r. explicit_source r.source) (cond b (Some r) (find (λ r. bytes_eq r.id id) rows)) false ≡ true
         → (is_given id rows ≡ true → is_some (first_of id rows) ≡ true)
         → is_some (option_and_then (λ r. slice_get r.values 0) (cond b (Some r) (find (λ r. bytes_eq r.id id) rows))) ≡ true

@@ -1,7 +1,9 @@
 -- What the words of a call of the program mean: the command line as clap reads it.
-use Rattle.std.specs.Prelude.{List, [], ◌∷◌, Option, Some, None, codes, if◌then◌else◌, option_and_then, true}
+use Rattle.std.specs.Prelude.{List, [], ◌∷◌, Option, Some, None, codes, true, option_and_then}
+use Rattle.std.specs.Prelude.{if◌then◌else◌}
 use Rattle.std.specs.Str.{bytes_eq}
-use Rattle.clap.specs.Words.{App, Kinds, Row, Rule, Shape, Text, fault_of, first_of, new_app, new_rule, subcommand_of, with_rule, with_subcommand}
+use Rattle.clap.specs.Words.{App, Kinds, Row, Rule, Shape, Text, fault_of, first_of, new_app}
+use Rattle.clap.specs.Words.{new_rule, subcommand_of, with_rule, with_subcommand}
 use Rattle.sdv.specs.declared.line.Line.{Line}
 use Rattle.sdv.specs.declared.line.Line.TheVariants.{Frame}
 
@@ -11,12 +13,17 @@ required name = record (new_rule name) { required = true }
 
 -- `frame INDEX ARG`
 abbrev pub frame_command : App
-frame_command = with_rule (with_rule (new_app (codes "frame")) (required (codes "INDEX"))) (required (codes "ARG"))
+frame_command =
+    with_rule (with_rule (new_app (codes "frame")) (required (codes "INDEX"))) (required (codes "ARG"))
 
--- the program's own settings: its words leave out its name, and one of its commands is named; help is
--- asked for by `-h` or `--help`
+-- the program's own settings: its words leave out its name, and name one of its commands; help is
+-- asked for by `-h` and `--help` alone
 abbrev pub program_shape : Shape
-program_shape = record (new_app (codes "sdv")).top { no_binary_name = true; subcommand_required = true; disable_help_subcommand = true }
+program_shape = record (new_app (codes "sdv")).top {
+  no_binary_name = true;
+  subcommand_required = true;
+  disable_help_subcommand = true;
+}
 
 -- `sdv`, and its commands
 abbrev pub command_line : App
@@ -42,9 +49,9 @@ frame_request matched = frame_of (first_of (codes "INDEX") matched) (first_of (c
 abbrev pub request_in : Text × List Row → Option Request
 request_in used = if bytes_eq used.0 (codes "frame") then frame_request used.1 else None
 
--- the request in a command's name and matches, where clap finds no fault
+-- the same, by the kinds of fault that clap finds in the words: there is no request where there are
 abbrev pub request_without : Kinds → Option (Text × List Row) → Option Request
-request_without [] used             = option_and_then request_in used
+request_without [] used = option_and_then request_in used
 request_without (kind ∷ kinds) used = None
 
 -- the request that words mean

@@ -1,7 +1,9 @@
--- What a number in a command's words is: decimal digits, or 0x and hexadecimal digits of either case.
-use Rattle.std.specs.Prelude.{◌≡◌, ◌<◌, ◌^◌, ℕ, List, codes, drop, if◌then◌else◌, nat_eq}
+-- What a number in the program's words is: decimal digits, or 0x and hexadecimal digits of either
+-- case.
+use Rattle.std.specs.Prelude.{◌≡◌, ℕ, List, codes, drop, if◌then◌else◌, nat_eq}
 use Rattle.std.specs.List.{starts_with}
 use Rattle.std.specs.Str.Parse.{IsNumeral, digits_value}
+use Rattle.sdv_frames.specs.Frame.{IsCommand}
 use Rattle.sdv_frames.specs.declared.command.Command.{Command}
 
 -- the base that a text is written in, and its digits
@@ -19,11 +21,10 @@ IsNumber text = IsNumeral (base_of text) (digits_of text)
 abbrev pub value_of : List ℕ → ℕ
 value_of text = digits_value (base_of text) (digits_of text)
 
--- the texts write the command index, of six bits, and the argument, of 32
+-- the texts write the index and the argument of a command, which are in their ranges
 pub record Writes (index argument : List ℕ) (c : Command) : Type 0 where
   pub index_is_number : IsNumber index
   pub index_is : value_of index ≡ c.index
-  pub index_below : c.index < 64
   pub argument_is_number : IsNumber argument
   pub argument_is : value_of argument ≡ c.argument
-  pub argument_below : c.argument < 2 ^ 32
+  pub in_range : IsCommand c

@@ -1,5 +1,5 @@
 //! `frame INDEX ARG`: the frame of a command, as text.
-ghost use Rattle.std.specs.Prelude.{◌<◌, ◌++◌, IfNone, IfSome, OnOk};
+ghost use Rattle.std.specs.Prelude.{◌<◌, ◌^◌, ◌++◌, IfNone, IfSome, OnOk};
 ghost use Rattle.std.specs.Io.KnownBytes.{Appends};
 ghost use Rattle.sdv.specs.FrameText.{two_digits};
 ghost use Rattle.sdv.specs.Answer.{PrintsFrame};
@@ -29,7 +29,7 @@ pub fn command_of(index: &str, argument: &str) -> Option<Command>
 /// Writes the frame of a command as a line: its six bytes, two lower-case hexadecimal digits each,
 /// with one space between. After an error the writer may hold part of the line.
 pub fn write_frame<W: Write>(command: Command, out: &mut W) -> io::Result<()>
-    requires { command.index < 64 }
+    requires { command.index < 2 ^ 6 }
     ensures { OnOk result (PrintsFrame command (W.contents out.old) (W.contents out.new)) }
 {
     for (place, byte) in encode(command).iter().enumerate() {

@@ -1,10 +1,13 @@
 //! The program's words, as `clap` reads them.
-ghost use Rattle.std.specs.Prelude.{◌≡◌, ◌≢◌, [], true, Some, IfErr, IfOk, map, option_and_then, option_map};
+ghost use Rattle.std.specs.Prelude.{◌≡◌, ◌≢◌, [], true, Some, IfErr, IfOk};
+ghost use Rattle.std.specs.Prelude.{option_and_then, option_map};
 ghost use Rattle.std.specs.Str.{bytes_eq};
-ghost use Rattle.clap.specs.Words.{app_of, fault_of, found_of, kind_of, takes, rows_of, subcommand_rows_of};
+ghost use Rattle.clap.specs.Words.{app_of, fault_of, found_of, kind_of, rows_of};
+ghost use Rattle.clap.specs.Words.{subcommand_rows_of, takes};
 ghost use Rattle.clap.specs.Walk.{texts};
 ghost use Rattle.clap.specs.declared.error.kind.ErrorKind.TheVariants.{OutOfMemory};
-ghost use Rattle.sdv.specs.CommandLine.{command_line, frame_request, meaning_of, request_in, request_of};
+ghost use Rattle.sdv.specs.CommandLine.{command_line, frame_request, meaning_of};
+ghost use Rattle.sdv.specs.CommandLine.{request_in, request_of};
 
 use clap::error::ErrorKind;
 use clap::{Arg, ArgMatches, Command};
@@ -58,7 +61,8 @@ impl From<clap::Error> for LineFault {
 pub fn line_of<'a>(alloc: Global, words: &'a [&'a str]) -> Result<Line<'a>, LineFault>
     ensures ok { IfOk result (λ line. meaning_of (texts words.now) ≡ Some (request_of line)) }
     ensures usage { result ≡ Err LineFault.Usage → fault_of command_line (texts words.now) ≢ [] }
-    ensures taken { takes command_line (texts words.now) ≡ true → IfErr result (λ fault. fault ≡ LineFault.Memory) }
+    ensures taken { takes command_line (texts words.now) ≡ true
+        → IfErr result (λ fault. fault ≡ LineFault.Memory) }
 {
     let matches = program_command(alloc)?.try_get_matches_from(words)?;
     line_in(&matches).ok_or(LineFault::Usage)

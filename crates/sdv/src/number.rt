@@ -7,7 +7,8 @@ ghost use Rattle.sdv.specs.Number.{IsNumber, value_of};
 /// The number that a text writes: in decimal digits, or after `0x` in hexadecimal digits of either
 /// case. `None` for every other text, and for a number of 2^32 or more.
 pub fn number_of(text: &str) -> Option<u32>
-    ensures { SomeIff result (IsNumber text.now × (value_of text.now < 2 ^ 32)) (value_of text.now) }
+    ensures { SomeIff result (IsNumber text.now × (value_of text.now < 2 ^ 32))
+        (value_of text.now) }
 {
     match text.strip_prefix("0x") {
         Some(digits) => number_in_base(digits, 16),

@@ -74,10 +74,12 @@ pub fn program<R: Files + AllocGlobal, O: Write, E: Write>(
 ) -> u8
     ensures statuses { (result ≡ 0) ⊎ (result ≡ 2) ⊎ (result ≡ 3) }
 
-    ensures printed { result ≡ 0 → AnswersFrame (texts words.now) (O.contents out.old) (O.contents out.new) }
+    ensures printed { result ≡ 0
+        → AnswersFrame (texts words.now) (O.contents out.old) (O.contents out.new) }
     ensures quiet { result ≡ 0 → Keeps (E.contents err.old) (E.contents err.new) }
 
-    ensures nothing_asked { AsksNothing (texts words.now) → Keeps (O.contents out.old) (O.contents out.new) }
+    ensures nothing_asked { AsksNothing (texts words.now)
+        → Keeps (O.contents out.old) (O.contents out.new) }
     ensures output_failed { (c : Command) → AsksFrame (texts words.now) c → result ≡ 2
         → Keeps (E.contents err.old) (E.contents err.new) }
 
@@ -90,11 +92,13 @@ pub fn program<R: Files + AllocGlobal, O: Write, E: Write>(
 }
 
 fn answer<O: Write>(alloc: Global, words: &[&str], out: &mut O) -> Result<(), Fault>
-    ensures ok { OnOk result (AnswersFrame (texts words.now) (O.contents out.old) (O.contents out.new)) }
+    ensures ok { OnOk result
+        (AnswersFrame (texts words.now) (O.contents out.old) (O.contents out.new)) }
     ensures usage { result ≡ Err Fault.Usage
         → AsksNothing (texts words.now) × Keeps (O.contents out.old) (O.contents out.new) }
     ensures output { result ≡ Err Fault.Output → (c : Command) × AsksFrame (texts words.now) c }
-    ensures memory { result ≡ Err Fault.Memory → Keeps (O.contents out.old) (O.contents out.new) }
+    ensures memory { result ≡ Err Fault.Memory
+        → Keeps (O.contents out.old) (O.contents out.new) }
 {
     match line_of(alloc, words)? {
         Line::Frame { index, argument } => answer_frame(index, argument, out),
@@ -104,9 +108,11 @@ fn answer<O: Write>(alloc: Global, words: &[&str], out: &mut O) -> Result<(), Fa
 fn answer_frame<O: Write>(index: &str, argument: &str, out: &mut O) -> Result<(), Fault>
     ensures ok { OnOk result ((c : Command) × Writes index.now argument.now c
         × PrintsFrame c (O.contents out.old) (O.contents out.new)) }
-    ensures usage { result ≡ Err Fault.Usage → ((c : Command) → ¬ Writes index.now argument.now c)
+    ensures usage { result ≡ Err Fault.Usage
+        → ((c : Command) → ¬ Writes index.now argument.now c)
         × Keeps (O.contents out.old) (O.contents out.new) }
-    ensures output { result ≡ Err Fault.Output → (c : Command) × Writes index.now argument.now c }
+    ensures output { result ≡ Err Fault.Output
+        → (c : Command) × Writes index.now argument.now c }
     ensures memory { result ≢ Err Fault.Memory }
 {
     let command = command_of(index, argument).ok_or(Fault::Usage)?;

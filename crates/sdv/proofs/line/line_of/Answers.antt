@@ -1,4 +1,4 @@
-use Rattle.std.proofs.Common.{◌≡◌, ◌∙◌, [], Err, Ok, Result, IfErr, IsErrAnd, option_map, refl, sym}
+use Rattle.std.proofs.Common.{◌≡◌, ◌∙◌, [], Err, Ok, Result, IfErr, IsErrAnd, option_map, sym}
 use Rattle.clap.specs.Words.{app_of, fault_of, found_of, kind_of, rows_of, subcommand_rows_of}
 use Rattle.clap.specs.Walk.{texts}
 use Rattle.clap.specs.declared.error.kind.ErrorKind.TheVariants.{OutOfMemory}

@@ -22,6 +22,6 @@ returns-clause-usage g c = λ refused.
 pub returns-in_err-index-clause-usage : goal.returns-in_err-index-clause-usage
 returns-in_err-index-clause-usage g c = λ refused. (
   asks_nothing-refused (texts c.args.words.now) c.in_err-index.field-0.0 c.from_residual.result c.from_residual.ensures.1
-    (λ is. c.in_err-index.ensures.usage (ap Err is)) refused,
-  Keeps-refl (g.O.Write.contents c.args.out.now)
+      (λ is. c.in_err-index.ensures.usage (ap Err is)) refused,
+  Keeps-refl (g.O.Write.contents c.args.out.now),
 )
