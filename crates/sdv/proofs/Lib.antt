@@ -1,0 +1,4 @@
+mod AnswerLaws
+mod CommandLineLaws
+mod FrameTextLaws
+mod WordsGiven

@@ -1,0 +1,4 @@
+pub mod CommandLine
+pub mod Number
+pub mod FrameText
+pub mod Answer

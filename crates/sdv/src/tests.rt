@@ -1,0 +1,127 @@
+//! The program over writers in memory, and over one that takes nothing.
+use crate::frame::{command_of, write_frame};
+use crate::line::{Line, LineFault, line_of};
+use crate::number::number_of;
+use crate::program::{Fault, program};
+use sdv_frames::Command;
+use std::io::{self, Write};
+use std::test::Fail;
+
+#[derive(Drop)]
+struct Full;
+
+impl Write for Full {
+    fn write(&mut self, _buf: &[u8]) -> io::Result<usize> {
+        Ok(0)
+    }
+
+    fn flush(&mut self) -> io::Result<()> {
+        Ok(())
+    }
+}
+
+#[test]
+fn prints_frames(rt: HostRuntime) {
+    let rows = [
+        ("0", "0", "40 00 00 00 00 95\n"),
+        ("8", "0x1AA", "48 00 00 01 aa 87\n"),
+        ("41", "0x40FF8000", "69 40 ff 80 00 17\n"),
+        ("1", "0x40ff8080", "41 40 ff 80 80 89\n"),
+    ];
+    for (index, argument, line) in rows {
+        let mut out = Vec::new(rt.alloc());
+        let mut err = Vec::new(rt.alloc());
+        let status = program(&rt, &["frame", index, argument], &mut out, &mut err);
+        assert_eq!(rt; status, 0, "at {line}");
+        assert!(rt; out.as_slice() == line.as_bytes(), "at {line}");
+        assert!(rt; err.is_empty(), "at {line}");
+    }
+}
+
+#[test]
+fn refuses_other_words(rt: HostRuntime) {
+    let rows: [&[&str]; 18] = [
+        &[],
+        &["frame"],
+        &["frame", "0"],
+        &["frame", "0", "0", "0"],
+        &["frames", "0", "0"],
+        &["0", "0"],
+        &["--", "frame", "0", "0"],
+        &["frame", "64", "0"],
+        &["frame", "0", "4294967296"],
+        &["frame", "0", "0x100000000"],
+        &["frame", "0x", "0"],
+        &["frame", "0X1", "0"],
+        &["frame", "", "0"],
+        &["frame", "+1", "0"],
+        &["frame", "1f", "0"],
+        &["help"],
+        &["--help"],
+        &["frame", "-h"],
+    ];
+    for (row, words) in rows.iter().enumerate() {
+        let mut out = Vec::new(rt.alloc());
+        let mut err = Vec::new(rt.alloc());
+        let status = program(&rt, words, &mut out, &mut err);
+        assert_eq!(rt; status, 2, "at row {row}");
+        assert!(rt; out.is_empty(), "at row {row}");
+        assert!(rt;
+            err.as_slice() == b"usage: sdv frame INDEX ARG\n".as_slice(),
+            "at row {row}"
+        );
+    }
+}
+
+#[test]
+fn goes_by_the_output_alone(rt: HostRuntime) {
+    let mut out = Vec::new(rt.alloc());
+    let mut err = Vec::new(rt.alloc());
+    assert_eq!(rt; program(&rt, &["frame", "0", "0"], &mut Full, &mut err), 2);
+    assert!(rt; err.is_empty());
+    assert_eq!(rt; program(&rt, &["frame", "0"], &mut out, &mut Full), 2);
+    assert_eq!(rt; program(&rt, &["frame", "0", "0"], &mut out, &mut Full), 0);
+}
+
+#[test]
+fn reads_a_line(rt: HostRuntime) {
+    let line = Line::Frame {
+        index: "63",
+        argument: "0xFFffFFff",
+    };
+    let words = ["frame", "63", "0xFFffFFff"];
+    assert_eq!(rt; line_of(rt.alloc(), &words), Ok(line));
+    assert_eq!(rt;
+        line_of(rt.alloc(), &["frame", "63"]),
+        Err(LineFault::Usage)
+    );
+    assert_eq!(rt; number_of("0xFFffFFff"), Some(u32::MAX));
+    assert_eq!(rt; number_of("0007"), Some(7));
+    let command = Command {
+        index: 63,
+        argument: u32::MAX,
+    };
+    assert_eq!(rt; command_of("63", "0xFFffFFff"), Some(command));
+    let mut out = Vec::new(rt.alloc());
+    assert!(rt; write_frame(command, &mut out).is_ok());
+    assert!(rt; out.as_slice() == b"7f ff ff ff ff 19\n".as_slice());
+}
+
+#[test]
+fn names_faults(rt: HostRuntime) -> Result<(), Fail> {
+    let alloc = rt.alloc();
+    let usage = "usage: sdv frame INDEX ARG";
+    assert!(rt; LineFault::Usage.to_string(alloc)?.as_str() == usage);
+    assert!(rt; LineFault::Memory.to_string(alloc)?.as_str() == "out of memory");
+    let rows = [
+        (Fault::Usage, 2, "usage: sdv frame INDEX ARG\n"),
+        (Fault::Output, 2, ""),
+        (Fault::Memory, 3, "out of memory\n"),
+    ];
+    for (fault, status, line) in rows {
+        let mut err = Vec::new(alloc);
+        assert_eq!(rt; fault.report(&mut err), status);
+        assert!(rt; err.as_slice() == line.as_bytes(), "at {line}");
+    }
+    Ok(())
+}
