@@ -1,5 +1,5 @@
 -- When an event is legal at a card, and when it is in bounds.
--- SD Physical Layer Simplified Specification, sections 4.3.3 to 4.3.5, 4.3.9 and 4.8; JESD84-B51, sections 6.6.7 to 6.6.9
+-- SD Physical Layer Simplified Specification, sections 4.3.3 to 4.3.5, 4.3.9 and 4.8; JESD84-B51, sections 6.6
 -- and 6.11. That an event must be legal also after the card's own step is this project's profile.
 use Rattle.std.specs.Prelude.{◌≡◌, ◌<◌, ◌≤◌, ◌+◌, ◌*◌, ◌==◌, Bool, true, false, IsTrue, ℕ, length, Option, Some, None, if◌then◌else◌}
 use Rattle.sdv_card.specs.declared.state.State.{State}

@@ -1,4 +1,13 @@
+ghost use Rattle.std.specs.Prelude.{◌≡◌, map};
+ghost use Rattle.sdv_card.specs.Shapes.{start_codes};
 ghost use Rattle.sdv_card.specs.BringUp.{BringUpHappens, LostAnswerHappens, ProgrammingEnds, DoubtStays, StopIsNotLegal, LastBlockIsBound};
+
+use crate::shape::START_SHAPES;
+
+/// The start shapes have the codes of cards before the first command.
+pub fn start_shapes_are_codes()
+    ensures { map (λ shape. shape.0) START_SHAPES ≡ start_codes }
+{}
 
 /// A card of the profile can be brought up, command by command.
 pub fn bring_up_happens()
