@@ -87,6 +87,11 @@ InBounds (ReceiveRegister count) c = 0 < count
 InBounds (GiveBlocks blocks) c = length blocks ≡ c.announced
 InBounds AwaitReady c = Unit {0}
 
--- the blocks of a transfer that is due lie on the card, as legal commands in bounds leave it
+-- the card has the blocks that its transfer addresses, which are some
+pub record HasBlocks (c : Card) : Type 0 where
+  pub some : 0 < c.announced
+  pub room : c.next_block + c.announced ≤ c.capacity
+
+-- so it is where a block phase is due, as legal commands in bounds leave it
 abbrev pub TransferOnCard : Card → Type 0
-TransferOnCard c = IsTrue (blocks_due c.transfer) → c.next_block + c.announced ≤ c.capacity
+TransferOnCard c = IsTrue (blocks_due c.transfer) → HasBlocks c
