@@ -7,34 +7,34 @@ use Rattle.sdv_registers.specs.declared.kind.Kind.TheVariants.{Sd}
 use Rattle.sdv_frames.specs.Bits.{bits, bits_of, number_of}
 use Rattle.sdv_frames.specs.declared.reply.Reply.TheVariants.{R1, R2, R3, R6, R7}
 use Rattle.sdv_card.specs.declared.state.State.{State}
-use Rattle.sdv_card.specs.declared.state.State.TheVariants.{Idle, Ready, Ident, Stby, Tran}
-use Rattle.sdv_card.specs.declared.state.Transfer.TheVariants.{Nothing}
+use Rattle.sdv_card.specs.declared.state.State.TheVariants.{Idle, Ready, Ident, Stby, Tran, Data, Rcv, Prg}
+use Rattle.sdv_card.specs.declared.state.Transfer.TheVariants.{Nothing, ReadOver}
 use Rattle.sdv_card.specs.declared.event.Aim.TheVariants.{Rca, Plain}
 use Rattle.sdv_card.specs.declared.event.Ask.{Ask}
 use Rattle.sdv_card.specs.declared.command.Order.{Order}
-use Rattle.sdv_card.specs.declared.command.Order.TheVariants.{GoIdleState, SendIfCond, AppCommand, SdSendOpCond, AllSendCid, SendRelativeAddress, SendCsd, SelectCard, SetBlockLength}
+use Rattle.sdv_card.specs.declared.command.Order.TheVariants.{GoIdleState, SendIfCond, AppCommand, SdSendOpCond, AllSendCid, SendRelativeAddress, SendCsd, SelectCard, SetBlockLength, SendStatus, StopTransmission}
 use Rattle.sdv_card.specs.declared.command.Row.{Row}
-use Rattle.sdv_card.specs.declared.command.Row.TheVariants.{Cmd0, Cmd2, Cmd3Sd, Cmd7Addressed, Cmd8Sd, Cmd9, Cmd16, Cmd55, Acmd41}
+use Rattle.sdv_card.specs.declared.command.Row.TheVariants.{Cmd0, Cmd2, Cmd3Sd, Cmd7Addressed, Cmd8Sd, Cmd9, Cmd12, Cmd13, Cmd16, Cmd55, Acmd41}
 use Rattle.sdv_card.specs.declared.state.EraseStage.TheVariants.{Outside}
 use Rattle.sdv_card.specs.StateTable.{rows, ◌to◌}
 use Rattle.sdv_card.specs.RowRules.{may_reach, app_after, erase_after, preset_after, transfer_after}
 use Rattle.sdv_card.specs.Agrees.{ErrorShown}
 use Rattle.sdv_card.specs.declared.answer.Answer.{Answer}
 use Rattle.sdv_card.specs.declared.answer.Answer.TheVariants.{Sent, TimeOut, Reply as Replied}
-use Rattle.sdv_card.specs.Lists.{May}
+use Rattle.sdv_card.specs.Lists.{May, IsOneOf}
 use Rattle.sdv_card.specs.States.{own_target}
 use Rattle.sdv_card.specs.CommandTable.{order_of, argument_of}
 use Rattle.sdv_card.specs.Card.{Card, IsRegister, AreBlocks, IsByte, Block}
 use Rattle.sdv_card.specs.Settled.{Settled}
 use Rattle.sdv_card.specs.Taken.{Taken, RcaAfter, LengthAfter, BlocksAfter, ContentsAfter, SameBlocks}
 use Rattle.sdv_card.specs.Exchange.{card_takes, SettledAnswer}
-use Rattle.sdv_card.specs.Legal.{SettledLegal, SendLegal}
+use Rattle.sdv_card.specs.Legal.{SettledLegal, SendLegal, RowLegal}
 use Rattle.sdv_card.specs.Step.{Sends}
 use Rattle.sdv_card.specs.Host.{Host}
 use Rattle.sdv_card.specs.HostEvents.{Makes}
 use Rattle.sdv_card.specs.ScriptEvent.{SendCommand}
 use Rattle.sdv_card.specs.Profile.{IsAtStart, host_at_start}
-use Rattle.sdv_card.specs.BringUp.{Happens, example_csd, example_cid, example_scr, example_card, command, ask_conditions, BringUpHappens, LostAnswerHappens}
+use Rattle.sdv_card.specs.BringUp.{Happens, example_csd, example_cid, example_scr, example_card, command, ask_conditions, BringUpHappens, LostAnswerHappens, ProgrammingEnds, DoubtStays, StopIsNotLegal, selected_card, example_host}
 
 -- a card that has no step of its own is settled as it is
 settled_as_is : (P : Card → Type 0) (c t : Card) → own_target c.state c.transfer ≡ None → P c → Settled c t → P t
@@ -339,3 +339,85 @@ lost_answer_happens cs = (
     ),
   ),
 )
+
+-- WHAT ELSE A CARD MAY DO
+
+pub programming_ends : ProgrammingEnds
+unfolding order_of bits number_of
+programming_ends cs =
+    let prg = record (selected_card cs) { state = Prg } in
+    record {
+      made = made refl;
+      bounds = tt;
+      legal = record { order = SendStatus; asks = record { line = refl }; settled = λ t s. either t s };
+      step = record {
+        order = SendStatus;
+        asks = record { line = refl };
+        exchange = record {
+          settled_card = selected_card cs;
+          settled = inr (Tran, refl, refl);
+          answered = record {
+            is_word = lit< tt;
+            same_index = refl;
+            state = refl;
+            app = tt;
+            error = no_error _ _ _ refl refl;
+            card = inl (taken Cmd13 0x12340000 cs Tran Tran (Some 0x1234) (Some 0x1234) false false second refl first refl refl refl first refl (no_blocks _ _ refl refl) refl);
+          };
+        };
+      };
+    }
+  where
+    either : (t : Card) → Settled (record (selected_card cs) { state = Prg }) t → SettledLegal (card_takes t SendStatus 0x12340000) t
+    either t (inl same) = subst (λ v. SettledLegal (card_takes v SendStatus 0x12340000) v) same
+        (record { target = Prg; has_row = record { one = inr (inr (inr (inr (inl refl)))) }; length = refl; erase = refl; preset = refl })
+    either t (inr own) = subst (λ v. SettledLegal (card_takes v SendStatus 0x12340000) v) own.2 (after own.0 own.1)
+      where
+        after : (s : State) → Some Tran ≡ Some s → SettledLegal (card_takes (record (selected_card cs) { state = s }) SendStatus 0x12340000) (record (selected_card cs) { state = s })
+        after s e = subst (λ v. SettledLegal (card_takes (record (selected_card cs) { state = v }) SendStatus 0x12340000) (record (selected_card cs) { state = v }))
+            (let same : Tran ≡ s = cc in same)
+            (record { target = Tran; has_row = second; length = refl; erase = refl; preset = refl })
+
+pub doubt_stays : DoubtStays
+unfolding order_of bits number_of
+doubt_stays cs =
+    let both = happens _ 0x12340000 SelectCard (Replied (R1 7 0x80600)) (card cs Stby (Some 0x1234) false) (card cs Stby (Some 0x1234) false) example_host refl refl (made refl)
+    (record { target = Tran; has_row = first; length = refl; erase = refl; preset = refl })
+    (record {
+      is_word = lit< tt;
+      same_index = refl;
+      state = refl;
+      app = tt;
+      error = no_error _ _ _ refl refl;
+      card = inr (
+        refl,
+        record {
+          same = record { kind = refl; version = refl; block_unit = refl; capacity = refl; csd = refl; cid = refl; ext_csd = refl; scr = refl; sd_status = refl };
+          state = refl;
+          app = refl;
+          erase = first;
+          block_length = refl;
+          preset = first;
+          rca = refl;
+          transfer = refl;
+          blocks = no_blocks _ _ refl refl;
+          contents = refl;
+        },
+      );
+    }) in
+    record { made = made refl; legal = both.0; bounds = tt; step = both.1 }
+
+-- the row of CMD12 has no move from transfer state
+no_stop : (target : State) → IsOneOf (rows Sd Cmd12) (Tran to target) → ⊥
+no_stop target (inl e) = let s : Data ≡ Tran = ap (λ m. m.source) e in cc
+no_stop target (inr (inl e)) = let s : Rcv ≡ Tran = ap (λ m. m.source) e in cc
+no_stop target (inr (inr e)) = e
+
+pub stop_is_not_legal : StopIsNotLegal
+unfolding order_of
+stop_is_not_legal cs l =
+    let reading = record (selected_card cs) { state = Data; transfer = ReadOver } in
+    let order : StopTransmission ≡ l.order = let line = l.asks.line in cc in
+    let legal : SettledLegal (card_takes (selected_card cs) l.order 0) (selected_card cs) = l.settled (selected_card cs) (inr (Tran, refl, refl)) in
+    let row : RowLegal Cmd12 (selected_card cs) = subst (λ o. SettledLegal (card_takes (selected_card cs) o 0) (selected_card cs)) (sym order) legal in
+    no_stop row.target row.has_row.one

@@ -3,8 +3,8 @@
 use Rattle.std.specs.Prelude.{◌≡◌, true, false, ℕ, List, [], ◌∷◌, replicate, Some, None}
 use Rattle.sdv_registers.specs.declared.kind.Kind.TheVariants.{Sd}
 use Rattle.sdv_frames.specs.declared.reply.Reply.TheVariants.{R1, R2, R3, R6, R7}
-use Rattle.sdv_card.specs.declared.state.State.TheVariants.{Idle, Ready, Tran}
-use Rattle.sdv_card.specs.declared.state.Transfer.TheVariants.{Nothing}
+use Rattle.sdv_card.specs.declared.state.State.TheVariants.{Idle, Ready, Stby, Tran, Data, Prg}
+use Rattle.sdv_card.specs.declared.state.Transfer.TheVariants.{Nothing, ReadOver}
 use Rattle.sdv_card.specs.declared.state.EraseStage.TheVariants.{Outside}
 use Rattle.sdv_card.specs.declared.event.Aim.{Aim}
 use Rattle.sdv_card.specs.declared.event.Aim.TheVariants.{Rca, Plain}
@@ -117,6 +117,25 @@ pub record BringUpHappens : Type 0 where
 abbrev pub LostAnswerHappens : Type 0
 LostAnswerHappens = (contents : List Block) →
     AllHappen (before_conditions (ask_conditions TimeOut ∷ [])) (example_card contents) (host_at_start 0) (record (example_card contents) { state = Ready })
+
+-- the host that brought the card up
+abbrev pub example_host : Host
+example_host = record (host_at_start 0) { rca = 0x1234; csd = Some example_csd }
+
+-- programming is done before a command arrives, and the status shows transfer state
+abbrev pub ProgrammingEnds : Type 0
+ProgrammingEnds = (contents : List Block) →
+    Happens (command 13 Rca 0x12340000 (Replied (R1 13 0x900))) (record (selected_card contents) { state = Prg }) example_host (selected_card contents)
+
+-- the status of a selection shows an error (bit 19), and the card stayed in stand-by state
+abbrev pub DoubtStays : Type 0
+DoubtStays = (contents : List Block) →
+    Happens (command 7 Rca 0x12340000 (Replied (R1 7 0x80600))) (record (selected_card contents) { state = Stby }) example_host (record (selected_card contents) { state = Stby })
+
+-- a read of one block is over, and the card may have gone to transfer state, where CMD12 is not legal
+abbrev pub StopIsNotLegal : Type 0
+StopIsNotLegal = (contents : List Block) →
+    EventLegal (SendCommand (record { index = 12; aim = Plain; argument = 0; count = 0 }) 0) (record (selected_card contents) { state = Data; transfer = ReadOver }) → ⊥
 
 -- a read of one block
 abbrev pub read_at : ℕ → ScriptEvent

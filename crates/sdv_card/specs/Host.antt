@@ -1,5 +1,5 @@
 -- What a host knows of a card, beside the script's variables and flags; how an event changes it; and when it is true.
--- SD Physical Layer Simplified Specification, sections 4.2.3 and 4.3.1; JESD84-B51, sections 6.4.2 and 6.6.
+-- SD Physical Layer Simplified Specification, sections 4.2.3 and 4.3.1; JESD84-B51, sections 6.4 and 6.6.
 use Rattle.std.specs.Prelude.{◌==◌, ℕ, List, Option, Some, None, if◌then◌else◌}
 use Rattle.sdv_registers.specs.declared.kind.Kind.{Kind}
 use Rattle.sdv_registers.specs.Status.{rca as published_rca}
