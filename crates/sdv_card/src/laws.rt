@@ -5,7 +5,9 @@
 //! with it.
 
 mod branches;
+mod by_rows;
 mod commands;
+mod distinct;
 mod legality;
 mod phases;
 mod plain;
@@ -16,7 +18,8 @@ mod states;
 mod takes;
 mod variants;
 
-pub use branches::Branches;
+pub use branches::{Branches, statuses, unaddressed_seen, with_conditions, with_seen};
+pub use by_rows::{Rows, legal_by_rows, outcomes_by_rows};
 pub use commands::order;
 pub use legality::plain_legal;
 pub use phases::{after_phase, after_wait, give_legal, recv_legal, recv_reg_legal, wait_legal};

@@ -1,10 +1,10 @@
-ghost use Rattle.std.specs.Prelude.{◌≡◌, ◌≤◌, ◌+◌, ◌++◌, length, map};
+ghost use Rattle.std.specs.Prelude.{◌≡◌, ◌≤◌, ◌+◌, ◌*◌, ◌++◌, length, map};
 ghost use Rattle.arrayvec.specs.ArrayVec.{array_vec_len};
-ghost use Rattle.sdv_card.specs.Outcomes.{branch, with_seen, with_status, with_conditions, app_shown, status_seen, conditions_seen, phase_ends, wait_ends, phase_seen, wait_seen, placed};
+ghost use Rattle.sdv_card.specs.Outcomes.{branch, with_seen, with_status, with_conditions, app_shown, statuses, unaddressed_seen, status_seen, conditions_seen, phase_ends, wait_ends, phase_seen, wait_seen, placed};
 
 use super::phases::{after_phase, after_wait};
 use crate::answer::{DataEnd, WaitEnd};
-use crate::command::Row;
+use crate::command::{Order, Row};
 use crate::event::{Branch, Seen};
 use crate::fields::Fields;
 use crate::state::State;
@@ -15,8 +15,8 @@ use arrayvec::ArrayVec;
 pub type Branches = ArrayVec<Branch, 900>;
 
 /// Adds the same branch for each of the fields.
-pub fn with_seen(all: &mut Branches, seen: Seen, cards: &[Fields])
-    requires { array_vec_len all.old + length cards.now ≤ 900 }
+pub fn with_seen<const N: usize>(all: &mut ArrayVec<Branch, N>, seen: Seen, cards: &[Fields])
+    requires { array_vec_len all.old + length cards.now ≤ N }
     ensures items { all.new.items ≡ all.old.items ++ with_seen seen cards.now }
     ensures len { array_vec_len all.new ≡ array_vec_len all.old + length cards.now }
 {
@@ -29,8 +29,8 @@ pub fn with_seen(all: &mut Branches, seen: Seen, cards: &[Fields])
 }
 
 /// Adds a branch with the status that a settled card gives for each of the fields.
-pub fn with_status(all: &mut Branches, row: Row, doubt: bool, t: &Fields, cards: &[Fields])
-    requires { array_vec_len all.old + length cards.now ≤ 900 }
+pub fn with_status<const N: usize>(all: &mut ArrayVec<Branch, N>, row: Row, doubt: bool, t: &Fields, cards: &[Fields])
+    requires { array_vec_len all.old + length cards.now ≤ N }
     ensures items { all.new.items ≡ all.old.items ++ with_status row doubt t.now cards.now }
     ensures len { array_vec_len all.new ≡ array_vec_len all.old + length cards.now }
 {
@@ -58,8 +58,8 @@ fn status_seen(row: Row, doubt: bool, t: &Fields, after: &Fields) -> Seen
 }
 
 /// Adds a branch with the operating conditions for each of the fields.
-pub fn with_conditions(all: &mut Branches, cards: &[Fields])
-    requires { array_vec_len all.old + length cards.now ≤ 900 }
+pub fn with_conditions<const N: usize>(all: &mut ArrayVec<Branch, N>, cards: &[Fields])
+    requires { array_vec_len all.old + length cards.now ≤ N }
     ensures items { all.new.items ≡ all.old.items ++ with_conditions cards.now }
     ensures len { array_vec_len all.new ≡ array_vec_len all.old + length cards.now }
 {
@@ -87,9 +87,36 @@ fn conditions_seen(after: &Fields) -> Seen
     }
 }
 
+/// Adds what may follow a row that is answered with a status, by what takes it and what stays.
+pub fn statuses<const N: usize>(
+    all: &mut ArrayVec<Branch, N>,
+    row: Row,
+    t: &Fields,
+    took: &[Fields],
+    stay: &[Fields],
+)
+    requires { array_vec_len all.old + 2 * length took.now + length stay.now ≤ N }
+    ensures items { all.new.items ≡ all.old.items ++ statuses row t.now took.now stay.now }
+    ensures len { array_vec_len all.new ≡ array_vec_len all.old + 2 * length took.now + length stay.now }
+{
+    with_status(all, row, false, t, took);
+    with_status(all, row, true, t, took);
+    with_status(all, row, true, t, stay);
+}
+
+/// What is seen where no card is addressed.
+pub fn unaddressed_seen(order: Order) -> Seen
+    ensures { result ≡ unaddressed_seen order }
+{
+    match order {
+        Order::DeselectCards => Seen::Sent,
+        _ => Seen::TimeOut,
+    }
+}
+
 /// Adds what may follow a phase that ends so.
-pub fn phase_ends(all: &mut Branches, end: DataEnd, fields: &Fields)
-    requires { array_vec_len all.old + 2 ≤ 900 }
+pub fn phase_ends<const N: usize>(all: &mut ArrayVec<Branch, N>, end: DataEnd, fields: &Fields)
+    requires { array_vec_len all.old + 2 ≤ N }
     ensures items { all.new.items ≡ all.old.items ++ phase_ends end fields.now }
     ensures len { array_vec_len all.new ≤ array_vec_len all.old + 2 }
 {
@@ -111,8 +138,8 @@ pub fn phase_ends(all: &mut Branches, end: DataEnd, fields: &Fields)
 }
 
 /// Adds what may follow a wait that ends so.
-pub fn wait_ends(all: &mut Branches, end: WaitEnd, fields: &Fields)
-    requires { array_vec_len all.old + 2 ≤ 900 }
+pub fn wait_ends<const N: usize>(all: &mut ArrayVec<Branch, N>, end: WaitEnd, fields: &Fields)
+    requires { array_vec_len all.old + 2 ≤ N }
     ensures items { all.new.items ≡ all.old.items ++ wait_ends end fields.now }
     ensures len { array_vec_len all.new ≤ array_vec_len all.old + 2 }
 {

@@ -3,9 +3,11 @@ ghost use Rattle.arrayvec.specs.ArrayVec.{array_vec_len};
 ghost use Rattle.sdv_card.specs.declared.event.Seen.TheVariants.{TimeOut};
 ghost use Rattle.sdv_card.specs.Takes.{taken_as_of};
 ghost use Rattle.sdv_card.specs.Responses.{response_of};
-ghost use Rattle.sdv_card.specs.Outcomes.{with_seen, lost, statuses, unaddressed_seen, row_branches, settled_branches, order_branches, ask_branches, event_branches, outcomes_code};
+ghost use Rattle.sdv_card.specs.Outcomes.{with_seen, lost, row_branches, settled_branches, order_branches, ask_branches, event_branches, outcomes_code};
 
-use super::branches::{Branches, phase_ends, wait_ends, with_conditions, with_seen, with_status};
+use super::branches::{
+    Branches, phase_ends, statuses, unaddressed_seen, wait_ends, with_conditions, with_seen,
+};
 use super::commands::order;
 use super::rules::{matched_stayed, own_step, own_target, response};
 use super::takes::taken_as;
@@ -139,28 +141,5 @@ fn lost(all: &mut Branches, kind: Kind, response: Response, row: Row, t: &Fields
             with_seen(all, Seen::TimeOut, stay.as_slice());
         }
         Response::Absent | Response::NotAddressed | Response::Contents | Response::Conditions => {}
-    }
-}
-
-/// Adds what may follow a row that is answered with a status, by what takes it and what stays.
-fn statuses(all: &mut Branches, row: Row, t: &Fields, took: &[Fields], stay: &[Fields])
-    requires few { length took.now ≤ 144 }
-    requires few_stay { length stay.now ≤ 8 }
-    requires room { array_vec_len all.old ≤ 603 }
-    ensures items { all.new.items ≡ all.old.items ++ statuses row t.now took.now stay.now }
-    ensures few { array_vec_len all.new ≤ array_vec_len all.old + 296 }
-{
-    with_status(all, row, false, t, took);
-    with_status(all, row, true, t, took);
-    with_status(all, row, true, t, stay);
-}
-
-/// What is seen where no card is addressed.
-fn unaddressed_seen(order: Order) -> Seen
-    ensures { result ≡ unaddressed_seen order }
-{
-    match order {
-        Order::DeselectCards => Seen::Sent,
-        _ => Seen::TimeOut,
     }
 }
