@@ -4,6 +4,8 @@
 #![tactic(auto)]
 
 mod end;
+#[cfg(test)]
+mod tests;
 pub mod trace;
 
 pub use end::End;
