@@ -1,5 +1,6 @@
 -- A card has a step at each legal event: CMD0 is taken, every other command is lost, a phase is cut, and a wait is late.
-use Rattle.std.proofs.Common.{◌≡◌, ℕ, ◌⊎◌, inl, inr, refl, Bool, true, false, IsTrue, List, [], ◌∷◌, replicate, length, length-replicate, None, subst, sym}
+use Rattle.std.proofs.Common.{◌≡◌, ℕ, ◌⊎◌, inl, inr, refl, Bool, true, false, IsTrue, List, [], ◌∷◌, replicate, length, None}
+use Rattle.std.proofs.lemmas.List.{length-replicate}
 use Rattle.sdv_registers.specs.declared.kind.Kind.{Kind}
 use Rattle.sdv_card.specs.declared.state.State.{State}
 use Rattle.sdv_card.specs.declared.state.State.TheVariants.{Tran, Data, Rcv, Prg}
