@@ -1,0 +1,154 @@
+-- What a host learns from an order is said by the row by which a card takes it.
+use Rattle.std.proofs.Common.{◌≡◌, ◌≢◌, ℕ, ◌/◌, refl, subst, Bool, true, false, List, Option, Some, None}
+use Rattle.sdv_frames.specs.declared.reply.Reply.TheVariants.{R1, R2, R3, R6, R7}
+use Rattle.sdv_card.specs.declared.answer.Answer.{Answer}
+use Rattle.sdv_card.specs.declared.answer.Answer.TheVariants.{Sent, TimeOut, Reply as Replied, Damaged}
+use Rattle.sdv_card.specs.declared.command.Order.{Order}
+use Rattle.sdv_card.specs.declared.command.Order.TheVariants.{GoIdleState, SendOpCond, AllSendCid, SendRelativeAddress, SetRelativeAddress, SelectCard, DeselectCards, SendIfCond, SendExtCsd, SendCsd, SendCid, StopTransmission, SendStatus, SetBlockLength, ReadSingleBlock, ReadMultipleBlock, SetBlockCount, WriteBlock, WriteMultipleBlock, EraseBlockStart, EraseBlockEnd, EraseGroupStart, EraseGroupEnd, Erase, SdSendOpCond, SendScr, AppCommand}
+use Rattle.sdv_card.specs.declared.command.Row.{Row}
+use Rattle.sdv_card.specs.declared.command.Row.TheVariants.{Cmd0, Cmd1, Cmd2, Cmd3Sd, Cmd3Emmc, Cmd7Addressed, Cmd7NotAddressed, Cmd8Sd, Cmd8Emmc, Cmd9, Cmd10, Cmd12, Cmd13, Cmd16, Cmd17, Cmd18, Cmd23, Cmd24, Cmd25, Cmd32, Cmd33, Cmd35, Cmd36, Cmd38, Cmd55, Acmd13, Acmd41, Acmd51}
+use Rattle.sdv_card.specs.declared.command.TakenAs.{TakenAs}
+use Rattle.sdv_card.specs.declared.command.TakenAs.TheVariants.{Forbidden, Ignored, By}
+use Rattle.sdv_card.specs.Takes.{taken_as_of}
+use Rattle.sdv_card.specs.Host.{rca_known, csd_known, announced_by, register_length_by}
+
+-- the relative address that the host holds after a row
+abbrev pub row_rca : Row → Answer → ℕ → ℕ
+row_rca Cmd0 answer rca = 0
+row_rca Cmd3Sd (Replied (R6 word)) rca = word / 65536
+row_rca Cmd3Emmc answer rca = 1
+row_rca row answer rca = rca
+
+-- the blocks that a row announces, the count that it carries, and the length of the register that it asks for
+abbrev pub row_announces : Row → Option ℕ
+row_announces Cmd17 = Some 1
+row_announces (Cmd18 n) = Some n
+row_announces Cmd24 = Some 1
+row_announces (Cmd25 n) = Some n
+row_announces row = None
+
+abbrev pub order_announces : Order → Option ℕ
+order_announces ReadSingleBlock = Some 1
+order_announces (ReadMultipleBlock n) = Some n
+order_announces WriteBlock = Some 1
+order_announces (WriteMultipleBlock n) = Some n
+order_announces order = None
+
+abbrev pub row_count : Row → ℕ
+row_count (Cmd18 n) = n
+row_count (Cmd23 n) = n
+row_count (Cmd25 n) = n
+row_count row = 0
+
+abbrev pub order_count : Order → ℕ
+order_count (ReadMultipleBlock n) = n
+order_count (SetBlockCount n) = n
+order_count (WriteMultipleBlock n) = n
+order_count order = 0
+
+abbrev pub row_register : Row → ℕ → ℕ
+row_register Cmd8Emmc before = 512
+row_register Cmd13 before = 64
+row_register Acmd13 before = 64
+row_register Acmd51 before = 8
+row_register row before = before
+
+-- the register that a row shows
+abbrev pub row_csd : Row → Answer → Option (List ℕ) → Option (List ℕ)
+row_csd Cmd9 (Replied (R2 bytes)) csd = Some bytes
+row_csd row answer csd = csd
+
+-- the index that an answer to the order repeats, where a guard looks at it
+abbrev pub is_app_command : Order → Bool
+is_app_command AppCommand = true
+is_app_command order = false
+
+abbrev pub is_row_55 : Row → Bool
+is_row_55 Cmd55 = true
+is_row_55 row = false
+
+abbrev pub is_if_cond : Order → Bool
+is_if_cond SendIfCond = true
+is_if_cond order = false
+
+abbrev pub is_row_8 : Row → Bool
+is_row_8 Cmd8Sd = true
+is_row_8 row = false
+
+pub record Says (order : Order) (row : Row) : Type 0 where
+  pub rca : (answer : Answer) (n : ℕ) → rca_known order answer n ≡ row_rca row answer n
+  pub csd : (answer : Answer) (csd : Option (List ℕ)) → csd_known order answer csd ≡ row_csd row answer csd
+  pub announces : order_announces order ≡ row_announces row
+  pub count : order_count order ≡ row_count row
+  pub register : (n : ℕ) → register_length_by order n ≡ row_register row n
+  pub app : is_app_command order ≡ is_row_55 row
+  pub if_cond : is_if_cond order ≡ is_row_8 row
+
+published : (answer : Answer) (n : ℕ) → rca_known SendRelativeAddress answer n ≡ row_rca Cmd3Sd answer n
+published Sent n = refl
+published TimeOut n = refl
+published (Damaged fault) n = refl
+published (Replied (R1 index word)) n = refl
+published (Replied (R2 bytes)) n = refl
+published (Replied (R3 word)) n = refl
+published (Replied (R6 word)) n = refl
+published (Replied (R7 word)) n = refl
+
+shown : (answer : Answer) (csd : Option (List ℕ)) → csd_known SendCsd answer csd ≡ row_csd Cmd9 answer csd
+shown Sent csd = refl
+shown TimeOut csd = refl
+shown (Damaged fault) csd = refl
+shown (Replied (R1 index word)) csd = refl
+shown (Replied (R2 bytes)) csd = refl
+shown (Replied (R3 word)) csd = refl
+shown (Replied (R6 word)) csd = refl
+shown (Replied (R7 word)) csd = refl
+
+at : (r row : Row) (order : Order) → By r ≡ By row → Says order r → Says order row
+at r row order e s = let f : r ≡ row = cc in subst (λ v. Says order v) f s
+
+-- an order and the row by which a card takes it say the same
+pub says : (order : Order) (app matched : Bool) (row : Row) → taken_as_of order app matched ≡ By row → Says order row
+says GoIdleState app matched row e = at Cmd0 row GoIdleState e (record { rca = λ a n. refl; csd = λ a n. refl; announces = refl; count = refl; register = λ n. refl; app = refl; if_cond = refl })
+says AppCommand app true row e = at Cmd55 row AppCommand e (record { rca = λ a n. refl; csd = λ a n. refl; announces = refl; count = refl; register = λ n. refl; app = refl; if_cond = refl })
+says SendStatus true matched row e = at Acmd13 row SendStatus e (record { rca = λ a n. refl; csd = λ a n. refl; announces = refl; count = refl; register = λ n. refl; app = refl; if_cond = refl })
+says (SdSendOpCond high) true matched row e = at (Acmd41 high) row (SdSendOpCond high) e (record { rca = λ a n. refl; csd = λ a n. refl; announces = refl; count = refl; register = λ n. refl; app = refl; if_cond = refl })
+says SendScr true matched row e = at Acmd51 row SendScr e (record { rca = λ a n. refl; csd = λ a n. refl; announces = refl; count = refl; register = λ n. refl; app = refl; if_cond = refl })
+says SendOpCond false matched row e = at Cmd1 row SendOpCond e (record { rca = λ a n. refl; csd = λ a n. refl; announces = refl; count = refl; register = λ n. refl; app = refl; if_cond = refl })
+says AllSendCid false matched row e = at Cmd2 row AllSendCid e (record { rca = λ a n. refl; csd = λ a n. refl; announces = refl; count = refl; register = λ n. refl; app = refl; if_cond = refl })
+says SendRelativeAddress false matched row e = at Cmd3Sd row SendRelativeAddress e (record { rca = published; csd = λ a n. refl; announces = refl; count = refl; register = λ n. refl; app = refl; if_cond = refl })
+says SetRelativeAddress false matched row e = at Cmd3Emmc row SetRelativeAddress e (record { rca = λ a n. refl; csd = λ a n. refl; announces = refl; count = refl; register = λ n. refl; app = refl; if_cond = refl })
+says SelectCard false true row e = at Cmd7Addressed row SelectCard e (record { rca = λ a n. refl; csd = λ a n. refl; announces = refl; count = refl; register = λ n. refl; app = refl; if_cond = refl })
+says SelectCard false false row e = at Cmd7NotAddressed row SelectCard e (record { rca = λ a n. refl; csd = λ a n. refl; announces = refl; count = refl; register = λ n. refl; app = refl; if_cond = refl })
+says DeselectCards false matched row e = at Cmd7NotAddressed row DeselectCards e (record { rca = λ a n. refl; csd = λ a n. refl; announces = refl; count = refl; register = λ n. refl; app = refl; if_cond = refl })
+says SendIfCond false matched row e = at Cmd8Sd row SendIfCond e (record { rca = λ a n. refl; csd = λ a n. refl; announces = refl; count = refl; register = λ n. refl; app = refl; if_cond = refl })
+says SendExtCsd false matched row e = at Cmd8Emmc row SendExtCsd e (record { rca = λ a n. refl; csd = λ a n. refl; announces = refl; count = refl; register = λ n. refl; app = refl; if_cond = refl })
+says SendCsd false true row e = at Cmd9 row SendCsd e (record { rca = λ a n. refl; csd = shown; announces = refl; count = refl; register = λ n. refl; app = refl; if_cond = refl })
+says SendCid false true row e = at Cmd10 row SendCid e (record { rca = λ a n. refl; csd = λ a n. refl; announces = refl; count = refl; register = λ n. refl; app = refl; if_cond = refl })
+says StopTransmission false matched row e = at Cmd12 row StopTransmission e (record { rca = λ a n. refl; csd = λ a n. refl; announces = refl; count = refl; register = λ n. refl; app = refl; if_cond = refl })
+says SendStatus false true row e = at Cmd13 row SendStatus e (record { rca = λ a n. refl; csd = λ a n. refl; announces = refl; count = refl; register = λ n. refl; app = refl; if_cond = refl })
+says SetBlockLength false matched row e = at Cmd16 row SetBlockLength e (record { rca = λ a n. refl; csd = λ a n. refl; announces = refl; count = refl; register = λ n. refl; app = refl; if_cond = refl })
+says ReadSingleBlock false matched row e = at Cmd17 row ReadSingleBlock e (record { rca = λ a n. refl; csd = λ a n. refl; announces = refl; count = refl; register = λ n. refl; app = refl; if_cond = refl })
+says (ReadMultipleBlock count) false matched row e = at (Cmd18 count) row (ReadMultipleBlock count) e (record { rca = λ a n. refl; csd = λ a n. refl; announces = refl; count = refl; register = λ n. refl; app = refl; if_cond = refl })
+says (SetBlockCount count) false matched row e = at (Cmd23 count) row (SetBlockCount count) e (record { rca = λ a n. refl; csd = λ a n. refl; announces = refl; count = refl; register = λ n. refl; app = refl; if_cond = refl })
+says WriteBlock false matched row e = at Cmd24 row WriteBlock e (record { rca = λ a n. refl; csd = λ a n. refl; announces = refl; count = refl; register = λ n. refl; app = refl; if_cond = refl })
+says (WriteMultipleBlock count) false matched row e = at (Cmd25 count) row (WriteMultipleBlock count) e (record { rca = λ a n. refl; csd = λ a n. refl; announces = refl; count = refl; register = λ n. refl; app = refl; if_cond = refl })
+says EraseBlockStart false matched row e = at Cmd32 row EraseBlockStart e (record { rca = λ a n. refl; csd = λ a n. refl; announces = refl; count = refl; register = λ n. refl; app = refl; if_cond = refl })
+says EraseBlockEnd false matched row e = at Cmd33 row EraseBlockEnd e (record { rca = λ a n. refl; csd = λ a n. refl; announces = refl; count = refl; register = λ n. refl; app = refl; if_cond = refl })
+says EraseGroupStart false matched row e = at Cmd35 row EraseGroupStart e (record { rca = λ a n. refl; csd = λ a n. refl; announces = refl; count = refl; register = λ n. refl; app = refl; if_cond = refl })
+says EraseGroupEnd false matched row e = at Cmd36 row EraseGroupEnd e (record { rca = λ a n. refl; csd = λ a n. refl; announces = refl; count = refl; register = λ n. refl; app = refl; if_cond = refl })
+says Erase false matched row e = at Cmd38 row Erase e (record { rca = λ a n. refl; csd = λ a n. refl; announces = refl; count = refl; register = λ n. refl; app = refl; if_cond = refl })
+says AppCommand app false row e = absurd (cc)
+says SendCsd false false row e = absurd (cc)
+says SendCid false false row e = absurd (cc)
+says SendStatus false false row e = absurd (cc)
+says (SdSendOpCond high) false matched row e = absurd (cc)
+says SendScr false matched row e = absurd (cc)
+says order true matched row e = absurd (cc)
+
+-- the host holds the address that it held after an order that a card may ignore
+pub ignored_rca : (order : Order) (app matched : Bool) (n : ℕ) → taken_as_of order app matched ≡ Ignored → rca_known order TimeOut n ≡ n
+ignored_rca GoIdleState app matched n e = absurd (cc)
+ignored_rca SetRelativeAddress true matched n e = absurd (cc)
+ignored_rca SetRelativeAddress false matched n e = absurd (cc)
+ignored_rca order app matched n e = refl
