@@ -75,6 +75,15 @@ abbrev pub is_row_8 : Row → Bool
 is_row_8 Cmd8Sd = true
 is_row_8 row = false
 
+-- the command gives the card its relative address
+abbrev pub gives_address : Order → Bool
+gives_address SetRelativeAddress = true
+gives_address order = false
+
+abbrev pub row_gives_address : Row → Bool
+row_gives_address Cmd3Emmc = true
+row_gives_address row = false
+
 pub record Says (order : Order) (row : Row) : Type 0 where
   pub rca : (answer : Answer) (n : ℕ) → rca_known order answer n ≡ row_rca row answer n
   pub csd : (answer : Answer) (csd : Option (List ℕ)) → csd_known order answer csd ≡ row_csd row answer csd
@@ -83,6 +92,7 @@ pub record Says (order : Order) (row : Row) : Type 0 where
   pub register : (n : ℕ) → register_length_by order n ≡ row_register row n
   pub app : is_app_command order ≡ is_row_55 row
   pub if_cond : is_if_cond order ≡ is_row_8 row
+  pub gives : gives_address order ≡ row_gives_address row
 
 published : (answer : Answer) (n : ℕ) → rca_known SendRelativeAddress answer n ≡ row_rca Cmd3Sd answer n
 published Sent n = refl
@@ -104,40 +114,48 @@ shown (Replied (R3 word)) csd = refl
 shown (Replied (R6 word)) csd = refl
 shown (Replied (R7 word)) csd = refl
 
-at : (r row : Row) (order : Order) → By r ≡ By row → Says order r → Says order row
-at r row order e s = let f : r ≡ row = cc in subst (λ v. Says order v) f s
+at : (r row : Row) (order : Order) → By r ≡ By row →
+    ((answer : Answer) (n : ℕ) → rca_known order answer n ≡ row_rca r answer n) →
+    ((answer : Answer) (csd : Option (List ℕ)) → csd_known order answer csd ≡ row_csd r answer csd) →
+    order_announces order ≡ row_announces r → order_count order ≡ row_count r →
+    ((n : ℕ) → register_length_by order n ≡ row_register r n) → is_app_command order ≡ is_row_55 r →
+    is_if_cond order ≡ is_row_8 r → gives_address order ≡ row_gives_address r → Says order row
+at r row order e rca csd announces count register app if_cond gives =
+    let f : r ≡ row = cc in
+    subst (λ v. Says order v) f
+    (record { rca = rca; csd = csd; announces = announces; count = count; register = register; app = app; if_cond = if_cond; gives = gives })
 
 -- an order and the row by which a card takes it say the same
 pub says : (order : Order) (app matched : Bool) (row : Row) → taken_as_of order app matched ≡ By row → Says order row
-says GoIdleState app matched row e = at Cmd0 row GoIdleState e (record { rca = λ a n. refl; csd = λ a n. refl; announces = refl; count = refl; register = λ n. refl; app = refl; if_cond = refl })
-says AppCommand app true row e = at Cmd55 row AppCommand e (record { rca = λ a n. refl; csd = λ a n. refl; announces = refl; count = refl; register = λ n. refl; app = refl; if_cond = refl })
-says SendStatus true matched row e = at Acmd13 row SendStatus e (record { rca = λ a n. refl; csd = λ a n. refl; announces = refl; count = refl; register = λ n. refl; app = refl; if_cond = refl })
-says (SdSendOpCond high) true matched row e = at (Acmd41 high) row (SdSendOpCond high) e (record { rca = λ a n. refl; csd = λ a n. refl; announces = refl; count = refl; register = λ n. refl; app = refl; if_cond = refl })
-says SendScr true matched row e = at Acmd51 row SendScr e (record { rca = λ a n. refl; csd = λ a n. refl; announces = refl; count = refl; register = λ n. refl; app = refl; if_cond = refl })
-says SendOpCond false matched row e = at Cmd1 row SendOpCond e (record { rca = λ a n. refl; csd = λ a n. refl; announces = refl; count = refl; register = λ n. refl; app = refl; if_cond = refl })
-says AllSendCid false matched row e = at Cmd2 row AllSendCid e (record { rca = λ a n. refl; csd = λ a n. refl; announces = refl; count = refl; register = λ n. refl; app = refl; if_cond = refl })
-says SendRelativeAddress false matched row e = at Cmd3Sd row SendRelativeAddress e (record { rca = published; csd = λ a n. refl; announces = refl; count = refl; register = λ n. refl; app = refl; if_cond = refl })
-says SetRelativeAddress false matched row e = at Cmd3Emmc row SetRelativeAddress e (record { rca = λ a n. refl; csd = λ a n. refl; announces = refl; count = refl; register = λ n. refl; app = refl; if_cond = refl })
-says SelectCard false true row e = at Cmd7Addressed row SelectCard e (record { rca = λ a n. refl; csd = λ a n. refl; announces = refl; count = refl; register = λ n. refl; app = refl; if_cond = refl })
-says SelectCard false false row e = at Cmd7NotAddressed row SelectCard e (record { rca = λ a n. refl; csd = λ a n. refl; announces = refl; count = refl; register = λ n. refl; app = refl; if_cond = refl })
-says DeselectCards false matched row e = at Cmd7NotAddressed row DeselectCards e (record { rca = λ a n. refl; csd = λ a n. refl; announces = refl; count = refl; register = λ n. refl; app = refl; if_cond = refl })
-says SendIfCond false matched row e = at Cmd8Sd row SendIfCond e (record { rca = λ a n. refl; csd = λ a n. refl; announces = refl; count = refl; register = λ n. refl; app = refl; if_cond = refl })
-says SendExtCsd false matched row e = at Cmd8Emmc row SendExtCsd e (record { rca = λ a n. refl; csd = λ a n. refl; announces = refl; count = refl; register = λ n. refl; app = refl; if_cond = refl })
-says SendCsd false true row e = at Cmd9 row SendCsd e (record { rca = λ a n. refl; csd = shown; announces = refl; count = refl; register = λ n. refl; app = refl; if_cond = refl })
-says SendCid false true row e = at Cmd10 row SendCid e (record { rca = λ a n. refl; csd = λ a n. refl; announces = refl; count = refl; register = λ n. refl; app = refl; if_cond = refl })
-says StopTransmission false matched row e = at Cmd12 row StopTransmission e (record { rca = λ a n. refl; csd = λ a n. refl; announces = refl; count = refl; register = λ n. refl; app = refl; if_cond = refl })
-says SendStatus false true row e = at Cmd13 row SendStatus e (record { rca = λ a n. refl; csd = λ a n. refl; announces = refl; count = refl; register = λ n. refl; app = refl; if_cond = refl })
-says SetBlockLength false matched row e = at Cmd16 row SetBlockLength e (record { rca = λ a n. refl; csd = λ a n. refl; announces = refl; count = refl; register = λ n. refl; app = refl; if_cond = refl })
-says ReadSingleBlock false matched row e = at Cmd17 row ReadSingleBlock e (record { rca = λ a n. refl; csd = λ a n. refl; announces = refl; count = refl; register = λ n. refl; app = refl; if_cond = refl })
-says (ReadMultipleBlock count) false matched row e = at (Cmd18 count) row (ReadMultipleBlock count) e (record { rca = λ a n. refl; csd = λ a n. refl; announces = refl; count = refl; register = λ n. refl; app = refl; if_cond = refl })
-says (SetBlockCount count) false matched row e = at (Cmd23 count) row (SetBlockCount count) e (record { rca = λ a n. refl; csd = λ a n. refl; announces = refl; count = refl; register = λ n. refl; app = refl; if_cond = refl })
-says WriteBlock false matched row e = at Cmd24 row WriteBlock e (record { rca = λ a n. refl; csd = λ a n. refl; announces = refl; count = refl; register = λ n. refl; app = refl; if_cond = refl })
-says (WriteMultipleBlock count) false matched row e = at (Cmd25 count) row (WriteMultipleBlock count) e (record { rca = λ a n. refl; csd = λ a n. refl; announces = refl; count = refl; register = λ n. refl; app = refl; if_cond = refl })
-says EraseBlockStart false matched row e = at Cmd32 row EraseBlockStart e (record { rca = λ a n. refl; csd = λ a n. refl; announces = refl; count = refl; register = λ n. refl; app = refl; if_cond = refl })
-says EraseBlockEnd false matched row e = at Cmd33 row EraseBlockEnd e (record { rca = λ a n. refl; csd = λ a n. refl; announces = refl; count = refl; register = λ n. refl; app = refl; if_cond = refl })
-says EraseGroupStart false matched row e = at Cmd35 row EraseGroupStart e (record { rca = λ a n. refl; csd = λ a n. refl; announces = refl; count = refl; register = λ n. refl; app = refl; if_cond = refl })
-says EraseGroupEnd false matched row e = at Cmd36 row EraseGroupEnd e (record { rca = λ a n. refl; csd = λ a n. refl; announces = refl; count = refl; register = λ n. refl; app = refl; if_cond = refl })
-says Erase false matched row e = at Cmd38 row Erase e (record { rca = λ a n. refl; csd = λ a n. refl; announces = refl; count = refl; register = λ n. refl; app = refl; if_cond = refl })
+says GoIdleState app matched row e = at Cmd0 row GoIdleState e (λ a n. refl) (λ a n. refl) refl refl (λ n. refl) refl refl refl
+says AppCommand app true row e = at Cmd55 row AppCommand e (λ a n. refl) (λ a n. refl) refl refl (λ n. refl) refl refl refl
+says SendStatus true matched row e = at Acmd13 row SendStatus e (λ a n. refl) (λ a n. refl) refl refl (λ n. refl) refl refl refl
+says (SdSendOpCond high) true matched row e = at (Acmd41 high) row (SdSendOpCond high) e (λ a n. refl) (λ a n. refl) refl refl (λ n. refl) refl refl refl
+says SendScr true matched row e = at Acmd51 row SendScr e (λ a n. refl) (λ a n. refl) refl refl (λ n. refl) refl refl refl
+says SendOpCond false matched row e = at Cmd1 row SendOpCond e (λ a n. refl) (λ a n. refl) refl refl (λ n. refl) refl refl refl
+says AllSendCid false matched row e = at Cmd2 row AllSendCid e (λ a n. refl) (λ a n. refl) refl refl (λ n. refl) refl refl refl
+says SendRelativeAddress false matched row e = at Cmd3Sd row SendRelativeAddress e published (λ a n. refl) refl refl (λ n. refl) refl refl refl
+says SetRelativeAddress false matched row e = at Cmd3Emmc row SetRelativeAddress e (λ a n. refl) (λ a n. refl) refl refl (λ n. refl) refl refl refl
+says SelectCard false true row e = at Cmd7Addressed row SelectCard e (λ a n. refl) (λ a n. refl) refl refl (λ n. refl) refl refl refl
+says SelectCard false false row e = at Cmd7NotAddressed row SelectCard e (λ a n. refl) (λ a n. refl) refl refl (λ n. refl) refl refl refl
+says DeselectCards false matched row e = at Cmd7NotAddressed row DeselectCards e (λ a n. refl) (λ a n. refl) refl refl (λ n. refl) refl refl refl
+says SendIfCond false matched row e = at Cmd8Sd row SendIfCond e (λ a n. refl) (λ a n. refl) refl refl (λ n. refl) refl refl refl
+says SendExtCsd false matched row e = at Cmd8Emmc row SendExtCsd e (λ a n. refl) (λ a n. refl) refl refl (λ n. refl) refl refl refl
+says SendCsd false true row e = at Cmd9 row SendCsd e (λ a n. refl) shown refl refl (λ n. refl) refl refl refl
+says SendCid false true row e = at Cmd10 row SendCid e (λ a n. refl) (λ a n. refl) refl refl (λ n. refl) refl refl refl
+says StopTransmission false matched row e = at Cmd12 row StopTransmission e (λ a n. refl) (λ a n. refl) refl refl (λ n. refl) refl refl refl
+says SendStatus false true row e = at Cmd13 row SendStatus e (λ a n. refl) (λ a n. refl) refl refl (λ n. refl) refl refl refl
+says SetBlockLength false matched row e = at Cmd16 row SetBlockLength e (λ a n. refl) (λ a n. refl) refl refl (λ n. refl) refl refl refl
+says ReadSingleBlock false matched row e = at Cmd17 row ReadSingleBlock e (λ a n. refl) (λ a n. refl) refl refl (λ n. refl) refl refl refl
+says (ReadMultipleBlock count) false matched row e = at (Cmd18 count) row (ReadMultipleBlock count) e (λ a n. refl) (λ a n. refl) refl refl (λ n. refl) refl refl refl
+says (SetBlockCount count) false matched row e = at (Cmd23 count) row (SetBlockCount count) e (λ a n. refl) (λ a n. refl) refl refl (λ n. refl) refl refl refl
+says WriteBlock false matched row e = at Cmd24 row WriteBlock e (λ a n. refl) (λ a n. refl) refl refl (λ n. refl) refl refl refl
+says (WriteMultipleBlock count) false matched row e = at (Cmd25 count) row (WriteMultipleBlock count) e (λ a n. refl) (λ a n. refl) refl refl (λ n. refl) refl refl refl
+says EraseBlockStart false matched row e = at Cmd32 row EraseBlockStart e (λ a n. refl) (λ a n. refl) refl refl (λ n. refl) refl refl refl
+says EraseBlockEnd false matched row e = at Cmd33 row EraseBlockEnd e (λ a n. refl) (λ a n. refl) refl refl (λ n. refl) refl refl refl
+says EraseGroupStart false matched row e = at Cmd35 row EraseGroupStart e (λ a n. refl) (λ a n. refl) refl refl (λ n. refl) refl refl refl
+says EraseGroupEnd false matched row e = at Cmd36 row EraseGroupEnd e (λ a n. refl) (λ a n. refl) refl refl (λ n. refl) refl refl refl
+says Erase false matched row e = at Cmd38 row Erase e (λ a n. refl) (λ a n. refl) refl refl (λ n. refl) refl refl refl
 says AppCommand app false row e = absurd (cc)
 says SendCsd false false row e = absurd (cc)
 says SendCid false false row e = absurd (cc)
