@@ -40,7 +40,7 @@ each_unchanged row stays (s ∷ ss) = (stays s, each_unchanged row stays ss)
 same_address : (s : State) (rca after : Option ℕ) → rca ≡ after → AddressFits s rca → AddressFits s after
 same_address s rca after r a = subst (λ v. AddressFits s v) r a
 
-either : (P : Transfer → Type 0) (b : Bool) (x y : Transfer) → P x → P y → P (if b then x else y)
+pub either : (P : Transfer → Type 0) (b : Bool) (x y : Transfer) → P x → P y → P (if b then x else y)
 either P true x y p q = p
 either P false x y p q = q
 
