@@ -53,8 +53,11 @@ single k ask order index i at count blocks gives = record {
   gives = gives;
 }
 
+below_more : (n : ℕ) → n ≤ 65535 → n < 65536
+below_more n h = omega arith
+
 counted_count : (ask : Ask) (index : ℕ) → is_counted ask index ≡ true → ask.count < 65536
-counted_count ask index i = let e : ask.count ≤ 65535 = leb-true ask.count 65535 (and_right _ _ i) in omega arith
+counted_count ask index i = below_more ask.count (leb-true ask.count 65535 (and_right (is_line ask index Plain 0 ask.count && nat_le 1 ask.count) _ i))
 
 counted : (k : Kind) (ask : Ask) (order : Order) (index : ℕ) → is_counted ask index ≡ true → blocks_at index ask.count ≡ Some ask.count →
     ask.count ≡ order_count order → Some ask.count ≡ order_announces order → (k ≡ Sd → gives_address order ≡ false) → OfAsk k ask order
