@@ -36,6 +36,7 @@ use Rattle.sdv_card.proofs.SettledCard.{Fits, card_after, kind_of_none, kind_of_
 use Rattle.sdv_card.proofs.RowsOfOrders.{says, ignored_rca, row_count, row_rca, order_count}
 use Rattle.sdv_card.proofs.OrdersOfAsks.{of_ask}
 use Rattle.sdv_card.proofs.RowsKeep.{Leads, leads}
+use Rattle.sdv_card.proofs.PhasePlaces.{Calm, calm_place}
 use Rattle.sdv_card.proofs.PartsKept.{kept_small, preset_small, kind_none_taken, kind_none_stayed, kind_again, kind_taken, length_kept, announced_small, contents_kept, rca_small}
 
 -- A COMMAND
@@ -102,46 +103,6 @@ rca_after (By row) order argument t u answer rca ignored by a small =
 
 -- PHASES
 
--- a place of a phase that is over: it has no register due, and the card has an address there
-record Calm (p : Place) : Type 0 where
-  transfer : transfer_fits p.state p.transfer ≡ true
-  quiet : register_due p.transfer ≡ false
-  address : (rca : Option ℕ) → AddressFits Tran rca → AddressFits p.state rca
-
-abbrev EachCalm : List Place → Type 0
-EachCalm [] = Unit {0}
-EachCalm (p ∷ ps) = Calm p × EachCalm ps
-
-calm_one : (ps : List Place) (q : Place) → EachCalm ps → IsOneOf ps q → Calm q
-calm_one [] q each m = absurd m
-calm_one (p ∷ ps) q each (inl e) = subst (λ v. Calm v) e each.0
-calm_one (p ∷ ps) q each (inr m) = calm_one ps q each.1 m
-
-calm_at : (s : State) (x : Transfer) → transfer_fits s x ≡ true → register_due x ≡ false →
-    ((rca : Option ℕ) → AddressFits Tran rca → AddressFits s rca) → Calm (s with x)
-calm_at s x fits quiet address = record { transfer = fits; quiet = quiet; address = address }
-
-in_tran : Calm (Tran with Nothing)
-in_tran = calm_at Tran Nothing refl refl (λ rca a. a)
-
-in_data : Calm (Data with ReadOver)
-in_data = calm_at Data ReadOver refl refl (λ rca a. a)
-
-calm_after : (x : Transfer) (end : DataEnd) → EachCalm (after_phase x end)
-calm_after ReadDue Ok = (in_tran, tt)
-calm_after ReadDue Cut = (in_data, (in_tran, tt))
-calm_after OpenReadDue end = (calm_at Data OpenReadOver refl refl (λ rca a. a), tt)
-calm_after ScrDue Ok = (in_tran, tt)
-calm_after ScrDue Cut = (in_data, (in_tran, tt))
-calm_after SdStatusDue Ok = (in_tran, tt)
-calm_after SdStatusDue Cut = (in_data, (in_tran, tt))
-calm_after ExtCsdDue Ok = (in_tran, tt)
-calm_after ExtCsdDue Cut = (in_data, (in_tran, tt))
-calm_after WriteDue Ok = (calm_at Prg Nothing refl refl (λ rca a. a), tt)
-calm_after WriteDue Cut = (calm_at Rcv WriteOver refl refl (λ rca a. a), (calm_at Prg Nothing refl refl (λ rca a. a), tt))
-calm_after OpenWriteDue end = (calm_at Rcv OpenWriteOver refl refl (λ rca a. a), tt)
-calm_after x end = tt
-
 -- a card with a transfer is in data or receive state, where it has an address
 in_transfer : (s : State) (x : Transfer) (rca : Option ℕ) → (Nothing ≡ x → ⊥) → transfer_fits s x ≡ true → AddressFits s rca → AddressFits Tran rca
 in_transfer Data x rca some e a = a
@@ -156,11 +117,11 @@ some_transfer x end p m e = subst (λ y. IsOneOf (after_phase y end) p) (sym e) 
 fits_placed : (c : Card) (end : DataEnd) (p : Place) (d : Card) → IsCard c → May (after_phase c.transfer end) p → AreBlocks c.capacity d.contents →
     Fits (record c { state = p.state; transfer = p.transfer; contents = d.contents; doubt = d.doubt })
 fits_placed c end p d card may blocks =
-    let calm : Calm p = calm_one (after_phase c.transfer end) p (calm_after c.transfer end) may.one in
+    let calm : Calm p = calm_place c.transfer end p may in
     record {
       address = calm.address c.rca (in_transfer c.state c.transfer c.rca (some_transfer c.transfer end p may.one) card.transfer card.address);
       transfer = calm.transfer;
-      kind_rules = kind_of_blocks c.kind p.transfer c.app c.preset calm.quiet (kind_of_none c.kind c.transfer c.app c.preset card.kind_rules);
+      kind_rules = kind_of_blocks c.kind p.transfer c.app c.preset calm.no_register (kind_of_none c.kind c.transfer c.app c.preset card.kind_rules);
       block_length = card.block_length;
       preset = card.preset;
       announced = card.announced;
