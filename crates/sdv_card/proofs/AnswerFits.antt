@@ -47,9 +47,10 @@ echo_fits order row argument t u reply a = tt
 
 reply_fits : (order : Order) (row : Row) (argument : ℕ) (t u : Card) (reply : Reply) → Says order row →
     RowAnswer (response_of row) order row argument t (Replied reply) u → AnswerFits order (Replied reply)
-reply_fits order row argument t u reply says a =
-    (subst (λ b. AppFits b reply) (sym says.app) (app_fits order row argument t u reply a),
-     subst (λ b. EchoFits b reply) (sym says.if_cond) (echo_fits order row argument t u reply a))
+reply_fits order row argument t u reply says a = (
+  subst (λ b. AppFits b reply) (sym says.app) (app_fits order row argument t u reply a),
+  subst (λ b. EchoFits b reply) (sym says.if_cond) (echo_fits order row argument t u reply a),
+)
 
 unaddressed_fits : (order : Order) → AnswerFits order (unaddressed_answer order)
 unaddressed_fits DeselectCards = tt

@@ -39,9 +39,9 @@ status_law k order row argument h t u (Replied (R1 index word)) is at a =
     let h' : Host = heard order (Replied (R1 index word)) h in
     May-append_right (with_seen SeenTimeOut (lost k CardStatus row (view t h)))
     (subst (λ v. May (statuses row (view t h) (taken k row true (view t h)) (stayed k row (matches t.rca h.rca ∷ []) (view t h))) (branch (view u h') v))
-      (sym (same_status_seen a.state (ap (λ n. app_of n word) a.same_index ∙ app_law row word u a.app)))
-      (statuses_law row (view t h) (view u h') _ _ (in_doubt (R1 index word))
-        (status_cases k order row argument h t u (Replied (R1 index word)) (in_doubt (R1 index word)) is at a.card)))
+    (sym (same_status_seen a.state (ap (λ n. app_of n word) a.same_index ∙ app_law row word u a.app)))
+    (statuses_law row (view t h) (view u h') _ _ (in_doubt (R1 index word))
+    (status_cases k order row argument h t u (Replied (R1 index word)) (in_doubt (R1 index word)) is at a.card)))
 status_law k order row argument h t u answer is at a = absurd a
 
 new_address : (row : Row) → NewAddress ≡ response_of row → Cmd3Sd ≡ row
@@ -57,9 +57,9 @@ address_answer k order argument h t u (Replied (R6 word)) at a =
     let h' : Host = heard order (Replied (R6 word)) h in
     May-append_right (with_seen SeenTimeOut (lost k NewAddress Cmd3Sd (view t h)))
     (subst (λ v. May (statuses Cmd3Sd (view t h) (taken k Cmd3Sd true (view t h)) (stayed k Cmd3Sd (matched_stayed t.state) (view t h))) (branch (view u h') v))
-      (sym (same_status_seen a.state refl))
-      (statuses_law Cmd3Sd (view t h) (view u h') _ _ (in_doubt (R6 word))
-        (address_cases k argument h h' t u word (in_doubt (R6 word)) at.kind at.card refl (sym (at.says.rca (Replied (R6 word)) h.rca)) a.card)))
+    (sym (same_status_seen a.state refl))
+    (statuses_law Cmd3Sd (view t h) (view u h') _ _ (in_doubt (R6 word))
+    (address_cases k argument h h' t u word (in_doubt (R6 word)) at.kind at.card refl (sym (at.says.rca (Replied (R6 word)) h.rca)) a.card)))
 address_answer k order argument h t u answer at a = absurd a
 
 address_law : (k : Kind) (order : Order) (row : Row) (argument : ℕ) (h : Host) (t u : Card) (answer : Answer) → Cmd3Sd ≡ row → AtRow k order row t →
@@ -68,7 +68,7 @@ address_law : (k : Kind) (order : Order) (row : Row) (argument : ℕ) (h : Host)
 address_law k order row argument h t u answer e at a =
     subst (λ r. May (row_branches k order r NewAddress (view t h)) (branch (view u (heard order answer h)) (answer_seen k answer))) e
     (address_answer k order argument h t u answer (subst (λ r. AtRow k order r t) (sym e) at)
-      (subst (λ r. RowAnswer NewAddress order r argument t answer u) (sym e) a))
+    (subst (λ r. RowAnswer NewAddress order r argument t answer u) (sym e) a))
 
 contents_law : (k : Kind) (order : Order) (row : Row) (argument : ℕ) (h : Host) (t u : Card) (answer : Answer) → Contents ≡ response_of row → AtRow k order row t →
     RowAnswer Contents order row argument t answer u →
@@ -79,9 +79,9 @@ contents_law k order row argument h t u (Replied reply) is at a =
     let h' : Host = heard order (Replied reply) h in
     May-append_right (with_seen SeenTimeOut (lost k Contents row (view t h)))
     (subst (λ v. May (with_seen Bare (taken k row true (view t h))) (branch (view u h') v))
-      (bare_seen k row t reply a.shown)
-      (May-map (λ v. branch v Bare)
-        (heard_taken k order row argument h t u (Replied reply) (λ e. let f : NewAddress ≡ Contents = e ∙ sym is in cc) at a.card)))
+    (bare_seen k row t reply a.shown)
+    (May-map (λ v. branch v Bare)
+    (heard_taken k order row argument h t u (Replied reply) (λ e. let f : NewAddress ≡ Contents = e ∙ sym is in cc) at a.card)))
 contents_law k order row argument h t u answer is at a = absurd a
 
 conditions_answer : (k : Kind) (order : Order) (row : Row) (argument : ℕ) (h : Host) (t u : Card) (answer : Answer) → Conditions ≡ response_of row → AtRow k order row t →
@@ -93,10 +93,10 @@ conditions_answer k order row argument h t u (Replied (R3 word)) is at a =
     let h' : Host = heard order (Replied (R3 word)) h in
     May-append_right (with_seen SeenTimeOut (lost k Conditions row (view t h)))
     (subst (λ v. May (with_conditions (taken k row true (view t h))) (branch (view u h') v))
-      (sym (conditions_law _ _ _ _ a.ready
-        (λ e. unit_law k row word u.block_unit t.state u.state is (subst (λ v. May (rows v row) (t.state to u.state)) (sym at.kind) a.card.state) (a.unit e))))
-      (May-map (λ v. branch v (conditions_seen v))
-        (heard_taken k order row argument h t u (Replied (R3 word)) (λ e. let f : NewAddress ≡ Conditions = e ∙ sym is in cc) at a.card)))
+    (sym (conditions_law _ _ _ _ a.ready
+    (λ e. unit_law k row word u.block_unit t.state u.state is (subst (λ v. May (rows v row) (t.state to u.state)) (sym at.kind) a.card.state) (a.unit e))))
+    (May-map (λ v. branch v (conditions_seen v))
+    (heard_taken k order row argument h t u (Replied (R3 word)) (λ e. let f : NewAddress ≡ Conditions = e ∙ sym is in cc) at a.card)))
 conditions_answer k order row argument h t u answer is at a = absurd a
 
 absent_law : (k : Kind) (order : Order) (row : Row) (argument : ℕ) (h : Host) (t u : Card) (answer : Answer) → Absent ≡ response_of row → AtRow k order row t →
@@ -130,7 +130,7 @@ ignored_law : (k : Kind) (order : Order) (h : Host) (t u : Card) (answer : Answe
 ignored_law k order h t u answer rca a =
     subst (λ v. May (branch (view t h) SeenTimeOut ∷ []) (branch (view u (heard order v h)) (answer_seen k v))) a.0
     (subst (λ v. May (branch (view t h) SeenTimeOut ∷ []) (branch (view v (heard order TimeOut h)) SeenTimeOut)) a.1
-      (here (ap (λ v. branch v SeenTimeOut) (same_view h (heard order TimeOut h) t refl (ap (λ n. matches t.rca n) (sym rca))))))
+    (here (ap (λ v. branch v SeenTimeOut) (same_view h (heard order TimeOut h) t refl (ap (λ n. matches t.rca n) (sym rca))))))
 
 -- whatever comes of an order at a settled card, by the way in which the card takes it
 pub settled_answer_law : (way : TakenAs) (k : Kind) (order : Order) (argument : ℕ) (h : Host) (t u : Card) (answer : Answer) →

@@ -52,11 +52,11 @@ fits_taken row argument t u count card m =
       address = lead.address t.rca u.rca m.rca card.address;
       transfer = subst (λ x. transfer_fits u.state x ≡ true) m.transfer (lead.transfer t.preset t.transfer card.transfer);
       kind_rules =
-      subst (λ k. kind_fits k u.transfer u.app u.preset ≡ true) m.same.kind
-      (subst (λ x. kind_fits t.kind x u.app u.preset ≡ true) m.transfer kind);
+          subst (λ k. kind_fits k u.transfer u.app u.preset ≡ true) m.same.kind
+          (subst (λ x. kind_fits t.kind x u.app u.preset ≡ true) m.transfer kind);
       block_length =
-      subst (λ v. length_fits v (u.block_length == 512) ≡ true) m.same.block_unit
-      (length_kept row t.block_unit t.block_length u.block_length m.block_length card.block_length);
+          subst (λ v. length_fits v (u.block_length == 512) ≡ true) m.same.block_unit
+          (length_kept row t.block_unit t.block_length u.block_length m.block_length card.block_length);
       preset = preset_small t.kind row t.preset u.preset count card.preset m.preset;
       announced = announced_small row argument t u count card.announced m.blocks;
       contents = subst (λ n. AreBlocks n u.contents) m.same.capacity (contents_kept row t.capacity t.contents u.contents m.contents card.contents);
@@ -72,11 +72,11 @@ fits_stayed row t u card m =
       address = subst (λ s. AddressFits s u.rca) m.state (subst (λ r. AddressFits t.state r) m.rca card.address);
       transfer = subst (λ s. transfer_fits s u.transfer ≡ true) m.state (subst (λ x. transfer_fits t.state x ≡ true) m.transfer card.transfer);
       kind_rules =
-      subst (λ k. kind_fits k u.transfer u.app u.preset ≡ true) m.same.kind
-      (subst (λ x. kind_fits t.kind x u.app u.preset ≡ true) m.transfer kind);
+          subst (λ k. kind_fits k u.transfer u.app u.preset ≡ true) m.same.kind
+          (subst (λ x. kind_fits t.kind x u.app u.preset ≡ true) m.transfer kind);
       block_length =
-      subst (λ v. length_fits v (u.block_length == 512) ≡ true) m.same.block_unit
-      (subst (λ n. length_fits t.block_unit (n == 512) ≡ true) m.block_length card.block_length);
+          subst (λ v. length_fits v (u.block_length == 512) ≡ true) m.same.block_unit
+          (subst (λ n. length_fits t.block_unit (n == 512) ≡ true) m.block_length card.block_length);
       preset = kept_small t.kind t.preset u.preset card.preset m.preset;
       announced = subst (λ n. n < 65536) m.blocks.count_is card.announced;
       contents = subst (λ n. AreBlocks n u.contents) m.same.capacity (subst (λ v. AreBlocks t.capacity v) m.contents card.contents);
@@ -186,8 +186,8 @@ exchange_pair k ask order argument c u h answer pair e x =
     let came : Became way argument t u = became way order argument t u answer x.answered in
     pair_after k c u h (host_after_order (Some order) answer h) pair
     (card_became way argument t u
-      (λ row by. subst (λ n. n < 65536) (says order t.app m row by).count (of_ask k ask order e).count)
-      (settled_is_card c t pair.card x.settled) came)
+    (λ row by. subst (λ n. n < 65536) (says order t.app m row by).count (of_ask k ask order e).count)
+    (settled_is_card c t pair.card x.settled) came)
     ((settled_same c t x.settled).kind ∙ (became_same way argument t u came).kind) refl
     (rca_after way order argument t u answer h.rca (ignored_rca order t.app m h.rca) (λ row by. (says order t.app m row by).rca answer h.rca) x.answered pair.rca)
 

@@ -220,10 +220,10 @@ exchange_sound order argument c t u h answer card sound same legal a =
       csd = λ bytes e. csd_holds way order argument t u answer h.csd (says order t.app m) a sound.csd bytes e ∙ same.csd;
       ext_csd = λ bytes emmc e. sound.ext_csd bytes (same.kind ∙ emmc) e ∙ same.ext_csd;
       blocks = λ due.
-      order_announced order h.announced
-      ∙ blocks_hold way order argument t u h.announced (says order t.app m)
-      (λ n e. legal_in_tran way t n (never_ignored order t.app m n e) (λ row by. sym (says order t.app m row by).announces ∙ e) legal)
-      card.transfer sound.blocks came due;
+          order_announced order h.announced
+          ∙ blocks_hold way order argument t u h.announced (says order t.app m)
+          (λ n e. legal_in_tran way t n (never_ignored order t.app m n e) (λ row by. sym (says order t.app m row by).announces ∙ e) legal)
+          card.transfer sound.blocks came due;
       register = λ due. register_holds way order argument t u h.register_length (says order t.app m) sound.register came due;
     }
 
@@ -274,7 +274,7 @@ ext_csd_holds Cut count bytes c h register only size truth old = old
 ext_csd_holds Ok count bytes c h register only size truth old =
     known_now (count == 512) bytes c.ext_csd h.ext_csd
     (λ e. whole_register c.ext_csd bytes register.size (size ∙ eqb-true count 512 e)
-      (subst (λ v. take (length v) bytes ≡ take (length bytes) v) only truth)) old
+    (subst (λ v. take (length v) bytes ≡ take (length bytes) v) only truth)) old
 
 emmc_register : (c : Card) → IsCard c → c.kind ≡ Emmc → IsRegister 512 c.ext_csd
 emmc_register c card emmc = subst (λ k. DataRegisters k c) emmc card.registers
@@ -287,8 +287,8 @@ steps_keep_sound k (SendCommand ask argument) c h (Answered answer) u pair made 
     let e : order_of k ask ≡ Some s.order = subst (λ v. order_of v ask ≡ Some s.order) (sym pair.kind) s.asks.line in
     subst (λ o. Sound u (host_after_order o answer h)) (sym e)
     (exchange_sound s.order argument c t u h answer (settled_is_card c t pair.card s.exchange.settled) (settled_sound c t h s.exchange.settled sound)
-      (became_same way argument t u (became way s.order argument t u answer s.exchange.answered))
-      (subst (λ o. SettledLegal (card_takes t o argument) t) same_order (legal.settled t s.exchange.settled)) s.exchange.answered)
+    (became_same way argument t u (became way s.order argument t u answer s.exchange.answered))
+    (subst (λ o. SettledLegal (card_takes t o argument) t) same_order (legal.settled t s.exchange.settled)) s.exchange.answered)
 steps_keep_sound k (ReceiveBlocks count) c h (BlocksIn end blocks) u pair made legal s sound =
     calm_sound c u h h (steps_keep_same k (ReceiveBlocks count) c (BlocksIn end blocks) u s) (moved_blocks end c u s.moved) (moved_register end c u s.moved)
     sound.csd (λ emmc bytes e. sound.ext_csd bytes emmc e)
@@ -297,8 +297,8 @@ steps_keep_sound k (ReceiveRegister count) c h (RegisterIn end bytes) u pair mad
     (steps_keep_same k (ReceiveRegister count) c (RegisterIn end bytes) u s) (moved_blocks end c u s.moved) (moved_register end c u s.moved)
     sound.csd
     (λ emmc. ext_csd_holds end count bytes c h (emmc_register c pair.card emmc)
-      (only_ext_csd c.transfer c.app c.preset c (subst (λ v. kind_fits v c.transfer c.app c.preset ≡ true) emmc pair.card.kind_rules) s.due)
-      s.size s.truth (λ b e. sound.ext_csd b emmc e))
+    (only_ext_csd c.transfer c.app c.preset c (subst (λ v. kind_fits v c.transfer c.app c.preset ≡ true) emmc pair.card.kind_rules) s.due)
+    s.size s.truth (λ b e. sound.ext_csd b emmc e))
 steps_keep_sound k (GiveBlocks blocks) c h (BlocksOut end) u pair made legal s sound =
     calm_sound c u h h (steps_keep_same k (GiveBlocks blocks) c (BlocksOut end) u s) (written_blocks end c u s.moved) (written_register end c u s.moved)
     sound.csd (λ emmc bytes e. sound.ext_csd bytes emmc e)

@@ -140,10 +140,11 @@ event_legal_back AwaitReady c h made l = l
 pub legal_is_exact : (k : Kind) → LegalIsExact k
 legal_is_exact k event c h pair made =
     let e : fields_of (pair_code c h) ≡ Some (view c h) = fields_law (view c h) pair.flags pair.card.preset in
-    let made_here : Makes c.kind event h = subst (λ v. Makes v event h) pair.kind made in
-    ((λ l. subst (λ v. legal_at k (event_of event) v ≡ true) (sym e)
-        (both_true _ _ (pairs_have_shapes k c h pair)
+    let made_here : Makes c.kind event h = subst (λ v. Makes v event h) pair.kind made in (
+      (λ l. subst (λ v. legal_at k (event_of event) v ≡ true) (sym e)
+          (both_true _ _ (pairs_have_shapes k c h pair)
           (subst (λ v. event_legal v (event_of event) (view c h) ≡ true) (sym pair.kind) (event_legal_law event c h made_here l)))),
-     (λ l. event_legal_back event c h made_here
-        (subst (λ v. event_legal v (event_of event) (view c h) ≡ true) pair.kind
-          (and_right (is_shape k (view c h)) _ (subst (λ v. legal_at k (event_of event) v ≡ true) e l)))))
+      (λ l. event_legal_back event c h made_here
+          (subst (λ v. event_legal v (event_of event) (view c h) ≡ true) pair.kind
+          (and_right (is_shape k (view c h)) _ (subst (λ v. legal_at k (event_of event) v ≡ true) e l)))),
+    )

@@ -110,8 +110,9 @@ from_targets : (ms : List Move) (a b : State) → IsOneOf (targets ms a) b → I
 from_targets [] a b m = absurd m
 from_targets (m ∷ ms) a b t =
     elim (may_if_cases (state_number m.source == state_number a) m.target (targets ms a) b t) [
-      inl e ↦ inl (let s : m.source ≡ a = same_state m.source a (eqb-true _ _ e.0) in let t : m.target ≡ b = e.1 in same_move s t)
-    | inr h ↦ inr (from_targets ms a b h) ]
+      | inl e ↦ inl (let s : m.source ≡ a = same_state m.source a (eqb-true _ _ e.0) in let t : m.target ≡ b = e.1 in same_move s t)
+      | inr h ↦ inr (from_targets ms a b h)
+    ]
 
 pub May-targets : {ms : List Move} {a b : State} → May ms (a to b) → May (targets ms a) b
 May-targets m = record { one = to_targets _ _ _ m.one }

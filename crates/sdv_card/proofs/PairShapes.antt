@@ -21,7 +21,7 @@ unfolding is_shape
 pairs_have_shapes k c h pair =
     both_true _ _
     (both_true _ _
-      (both_true _ _ pair.card.transfer
-        (subst (λ v. kind_fits v c.transfer c.app c.preset ≡ true) (sym pair.kind) pair.card.kind_rules))
-      (match_law c.state c.rca h.rca pair.card.address))
+    (both_true _ _ pair.card.transfer
+    (subst (λ v. kind_fits v c.transfer c.app c.preset ≡ true) (sym pair.kind) pair.card.kind_rules))
+    (match_law c.state c.rca h.rca pair.card.address))
     pair.card.block_length

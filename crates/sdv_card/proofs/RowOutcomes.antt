@@ -65,8 +65,8 @@ pub timed_out : (response : Response) (k : Kind) (order : Order) (row : Row) (ar
 timed_out response k order row argument h t u is other at a =
     May-map (λ v. branch v SeenTimeOut)
     (lost_law response k row argument h (heard order TimeOut h) t u at.kind refl
-      (heard_same order row TimeOut h t.rca at.says (same_unheard row t.rca h.rca (λ e. other (e ∙ sym is)) at.given))
-      (λ m. heard_rca order row TimeOut h u.rca _ at.says (taken_unheard row TimeOut t.rca u.rca h.rca m.rca)) a)
+    (heard_same order row TimeOut h t.rca at.says (same_unheard row t.rca h.rca (λ e. other (e ∙ sym is)) at.given))
+    (λ m. heard_rca order row TimeOut h u.rca _ at.says (taken_unheard row TimeOut t.rca u.rca h.rca m.rca)) a)
 
 -- the card took the row, and the host heard it
 pub heard_taken : (k : Kind) (order : Order) (row : Row) (argument : ℕ) (h : Host) (t u : Card) (answer : Answer) →
@@ -101,10 +101,12 @@ pub status_cases : (k : Kind) (order : Order) (row : Row) (argument : ℕ) (h : 
 status_cases k order row argument h t u answer d is at (inl m) =
     inl (heard_taken k order row argument h t u answer (λ e. let f : NewAddress ≡ CardStatus = e ∙ sym is in cc) at m)
 status_cases k order row argument h t u answer d is at (inr m) =
-    inr (m.0,
-    stayed_law k row (matches t.rca h.rca ∷ []) h (heard order answer h) t u at.kind m.1 refl
-    (here (stayed_match row h (heard order answer h) t u m.1
-        (heard_same order row answer h t.rca at.says (same_status row answer t.rca h.rca is at.given)))))
+    inr (
+      m.0,
+      stayed_law k row (matches t.rca h.rca ∷ []) h (heard order answer h) t u at.kind m.1 refl
+          (here (stayed_match row h (heard order answer h) t u m.1
+          (heard_same order row answer h t.rca at.says (same_status row answer t.rca h.rca is at.given)))),
+    )
 
 -- NEW ADDRESS
 
@@ -115,9 +117,11 @@ pub address_cases : (k : Kind) (argument : ℕ) (h h' : Host) (t u : Card) (word
 address_cases k argument h h' t u word d kind card flags e (inl m) =
     inl (taken_law k Cmd3Sd true argument h h' t u kind m.card flags (here (published_matches u.rca h'.rca (ap Some (sym e) ∙ m.rca))))
 address_cases k argument h h' t u word d kind card flags e (inr m) =
-    inr (m.0,
-    stayed_law k Cmd3Sd (matched_stayed t.state) h h' t u kind m.1 flags
-    (subst (λ v. May (matched_stayed t.state) (matches v h'.rca)) m.1.rca (stayed_matches t.state t.rca h'.rca card.address)))
+    inr (
+      m.0,
+      stayed_law k Cmd3Sd (matched_stayed t.state) h h' t u kind m.1 flags
+          (subst (λ v. May (matched_stayed t.state) (matches v h'.rca)) m.1.rca (stayed_matches t.state t.rca h'.rca card.address)),
+    )
 
 -- CONTENTS
 

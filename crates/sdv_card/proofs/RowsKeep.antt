@@ -55,18 +55,23 @@ reset_rows =
 select_rows : EachMove Cmd7Addressed ((Stby to Tran) ∷ (Dis to Prg) ∷ [])
 select_rows = (
   record { address = λ rca after r a. same_address Tran rca after r a; transfer = λ p x e. e },
-  (record { address = λ rca after r a. same_address Prg rca after r a; transfer = λ p x e. e }, tt))
+  (record { address = λ rca after r a. same_address Prg rca after r a; transfer = λ p x e. e }, tt),
+)
 
 deselect_rows : EachMove Cmd7NotAddressed ((Tran to Stby) ∷ (Prg to Dis) ∷ (Stby to Stby) ∷ [])
 deselect_rows = (
   record { address = λ rca after r a. same_address Stby rca after r a; transfer = λ p x e. e },
-  (record { address = λ rca after r a. same_address Dis rca after r a; transfer = λ p x e. e },
-   (record { address = λ rca after r a. same_address Stby rca after r a; transfer = λ p x e. e }, tt)))
+  (
+    record { address = λ rca after r a. same_address Dis rca after r a; transfer = λ p x e. e },
+    (record { address = λ rca after r a. same_address Stby rca after r a; transfer = λ p x e. e }, tt),
+  ),
+)
 
 stop_rows : EachMove Cmd12 ((Data to Tran) ∷ (Rcv to Prg) ∷ [])
 stop_rows = (
   record { address = λ rca after r a. same_address Tran rca after r a; transfer = λ p x e. refl },
-  (record { address = λ rca after r a. same_address Prg rca after r a; transfer = λ p x e. refl }, tt))
+  (record { address = λ rca after r a. same_address Prg rca after r a; transfer = λ p x e. refl }, tt),
+)
 
 all_send_rows : EachMove Cmd2 ((Ready to Ident) ∷ [])
 all_send_rows = (record { address = λ rca after r a. same_address Ident rca after r a; transfer = λ p x e. e }, tt)
@@ -104,19 +109,23 @@ sd_table Cmd16 a b m =
 sd_table Cmd17 a b m =
     at_move Cmd17 ((Tran to Data) ∷ []) a b (record { address = λ rca after r a. same_address Data rca after r a; transfer = λ p x e. refl }, tt) m
 sd_table (Cmd18 n) a b m =
-    at_move (Cmd18 n) ((Tran to Data) ∷ []) a b
-    (record {
-      address = λ rca after r a. same_address Data rca after r a;
-      transfer = λ p x e. either (λ y. transfer_fits Data y ≡ true) (p == 0) OpenReadDue ReadDue refl refl;
-    }, tt) m
+    at_move (Cmd18 n) ((Tran to Data) ∷ []) a b (
+      record {
+        address = λ rca after r a. same_address Data rca after r a;
+        transfer = λ p x e. either (λ y. transfer_fits Data y ≡ true) (p == 0) OpenReadDue ReadDue refl refl;
+      },
+      tt,
+    ) m
 sd_table Cmd24 a b m =
     at_move Cmd24 ((Tran to Rcv) ∷ []) a b (record { address = λ rca after r a. same_address Rcv rca after r a; transfer = λ p x e. refl }, tt) m
 sd_table (Cmd25 n) a b m =
-    at_move (Cmd25 n) ((Tran to Rcv) ∷ []) a b
-    (record {
-      address = λ rca after r a. same_address Rcv rca after r a;
-      transfer = λ p x e. either (λ y. transfer_fits Rcv y ≡ true) (p == 0) OpenWriteDue WriteDue refl refl;
-    }, tt) m
+    at_move (Cmd25 n) ((Tran to Rcv) ∷ []) a b (
+      record {
+        address = λ rca after r a. same_address Rcv rca after r a;
+        transfer = λ p x e. either (λ y. transfer_fits Rcv y ≡ true) (p == 0) OpenWriteDue WriteDue refl refl;
+      },
+      tt,
+    ) m
 sd_table Cmd32 a b m =
     at_move Cmd32 (unchanged (Tran ∷ [])) a b
     (each_unchanged Cmd32 (λ s. record { address = λ rca after r a. same_address s rca after r a; transfer = λ p x e. e }) (Tran ∷ [])) m
@@ -131,9 +140,10 @@ sd_table Cmd55 a b m =
 sd_table Acmd13 a b m =
     at_move Acmd13 ((Tran to Data) ∷ []) a b (record { address = λ rca after r a. same_address Data rca after r a; transfer = λ p x e. refl }, tt) m
 sd_table (Acmd41 high) a b m =
-    at_move (Acmd41 high) ((Idle to Ready) ∷ (Idle to Idle) ∷ []) a b
-    (record { address = λ rca after r a. same_address Ready rca after r a; transfer = λ p x e. e },
-     (record { address = λ rca after r a. same_address Idle rca after r a; transfer = λ p x e. e }, tt)) m
+    at_move (Acmd41 high) ((Idle to Ready) ∷ (Idle to Idle) ∷ []) a b (
+      record { address = λ rca after r a. same_address Ready rca after r a; transfer = λ p x e. e },
+      (record { address = λ rca after r a. same_address Idle rca after r a; transfer = λ p x e. e }, tt),
+    ) m
 sd_table Acmd51 a b m =
     at_move Acmd51 ((Tran to Data) ∷ []) a b (record { address = λ rca after r a. same_address Data rca after r a; transfer = λ p x e. refl }, tt) m
 sd_table row a b m = absurd m
@@ -141,9 +151,10 @@ sd_table row a b m = absurd m
 emmc_table : (row : Row) (a b : State) → IsOneOf (rows Emmc row) (a to b) → Leads row a b
 emmc_table Cmd0 a b m = at_move Cmd0 (every_to Idle) a b reset_rows m
 emmc_table Cmd1 a b m =
-    at_move Cmd1 ((Idle to Ready) ∷ (Idle to Idle) ∷ []) a b
-    (record { address = λ rca after r a. same_address Ready rca after r a; transfer = λ p x e. e },
-     (record { address = λ rca after r a. same_address Idle rca after r a; transfer = λ p x e. e }, tt)) m
+    at_move Cmd1 ((Idle to Ready) ∷ (Idle to Idle) ∷ []) a b (
+      record { address = λ rca after r a. same_address Ready rca after r a; transfer = λ p x e. e },
+      (record { address = λ rca after r a. same_address Idle rca after r a; transfer = λ p x e. e }, tt),
+    ) m
 emmc_table Cmd2 a b m = at_move Cmd2 ((Ready to Ident) ∷ []) a b all_send_rows m
 emmc_table Cmd3Emmc a b m =
     at_move Cmd3Emmc ((Ident to Stby) ∷ []) a b (record { address = λ rca after r a. given after r; transfer = λ p x e. e }, tt) m

@@ -58,14 +58,14 @@ exchange_law order argument c u h answer card sent given x =
     let way : TakenAs = taken_as_of order t.app (matches t.rca h.rca) in
     May-each (λ f. settled_branches c.kind order f (taken_as_of order f.app f.matched)) (view t h) (settled_law c t h x.settled)
     (settled_answer_law way c.kind order argument h t u answer
-      (ignored_rca order t.app (matches t.rca h.rca) h.rca)
-      (λ row e. record {
-        kind = (settled_same c t x.settled).kind;
-        card = settled_is_card c t card x.settled;
-        says = says order t.app (matches t.rca h.rca) row e;
-        given = given t x.settled row e;
-      })
-      (subst (λ w. SettledAnswer w order argument t answer u) (sent.way t.app t.rca) x.answered))
+    (ignored_rca order t.app (matches t.rca h.rca) h.rca)
+    (λ row e. record {
+      kind = (settled_same c t x.settled).kind;
+      card = settled_is_card c t card x.settled;
+      says = says order t.app (matches t.rca h.rca) row e;
+      given = given t x.settled row e;
+    })
+    (subst (λ w. SettledAnswer w order argument t answer u) (sent.way t.app t.rca) x.answered))
 
 -- PHASES AND WAITS
 
@@ -121,8 +121,8 @@ outcomes_law k event c h returned u pair made given s =
     subst (λ v. May (map outcome_of (branches_at k (event_of event) v)) (outcome_of (branch (view u (host_after k event returned h)) (seen_of k returned))))
     (sym (fields_law (view c h) pair.flags pair.card.preset))
     (May-map outcome_of
-      (subst (λ v. May (event_branches v (event_of event) (view c h)) (branch (view u (host_after v event returned h)) (seen_of v returned))) (sym pair.kind)
-        (event_law event c h returned u pair.card (subst (λ v. Makes v event h) pair.kind made) given s)))
+    (subst (λ v. May (event_branches v (event_of event) (view c h)) (branch (view u (host_after v event returned h)) (seen_of v returned))) (sym pair.kind)
+    (event_law event c h returned u pair.card (subst (λ v. Makes v event h) pair.kind made) given s)))
 
 -- A LEGAL COMMAND gives an address only in identification state, where a card has none
 

@@ -42,11 +42,11 @@ taken_law k row known argument h h' t u kind m flags matched =
     May-each _ u.state
     (May-filter (may_reach row t.block_unit) (May-targets (subst (λ v. May (rows v row) (t.state to u.state)) (sym kind) m.state)) m.reached)
     (May-each _ u.app m.app
-      (May-each _ (u.block_length == 512) (length_law row _ _ _ m.block_length)
-        (May-each _ (matches u.rca h'.rca) matched
-          (subst (λ v. May (with_presets after (preset_after k row t.preset)) v)
-            (same_fields refl m.transfer m.erase m.same.block_unit refl refl refl flags refl)
-            (May-map (λ preset. record after { preset = preset }) (subst (λ v. May (preset_after v row t.preset) u.preset) (sym kind) m.preset))))))
+    (May-each _ (u.block_length == 512) (length_law row _ _ _ m.block_length)
+    (May-each _ (matches u.rca h'.rca) matched
+    (subst (λ v. May (with_presets after (preset_after k row t.preset)) v)
+    (same_fields refl m.transfer m.erase m.same.block_unit refl refl refl flags refl)
+    (May-map (λ preset. record after { preset = preset }) (subst (λ v. May (preset_after v row t.preset) u.preset) (sym kind) m.preset))))))
 
 pub stayed_law : (k : Kind) (row : Row) (ms : List Bool) (h h' : Host) (t u : Card) →
     k ≡ t.kind → Stayed row t u → h.flags ≡ h'.flags → May ms (matches u.rca h'.rca) →
@@ -55,9 +55,9 @@ stayed_law k row ms h h' t u kind m flags matched =
     let after : Fields = record (view t h) { app = false; erase = u.erase; matched = matches u.rca h'.rca } in
     May-each _ u.erase m.erase
     (May-each _ (matches u.rca h'.rca) matched
-      (subst (λ v. May (with_presets after (preset_kept k t.preset)) v)
-        (same_fields m.state m.transfer refl m.same.block_unit (ap (λ n. n == 512) m.block_length) m.app refl flags refl)
-        (May-map (λ preset. record after { preset = preset }) (subst (λ v. May (preset_kept v t.preset) u.preset) (sym kind) m.preset))))
+    (subst (λ v. May (with_presets after (preset_kept k t.preset)) v)
+    (same_fields m.state m.transfer refl m.same.block_unit (ap (λ n. n == 512) m.block_length) m.app refl flags refl)
+    (May-map (λ preset. record after { preset = preset }) (subst (λ v. May (preset_kept v t.preset) u.preset) (sym kind) m.preset))))
 
 pub same_match : (a b : Option ℕ) (m n : ℕ) → a ≡ b → m ≡ n → matches a m ≡ matches b n
 same_match a b m n e f = cc

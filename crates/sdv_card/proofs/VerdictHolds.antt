@@ -136,7 +136,7 @@ verdicts_hold k guard (SendCommand ask argument) c h (Answered answer) u pair fi
     let e : order_of k ask ≡ Some s.order = subst (λ v. order_of v ask ≡ Some s.order) (sym pair.kind) s.asks.line in
     answer_holds k guard s.order answer (subst (λ o. fits_order guard o ≡ true) e fit)
     (answer_fits (card_takes s.exchange.settled_card s.order argument) s.order argument s.exchange.settled_card u answer
-      (λ row by. says s.order s.exchange.settled_card.app (matches s.exchange.settled_card.rca (argument / 65536)) row by) s.exchange.answered)
+    (λ row by. says s.order s.exchange.settled_card.app (matches s.exchange.settled_card.rca (argument / 65536)) row by) s.exchange.answered)
 verdicts_hold k guard (ReceiveBlocks count) c h (BlocksIn Ok blocks) u pair fit s = phase_holds k (ReceiveBlocks count) (BlocksIn Ok blocks) refl guard fit
 verdicts_hold k guard (ReceiveBlocks count) c h (BlocksIn Cut blocks) u pair fit s = phase_holds k (ReceiveBlocks count) (BlocksIn Cut blocks) refl guard fit
 verdicts_hold k guard (ReceiveRegister count) c h (RegisterIn Ok bytes) u pair fit s = phase_holds k (ReceiveRegister count) (RegisterIn Ok bytes) refl guard fit
