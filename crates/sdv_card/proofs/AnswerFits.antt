@@ -1,7 +1,7 @@
 -- What a card's answer to an order is like, as far as a guard's verdict rests on it.
 use Rattle.std.proofs.Common.{◌≡◌, ℕ, ◌%◌, ◌^◌, refl, subst, sym, Bool, true, false}
 use Rattle.sdv_frames.specs.declared.reply.Reply.{Reply}
-use Rattle.sdv_frames.specs.declared.reply.Reply.TheVariants.{R1, R2, R3, R6, R7}
+use Rattle.sdv_frames.specs.declared.reply.Reply.TheVariants.{R1, R7}
 use Rattle.sdv_card.specs.declared.answer.Answer.{Answer}
 use Rattle.sdv_card.specs.declared.answer.Answer.TheVariants.{Sent, TimeOut, Reply as Replied, Damaged}
 use Rattle.sdv_card.specs.declared.command.Order.{Order}

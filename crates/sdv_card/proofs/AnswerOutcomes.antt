@@ -1,7 +1,6 @@
 -- Each exchange of a card is among what may follow the order at the card's fields.
-use Rattle.std.proofs.Common.{◌≡◌, ℕ, ◌/◌, ◌⊎◌, inl, inr, refl, ap, subst, sym, ◌∙◌, Bool, true, false, List, [], ◌∷◌, ◌++◌, map, Option, Some, None, IsTrue}
+use Rattle.std.proofs.Common.{◌≡◌, ℕ, refl, ap, subst, sym, ◌∙◌, true, [], ◌∷◌}
 use Rattle.sdv_registers.specs.declared.kind.Kind.{Kind}
-use Rattle.sdv_frames.specs.declared.reply.Reply.{Reply}
 use Rattle.sdv_frames.specs.declared.reply.Reply.TheVariants.{R1, R3, R6}
 use Rattle.sdv_card.specs.declared.event.Seen.TheVariants.{Sent as SeenSent, TimeOut as SeenTimeOut, Bare}
 use Rattle.sdv_card.specs.declared.answer.Answer.{Answer}
@@ -21,12 +20,11 @@ use Rattle.sdv_card.specs.Status.{in_doubt}
 use Rattle.sdv_card.specs.Seen.{answer_seen, app_of}
 use Rattle.sdv_card.specs.Takes.{matches}
 use Rattle.sdv_card.specs.Card.{Card}
-use Rattle.sdv_card.specs.Host.{Host, host_after_order, rca_known}
+use Rattle.sdv_card.specs.Host.{Host, rca_known}
 use Rattle.sdv_card.specs.Exchange.{RowAnswer, SettledAnswer}
 use Rattle.sdv_card.specs.Shapes.{view}
 use Rattle.sdv_card.specs.Outcomes.{branch, with_seen, taken, stayed, lost, statuses, with_conditions, conditions_seen, unaddressed_seen, row_branches, settled_branches}
-use Rattle.sdv_card.proofs.Members.{here, there, May-append_left, May-append_right, May-map}
-use Rattle.sdv_card.proofs.RowsOfOrders.{Says}
+use Rattle.sdv_card.proofs.Members.{here, May-append_left, May-append_right, May-map}
 use Rattle.sdv_card.proofs.TakenFields.{same_view}
 use Rattle.sdv_card.proofs.RowOutcomes.{AtRow, heard, timed_out, heard_taken, statuses_law, app_law, same_status_seen, status_cases, address_cases, bare_seen, unit_law, conditions_law, unaddressed_law, unseen_cases}
 

@@ -1,5 +1,5 @@
 -- A command leaves a settled card as it is, or the card took a row, or it stayed.
-use Rattle.std.proofs.Common.{◌≡◌, ℕ, ◌/◌, ◌⊎◌, inl, inr, refl, Bool, true, Some}
+use Rattle.std.proofs.Common.{◌≡◌, ℕ, ◌⊎◌, inl, inr, refl, Bool, true}
 use Rattle.sdv_frames.specs.declared.reply.Reply.TheVariants.{R1, R3, R6}
 use Rattle.sdv_card.specs.declared.command.Order.{Order}
 use Rattle.sdv_card.specs.declared.command.Row.{Row}

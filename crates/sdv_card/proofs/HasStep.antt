@@ -1,5 +1,5 @@
 -- A card has a step at each legal event: CMD0 is taken, every other command is lost, a phase is cut, and a wait is late.
-use Rattle.std.proofs.Common.{◌≡◌, ℕ, ◌⊎◌, inl, inr, refl, Bool, true, false, IsTrue, List, [], ◌∷◌, replicate, length, None}
+use Rattle.std.proofs.Common.{◌≡◌, ℕ, inl, refl, Bool, true, false, [], replicate, None}
 use Rattle.std.proofs.lemmas.List.{length-replicate}
 use Rattle.sdv_registers.specs.declared.kind.Kind.{Kind}
 use Rattle.sdv_card.specs.declared.state.State.{State}
@@ -20,16 +20,15 @@ use Rattle.sdv_card.specs.declared.command.Response.TheVariants.{Absent, NotAddr
 use Rattle.sdv_card.specs.declared.command.TakenAs.{TakenAs}
 use Rattle.sdv_card.specs.declared.command.TakenAs.TheVariants.{Forbidden, Ignored, By}
 use Rattle.sdv_card.specs.Lists.{May}
-use Rattle.sdv_card.specs.StateTable.{◌to◌, rows}
-use Rattle.sdv_card.specs.ScriptEvent.{ScriptEvent, SendCommand, ReceiveBlocks, ReceiveRegister, GiveBlocks, AwaitReady, Answered, BlocksIn, RegisterIn, BlocksOut, Waited}
+use Rattle.sdv_card.specs.ScriptEvent.{SendCommand, ReceiveBlocks, ReceiveRegister, GiveBlocks, AwaitReady, Answered, BlocksIn, RegisterIn, BlocksOut, Waited}
 use Rattle.sdv_card.specs.Responses.{response_of}
-use Rattle.sdv_card.specs.Card.{Card, Block, AreBlocks}
+use Rattle.sdv_card.specs.Card.{Card}
 use Rattle.sdv_card.specs.Taken.{Taken, LengthAfter}
 use Rattle.sdv_card.specs.Exchange.{Reset, RowAnswer, SettledAnswer, unaddressed_answer, card_takes}
-use Rattle.sdv_card.specs.Phases.{read_due, register_due, write_due, after_phase, after_wait, Moved, MovedWriting, WaitEnds}
-use Rattle.sdv_card.specs.Legal.{RowLegal, SettledLegal, EventLegal, recv_legal, recv_reg_legal, give_legal, wait_legal}
-use Rattle.sdv_card.specs.Laws.{SomeStep, HasStep}
-use Rattle.sdv_card.proofs.Members.{here, there}
+use Rattle.sdv_card.specs.Phases.{read_due, register_due, write_due, after_phase, after_wait, Moved, MovedWriting}
+use Rattle.sdv_card.specs.Legal.{RowLegal, SettledLegal, recv_legal, recv_reg_legal, give_legal, wait_legal}
+use Rattle.sdv_card.specs.Laws.{HasStep}
+use Rattle.sdv_card.proofs.Members.{here}
 
 -- a card after CMD0
 after_reset : Card → State → Card

@@ -1,8 +1,7 @@
 -- A legal step in bounds keeps the blocks of a transfer on the card.
-use Rattle.std.proofs.Common.{◌≡◌, ℕ, ◌<◌, ◌≤◌, ◌+◌, ◌*◌, ◌/◌, ◌⊎◌, inl, inr, refl, ap, subst, sym, ◌∙◌, Bool, true, false, Option, Some, None, if◌then◌else◌, arith}
+use Rattle.std.proofs.Common.{◌≡◌, ℕ, ◌≤◌, ◌+◌, ◌*◌, ◌/◌, inl, inr, refl, ap, subst, sym, ◌∙◌, Bool, true, false, Some, if◌then◌else◌, arith}
 use Rattle.sdv_registers.specs.declared.kind.Kind.{Kind}
 use Rattle.sdv_card.specs.declared.state.Transfer.{Transfer}
-use Rattle.sdv_card.specs.declared.answer.Answer.{Answer}
 use Rattle.sdv_card.specs.declared.answer.DataEnd.{DataEnd}
 use Rattle.sdv_card.specs.declared.event.Ask.{Ask}
 use Rattle.sdv_card.specs.declared.command.Row.{Row}
@@ -10,12 +9,11 @@ use Rattle.sdv_card.specs.declared.command.Row.TheVariants.{Cmd0, Cmd8Emmc, Cmd1
 use Rattle.sdv_card.specs.declared.command.TakenAs.{TakenAs}
 use Rattle.sdv_card.specs.declared.command.TakenAs.TheVariants.{By}
 use Rattle.sdv_card.specs.Takes.{matches}
-use Rattle.sdv_card.specs.RowRules.{transfer_after}
 use Rattle.sdv_card.specs.CommandTable.{addressed_blocks}
-use Rattle.sdv_card.specs.ScriptEvent.{ScriptEvent, SendCommand, ReceiveBlocks, ReceiveRegister, GiveBlocks, AwaitReady, Return, Answered, BlocksIn, RegisterIn, BlocksOut, Waited}
+use Rattle.sdv_card.specs.ScriptEvent.{SendCommand, ReceiveBlocks, ReceiveRegister, GiveBlocks, AwaitReady, Answered, BlocksIn, RegisterIn, BlocksOut, Waited}
 use Rattle.sdv_card.specs.Card.{Card}
 use Rattle.sdv_card.specs.Settled.{Settled}
-use Rattle.sdv_card.specs.Taken.{SameCard, Taken, Stayed, block_of, SameBlocks, Begins}
+use Rattle.sdv_card.specs.Taken.{SameCard, Taken, block_of, SameBlocks, Begins}
 use Rattle.sdv_card.specs.Exchange.{card_takes}
 use Rattle.sdv_card.specs.Phases.{blocks_due, Moved, MovedWriting}
 use Rattle.sdv_card.specs.Legal.{Within, BlocksWithin, TransferOnCard}
@@ -24,7 +22,7 @@ use Rattle.sdv_card.proofs.Became.{Became, became}
 use Rattle.sdv_card.proofs.Same.{settled_same, same_both, became_same}
 use Rattle.sdv_card.proofs.RowsOfOrders.{row_announces, says}
 use Rattle.sdv_card.proofs.OrdersOfAsks.{of_ask}
-use Rattle.sdv_card.proofs.PhasePlaces.{Calm, calm_place}
+use Rattle.sdv_card.proofs.PhasePlaces.{calm_place}
 
 no_due : (x y : Transfer) → blocks_due x ≡ false → x ≡ y → blocks_due y ≡ true → ⊥
 no_due x y none e due = let f : false ≡ true = sym none ∙ (ap blocks_due e ∙ due) in cc

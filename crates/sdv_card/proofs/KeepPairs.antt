@@ -1,15 +1,14 @@
 -- A step leads from a card beside its host to a card beside its host.
-use Rattle.std.proofs.Common.{◌≡◌, ℕ, ◌<◌, ◌/◌, ◌⊎◌, inl, inr, refl, ap, subst, sym, ◌∙◌, Bool, true, false, List, [], ◌∷◌, Option, Some, ◌==◌}
+use Rattle.std.proofs.Common.{◌≡◌, ℕ, ◌<◌, ◌/◌, inl, inr, refl, subst, sym, ◌∙◌, Bool, true, false, Option, Some, ◌==◌}
 use Rattle.sdv_registers.specs.declared.kind.Kind.{Kind}
 use Rattle.sdv_card.specs.declared.state.State.{State}
 use Rattle.sdv_card.specs.declared.state.State.TheVariants.{Tran, Data, Rcv, Prg}
 use Rattle.sdv_card.specs.declared.state.Place.{Place}
 use Rattle.sdv_card.specs.declared.state.Transfer.{Transfer}
-use Rattle.sdv_card.specs.declared.state.Transfer.TheVariants.{Nothing, ReadDue, OpenReadDue, ScrDue, SdStatusDue, ExtCsdDue, ReadOver, OpenReadOver, WriteDue, OpenWriteDue, WriteOver, OpenWriteOver}
+use Rattle.sdv_card.specs.declared.state.Transfer.TheVariants.{Nothing}
 use Rattle.sdv_card.specs.declared.answer.Answer.{Answer}
 use Rattle.sdv_card.specs.declared.answer.Answer.TheVariants.{TimeOut}
 use Rattle.sdv_card.specs.declared.answer.DataEnd.{DataEnd}
-use Rattle.sdv_card.specs.declared.answer.DataEnd.TheVariants.{Ok, Cut}
 use Rattle.sdv_card.specs.declared.answer.WaitEnd.{WaitEnd}
 use Rattle.sdv_card.specs.declared.answer.WaitEnd.TheVariants.{Ok as Over, Late}
 use Rattle.sdv_card.specs.declared.event.Ask.{Ask}
@@ -18,22 +17,21 @@ use Rattle.sdv_card.specs.declared.command.Row.{Row}
 use Rattle.sdv_card.specs.declared.command.TakenAs.{TakenAs}
 use Rattle.sdv_card.specs.declared.command.TakenAs.TheVariants.{Forbidden, Ignored, By}
 use Rattle.sdv_card.specs.Lists.{May, IsOneOf}
-use Rattle.sdv_card.specs.Takes.{taken_as_of, matches}
+use Rattle.sdv_card.specs.Takes.{matches}
 use Rattle.sdv_card.specs.CommandTable.{order_of}
 use Rattle.sdv_card.specs.RowRules.{transfer_after}
-use Rattle.sdv_card.specs.ScriptEvent.{ScriptEvent, SendCommand, ReceiveBlocks, ReceiveRegister, GiveBlocks, AwaitReady, Return, Answered, BlocksIn, RegisterIn, BlocksOut, Waited}
+use Rattle.sdv_card.specs.ScriptEvent.{SendCommand, ReceiveBlocks, ReceiveRegister, GiveBlocks, AwaitReady, Answered, BlocksIn, RegisterIn, BlocksOut, Waited}
 use Rattle.sdv_card.specs.Card.{Card, IsCard, AddressFits, AreBlocks, transfer_fits, kind_fits, length_fits}
 use Rattle.sdv_card.specs.Host.{Host, host_after, host_after_order, rca_known}
 use Rattle.sdv_card.specs.Taken.{Taken, Stayed}
 use Rattle.sdv_card.specs.Exchange.{SettledAnswer, Exchanges, card_takes}
-use Rattle.sdv_card.specs.Phases.{◌with◌, after_phase, after_wait, Moved, MovedWriting, OnlyAddressed, WaitEnds, register_due}
-use Rattle.sdv_card.specs.Step.{Step}
+use Rattle.sdv_card.specs.Phases.{after_phase, after_wait, Moved, MovedWriting, OnlyAddressed, WaitEnds}
 use Rattle.sdv_card.specs.Shapes.{IsPair}
 use Rattle.sdv_card.specs.Laws.{StepsKeepPairs}
 use Rattle.sdv_card.proofs.Became.{Became, became}
 use Rattle.sdv_card.proofs.Same.{settled_same, became_same, steps_keep_same}
 use Rattle.sdv_card.proofs.SettledCard.{Fits, card_after, kind_of_none, kind_of_blocks, settled_is_card}
-use Rattle.sdv_card.proofs.RowsOfOrders.{says, ignored_rca, row_count, row_rca, order_count}
+use Rattle.sdv_card.proofs.RowsOfOrders.{says, ignored_rca, row_count, row_rca}
 use Rattle.sdv_card.proofs.OrdersOfAsks.{of_ask}
 use Rattle.sdv_card.proofs.RowsKeep.{Leads, leads}
 use Rattle.sdv_card.proofs.PhasePlaces.{Calm, calm_place}

@@ -1,5 +1,5 @@
 -- A legal step keeps true what the host knows of the card.
-use Rattle.std.proofs.Common.{◌≡◌, ℕ, ◌<◌, ◌/◌, ◌⊎◌, inl, inr, refl, ap, subst, sym, ◌∙◌, Bool, true, false, List, [], ◌∷◌, length, take, ◌==◌, eqb-true, Option, Some, None, if◌then◌else◌, arith}
+use Rattle.std.proofs.Common.{◌≡◌, ℕ, ◌<◌, ◌/◌, inl, inr, refl, ap, subst, sym, ◌∙◌, Bool, true, false, List, length, take, ◌==◌, eqb-true, Option, Some, None, if◌then◌else◌, arith}
 use Rattle.std.proofs.lemmas.List.{take_all}
 use Rattle.sdv_registers.specs.declared.kind.Kind.{Kind}
 use Rattle.sdv_registers.specs.declared.kind.Kind.TheVariants.{Sd, Emmc}
@@ -12,30 +12,29 @@ use Rattle.sdv_card.specs.declared.answer.Answer.{Answer}
 use Rattle.sdv_card.specs.declared.answer.Answer.TheVariants.{TimeOut, Reply as Replied}
 use Rattle.sdv_card.specs.declared.answer.DataEnd.{DataEnd}
 use Rattle.sdv_card.specs.declared.answer.DataEnd.TheVariants.{Ok, Cut}
-use Rattle.sdv_card.specs.declared.event.Ask.{Ask}
 use Rattle.sdv_card.specs.declared.command.Order.{Order}
-use Rattle.sdv_card.specs.declared.command.Order.TheVariants.{SendExtCsd, SendCsd, SendStatus, ReadSingleBlock, ReadMultipleBlock, WriteBlock, WriteMultipleBlock, SendScr, AppCommand, SelectCard, SendCid}
+use Rattle.sdv_card.specs.declared.command.Order.TheVariants.{SendExtCsd, SendCsd, SendStatus, ReadSingleBlock, ReadMultipleBlock, WriteBlock, WriteMultipleBlock, SendScr}
 use Rattle.sdv_card.specs.declared.command.Row.{Row}
 use Rattle.sdv_card.specs.declared.command.Row.TheVariants.{Cmd0, Cmd8Emmc, Cmd9, Cmd12, Cmd13, Cmd17, Cmd18, Cmd24, Cmd25, Acmd13, Acmd51}
 use Rattle.sdv_card.specs.declared.command.TakenAs.{TakenAs}
 use Rattle.sdv_card.specs.declared.command.TakenAs.TheVariants.{Forbidden, Ignored, By}
-use Rattle.sdv_card.specs.Lists.{May, IsOneOf}
+use Rattle.sdv_card.specs.Lists.{IsOneOf}
 use Rattle.sdv_card.specs.StateTable.{◌to◌, rows}
 use Rattle.sdv_card.specs.Takes.{taken_as_of, matches}
 use Rattle.sdv_card.specs.RowRules.{transfer_after}
 use Rattle.sdv_card.specs.CommandTable.{order_of}
 use Rattle.sdv_card.specs.Responses.{response_of}
-use Rattle.sdv_card.specs.ScriptEvent.{ScriptEvent, SendCommand, ReceiveBlocks, ReceiveRegister, GiveBlocks, AwaitReady, Return, Answered, BlocksIn, RegisterIn, BlocksOut, Waited}
+use Rattle.sdv_card.specs.ScriptEvent.{SendCommand, ReceiveBlocks, ReceiveRegister, GiveBlocks, AwaitReady, Answered, BlocksIn, RegisterIn, BlocksOut, Waited}
 use Rattle.sdv_card.specs.Card.{Card, IsCard, DataRegisters, IsRegister, transfer_fits, kind_fits}
 use Rattle.sdv_card.specs.Host.{Host, host_after_order, csd_known, ext_csd_known, announced_by, register_length_by}
 use Rattle.sdv_card.specs.Settled.{Settled}
-use Rattle.sdv_card.specs.Taken.{SameCard, Taken, Stayed, BlocksAfter}
-use Rattle.sdv_card.specs.Exchange.{RowAnswer, SettledAnswer, Exchanges, card_takes}
+use Rattle.sdv_card.specs.Taken.{SameCard, BlocksAfter}
+use Rattle.sdv_card.specs.Exchange.{RowAnswer, SettledAnswer, card_takes}
 use Rattle.sdv_card.specs.Phases.{blocks_due, register_due, due_register, RegisterTrue, Moved, MovedWriting}
 use Rattle.sdv_card.specs.Legal.{SettledLegal}
 use Rattle.sdv_card.specs.Laws.{Sound, StepsKeepSound}
 use Rattle.sdv_card.proofs.Became.{Became, became}
-use Rattle.sdv_card.proofs.Same.{settled_same, same_both, became_same, steps_keep_same}
+use Rattle.sdv_card.proofs.Same.{settled_same, became_same, steps_keep_same}
 use Rattle.sdv_card.proofs.SettledCard.{settled_is_card}
 use Rattle.sdv_card.proofs.RowsOfOrders.{Says, says, order_announces, row_announces, row_csd, row_register}
 use Rattle.sdv_card.proofs.PhasePlaces.{calm_place}

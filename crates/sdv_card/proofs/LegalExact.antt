@@ -1,5 +1,5 @@
 -- An event is legal at a card beside its host exactly where it is legal at their code.
-use Rattle.std.proofs.Common.{◌≡◌, ℕ, ◌⊎◌, inl, inr, refl, ap, subst, sym, ◌∙◌, Bool, true, false, ◌==◌, ◌&&◌, ◌↔◌, Option, Some, None, IsTrue}
+use Rattle.std.proofs.Common.{◌≡◌, ℕ, inl, inr, refl, ap, subst, sym, true, false, ◌==◌, ◌&&◌, Option, Some, None}
 use Rattle.sdv_registers.specs.declared.kind.Kind.{Kind}
 use Rattle.sdv_card.specs.declared.state.State.{State}
 use Rattle.sdv_card.specs.declared.state.Transfer.TheVariants.{Nothing}
@@ -11,7 +11,7 @@ use Rattle.sdv_card.specs.declared.command.TakenAs.TheVariants.{Forbidden, Ignor
 use Rattle.sdv_card.specs.Lists.{May, all, has_some}
 use Rattle.sdv_card.specs.States.{own_target}
 use Rattle.sdv_card.specs.StateTable.{rows, targets}
-use Rattle.sdv_card.specs.RowRules.{length_allows, erase_allows, preset_allows}
+use Rattle.sdv_card.specs.RowRules.{length_allows, erase_allows}
 use Rattle.sdv_card.specs.Takes.{taken_as_of, matches}
 use Rattle.sdv_card.specs.CommandTable.{order_of}
 use Rattle.sdv_card.specs.ScriptEvent.{ScriptEvent, SendCommand, ReceiveBlocks, ReceiveRegister, GiveBlocks, AwaitReady, event_of}

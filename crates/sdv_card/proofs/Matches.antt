@@ -1,13 +1,11 @@
 -- Whether a card has the host's relative address, after what a host learns of it.
-use Rattle.std.proofs.Common.{◌≡◌, ℕ, ◌/◌, refl, ap, subst, sym, ◌∙◌, Bool, true, false, List, [], ◌∷◌, Option, Some, None, ◌==◌, rules}
-use Rattle.sdv_frames.specs.declared.reply.Reply.TheVariants.{R6}
+use Rattle.std.proofs.Common.{◌≡◌, ℕ, refl, sym, ◌∙◌, true, false, Option, Some, None, rules}
 use Rattle.sdv_card.specs.declared.state.State.{State}
 use Rattle.sdv_card.specs.declared.state.State.TheVariants.{Ident}
 use Rattle.sdv_card.specs.declared.answer.Answer.{Answer}
 use Rattle.sdv_card.specs.declared.answer.Answer.TheVariants.{TimeOut}
 use Rattle.sdv_card.specs.declared.command.Row.{Row}
 use Rattle.sdv_card.specs.declared.command.Row.TheVariants.{Cmd0, Cmd3Sd, Cmd3Emmc}
-use Rattle.sdv_card.specs.declared.command.Response.{Response}
 use Rattle.sdv_card.specs.declared.command.Response.TheVariants.{Absent, NotAddressed, CardStatus, NewAddress}
 use Rattle.sdv_card.specs.Lists.{May}
 use Rattle.sdv_card.specs.RowRules.{matched_after, matched_stayed}

@@ -1,5 +1,5 @@
 -- Elements of a list stay elements of what is appended, mapped, filtered and looked up.
-use Rattle.std.proofs.Common.{◌≡◌, ℕ, List, [], ◌∷◌, ◌++◌, ◌⊎◌, inl, inr, refl, ap, subst, sym, ◌∙◌, Bool, true, false, map, ◌==◌, ◌&&◌, cond, eqb-true, if◌then◌else◌, IsTrue, rules}
+use Rattle.std.proofs.Common.{◌≡◌, List, [], ◌∷◌, ◌++◌, ◌⊎◌, inl, inr, refl, ap, subst, sym, ◌∙◌, Bool, true, false, map, ◌==◌, ◌&&◌, cond, eqb-true, if◌then◌else◌, rules}
 use Rattle.std.specs.Prelude.{filter}
 use Rattle.sdv_card.specs.declared.state.State.{State}
 use Rattle.sdv_card.specs.declared.state.State.TheVariants.{Idle, Ready, Ident, Stby, Tran, Data, Rcv, Prg, Dis}

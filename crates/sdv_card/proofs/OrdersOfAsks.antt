@@ -1,5 +1,5 @@
 -- What an ask says of the order that it gives, line by line of the command tables.
-use Rattle.std.proofs.Common.{◌≡◌, ℕ, ◌<◌, ◌≤◌, ◌==◌, ◌&&◌, ◌||◌, nat_le, refl, ap, subst, sym, ◌∙◌, Bool, true, false, Option, Some, None, if◌then◌else◌, eqb-true, arith}
+use Rattle.std.proofs.Common.{◌≡◌, ℕ, ◌<◌, ◌≤◌, ◌==◌, ◌&&◌, ◌||◌, nat_le, refl, ap, subst, ◌∙◌, Bool, true, false, Option, Some, None, if◌then◌else◌, eqb-true, arith}
 use Rattle.std.proofs.lemmas.Bool.{leb-true}
 use Rattle.sdv_registers.specs.declared.kind.Kind.{Kind}
 use Rattle.sdv_registers.specs.declared.kind.Kind.TheVariants.{Sd, Emmc}

@@ -1,10 +1,10 @@
 -- The code of a card beside its host is a shape of the kind.
-use Rattle.std.proofs.Common.{◌≡◌, ℕ, refl, sym, subst, Bool, true, false, ◌==◌, ◌&&◌, Option, None}
+use Rattle.std.proofs.Common.{◌≡◌, ℕ, refl, sym, subst, true, Option}
 use Rattle.sdv_registers.specs.declared.kind.Kind.{Kind}
 use Rattle.sdv_card.specs.declared.state.State.{State}
 use Rattle.sdv_card.specs.declared.state.State.TheVariants.{Idle, Ready, Ident}
 use Rattle.sdv_card.specs.Takes.{matches}
-use Rattle.sdv_card.specs.Card.{AddressFits, transfer_fits, kind_fits, length_fits}
+use Rattle.sdv_card.specs.Card.{AddressFits, kind_fits}
 use Rattle.sdv_card.specs.Shapes.{is_shape, match_fits}
 use Rattle.sdv_card.specs.Laws.{PairsHaveShapes}
 use Rattle.sdv_card.proofs.Members.{both_true}

@@ -1,6 +1,5 @@
 -- Each place after a phase has a transfer that fits its state and of which no phase is due, and an address.
-use Rattle.std.proofs.Common.{◌≡◌, ℕ, ◌⊎◌, inl, inr, refl, subst, Bool, true, false, List, [], ◌∷◌, Option}
-use Rattle.sdv_card.specs.declared.state.State.{State}
+use Rattle.std.proofs.Common.{◌≡◌, ℕ, inl, inr, refl, subst, true, false, List, [], ◌∷◌, Option}
 use Rattle.sdv_card.specs.declared.state.State.TheVariants.{Tran, Data, Rcv, Prg}
 use Rattle.sdv_card.specs.declared.state.Place.{Place}
 use Rattle.sdv_card.specs.declared.state.Transfer.{Transfer}

@@ -1,36 +1,33 @@
 -- What comes of a row at a settled card is among what may follow it at the card's fields.
-use Rattle.std.proofs.Common.{◌≡◌, ℕ, ◌/◌, ◌%◌, ◌^◌, ◌⊎◌, inl, inr, refl, ap, subst, sym, ◌∙◌, Bool, true, false, List, [], ◌∷◌, ◌++◌, map, ◌==◌, Option, Some, None, if◌then◌else◌, IsTrue, eq-eqb}
+use Rattle.std.proofs.Common.{◌≡◌, ℕ, ◌/◌, ◌%◌, ◌^◌, ◌⊎◌, inl, inr, refl, ap, subst, sym, ◌∙◌, Bool, true, false, List, [], ◌∷◌, ◌==◌, Option, Some, None, if◌then◌else◌, IsTrue}
 use Rattle.sdv_registers.specs.declared.kind.Kind.{Kind}
 use Rattle.sdv_registers.specs.declared.kind.Kind.TheVariants.{Sd, Emmc}
 use Rattle.sdv_frames.specs.declared.reply.Reply.{Reply}
-use Rattle.sdv_frames.specs.declared.reply.Reply.TheVariants.{R1, R2, R3, R6, R7}
+use Rattle.sdv_frames.specs.declared.reply.Reply.TheVariants.{R2, R7}
 use Rattle.sdv_card.specs.declared.state.State.{State}
 use Rattle.sdv_card.specs.declared.fields.Fields.{Fields}
-use Rattle.sdv_card.specs.declared.event.Seen.{Seen}
-use Rattle.sdv_card.specs.declared.event.Seen.TheVariants.{Sent as SeenSent, TimeOut as SeenTimeOut, Bare, Ocr, Status}
+use Rattle.sdv_card.specs.declared.event.Seen.TheVariants.{TimeOut as SeenTimeOut, Bare, Ocr, Status}
 use Rattle.sdv_card.specs.declared.answer.Answer.{Answer}
-use Rattle.sdv_card.specs.declared.answer.Answer.TheVariants.{Sent, TimeOut, Reply as Replied}
+use Rattle.sdv_card.specs.declared.answer.Answer.TheVariants.{TimeOut, Reply as Replied}
 use Rattle.sdv_card.specs.declared.command.Order.{Order}
 use Rattle.sdv_card.specs.declared.command.Order.TheVariants.{DeselectCards}
 use Rattle.sdv_card.specs.declared.command.Row.{Row}
 use Rattle.sdv_card.specs.declared.command.Row.TheVariants.{Cmd1, Cmd2, Cmd3Sd, Cmd8Sd, Cmd9, Cmd10, Cmd55, Acmd41}
 use Rattle.sdv_card.specs.declared.command.Response.{Response}
-use Rattle.sdv_card.specs.declared.command.Response.TheVariants.{Absent, NotAddressed, CardStatus, NewAddress, Contents, Conditions}
+use Rattle.sdv_card.specs.declared.command.Response.TheVariants.{Absent, NotAddressed, CardStatus, NewAddress, Conditions}
 use Rattle.sdv_card.specs.Lists.{May}
-use Rattle.sdv_card.specs.States.{is_ready}
 use Rattle.sdv_card.specs.StateTable.{◌to◌, rows}
-use Rattle.sdv_card.specs.RowRules.{matched_after, matched_stayed}
+use Rattle.sdv_card.specs.RowRules.{matched_stayed}
 use Rattle.sdv_card.specs.Responses.{response_of, row_index}
-use Rattle.sdv_card.specs.Status.{bit, in_doubt}
 use Rattle.sdv_card.specs.Seen.{app_of, tells_blocks, answer_seen}
 use Rattle.sdv_card.specs.Takes.{matches}
 use Rattle.sdv_card.specs.Card.{Card, IsCard}
 use Rattle.sdv_card.specs.Host.{Host, host_after_order}
 use Rattle.sdv_card.specs.Taken.{Taken, Stayed}
 use Rattle.sdv_card.specs.Agrees.{TakenOrStayed, AppShown, Published, UnitShown, ContentsShown}
-use Rattle.sdv_card.specs.Exchange.{TakenUnseen, RowAnswer, Lost, unaddressed_answer}
+use Rattle.sdv_card.specs.Exchange.{TakenUnseen, Lost, unaddressed_answer}
 use Rattle.sdv_card.specs.Shapes.{view}
-use Rattle.sdv_card.specs.Outcomes.{branch, with_seen, taken, stayed, lost, statuses, status_seen, with_status, with_conditions, conditions_seen, app_shown, unaddressed_seen, row_branches}
+use Rattle.sdv_card.specs.Outcomes.{branch, with_seen, taken, stayed, lost, statuses, status_seen, with_status, app_shown, unaddressed_seen}
 use Rattle.sdv_card.proofs.Members.{here, there, May-append_left, May-append_right, May-map}
 use Rattle.sdv_card.proofs.RowsOfOrders.{Says, row_rca}
 use Rattle.sdv_card.proofs.TakenFields.{taken_law, stayed_law, stayed_match, same_view, lost_law}

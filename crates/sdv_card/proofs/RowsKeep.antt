@@ -1,5 +1,5 @@
 -- Each move of the state tables leads from a state with its address and transfer to a state that these fit after the row.
-use Rattle.std.proofs.Common.{◌≡◌, ℕ, ◌⊎◌, inl, inr, refl, subst, Bool, true, false, List, [], ◌∷◌, Option, Some, None, if◌then◌else◌, ◌==◌, arith}
+use Rattle.std.proofs.Common.{◌≡◌, ℕ, inl, inr, refl, subst, Bool, true, false, List, [], ◌∷◌, Option, Some, if◌then◌else◌, ◌==◌, arith}
 use Rattle.sdv_registers.specs.declared.kind.Kind.{Kind}
 use Rattle.sdv_registers.specs.declared.kind.Kind.TheVariants.{Sd, Emmc}
 use Rattle.sdv_card.specs.declared.state.State.{State}
@@ -11,7 +11,7 @@ use Rattle.sdv_card.specs.declared.command.Row.{Row}
 use Rattle.sdv_card.specs.declared.command.Row.TheVariants.{Cmd0, Cmd1, Cmd2, Cmd3Sd, Cmd3Emmc, Cmd7Addressed, Cmd7NotAddressed, Cmd8Sd, Cmd8Emmc, Cmd9, Cmd10, Cmd12, Cmd13, Cmd16, Cmd17, Cmd18, Cmd23, Cmd24, Cmd25, Cmd32, Cmd33, Cmd35, Cmd36, Cmd38, Cmd55, Acmd13, Acmd41, Acmd51}
 use Rattle.sdv_card.specs.Lists.{IsOneOf}
 use Rattle.sdv_card.specs.StateTable.{◌to◌, unchanged, every_to, rows}
-use Rattle.sdv_card.specs.RowRules.{transfer_after, counted}
+use Rattle.sdv_card.specs.RowRules.{transfer_after}
 use Rattle.sdv_card.specs.Card.{AddressFits, transfer_fits}
 use Rattle.sdv_card.specs.Taken.{RcaAfter}
 

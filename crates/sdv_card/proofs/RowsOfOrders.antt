@@ -1,5 +1,5 @@
 -- What a host learns from an order is said by the row by which a card takes it.
-use Rattle.std.proofs.Common.{◌≡◌, ◌≢◌, ℕ, ◌/◌, refl, subst, Bool, true, false, List, Option, Some, None}
+use Rattle.std.proofs.Common.{◌≡◌, ℕ, ◌/◌, refl, subst, Bool, true, false, List, Option, Some, None}
 use Rattle.sdv_frames.specs.declared.reply.Reply.TheVariants.{R1, R2, R3, R6, R7}
 use Rattle.sdv_card.specs.declared.answer.Answer.{Answer}
 use Rattle.sdv_card.specs.declared.answer.Answer.TheVariants.{Sent, TimeOut, Reply as Replied, Damaged}
@@ -7,10 +7,9 @@ use Rattle.sdv_card.specs.declared.command.Order.{Order}
 use Rattle.sdv_card.specs.declared.command.Order.TheVariants.{GoIdleState, SendOpCond, AllSendCid, SendRelativeAddress, SetRelativeAddress, SelectCard, DeselectCards, SendIfCond, SendExtCsd, SendCsd, SendCid, StopTransmission, SendStatus, SetBlockLength, ReadSingleBlock, ReadMultipleBlock, SetBlockCount, WriteBlock, WriteMultipleBlock, EraseBlockStart, EraseBlockEnd, EraseGroupStart, EraseGroupEnd, Erase, SdSendOpCond, SendScr, AppCommand}
 use Rattle.sdv_card.specs.declared.command.Row.{Row}
 use Rattle.sdv_card.specs.declared.command.Row.TheVariants.{Cmd0, Cmd1, Cmd2, Cmd3Sd, Cmd3Emmc, Cmd7Addressed, Cmd7NotAddressed, Cmd8Sd, Cmd8Emmc, Cmd9, Cmd10, Cmd12, Cmd13, Cmd16, Cmd17, Cmd18, Cmd23, Cmd24, Cmd25, Cmd32, Cmd33, Cmd35, Cmd36, Cmd38, Cmd55, Acmd13, Acmd41, Acmd51}
-use Rattle.sdv_card.specs.declared.command.TakenAs.{TakenAs}
-use Rattle.sdv_card.specs.declared.command.TakenAs.TheVariants.{Forbidden, Ignored, By}
+use Rattle.sdv_card.specs.declared.command.TakenAs.TheVariants.{Ignored, By}
 use Rattle.sdv_card.specs.Takes.{taken_as_of}
-use Rattle.sdv_card.specs.Host.{rca_known, csd_known, announced_by, register_length_by}
+use Rattle.sdv_card.specs.Host.{rca_known, csd_known, register_length_by}
 
 -- the relative address that the host holds after a row
 abbrev pub row_rca : Row → Answer → ℕ → ℕ

@@ -1,18 +1,16 @@
 -- No step changes a card's kind, version, unit, capacity and registers.
-use Rattle.std.proofs.Common.{◌≡◌, ℕ, ◌⊎◌, inl, inr, refl, subst, ◌∙◌}
+use Rattle.std.proofs.Common.{◌≡◌, ℕ, inl, inr, refl, subst, ◌∙◌}
 use Rattle.sdv_registers.specs.declared.kind.Kind.{Kind}
-use Rattle.sdv_card.specs.declared.state.State.{State}
 use Rattle.sdv_card.specs.declared.state.Transfer.TheVariants.{Nothing}
 use Rattle.sdv_card.specs.declared.answer.DataEnd.{DataEnd}
 use Rattle.sdv_card.specs.declared.answer.WaitEnd.{WaitEnd}
 use Rattle.sdv_card.specs.declared.command.TakenAs.{TakenAs}
-use Rattle.sdv_card.specs.ScriptEvent.{ScriptEvent, SendCommand, ReceiveBlocks, ReceiveRegister, GiveBlocks, AwaitReady, Return, Answered, BlocksIn, RegisterIn, BlocksOut, Waited}
+use Rattle.sdv_card.specs.ScriptEvent.{SendCommand, ReceiveBlocks, ReceiveRegister, GiveBlocks, AwaitReady, Answered, BlocksIn, RegisterIn, BlocksOut, Waited}
 use Rattle.sdv_card.specs.Card.{Card}
 use Rattle.sdv_card.specs.Settled.{Settled}
 use Rattle.sdv_card.specs.Taken.{SameCard}
 use Rattle.sdv_card.specs.Phases.{Moved, MovedWriting, WaitEnds}
 use Rattle.sdv_card.specs.Exchange.{card_takes}
-use Rattle.sdv_card.specs.Step.{Step}
 use Rattle.sdv_card.specs.Laws.{StepsKeepSame}
 use Rattle.sdv_card.proofs.Became.{Became, became}
 

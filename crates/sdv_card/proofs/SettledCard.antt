@@ -1,5 +1,5 @@
 -- The rules of a card are kept where only its state, its transfer and the like change, as by its own step.
-use Rattle.std.proofs.Common.{◌≡◌, ℕ, ◌<◌, ◌⊎◌, inl, inr, refl, ap, subst, sym, Bool, true, false, List, length, Option, Some, None, if◌then◌else◌, ◌==◌, IsTrue}
+use Rattle.std.proofs.Common.{◌≡◌, ℕ, ◌<◌, inl, inr, refl, subst, Bool, true, false, Option, Some, None, if◌then◌else◌, ◌==◌}
 use Rattle.sdv_registers.specs.declared.kind.Kind.{Kind}
 use Rattle.sdv_registers.specs.declared.kind.Kind.TheVariants.{Sd, Emmc}
 use Rattle.sdv_card.specs.declared.state.State.{State}
@@ -7,7 +7,7 @@ use Rattle.sdv_card.specs.declared.state.State.TheVariants.{Idle, Ready, Ident, 
 use Rattle.sdv_card.specs.declared.state.Transfer.{Transfer}
 use Rattle.sdv_card.specs.declared.state.Transfer.TheVariants.{Nothing, ScrDue, SdStatusDue, ExtCsdDue}
 use Rattle.sdv_card.specs.States.{is_open, own_target}
-use Rattle.sdv_card.specs.Card.{Card, IsCard, IsRegister, SdRegisters, DataRegisters, AddressFits, AreBlocks, transfer_fits, kind_fits, length_fits}
+use Rattle.sdv_card.specs.Card.{Card, IsCard, IsRegister, DataRegisters, AddressFits, AreBlocks, transfer_fits, kind_fits, length_fits}
 use Rattle.sdv_card.specs.Settled.{Settled}
 use Rattle.sdv_card.specs.Phases.{register_due}
 use Rattle.sdv_card.specs.Taken.{SameCard}

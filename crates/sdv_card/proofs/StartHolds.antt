@@ -1,5 +1,5 @@
 -- A card of the profile before the first command, beside a host that knows nothing, has one of the start shapes.
-use Rattle.std.proofs.Common.{◌≡◌, ℕ, ◌<◌, refl, ap, subst, sym, ◌∙◌, Bool, true, false, List, ◌==◌, Option, Some, None, arith}
+use Rattle.std.proofs.Common.{◌≡◌, ℕ, refl, ap, subst, sym, ◌∙◌, Bool, true, false, ◌==◌, Some, None, arith}
 use Rattle.sdv_registers.specs.declared.kind.Kind.{Kind}
 use Rattle.sdv_card.specs.declared.state.State.TheVariants.{Idle}
 use Rattle.sdv_card.specs.declared.state.Transfer.TheVariants.{Nothing}

@@ -1,11 +1,9 @@
 -- Each step of a card beside its host is among the outcomes at their code.
-use Rattle.std.proofs.Common.{◌≡◌, ℕ, ◌⊎◌, inl, inr, refl, ap, subst, sym, ◌∙◌, Bool, true, false, List, ◌++◌, map, Option, Some, None}
+use Rattle.std.proofs.Common.{◌≡◌, ℕ, inl, inr, ap, subst, sym, ◌∙◌, true, false, ◌++◌, map, Option, Some}
 use Rattle.sdv_registers.specs.declared.kind.Kind.{Kind}
 use Rattle.sdv_registers.specs.declared.kind.Kind.TheVariants.{Sd, Emmc}
 use Rattle.sdv_card.specs.declared.state.State.{State}
 use Rattle.sdv_card.specs.declared.state.State.TheVariants.{Ident}
-use Rattle.sdv_card.specs.declared.event.Ask.{Ask}
-use Rattle.sdv_card.specs.declared.event.Event.TheVariants.{Send}
 use Rattle.sdv_card.specs.declared.answer.Answer.{Answer}
 use Rattle.sdv_card.specs.declared.answer.DataEnd.{DataEnd}
 use Rattle.sdv_card.specs.declared.answer.DataEnd.TheVariants.{Ok, Cut}
@@ -26,7 +24,7 @@ use Rattle.sdv_card.specs.Host.{Host, host_after, host_after_order}
 use Rattle.sdv_card.specs.HostEvents.{Makes}
 use Rattle.sdv_card.specs.Settled.{Settled}
 use Rattle.sdv_card.specs.Exchange.{Exchanges, SettledAnswer, card_takes}
-use Rattle.sdv_card.specs.Phases.{Moved, MovedWriting, WaitEnds, after_phase, after_wait}
+use Rattle.sdv_card.specs.Phases.{Moved, MovedWriting, WaitEnds}
 use Rattle.sdv_card.specs.Legal.{RowLegal, SettledLegal, EventLegal}
 use Rattle.sdv_card.specs.Step.{Step}
 use Rattle.sdv_card.specs.Shapes.{view, pair_code, IsPair}

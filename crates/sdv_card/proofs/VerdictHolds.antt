@@ -1,19 +1,17 @@
 -- What a guard says of an answer is among what it makes of what is seen there.
-use Rattle.std.proofs.Common.{◌≡◌, ℕ, ◌/◌, ◌%◌, ◌^◌, refl, ap, subst, sym, ◌∙◌, Bool, true, false, not, ◌==◌, eq-eqb, eqb-true, Option, Some, None, if◌then◌else◌}
+use Rattle.std.proofs.Common.{◌≡◌, ℕ, ◌/◌, refl, ap, subst, sym, ◌∙◌, Bool, true, false, not, ◌==◌, eq-eqb, eqb-true, Option, Some, None, if◌then◌else◌}
 use Rattle.std.specs.Prelude.{bit_and}
 use Rattle.std.proofs.lemmas.Nat.{and_assoc}
 use Rattle.std.specs.Int.Bits.{and_zero_l}
 use Rattle.sdv_registers.specs.declared.kind.Kind.{Kind}
 use Rattle.sdv_registers.specs.declared.kind.Kind.TheVariants.{Sd, Emmc}
-use Rattle.sdv_frames.specs.declared.reply.Reply.{Reply}
 use Rattle.sdv_frames.specs.declared.reply.Reply.TheVariants.{R1, R2, R3, R6, R7}
 use Rattle.sdv_card.specs.declared.status.TheConstants.{DOUBT_MASK, DOUBT_MASK_R6, CLEAN_MASK_R6}
 use Rattle.sdv_card.specs.declared.guard.Guard.{Guard}
-use Rattle.sdv_card.specs.declared.guard.Guard.TheVariants.{Timeout, Answer as SomeAnswer, Clean, Ready as ReadyForData, App, Echo, OcrReady, OcrBlock, State as InState, Ok as WentWell}
-use Rattle.sdv_card.specs.declared.event.Ask.{Ask}
+use Rattle.sdv_card.specs.declared.guard.Guard.TheVariants.{Clean, Ready as ReadyForData, App, Echo, OcrReady, OcrBlock, State as InState, Ok as WentWell}
 use Rattle.sdv_card.specs.declared.event.Seen.TheVariants.{Status}
 use Rattle.sdv_card.specs.declared.answer.Answer.{Answer}
-use Rattle.sdv_card.specs.declared.answer.Answer.TheVariants.{Sent, TimeOut, Reply as Replied, Damaged}
+use Rattle.sdv_card.specs.declared.answer.Answer.TheVariants.{Reply as Replied, Damaged}
 use Rattle.sdv_card.specs.declared.answer.DataEnd.TheVariants.{Ok, Cut}
 use Rattle.sdv_card.specs.declared.answer.WaitEnd.TheVariants.{Ok as Over, Late}
 use Rattle.sdv_card.specs.declared.command.Order.{Order}
@@ -23,7 +21,6 @@ use Rattle.sdv_card.specs.Status.{bit, state_field, meets, in_doubt, clean_mask,
 use Rattle.sdv_card.specs.Takes.{matches}
 use Rattle.sdv_card.specs.CommandTable.{order_of}
 use Rattle.sdv_card.specs.ScriptEvent.{ScriptEvent, SendCommand, ReceiveBlocks, ReceiveRegister, GiveBlocks, AwaitReady, Return, Answered, BlocksIn, RegisterIn, BlocksOut, Waited}
-use Rattle.sdv_card.specs.Card.{Card}
 use Rattle.sdv_card.specs.Exchange.{card_takes}
 use Rattle.sdv_card.specs.Seen.{seen_of, answer_seen, app_of, tells_blocks}
 use Rattle.sdv_card.specs.Guards.{Verdict, Holds, Fails, Open, guard_fits, answer_passes, passes, exactly, exactly_if_shown, is_set, verdict, may_hold, may_fail}
