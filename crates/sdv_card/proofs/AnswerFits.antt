@@ -15,7 +15,7 @@ use Rattle.sdv_card.specs.declared.command.TakenAs.TheVariants.{Forbidden, Ignor
 use Rattle.sdv_card.specs.Responses.{response_of}
 use Rattle.sdv_card.specs.Card.{Card}
 use Rattle.sdv_card.specs.Exchange.{RowAnswer, SettledAnswer, unaddressed_answer}
-use Rattle.sdv_card.proofs.RowsOfOrders.{Says, is_app_command, is_row_55, is_if_cond, is_row_8}
+use Rattle.sdv_card.proofs.RowsOfOrders.{Says, same_app, same_if_cond, is_app_command, is_row_55, is_if_cond, is_row_8}
 
 -- a status that answers CMD55 repeats its index
 abbrev pub AppFits : Bool → Reply → Type 0
@@ -48,8 +48,8 @@ echo_fits order row argument t u reply a = tt
 reply_fits : (order : Order) (row : Row) (argument : ℕ) (t u : Card) (reply : Reply) → Says order row →
     RowAnswer (response_of row) order row argument t (Replied reply) u → AnswerFits order (Replied reply)
 reply_fits order row argument t u reply says a = (
-  subst (λ b. AppFits b reply) (sym says.app) (app_fits order row argument t u reply a),
-  subst (λ b. EchoFits b reply) (sym says.if_cond) (echo_fits order row argument t u reply a),
+  subst (λ b. AppFits b reply) (sym (same_app says)) (app_fits order row argument t u reply a),
+  subst (λ b. EchoFits b reply) (sym (same_if_cond says)) (echo_fits order row argument t u reply a),
 )
 
 unaddressed_fits : (order : Order) → AnswerFits order (unaddressed_answer order)

@@ -20,7 +20,7 @@ use Rattle.sdv_card.specs.Legal.{Within, BlocksWithin, TransferOnCard}
 use Rattle.sdv_card.specs.Laws.{StepsKeepOnCard}
 use Rattle.sdv_card.proofs.Became.{Became, became}
 use Rattle.sdv_card.proofs.Same.{settled_same, same_both, became_same}
-use Rattle.sdv_card.proofs.RowsOfOrders.{row_announces, says}
+use Rattle.sdv_card.proofs.RowsOfOrders.{same_announces, row_announces, says}
 use Rattle.sdv_card.proofs.OrdersOfAsks.{of_ask}
 use Rattle.sdv_card.proofs.PhasePlaces.{calm_place}
 
@@ -92,7 +92,7 @@ steps_keep_on_card k (SendCommand ask argument) c (Answered answer) u legal boun
     became_on_card way argument c t u (settled_same c t s.exchange.settled)
     (same_both c t u (settled_same c t s.exchange.settled) (became_same way argument t u came))
     (λ row by n e. asked_within ask argument n c
-    ((of_ask c.kind ask s.order s.asks.line).blocks n ((says s.order t.app (matches t.rca (argument / 65536)) row by).announces ∙ e)) bounds)
+    ((of_ask c.kind ask s.order s.asks.line).blocks n (same_announces (says s.order t.app (matches t.rca (argument / 65536)) row by) ∙ e)) bounds)
     came (settled_on_card c t s.exchange.settled on)
 steps_keep_on_card k (ReceiveBlocks count) c (BlocksIn end blocks) u legal bounds s on = moved_on_card end c u s.moved
 steps_keep_on_card k (ReceiveRegister count) c (RegisterIn end bytes) u legal bounds s on = moved_on_card end c u s.moved

@@ -31,7 +31,7 @@ use Rattle.sdv_card.specs.Laws.{StepsKeepPairs}
 use Rattle.sdv_card.proofs.Became.{Became, became}
 use Rattle.sdv_card.proofs.Same.{settled_same, became_same, steps_keep_same}
 use Rattle.sdv_card.proofs.SettledCard.{Fits, card_after, kind_of_none, kind_of_blocks, settled_is_card}
-use Rattle.sdv_card.proofs.RowsOfOrders.{says, ignored_rca, row_count, row_rca}
+use Rattle.sdv_card.proofs.RowsOfOrders.{same_count, says, ignored_rca, row_count, row_rca}
 use Rattle.sdv_card.proofs.OrdersOfAsks.{of_ask}
 use Rattle.sdv_card.proofs.RowsKeep.{Leads, leads}
 use Rattle.sdv_card.proofs.PhasePlaces.{Calm, calm_place}
@@ -184,7 +184,7 @@ exchange_pair k ask order argument c u h answer pair e x =
     let came : Became way argument t u = became way order argument t u answer x.answered in
     pair_after k c u h (host_after_order (Some order) answer h) pair
     (card_became way argument t u
-    (λ row by. subst (λ n. n < 65536) (says order t.app m row by).count (of_ask k ask order e).count)
+    (λ row by. subst (λ n. n < 65536) (same_count (says order t.app m row by)) (of_ask k ask order e).count)
     (settled_is_card c t pair.card x.settled) came)
     ((settled_same c t x.settled).kind ∙ (became_same way argument t u came).kind) refl
     (rca_after way order argument t u answer h.rca (ignored_rca order t.app m h.rca) (λ row by. (says order t.app m row by).rca answer h.rca) x.answered pair.rca)

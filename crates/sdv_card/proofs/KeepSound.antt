@@ -36,7 +36,7 @@ use Rattle.sdv_card.specs.Laws.{Sound, StepsKeepSound}
 use Rattle.sdv_card.proofs.Became.{Became, became}
 use Rattle.sdv_card.proofs.Same.{settled_same, became_same, steps_keep_same}
 use Rattle.sdv_card.proofs.SettledCard.{settled_is_card}
-use Rattle.sdv_card.proofs.RowsOfOrders.{Says, says, order_announces, row_announces, row_csd, row_register}
+use Rattle.sdv_card.proofs.RowsOfOrders.{same_announces, same_register, Says, says, order_announces, row_announces, row_csd, row_register}
 use Rattle.sdv_card.proofs.PhasePlaces.{calm_place}
 
 -- A DUE TRANSFER that is none
@@ -164,7 +164,7 @@ blocks_hold : (way : TakenAs) (order : Order) (argument : ℕ) (t u : Card) (bef
 blocks_hold way order argument t u before say tran fits old (inl e) due =
     stood_blocks (order_announces order) t u before (ap (λ v. v.transfer) e) (ap (λ v. v.announced) e) old tran fits due
 blocks_hold way order argument t u before say tran fits old (inr (inl m)) due =
-    subst (λ o. announce o before ≡ u.announced) (sym (say m.row m.by).announces)
+    subst (λ o. announce o before ≡ u.announced) (sym (same_announces (say m.row m.by)))
     (taken_blocks m.row argument t u before m.taken.transfer m.taken.blocks old due)
 blocks_hold way order argument t u before say tran fits old (inr (inr m)) due =
     stood_blocks (order_announces order) t u before m.stayed.transfer m.stayed.blocks.count_is old tran fits due
@@ -199,7 +199,7 @@ register_holds : (way : TakenAs) (order : Order) (argument : ℕ) (t u : Card) (
     (register_due t.transfer ≡ true → 0 < before) → Became way argument t u → register_due u.transfer ≡ true → 0 < register_length_by order before
 register_holds way order argument t u before say old (inl e) due = longer order before (old (ap (λ v. register_due v.transfer) e ∙ due))
 register_holds way order argument t u before say old (inr (inl m)) due =
-    subst (λ n. 0 < n) (sym ((say m.row m.by).register before))
+    subst (λ n. 0 < n) (sym (same_register (say m.row m.by) before))
     (taken_register m.row t.preset t.transfer u.transfer before m.taken.transfer old due)
 register_holds way order argument t u before say old (inr (inr m)) due = longer order before (old (ap register_due m.stayed.transfer ∙ due))
 
@@ -221,7 +221,7 @@ exchange_sound order argument c t u h answer card sound same legal a =
       blocks = λ due.
           order_announced order h.announced
           ∙ blocks_hold way order argument t u h.announced (says order t.app m)
-          (λ n e. legal_in_tran way t n (never_ignored order t.app m n e) (λ row by. sym (says order t.app m row by).announces ∙ e) legal)
+          (λ n e. legal_in_tran way t n (never_ignored order t.app m n e) (λ row by. sym (same_announces (says order t.app m row by)) ∙ e) legal)
           card.transfer sound.blocks came due;
       register = λ due. register_holds way order argument t u h.register_length (says order t.app m) sound.register came due;
     }

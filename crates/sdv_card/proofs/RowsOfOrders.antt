@@ -1,5 +1,5 @@
 -- What a host learns from an order is said by the row by which a card takes it.
-use Rattle.std.proofs.Common.{◌≡◌, ℕ, ◌/◌, refl, subst, Bool, true, false, List, Option, Some, None}
+use Rattle.std.proofs.Common.{◌≡◌, ℕ, ◌/◌, refl, ap, subst, Bool, true, false, List, Option, Some, None}
 use Rattle.sdv_frames.specs.declared.reply.Reply.TheVariants.{R1, R2, R3, R6, R7}
 use Rattle.sdv_card.specs.declared.answer.Answer.{Answer}
 use Rattle.sdv_card.specs.declared.answer.Answer.TheVariants.{Sent, TimeOut, Reply as Replied, Damaged}
@@ -83,15 +83,58 @@ abbrev pub row_gives_address : Row → Bool
 row_gives_address Cmd3Emmc = true
 row_gives_address row = false
 
+-- the parts of what an order says that do not depend on an answer
+pub record Parts : Type 0 where
+  pub announces : Option ℕ
+  pub count : ℕ
+  pub register : ℕ → ℕ
+  pub app : Bool
+  pub if_cond : Bool
+  pub gives : Bool
+
+abbrev pub order_parts : Order → Parts
+order_parts order = record {
+  announces = order_announces order;
+  count = order_count order;
+  register = λ before. register_length_by order before;
+  app = is_app_command order;
+  if_cond = is_if_cond order;
+  gives = gives_address order;
+}
+
+abbrev pub row_parts : Row → Parts
+row_parts row = record {
+  announces = row_announces row;
+  count = row_count row;
+  register = λ before. row_register row before;
+  app = is_row_55 row;
+  if_cond = is_row_8 row;
+  gives = row_gives_address row;
+}
+
+-- the order says what the row says
 pub record Says (order : Order) (row : Row) : Type 0 where
   pub rca : (answer : Answer) (n : ℕ) → rca_known order answer n ≡ row_rca row answer n
   pub csd : (answer : Answer) (csd : Option (List ℕ)) → csd_known order answer csd ≡ row_csd row answer csd
-  pub announces : order_announces order ≡ row_announces row
-  pub count : order_count order ≡ row_count row
-  pub register : (n : ℕ) → register_length_by order n ≡ row_register row n
-  pub app : is_app_command order ≡ is_row_55 row
-  pub if_cond : is_if_cond order ≡ is_row_8 row
-  pub gives : gives_address order ≡ row_gives_address row
+  pub parts : order_parts order ≡ row_parts row
+
+pub same_announces : {order : Order} {row : Row} → Says order row → order_announces order ≡ row_announces row
+same_announces s = ap (λ p. p.announces) s.parts
+
+pub same_count : {order : Order} {row : Row} → Says order row → order_count order ≡ row_count row
+same_count s = ap (λ p. p.count) s.parts
+
+pub same_register : {order : Order} {row : Row} → Says order row → (before : ℕ) → register_length_by order before ≡ row_register row before
+same_register s before = ap (λ p. p.register before) s.parts
+
+pub same_app : {order : Order} {row : Row} → Says order row → is_app_command order ≡ is_row_55 row
+same_app s = ap (λ p. p.app) s.parts
+
+pub same_if_cond : {order : Order} {row : Row} → Says order row → is_if_cond order ≡ is_row_8 row
+same_if_cond s = ap (λ p. p.if_cond) s.parts
+
+pub same_gives : {order : Order} {row : Row} → Says order row → gives_address order ≡ row_gives_address row
+same_gives s = ap (λ p. p.gives) s.parts
 
 published : (answer : Answer) (n : ℕ) → rca_known SendRelativeAddress answer n ≡ row_rca Cmd3Sd answer n
 published Sent n = refl
@@ -116,45 +159,41 @@ shown (Replied (R7 word)) csd = refl
 at : (r row : Row) (order : Order) → By r ≡ By row →
     ((answer : Answer) (n : ℕ) → rca_known order answer n ≡ row_rca r answer n) →
     ((answer : Answer) (csd : Option (List ℕ)) → csd_known order answer csd ≡ row_csd r answer csd) →
-    order_announces order ≡ row_announces r → order_count order ≡ row_count r →
-    ((n : ℕ) → register_length_by order n ≡ row_register r n) → is_app_command order ≡ is_row_55 r →
-    is_if_cond order ≡ is_row_8 r → gives_address order ≡ row_gives_address r → Says order row
-at r row order e rca csd announces count register app if_cond gives =
-    let f : r ≡ row = cc in
-    subst (λ v. Says order v) f
-    (record { rca = rca; csd = csd; announces = announces; count = count; register = register; app = app; if_cond = if_cond; gives = gives })
+    order_parts order ≡ row_parts r → Says order row
+at r row order e rca csd parts =
+    let f : r ≡ row = cc in subst (λ v. Says order v) f (record { rca = rca; csd = csd; parts = parts })
 
 -- an order and the row by which a card takes it say the same
 pub says : (order : Order) (app matched : Bool) (row : Row) → taken_as_of order app matched ≡ By row → Says order row
-says GoIdleState app matched row e = at Cmd0 row GoIdleState e (λ a n. refl) (λ a n. refl) refl refl (λ n. refl) refl refl refl
-says AppCommand app true row e = at Cmd55 row AppCommand e (λ a n. refl) (λ a n. refl) refl refl (λ n. refl) refl refl refl
-says SendStatus true matched row e = at Acmd13 row SendStatus e (λ a n. refl) (λ a n. refl) refl refl (λ n. refl) refl refl refl
-says (SdSendOpCond high) true matched row e = at (Acmd41 high) row (SdSendOpCond high) e (λ a n. refl) (λ a n. refl) refl refl (λ n. refl) refl refl refl
-says SendScr true matched row e = at Acmd51 row SendScr e (λ a n. refl) (λ a n. refl) refl refl (λ n. refl) refl refl refl
-says SendOpCond false matched row e = at Cmd1 row SendOpCond e (λ a n. refl) (λ a n. refl) refl refl (λ n. refl) refl refl refl
-says AllSendCid false matched row e = at Cmd2 row AllSendCid e (λ a n. refl) (λ a n. refl) refl refl (λ n. refl) refl refl refl
-says SendRelativeAddress false matched row e = at Cmd3Sd row SendRelativeAddress e published (λ a n. refl) refl refl (λ n. refl) refl refl refl
-says SetRelativeAddress false matched row e = at Cmd3Emmc row SetRelativeAddress e (λ a n. refl) (λ a n. refl) refl refl (λ n. refl) refl refl refl
-says SelectCard false true row e = at Cmd7Addressed row SelectCard e (λ a n. refl) (λ a n. refl) refl refl (λ n. refl) refl refl refl
-says SelectCard false false row e = at Cmd7NotAddressed row SelectCard e (λ a n. refl) (λ a n. refl) refl refl (λ n. refl) refl refl refl
-says DeselectCards false matched row e = at Cmd7NotAddressed row DeselectCards e (λ a n. refl) (λ a n. refl) refl refl (λ n. refl) refl refl refl
-says SendIfCond false matched row e = at Cmd8Sd row SendIfCond e (λ a n. refl) (λ a n. refl) refl refl (λ n. refl) refl refl refl
-says SendExtCsd false matched row e = at Cmd8Emmc row SendExtCsd e (λ a n. refl) (λ a n. refl) refl refl (λ n. refl) refl refl refl
-says SendCsd false true row e = at Cmd9 row SendCsd e (λ a n. refl) shown refl refl (λ n. refl) refl refl refl
-says SendCid false true row e = at Cmd10 row SendCid e (λ a n. refl) (λ a n. refl) refl refl (λ n. refl) refl refl refl
-says StopTransmission false matched row e = at Cmd12 row StopTransmission e (λ a n. refl) (λ a n. refl) refl refl (λ n. refl) refl refl refl
-says SendStatus false true row e = at Cmd13 row SendStatus e (λ a n. refl) (λ a n. refl) refl refl (λ n. refl) refl refl refl
-says SetBlockLength false matched row e = at Cmd16 row SetBlockLength e (λ a n. refl) (λ a n. refl) refl refl (λ n. refl) refl refl refl
-says ReadSingleBlock false matched row e = at Cmd17 row ReadSingleBlock e (λ a n. refl) (λ a n. refl) refl refl (λ n. refl) refl refl refl
-says (ReadMultipleBlock count) false matched row e = at (Cmd18 count) row (ReadMultipleBlock count) e (λ a n. refl) (λ a n. refl) refl refl (λ n. refl) refl refl refl
-says (SetBlockCount count) false matched row e = at (Cmd23 count) row (SetBlockCount count) e (λ a n. refl) (λ a n. refl) refl refl (λ n. refl) refl refl refl
-says WriteBlock false matched row e = at Cmd24 row WriteBlock e (λ a n. refl) (λ a n. refl) refl refl (λ n. refl) refl refl refl
-says (WriteMultipleBlock count) false matched row e = at (Cmd25 count) row (WriteMultipleBlock count) e (λ a n. refl) (λ a n. refl) refl refl (λ n. refl) refl refl refl
-says EraseBlockStart false matched row e = at Cmd32 row EraseBlockStart e (λ a n. refl) (λ a n. refl) refl refl (λ n. refl) refl refl refl
-says EraseBlockEnd false matched row e = at Cmd33 row EraseBlockEnd e (λ a n. refl) (λ a n. refl) refl refl (λ n. refl) refl refl refl
-says EraseGroupStart false matched row e = at Cmd35 row EraseGroupStart e (λ a n. refl) (λ a n. refl) refl refl (λ n. refl) refl refl refl
-says EraseGroupEnd false matched row e = at Cmd36 row EraseGroupEnd e (λ a n. refl) (λ a n. refl) refl refl (λ n. refl) refl refl refl
-says Erase false matched row e = at Cmd38 row Erase e (λ a n. refl) (λ a n. refl) refl refl (λ n. refl) refl refl refl
+says GoIdleState app matched row e = at Cmd0 row GoIdleState e (λ a n. refl) (λ a v. refl) refl
+says AppCommand app true row e = at Cmd55 row AppCommand e (λ a n. refl) (λ a v. refl) refl
+says SendStatus true matched row e = at Acmd13 row SendStatus e (λ a n. refl) (λ a v. refl) refl
+says (SdSendOpCond high) true matched row e = at (Acmd41 high) row (SdSendOpCond high) e (λ a n. refl) (λ a v. refl) refl
+says SendScr true matched row e = at Acmd51 row SendScr e (λ a n. refl) (λ a v. refl) refl
+says SendOpCond false matched row e = at Cmd1 row SendOpCond e (λ a n. refl) (λ a v. refl) refl
+says AllSendCid false matched row e = at Cmd2 row AllSendCid e (λ a n. refl) (λ a v. refl) refl
+says SendRelativeAddress false matched row e = at Cmd3Sd row SendRelativeAddress e published (λ a v. refl) refl
+says SetRelativeAddress false matched row e = at Cmd3Emmc row SetRelativeAddress e (λ a n. refl) (λ a v. refl) refl
+says SelectCard false true row e = at Cmd7Addressed row SelectCard e (λ a n. refl) (λ a v. refl) refl
+says SelectCard false false row e = at Cmd7NotAddressed row SelectCard e (λ a n. refl) (λ a v. refl) refl
+says DeselectCards false matched row e = at Cmd7NotAddressed row DeselectCards e (λ a n. refl) (λ a v. refl) refl
+says SendIfCond false matched row e = at Cmd8Sd row SendIfCond e (λ a n. refl) (λ a v. refl) refl
+says SendExtCsd false matched row e = at Cmd8Emmc row SendExtCsd e (λ a n. refl) (λ a v. refl) refl
+says SendCsd false true row e = at Cmd9 row SendCsd e (λ a n. refl) shown refl
+says SendCid false true row e = at Cmd10 row SendCid e (λ a n. refl) (λ a v. refl) refl
+says StopTransmission false matched row e = at Cmd12 row StopTransmission e (λ a n. refl) (λ a v. refl) refl
+says SendStatus false true row e = at Cmd13 row SendStatus e (λ a n. refl) (λ a v. refl) refl
+says SetBlockLength false matched row e = at Cmd16 row SetBlockLength e (λ a n. refl) (λ a v. refl) refl
+says ReadSingleBlock false matched row e = at Cmd17 row ReadSingleBlock e (λ a n. refl) (λ a v. refl) refl
+says (ReadMultipleBlock count) false matched row e = at (Cmd18 count) row (ReadMultipleBlock count) e (λ a n. refl) (λ a v. refl) refl
+says (SetBlockCount count) false matched row e = at (Cmd23 count) row (SetBlockCount count) e (λ a n. refl) (λ a v. refl) refl
+says WriteBlock false matched row e = at Cmd24 row WriteBlock e (λ a n. refl) (λ a v. refl) refl
+says (WriteMultipleBlock count) false matched row e = at (Cmd25 count) row (WriteMultipleBlock count) e (λ a n. refl) (λ a v. refl) refl
+says EraseBlockStart false matched row e = at Cmd32 row EraseBlockStart e (λ a n. refl) (λ a v. refl) refl
+says EraseBlockEnd false matched row e = at Cmd33 row EraseBlockEnd e (λ a n. refl) (λ a v. refl) refl
+says EraseGroupStart false matched row e = at Cmd35 row EraseGroupStart e (λ a n. refl) (λ a v. refl) refl
+says EraseGroupEnd false matched row e = at Cmd36 row EraseGroupEnd e (λ a n. refl) (λ a v. refl) refl
+says Erase false matched row e = at Cmd38 row Erase e (λ a n. refl) (λ a v. refl) refl
 says AppCommand app false row e = absurd (cc)
 says SendCsd false false row e = absurd (cc)
 says SendCid false false row e = absurd (cc)

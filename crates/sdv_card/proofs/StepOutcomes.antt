@@ -36,7 +36,7 @@ use Rattle.sdv_card.proofs.Members.{May-append_left, May-append_right, May-map, 
 use Rattle.sdv_card.proofs.Same.{settled_same}
 use Rattle.sdv_card.proofs.SettledCard.{settled_is_card}
 use Rattle.sdv_card.proofs.AddressSent.{AddressSent, address_sent}
-use Rattle.sdv_card.proofs.RowsOfOrders.{says, ignored_rca, row_gives_address}
+use Rattle.sdv_card.proofs.RowsOfOrders.{same_gives, says, ignored_rca, row_gives_address}
 use Rattle.sdv_card.proofs.OrdersOfAsks.{of_ask}
 use Rattle.sdv_card.proofs.Matches.{GivenAddress}
 use Rattle.sdv_card.proofs.LegalExact.{settled_law}
@@ -164,7 +164,7 @@ not_given row rca e = tt
 
 sd_gives : (event : ScriptEvent) (c : Card) (h : Host) → c.kind ≡ Sd → EventGivesAddress event c h
 sd_gives (SendCommand ask argument) c h kind = λ order e t settles row by.
-    not_given row t.rca (sym (says order t.app (matches t.rca h.rca) row by).gives ∙ (of_ask c.kind ask order e).gives kind)
+    not_given row t.rca (sym (same_gives (says order t.app (matches t.rca h.rca) row by)) ∙ (of_ask c.kind ask order e).gives kind)
 sd_gives (ReceiveBlocks count) c h kind = tt
 sd_gives (ReceiveRegister count) c h kind = tt
 sd_gives (GiveBlocks blocks) c h kind = tt
