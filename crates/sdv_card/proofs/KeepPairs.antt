@@ -194,16 +194,16 @@ steps_keep_pairs k (SendCommand ask argument) c h (Answered answer) u pair made 
     let e : order_of k ask ≡ Some s.order = subst (λ v. order_of v ask ≡ Some s.order) (sym pair.kind) s.asks.line in
     subst (λ o. IsPair k u (host_after_order o answer h)) (sym e) (exchange_pair k ask s.order argument c u h answer pair e s.exchange)
 steps_keep_pairs k (ReceiveBlocks count) c h (BlocksIn end blocks) u pair made s =
-    let same = steps_keep_same k (ReceiveBlocks count) c (BlocksIn end blocks) u s in
+    let same = steps_keep_same k (ReceiveBlocks count) c (BlocksIn end blocks) u pair.kind s in
     pair_after k c u h h pair (card_after c u pair.card same (fits_moved c u end pair.card s.moved)) same.kind refl pair.rca
 steps_keep_pairs k (ReceiveRegister count) c h (RegisterIn end bytes) u pair made s =
-    let same = steps_keep_same k (ReceiveRegister count) c (RegisterIn end bytes) u s in
+    let same = steps_keep_same k (ReceiveRegister count) c (RegisterIn end bytes) u pair.kind s in
     pair_after k c u h (host_after k (ReceiveRegister count) (RegisterIn end bytes) h) pair
     (card_after c u pair.card same (fits_moved c u end pair.card s.moved)) same.kind refl pair.rca
 steps_keep_pairs k (GiveBlocks blocks) c h (BlocksOut end) u pair made s =
-    let same = steps_keep_same k (GiveBlocks blocks) c (BlocksOut end) u s in
+    let same = steps_keep_same k (GiveBlocks blocks) c (BlocksOut end) u pair.kind s in
     pair_after k c u h h pair (card_after c u pair.card same (fits_moved_writing c u end pair.card s.others s.moved)) same.kind refl pair.rca
 steps_keep_pairs k AwaitReady c h (Waited end) u pair made s =
-    let same = steps_keep_same k AwaitReady c (Waited end) u s in
+    let same = steps_keep_same k AwaitReady c (Waited end) u pair.kind s in
     pair_after k c u h h pair (card_after c u pair.card same (fits_waited c u end pair.card s)) same.kind refl pair.rca
 steps_keep_pairs k event c h returned u pair made s = absurd s

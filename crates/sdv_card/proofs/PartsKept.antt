@@ -1,7 +1,10 @@
 -- What a row leaves of the preset count, the application flag, the block length and the contents keeps the rules of a card.
-use Rattle.std.proofs.Common.{◌≡◌, ℕ, ◌<◌, ◌/◌, ◌^◌, inl, inr, refl, ap, subst, sym, Bool, true, false, not, List, [], ◌∷◌, ◌==◌, arith}
+use Rattle.std.proofs.Common.{◌≡◌, ℕ, ◌<◌, ◌/◌, ◌%◌, ◌^◌, inl, inr, refl, ap, subst, sym, Bool, true, false, not, List, [], ◌∷◌, ◌==◌, arith}
 use Rattle.sdv_registers.specs.declared.kind.Kind.{Kind}
 use Rattle.sdv_registers.specs.declared.kind.Kind.TheVariants.{Sd, Emmc}
+use Rattle.std.proofs.lemmas.Nat.{mod_below}
+use Rattle.sdv_registers.specs.Status.{rca as published_rca}
+use Rattle.sdv_registers.proofs.FieldLaws.{field-bits}
 use Rattle.sdv_frames.specs.declared.reply.Reply.TheVariants.{R6}
 use Rattle.sdv_card.specs.declared.state.State.{State}
 use Rattle.sdv_card.specs.declared.state.Transfer.{Transfer}
@@ -128,12 +131,14 @@ contents_kept row capacity contents after m b = subst (λ v. AreBlocks capacity 
 
 -- THE HOST'S ADDRESS
 
-high_half_small : (word : ℕ) → word < 2 ^ 32 → word / 65536 < 65536
-high_half_small word small = omega arith
+published_small : (word : ℕ) → published_rca word < 65536
+published_small word =
+    let e : published_rca word ≡ word / 2 ^ 16 % 2 ^ 16 = field-bits 31 31 16 word (omega arith) (omega arith) in
+    subst (λ n. n < 65536) (sym e) (mod_below (word / 2 ^ 16) (2 ^ 16) (omega arith))
 
 pub rca_small : (order : Order) (row : Row) (argument : ℕ) (t u : Card) (answer : Answer) (rca : ℕ) →
     RowAnswer (response_of row) order row argument t answer u → rca < 65536 → row_rca row answer rca < 65536
 rca_small order Cmd0 argument t u answer rca a small = omega arith
-rca_small order Cmd3Sd argument t u (Replied (R6 word)) rca a small = high_half_small word a.is_word
+rca_small order Cmd3Sd argument t u (Replied (R6 word)) rca a small = published_small word
 rca_small order Cmd3Emmc argument t u answer rca a small = omega arith
 rca_small order row argument t u answer rca a small = small

@@ -1,9 +1,11 @@
 -- What comes of a row at a settled card is among what may follow it at the card's fields.
-use Rattle.std.proofs.Common.{◌≡◌, ℕ, ◌/◌, ◌%◌, ◌^◌, ◌⊎◌, inl, inr, refl, ap, subst, sym, ◌∙◌, Bool, true, false, List, [], ◌∷◌, ◌==◌, Option, Some, None, if◌then◌else◌, IsTrue}
+use Rattle.std.proofs.Common.{◌≡◌, ℕ, ◌⊎◌, inl, inr, refl, ap, subst, sym, ◌∙◌, Bool, true, false, List, [], ◌∷◌, ◌==◌, Option, Some, None, if◌then◌else◌, IsTrue}
 use Rattle.sdv_registers.specs.declared.kind.Kind.{Kind}
 use Rattle.sdv_registers.specs.declared.kind.Kind.TheVariants.{Sd, Emmc}
 use Rattle.sdv_frames.specs.declared.reply.Reply.{Reply}
 use Rattle.sdv_frames.specs.declared.reply.Reply.TheVariants.{R2, R7}
+use Rattle.sdv_registers.specs.Status.{rca as published_rca}
+use Rattle.sdv_registers.specs.Ocr.{access_mode, is_block_addressed}
 use Rattle.sdv_card.specs.declared.state.State.{State}
 use Rattle.sdv_card.specs.declared.fields.Fields.{Fields}
 use Rattle.sdv_card.specs.declared.event.Seen.TheVariants.{TimeOut as SeenTimeOut, Bare, Ocr, Status}
@@ -19,7 +21,7 @@ use Rattle.sdv_card.specs.Lists.{May}
 use Rattle.sdv_card.specs.StateTable.{◌to◌, rows}
 use Rattle.sdv_card.specs.RowRules.{matched_stayed}
 use Rattle.sdv_card.specs.Responses.{response_of, row_index}
-use Rattle.sdv_card.specs.Seen.{app_of, tells_blocks, answer_seen}
+use Rattle.sdv_card.specs.Seen.{app_of, answer_seen}
 use Rattle.sdv_card.specs.Takes.{matches}
 use Rattle.sdv_card.specs.Card.{Card, IsCard}
 use Rattle.sdv_card.specs.Host.{Host, host_after_order}
@@ -108,7 +110,7 @@ status_cases k order row argument h t u answer d is at (inr m) =
 -- NEW ADDRESS
 
 pub address_cases : (k : Kind) (argument : ℕ) (h h' : Host) (t u : Card) (word : ℕ) (d : Bool) → k ≡ t.kind → IsCard t → h.flags ≡ h'.flags →
-    word / 65536 ≡ h'.rca → Published Cmd3Sd argument t word u ⊎ ((d ≡ true) × Stayed Cmd3Sd t u) →
+    published_rca word ≡ h'.rca → Published Cmd3Sd argument t word u ⊎ ((d ≡ true) × Stayed Cmd3Sd t u) →
     May (taken k Cmd3Sd true (view t h)) (view u h')
     ⊎ ((d ≡ true) × May (stayed k Cmd3Sd (matched_stayed t.state) (view t h)) (view u h'))
 address_cases k argument h h' t u word d kind card flags e (inl m) =
@@ -136,9 +138,9 @@ emmc_unit true n e = rw e refl
 emmc_unit false n e = rw e refl
 
 pub unit_law : (k : Kind) (row : Row) (word : ℕ) (unit : Bool) (a b : State) → Conditions ≡ response_of row → May (rows k row) (a to b) →
-    UnitShown row word unit → tells_blocks k word ≡ unit
+    UnitShown row word unit → is_block_addressed k word ≡ unit
 unit_law Sd (Acmd41 high) word unit a b is m e = e
-unit_law Emmc Cmd1 word unit a b is m e = emmc_unit unit (word / 2 ^ 29 % 4) e
+unit_law Emmc Cmd1 word unit a b is m e = emmc_unit unit (access_mode word) e
 unit_law Sd Cmd1 word unit a b is m e = absurd m.one
 unit_law Emmc (Acmd41 high) word unit a b is m e = absurd m.one
 unit_law k row word unit a b is m e = absurd (cc)

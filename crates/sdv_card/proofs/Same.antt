@@ -63,12 +63,12 @@ wait_same end c u w =
     (record { kind = refl; version = refl; block_unit = refl; capacity = refl; csd = refl; cid = refl; ext_csd = refl; scr = refl; sd_status = refl }) w.card
 
 pub steps_keep_same : (k : Kind) → StepsKeepSame k
-steps_keep_same k (SendCommand ask argument) c (Answered answer) u s =
+steps_keep_same k (SendCommand ask argument) c (Answered answer) u kind s =
     let t : Card = s.exchange.settled_card in
     same_both c t u (settled_same c t s.exchange.settled)
     (became_same (card_takes t s.order argument) argument t u (became (card_takes t s.order argument) s.order argument t u answer s.exchange.answered))
-steps_keep_same k (ReceiveBlocks count) c (BlocksIn end blocks) u s = moved_same end c u s.moved
-steps_keep_same k (ReceiveRegister count) c (RegisterIn end bytes) u s = moved_same end c u s.moved
-steps_keep_same k (GiveBlocks blocks) c (BlocksOut end) u s = moved_writing_same end c u s.moved
-steps_keep_same k AwaitReady c (Waited end) u s = wait_same end c u s
-steps_keep_same k event c returned u s = absurd s
+steps_keep_same k (ReceiveBlocks count) c (BlocksIn end blocks) u kind s = moved_same end c u s.moved
+steps_keep_same k (ReceiveRegister count) c (RegisterIn end bytes) u kind s = moved_same end c u s.moved
+steps_keep_same k (GiveBlocks blocks) c (BlocksOut end) u kind s = moved_writing_same end c u s.moved
+steps_keep_same k AwaitReady c (Waited end) u kind s = wait_same end c u s
+steps_keep_same k event c returned u kind s = absurd s

@@ -9,3 +9,4 @@ pub use Rattle.sdv_card.proofs.KeepSound.{steps_keep_sound}
 pub use Rattle.sdv_card.proofs.KeepOnCard.{steps_keep_on_card}
 pub use Rattle.sdv_card.proofs.StartHolds.{starts_hold}
 pub use Rattle.sdv_card.proofs.VerdictHolds.{verdicts_hold}
+pub use Rattle.sdv_card.proofs.StepsExpected.{steps_are_expected}

@@ -6,7 +6,8 @@ use Rattle.std.specs.Int.Bits.{and_zero_l}
 use Rattle.sdv_registers.specs.declared.kind.Kind.{Kind}
 use Rattle.sdv_registers.specs.declared.kind.Kind.TheVariants.{Sd, Emmc}
 use Rattle.sdv_frames.specs.declared.reply.Reply.TheVariants.{R1, R2, R3, R6, R7}
-use Rattle.sdv_card.specs.declared.status.TheConstants.{DOUBT_MASK, DOUBT_MASK_R6, CLEAN_MASK_R6}
+use Rattle.sdv_registers.specs.Status.{state as state_field, is_app_cmd, doubt_mask, clean_mask, doubt_mask_r6, clean_mask_r6}
+use Rattle.sdv_registers.specs.Ocr.{is_powered_up, is_block_addressed}
 use Rattle.sdv_card.specs.declared.guard.Guard.{Guard}
 use Rattle.sdv_card.specs.declared.guard.Guard.TheVariants.{Clean, Ready as ReadyForData, App, Echo, OcrReady, OcrBlock, State as InState, Ok as WentWell}
 use Rattle.sdv_card.specs.declared.event.Seen.TheVariants.{Status}
@@ -17,12 +18,12 @@ use Rattle.sdv_card.specs.declared.answer.WaitEnd.TheVariants.{Ok as Over, Late}
 use Rattle.sdv_card.specs.declared.command.Order.{Order}
 use Rattle.sdv_card.specs.declared.command.Order.TheVariants.{SendIfCond, AppCommand}
 use Rattle.sdv_card.specs.States.{state_number}
-use Rattle.sdv_card.specs.Status.{bit, state_field, meets, in_doubt, clean_mask, is_clean}
+use Rattle.sdv_card.specs.Status.{in_doubt, is_clean}
 use Rattle.sdv_card.specs.Takes.{matches}
 use Rattle.sdv_card.specs.CommandTable.{order_of}
 use Rattle.sdv_card.specs.ScriptEvent.{ScriptEvent, SendCommand, ReceiveBlocks, ReceiveRegister, GiveBlocks, AwaitReady, Return, Answered, BlocksIn, RegisterIn, BlocksOut, Waited}
 use Rattle.sdv_card.specs.Exchange.{card_takes}
-use Rattle.sdv_card.specs.Seen.{seen_of, answer_seen, app_of, tells_blocks}
+use Rattle.sdv_card.specs.Seen.{seen_of, answer_seen, app_of}
 use Rattle.sdv_card.specs.Guards.{Verdict, Holds, Fails, Open, guard_fits, answer_passes, passes, exactly, exactly_if_shown, is_set, verdict, may_hold, may_fail}
 use Rattle.sdv_card.specs.Laws.{VerdictHolds, VerdictsHold, fits_order}
 use Rattle.sdv_card.proofs.RowsOfOrders.{says}
@@ -54,17 +55,17 @@ met_zero : (word wide narrow : ℕ) → bit_and wide narrow ≡ narrow → bit_a
 met_zero word wide narrow part none =
     ap (λ m. bit_and word m) (sym part) ∙ (sym (and_assoc narrow word wide) ∙ (ap (λ m. bit_and m narrow) none ∙ and_zero_l narrow))
 
-met_test : (b : Bool) (word wide narrow : ℕ) → (bit_and word wide == 0) ≡ b → bit_and wide narrow ≡ narrow → meets word narrow ≡ true → not b ≡ true
-met_test false word wide narrow e part met = refl
-met_test true word wide narrow e part met =
-    let zero_there : bit_and word narrow ≡ 0 = met_zero word wide narrow part (eqb-true _ _ e) in
-    let f : not (bit_and word narrow == 0) ≡ false = ap not (eq-eqb _ _ zero_there) in
-    absurd (let g : false ≡ true = sym f ∙ met in cc)
+-- a word that has a bit of a part of a mask has a bit of the mask
+met_wider : (word wide narrow : ℕ) → bit_and wide narrow ≡ narrow → not (bit_and word narrow == 0) ≡ true → (bit_and word wide == 0) ≡ false
+met_wider word wide narrow part met = go (bit_and word wide == 0) refl
+  where
+    go : (b : Bool) → (bit_and word wide == 0) ≡ b → b ≡ false
+    go false e = refl
+    go true e =
+        let f : not (bit_and word narrow == 0) ≡ false = ap not (eq-eqb _ _ (met_zero word wide narrow part (eqb-true _ _ e))) in
+        absurd (let g : false ≡ true = sym f ∙ met in cc)
 
-met_wider : (word wide narrow : ℕ) → bit_and wide narrow ≡ narrow → meets word narrow ≡ true → not (meets word wide) ≡ false
-met_wider word wide narrow part met = ap not (met_test (bit_and word wide == 0) word wide narrow refl part met)
-
-part_of_clean : (k : Kind) → bit_and (clean_mask k) DOUBT_MASK ≡ DOUBT_MASK
+part_of_clean : (k : Kind) → bit_and (clean_mask k) doubt_mask ≡ doubt_mask
 part_of_clean Sd = refl
 part_of_clean Emmc = refl
 
@@ -74,8 +75,8 @@ clean_agrees false clean state app f = tt
 
 -- PARTS THAT ARE SHOWN
 
-app_agrees : (index word : ℕ) → index ≡ 55 → Agree (bit 5 word) (exactly (is_set (app_of index word)))
-app_agrees index word e = subst (λ n. Agree (bit 5 word) (exactly (is_set (app_of n word)))) (sym e) (exactly_agrees (bit 5 word))
+app_agrees : (index word : ℕ) → index ≡ 55 → Agree (is_app_cmd word) (exactly (is_set (app_of index word)))
+app_agrees index word e = subst (λ n. Agree (is_app_cmd word) (exactly (is_set (app_of n word)))) (sym e) (exactly_agrees (is_app_cmd word))
 
 block_agrees : (ready block : Bool) → Agree block (exactly_if_shown (if ready then Some block else None))
 block_agrees true block = exactly_agrees block
@@ -88,9 +89,9 @@ answer_agrees : (k : Kind) (guard : Guard) (order : Order) (answer : Answer) →
 answer_agrees k guard order (Damaged fault) fit f = absurd f
 answer_agrees k WentWell order answer fit f = absurd (let g : false ≡ true = fit in cc)
 answer_agrees k Clean order (Replied (R1 index word)) fit f =
-    clean_agrees (in_doubt (R1 index word)) (is_clean k (R1 index word)) (state_field word) (app_of index word) (λ d. met_wider word (clean_mask k) DOUBT_MASK (part_of_clean k) d)
+    clean_agrees (in_doubt (R1 index word)) (is_clean k (R1 index word)) (state_field word) (app_of index word) (λ d. met_wider word (clean_mask k) doubt_mask (part_of_clean k) d)
 answer_agrees k Clean order (Replied (R6 word)) fit f =
-    clean_agrees (in_doubt (R6 word)) (is_clean k (R6 word)) (state_field word) None (λ d. met_wider word CLEAN_MASK_R6 DOUBT_MASK_R6 refl d)
+    clean_agrees (in_doubt (R6 word)) (is_clean k (R6 word)) (state_field word) None (λ d. met_wider word clean_mask_r6 doubt_mask_r6 refl d)
 answer_agrees k ReadyForData order (Replied (R1 index word)) fit f = tt
 answer_agrees k ReadyForData order (Replied (R6 word)) fit f = tt
 answer_agrees k App AppCommand (Replied (R1 index word)) fit f = app_agrees index word f.0
@@ -99,8 +100,8 @@ answer_agrees k Echo SendIfCond (Replied (R7 word)) fit f = eq-eqb _ _ f.1
 answer_agrees k Echo SendIfCond (Replied (R2 bytes)) fit f = absurd f.1
 answer_agrees k Echo order (Replied (R7 word)) fit f = absurd (let g : false ≡ true = fit in cc)
 answer_agrees k Echo order (Replied (R2 bytes)) fit f = absurd (let g : false ≡ true = fit in cc)
-answer_agrees k OcrReady order (Replied (R3 word)) fit f = exactly_agrees (bit 31 word)
-answer_agrees k OcrBlock order (Replied (R3 word)) fit f = block_agrees (bit 31 word) (tells_blocks k word)
+answer_agrees k OcrReady order (Replied (R3 word)) fit f = exactly_agrees (is_powered_up word)
+answer_agrees k OcrBlock order (Replied (R3 word)) fit f = block_agrees (is_powered_up word) (is_block_addressed k word)
 answer_agrees k (InState s) order (Replied (R1 index word)) fit f = exactly_agrees (state_field word == state_number s)
 answer_agrees k (InState s) order (Replied (R6 word)) fit f = exactly_agrees (state_field word == state_number s)
 answer_agrees k guard order (Replied (R1 index word)) fit f = refl

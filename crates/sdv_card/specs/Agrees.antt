@@ -1,8 +1,10 @@
 -- Which responses a card gives, by the settled card t before the row and the card u after it.
 -- SD Physical Layer Simplified Specification, sections 4.9 (responses), 4.10.1 (card status), 4.2.3.1 (ACMD41) and 5.1 (OCR);
--- JESD84-B51, sections 6.12, 6.13, 6.4.2 and 7.1. What a doubt leaves open is this project's profile. All bits of which
+-- JESD84-B51, sections 6.12, 6.13, 6.4 and 7.1. What a doubt leaves open is this project's profile. All bits of which
 -- nothing is said here are free.
-use Rattle.std.specs.Prelude.{◌≡◌, ◌<◌, ◌⊎◌, ◌/◌, ◌%◌, ◌^◌, ◌&&◌, not, Bool, true, IsTrue, ℕ, Some, if◌then◌else◌}
+use Rattle.std.specs.Prelude.{◌≡◌, ◌<◌, ◌⊎◌, ◌%◌, ◌^◌, ◌&&◌, not, Bool, true, IsTrue, ℕ, Some, if◌then◌else◌}
+use Rattle.sdv_registers.specs.Status.{state as state_field, is_app_cmd, rca as published_rca}
+use Rattle.sdv_registers.specs.Ocr.{is_powered_up, ccs, access_mode, voltage_windows}
 use Rattle.sdv_frames.specs.declared.reply.Reply.{Reply}
 use Rattle.sdv_frames.specs.declared.reply.Reply.TheVariants.{R1, R2, R3, R6, R7}
 use Rattle.sdv_card.specs.declared.state.State.TheVariants.{Tran}
@@ -12,7 +14,7 @@ use Rattle.sdv_card.specs.declared.command.Response.{Response}
 use Rattle.sdv_card.specs.declared.command.Response.TheVariants.{CardStatus, NewAddress, Contents, Conditions}
 use Rattle.sdv_card.specs.States.{state_number, is_ready}
 use Rattle.sdv_card.specs.Responses.{row_index}
-use Rattle.sdv_card.specs.Status.{bit, state_field, in_doubt}
+use Rattle.sdv_card.specs.Status.{in_doubt}
 use Rattle.sdv_card.specs.Card.{Card}
 use Rattle.sdv_card.specs.Taken.{Taken, Stayed}
 
@@ -30,7 +32,7 @@ TakenOrStayed row argument t doubt u = Taken row argument t u ⊎ ((doubt ≡ tr
 
 -- bit 5 of a response to CMD55 is the application flag of u
 abbrev pub AppShown : Row → ℕ → Card → Type 0
-AppShown Cmd55 word u = bit 5 word ≡ u.app
+AppShown Cmd55 word u = is_app_cmd word ≡ u.app
 AppShown row word u = Unit {0}
 
 -- R1: the index of the command, and the state in which it was received
@@ -45,7 +47,7 @@ pub record StatusAgrees (row : Row) (argument : ℕ) (t : Card) (index word : �
 -- an SD card that took CMD3 shows its new relative address in bits 31..16
 pub record Published (row : Row) (argument : ℕ) (t : Card) (word : ℕ) (u : Card) : Type 0 where
   pub card : Taken row argument t u
-  pub rca : Some (word / 65536) ≡ u.rca
+  pub rca : Some (published_rca word) ≡ u.rca
 
 -- R6: a card that stayed shows any number there
 pub record AddressAgrees (row : Row) (argument : ℕ) (t : Card) (word : ℕ) (u : Card) : Type 0 where
@@ -56,14 +58,14 @@ pub record AddressAgrees (row : Row) (argument : ℕ) (t : Card) (word : ℕ) (u
 
 -- the unit in an OCR: bit 30 of an SD card; bits 30..29 of an e.MMC device, 10 for block and 00 for byte addresses
 abbrev pub UnitShown : Row → ℕ → Bool → Type 0
-UnitShown Cmd1 word block_unit = word / 2 ^ 29 % 4 ≡ (if block_unit then 2 else 0)
-UnitShown row word block_unit = bit 30 word ≡ block_unit
+UnitShown Cmd1 word block_unit = access_mode word ≡ (if block_unit then 2 else 0)
+UnitShown row word block_unit = ccs word ≡ block_unit
 
 -- R3: all voltage windows; ready exactly where the card goes to ready, and then with the unit
 pub record ConditionsAgree (row : Row) (argument : ℕ) (t : Card) (word : ℕ) (u : Card) : Type 0 where
   pub is_word : IsWord word
-  pub windows : word / 2 ^ 15 % 2 ^ 9 ≡ 511
-  pub ready : bit 31 word ≡ is_ready u.state
+  pub windows : voltage_windows word ≡ 511
+  pub ready : is_powered_up word ≡ is_ready u.state
   pub unit : IsTrue (is_ready u.state) → UnitShown row word u.block_unit
   pub card : Taken row argument t u
   pub error : t.doubt ≡ u.doubt

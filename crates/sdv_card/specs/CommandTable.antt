@@ -31,7 +31,7 @@ order_if is order rest = if is then Some order else rest
 
 abbrev pub sd_order : Ask → Option Order
 sd_order ask =
-    --                index aim   argument   count
+    -- by index, aim, argument and count
     order_if (is_line ask 0 Plain 0 0) GoIdleState (
     order_if (is_line ask 2 Plain 0 0) AllSendCid (
     order_if (is_line ask 3 Plain 0 0) SendRelativeAddress (
@@ -57,7 +57,7 @@ sd_order ask =
 
 abbrev pub emmc_order : Ask → Option Order
 emmc_order ask =
-    --                index aim   argument   count
+    -- by index, aim, argument and count
     order_if (is_line ask 0 Plain 0 0) GoIdleState (
     order_if (is_line ask 1 Plain 0 0) SendOpCond (
     order_if (is_line ask 2 Plain 0 0) AllSendCid (

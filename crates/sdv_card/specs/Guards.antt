@@ -2,6 +2,8 @@
 -- SD Physical Layer Simplified Specification, sections 4.10.1 and 5.1; JESD84-B51, sections 6.13 and 7.1.
 use Rattle.std.specs.Prelude.{Bool, true, false, ◌%◌, ◌^◌, ◌==◌, Option, Some, None}
 use Rattle.sdv_registers.specs.declared.kind.Kind.{Kind}
+use Rattle.sdv_registers.specs.Status.{state as state_field, is_ready_for_data, is_app_cmd}
+use Rattle.sdv_registers.specs.Ocr.{is_powered_up, is_block_addressed}
 use Rattle.sdv_frames.specs.declared.reply.Reply.{Reply}
 use Rattle.sdv_frames.specs.declared.reply.Reply.TheVariants.{R1, R3, R6, R7}
 use Rattle.sdv_card.specs.declared.guard.Guard.{Guard}
@@ -15,8 +17,7 @@ use Rattle.sdv_card.specs.declared.answer.Answer.TheVariants.{Sent as WasSent, T
 use Rattle.sdv_card.specs.declared.answer.DataEnd.TheVariants.{Ok}
 use Rattle.sdv_card.specs.declared.answer.WaitEnd.TheVariants.{Ok as Over}
 use Rattle.sdv_card.specs.States.{state_number}
-use Rattle.sdv_card.specs.Status.{bit, state_field, is_clean}
-use Rattle.sdv_card.specs.Seen.{tells_blocks}
+use Rattle.sdv_card.specs.Status.{is_clean}
 use Rattle.sdv_card.specs.ScriptEvent.{Return, Answered, BlocksIn, RegisterIn, BlocksOut, Waited}
 
 -- WHICH GUARDS FIT: `ok` belongs to phases and waits alone
@@ -56,12 +57,12 @@ guard_fits guard order = false
 abbrev pub reply_passes : Kind → Guard → Reply → Bool
 reply_passes k SomeAnswer reply = true
 reply_passes k Clean reply = is_clean k reply
-reply_passes k ReadyForData (R1 index word) = bit 8 word
-reply_passes k ReadyForData (R6 word) = bit 8 word
-reply_passes k App (R1 index word) = bit 5 word
+reply_passes k ReadyForData (R1 index word) = is_ready_for_data word
+reply_passes k ReadyForData (R6 word) = is_ready_for_data word
+reply_passes k App (R1 index word) = is_app_cmd word
 reply_passes k Echo (R7 word) = word % 2 ^ 12 == 0x1aa
-reply_passes k OcrReady (R3 word) = bit 31 word
-reply_passes k OcrBlock (R3 word) = tells_blocks k word
+reply_passes k OcrReady (R3 word) = is_powered_up word
+reply_passes k OcrBlock (R3 word) = is_block_addressed k word
 reply_passes k (InState s) (R1 index word) = state_field word == state_number s
 reply_passes k (InState s) (R6 word) = state_field word == state_number s
 reply_passes k guard reply = false

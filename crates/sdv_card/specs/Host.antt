@@ -1,7 +1,8 @@
 -- What a host knows of a card, beside the script's variables and flags; how an event changes it; and when it is true.
--- SD Physical Layer Simplified Specification, sections 4.2.3 and 4.3.1; JESD84-B51, sections 6.4.2 and 6.6.
-use Rattle.std.specs.Prelude.{◌==◌, ◌/◌, ℕ, List, Option, Some, None, if◌then◌else◌}
+-- SD Physical Layer Simplified Specification, sections 4.2.3 and 4.3.1; JESD84-B51, sections 6.4 and 6.6.
+use Rattle.std.specs.Prelude.{◌==◌, ℕ, List, Option, Some, None, if◌then◌else◌}
 use Rattle.sdv_registers.specs.declared.kind.Kind.{Kind}
+use Rattle.sdv_registers.specs.Status.{rca as published_rca}
 use Rattle.sdv_frames.specs.declared.reply.Reply.TheVariants.{R2, R6}
 use Rattle.sdv_card.specs.declared.command.Order.{Order}
 use Rattle.sdv_card.specs.declared.command.Order.TheVariants.{GoIdleState, SendRelativeAddress, SetRelativeAddress, SendCsd, SendExtCsd, SendStatus, SendScr, ReadSingleBlock, ReadMultipleBlock, WriteBlock, WriteMultipleBlock}
@@ -30,7 +31,7 @@ pub record Host : Type 0 where
 -- the relative address: an SD card publishes it, an e.MMC device is given 1, be the command lost or not
 abbrev pub rca_known : Order → Answer → ℕ → ℕ
 rca_known GoIdleState answer rca = 0
-rca_known SendRelativeAddress (Reply (R6 word)) rca = word / 65536
+rca_known SendRelativeAddress (Reply (R6 word)) rca = published_rca word
 rca_known SetRelativeAddress answer rca = 1
 rca_known order answer rca = rca
 

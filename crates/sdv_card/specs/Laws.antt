@@ -10,6 +10,7 @@ use Rattle.sdv_card.specs.Card.{Card}
 use Rattle.sdv_card.specs.Host.{Host, host_after}
 use Rattle.sdv_card.specs.ScriptEvent.{ScriptEvent, SendCommand, Return, event_of}
 use Rattle.sdv_card.specs.CommandTable.{order_of}
+use Rattle.sdv_card.specs.Expected.{Expected}
 use Rattle.sdv_card.specs.HostEvents.{Makes}
 use Rattle.sdv_card.specs.Taken.{SameCard}
 use Rattle.sdv_card.specs.Phases.{blocks_due, register_due}
@@ -56,6 +57,11 @@ StepsAreOutcomes k = (event : ScriptEvent) (c : Card) (h : Host) (returned : Ret
     IsPair k c h → Makes k event h → Step event c returned u →
     May (outcomes_code k (pair_code c h) (event_of event)) (outcome_of (branch (view u (host_after k event returned h)) (seen_of k returned)))
 
+-- what each step returns is what the host waits for
+abbrev pub StepsAreExpected : Kind → Type 0
+StepsAreExpected k = (event : ScriptEvent) (c : Card) (returned : Return) (u : Card) →
+    k ≡ c.kind → Step event c returned u → Expected k event returned
+
 -- a step leads from a card beside its host to a card beside its host
 abbrev pub StepsKeepPairs : Kind → Type 0
 StepsKeepPairs k = (event : ScriptEvent) (c : Card) (h : Host) (returned : Return) (u : Card) →
@@ -63,7 +69,7 @@ StepsKeepPairs k = (event : ScriptEvent) (c : Card) (h : Host) (returned : Retur
 
 -- a step changes neither the size of a card nor its registers
 abbrev pub StepsKeepSame : Kind → Type 0
-StepsKeepSame k = (event : ScriptEvent) (c : Card) (returned : Return) (u : Card) → Step event c returned u → SameCard c u
+StepsKeepSame k = (event : ScriptEvent) (c : Card) (returned : Return) (u : Card) → k ≡ c.kind → Step event c returned u → SameCard c u
 
 -- a legal step keeps what the host knows true
 abbrev pub StepsKeepSound : Kind → Type 0
@@ -72,8 +78,8 @@ StepsKeepSound k = (event : ScriptEvent) (c : Card) (h : Host) (returned : Retur
 
 -- a legal step in bounds keeps the blocks of a transfer on the card
 abbrev pub StepsKeepOnCard : Kind → Type 0
-StepsKeepOnCard k = (event : ScriptEvent) (c : Card) (returned : Return) (u : Card) →
-    EventLegal event c → InBounds event c → Step event c returned u → TransferOnCard c → TransferOnCard u
+StepsKeepOnCard k = (event : ScriptEvent) (c : Card) (h : Host) (returned : Return) (u : Card) →
+    IsPair k c h → EventLegal event c → InBounds event c → Step event c returned u → TransferOnCard c → TransferOnCard u
 
 -- before the first command
 pub record StartHolds (k : Kind) (c : Card) (h : Host) : Type 0 where

@@ -1,5 +1,5 @@
 -- When an event is legal at a card, and when it is in bounds.
--- SD Physical Layer Simplified Specification, sections 4.3.3 to 4.3.5, 4.3.9 and 4.8; JESD84-B51, sections 6.6.7 to 6.6.9
+-- SD Physical Layer Simplified Specification, sections 4.3.3 to 4.3.5, 4.3.9 and 4.8; JESD84-B51, sections 6.6
 -- and 6.11. That an event must be legal also after the card's own step is this project's profile.
 use Rattle.std.specs.Prelude.{◌≡◌, ◌<◌, ◌≤◌, ◌+◌, ◌*◌, ◌==◌, Bool, true, false, IsTrue, ℕ, length, Option, Some, None, if◌then◌else◌}
 use Rattle.sdv_card.specs.declared.state.State.{State}
@@ -87,6 +87,11 @@ InBounds (ReceiveRegister count) c = 0 < count
 InBounds (GiveBlocks blocks) c = length blocks ≡ c.announced
 InBounds AwaitReady c = Unit {0}
 
--- the blocks of a transfer that is due lie on the card, as legal commands in bounds leave it
+-- the card has the blocks that its transfer addresses, which are some
+pub record HasBlocks (c : Card) : Type 0 where
+  pub some : 0 < c.announced
+  pub room : c.next_block + c.announced ≤ c.capacity
+
+-- so it is where a block phase is due, as legal commands in bounds leave it
 abbrev pub TransferOnCard : Card → Type 0
-TransferOnCard c = IsTrue (blocks_due c.transfer) → c.next_block + c.announced ≤ c.capacity
+TransferOnCard c = IsTrue (blocks_due c.transfer) → HasBlocks c

@@ -7,8 +7,8 @@ pub mod RowRules
 pub mod Responses
 pub mod Status
 pub mod Card
-pub mod CsdCapacity
 pub mod ScriptEvent
+pub mod Expected
 pub mod Host
 pub mod HostEvents
 pub mod Profile
@@ -27,3 +27,4 @@ pub mod Seen
 pub mod Guards
 pub mod Laws
 pub mod Port
+pub mod BringUp

@@ -1,6 +1,6 @@
 -- Data phases and waits: what a card sends and stores, and where it is afterwards.
 -- SD Physical Layer Simplified Specification, sections 4.3.3 (data read), 4.3.4 (data write) and 4.10.2 (SD status);
--- JESD84-B51, sections 6.6.7, 6.6.8 and 7.4. What a cut phase and a wait leave is this project's profile.
+-- JESD84-B51, sections 6.6 and 7.4. What a cut phase and a wait leave is this project's profile.
 use Rattle.std.specs.Prelude.{◌≡◌, ◌⊎◌, ◌+◌, Bool, true, false, ℕ, List, [], ◌∷◌, length, take, drop}
 use Rattle.sdv_card.specs.declared.state.State.{State}
 use Rattle.sdv_card.specs.declared.state.Place.{Place}

@@ -8,7 +8,9 @@ use Rattle.sdv_card.specs.declared.state.State.TheVariants.{Idle}
 use Rattle.sdv_card.specs.declared.state.Transfer.TheVariants.{Nothing}
 use Rattle.sdv_card.specs.declared.state.EraseStage.TheVariants.{Outside}
 use Rattle.sdv_card.specs.Card.{Card, IsCard}
-use Rattle.sdv_card.specs.CsdCapacity.{IsCsd, csd_blocks, sec_count}
+use Rattle.sdv_frames.specs.Bits.{bits_of}
+use Rattle.sdv_registers.specs.Csd.{fault, blocks}
+use Rattle.sdv_registers.specs.ExtCsd.{sec_count}
 use Rattle.sdv_card.specs.Host.{Host}
 
 -- the most blocks of a card, by its kind and whether it has block addresses
@@ -21,7 +23,7 @@ most_blocks Emmc true = 2 ^ 32 - 1
 -- the capacity that the registers tell: the CSD, but SEC_COUNT of a block-addressed e.MMC device
 abbrev pub told_blocks : Kind → Bool → (csd ext_csd : List ℕ) → ℕ
 told_blocks Emmc true csd ext_csd = sec_count ext_csd
-told_blocks k block_unit csd ext_csd = csd_blocks k csd
+told_blocks k block_unit csd ext_csd = blocks k (bits_of csd)
 
 -- an SD card follows version 1 or 2, and with version 1 it has byte addresses
 abbrev pub VersionFits : Kind → ℕ → Bool → Type 0
@@ -34,7 +36,7 @@ pub record IsOfProfile (c : Card) : Type 0 where
   pub version : VersionFits c.kind c.version c.block_unit
   pub least : 1 ≤ c.capacity
   pub most : c.capacity ≤ most_blocks c.kind c.block_unit
-  pub csd : IsCsd c.kind c.csd
+  pub readable : fault c.kind (bits_of c.csd) ≡ None
   pub told : told_blocks c.kind c.block_unit c.csd c.ext_csd ≡ c.capacity
 
 -- a card of the profile before the first command: a byte-addressed one has any block length, and every one any contents

@@ -1,6 +1,6 @@
 -- What a row leaves of each part of a card, one rule a part, and the conditions under which a row is legal.
--- SD Physical Layer Simplified Specification, sections 4.2.3, 4.3.3 to 4.3.5, 4.3.9 and 4.3.10; JESD84-B51, sections 6.4.2,
--- 6.6.7 to 6.6.9 and 6.10.4. All rules of the preset count, and what follows a loss, are this project's profile.
+-- SD Physical Layer Simplified Specification, sections 4.2.3, 4.3.3 to 4.3.5 and 4.3.9; JESD84-B51, sections 6.4,
+-- 6.6 and 6.10.4. All rules of the preset count, and what follows a loss, are this project's profile.
 -- Each rule gives the list of all that may stand there afterwards, or the one value.
 use Rattle.std.specs.Prelude.{◌==◌, ◌||◌, Bool, true, false, ℕ, List, [], ◌∷◌, filter, if◌then◌else◌}
 use Rattle.sdv_registers.specs.declared.kind.Kind.{Kind}

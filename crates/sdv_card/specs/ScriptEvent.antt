@@ -1,5 +1,5 @@
 -- The events of a script as a run sees them, and what each may return.
--- SD Physical Layer Simplified Specification, sections 4.3.3 and 4.3.4; JESD84-B51, sections 6.6.7 and 6.6.8.
+-- SD Physical Layer Simplified Specification, sections 4.3.3 and 4.3.4; JESD84-B51, section 6.6.
 use Rattle.std.specs.Prelude.{◌≡◌, ℕ, List, length}
 use Rattle.sdv_card.specs.declared.event.Ask.{Ask}
 use Rattle.sdv_card.specs.declared.event.Event.{Event}

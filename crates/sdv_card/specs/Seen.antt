@@ -1,31 +1,27 @@
 -- What the tables see of the answer to an event.
 -- SD Physical Layer Simplified Specification, sections 4.10.1 and 5.1; JESD84-B51, sections 6.13 and 7.1.
-use Rattle.std.specs.Prelude.{Bool, ℕ, ◌/◌, ◌%◌, ◌^◌, ◌==◌, Option, Some, None, if◌then◌else◌}
+use Rattle.std.specs.Prelude.{Bool, ℕ, ◌==◌, Option, Some, None, if◌then◌else◌}
 use Rattle.sdv_registers.specs.declared.kind.Kind.{Kind}
-use Rattle.sdv_registers.specs.declared.kind.Kind.TheVariants.{Sd, Emmc}
+use Rattle.sdv_registers.specs.Status.{state as state_field, is_app_cmd}
+use Rattle.sdv_registers.specs.Ocr.{is_powered_up, is_block_addressed}
 use Rattle.sdv_frames.specs.declared.reply.Reply.{Reply}
 use Rattle.sdv_frames.specs.declared.reply.Reply.TheVariants.{R1, R2, R3, R6, R7}
 use Rattle.sdv_card.specs.declared.event.Seen.{Seen}
 use Rattle.sdv_card.specs.declared.event.Seen.TheVariants.{Sent, TimeOut, Bare, Ocr, Status}
 use Rattle.sdv_card.specs.declared.answer.Answer.{Answer}
 use Rattle.sdv_card.specs.declared.answer.Answer.TheVariants.{Sent as WasSent, TimeOut as TimedOut, Reply as Replied, Damaged}
-use Rattle.sdv_card.specs.Status.{bit, state_field, in_doubt}
+use Rattle.sdv_card.specs.Status.{in_doubt}
 use Rattle.sdv_card.specs.ScriptEvent.{Return, Answered, BlocksIn, RegisterIn, BlocksOut, Waited}
 use Rattle.sdv_card.specs.Outcomes.{phase_seen, wait_seen}
 
--- an OCR of the kind tells block addresses
-abbrev pub tells_blocks : Kind → ℕ → Bool
-tells_blocks Sd word = bit 30 word
-tells_blocks Emmc word = word / 2 ^ 29 % 4 == 2
-
--- bit 5 counts in a status that answers CMD55
+-- the application flag counts in a status that answers CMD55
 abbrev pub app_of : ℕ → ℕ → Option Bool
-app_of index word = if index == 55 then Some (bit 5 word) else None
+app_of index word = if index == 55 then Some (is_app_cmd word) else None
 
 abbrev pub reply_seen : Kind → Reply → Seen
 reply_seen k (R1 index word) = Status (state_field word) (in_doubt (R1 index word)) (app_of index word)
 reply_seen k (R2 bytes) = Bare
-reply_seen k (R3 word) = Ocr (bit 31 word) (if bit 31 word then Some (tells_blocks k word) else None)
+reply_seen k (R3 word) = Ocr (is_powered_up word) (if is_powered_up word then Some (is_block_addressed k word) else None)
 reply_seen k (R6 word) = Status (state_field word) (in_doubt (R6 word)) None
 reply_seen k (R7 word) = Bare
 

@@ -1,5 +1,5 @@
 -- What becomes of a settled card that takes a row, and of one that was reached by the command and stayed.
--- SD Physical Layer Simplified Specification, sections 4.2.3, 4.3 and 4.8; JESD84-B51, sections 6.4.2, 6.6 and 6.11.
+-- SD Physical Layer Simplified Specification, sections 4.2.3, 4.3 and 4.8; JESD84-B51, sections 6.4, 6.6 and 6.11.
 use Rattle.std.specs.Prelude.{◌≡◌, ◌<◌, ◌/◌, Bool, true, false, IsTrue, ℕ, List, Option, Some, None}
 use Rattle.sdv_card.specs.declared.command.Row.{Row}
 use Rattle.sdv_card.specs.declared.command.Row.TheVariants.{Cmd0, Cmd3Sd, Cmd3Emmc, Cmd16, Cmd17, Cmd18, Cmd24, Cmd25, Cmd38}

@@ -8,14 +8,16 @@
 mod answer;
 mod command;
 mod event;
+pub mod examples;
 mod fields;
 mod guard;
 pub mod laws;
 mod port;
 mod shape;
 mod state;
-mod status;
 mod table;
+#[cfg(test)]
+mod tests;
 
 pub use answer::{Answer, DataEnd, WaitEnd};
 pub use command::{Move, Order, Response, Row, TakenAs};
@@ -26,5 +28,4 @@ pub use port::CardPort;
 pub use sdv_registers::Kind;
 pub use shape::{START_SHAPES, Shape};
 pub use state::{EraseStage, Place, State, Transfer};
-pub use status::{CLEAN_MASK_EMMC, CLEAN_MASK_R6, CLEAN_MASK_SD, DOUBT_MASK, DOUBT_MASK_R6};
 pub use table::CardTable;

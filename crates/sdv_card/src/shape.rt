@@ -1,4 +1,4 @@
-ghost use Rattle.std.specs.Prelude.{◌≡◌, ◌<◌};
+ghost use Rattle.std.specs.Prelude.{◌≡◌, ◌<◌, IfSome};
 ghost use Rattle.sdv_card.specs.States.{state_number};
 ghost use Rattle.sdv_card.specs.Code.{code_of, digits, fields_of, transfer_number, erase_number, bool_number, state_of, transfer_of, erase_of};
 
@@ -138,9 +138,10 @@ fn bit(set: bool) -> u64
 
 impl Fields {
     /// The shape with these fields.
-    #[tactic(auto, unfolding(crate::specs::Code::code_of))]
+    #[tactic(auto, unfolding(crate::specs::Code::code_of), using(crate::proofs::Digits::fields_law))]
     pub fn encode(self) -> Shape
-        ensures { result.0 ≡ code_of self }
+        ensures code { result.0 ≡ code_of self }
+        ensures read_back { self.flags < 16 → fields_of result.0 ≡ Some self }
     {
         Shape(
             u64::from(self.state.number())
@@ -158,7 +159,8 @@ impl Fields {
     /// The fields that the bits of a code show.
     #[tactic(auto, unfolding(crate::specs::Code::digits))]
     fn of_digits(code: u64) -> Fields
-        ensures { result ≡ digits code }
+        ensures fields { result ≡ digits code }
+        ensures flags { result.flags < 16 }
     {
         Fields {
             state: State::of(code % 16),
@@ -178,7 +180,9 @@ impl Shape {
     /// The fields of the code, or nothing where it has another bit or value than a code.
     #[tactic(auto, unfolding(crate::specs::Code::fields_of))]
     pub fn decode(self) -> Option<Fields>
-        ensures { result ≡ fields_of self.0 }
+        ensures fields { result ≡ fields_of self.0 }
+        ensures read_back { IfSome result (λ fields. code_of fields ≡ self.0) }
+        ensures flags { IfSome result (λ fields. fields.flags < 16) }
     {
         let fields = Fields::of_digits(self.0);
         if fields.encode() == self {

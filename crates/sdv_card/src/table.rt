@@ -4,7 +4,7 @@ ghost use Rattle.sdv_card.specs.declared.event.Outcome.{Outcome};
 ghost use Rattle.sdv_card.specs.Lists.{May, AreDistinct};
 ghost use Rattle.sdv_card.specs.Outcomes.{outcomes_code};
 ghost use Rattle.sdv_card.specs.LegalShapes.{legal_code};
-ghost use Rattle.sdv_card.specs.Laws.{PairsHaveShapes, LegalIsExact, HasStep, StepsAreOutcomes, StepsKeepPairs, StepsKeepSame, StepsKeepSound, StepsKeepOnCard, StartsHold, VerdictsHold};
+ghost use Rattle.sdv_card.specs.Laws.{PairsHaveShapes, LegalIsExact, HasStep, StepsAreOutcomes, StepsAreExpected, StepsKeepPairs, StepsKeepSame, StepsKeepSound, StepsKeepOnCard, StartsHold, VerdictsHold};
 
 use crate::event::{Event, Outcome};
 use crate::shape::Shape;
@@ -39,6 +39,9 @@ pub trait CardTable {
 
     /// Each step of a card is among the outcomes at the shape.
     ghost steps_are_outcomes: { StepsAreOutcomes kind };
+
+    /// What each step returns is what the host waits for.
+    ghost steps_are_expected: { StepsAreExpected kind };
 
     /// A step leads from a card beside its host to a card beside its host.
     ghost steps_keep_pairs: { StepsKeepPairs kind };

@@ -1,0 +1,12 @@
+pub mod BitLaws
+pub mod CrcLaws
+pub mod Tried
+pub mod BitStep
+pub mod ByteLaws
+pub mod PartLaws
+pub mod FaultLaws
+pub mod CheckLaws
+pub mod Parted
+pub mod Spelled
+pub mod FrameLaws
+pub mod ReplyLaws

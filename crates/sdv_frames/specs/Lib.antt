@@ -1,3 +1,4 @@
 pub mod Bits
 pub mod Polynomial
 pub mod Frame
+pub mod Fault

@@ -1,5 +1,5 @@
 -- Polynomials over the field of two elements, and the CRC7 as a remainder.
--- SD Physical Layer Simplified Specification, section 4.5 (CRC7); JESD84-B51, section 8.2 (CRC7).
+-- SD Physical Layer Simplified Specification, section 4.5; JESD84-B51, section 8.2.1.
 -- A polynomial is the list of its coefficients, the highest power first.
 use Rattle.std.specs.Prelude.{◌≡◌, Bool, true, false, ℕ, not, List, [], ◌∷◌, ◌++◌, length, replicate, if◌then◌else◌}
 use Rattle.sdv_frames.specs.Bits.{Bits}
@@ -40,6 +40,10 @@ pub record IsCrc7 (message crc : Bits) : Type 0 where
   pub degree : length quotient ≡ length message
   pub below : length crc ≡ 7
   pub sum : multiple quotient ⊕ (zeros (length message) ++ crc) ≡ message ++ zeros 7
+
+-- each message has a CRC7
+abbrev pub EachHasCrc7 : Type 0
+EachHasCrc7 = (message : Bits) → (crc : Bits) × IsCrc7 message crc
 
 -- a message has one CRC7
 abbrev pub Crc7IsOne : Type 0

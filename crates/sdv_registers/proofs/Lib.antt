@@ -1,0 +1,4 @@
+pub mod Masks
+pub mod FieldLaws
+pub mod ByteLaws
+pub mod FlagLaws
