@@ -1,5 +1,5 @@
 -- Elements of a list stay elements of what is appended, mapped, filtered and looked up.
-use Rattle.std.proofs.Common.{◌≡◌, ℕ, List, [], ◌∷◌, ◌++◌, ◌⊎◌, inl, inr, refl, ap, subst, sym, ◌∙◌, Bool, true, false, map, ◌==◌, ◌&&◌, cond, eqb-true, if◌then◌else◌, IsTrue, rules}
+use Rattle.std.proofs.Common.{◌≡◌, List, [], ◌∷◌, ◌++◌, ◌⊎◌, inl, inr, refl, ap, subst, sym, ◌∙◌, Bool, true, false, map, ◌==◌, ◌&&◌, cond, eqb-true, if◌then◌else◌, rules}
 use Rattle.std.specs.Prelude.{filter}
 use Rattle.sdv_card.specs.declared.state.State.{State}
 use Rattle.sdv_card.specs.declared.state.State.TheVariants.{Idle, Ready, Ident, Stby, Tran, Data, Rcv, Prg, Dis}
@@ -110,8 +110,9 @@ from_targets : (ms : List Move) (a b : State) → IsOneOf (targets ms a) b → I
 from_targets [] a b m = absurd m
 from_targets (m ∷ ms) a b t =
     elim (may_if_cases (state_number m.source == state_number a) m.target (targets ms a) b t) [
-      inl e ↦ inl (let s : m.source ≡ a = same_state m.source a (eqb-true _ _ e.0) in let t : m.target ≡ b = e.1 in same_move s t)
-    | inr h ↦ inr (from_targets ms a b h) ]
+      | inl e ↦ inl (let s : m.source ≡ a = same_state m.source a (eqb-true _ _ e.0) in let t : m.target ≡ b = e.1 in same_move s t)
+      | inr h ↦ inr (from_targets ms a b h)
+    ]
 
 pub May-targets : {ms : List Move} {a b : State} → May ms (a to b) → May (targets ms a) b
 May-targets m = record { one = to_targets _ _ _ m.one }

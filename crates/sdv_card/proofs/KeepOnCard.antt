@@ -1,0 +1,121 @@
+-- A legal step in bounds keeps the blocks of a transfer on the card.
+use Rattle.std.proofs.Common.{◌≡◌, ℕ, ◌<◌, ◌≤◌, ◌+◌, ◌*◌, ◌/◌, inl, inr, refl, ap, subst, sym, ◌∙◌, Bool, true, false, Some, if◌then◌else◌, arith}
+use Rattle.sdv_registers.specs.declared.kind.Kind.{Kind}
+use Rattle.sdv_card.specs.declared.state.Transfer.{Transfer}
+use Rattle.sdv_card.specs.declared.answer.DataEnd.{DataEnd}
+use Rattle.sdv_card.specs.declared.answer.WaitEnd.{WaitEnd}
+use Rattle.sdv_card.specs.declared.event.Ask.{Ask}
+use Rattle.sdv_card.specs.declared.command.Row.{Row}
+use Rattle.sdv_card.specs.declared.command.Row.TheVariants.{Cmd0, Cmd8Emmc, Cmd12, Cmd17, Cmd18, Cmd24, Cmd25, Acmd13, Acmd51}
+use Rattle.sdv_card.specs.declared.command.TakenAs.{TakenAs}
+use Rattle.sdv_card.specs.declared.command.TakenAs.TheVariants.{By}
+use Rattle.sdv_card.specs.Takes.{matches}
+use Rattle.sdv_card.specs.CommandTable.{addressed_blocks}
+use Rattle.sdv_card.specs.ScriptEvent.{SendCommand, ReceiveBlocks, ReceiveRegister, GiveBlocks, AwaitReady, Answered, BlocksIn, RegisterIn, BlocksOut, Waited}
+use Rattle.sdv_card.specs.Card.{Card}
+use Rattle.sdv_card.specs.Settled.{Settled}
+use Rattle.sdv_card.specs.Taken.{SameCard, Taken, block_of, SameBlocks, Begins}
+use Rattle.sdv_card.specs.Exchange.{card_takes}
+use Rattle.sdv_card.specs.Phases.{blocks_due, Moved, MovedWriting, WaitEnds}
+use Rattle.sdv_card.specs.Legal.{HasBlocks, Within, BlocksWithin, TransferOnCard}
+use Rattle.sdv_card.specs.Laws.{StepsKeepOnCard}
+use Rattle.sdv_card.proofs.Became.{Became, became}
+use Rattle.sdv_card.proofs.Same.{settled_same, same_both, became_same}
+use Rattle.sdv_card.proofs.RowsOfOrders.{order_announces, same_announces, row_announces, says}
+use Rattle.sdv_card.proofs.OrdersOfAsks.{of_ask}
+use Rattle.sdv_card.proofs.PhasePlaces.{calm_place}
+
+no_due : (x y : Transfer) → blocks_due x ≡ false → x ≡ y → blocks_due y ≡ true → ⊥
+no_due x y none e due = let f : false ≡ true = sym none ∙ (ap blocks_due e ∙ due) in cc
+
+-- the transfer begins at the block that the argument names
+begins_within : (unit : Bool) (argument position count next announced capacity : ℕ) → argument ≡ (if unit then position else 512 * position) →
+    position + count ≤ capacity → block_of unit argument ≡ next → count ≡ announced → next + announced ≤ capacity
+begins_within true argument position count next announced capacity named room at counted = omega arith
+begins_within false argument position count next announced capacity named room at counted = omega arith
+
+-- a card of the same size
+within_same : (c u : Card) (argument count : ℕ) → SameCard c u → 0 < count → Within c argument count → Begins argument count u → HasBlocks u
+within_same c u argument count same some w b = record {
+  some = subst (λ n. 0 < n) b.count_is some;
+  room =
+      begins_within u.block_unit argument w.position count u.next_block u.announced u.capacity
+      (subst (λ v. argument ≡ (if v then w.position else 512 * w.position)) same.block_unit w.unit)
+      (subst (λ n. w.position + count ≤ n) same.capacity w.room) b.block b.count_is;
+}
+
+-- the same blocks of a card of the same size
+same_within : (next next' announced announced' capacity capacity' : ℕ) → next ≡ next' → announced ≡ announced' → capacity ≡ capacity' →
+    next + announced ≤ capacity → next' + announced' ≤ capacity'
+same_within next next' announced announced' capacity capacity' a b c room = omega arith
+
+stood : (t u : Card) → SameCard t u → t.transfer ≡ u.transfer → SameBlocks t u → TransferOnCard t → TransferOnCard u
+stood t u same transfer blocks on due =
+    let has : HasBlocks t = on (ap blocks_due transfer ∙ due) in
+    record {
+      some = subst (λ n. 0 < n) blocks.count_is has.some;
+      room = same_within t.next_block u.next_block t.announced u.announced t.capacity u.capacity blocks.block blocks.count_is same.capacity has.room;
+    }
+
+-- the blocks that a row announces are some, and on the card
+record Announced (c : Card) (row : Row) (argument : ℕ) : Type 0 where
+  some : (n : ℕ) → row_announces row ≡ Some n → 0 < n
+  within : (n : ℕ) → row_announces row ≡ Some n → Within c argument n
+
+taken_on_card : (row : Row) (argument : ℕ) (c t u : Card) → SameCard c t → SameCard c u → Taken row argument t u →
+    Announced c row argument → TransferOnCard t → TransferOnCard u
+taken_on_card Cmd17 argument c t u ct cu m within on due = within_same c u argument 1 cu (within.some 1 refl) (within.within 1 refl) m.blocks
+taken_on_card (Cmd18 n) argument c t u ct cu m within on due = within_same c u argument n cu (within.some n refl) (within.within n refl) m.blocks
+taken_on_card Cmd24 argument c t u ct cu m within on due = within_same c u argument 1 cu (within.some 1 refl) (within.within 1 refl) m.blocks
+taken_on_card (Cmd25 n) argument c t u ct cu m within on due = within_same c u argument n cu (within.some n refl) (within.within n refl) m.blocks
+taken_on_card Cmd0 argument c t u ct cu m within on due = absurd (no_due _ u.transfer refl m.transfer due)
+taken_on_card Cmd8Emmc argument c t u ct cu m within on due = absurd (no_due _ u.transfer refl m.transfer due)
+taken_on_card Cmd12 argument c t u ct cu m within on due = absurd (no_due _ u.transfer refl m.transfer due)
+taken_on_card Acmd13 argument c t u ct cu m within on due = absurd (no_due _ u.transfer refl m.transfer due)
+taken_on_card Acmd51 argument c t u ct cu m within on due = absurd (no_due _ u.transfer refl m.transfer due)
+taken_on_card row argument c t u ct cu m within on due = stood t u m.same m.transfer m.blocks on due
+
+became_on_card : (way : TakenAs) (argument : ℕ) (c t u : Card) → SameCard c t → SameCard c u →
+    ((row : Row) → way ≡ By row → Announced c row argument) → Became way argument t u → TransferOnCard t → TransferOnCard u
+became_on_card way argument c t u ct cu within (inl e) on = subst (λ v. TransferOnCard v) e on
+became_on_card way argument c t u ct cu within (inr (inl m)) on = taken_on_card m.row argument c t u ct cu m.taken (within m.row m.by) on
+became_on_card way argument c t u ct cu within (inr (inr m)) on = stood t u m.stayed.same m.stayed.transfer m.stayed.blocks on
+
+settled_on_card : (c t : Card) → Settled c t → TransferOnCard c → TransferOnCard t
+settled_on_card c t (inl e) on = subst (λ v. TransferOnCard v) e on
+settled_on_card c t (inr x) on = λ due. absurd (no_due _ t.transfer refl (ap (λ v. v.transfer) x.2) due)
+
+-- the blocks that the ask addresses are on the card
+asked_within : (ask : Ask) (argument n : ℕ) (c : Card) → addressed_blocks ask ≡ Some n → BlocksWithin (addressed_blocks ask) c argument → Within c argument n
+asked_within ask argument n c e w = subst (λ o. BlocksWithin o c argument) e w
+
+moved_on_card : (end : DataEnd) (c u : Card) → Moved end c u → TransferOnCard u
+moved_on_card end c u m due = absurd (no_due m.place.transfer u.transfer (calm_place c.transfer end m.place m.may).no_blocks (ap (λ v. v.transfer) m.card) due)
+
+moved_writing_on_card : (end : DataEnd) (c u : Card) → MovedWriting end c u → TransferOnCard u
+moved_writing_on_card end c u m due =
+    absurd (no_due m.place.transfer u.transfer (calm_place c.transfer end m.place m.may).no_blocks (ap (λ v. v.transfer) m.card) due)
+
+waited_on_card : (c u : Card) (end : WaitEnd) → WaitEnds end c u → TransferOnCard c → TransferOnCard u
+waited_on_card c u end w on =
+    subst (λ v. TransferOnCard v) w.card (λ due. let has : HasBlocks c = on due in record { some = has.some; room = has.room })
+
+pub steps_keep_on_card : (k : Kind) → StepsKeepOnCard k
+steps_keep_on_card k (SendCommand ask argument) c h (Answered answer) u pair legal bounds s on =
+    let t : Card = s.exchange.settled_card in
+    let way : TakenAs = card_takes t s.order argument in
+    let came : Became way argument t u = became way s.order argument t u answer s.exchange.answered in
+    became_on_card way argument c t u (settled_same c t s.exchange.settled)
+    (same_both c t u (settled_same c t s.exchange.settled) (became_same way argument t u came))
+    (λ row by.
+    let same : order_announces s.order ≡ row_announces row = same_announces (says s.order t.app (matches t.rca (argument / 65536)) row by) in
+    record {
+      some = λ n e. (of_ask c.kind ask s.order s.asks.line).some n (same ∙ e);
+      within = λ n e. asked_within ask argument n c ((of_ask c.kind ask s.order s.asks.line).blocks n (same ∙ e)) bounds;
+    })
+    came (settled_on_card c t s.exchange.settled on)
+steps_keep_on_card k (ReceiveBlocks count) c h (BlocksIn end blocks) u pair legal bounds s on = moved_on_card end c u s.moved
+steps_keep_on_card k (ReceiveRegister count) c h (RegisterIn end bytes) u pair legal bounds s on = moved_on_card end c u s.moved
+steps_keep_on_card k (GiveBlocks blocks) c h (BlocksOut end) u pair legal bounds s on = moved_writing_on_card end c u s.moved
+steps_keep_on_card k AwaitReady c h (Waited end) u pair legal bounds s on = waited_on_card c u end s on
+steps_keep_on_card k event c h returned u pair legal bounds s on = absurd s

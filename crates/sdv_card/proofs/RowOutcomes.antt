@@ -1,0 +1,168 @@
+-- What comes of a row at a settled card is among what may follow it at the card's fields.
+use Rattle.std.proofs.Common.{◌≡◌, ℕ, ◌⊎◌, inl, inr, refl, ap, subst, sym, ◌∙◌, Bool, true, false, List, [], ◌∷◌, ◌==◌, Option, Some, None, if◌then◌else◌, IsTrue}
+use Rattle.sdv_registers.specs.declared.kind.Kind.{Kind}
+use Rattle.sdv_registers.specs.declared.kind.Kind.TheVariants.{Sd, Emmc}
+use Rattle.sdv_frames.specs.declared.reply.Reply.{Reply}
+use Rattle.sdv_frames.specs.declared.reply.Reply.TheVariants.{R2, R7}
+use Rattle.sdv_registers.specs.Status.{rca as published_rca}
+use Rattle.sdv_registers.specs.Ocr.{access_mode, is_block_addressed}
+use Rattle.sdv_card.specs.declared.state.State.{State}
+use Rattle.sdv_card.specs.declared.fields.Fields.{Fields}
+use Rattle.sdv_card.specs.declared.event.Seen.TheVariants.{TimeOut as SeenTimeOut, Bare, Ocr, Status}
+use Rattle.sdv_card.specs.declared.answer.Answer.{Answer}
+use Rattle.sdv_card.specs.declared.answer.Answer.TheVariants.{TimeOut, Reply as Replied}
+use Rattle.sdv_card.specs.declared.command.Order.{Order}
+use Rattle.sdv_card.specs.declared.command.Order.TheVariants.{DeselectCards}
+use Rattle.sdv_card.specs.declared.command.Row.{Row}
+use Rattle.sdv_card.specs.declared.command.Row.TheVariants.{Cmd1, Cmd2, Cmd3Sd, Cmd8Sd, Cmd9, Cmd10, Cmd55, Acmd41}
+use Rattle.sdv_card.specs.declared.command.Response.{Response}
+use Rattle.sdv_card.specs.declared.command.Response.TheVariants.{Absent, NotAddressed, CardStatus, NewAddress, Conditions}
+use Rattle.sdv_card.specs.Lists.{May}
+use Rattle.sdv_card.specs.StateTable.{◌to◌, rows}
+use Rattle.sdv_card.specs.RowRules.{matched_stayed}
+use Rattle.sdv_card.specs.Responses.{response_of, row_index}
+use Rattle.sdv_card.specs.Seen.{app_of, answer_seen}
+use Rattle.sdv_card.specs.Takes.{matches}
+use Rattle.sdv_card.specs.Card.{Card, IsCard}
+use Rattle.sdv_card.specs.Host.{Host, host_after_order}
+use Rattle.sdv_card.specs.Taken.{Taken, Stayed}
+use Rattle.sdv_card.specs.Agrees.{TakenOrStayed, AppShown, Published, UnitShown, ContentsShown}
+use Rattle.sdv_card.specs.Exchange.{TakenUnseen, Lost, unaddressed_answer}
+use Rattle.sdv_card.specs.Shapes.{view}
+use Rattle.sdv_card.specs.Outcomes.{branch, with_seen, taken, stayed, lost, statuses, status_seen, with_status, app_shown, unaddressed_seen}
+use Rattle.sdv_card.proofs.Members.{here, there, May-append_left, May-append_right, May-map}
+use Rattle.sdv_card.proofs.RowsOfOrders.{Says, row_rca}
+use Rattle.sdv_card.proofs.TakenFields.{taken_law, stayed_law, stayed_match, same_view, lost_law}
+use Rattle.sdv_card.proofs.Matches.{GivenAddress, taken_unheard, taken_heard, same_unheard, same_status, same_unaddressed, published_matches, stayed_matches}
+
+-- a settled card t, and an order by which it takes a row
+pub record AtRow (k : Kind) (order : Order) (row : Row) (t : Card) : Type 0 where
+  pub kind : k ≡ t.kind
+  pub card : IsCard t
+  pub says : Says order row
+  pub given : GivenAddress row t.rca
+
+-- the host after an answer
+abbrev pub heard : Order → Answer → Host → Host
+heard order answer h = host_after_order (Some order) answer h
+
+-- MATCHES, with the host after an answer
+
+heard_rca : (order : Order) (row : Row) (answer : Answer) (h : Host) (b : Option ℕ) (ms : List Bool) → Says order row →
+    May ms (matches b (row_rca row answer h.rca)) → May ms (matches b (heard order answer h).rca)
+heard_rca order row answer h b ms says m = subst (λ n. May ms (matches b n)) (sym (says.rca answer h.rca)) m
+
+heard_same : (order : Order) (row : Row) (answer : Answer) (h : Host) (a : Option ℕ) → Says order row →
+    matches a h.rca ≡ matches a (row_rca row answer h.rca) → matches a h.rca ≡ matches a (heard order answer h).rca
+heard_same order row answer h a says e = e ∙ sym (ap (λ n. matches a n) (says.rca answer h.rca))
+
+-- NO RESPONSE
+
+pub timed_out : (response : Response) (k : Kind) (order : Order) (row : Row) (argument : ℕ) (h : Host) (t u : Card) → response ≡ response_of row →
+    (Absent ≡ response → ⊥) → AtRow k order row t → Lost response row argument t u →
+    May (with_seen SeenTimeOut (lost k response row (view t h))) (branch (view u (heard order TimeOut h)) SeenTimeOut)
+timed_out response k order row argument h t u is other at a =
+    May-map (λ v. branch v SeenTimeOut)
+    (lost_law response k row argument h (heard order TimeOut h) t u at.kind refl
+    (heard_same order row TimeOut h t.rca at.says (same_unheard row t.rca h.rca (λ e. other (e ∙ sym is)) at.given))
+    (λ m. heard_rca order row TimeOut h u.rca _ at.says (taken_unheard row TimeOut t.rca u.rca h.rca m.rca)) a)
+
+-- the card took the row, and the host heard it
+pub heard_taken : (k : Kind) (order : Order) (row : Row) (argument : ℕ) (h : Host) (t u : Card) (answer : Answer) →
+    (NewAddress ≡ response_of row → ⊥) → AtRow k order row t → Taken row argument t u →
+    May (taken k row true (view t h)) (view u (heard order answer h))
+heard_taken k order row argument h t u answer other at m =
+    taken_law k row true argument h (heard order answer h) t u at.kind m refl
+    (heard_rca order row answer h u.rca _ at.says (taken_heard row answer t.rca u.rca h.rca other m.rca))
+
+-- STATUS
+
+pub statuses_law : (row : Row) (t u : Fields) (took stay : List Fields) (d : Bool) → May took u ⊎ ((d ≡ true) × May stay u) →
+    May (statuses row t took stay) (branch u (status_seen row d t u))
+statuses_law row t u took stay false (inl m) = May-append_left _ (May-map (λ v. branch v (status_seen row false t v)) m)
+statuses_law row t u took stay false (inr m) = absurd (let e : false ≡ true = m.0 in cc)
+statuses_law row t u took stay true (inl m) =
+    May-append_right (with_status row false t took) (May-map (λ v. branch v (status_seen row true t v)) (May-append_left _ m))
+statuses_law row t u took stay true (inr m) =
+    May-append_right (with_status row false t took) (May-map (λ v. branch v (status_seen row true t v)) (May-append_right took m.1))
+
+pub app_law : (row : Row) (word : ℕ) (u : Card) → AppShown row word u → app_of (row_index row) word ≡ app_shown row u.app
+app_law Cmd55 word u e = ap Some e
+app_law row word u e = refl
+
+pub same_status_seen : {a a' : ℕ} {d : Bool} {o o' : Option Bool} → a ≡ a' → o ≡ o' → Status a d o ≡ Status a' d o'
+same_status_seen e f = cc
+
+pub status_cases : (k : Kind) (order : Order) (row : Row) (argument : ℕ) (h : Host) (t u : Card) (answer : Answer) (d : Bool) → CardStatus ≡ response_of row →
+    AtRow k order row t → TakenOrStayed row argument t d u →
+    May (taken k row true (view t h)) (view u (heard order answer h))
+    ⊎ ((d ≡ true) × May (stayed k row (matches t.rca h.rca ∷ []) (view t h)) (view u (heard order answer h)))
+status_cases k order row argument h t u answer d is at (inl m) =
+    inl (heard_taken k order row argument h t u answer (λ e. let f : NewAddress ≡ CardStatus = e ∙ sym is in cc) at m)
+status_cases k order row argument h t u answer d is at (inr m) =
+    inr (
+      m.0,
+      stayed_law k row (matches t.rca h.rca ∷ []) h (heard order answer h) t u at.kind m.1 refl
+          (here (stayed_match row h (heard order answer h) t u m.1
+          (heard_same order row answer h t.rca at.says (same_status row answer t.rca h.rca is at.given)))),
+    )
+
+-- NEW ADDRESS
+
+pub address_cases : (k : Kind) (argument : ℕ) (h h' : Host) (t u : Card) (word : ℕ) (d : Bool) → k ≡ t.kind → IsCard t → h.flags ≡ h'.flags →
+    published_rca word ≡ h'.rca → Published Cmd3Sd argument t word u ⊎ ((d ≡ true) × Stayed Cmd3Sd t u) →
+    May (taken k Cmd3Sd true (view t h)) (view u h')
+    ⊎ ((d ≡ true) × May (stayed k Cmd3Sd (matched_stayed t.state) (view t h)) (view u h'))
+address_cases k argument h h' t u word d kind card flags e (inl m) =
+    inl (taken_law k Cmd3Sd true argument h h' t u kind m.card flags (here (published_matches u.rca h'.rca (ap Some (sym e) ∙ m.rca))))
+address_cases k argument h h' t u word d kind card flags e (inr m) =
+    inr (
+      m.0,
+      stayed_law k Cmd3Sd (matched_stayed t.state) h h' t u kind m.1 flags
+          (subst (λ v. May (matched_stayed t.state) (matches v h'.rca)) m.1.rca (stayed_matches t.state t.rca h'.rca card.address)),
+    )
+
+-- CONTENTS
+
+pub bare_seen : (k : Kind) (row : Row) (t : Card) (reply : Reply) → ContentsShown row t reply → Bare ≡ answer_seen k (Replied reply)
+bare_seen k Cmd2 t (R2 bytes) s = refl
+bare_seen k Cmd8Sd t (R7 word) s = refl
+bare_seen k Cmd9 t (R2 bytes) s = refl
+bare_seen k Cmd10 t (R2 bytes) s = refl
+bare_seen k row t reply s = absurd s
+
+-- CONDITIONS
+
+emmc_unit : (b : Bool) (n : ℕ) → n ≡ (if b then 2 else 0) → (n == 2) ≡ b
+emmc_unit true n e = rw e refl
+emmc_unit false n e = rw e refl
+
+pub unit_law : (k : Kind) (row : Row) (word : ℕ) (unit : Bool) (a b : State) → Conditions ≡ response_of row → May (rows k row) (a to b) →
+    UnitShown row word unit → is_block_addressed k word ≡ unit
+unit_law Sd (Acmd41 high) word unit a b is m e = e
+unit_law Emmc Cmd1 word unit a b is m e = emmc_unit unit (access_mode word) e
+unit_law Sd Cmd1 word unit a b is m e = absurd m.one
+unit_law Emmc (Acmd41 high) word unit a b is m e = absurd m.one
+unit_law k row word unit a b is m e = absurd (cc)
+
+pub conditions_law : (b w v unit : Bool) → w ≡ b → (IsTrue b → v ≡ unit) →
+    Ocr w (if w then Some v else None) ≡ (if b then Ocr true (Some unit) else Ocr false None)
+conditions_law true w v unit e f = rw e (let g : v ≡ unit = f refl in cc)
+conditions_law false w v unit e f = rw e refl
+
+-- NOT ADDRESSED
+
+pub unaddressed_law : (k : Kind) (order : Order) (answer : Answer) → unaddressed_answer order ≡ answer → unaddressed_seen order ≡ answer_seen k answer
+unaddressed_law k order answer e = rw (sym e) (same k order)
+  where
+    same : (k : Kind) (order : Order) → unaddressed_seen order ≡ answer_seen k (unaddressed_answer order)
+    same k DeselectCards = refl
+    same k order = refl
+
+pub unseen_cases : (k : Kind) (order : Order) (row : Row) (argument : ℕ) (h : Host) (t u : Card) (answer : Answer) → NotAddressed ≡ response_of row →
+    AtRow k order row t → (t ≡ u) ⊎ TakenUnseen row argument t u → May (view t h ∷ taken k row true (view t h)) (view u (heard order answer h))
+unseen_cases k order row argument h t u answer is at (inl e) =
+    here (subst (λ v. view t h ≡ view v (heard order answer h)) e
+    (same_view h (heard order answer h) t refl (heard_same order row answer h t.rca at.says (same_unaddressed row answer t.rca h.rca is))))
+unseen_cases k order row argument h t u answer is at (inr m) =
+    there (heard_taken k order row argument h t u answer (λ e. let f : NewAddress ≡ NotAddressed = e ∙ sym is in cc) at m.card)
