@@ -1,4 +1,4 @@
-use Rattle.std.proofs.Common.{◌≡◌, ℕ, zero, suc, ◌+◌, ◌<◌, List, [], ◌∷◌, ◌++◌, length, take, get_or, ◌⊎◌, inl, inr, refl, ap, subst, sym, ◌∙◌, arith, IsTrue, true, false, ◌↔◌, map}
+use Rattle.std.proofs.Common.{◌≡◌, ℕ, zero, suc, ◌+◌, ◌<◌, List, [], ◌∷◌, ◌++◌, length, take, get_or, ◌⊎◌, inl, inr, ap, subst, sym, ◌∙◌, arith, ◌↔◌, map}
 use Rattle.sdv_card.specs.declared.shape.Shape.{Shape}
 use Rattle.sdv_card.specs.declared.event.Outcome.{Outcome}
 use Rattle.sdv_card.specs.declared.event.Branch.{Branch}
@@ -46,9 +46,10 @@ pub more_outcomes : (bs : List Branch) (i : ℕ) (d : Branch) (out o : Outcome) 
     May (map outcome_of (take (i + 1) bs)) o ↔ (May (map outcome_of (take i bs)) o ⊎ (out ≡ o))
 more_outcomes bs i d out o h e =
     let m : map outcome_of (take (i + 1) bs) ≡ map outcome_of (take i bs) ++ out ∷ [] =
-        ap (map outcome_of) (take_more bs i d h) ∙ (map-append outcome_of (take i bs) (get_or bs i d ∷ []) ∙ ap (λ v. map outcome_of (take i bs) ++ v ∷ []) e) in
-    ((λ k. May-push_cases (map outcome_of (take i bs)) out o (subst (λ v. May v o) m k)),
-     (λ k. subst (λ v. May v o) (sym m) (May-push (map outcome_of (take i bs)) out o k)))
+    ap (map outcome_of) (take_more bs i d h) ∙ (map-append outcome_of (take i bs) (get_or bs i d ∷ []) ∙ ap (λ v. map outcome_of (take i bs) ++ v ∷ []) e) in (
+      (λ k. May-push_cases (map outcome_of (take i bs)) out o (subst (λ v. May v o) m k)),
+      (λ k. subst (λ v. May v o) (sym m) (May-push (map outcome_of (take i bs)) out o k)),
+    )
 
 abbrev outcome : ℕ → Seen → Outcome
 outcome n v = record { shape = record { 0 = n }; seen = v }

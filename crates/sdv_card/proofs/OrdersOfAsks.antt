@@ -44,7 +44,7 @@ line_count : (ask : Ask) (index : ℕ) (aim : Aim) (argument count : ℕ) → is
 line_count ask index aim argument count i = eqb-true ask.count count (and_right _ _ i)
 
 -- the blocks that an index addresses
-abbrev blocks_at : ℕ → ℕ → Option ℕ
+abbrev pub blocks_at : ℕ → ℕ → Option ℕ
 blocks_at index count =
     if (index == 17) || (index == 18) || (index == 24) || (index == 25) then Some count
     else (if (index == 32) || (index == 33) || (index == 35) || (index == 36) then Some 1 else None)

@@ -1,5 +1,5 @@
 -- Each step of a card beside its host is among the outcomes at their code.
-use Rattle.std.proofs.Common.{◌≡◌, ℕ, inl, inr, ap, subst, sym, ◌∙◌, true, false, ◌++◌, map, Option, Some}
+use Rattle.std.proofs.Common.{◌≡◌, ℕ, inl, inr, ap, subst, sym, ◌∙◌, ◌++◌, map, Option, Some}
 use Rattle.sdv_registers.specs.declared.kind.Kind.{Kind}
 use Rattle.sdv_registers.specs.declared.kind.Kind.TheVariants.{Sd, Emmc}
 use Rattle.sdv_card.specs.declared.state.State.{State}
@@ -36,8 +36,7 @@ use Rattle.sdv_card.proofs.Members.{May-append_left, May-append_right, May-map, 
 use Rattle.sdv_card.proofs.Same.{settled_same}
 use Rattle.sdv_card.proofs.SettledCard.{settled_is_card}
 use Rattle.sdv_card.proofs.AddressSent.{AddressSent, address_sent}
-use Rattle.sdv_card.proofs.RowsOfOrders.{same_gives, says, ignored_rca, row_gives_address}
-use Rattle.sdv_card.proofs.OrdersOfAsks.{of_ask}
+use Rattle.sdv_card.proofs.RowsOfOrders.{says, ignored_rca}
 use Rattle.sdv_card.proofs.Matches.{GivenAddress}
 use Rattle.sdv_card.proofs.LegalExact.{settled_law}
 use Rattle.sdv_card.proofs.AnswerOutcomes.{settled_answer_law}
@@ -145,30 +144,7 @@ legal_gives (ReceiveRegister count) c h card made legal = tt
 legal_gives (GiveBlocks blocks) c h card made legal = tt
 legal_gives AwaitReady c h card made legal = tt
 
--- each step of a card beside its host at a legal event is among the outcomes at their code
-abbrev pub LegalStepsAreOutcomes : Kind → Type 0
-LegalStepsAreOutcomes k = (event : ScriptEvent) (c : Card) (h : Host) (returned : Return) (u : Card) →
-    IsPair k c h → Makes k event h → EventLegal event c → Step event c returned u →
-    May (outcomes_code k (pair_code c h) (event_of event)) (outcome_of (branch (view u (host_after k event returned h)) (seen_of k returned)))
-
-pub legal_steps_are_outcomes : (k : Kind) → LegalStepsAreOutcomes k
-legal_steps_are_outcomes k event c h returned u pair made legal s =
+pub steps_are_outcomes : (k : Kind) → StepsAreOutcomes k
+steps_are_outcomes k event c h returned u pair made legal s =
     outcomes_law k event c h returned u pair made
     (legal_gives event c h pair.card (subst (λ v. Makes v event h) pair.kind made) legal) s
-
--- AN SD CARD chooses its address, and so legality is no premise there
-
-not_given : (row : Row) (rca : Option ℕ) → row_gives_address row ≡ false → GivenAddress row rca
-not_given Cmd3Emmc rca e = absurd (let f : true ≡ false = e in cc)
-not_given row rca e = tt
-
-sd_gives : (event : ScriptEvent) (c : Card) (h : Host) → c.kind ≡ Sd → EventGivesAddress event c h
-sd_gives (SendCommand ask argument) c h kind = λ order e t settles row by.
-    not_given row t.rca (sym (same_gives (says order t.app (matches t.rca h.rca) row by)) ∙ (of_ask c.kind ask order e).gives kind)
-sd_gives (ReceiveBlocks count) c h kind = tt
-sd_gives (ReceiveRegister count) c h kind = tt
-sd_gives (GiveBlocks blocks) c h kind = tt
-sd_gives AwaitReady c h kind = tt
-
-pub steps_are_outcomes_sd : StepsAreOutcomes Sd
-steps_are_outcomes_sd event c h returned u pair made s = outcomes_law Sd event c h returned u pair made (sd_gives event c h (sym pair.kind)) s

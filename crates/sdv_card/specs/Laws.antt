@@ -5,11 +5,13 @@ use Rattle.sdv_registers.specs.declared.kind.Kind.TheVariants.{Emmc}
 use Rattle.sdv_card.specs.declared.guard.Guard.{Guard}
 use Rattle.sdv_card.specs.declared.guard.Guard.TheVariants.{Ok as WentWell}
 use Rattle.sdv_card.specs.declared.command.Order.{Order}
+use Rattle.sdv_card.specs.declared.command.Order.TheVariants.{ReadSingleBlock, ReadMultipleBlock, WriteBlock, WriteMultipleBlock, EraseBlockStart, EraseBlockEnd, EraseGroupStart, EraseGroupEnd}
+use Rattle.sdv_card.specs.declared.event.Ask.{Ask}
 use Rattle.sdv_card.specs.Lists.{May}
 use Rattle.sdv_card.specs.Card.{Card}
 use Rattle.sdv_card.specs.Host.{Host, host_after}
 use Rattle.sdv_card.specs.ScriptEvent.{ScriptEvent, SendCommand, Return, event_of}
-use Rattle.sdv_card.specs.CommandTable.{order_of}
+use Rattle.sdv_card.specs.CommandTable.{order_of, addressed_blocks}
 use Rattle.sdv_card.specs.Expected.{Expected}
 use Rattle.sdv_card.specs.HostEvents.{Makes}
 use Rattle.sdv_card.specs.Taken.{SameCard}
@@ -51,10 +53,10 @@ pub record SomeStep (event : ScriptEvent) (c : Card) : Type 0 where
 abbrev pub HasStep : Kind → Type 0
 HasStep k = (event : ScriptEvent) (c : Card) (h : Host) → IsPair k c h → EventLegal event c → SomeStep event c
 
--- each step of a card beside its host is among the outcomes at their code
+-- each legal step of a card beside its host is among the outcomes at their code
 abbrev pub StepsAreOutcomes : Kind → Type 0
 StepsAreOutcomes k = (event : ScriptEvent) (c : Card) (h : Host) (returned : Return) (u : Card) →
-    IsPair k c h → Makes k event h → Step event c returned u →
+    IsPair k c h → Makes k event h → EventLegal event c → Step event c returned u →
     May (outcomes_code k (pair_code c h) (event_of event)) (outcome_of (branch (view u (host_after k event returned h)) (seen_of k returned)))
 
 -- what each step returns is what the host waits for
@@ -80,6 +82,22 @@ StepsKeepSound k = (event : ScriptEvent) (c : Card) (h : Host) (returned : Retur
 abbrev pub StepsKeepOnCard : Kind → Type 0
 StepsKeepOnCard k = (event : ScriptEvent) (c : Card) (h : Host) (returned : Return) (u : Card) →
     IsPair k c h → EventLegal event c → InBounds event c → Step event c returned u → TransferOnCard c → TransferOnCard u
+
+-- the blocks that a command addresses: those that it moves, or the one that it names
+abbrev pub order_blocks : Order → Option ℕ
+order_blocks ReadSingleBlock = Some 1
+order_blocks (ReadMultipleBlock n) = Some n
+order_blocks WriteBlock = Some 1
+order_blocks (WriteMultipleBlock n) = Some n
+order_blocks EraseBlockStart = Some 1
+order_blocks EraseBlockEnd = Some 1
+order_blocks EraseGroupStart = Some 1
+order_blocks EraseGroupEnd = Some 1
+order_blocks order = None
+
+-- an ask addresses the blocks of its command
+abbrev pub AsksAddress : Kind → Type 0
+AsksAddress k = (ask : Ask) (order : Order) → order_of k ask ≡ Some order → order_blocks order ≡ addressed_blocks ask
 
 -- before the first command
 pub record StartHolds (k : Kind) (c : Card) (h : Host) : Type 0 where

@@ -4,7 +4,7 @@ ghost use Rattle.sdv_card.specs.declared.event.Outcome.{Outcome};
 ghost use Rattle.sdv_card.specs.Lists.{May, AreDistinct};
 ghost use Rattle.sdv_card.specs.Outcomes.{outcomes_code};
 ghost use Rattle.sdv_card.specs.LegalShapes.{legal_code};
-ghost use Rattle.sdv_card.specs.Laws.{PairsHaveShapes, LegalIsExact, HasStep, StepsAreOutcomes, StepsAreExpected, StepsKeepPairs, StepsKeepSame, StepsKeepSound, StepsKeepOnCard, StartsHold, VerdictsHold};
+ghost use Rattle.sdv_card.specs.Laws.{PairsHaveShapes, LegalIsExact, HasStep, StepsAreOutcomes, StepsAreExpected, StepsKeepPairs, StepsKeepSame, StepsKeepSound, StepsKeepOnCard, AsksAddress, StartsHold, VerdictsHold};
 
 use crate::event::{Event, Outcome};
 use crate::shape::Shape;
@@ -37,7 +37,7 @@ pub trait CardTable {
     /// A card has a step at each legal event.
     ghost has_step: { HasStep kind };
 
-    /// Each step of a card is among the outcomes at the shape.
+    /// Each legal step of a card is among the outcomes at the shape.
     ghost steps_are_outcomes: { StepsAreOutcomes kind };
 
     /// What each step returns is what the host waits for.
@@ -54,6 +54,9 @@ pub trait CardTable {
 
     /// A legal step in bounds keeps the blocks of a transfer on the card.
     ghost steps_keep_on_card: { StepsKeepOnCard kind };
+
+    /// An ask addresses the blocks of its command.
+    ghost asks_address: { AsksAddress kind };
 
     /// A card of the profile before the first command has one of the start shapes, and the host knows nothing wrong.
     ghost starts_hold: { StartsHold kind };

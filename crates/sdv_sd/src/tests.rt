@@ -1,8 +1,15 @@
 //! The table beside the plain program that scans the definition, and rows from outside.
 
+ghost use Rattle.std.specs.Prelude.{◌↔◌, IsTrue, IsSome, IfSome};
+ghost use Rattle.sdv_card.specs.declared.event.Outcome.{Outcome};
+ghost use Rattle.sdv_card.specs.Lists.{May};
+ghost use Rattle.sdv_card.specs.Outcomes.{outcomes_code};
+ghost use Rattle.sdv_card.specs.LegalShapes.{legal_code};
+
 use crate::SdTable;
-use sdv_card::laws::{is_shape, legal_by_rows, outcomes_by_rows, plain_legal, plain_outcomes};
-use sdv_card::{Aim, Ask, Event, Kind, Outcome, Seen, Shape};
+use arrayvec::ArrayVec;
+use sdv_card::laws::{is_shape, plain_legal, plain_outcomes};
+use sdv_card::{Aim, Ask, CardTable, Event, Kind, Outcome, Seen, Shape};
 use std::process::Abort;
 
 fn send(index: u8, aim: Aim, argument: u32, count: u16) -> Event {
@@ -47,19 +54,26 @@ const ASKS: [(u8, Aim, u32, u16); 29] = [
     (55, Aim::Rca, 0, 0),
 ];
 
+/// What may follow an event by a table, or none where the event is not legal.
+fn follow<T: CardTable>(shape: Shape, event: &Event) -> Option<ArrayVec<Outcome, 32>>
+    ensures allowed { IsSome result ↔ IsTrue (legal_code T.kind shape.0 event.now) }
+    ensures follows { IfSome result (λ all. (o : Outcome) → May all.items o ↔ May (outcomes_code T.kind shape.0 event.now) o) }
+{
+    if T::legal(shape, event) {
+        Some(T::outcomes(shape, event))
+    } else {
+        None
+    }
+}
+
 /// The table and the plain program say the same: the same legality, and where it is legal the same outcomes.
 fn expect_same(rt: &impl Abort, code: u64, event: &Event) -> usize {
     let shape = Shape(code);
-    let legal = plain_legal(Kind::Sd, shape, event);
-    assert_eq!(rt;
-        legal_by_rows::<SdTable>(shape, event),
-        legal,
-        "{code:x} {event:?}"
-    );
-    if !legal {
+    let Some(all) = follow::<SdTable>(shape, event) else {
+        assert!(rt; !plain_legal(Kind::Sd, shape, event), "{code:x} {event:?}");
         return 0;
-    }
-    let all = outcomes_by_rows::<SdTable>(shape, event);
+    };
+    assert!(rt; plain_legal(Kind::Sd, shape, event), "{code:x} {event:?}");
     let plain = plain_outcomes(Kind::Sd, shape, event);
     for one in all.as_slice() {
         assert!(rt;
@@ -136,7 +150,7 @@ fn legal_at_shapes(rt: HostRuntime) {
     ] {
         let event = send(index, aim, 0, count);
         assert_eq!(rt;
-            legal_by_rows::<SdTable>(Shape(code), &event),
+            SdTable::legal(Shape(code), &event),
             legal,
             "{index} at {code:x}"
         );
@@ -151,9 +165,11 @@ fn outcome(code: u64, seen: Seen) -> Outcome {
 }
 
 fn expect_outcomes(rt: &impl Abort, code: u64, event: &Event, wanted: &[Outcome]) {
-    assert!(rt; legal_by_rows::<SdTable>(Shape(code), event));
-    let all = outcomes_by_rows::<SdTable>(Shape(code), event);
-    assert!(rt; all.as_slice() == wanted, "{code:x} {event:?}");
+    let all = follow::<SdTable>(Shape(code), event);
+    assert!(rt;
+        all.is_some_and(|all| all.as_slice() == wanted),
+        "{code:x} {event:?}"
+    );
 }
 
 #[test]
@@ -174,10 +190,5 @@ fn outcomes_at_shapes(rt: HostRuntime) {
         outcome(0x2002, status(true)),
     ];
     expect_outcomes(&rt, 0x2002, &send(3, Aim::Plain, 0, 0), &address);
-    let event = send(55, Aim::Rca, 0, 0);
-    assert!(rt; legal_by_rows::<SdTable>(Shape(0x3107), &event));
-    assert_eq!(rt;
-        outcomes_by_rows::<SdTable>(Shape(0x3107), &event).len(),
-        18
-    );
+    assert_eq!(rt; expect_same(&rt, 0x3107, &send(55, Aim::Rca, 0, 0)), 18);
 }

@@ -29,7 +29,13 @@ pub fn with_seen<const N: usize>(all: &mut ArrayVec<Branch, N>, seen: Seen, card
 }
 
 /// Adds a branch with the status that a settled card gives for each of the fields.
-pub fn with_status<const N: usize>(all: &mut ArrayVec<Branch, N>, row: Row, doubt: bool, t: &Fields, cards: &[Fields])
+pub fn with_status<const N: usize>(
+    all: &mut ArrayVec<Branch, N>,
+    row: Row,
+    doubt: bool,
+    t: &Fields,
+    cards: &[Fields],
+)
     requires { array_vec_len all.old + length cards.now ≤ N }
     ensures items { all.new.items ≡ all.old.items ++ with_status row doubt t.now cards.now }
     ensures len { array_vec_len all.new ≡ array_vec_len all.old + length cards.now }

@@ -9,4 +9,4 @@ returns-then-is_same c =
 pub loop-other-preserved : goal.loop-other-preserved
 loop-other-preserved c =
     not_yet c.args.all.now c.loop-other.other-index _ c.args.outcome c.loop-other-test.true c.loop-other.invariant
-      (λ e. let f : true ≡ false = sym (c.is_same.ensures.1 e) ∙ c.if-is_same.false in cc)
+    (λ e. let f : true ≡ false = sym (c.is_same.ensures.1 e) ∙ c.if-is_same.false in cc)
