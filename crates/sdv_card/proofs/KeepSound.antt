@@ -39,8 +39,7 @@ use Rattle.sdv_card.proofs.SettledCard.{settled_is_card}
 use Rattle.sdv_card.proofs.RowsOfOrders.{same_announces, same_register, Says, says, order_announces, row_announces, row_csd, row_register}
 use Rattle.sdv_card.proofs.PhasePlaces.{calm_place}
 
--- A DUE TRANSFER that is none
-
+-- a transfer of which no phase is due
 no_due : (f : Transfer → Bool) (x y : Transfer) → f x ≡ false → x ≡ y → f y ≡ true → ⊥
 no_due f x y none e due = let g : false ≡ true = sym none ∙ (ap f e ∙ due) in cc
 

@@ -94,7 +94,7 @@ abbrev pub row_csd : Row → Answer → Option (List ℕ) → Option (List ℕ)
 row_csd Cmd9 (Replied (R2 bytes)) csd = Some bytes
 row_csd row answer csd = csd
 
--- the index that an answer to the order repeats, where a guard looks at it
+-- the commands on whose answers a guard's verdict rests: CMD55, and CMD8 of SD
 abbrev pub is_app_command : Order → Bool
 is_app_command AppCommand = true
 is_app_command order = false

@@ -81,7 +81,7 @@ wait_law end c u h w =
     subst (λ v. May (wait_ends end (view c h)) v) (ap (λ v. branch (view v h) (wait_seen end)) w.card)
     (May-map (λ state. branch (record (view c h) { state = state }) (wait_seen end)) w.may)
 
--- well or not
+-- however it ends
 either_end : (end : DataEnd) (c u : Card) (h : Host) → May (phase_ends end (view c h)) (branch (view u h) (phase_seen end)) →
     May (phase_ends Ok (view c h) ++ phase_ends Cut (view c h)) (branch (view u h) (phase_seen end))
 either_end Ok c u h m = May-append_left _ m
