@@ -1,1 +1,4 @@
 pub mod Known
+pub mod Flags
+pub mod Steps
+pub mod Given

@@ -89,7 +89,7 @@ fn put_answer(line: &mut Line, answer: &Answer)
 }
 
 /// Writes bytes to a trace. Where the writer fails, a front of them is written.
-fn write_all<T: Write>(trace: &mut T, bytes: &[u8]) -> Result<(), TraceFault>
+pub(crate) fn write_all<T: Write>(trace: &mut T, bytes: &[u8]) -> Result<(), TraceFault>
     ensures { Writes (T.contents trace.old) (T.contents trace.new) result bytes.now }
 {
     let mut rest = bytes;

@@ -1,0 +1,28 @@
+-- What is known at a point of a script: which shapes a card may have there beside its host, and bounds of numbers.
+-- Bounds are this project's own.
+use Rattle.std.specs.Prelude.{◌<◌, ℕ, List, slice_index_or, AllPairs, None}
+use Rattle.arrayvec.specs.ArrayVec.{with_item}
+use Rattle.sdv_card.specs.declared.shape.Shape.{Shape}
+use Rattle.sdv_script.specs.Rules.{max_number}
+use Rattle.sdv_facts.specs.declared.numbers.VarFacts.{VarFacts}
+use Rattle.sdv_facts.specs.declared.numbers.Numbers.{Numbers}
+
+pub record Known : Type 0 where
+  pub shapes : List Shape
+  pub numbers : Numbers
+
+-- each shape is less than those after it, by its code
+abbrev pub AreRising : List Shape → Type 0
+AreRising shapes = AllPairs (λ a b. a.0 < b.0) shapes
+
+-- nothing is known of a number variable but that it is a number of a script
+abbrev pub weakest : VarFacts
+weakest = record { lo = 0; hi = max_number; gap = None }
+
+-- what is known of the variable in this place, from 0; nothing where there is none
+abbrev pub var : Numbers → ℕ → VarFacts
+var ns x = slice_index_or ns.vars.items x weakest
+
+-- other things are known of the variable in this place
+abbrev pub with_var : Numbers → ℕ → VarFacts → Numbers
+with_var ns x v = record ns { vars = with_item ns.vars x v }

@@ -1,0 +1,10 @@
+pub mod Known
+pub mod Limits
+pub mod FactsHold
+pub mod Start
+pub mod Gaps
+pub mod AfterLet
+pub mod AfterTest
+pub mod Covers
+pub mod AddressFits
+pub mod Keeps

@@ -1,0 +1,67 @@
+ghost use Rattle.std.specs.Prelude.{◌≡◌, ◌+◌, nat_le, IsTrue};
+ghost use Rattle.sdv_facts.specs.AddressFits.{gap_allows, variable_fits, position_fits, address_fits};
+ghost use Rattle.sdv_facts.specs.Keeps.{IsOnCard};
+
+use crate::facts::Facts;
+use crate::numbers::Numbers;
+use crate::units::fits;
+use sdv_script::{Address, Position};
+
+/// From a number on there are `count` blocks from `k` on, where `gap` are known of.
+fn allows(gap: Option<u64>, k: u64, count: u64) -> bool
+    ensures { result ≡ gap_allows gap (k + count) }
+{
+    match gap {
+        Some(gap) => has_room(k, count, gap),
+        None => false,
+    }
+}
+
+/// `count` blocks from `first` on are within `capacity`.
+fn has_room(first: u64, count: u64, capacity: u64) -> bool
+    ensures { result ≡ nat_le (first + count) capacity }
+{
+    match first.checked_add(count) {
+        Some(end) => end <= capacity,
+        None => false,
+    }
+}
+
+/// `count` blocks from `first` and `k` on are within `capacity`.
+fn has_room_beyond(first: u64, k: u64, count: u64, capacity: u64) -> bool
+    ensures { result ≡ nat_le (first + k + count) capacity }
+{
+    match first.checked_add(k) {
+        Some(first) => has_room(first, count, capacity),
+        None => false,
+    }
+}
+
+/// The card has `blocks` blocks from a variable and `k` on.
+fn variable_fits(numbers: &Numbers, variable: usize, k: u64, blocks: u64) -> bool
+    ensures { result ≡ variable_fits numbers.now variable k blocks }
+{
+    let known = numbers.var(variable);
+    allows(known.gap, k, blocks) || has_room_beyond(known.hi, k, blocks, numbers.m)
+}
+
+/// The card has `blocks` blocks from the position on.
+fn position_fits(numbers: &Numbers, position: Position, blocks: u64) -> bool
+    ensures { result ≡ position_fits numbers.now position blocks }
+{
+    match position {
+        Position::Number(k) => has_room(k, blocks, numbers.m),
+        Position::Variable(variable, k) => {
+            variable_fits(numbers, variable, k.unwrap_or(0), blocks)
+        }
+    }
+}
+
+/// The address is sent in the card's unit, and the card has `blocks` blocks from there on, whichever card and host the
+/// facts hold of. An address of an erase command asks for one block.
+pub fn address_ok(facts: &Facts, address: &Address, blocks: u64) -> bool
+    ensures rule { result ≡ address_fits facts.now address.now blocks }
+    ensures on_card { IsTrue result → IsOnCard facts.now address.now blocks }
+{
+    fits(facts.shapes(), address.unit) && position_fits(facts.numbers(), address.position, blocks)
+}

@@ -1,0 +1,30 @@
+//! What is known at a point of a script: the shapes that a card may have there beside its host, and bounds of numbers.
+//!
+//! The definitions stand in `specs/`. Begin at `specs/FactsHold.antt`, which says when facts hold of a card and its host.
+//! `specs/AfterLet.antt`, `specs/AfterTest.antt` and `specs/Covers.antt` say what an edge of the script's graph carries,
+//! and `specs/AddressFits.antt` which addresses lie on the card.
+#![tactic(auto)]
+
+mod address;
+mod certificate;
+mod comparison;
+mod cover;
+mod facts;
+mod gap;
+mod numbers;
+mod search;
+mod setting;
+mod test;
+#[cfg(test)]
+mod tests;
+mod units;
+
+pub use address::address_ok;
+pub use certificate::{Certificate, PointFacts};
+pub use comparison::after_test;
+pub use cover::covers;
+pub use facts::Facts;
+pub use numbers::{MAX_NUMBER, Numbers, VarFacts};
+pub use search::holds_shape;
+pub use setting::after_let;
+pub use test::Test;

@@ -1,0 +1,127 @@
+-- What one event of a run does to the port, the trace, the output and the host, and how it stops a run.
+use Rattle.std.specs.Prelude.{◌≡◌, ℕ, List, Option, Result, Ok, Err, Some, MatchResult, option_map, length, ◌≤◌, ◌^◌, if◌then◌else◌, true, false}
+use Rattle.std.specs.List.{concat}
+use Rattle.std.specs.Io.KnownBytes.{Appends}
+use Rattle.sdv_registers.specs.declared.kind.Kind.{Kind}
+use Rattle.sdv_card.specs.declared.event.Ask.{Ask}
+use Rattle.sdv_card.specs.declared.answer.Answer.{Answer}
+use Rattle.sdv_card.specs.declared.answer.DataEnd.{DataEnd}
+use Rattle.sdv_card.specs.declared.answer.DataEnd.TheVariants as ends
+use Rattle.sdv_card.specs.declared.answer.WaitEnd.{WaitEnd}
+use Rattle.sdv_card.specs.Card.{Block}
+use Rattle.sdv_card.specs.Host.{Host, host_after}
+use Rattle.sdv_card.specs.Port.{call_of, DataIn, DataInRegister, DataOut, WaitWhileBusy}
+use Rattle.sdv_card.specs.ScriptEvent.{ScriptEvent, MayReturn, SendCommand, ReceiveBlocks, ReceiveRegister, GiveBlocks, AwaitReady, Return, Answered, BlocksIn, RegisterIn, BlocksOut, Waited}
+use Rattle.sdv_card.specs.declared.guard.Guard.TheVariants.{Ok as WentWell}
+use Rattle.sdv_card.specs.Guards.{passes}
+use Rattle.sdv_card.specs.CommandTable.{argument_of}
+use Rattle.sdv_script.specs.declared.tree.Command.{Command}
+use Rattle.sdv_script.specs.declared.graph.Target.{Target}
+use Rattle.sdv_script.specs.AddressSent.{address_of_command}
+use Rattle.sdv_script.specs.Path.{Stand, arrive}
+use Rattle.sdv_run.specs.declared.fault.RunFault.{RunFault}
+use Rattle.sdv_run.specs.declared.fault.RunFault.TheVariants.{Reply, Output, Trace}
+use Rattle.sdv_run.specs.Trace.{line_of, AppendsFront}
+use Rattle.sdv_run.specs.Run.{Steps, received_by}
+use Rattle.sdv_run.specs.Answers.{is_taken}
+
+-- A COMMAND: a run goes on with an answer that is taken, and prints it
+pub record Heard (k : Kind) (ask : Ask) (argument : ℕ) (answer : Answer) (h h' : Host) (t t' : Option (List ℕ)) : Type 0 where
+  pub taken : is_taken k ask answer ≡ true
+  pub host : h' ≡ host_after k (SendCommand ask argument) (Answered answer) h
+  pub printed : Appends t t' (line_of (SendCommand ask argument) (Answered answer))
+
+-- it stops at an answer that is not taken, which is not printed, or where the trace fails
+abbrev pub Unheard : RunFault → Kind → Ask → ℕ → Answer → (t t' : Option (List ℕ)) → Type 0
+Unheard Reply k ask argument answer t t' = (is_taken k ask answer ≡ false) × (t' ≡ t)
+Unheard Trace k ask argument answer t t' =
+    (is_taken k ask answer ≡ true) × AppendsFront t t' (line_of (SendCommand ask argument) (Answered answer))
+Unheard fault k ask argument answer t t' = ⊥
+
+-- a command is sent once
+abbrev pub Sends : {S : Type 0} → Kind → Steps S → Ask → ℕ → (s s' : S) → (h h' : Host) → (t t' : Option (List ℕ)) → Result Answer RunFault → Type 0
+Sends k steps ask argument s s' h h' t t' result =
+    (answer : Answer) × steps s (call_of k (SendCommand ask argument)) (Answered answer) s'
+    × MatchResult result (λ a. (a ≡ answer) × Heard k ask argument answer h h' t t') (λ fault. Unheard fault k ask argument answer t t')
+
+-- PHASES AND WAITS: a run stops where the trace fails
+abbrev pub Unprinted : RunFault → (t t' : Option (List ℕ)) → (text : List ℕ) → Type 0
+Unprinted Trace t t' text = AppendsFront t t' text
+Unprinted fault t t' text = ⊥
+
+-- or where the output fails at the blocks of a phase that ended well, which is not printed then
+abbrev pub Unreceived : RunFault → DataEnd → List Block → (o o' t t' : Option (List ℕ)) → Type 0
+Unreceived Output end blocks o o' t t' = (end ≡ ends.Ok) × AppendsFront o o' (concat blocks) × (t' ≡ t)
+Unreceived Trace end blocks o o' t t' =
+    Appends o o' (received_by (BlocksIn end blocks)) × AppendsFront t t' (line_of (ReceiveBlocks (length blocks)) (BlocksIn end blocks))
+Unreceived fault end blocks o o' t t' = ⊥
+
+-- one phase of blocks from the card, which are written where it ended well
+abbrev pub Receives : {S : Type 0} → Steps S → (count : ℕ) → (s s' : S) → (o o' t t' : Option (List ℕ)) → Result DataEnd RunFault → Type 0
+Receives steps count s s' o o' t t' result =
+    (end : DataEnd) × (blocks : List Block) × (length blocks ≡ count) × steps s (DataIn count) (BlocksIn end blocks) s'
+    × MatchResult result
+    (λ e. (e ≡ end) × Appends o o' (received_by (BlocksIn end blocks)) × Appends t t' (line_of (ReceiveBlocks count) (BlocksIn end blocks)))
+    (λ fault. Unreceived fault end blocks o o' t t')
+
+-- one phase of a register
+abbrev pub ReceivesRegister : {S : Type 0} → Kind → Steps S → (s s' : S) → (h h' : Host) → (t t' : Option (List ℕ)) → Result DataEnd RunFault → Type 0
+ReceivesRegister k steps s s' h h' t t' result =
+    (end : DataEnd) × (bytes : List ℕ) × (length bytes ≡ h.register_length)
+    × steps s (DataInRegister h.register_length) (RegisterIn end bytes) s'
+    × MatchResult result
+    (λ e. (e ≡ end) × (h' ≡ host_after k (ReceiveRegister h.register_length) (RegisterIn end bytes) h) × Appends t t' (line_of (ReceiveRegister h.register_length) (RegisterIn end bytes)))
+    (λ fault. Unprinted fault t t' (line_of (ReceiveRegister h.register_length) (RegisterIn end bytes)))
+
+-- one phase of blocks to the card
+abbrev pub Gives : {S : Type 0} → Steps S → List Block → (s s' : S) → (t t' : Option (List ℕ)) → Result DataEnd RunFault → Type 0
+Gives steps blocks s s' t t' result =
+    (end : DataEnd) × steps s (DataOut blocks) (BlocksOut end) s'
+    × MatchResult result
+    (λ e. (e ≡ end) × Appends t t' (line_of (GiveBlocks blocks) (BlocksOut end)))
+    (λ fault. Unprinted fault t t' (line_of (GiveBlocks blocks) (BlocksOut end)))
+
+-- one wait
+abbrev pub Awaits : {S : Type 0} → Steps S → (s s' : S) → (t t' : Option (List ℕ)) → Result WaitEnd RunFault → Type 0
+Awaits steps s s' t t' result =
+    (end : WaitEnd) × steps s WaitWhileBusy (Waited end) s'
+    × MatchResult result
+    (λ e. (e ≡ end) × Appends t t' (line_of AwaitReady (Waited end)))
+    (λ fault. Unprinted fault t t' (line_of AwaitReady (Waited end)))
+
+-- THE ARGUMENT OF A COMMAND: none where its block is out of range; a run stops where it has more than 32 bits
+abbrev pub ArgumentIs : Kind → Command → Host → Result (Option ℕ) RunFault → Type 0
+ArgumentIs k c h (Ok argument) = argument ≡ option_map (λ address. argument_of k c.ask h.rca address) (address_of_command h c.address)
+ArgumentIs k c h (Err Reply) =
+    (address : ℕ) × (address_of_command h c.address ≡ Some address) × (2 ^ 32 ≤ argument_of k c.ask h.rca address)
+ArgumentIs k c h (Err fault) = ⊥
+
+-- a command is sent once, and leads where its answer does
+abbrev pub SendsOn : {S : Type 0} → Kind → Steps S → Ask → ℕ → (Return → Target) → (s s' : S) → (turns : List ℕ) → (h : Host) → Stand → (t t' : Option (List ℕ)) → Result (Unit {0}) RunFault → Type 0
+SendsOn k steps ask argument target s s' turns h stand t t' result =
+    (answer : Answer) × steps s (call_of k (SendCommand ask argument)) (Answered answer) s'
+    × MatchResult result
+    (λ _. (is_taken k ask answer ≡ true)
+    × (stand ≡ arrive (target (Answered answer)) turns (host_after k (SendCommand ask argument) (Answered answer) h))
+    × Appends t t' (line_of (SendCommand ask argument) (Answered answer)))
+    (λ fault. Unheard fault k ask argument answer t t')
+
+-- A PHASE OR A WAIT happens once, and leads where its end does
+abbrev pub target_by_end : Kind → (well other : Target) → Return → Target
+target_by_end k well other returned = if passes k WentWell returned then well else other
+
+-- where nothing is written but the trace
+abbrev pub PhaseGoesOn : {S : Type 0} → Kind → Steps S → ScriptEvent → (Return → Target) → (s s' : S) → (turns : List ℕ) → (h : Host) → Stand → (t t' : Option (List ℕ)) → Result (Unit {0}) RunFault → Type 0
+PhaseGoesOn k steps event target s s' turns h stand t t' result =
+    (returned : Return) × MayReturn event returned × steps s (call_of k event) returned s'
+    × MatchResult result
+    (λ _. (stand ≡ arrive (target returned) turns (host_after k event returned h)) × Appends t t' (line_of event returned))
+    (λ fault. Unprinted fault t t' (line_of event returned))
+
+-- where blocks are received
+abbrev pub BlocksGoOn : {S : Type 0} → Kind → Steps S → (count : ℕ) → (Return → Target) → (s s' : S) → (turns : List ℕ) → (h : Host) → Stand → (o o' t t' : Option (List ℕ)) → Result (Unit {0}) RunFault → Type 0
+BlocksGoOn k steps count target s s' turns h stand o o' t t' result =
+    (end : DataEnd) × (blocks : List Block) × (length blocks ≡ count) × steps s (DataIn count) (BlocksIn end blocks) s'
+    × MatchResult result
+    (λ _. (stand ≡ arrive (target (BlocksIn end blocks)) turns h) × Appends o o' (received_by (BlocksIn end blocks)) × Appends t t' (line_of (ReceiveBlocks count) (BlocksIn end blocks)))
+    (λ fault. Unreceived fault end blocks o o' t t')

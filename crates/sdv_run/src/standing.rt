@@ -1,0 +1,47 @@
+//! Where a run stands.
+
+ghost use Rattle.std.specs.Prelude.{◌≡◌, ◌≤◌, ◌-◌, ◌<◌, length};
+ghost use Rattle.sdv_script.specs.Path.{left, entered, turns_at, arrive};
+ghost use Rattle.sdv_run.specs.Standing.{host_of, stand_of};
+
+use crate::host::HostState;
+use arrayvec::ArrayVec;
+use sdv_script::Target;
+
+/// A point of a graph, with the turns left of the loops round it.
+#[derive(Drop)]
+pub struct Standing {
+    /// The number of the point.
+    pub point: usize,
+    /// The turns left of the loops round the point, the innermost first.
+    pub turns: ArrayVec<u16, 4>,
+    /// What the host knows.
+    pub host: HostState,
+}
+
+impl Standing {
+    /// Goes to a target: leaves loops, and enters one.
+    pub fn go_to(&mut self, target: Target)
+        requires { length (turns_at target self.old.turns.items) ≤ 4 }
+        ensures stand { stand_of self.new ≡ arrive target self.old.turns.items (host_of self.old.host) }
+        ensures kind { self.new.host.kind ≡ self.old.host.kind }
+    {
+        self.leave(target.leave);
+        if let Some(turns) = target.enter {
+            self.turns.insert(0, turns);
+        }
+        self.point = target.to;
+    }
+
+    /// Leaves so many loops.
+    fn leave(&mut self, loops: usize)
+        ensures turns { self.new.turns.items ≡ left loops self.old.turns.items }
+        ensures host { host_of self.new.host ≡ host_of self.old.host }
+        ensures kind { self.new.host.kind ≡ self.old.host.kind }
+    {
+        if loops > 0 && !self.turns.is_empty() {
+            self.turns.remove(0);
+            self.leave(loops - 1);
+        }
+    }
+}

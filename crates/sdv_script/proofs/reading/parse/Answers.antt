@@ -1,0 +1,17 @@
+use Rattle.sdv_script.specs.Place.{names_of}
+use Rattle.sdv_script.specs.Tree.{statements_of}
+use Rattle.sdv_script.proofs.GraphOf.{can_run}
+use Rattle.sdv_script.proofs.ScriptLaws.{is_script, no_script}
+use Rattle.sdv_script.proofs.reading.parse.Goals as goal
+
+pub invariant_of-result : goal.invariant_of-result
+invariant_of-result c =
+    record { can_run = can_run (names_of c.in-Ok.names) (statements_of c.in-Ok.body) (is_script c.args.text.now (names_of c.in-Ok.names) (statements_of c.in-Ok.body) c.if-text-gt-MAX_BYTES.false c.in-Ok.ensures).fits; is_script = ∣ is_script c.args.text.now (names_of c.in-Ok.names) (statements_of c.in-Ok.body) c.if-text-gt-MAX_BYTES.false c.in-Ok.ensures ∣₁ }
+
+pub returns-in-Ok-clause-script : goal.returns-in-Ok-clause-script
+returns-in-Ok-clause-script c =
+    is_script c.args.text.now (names_of c.in-Ok.names) (statements_of c.in-Ok.body) c.if-text-gt-MAX_BYTES.false c.in-Ok.ensures
+
+pub returns-in-Err-Fault-clause-only : goal.returns-in-Err-Fault-clause-only
+returns-in-Err-Fault-clause-only c kind s same is =
+    no_script c.args.text.now (rw c.in-Err-Fault.field-0-is at c.in-Err-Fault.ensures) s same is

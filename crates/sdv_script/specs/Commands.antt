@@ -1,0 +1,38 @@
+-- What a script writes after the index of a command.
+-- SD Physical Layer Simplified Specification, section 4.7.4 (detailed command description).
+use Rattle.std.specs.Prelude.{ℕ, Bool, false, ◌||◌, ◌==◌, Option, Some, None, if◌then◌else◌}
+use Rattle.sdv_registers.specs.declared.kind.Kind.TheVariants.{Sd}
+use Rattle.sdv_card.specs.declared.event.Aim.TheVariants.{Rca, Plain}
+use Rattle.sdv_card.specs.declared.event.Ask.{Ask}
+use Rattle.sdv_card.specs.declared.guard.Guard.{Guard}
+use Rattle.sdv_card.specs.declared.command.Order.{Order}
+use Rattle.sdv_card.specs.CommandTable.{order_of}
+use Rattle.sdv_card.specs.Guards.{guard_fits}
+use Rattle.sdv_script.specs.declared.form.Form.{Form}
+use Rattle.sdv_script.specs.declared.form.Form.TheVariants.{Bare, Select, Conditions, Addressed, Counted}
+
+abbrev pub either : Bool → Form → Option Form → Option Form
+either is form others = if is then Some form else others
+
+-- by the index; none where SD has no such command
+abbrev pub sd_form : ℕ → Option Form
+sd_form n =
+    either ((n == 0) || (n == 2) || (n == 3) || (n == 8) || (n == 12) || (n == 16) || (n == 38) || (n == 51)) (Bare Plain) (
+    either ((n == 9) || (n == 10) || (n == 13) || (n == 55)) (Bare Rca) (
+    either (n == 7) Select (
+    either (n == 41) Conditions (
+    either ((n == 17) || (n == 24)) (Addressed 1) (
+    either ((n == 32) || (n == 33)) (Addressed 0) (
+    either ((n == 18) || (n == 25)) Counted None))))))
+
+-- the two arguments of ACMD41: with high capacity, and without
+abbrev pub is_conditions : ℕ → Bool
+is_conditions n = (n == 0x00ff8000) || (n == 0x40ff8000)
+
+abbrev pub fits_order : Guard → Option Order → Bool
+fits_order guard None = false
+fits_order guard (Some order) = guard_fits guard order
+
+-- a guard says something of the answers to a command of SD
+unfoldable pub guard_suits : Guard → Ask → Bool
+guard_suits guard ask = fits_order guard (order_of Sd ask)

@@ -1,0 +1,247 @@
+-- What a syntax tree must meet beside the grammar: names are declared and new, guards fit, limits are kept, `break`
+-- stands in a loop's body, and the script does not fall off its end.
+use Rattle.std.specs.Prelude.{◌≡◌, ℕ, suc, ◌+◌, ◌^◌, ◌<◌, ◌≤◌, List, [], ◌∷◌, ◌++◌, length, Bool, true, false, ◌&&◌, ◌||◌, Option, Some, None, IsTrue, if◌then◌else◌}
+use Rattle.std.specs.Str.{bytes_eq}
+use Rattle.sdv_card.specs.declared.event.Aim.{Aim}
+use Rattle.sdv_card.specs.declared.event.Aim.TheVariants.{Plain}
+use Rattle.sdv_card.specs.declared.event.Ask.{Ask}
+use Rattle.sdv_card.specs.declared.guard.Guard.{Guard}
+use Rattle.sdv_script.specs.declared.depth.Depth.{Depth}
+use Rattle.sdv_script.specs.declared.form.Form.{Form}
+use Rattle.sdv_script.specs.declared.form.Form.TheVariants.{Bare, Select, Conditions, Addressed, Counted}
+use Rattle.sdv_script.specs.declared.tree.Command.{Command}
+use Rattle.sdv_script.specs.declared.tree.Address.{Address}
+use Rattle.sdv_script.specs.declared.tree.Unit.{Unit as AddressUnit}
+use Rattle.sdv_script.specs.declared.tree.Unit.TheVariants as units
+use Rattle.sdv_script.specs.declared.tree.Position.{Position}
+use Rattle.sdv_script.specs.declared.tree.Position.TheVariants as positions
+use Rattle.sdv_script.specs.declared.tree.Let.{Let}
+use Rattle.sdv_script.specs.declared.tree.Atom.{Atom}
+use Rattle.sdv_script.specs.declared.tree.Atom.TheVariants as atoms
+use Rattle.sdv_script.specs.declared.tree.Change.{Change}
+use Rattle.sdv_script.specs.declared.tree.Change.TheVariants as changes
+use Rattle.sdv_script.specs.declared.tree.Condition.{Condition}
+use Rattle.sdv_script.specs.declared.tree.Condition.TheVariants as conditions
+use Rattle.sdv_script.specs.Commands.{sd_form, is_conditions, guard_suits}
+use Rattle.sdv_script.specs.Tree.{Statements, nothing, first, Ways, otherwise, way, Statement, send, phase, setting, choice, set, clear, turns, break, done, fault, Declared}
+
+-- LIMITS
+
+-- the greatest number that a script may write
+abbrev pub max_number : ℕ
+max_number = 2 ^ 40
+
+abbrev pub max_statements : ℕ
+max_statements = 4096
+
+abbrev pub max_bytes : ℕ
+max_bytes = 65536
+
+abbrev pub max_name : ℕ
+max_name = 16
+
+abbrev pub max_flags : ℕ
+max_flags = 4
+
+abbrev pub max_numbers : ℕ
+max_numbers = 8
+
+abbrev pub max_braces : ℕ
+max_braces = 64
+
+abbrev pub max_loops : ℕ
+max_loops = 4
+
+-- NAMES
+
+-- the place of a name among others, counted from a number
+unfoldable pub place_from : ℕ → List ℕ → List (List ℕ) → Option ℕ
+place_from k name [] = None
+place_from k name (n ∷ ns) = if bytes_eq n name then Some k else place_from (suc k) name ns
+
+-- the place of a name among others, from 0
+abbrev pub place_of : List ℕ → List (List ℕ) → Option ℕ
+place_of name names = place_from 0 name names
+
+-- each is new after those before it, and none is too long
+abbrev pub AreNew : (earlier : List (List ℕ)) → List (List ℕ) → Type 0
+AreNew earlier [] = Unit {0}
+AreNew earlier (n ∷ ns) = (place_of n earlier ≡ None) × (length n ≤ max_name) × AreNew (earlier ++ n ∷ []) ns
+
+-- flags and number variables have names of their own
+pub record NamesFit (names : Declared) : Type 0 where
+  pub flags_new : AreNew [] names.flags
+  pub numbers_new : AreNew names.flags names.numbers
+  pub few_flags : length names.flags ≤ max_flags
+  pub few_numbers : length names.numbers ≤ max_numbers
+
+-- COMMANDS
+
+abbrev pub UnitFits : Declared → AddressUnit → Type 0
+UnitFits names units.Block = Unit {0}
+UnitFits names units.Byte = Unit {0}
+UnitFits names (units.By f) = f < length names.flags
+
+abbrev pub PositionFits : Declared → Position → Type 0
+PositionFits names (positions.Number n) = n ≤ max_number
+PositionFits names (positions.Variable x None) = x < length names.numbers
+PositionFits names (positions.Variable x (Some k)) = (x < length names.numbers) × (k ≤ max_number)
+
+abbrev pub AddressFits : Declared → Option Address → Type 0
+AddressFits names None = ⊥
+AddressFits names (Some a) = UnitFits names a.unit × PositionFits names a.position
+
+abbrev pub ask_with : (index : ℕ) → Aim → (argument count : ℕ) → Ask
+ask_with index aim argument count = record { index = index; aim = aim; argument = argument; count = count }
+
+-- the parts of a command are those that its form has
+abbrev pub FormFits : Declared → Option Form → Command → Type 0
+FormFits names None c = ⊥
+FormFits names (Some (Bare aim)) c = (c.ask ≡ ask_with c.ask.index aim 0 0) × (c.address ≡ None)
+FormFits names (Some Select) c = (c.ask ≡ ask_with c.ask.index c.ask.aim 0 0) × (c.address ≡ None)
+FormFits names (Some Conditions) c = (c.ask ≡ ask_with c.ask.index Plain c.ask.argument 0) × IsTrue (is_conditions c.ask.argument) × (c.address ≡ None)
+FormFits names (Some (Addressed count)) c = (c.ask ≡ ask_with c.ask.index Plain 0 count) × AddressFits names c.address
+FormFits names (Some Counted) c = (c.ask ≡ ask_with c.ask.index Plain 0 c.ask.count) × (1 ≤ c.ask.count) × (c.ask.count ≤ 65535) × AddressFits names c.address
+
+abbrev pub CommandFits : Declared → Command → Type 0
+CommandFits names c = FormFits names (sd_form c.ask.index) c
+
+-- one guard or more, and each says something of the answers to the command
+abbrev pub GuardsFit : Ask → List Guard → Type 0
+GuardsFit ask [] = ⊥
+GuardsFit ask (g ∷ []) = IsTrue (guard_suits g ask)
+GuardsFit ask (g ∷ h ∷ gs) = IsTrue (guard_suits g ask) × GuardsFit ask (h ∷ gs)
+
+-- STATEMENTS
+
+abbrev pub AtomFits : Declared → Atom → Type 0
+AtomFits names (atoms.Number n) = n ≤ max_number
+AtomFits names (atoms.Variable x) = x < length names.numbers
+AtomFits names atoms.CsdBlocks = Unit {0}
+-- an SD card has no EXT_CSD
+AtomFits names atoms.ExtBlocks = ⊥
+
+abbrev pub ChangeFits : Change → Type 0
+ChangeFits changes.Same = Unit {0}
+ChangeFits (changes.Plus k) = k ≤ max_number
+ChangeFits (changes.Minus k) = k ≤ max_number
+
+abbrev pub LetFits : Declared → Let → Type 0
+LetFits names l = (l.target < length names.numbers) × AtomFits names l.atom × ChangeFits l.change
+
+abbrev pub ConditionFits : Declared → Condition → Type 0
+ConditionFits names (conditions.Flag f) = f < length names.flags
+ConditionFits names (conditions.AtLeast x k) = (x < length names.numbers) × (k ≤ max_number)
+ConditionFits names (conditions.Below x k) = (x < length names.numbers) × (k ≤ max_number)
+
+abbrev pub deeper : Depth → Depth
+deeper depth = record depth { braces = depth.braces + 1 }
+
+abbrev pub in_loop : Depth → Depth
+in_loop depth = record depth { loops = depth.loops + 1 }
+
+-- braces may be opened at a place
+abbrev pub HasRoom : Depth → Type 0
+HasRoom depth = depth.braces < max_braces
+
+abbrev mutual
+  pub StatementsFit : Declared → Depth → Statements → Type 0
+  StatementsFit names depth nothing = Unit {0}
+  StatementsFit names depth (first s rest) = StatementFits names depth s × StatementsFit names depth rest
+
+  pub WaysFit : Declared → Depth → Ask → Ways → Type 0
+  WaysFit names depth ask (otherwise b) = HasRoom depth × StatementsFit names (deeper depth) b
+  WaysFit names depth ask (way gs b rest) =
+      GuardsFit ask gs × HasRoom depth × StatementsFit names (deeper depth) b × WaysFit names depth ask rest
+
+  pub StatementFits : Declared → Depth → Statement → Type 0
+  StatementFits names depth (send c ways) = CommandFits names c × HasRoom depth × WaysFit names (deeper depth) c.ask ways
+  StatementFits names depth (phase p a b) =
+      HasRoom depth × HasRoom (deeper depth) × StatementsFit names (deeper (deeper depth)) a × StatementsFit names (deeper (deeper depth)) b
+  StatementFits names depth (setting l) = LetFits names l
+  StatementFits names depth (choice c a b) =
+      ConditionFits names c × HasRoom depth × StatementsFit names (deeper depth) a × StatementsFit names (deeper depth) b
+  StatementFits names depth (set f) = f < length names.flags
+  StatementFits names depth (clear f) = f < length names.flags
+  StatementFits names depth (turns n a b) =
+      (1 ≤ n) × (n ≤ 65535) × (depth.loops < max_loops) × HasRoom depth
+      × StatementsFit names (deeper (in_loop depth)) a × StatementsFit names (deeper depth) b
+  StatementFits names depth break = 0 < depth.loops
+  StatementFits names depth done = Unit {0}
+  StatementFits names depth (fault name) = length name ≤ max_name
+
+-- how many statements there are
+abbrev mutual
+  pub statements_count : Statements → ℕ
+  statements_count nothing = 0
+  statements_count (first s rest) = statement_count s + statements_count rest
+
+  pub ways_count : Ways → ℕ
+  ways_count (otherwise b) = statements_count b
+  ways_count (way gs b rest) = statements_count b + ways_count rest
+
+  pub statement_count : Statement → ℕ
+  statement_count (send c ways) = 1 + ways_count ways
+  statement_count (phase p a b) = 1 + (statements_count a + statements_count b)
+  statement_count (setting l) = 1
+  statement_count (choice c a b) = 1 + (statements_count a + statements_count b)
+  statement_count (set f) = 1
+  statement_count (clear f) = 1
+  statement_count (turns n a b) = 1 + (statements_count a + statements_count b)
+  statement_count break = 1
+  statement_count done = 1
+  statement_count (fault name) = 1
+
+-- FALLING THROUGH: whether a run can come to what follows
+
+-- whether a list has a `break` of the loop round it
+abbrev mutual
+  pub statements_break : Statements → Bool
+  statements_break nothing = false
+  statements_break (first s rest) = statement_breaks s || statements_break rest
+
+  pub ways_break : Ways → Bool
+  ways_break (otherwise b) = statements_break b
+  ways_break (way gs b rest) = statements_break b || ways_break rest
+
+  pub statement_breaks : Statement → Bool
+  statement_breaks (send c ways) = ways_break ways
+  statement_breaks (phase p a b) = statements_break a || statements_break b
+  statement_breaks (setting l) = false
+  statement_breaks (choice c a b) = statements_break a || statements_break b
+  statement_breaks (set f) = false
+  statement_breaks (clear f) = false
+  statement_breaks (turns n a b) = statements_break b
+  statement_breaks break = true
+  statement_breaks done = false
+  statement_breaks (fault name) = false
+
+abbrev mutual
+  -- a list falls through if each of its statements does
+  pub statements_fall : Statements → Bool
+  statements_fall nothing = true
+  statements_fall (first s rest) = statement_falls s && statements_fall rest
+
+  pub ways_fall : Ways → Bool
+  ways_fall (otherwise b) = statements_fall b
+  ways_fall (way gs b rest) = statements_fall b || ways_fall rest
+
+  pub statement_falls : Statement → Bool
+  statement_falls (send c ways) = ways_fall ways
+  statement_falls (phase p a b) = statements_fall a || statements_fall b
+  statement_falls (setting l) = true
+  statement_falls (choice c a b) = statements_fall a || statements_fall b
+  statement_falls (set f) = true
+  statement_falls (clear f) = true
+  statement_falls (turns n a b) = statements_fall b || statements_break a
+  statement_falls break = false
+  statement_falls done = false
+  statement_falls (fault name) = false
+
+-- SCRIPTS
+
+pub record ScriptFits (names : Declared) (body : Statements) : Type 0 where
+  pub names_fit : NamesFit names
+  pub statements_fit : StatementsFit names (record { braces = 0; loops = 0 }) body
+  pub few : statements_count body ≤ max_statements
+  pub ends : statements_fall body ≡ false

@@ -1,0 +1,388 @@
+//! Statements and blocks.
+//!
+//! `left` bounds how much deeper the tree may still grow: a text of the size limit never uses it up.
+
+ghost use Rattle.std.specs.Prelude.{◌≡◌, MatchResult};
+ghost use Rattle.std.specs.Box.{box_value};
+ghost use Rattle.sdv_script.specs.Place.{tokens_at, names_of, progress_of};
+ghost use Rattle.sdv_script.specs.Tree.{statements_of, ways_of, statement_of, way};
+ghost use Rattle.sdv_script.specs.Reading.{Gives, begins, starts, closes, more_statements, more_ways, last_way, read_case, read_statement, read_after, read_send, read_phase, read_loop, read_branches, read_block, read_statements, read_ways};
+
+use crate::commands::command;
+use crate::cursor::Cursor;
+use crate::depth::Depth;
+use crate::expect::{close_brace, count, else_word, flag, ok_word, open_brace};
+use crate::fault::{FaultKind, Stop};
+use crate::guards::guard_list;
+use crate::keyword::Keyword;
+use crate::progress::Progress;
+use crate::token::{Sign, Token};
+use crate::tree::{Block, Cases, Names, Phase, Stmt};
+use crate::values::{condition, fault_name, receive, setting};
+use sdv_card::{Ask, Guard};
+use std::alloc::Global;
+
+/// A script has at most so many statements.
+pub const MAX_STATEMENTS: usize = 4096;
+
+/// A statement stands in at most so many loops' bodies.
+pub const MAX_LOOPS: usize = 4;
+
+/// Statements, up to what can begin none.
+#[cycle(blocks)]
+pub fn statements<'a>(
+    alloc: Global,
+    names: &Names<'a>,
+    left: usize,
+    depth: Depth,
+    from: Progress<'a>,
+) -> Result<(Block<'a>, Progress<'a>), Stop>
+    ensures { Gives (λ x. (statements_of x.0, progress_of x.1)) result
+        (read_statements left (names_of names.now) depth (progress_of from.entry)) }
+{
+    match left.checked_sub(1) {
+        Some(left) => row(alloc, names, left, depth, from),
+        None => Err(Stop::Fault(from.at.fault(FaultKind::Limit))),
+    }
+}
+
+#[cycle(blocks)]
+fn row<'a>(
+    alloc: Global,
+    names: &Names<'a>,
+    left: usize,
+    depth: Depth,
+    from: Progress<'a>,
+) -> Result<(Block<'a>, Progress<'a>), Stop>
+    ensures { let names = names_of names.now in Gives (λ x. (statements_of x.0, progress_of x.1)) result
+        (more_statements (read_statements left names) (read_ways left names) names depth (progress_of from.entry)) }
+{
+    if is_closed(from.at) {
+        return Ok((Block::Empty, from));
+    }
+    let (first, from) = statement(alloc, names, left, depth, from)?;
+    let (rest, from) = statements(alloc, names, left, depth, from)?;
+    Ok((Block::Then(first, Box::new(alloc, rest)?), from))
+}
+
+// No further statement stands here.
+fn is_closed(at: Cursor<'_>) -> bool
+    ensures { result ≡ closes (tokens_at at.entry) }
+{
+    matches!(at.token, Token::End | Token::Mark(Sign::CloseBrace))
+}
+
+#[cycle(blocks)]
+fn statement<'a>(
+    alloc: Global,
+    names: &Names<'a>,
+    left: usize,
+    depth: Depth,
+    from: Progress<'a>,
+) -> Result<(Stmt<'a>, Progress<'a>), Stop>
+    ensures { let names = names_of names.now in Gives (λ x. (statement_of x.0, progress_of x.1)) result
+        (read_statement (read_statements left names) (read_ways left names) names depth (tokens_at from.entry.at) from.entry.begun) }
+{
+    let Token::Key(keyword) = from.at.token else {
+        return Err(Stop::Fault(from.at.fault(FaultKind::Syntax)));
+    };
+    if !may_start(keyword, depth) {
+        return Err(Stop::Fault(from.at.fault(FaultKind::Syntax)));
+    }
+    if from.begun >= MAX_STATEMENTS {
+        return Err(Stop::Fault(from.at.fault(FaultKind::Limit)));
+    }
+    let next = Progress {
+        at: from.at.next(),
+        begun: from.begun + 1,
+    };
+    after_word(alloc, names, left, depth, keyword, from.at, next)
+}
+
+// A statement after its first word, which stands at a place that is given too.
+#[cycle(blocks)]
+fn after_word<'a>(
+    alloc: Global,
+    names: &Names<'a>,
+    left: usize,
+    depth: Depth,
+    keyword: Keyword,
+    word: Cursor<'a>,
+    from: Progress<'a>,
+) -> Result<(Stmt<'a>, Progress<'a>), Stop>
+    ensures { let names = names_of names.now in Gives (λ x. (statement_of x.0, progress_of x.1)) result
+        (read_after (read_statements left names) (read_ways left names) names depth keyword (progress_of from.entry)) }
+{
+    match keyword {
+        Keyword::Send => send(alloc, names, left, depth, from),
+        Keyword::Recv => {
+            let (phase, at) = receive(from.at);
+            ends(alloc, names, left, depth, phase, from.to(at))
+        }
+        Keyword::Give => ends(alloc, names, left, depth, Phase::GiveBlocks, from),
+        Keyword::Wait => ends(alloc, names, left, depth, Phase::Wait, from),
+        Keyword::Let => {
+            let (setting, at) = setting(names, from.at)?;
+            Ok((Stmt::Let(setting), from.to(at)))
+        }
+        Keyword::If => {
+            let (condition, at) = condition(names, from.at)?;
+            let (body, other, from) = branches(alloc, names, left, depth, depth, from.to(at))?;
+            Ok((
+                Stmt::If(condition, Box::new(alloc, body)?, Box::new(alloc, other)?),
+                from,
+            ))
+        }
+        Keyword::Set => {
+            let (f, at) = flag(names, from.at, FaultKind::Syntax)?;
+            Ok((Stmt::Set(f), from.to(at)))
+        }
+        Keyword::Clear => {
+            let (f, at) = flag(names, from.at, FaultKind::Syntax)?;
+            Ok((Stmt::Clear(f), from.to(at)))
+        }
+        Keyword::Loop => turns(alloc, names, left, depth, word, from),
+        Keyword::Break => Ok((Stmt::Break, from)),
+        Keyword::Done => Ok((Stmt::Done, from)),
+        Keyword::Fault => {
+            let (name, at) = fault_name(from.at)?;
+            Ok((Stmt::Fault(name), from.to(at)))
+        }
+        _ => Err(Stop::Fault(word.fault(FaultKind::Syntax))),
+    }
+}
+
+// A statement may start with the word here.
+fn may_start(keyword: Keyword, depth: Depth) -> bool
+    ensures { result ≡ starts keyword depth }
+{
+    match keyword {
+        Keyword::Break => depth.loops > 0,
+        _ => is_first_word(keyword),
+    }
+}
+
+/// A statement may start with the word.
+pub fn is_first_word(keyword: Keyword) -> bool
+    ensures { result ≡ begins keyword }
+{
+    matches!(
+        keyword,
+        Keyword::Send
+            | Keyword::Recv
+            | Keyword::Give
+            | Keyword::Wait
+            | Keyword::Let
+            | Keyword::If
+            | Keyword::Set
+            | Keyword::Clear
+            | Keyword::Loop
+            | Keyword::Break
+            | Keyword::Done
+            | Keyword::Fault
+    )
+}
+
+// A command, and what its answers lead to.
+#[cycle(blocks)]
+fn send<'a>(
+    alloc: Global,
+    names: &Names<'a>,
+    left: usize,
+    depth: Depth,
+    from: Progress<'a>,
+) -> Result<(Stmt<'a>, Progress<'a>), Stop>
+    ensures { let names = names_of names.now in Gives (λ x. (statement_of x.0, progress_of x.1)) result
+        (read_send (read_ways left names) names depth (progress_of from.entry)) }
+{
+    let (command, at) = command(names, from.at)?;
+    let (inside, at) = open_brace(at, depth, FaultKind::Argument)?;
+    let (cases, from) = ways(alloc, names, left, inside, &command.ask, from.to(at))?;
+    let at = close_brace(from.at)?;
+    Ok((Stmt::Send(command, cases), from.to(at)))
+}
+
+// What the end of a phase leads to.
+#[cycle(blocks)]
+fn ends<'a>(
+    alloc: Global,
+    names: &Names<'a>,
+    left: usize,
+    depth: Depth,
+    phase: Phase,
+    from: Progress<'a>,
+) -> Result<(Stmt<'a>, Progress<'a>), Stop>
+    ensures { let names = names_of names.now in Gives (λ x. (statement_of x.0, progress_of x.1)) result
+        (read_phase (read_statements left names) depth phase (progress_of from.entry)) }
+{
+    let (inside, at) = open_brace(from.at, depth, FaultKind::Syntax)?;
+    let at = ok_word(at)?;
+    let (good, other, from) = branches(alloc, names, left, inside, inside, from.to(at))?;
+    let at = close_brace(from.at)?;
+    Ok((
+        Stmt::Phase(phase, Box::new(alloc, good)?, Box::new(alloc, other)?),
+        from.to(at),
+    ))
+}
+
+// A loop, whose first word stands at a place that is given too.
+#[cycle(blocks)]
+fn turns<'a>(
+    alloc: Global,
+    names: &Names<'a>,
+    left: usize,
+    depth: Depth,
+    word: Cursor<'a>,
+    from: Progress<'a>,
+) -> Result<(Stmt<'a>, Progress<'a>), Stop>
+    ensures { let names = names_of names.now in Gives (λ x. (statement_of x.0, progress_of x.1)) result
+        (read_loop (read_statements left names) depth (progress_of from.entry)) }
+{
+    if depth.loops >= MAX_LOOPS {
+        return Err(Stop::Fault(word.fault(FaultKind::Limit)));
+    }
+    let inside = Depth {
+        braces: depth.braces,
+        loops: depth.loops + 1,
+    };
+    let (turns, at) = count(from.at, FaultKind::Syntax, FaultKind::Limit)?;
+    let (body, other, from) = branches(alloc, names, left, inside, depth, from.to(at))?;
+    Ok((
+        Stmt::Loop(turns, Box::new(alloc, body)?, Box::new(alloc, other)?),
+        from,
+    ))
+}
+
+// Two blocks, with `else` between them; the first may stand in one more loop.
+#[cycle(blocks)]
+fn branches<'a>(
+    alloc: Global,
+    names: &Names<'a>,
+    left: usize,
+    inside: Depth,
+    depth: Depth,
+    from: Progress<'a>,
+) -> Result<(Block<'a>, Block<'a>, Progress<'a>), Stop>
+    ensures { Gives (λ x. ((statements_of x.0, statements_of x.1), progress_of x.2)) result
+        (read_branches (read_statements left (names_of names.now)) inside depth (progress_of from.entry)) }
+{
+    let (first, from) = block(alloc, names, left, inside, from)?;
+    let at = else_word(from.at)?;
+    let (second, from) = block(alloc, names, left, depth, from.to(at))?;
+    Ok((first, second, from))
+}
+
+// Statements in braces.
+#[cycle(blocks)]
+fn block<'a>(
+    alloc: Global,
+    names: &Names<'a>,
+    left: usize,
+    depth: Depth,
+    from: Progress<'a>,
+) -> Result<(Block<'a>, Progress<'a>), Stop>
+    ensures { Gives (λ x. (statements_of x.0, progress_of x.1)) result
+        (read_block (read_statements left (names_of names.now)) depth (progress_of from.entry)) }
+{
+    let (inside, at) = open_brace(from.at, depth, FaultKind::Syntax)?;
+    let (block, from) = statements(alloc, names, left, inside, from.to(at))?;
+    let at = close_brace(from.at)?;
+    Ok((block, from.to(at)))
+}
+
+// The cases of a command, up to the last.
+#[cycle(blocks)]
+fn ways<'a>(
+    alloc: Global,
+    names: &Names<'a>,
+    left: usize,
+    depth: Depth,
+    ask: &Ask,
+    from: Progress<'a>,
+) -> Result<(Cases<'a>, Progress<'a>), Stop>
+    ensures { Gives (λ x. (ways_of x.0, progress_of x.1)) result
+        (read_ways left (names_of names.now) depth ask.now (progress_of from.entry)) }
+{
+    match left.checked_sub(1) {
+        Some(left) => cases(alloc, names, left, depth, ask, from),
+        None => Err(Stop::Fault(from.at.fault(FaultKind::Limit))),
+    }
+}
+
+#[cycle(blocks)]
+fn cases<'a>(
+    alloc: Global,
+    names: &Names<'a>,
+    left: usize,
+    depth: Depth,
+    ask: &Ask,
+    from: Progress<'a>,
+) -> Result<(Cases<'a>, Progress<'a>), Stop>
+    ensures { let names = names_of names.now in Gives (λ x. (ways_of x.0, progress_of x.1)) result
+        (more_ways (read_statements left names) (read_ways left names) depth ask.now (tokens_at from.entry.at) from.entry.begun) }
+{
+    if let Token::Key(Keyword::Else) = from.at.token {
+        return last_case(alloc, names, left, depth, from.to(from.at.next()));
+    }
+    let (guards, block, from) = case(alloc, names, left, depth, ask, from)?;
+    before(
+        alloc,
+        guards,
+        block,
+        ways(alloc, names, left, depth, ask, from),
+    )
+}
+
+// A case before those that were read, if they were. It stands apart so that many cases in a row need little stack.
+#[inline(never)]
+fn before<'a>(
+    alloc: Global,
+    guards: Vec<Guard>,
+    block: Box<Block<'a>>,
+    read: Result<(Cases<'a>, Progress<'a>), Stop>,
+) -> Result<(Cases<'a>, Progress<'a>), Stop>
+    ensures { MatchResult read.entry
+        (λ x. MatchResult result
+        (λ y. (ways_of y.0 ≡ way guards.items (statements_of (box_value block.entry)) (ways_of x.0)) × (progress_of y.1 ≡ progress_of x.1))
+        (λ e. e ≡ Stop.Memory))
+        (λ e. MatchResult result (λ y. ⊥) (λ f. f ≡ e)) }
+{
+    let (rest, from) = read?;
+    Ok((Cases::Case(guards, block, Box::new(alloc, rest)?), from))
+}
+
+// The last case, after `else`.
+#[inline(never)]
+#[cycle(blocks)]
+fn last_case<'a>(
+    alloc: Global,
+    names: &Names<'a>,
+    left: usize,
+    depth: Depth,
+    from: Progress<'a>,
+) -> Result<(Cases<'a>, Progress<'a>), Stop>
+    ensures { Gives (λ x. (ways_of x.0, progress_of x.1)) result
+        (last_way (read_statements left (names_of names.now)) depth (progress_of from.entry)) }
+{
+    let (block, from) = block(alloc, names, left, depth, from)?;
+    Ok((Cases::Else(Box::new(alloc, block)?), from))
+}
+
+// The guards and the block of a case. The block is boxed at once, so that many cases in a row need little stack.
+#[inline(never)]
+#[cycle(blocks)]
+fn case<'a>(
+    alloc: Global,
+    names: &Names<'a>,
+    left: usize,
+    depth: Depth,
+    ask: &Ask,
+    from: Progress<'a>,
+) -> Result<(Vec<Guard>, Box<Block<'a>>, Progress<'a>), Stop>
+    ensures { Gives (λ x. ((x.0.items, statements_of (box_value x.1)), progress_of x.2)) result
+        (read_case (read_statements left (names_of names.now)) depth ask.now (progress_of from.entry)) }
+{
+    let (guards, at) = guard_list(alloc, ask, from.at)?;
+    let (block, from) = block(alloc, names, left, depth, from.to(at))?;
+    Ok((guards, Box::new(alloc, block)?, from))
+}

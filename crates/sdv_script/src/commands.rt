@@ -1,0 +1,162 @@
+//! Commands as a script writes them.
+
+ghost use Rattle.std.specs.Prelude.{◌≡◌};
+ghost use Rattle.sdv_script.specs.Place.{tokens_at, names_of};
+ghost use Rattle.sdv_script.specs.Rules.{ask_with};
+ghost use Rattle.sdv_script.specs.Reading.{Gives, bare_command, addressed_command, read_unit, read_sum, read_position, read_address, read_select, read_conditions, read_counted, read_form, read_command};
+
+use crate::cursor::Cursor;
+use crate::expect::{at_word, count, count_word, figure, flag, number_name};
+use crate::fault::{FaultKind, Stop};
+use crate::form::{Form, form_of};
+use crate::keyword::Keyword;
+use crate::token::{Sign, Token};
+use crate::tree::{Address, Command, Names, Position, Unit};
+use sdv_card::{Aim, Ask};
+
+/// A command, from its index on.
+pub fn command<'a>(names: &Names<'_>, at: Cursor<'a>) -> Result<(Command, Cursor<'a>), Stop>
+    ensures { Gives (λ x. (x.0, tokens_at x.1)) result (read_command (names_of names.now) (tokens_at at.entry)) }
+{
+    let number = match at.token {
+        Token::Number(number) => number,
+        _ => return Err(Stop::Fault(at.fault(FaultKind::Syntax))),
+    };
+    let Ok(index) = u8::try_from(number) else {
+        return Err(Stop::Fault(at.fault(FaultKind::Command)));
+    };
+    match form_of(index) {
+        Some(form) => written(names, index, form, at.next()),
+        None => Err(Stop::Fault(at.fault(FaultKind::Command))),
+    }
+}
+
+// What stands after the index.
+fn written<'a>(
+    names: &Names<'_>,
+    index: u8,
+    form: Form,
+    at: Cursor<'a>,
+) -> Result<(Command, Cursor<'a>), Stop>
+    ensures { Gives (λ x. (x.0, tokens_at x.1)) result (read_form (names_of names.now) index form (tokens_at at.entry)) }
+{
+    match form {
+        Form::Bare(aim) => Ok((bare(ask(index, aim, 0, 0)), at)),
+        Form::Select => select(index, at),
+        Form::Conditions => conditions(index, at),
+        Form::Addressed(blocks) => {
+            let (address, at) = address(names, at)?;
+            Ok((addressed(ask(index, Aim::Plain, 0, blocks), address), at))
+        }
+        Form::Counted => counted(names, index, at),
+    }
+}
+
+fn ask(index: u8, aim: Aim, argument: u32, count: u16) -> Ask
+    ensures { result ≡ ask_with index aim argument count }
+{
+    Ask {
+        index,
+        aim,
+        argument,
+        count,
+    }
+}
+
+fn bare(ask: Ask) -> Command
+    ensures { result ≡ bare_command ask }
+{
+    Command { ask, address: None }
+}
+
+fn addressed(ask: Ask, address: Address) -> Command
+    ensures { result ≡ addressed_command ask address }
+{
+    Command {
+        ask,
+        address: Some(address),
+    }
+}
+
+// Nothing, or `none`.
+fn select(index: u8, at: Cursor<'_>) -> Result<(Command, Cursor<'_>), Stop>
+    ensures { Gives (λ x. (x.0, tokens_at x.1)) result (read_select index (tokens_at at.entry)) }
+{
+    match at.token {
+        Token::Key(Keyword::None) => Ok((bare(ask(index, Aim::Plain, 0, 0)), at.next())),
+        _ => Ok((bare(ask(index, Aim::Rca, 0, 0)), at)),
+    }
+}
+
+// One of the two arguments of ACMD41.
+fn conditions(index: u8, at: Cursor<'_>) -> Result<(Command, Cursor<'_>), Stop>
+    ensures { Gives (λ x. (x.0, tokens_at x.1)) result (read_conditions index (tokens_at at.entry)) }
+{
+    match at.token {
+        Token::Number(n) if n == 0x00ff_8000 || n == 0x40ff_8000 => {
+            Ok((bare(ask(index, Aim::Plain, n as u32, 0)), at.next()))
+        }
+        _ => Err(Stop::Fault(at.fault(FaultKind::Argument))),
+    }
+}
+
+// An address, `count` and a number of blocks.
+fn counted<'a>(names: &Names<'_>, index: u8, at: Cursor<'a>) -> Result<(Command, Cursor<'a>), Stop>
+    ensures { Gives (λ x. (x.0, tokens_at x.1)) result (read_counted (names_of names.now) index (tokens_at at.entry)) }
+{
+    let (address, at) = address(names, at)?;
+    let at = count_word(at)?;
+    let (blocks, at) = count(at, FaultKind::Argument, FaultKind::Argument)?;
+    Ok((addressed(ask(index, Aim::Plain, 0, blocks), address), at))
+}
+
+fn address<'a>(names: &Names<'_>, at: Cursor<'a>) -> Result<(Address, Cursor<'a>), Stop>
+    ensures { Gives (λ x. (x.0, tokens_at x.1)) result (read_address (names_of names.now) (tokens_at at.entry)) }
+{
+    let at = at_word(at)?;
+    let (unit, at) = unit(names, at)?;
+    let (position, at) = position(names, at)?;
+    Ok((Address { unit, position }, at))
+}
+
+fn unit<'a>(names: &Names<'_>, at: Cursor<'a>) -> Result<(Unit, Cursor<'a>), Stop>
+    ensures { Gives (λ x. (x.0, tokens_at x.1)) result (read_unit (names_of names.now) (tokens_at at.entry)) }
+{
+    match at.token {
+        Token::Key(Keyword::Block) => Ok((Unit::Block, at.next())),
+        Token::Key(Keyword::Byte) => Ok((Unit::Byte, at.next())),
+        Token::Key(Keyword::By) => {
+            let (f, at) = flag(names, at.next(), FaultKind::Argument)?;
+            Ok((Unit::By(f), at))
+        }
+        _ => Err(Stop::Fault(at.fault(FaultKind::Argument))),
+    }
+}
+
+fn position<'a>(names: &Names<'_>, at: Cursor<'a>) -> Result<(Position, Cursor<'a>), Stop>
+    ensures { Gives (λ x. (x.0, tokens_at x.1)) result (read_position (names_of names.now) (tokens_at at.entry)) }
+{
+    match at.token {
+        Token::Number(_) => {
+            let (n, at) = figure(at, FaultKind::Argument)?;
+            Ok((Position::Number(n), at))
+        }
+        _ => {
+            let (x, at) = number_name(names, at, FaultKind::Argument)?;
+            sum(x, at)
+        }
+    }
+}
+
+// A number variable, with what is added to it.
+fn sum(x: usize, at: Cursor<'_>) -> Result<(Position, Cursor<'_>), Stop>
+    ensures { Gives (λ x. (x.0, tokens_at x.1)) result (read_sum x (tokens_at at.entry)) }
+{
+    match at.token {
+        Token::Mark(Sign::Plus) => {
+            let (k, at) = figure(at.next(), FaultKind::Argument)?;
+            Ok((Position::Variable(x, Some(k)), at))
+        }
+        _ => Ok((Position::Variable(x, None), at)),
+    }
+}

@@ -1,0 +1,174 @@
+//! Guards of the cases of a command.
+
+ghost use Rattle.std.specs.Prelude.{◌≡◌, [], option_map};
+ghost use Rattle.sdv_card.specs.Guards.{guard_fits, has_status, has_ocr};
+ghost use Rattle.sdv_script.specs.Commands.{guard_suits};
+ghost use Rattle.sdv_script.specs.Place.{tokens_at};
+ghost use Rattle.sdv_script.specs.Tokens.{tokens};
+ghost use Rattle.sdv_script.specs.Reading.{Gives, after_and, state_of, guard_of, read_state, read_state_guard, read_word_guard, read_guard, read_guards};
+
+use crate::cursor::Cursor;
+use crate::expect::equals;
+use crate::fault::{FaultKind, Stop};
+use crate::keyword::Keyword;
+use crate::token::{Sign, Token};
+use sdv_card::laws::order;
+use sdv_card::{Ask, Guard, Kind, Order, State};
+use std::alloc::Global;
+
+/// The guards of a case, which say something of the answers to a command.
+pub fn guard_list<'a>(
+    alloc: Global,
+    ask: &Ask,
+    at: Cursor<'a>,
+) -> Result<(Vec<Guard>, Cursor<'a>), Stop>
+    ensures { Gives (λ x. (x.0.items, tokens_at x.1)) result (read_guards ask.now [] (tokens_at at.entry)) }
+{
+    let mut guards = Vec::new(alloc);
+    let mut at = at;
+    loop {
+        let (first, after) = guard(ask, at)?;
+        guards.push(first)?;
+        match and_sign(after) {
+            Some(next) => at = next,
+            None => return Ok((guards, after)),
+        }
+    }
+}
+
+// What follows `&`, if it stands here.
+fn and_sign(at: Cursor<'_>) -> Option<Cursor<'_>>
+    ensures { option_map tokens_at result ≡ after_and (tokens_at at.entry) }
+{
+    match at.token {
+        Token::Mark(Sign::And) => Some(at.next()),
+        _ => None,
+    }
+}
+
+fn guard<'a>(ask: &Ask, at: Cursor<'a>) -> Result<(Guard, Cursor<'a>), Stop>
+    ensures { Gives (λ x. (x.0, tokens_at x.1)) result (read_guard ask.now (tokens_at at.entry)) }
+{
+    match at.token {
+        Token::Key(Keyword::State) => state_guard(ask, at),
+        Token::Key(keyword) => word_guard(ask, keyword, at),
+        _ => Err(Stop::Fault(at.fault(FaultKind::Syntax))),
+    }
+}
+
+// A guard of one word, at a place that has the word.
+fn word_guard<'a>(ask: &Ask, keyword: Keyword, at: Cursor<'a>) -> Result<(Guard, Cursor<'a>), Stop>
+    ensures { Gives (λ x. (x.0, tokens_at x.1)) result (read_word_guard ask.now keyword (tokens at.entry.rest.now)) }
+{
+    match guard_of(keyword) {
+        Some(guard) if suits(guard, ask) => Ok((guard, at.next())),
+        Some(_) => Err(Stop::Fault(at.fault(FaultKind::Guard))),
+        None => Err(Stop::Fault(at.fault(FaultKind::Syntax))),
+    }
+}
+
+// `state`, `=` and a state, at the place of `state`.
+fn state_guard<'a>(ask: &Ask, at: Cursor<'a>) -> Result<(Guard, Cursor<'a>), Stop>
+    ensures { Gives (λ x. (x.0, tokens_at x.1)) result (read_state_guard ask.now (tokens at.entry.rest.now)) }
+{
+    if !suits(Guard::State(State::Idle), ask) {
+        return Err(Stop::Fault(at.fault(FaultKind::Guard)));
+    }
+    let at = equals(at.next())?;
+    let (state, at) = state(at)?;
+    Ok((Guard::State(state), at))
+}
+
+fn state(at: Cursor<'_>) -> Result<(State, Cursor<'_>), Stop>
+    ensures { Gives (λ x. (x.0, tokens_at x.1)) result (read_state (tokens_at at.entry)) }
+{
+    let Token::Key(keyword) = at.token else {
+        return Err(Stop::Fault(at.fault(FaultKind::Syntax)));
+    };
+    match state_of(keyword) {
+        Some(state) => Ok((state, at.next())),
+        None => Err(Stop::Fault(at.fault(FaultKind::Syntax))),
+    }
+}
+
+// The guards of one word.
+fn guard_of(keyword: Keyword) -> Option<Guard>
+    ensures { result ≡ guard_of keyword }
+{
+    match keyword {
+        Keyword::Timeout => Some(Guard::Timeout),
+        Keyword::Answer => Some(Guard::Answer),
+        Keyword::Clean => Some(Guard::Clean),
+        Keyword::Ready => Some(Guard::Ready),
+        Keyword::App => Some(Guard::App),
+        Keyword::Echo => Some(Guard::Echo),
+        Keyword::OcrReady => Some(Guard::OcrReady),
+        Keyword::OcrBlock => Some(Guard::OcrBlock),
+        _ => None,
+    }
+}
+
+fn state_of(keyword: Keyword) -> Option<State>
+    ensures { result ≡ state_of keyword }
+{
+    match keyword {
+        Keyword::Idle => Some(State::Idle),
+        Keyword::Ready => Some(State::Ready),
+        Keyword::Ident => Some(State::Ident),
+        Keyword::Stby => Some(State::Stby),
+        Keyword::Tran => Some(State::Tran),
+        Keyword::Data => Some(State::Data),
+        Keyword::Rcv => Some(State::Rcv),
+        Keyword::Prg => Some(State::Prg),
+        Keyword::Dis => Some(State::Dis),
+        _ => None,
+    }
+}
+
+// Whether a guard says something of the answers to a command.
+#[tactic(auto, unfolding(crate::specs::Commands::guard_suits))]
+fn suits(guard: Guard, ask: &Ask) -> bool
+    ensures { result ≡ guard_suits guard ask.now }
+{
+    match order(Kind::Sd, ask) {
+        Some(order) => fits(guard, order),
+        None => false,
+    }
+}
+
+fn fits(guard: Guard, order: Order) -> bool
+    ensures { result ≡ guard_fits guard order }
+{
+    match guard {
+        Guard::Timeout | Guard::Answer => true,
+        Guard::Clean | Guard::Ready | Guard::State(_) => is_status(order),
+        Guard::App => matches!(order, Order::AppCommand),
+        Guard::Echo => matches!(order, Order::SendIfCond),
+        Guard::OcrReady | Guard::OcrBlock => is_conditions(order),
+        Guard::Ok => false,
+    }
+}
+
+// The response is an R1 or an R6.
+fn is_status(order: Order) -> bool
+    ensures { result ≡ has_status order }
+{
+    !matches!(
+        order,
+        Order::GoIdleState
+            | Order::SendOpCond
+            | Order::AllSendCid
+            | Order::DeselectCards
+            | Order::SendIfCond
+            | Order::SendCsd
+            | Order::SendCid
+            | Order::SdSendOpCond { .. }
+    )
+}
+
+// The response is an R3.
+fn is_conditions(order: Order) -> bool
+    ensures { result ≡ has_ocr order }
+{
+    matches!(order, Order::SendOpCond | Order::SdSendOpCond { .. })
+}

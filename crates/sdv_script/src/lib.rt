@@ -1,0 +1,42 @@
+//! Scripts for a host of an SD card: their text, their syntax tree, and what can be said of both.
+//!
+//! Begin at `specs/Tokens.antt` and `specs/Grammar.antt`, which say what a script's text is, and at `specs/Rules.antt`,
+//! which says what its syntax tree must meet beside the grammar.
+#![tactic(auto)]
+
+mod blocks;
+mod commands;
+mod cursor;
+mod declared;
+mod depth;
+mod expect;
+mod fault;
+mod flow;
+mod form;
+mod graph;
+#[cfg(test)]
+mod graph_tests;
+mod guards;
+mod keyword;
+mod moves;
+mod points;
+mod printing;
+mod progress;
+mod reading;
+mod script;
+#[cfg(test)]
+mod tests;
+mod token;
+mod tree;
+mod values;
+
+pub use fault::{FaultKind, ScriptFault};
+pub use graph::{Action, Graph, Point, Target, Way};
+pub use points::graph_of;
+pub use printing::print;
+pub use reading::{one_tree, parse};
+pub use script::Script;
+pub use tree::{
+    Address, Atom, Block, Cases, Change, Command, Condition, Let, Names, Phase, Position, Stmt,
+    Unit,
+};

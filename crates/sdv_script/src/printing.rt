@@ -1,0 +1,60 @@
+//! Printing a script.
+
+ghost use Rattle.std.specs.Prelude.{◌≡◌, ◌++◌, ◌∷◌, ◌<◌, [], true, false, length, MatchResult};
+ghost use Rattle.sdv_script.specs.Tokens.{tokens};
+ghost use Rattle.sdv_script.specs.Place.{tokens_at};
+ghost use Rattle.std.specs.Io.KnownBytes.{Appends};
+ghost use Rattle.sdv_script.specs.Printed.{printed, pieces, pieces_at, AppendsFront};
+ghost use Rattle.sdv_script.specs.Shown.{shown};
+
+use crate::cursor::Cursor;
+use crate::script::Script;
+use crate::token::Token;
+use std::io::{Error, ErrorKind, Write};
+
+/// Writes the tokens of the script's text, with one space after each, and then a line feed.
+///
+/// # Errors
+///
+/// The writer's error, or [`ErrorKind::WriteZero`] where it takes no byte.
+pub fn print<W: Write>(script: &Script<'_>, out: &mut W) -> Result<(), Error>
+    ensures { MatchResult result
+        (λ _. Appends (W.contents out.old) (W.contents out.new) (printed (shown script.now).text))
+        (λ _. AppendsFront (W.contents out.old) (W.contents out.new) (printed (shown script.now).text)) }
+{
+    let mut at = Cursor::new(script.text);
+    while !is_end(at) {
+        if let Err(error) = put(out, at.text) {
+            return Err(error);
+        }
+        if let Err(error) = put(out, b" ") {
+            return Err(error);
+        }
+        at = at.next();
+    }
+    put(out, b"\n")
+}
+
+fn is_end(at: Cursor<'_>) -> bool
+    ensures end { result ≡ true → pieces_at at.entry ≡ [] }
+    ensures more { result ≡ false → pieces_at at.entry ≡ at.entry.text.now ∷ pieces at.entry.rest.now }
+    ensures shorter { result ≡ false → length (tokens at.entry.rest.now) < length (tokens_at at.entry) }
+{
+    matches!(at.token, Token::End)
+}
+
+fn put<W: Write>(out: &mut W, bytes: &[u8]) -> Result<(), Error>
+    ensures { MatchResult result
+        (λ _. Appends (W.contents out.old) (W.contents out.new) bytes.now)
+        (λ _. AppendsFront (W.contents out.old) (W.contents out.new) bytes.now) }
+{
+    let mut rest = bytes;
+    while !rest.is_empty() {
+        match out.write(rest) {
+            Ok(0) => return Err(Error::from(ErrorKind::WriteZero)),
+            Ok(n) => rest = &rest[n..],
+            Err(error) => return Err(error),
+        }
+    }
+    Ok(())
+}

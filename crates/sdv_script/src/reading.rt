@@ -1,0 +1,90 @@
+//! Reading a script.
+
+ghost use Rattle.std.specs.Prelude.{◌≡◌, ◌≢◌, IfOk, IfErr};
+ghost use Rattle.sdv_script.specs.Script.{Parsed, IsScript};
+ghost use Rattle.sdv_script.specs.Place.{tokens_at, names_of};
+ghost use Rattle.sdv_script.specs.Shown.{shown};
+ghost use Rattle.sdv_script.specs.Tree.{statements_of};
+ghost use Rattle.sdv_script.specs.Tokens.{tokens};
+ghost use Rattle.sdv_script.specs.Reading.{Gives, read_body, read_script};
+
+use crate::blocks::statements;
+use crate::cursor::Cursor;
+use crate::declared::declared;
+use crate::depth::Depth;
+use crate::expect::{card_word, sd_word};
+use crate::fault::{FaultKind, ScriptFault, Stop};
+use crate::flow::block_falls;
+use crate::progress::Progress;
+use crate::script::Script;
+use crate::token::Token;
+use crate::tree::{Block, Names};
+use std::alloc::Global;
+
+/// A text has at most so many bytes.
+pub const MAX_BYTES: usize = 65_536;
+
+/// The script that a text is.
+///
+/// # Errors
+///
+/// The first fault from left to right, with the line of its token. [`FaultKind::Memory`] has line 0, and comes only
+/// where memory was refused.
+pub fn parse(alloc: Global, text: &str) -> Result<Script<'_>, ScriptFault>
+    ensures script { IfOk result (λ s. IsScript (shown s)) }
+    ensures text { IfOk result (λ s. (shown s).text ≡ text.entry.now) }
+    // Unless memory was refused, a text that is refused is no script.
+    ensures only { IfErr result (λ f. f.kind ≢ FaultKind.Memory →
+        (s : Parsed) → s.text ≡ text.entry.now → IsScript s → ⊥) }
+{
+    if text.len() > MAX_BYTES {
+        return Err(ScriptFault {
+            kind: FaultKind::Limit,
+            line: 1,
+        });
+    }
+    match whole(alloc, text) {
+        Ok((names, body)) => Ok(Script { text, names, body }),
+        Err(Stop::Fault(fault)) => Err(fault),
+        Err(Stop::Memory) => Err(ScriptFault {
+            kind: FaultKind::Memory,
+            line: 0,
+        }),
+    }
+}
+
+/// A text has one syntax tree at most.
+pub fn one_tree()
+    ensures { (s t : Parsed) → IsScript s → IsScript t → s.text ≡ t.text → (s.names ≡ t.names) × (s.body ≡ t.body) }
+{}
+
+#[tactic(auto, unfolding(crate::specs::Reading::read_script))]
+fn whole(alloc: Global, text: &str) -> Result<(Names<'_>, Block<'_>), Stop>
+    ensures { Gives (λ x. (names_of x.0, statements_of x.1)) result (read_script (tokens text.entry.now)) }
+{
+    let at = Cursor::new(text);
+    let at = card_word(at)?;
+    let at = sd_word(at)?;
+    let (names, at) = declared(alloc, at)?;
+    let body = body(alloc, &names, at)?;
+    Ok((names, body))
+}
+
+// The statements of a script, up to the end of the text.
+fn body<'a>(alloc: Global, names: &Names<'a>, at: Cursor<'a>) -> Result<Block<'a>, Stop>
+    ensures { Gives (λ x. (names_of names.now, statements_of x)) result (read_body (names_of names.now) (tokens_at at.entry)) }
+{
+    let outside = Depth {
+        braces: 0,
+        loops: 0,
+    };
+    let from = Progress { at, begun: 0 };
+    let (body, from) = statements(alloc, names, MAX_BYTES, outside, from)?;
+    let Token::End = from.at.token else {
+        return Err(Stop::Fault(from.at.fault(FaultKind::Syntax)));
+    };
+    if block_falls(&body) {
+        return Err(Stop::Fault(from.at.fault(FaultKind::NoEnd)));
+    }
+    Ok(body)
+}

@@ -1,0 +1,21 @@
+//! Scripts.
+
+ghost use Rattle.sdv_script.specs.Script.{IsScript};
+ghost use Rattle.sdv_script.specs.Place.{parsed_of};
+ghost use Rattle.sdv_script.specs.GraphOf.{CanRun};
+ghost use Rattle.sdv_script.specs.Tree.{statements_of};
+
+use crate::tree::{Block, Names};
+
+/// A script: its text, the names that it declares, and its statements.
+#[derive(Drop)]
+pub struct Script<'a> {
+    /// The text.
+    pub(crate) text: &'a str,
+    /// The names that it declares.
+    pub(crate) names: Names<'a>,
+    /// Its statements.
+    pub(crate) body: Block<'a>,
+    ghost can_run: { CanRun (statements_of body) },
+    pub ghost is_script: { ∥ IsScript (parsed_of text.now names body) ∥₁ },
+}
