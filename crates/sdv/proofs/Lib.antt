@@ -2,3 +2,4 @@ mod AnswerLaws
 mod CommandLineLaws
 mod FrameTextLaws
 mod WordsGiven
+mod PlainRuns

@@ -7,6 +7,7 @@
 mod frame;
 mod line;
 mod number;
+mod plain;
 mod program;
 #[cfg(test)]
 mod tests;

@@ -1,10 +1,21 @@
 pub mod AddressLaws
+pub mod ArgumentLaws
+pub mod EdgeLaws
+pub mod FlagLaws
 mod Flags
 mod GapLaws
+pub mod Headline
+pub mod JoinLaws
 pub mod LetLaws
 pub mod RegisterLaws
 mod Rising
+pub mod RunLaws
+pub mod SetLaws
+pub mod SoundLaws
 pub mod StartLaws
+pub mod StepLaws
+pub mod SuitLaws
 pub mod TestLaws
 pub mod UnitLaws
 pub mod VariableLaws
+pub mod WayLaws

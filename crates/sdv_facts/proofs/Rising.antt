@@ -7,7 +7,11 @@ use Rattle.std.proofs.lemmas.List.Sorted.{IsNonDecreasingBy-from_default}
 use Rattle.std.proofs.lemmas.Bool.Decides.{nat_tests}
 use Rattle.sdv_card.specs.declared.shape.Shape.{Shape}
 use Rattle.sdv_card.specs.Lists.{May, IsOneOf}
+use Rattle.std.proofs.Common.{IfOk, IfErr}
+use Rattle.std.specs.List.{insert}
 use Rattle.sdv_facts.specs.Known.{AreRising}
+use Rattle.sdv_facts.specs.Sets.{with_shape}
+use Rattle.sdv_facts.proofs.SetLaws.{no_shape, there, placed}
 
 none : Shape
 none = record { 0 = 0 }
@@ -49,3 +53,22 @@ module _ (xs : List Shape) (rising : AreRising xs) (x : Shape) where
   pub searched : (r : Result ℕ ℕ) → IsSearchInRange r (length xs) → IsBinarySearchResult (λ s. nat_cmp s.0 x.0) xs r → IsTrue (is_ok r) ↔ May xs x
   searched (Ok i) within equal = ((λ t. found_at i within equal), (λ m. refl))
   searched (Err i) within parted = ((λ t. absurd (cc)), (λ m. absurd (found_nowhere i parted m)))
+
+  there_found : (i : ℕ) → IsSearchInRange (Ok i) (length xs) → IsBinarySearchResult (λ s. nat_cmp s.0 x.0) xs (Ok i) → with_shape x xs ≡ xs
+  there_found i within equal =
+      let same : (get_or xs i no_shape).0 ≡ x.0 = ranked _ _ _ (sym (equal no_shape)) in
+      there x xs i (λ k lt. let less = rising k i no_shape lt within in omega (arith, less, same)) within same
+
+  placed_missing : (i : ℕ) → IsSearchInRange (Err i) (length xs) → IsBinarySearchResult (λ s. nat_cmp s.0 x.0) xs (Err i) → with_shape x xs ≡ insert xs i x
+  placed_missing i within parted =
+      let split = parted comparisons_rise in
+      placed x xs i (λ k lt. ranked _ _ _ (sym (split.0 k no_shape (omega (arith, lt, within)) lt))) within (λ h. ranked _ _ _ (sym (split.1 i no_shape (omega arith) h)))
+
+  -- a search tells whether a shape is there, or else where it belongs
+  pub there_searched : (r : Result ℕ ℕ) → IsSearchInRange r (length xs) → IsBinarySearchResult (λ s. nat_cmp s.0 x.0) xs r → IfOk r (λ i. with_shape x xs ≡ xs)
+  there_searched (Ok i) within equal = there_found i within equal
+  there_searched (Err i) within parted = tt
+
+  pub placed_searched : (r : Result ℕ ℕ) → IsSearchInRange r (length xs) → IsBinarySearchResult (λ s. nat_cmp s.0 x.0) xs r → IfErr r (λ i. with_shape x xs ≡ insert xs i x)
+  placed_searched (Ok i) within equal = tt
+  placed_searched (Err i) within parted = placed_missing i within parted

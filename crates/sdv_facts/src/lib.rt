@@ -7,10 +7,12 @@
 
 mod address;
 mod certificate;
+mod clause;
 mod comparison;
 mod cover;
 mod facts;
 mod gap;
+mod joining;
 mod numbers;
 mod search;
 mod setting;
@@ -21,10 +23,13 @@ mod units;
 
 pub use address::address_ok;
 pub use certificate::{Certificate, PointFacts};
+pub use clause::Clause;
 pub use comparison::after_test;
 pub use cover::covers;
 pub use facts::Facts;
+pub use joining::join;
 pub use numbers::{MAX_NUMBER, Numbers, VarFacts};
 pub use search::holds_shape;
 pub use setting::after_let;
 pub use test::Test;
+pub use units::{has_flag, with_flag};

@@ -84,7 +84,7 @@ impl Numbers {
     }
 
     /// The same numbers.
-    fn copied(&self) -> Numbers
+    pub fn copied(&self) -> Numbers
         ensures { result ≡ self.now }
     {
         let mut vars = ArrayVec::new();

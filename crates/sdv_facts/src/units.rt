@@ -3,7 +3,9 @@
 ghost use Rattle.std.specs.Prelude.{◌≡◌};
 ghost use Rattle.sdv_card.specs.Code.{digits};
 ghost use Rattle.sdv_facts.specs.AfterLet.{has_block_unit, all_block_unit, all_byte_unit};
+ghost use Rattle.std.specs.Prelude.{◌<◌, ◌+◌, ◌^◌};
 ghost use Rattle.sdv_facts.specs.AddressFits.{has_flag, unit_fits};
+ghost use Rattle.sdv_facts.specs.Edges.{with_flag_shown};
 
 use sdv_card::Shape;
 use sdv_script::Unit;
@@ -18,7 +20,7 @@ fn has_block_unit(shape: Shape) -> bool
 
 /// The flag in this place, from 0, is set.
 #[tactic(auto, unfolding(sdv_card::specs::Code::digits), using(crate::proofs::Flags::no_flag))]
-fn has_flag(shape: Shape, flag: usize) -> bool
+pub fn has_flag(shape: Shape, flag: usize) -> bool
     ensures { result ≡ has_flag shape flag }
 {
     let flags = shape.0 / 65536 % 16;
@@ -28,6 +30,32 @@ fn has_flag(shape: Shape, flag: usize) -> bool
         2 => flags / 4 % 2 == 1,
         3 => flags / 8 % 2 == 1,
         _ => false,
+    }
+}
+
+/// The bit of the flag in this place, from 0.
+fn bit_of(flag: usize) -> u64
+    requires few { flag < 4 }
+    ensures { result ≡ 2 ^ (16 + flag) }
+{
+    match flag {
+        0 => 1 << 16,
+        1 => 1 << 17,
+        2 => 1 << 18,
+        _ => 1 << 19,
+    }
+}
+
+/// The shape with the flag in this place, from 0, set or clear.
+#[tactic(auto, using(crate::proofs::Flags::room_for_flag, crate::proofs::Flags::flag_is_there))]
+pub fn with_flag(shape: Shape, flag: usize, on: bool) -> Shape
+    requires few { flag < 4 }
+    ensures { result ≡ with_flag_shown shape flag on }
+{
+    match (has_flag(shape, flag), on) {
+        (false, true) => Shape(shape.0 + bit_of(flag)),
+        (true, false) => Shape(shape.0 - bit_of(flag)),
+        _ => shape,
     }
 }
 

@@ -2,3 +2,8 @@ pub mod Known
 pub mod Flags
 pub mod Steps
 pub mod Given
+pub mod Places
+pub mod Announced
+pub mod Made
+pub mod Runs
+pub mod OnCard

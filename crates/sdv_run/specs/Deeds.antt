@@ -21,7 +21,7 @@ use Rattle.sdv_script.specs.AddressSent.{address_of_command}
 use Rattle.sdv_script.specs.Path.{Stand, arrive}
 use Rattle.sdv_run.specs.declared.fault.RunFault.{RunFault}
 use Rattle.sdv_run.specs.declared.fault.RunFault.TheVariants.{Reply, Output, Trace}
-use Rattle.sdv_run.specs.Trace.{line_of, AppendsFront}
+use Rattle.sdv_run.specs.Trace.{line_of, AppendsPart}
 use Rattle.sdv_run.specs.Run.{Steps, received_by}
 use Rattle.sdv_run.specs.Answers.{is_taken}
 
@@ -35,7 +35,7 @@ pub record Heard (k : Kind) (ask : Ask) (argument : ℕ) (answer : Answer) (h h'
 abbrev pub Unheard : RunFault → Kind → Ask → ℕ → Answer → (t t' : Option (List ℕ)) → Type 0
 Unheard Reply k ask argument answer t t' = (is_taken k ask answer ≡ false) × (t' ≡ t)
 Unheard Trace k ask argument answer t t' =
-    (is_taken k ask answer ≡ true) × AppendsFront t t' (line_of (SendCommand ask argument) (Answered answer))
+    (is_taken k ask answer ≡ true) × AppendsPart t t' (line_of (SendCommand ask argument) (Answered answer))
 Unheard fault k ask argument answer t t' = ⊥
 
 -- a command is sent once
@@ -46,14 +46,14 @@ Sends k steps ask argument s s' h h' t t' result =
 
 -- PHASES AND WAITS: a run stops where the trace fails
 abbrev pub Unprinted : RunFault → (t t' : Option (List ℕ)) → (text : List ℕ) → Type 0
-Unprinted Trace t t' text = AppendsFront t t' text
+Unprinted Trace t t' text = AppendsPart t t' text
 Unprinted fault t t' text = ⊥
 
 -- or where the output fails at the blocks of a phase that ended well, which is not printed then
 abbrev pub Unreceived : RunFault → DataEnd → List Block → (o o' t t' : Option (List ℕ)) → Type 0
-Unreceived Output end blocks o o' t t' = (end ≡ ends.Ok) × AppendsFront o o' (concat blocks) × (t' ≡ t)
+Unreceived Output end blocks o o' t t' = (end ≡ ends.Ok) × AppendsPart o o' (concat blocks) × (t' ≡ t)
 Unreceived Trace end blocks o o' t t' =
-    Appends o o' (received_by (BlocksIn end blocks)) × AppendsFront t t' (line_of (ReceiveBlocks (length blocks)) (BlocksIn end blocks))
+    Appends o o' (received_by (BlocksIn end blocks)) × AppendsPart t t' (line_of (ReceiveBlocks (length blocks)) (BlocksIn end blocks))
 Unreceived fault end blocks o o' t t' = ⊥
 
 -- one phase of blocks from the card, which are written where it ended well

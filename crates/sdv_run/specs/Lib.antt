@@ -5,3 +5,6 @@ pub mod Run
 pub mod Deeds
 pub mod Moves
 pub mod Step
+pub mod Ran
+pub mod Announced
+pub mod OnCard

@@ -14,7 +14,7 @@ use Rattle.sdv_script.specs.Path.{Stand, Move, Goes, Does, Halts}
 use Rattle.sdv_run.specs.declared.end.End.{End}
 use Rattle.sdv_run.specs.declared.fault.RunFault.{RunFault}
 use Rattle.sdv_run.specs.declared.fault.RunFault.TheVariants.{Reply, Input, Output, Trace}
-use Rattle.sdv_run.specs.Trace.{line_of, AppendsFront}
+use Rattle.sdv_run.specs.Trace.{line_of, AppendsPart}
 use Rattle.sdv_run.specs.Run.{Steps, received_by, ending_of}
 use Rattle.sdv_run.specs.Answers.{is_taken}
 
@@ -53,12 +53,12 @@ CutDeed Input k steps (giving count) w w' = (length w.input < count) × (w' ≡ 
 -- the output failed at the blocks of a phase that ended well
 CutDeed Output k steps (exactly (ReceiveBlocks count)) w w' =
     (blocks : List Block) × (length blocks ≡ count) × steps w.port (call_of k (ReceiveBlocks count)) (BlocksIn ends.Ok blocks) w'.port
-    × AppendsFront w.out w'.out (concat blocks) × (w' ≡ record w { port = w'.port; out = w'.out })
+    × AppendsPart w.out w'.out (concat blocks) × (w' ≡ record w { port = w'.port; out = w'.out })
 -- the trace failed at the event's line
 CutDeed Trace k steps deed w w' =
     (event : ScriptEvent) × (returned : Return) × IsDeed deed event × MayReturn event returned
     × steps w.port (call_of k event) returned w'.port × (w.input ≡ given_by event ++ w'.input)
-    × Appends w.out w'.out (received_by returned) × AppendsFront w.trace w'.trace (line_of event returned)
+    × Appends w.out w'.out (received_by returned) × AppendsPart w.trace w'.trace (line_of event returned)
 CutDeed fault k steps deed w w' = ⊥
 
 abbrev pub CutShort : {S : Type 0} → RunFault → Kind → Steps S → Move → (w w' : World S) → Type 0

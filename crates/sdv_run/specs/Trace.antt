@@ -1,5 +1,5 @@
 -- The text of a trace: one line for each event, and one for the end of a run.
-use Rattle.std.specs.Prelude.{◌≡◌, ℕ, List, [], ◌∷◌, ◌++◌, Option, Result, MatchResult, codes, decimal, length}
+use Rattle.std.specs.Prelude.{◌≡◌, ◌<◌, ℕ, List, [], ◌∷◌, ◌++◌, Option, Result, MatchResult, codes, decimal, length}
 use Rattle.std.specs.Int.{w32, to_be_bytes}
 use Rattle.std.specs.Io.KnownBytes.{Appends}
 use Rattle.hex.specs.Hex.{encode_lower}
@@ -76,10 +76,14 @@ abbrev pub end_line : End → List ℕ
 end_line Done = codes "done" ++ line_feed
 end_line (Fault name) = codes "fault " ++ (name.bytes ++ line_feed)
 
--- known bytes grow by a front of a text
-abbrev pub AppendsFront : Option (List ℕ) → Option (List ℕ) → List ℕ → Type 0
-AppendsFront old new text = (front back : List ℕ) × (text ≡ front ++ back) × Appends old new front
+-- known bytes grow by a front of a text, and not by all of it
+abbrev pub AppendsPart : Option (List ℕ) → Option (List ℕ) → List ℕ → Type 0
+AppendsPart old new text = (front back : List ℕ) × (text ≡ front ++ back) × (0 < length back) × Appends old new front
 
--- a writer's known bytes grow by a text, or, where the writer failed, by a front of it
+-- known bytes grow by a text and then by a front of another one, and not by all of it
+abbrev pub BreaksOff : Option (List ℕ) → Option (List ℕ) → (whole text : List ℕ) → Type 0
+BreaksOff old new whole text = (front back : List ℕ) × (text ≡ front ++ back) × (0 < length back) × Appends old new (whole ++ front)
+
+-- a writer's known bytes grow by a text, or, where the writer failed, by a part of it
 abbrev pub Writes : {E : Type 0} → Option (List ℕ) → Option (List ℕ) → Result (Unit {0}) E → List ℕ → Type 0
-Writes old new result text = MatchResult result (λ _. Appends old new text) (λ _. AppendsFront old new text)
+Writes old new result text = MatchResult result (λ _. Appends old new text) (λ _. AppendsPart old new text)

@@ -1,16 +1,20 @@
-//! The runner: scripts beside a port, with their trace.
+//! The runner: scripts over a port, with their trace.
 //!
-//! Begin at `specs/Trace.antt`, which says how a run is printed.
+//! Begin at `specs/Ran.antt`, which says what a run is, and at `specs/Trace.antt`, which says how it is printed.
 #![tactic(auto)]
 
+mod accepted;
 mod answers;
 mod deeds;
 mod end;
 mod fault;
+mod graph_run;
 mod guards;
 mod host;
 mod moves;
 mod points;
+#[cfg(test)]
+mod run_tests;
 mod standing;
 mod step;
 #[cfg(test)]
@@ -18,5 +22,7 @@ mod tests;
 pub mod trace;
 mod values;
 
+pub use accepted::run;
 pub use end::End;
 pub use fault::RunFault;
+pub use graph_run::run_graph;

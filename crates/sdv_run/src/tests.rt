@@ -11,7 +11,7 @@ use std::io::{self, Write};
 
 /// A writer with room for so many bytes, which takes one at a time.
 #[derive(Drop)]
-struct Room(usize);
+pub struct Room(pub usize);
 
 impl Write for Room {
     fn write(&mut self, buf: &[u8]) -> io::Result<usize> {

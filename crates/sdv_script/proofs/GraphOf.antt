@@ -2,6 +2,7 @@
 use Rattle.std.proofs.Common.{◌≡◌, ℕ, List, length, refl, ap, ◌∙◌, arith, Bool, true, false}
 use Rattle.std.specs.Prelude.{◌||◌}
 use Rattle.sdv_registers.specs.declared.kind.Kind.{Kind}
+use Rattle.sdv_registers.specs.declared.kind.Kind.TheVariants.{Sd}
 use Rattle.sdv_card.specs.declared.event.Ask.{Ask}
 use Rattle.sdv_card.specs.Profile.{host_at_start}
 use Rattle.sdv_script.specs.declared.graph.Target.{Target}
@@ -15,6 +16,8 @@ use Rattle.sdv_script.specs.GraphOf.{CanRun, IsSound, IsGraphOf}
 use Rattle.sdv_script.specs.Moves.{statements_moves}
 use Rattle.sdv_script.proofs.Ends.{each_run_ends}
 use Rattle.sdv_script.proofs.MovesBound.{few_moves}
+use Rattle.sdv_script.proofs.PointLimits.{points_keep_limits}
+use Rattle.sdv_script.proofs.PointSuits.{points_suit}
 use Rattle.sdv_script.proofs.Nesting.{nested}
 use Rattle.sdv_script.proofs.Paths.{walks_are_paths}
 
@@ -61,22 +64,25 @@ flow_is k names b {ps} {t} {n} {f} {m} p q x y z =
 
 -- a script can be run
 pub can_run : (names : Declared) (b : Statements) → ScriptFits names b → CanRun b
-can_run names b fits = record { inside = inside names b fits; ends = fits.ends; few = fits.few; moves = few_moves names b fits }
+can_run names b fits = record { inside = inside names b fits; ends = fits.ends; few = fits.few; moves = few_moves names b fits; limits = points_keep_limits names b fits; suits = points_suit names b fits }
 
-pub sound : (k : Kind) (n f : ℕ) (names : Declared) (b : Statements) → CanRun b → IsSound (flow_of k n f b)
-sound k n f names b can = record {
-  ends = each_run_ends k b (host_at_start n) can.ends can.inside;
-  nested = nested k n f (statements_moves b) b;
+pub sound : (n f : ℕ) (names : Declared) (b : Statements) → CanRun b → IsSound (flow_of Sd n f b)
+sound n f names b can = record {
+  kind = refl;
+  ends = each_run_ends Sd b (host_at_start n) can.ends can.inside;
+  nested = nested Sd n f (statements_moves b) b;
+  limits = can.limits;
+  suits = can.suits;
 }
 
-pub is_graph_of : (k : Kind) (names : Declared) (b : Statements) → CanRun b → IsGraphOf k names b (flow_of k (length names.numbers) (length names.flags) b)
-is_graph_of k names b can = record {
+pub is_graph_of : (names : Declared) (b : Statements) → CanRun b → IsGraphOf Sd names b (flow_of Sd (length names.numbers) (length names.flags) b)
+is_graph_of names b can = record {
   kind_same = refl;
   numbers_same = refl;
   flags_same = refl;
   places_same = refl;
   first_same = refl;
   steps_same = refl;
-  walks = λ e es. walks_are_paths k names b e es can.inside;
-  sound = sound k (length names.numbers) (length names.flags) names b can;
+  walks = λ e es. walks_are_paths Sd names b e es can.inside;
+  sound = sound (length names.numbers) (length names.flags) names b can;
 }

@@ -1,10 +1,13 @@
 pub mod Again
 pub mod AgainRows
 pub mod AgainScript
+pub mod AskLaws
+pub mod CaseLaws
 pub mod GuardLaws
 pub mod LevelLaws
 pub mod NameLaws
 pub mod PieceLaws
+pub mod PrintedLaws
 pub mod WhereRead
 pub mod Written
 pub mod ScriptLaws
@@ -18,6 +21,9 @@ pub mod Standing
 pub mod Paths
 pub mod Ends
 pub mod Nesting
+pub mod PointLimits
+pub mod PointSuits
+pub mod FaultNames
 pub mod GraphOf
 pub mod MovesBound
 pub mod Smallest

@@ -45,7 +45,7 @@ module _ (k : Kind) (g : List Place) (e : Ending) where
   unroll s es (suc n, inl p) = inl p
   unroll s es (suc n, inr p) = inr (some_moves (move_from k g s) es n p)
 
-  roll : (s : Stand) (es : List Pair) → Here e (Follows k e (Path k g e) (move_from k g s) es) es → Path k g e s es
+  pub roll : (s : Stand) (es : List Pair) → Here e (Follows k e (Path k g e) (move_from k g s) es) es → Path k g e s es
   roll s es (inl p) = (1, inl p)
   roll s es (inr p) = let q = count_moves (move_from k g s) es p in (suc q.0, inr q.1)
 

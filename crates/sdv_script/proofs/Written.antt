@@ -31,21 +31,25 @@ pub appends_none : (known : Option (List ℕ)) → Appends known known []
 appends_none None = tt
 appends_none (Some xs) = sym (append-nil xs)
 
+-- some bytes, and then some more, or a front of them
+pub then_more : {E : Type 0} (r : Result (Unit {0}) E) (old mid new : Option (List ℕ)) (a b : List ℕ) → Appends old mid a
+    → MatchResult r (λ x. Appends mid new b) (λ f. AppendsFront mid new b) → MatchResult r (λ x. Appends old new (a ++ b)) (λ f. AppendsFront old new (a ++ b))
+then_more (Ok x) old mid new a b p q = appends_more old mid new a b p q
+then_more (Err f) old mid new a b p q = front_more old mid new a b p q
+
 -- PRINTING, piece by piece: what is written, and all that is to be written
 
-pub piece_failed : (old mid new : Option (List ℕ)) (all written piece rest : List ℕ) → all ≡ written ++ (piece ++ rest) → Appends old mid written → AppendsFront mid new piece → AppendsFront old new all
-piece_failed old mid new all written piece rest e p q = rw e (front_more old mid new written (piece ++ rest) p (front_longer mid new piece rest q))
+pub piece_failed : (old mid new : Option (List ℕ)) (all written piece rest : List ℕ) → all ≡ written ++ (piece ++ 32 ∷ rest) → Appends old mid written → AppendsFront mid new (piece ++ 32 ∷ []) → AppendsFront old new all
+piece_failed old mid new all written piece rest e p q =
+    let spaced : all ≡ written ++ ((piece ++ 32 ∷ []) ++ rest) = e ∙ ap (λ l. written ++ l) (sym (append_assoc piece (32 ∷ []) rest)) in
+    rw spaced (front_more old mid new written ((piece ++ 32 ∷ []) ++ rest) p (front_longer mid new (piece ++ 32 ∷ []) rest q))
 
-pub space_failed : (old mid more new : Option (List ℕ)) (all written piece rest : List ℕ) → all ≡ written ++ (piece ++ 32 ∷ rest) → Appends old mid written → Appends mid more piece → AppendsFront more new (32 ∷ []) → AppendsFront old new all
-space_failed old mid more new all written piece rest e p q r =
-    rw e (front_more old mid new written (piece ++ 32 ∷ rest) p (front_more mid more new piece (32 ∷ rest) q (front_longer more new (32 ∷ []) rest r)))
-
-pub piece_done : (old mid more new : Option (List ℕ)) (all written piece rest : List ℕ) → all ≡ written ++ (piece ++ 32 ∷ rest) → Appends old mid written → Appends mid more piece → Appends more new (32 ∷ [])
+pub piece_done : (old mid new : Option (List ℕ)) (all written piece rest : List ℕ) → all ≡ written ++ (piece ++ 32 ∷ rest) → Appends old mid written → Appends mid new (piece ++ 32 ∷ [])
     → (w : List ℕ) × (all ≡ w ++ rest) × Appends old new w
-piece_done old mid more new all written piece rest e p q r = (
-  (written ++ piece) ++ 32 ∷ [],
-  e ∙ sym (append_assoc (written ++ piece) (32 ∷ []) rest ∙ append_assoc written piece (32 ∷ rest)),
-  appends_more old more new (written ++ piece) (32 ∷ []) (appends_more old mid more written piece p q) r,
+piece_done old mid new all written piece rest e p q = (
+  written ++ (piece ++ 32 ∷ []),
+  e ∙ ap (λ l. written ++ l) (sym (append_assoc piece (32 ∷ []) rest)) ∙ sym (append_assoc written (piece ++ 32 ∷ []) rest),
+  appends_more old mid new written (piece ++ 32 ∷ []) p q,
 )
 
 pub line_done : {E : Type 0} (r : Result (Unit {0}) E) (old mid new : Option (List ℕ)) (all written : List ℕ) → all ≡ written ++ 10 ∷ [] → Appends old mid written

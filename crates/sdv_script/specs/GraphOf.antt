@@ -1,7 +1,8 @@
 -- When a graph is the GRAPH OF A SCRIPT: its paths are the script's walks, each run over it ends, and its loops are
 -- nested as its targets say.
-use Rattle.std.specs.Prelude.{◌≡◌, ◌<◌, ◌≤◌, ◌^◌, false, length}
+use Rattle.std.specs.Prelude.{◌≡◌, ◌<◌, ◌≤◌, ◌^◌, true, false, length}
 use Rattle.sdv_registers.specs.declared.kind.Kind.{Kind}
+use Rattle.sdv_registers.specs.declared.kind.Kind.TheVariants.{Sd}
 use Rattle.sdv_script.specs.declared.fault.ScriptFault.{ScriptFault}
 use Rattle.sdv_script.specs.declared.fault.FaultKind.TheVariants.{Memory}
 use Rattle.sdv_script.specs.Tree.{Statements, Declared}
@@ -10,19 +11,27 @@ use Rattle.sdv_script.specs.Points.{points_of, first_of}
 use Rattle.sdv_script.specs.Graph.{Flow, HasWalks, EachRunEnds}
 use Rattle.sdv_script.specs.Moves.{statements_moves}
 use Rattle.sdv_script.specs.Nested.{Nested}
+use Rattle.sdv_script.specs.Limits.{all_keep_limits}
+use Rattle.sdv_script.specs.Suits.{all_suit}
 
 -- what the rules of scripts say of statements, as far as their graph needs it: no `break` stands outside a loop, no run
--- falls off the end, and statements and moves are few enough to be counted
+-- falls off the end, statements and moves are few enough to be counted, each point keeps the limits, and its guards and
+-- registers suit it
 pub record CanRun (script : Statements) : Type 0 where
   pub inside : statements_break script ≡ false
   pub ends : statements_fall script ≡ false
   pub few : statements_count script ≤ max_statements
   pub moves : statements_moves script < 2 ^ 128
+  pub limits : all_keep_limits (points_of script) ≡ true
+  pub suits : all_suit (points_of script) ≡ true
 
--- what is true of every graph
+-- what is true of every graph: it is that of a script for SD cards, the one kind that scripts name
 pub record IsSound (g : Flow) : Type 0 where
+  pub kind : g.kind ≡ Sd
   pub ends : EachRunEnds g
   pub nested : Nested g
+  pub limits : all_keep_limits g.places ≡ true
+  pub suits : all_suit g.places ≡ true
 
 pub record IsGraphOf (kind : Kind) (names : Declared) (script : Statements) (g : Flow) : Type 0 where
   pub kind_same : g.kind ≡ kind

@@ -1,11 +1,16 @@
 pub mod AddressSent
+pub mod Asks
 pub mod Commands
 pub mod Conditions
+pub mod Faults
 pub mod Grammar
 pub mod Graph
 pub mod GraphOf
 pub mod Keywords
 pub mod Moves
+pub mod Limits
+pub mod Suits
+pub mod NamedFaults
 pub mod Nested
 pub mod Path
 pub mod Place

@@ -33,7 +33,7 @@ use Rattle.sdv_script.specs.declared.tree.Condition.TheVariants as conditions
 use Rattle.sdv_script.specs.Tokens.{Token, Key, Name, Number, Mark}
 use Rattle.sdv_script.specs.Commands.{sd_form, is_conditions, guard_suits}
 use Rattle.sdv_script.specs.Rules.{place_of, ask_with, deeper, in_loop, max_number, max_braces, max_loops, max_statements, max_name, max_flags, max_numbers, max_bytes, statements_fall}
-use Rattle.sdv_script.specs.Tree.{Statements, nothing, first, Ways, otherwise, way, Statement, send, phase, setting, choice, set, clear, turns, break, done, fault, Declared}
+use Rattle.sdv_script.specs.Tree.{Statements, nothing, first, Ways, otherwise, way, Statement, send, phase, setting, choice, set, clear, turns, break, done, fault, Declared, Guarded}
 
 infixl 10 ◌>>=◌
 abbrev pub ◌>>=◌ : {A B : Type 0} → Option A → (A → Option B) → Option B
@@ -388,9 +388,6 @@ more_statements blocks ways names depth at =
 
 abbrev pub last_way : Blocks → Depth → Progress → Reading Ways
 last_way blocks depth at = read_block blocks depth at >>= λ b. Some (otherwise b.0, b.1)
-
-abbrev pub Guarded : Type 0
-Guarded = List Guard × Statements
 
 -- guard {"&" guard} block
 abbrev pub read_case : Blocks → Depth → Ask → Progress → Reading Guarded

@@ -1,9 +1,11 @@
 -- The syntax tree of a script without where it lies in memory, and the tree of the code as such a tree.
-use Rattle.std.specs.Prelude.{ℕ, List}
+use Rattle.std.specs.Prelude.{ℕ, List, [], ◌∷◌}
+use Rattle.std.specs.Box.{box_value}
 use Rattle.sdv_card.specs.declared.guard.Guard.{Guard}
 use Rattle.sdv_script.specs.declared.tree.Block.{Block, Empty, Then'}
 use Rattle.sdv_script.specs.declared.tree.Cases.{Cases, Else', Case'}
 use Rattle.sdv_script.specs.declared.tree.Stmt.{Stmt, Send, Phase', Let, If', Set, Clear, Loop', Break, Done, Fault}
+use Rattle.sdv_script.specs.declared.blocks.Guarded.{Guarded as Case}
 use Rattle.sdv_script.specs.declared.tree.Command.{Command}
 use Rattle.sdv_script.specs.declared.tree.Phase.{Phase}
 use Rattle.sdv_script.specs.declared.tree.Let.{Let as Setting}
@@ -52,6 +54,18 @@ abbrev mutual
   statement_of Break = break
   statement_of Done = done
   statement_of (Fault name) = fault name.now
+
+-- the guards of a case, and its block
+abbrev pub Guarded : Type 0
+Guarded = List Guard × Statements
+
+abbrev pub guarded_of : Case → Guarded
+guarded_of c = (c.guards.items, statements_of (box_value c.block))
+
+-- cases before others
+abbrev pub before : List Guarded → Ways → Ways
+before [] others = others
+before (c ∷ cs) others = way c.0 c.1 (before cs others)
 
 -- the names of a script: of its flags and of its number variables, in declared order
 pub record Declared : Type 0 where

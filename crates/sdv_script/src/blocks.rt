@@ -2,16 +2,15 @@
 //!
 //! `left` bounds how much deeper the tree may still grow: a text of the size limit never uses it up.
 
-ghost use Rattle.std.specs.Prelude.{◌≡◌, MatchResult};
-ghost use Rattle.std.specs.Box.{box_value};
+ghost use Rattle.std.specs.Prelude.{◌≡◌, IfOk, map};
 ghost use Rattle.sdv_script.specs.Place.{tokens_at, names_of, progress_of};
-ghost use Rattle.sdv_script.specs.Tree.{statements_of, ways_of, statement_of, way};
-ghost use Rattle.sdv_script.specs.Reading.{Gives, begins, starts, closes, more_statements, more_ways, last_way, read_case, read_statement, read_after, read_send, read_phase, read_loop, read_branches, read_block, read_statements, read_ways};
+ghost use Rattle.sdv_script.specs.Tree.{statements_of, ways_of, statement_of, guarded_of, before};
+ghost use Rattle.sdv_script.specs.Reading.{Gives, begins, starts, closes, more_statements, last_way, read_case, read_statement, read_after, read_send, read_phase, read_loop, read_branches, read_block, read_statements, read_ways};
 
 use crate::commands::command;
 use crate::cursor::Cursor;
 use crate::depth::Depth;
-use crate::expect::{close_brace, count, else_word, flag, ok_word, open_brace};
+use crate::expect::{after_else, close_brace, count, else_word, flag, ok_word, open_brace};
 use crate::fault::{FaultKind, Stop};
 use crate::guards::guard_list;
 use crate::keyword::Keyword;
@@ -20,7 +19,7 @@ use crate::token::{Sign, Token};
 use crate::tree::{Block, Cases, Names, Phase, Stmt};
 use crate::values::{condition, fault_name, receive, setting};
 use sdv_card::{Ask, Guard};
-use std::alloc::Global;
+use std::alloc::{AllocError, Global};
 
 /// A script has at most so many statements.
 pub const MAX_STATEMENTS: usize = 4096;
@@ -290,7 +289,14 @@ fn block<'a>(
     Ok((block, from.to(at)))
 }
 
-// The cases of a command, up to the last.
+// A case before the last one.
+#[derive(Drop)]
+struct Guarded<'a> {
+    guards: Vec<Guard>,
+    block: Box<Block<'a>>,
+}
+
+// The cases of a command, up to the last. A text of the size limit may have 13,000 of them, too many for a recursion.
 #[cycle(blocks)]
 fn ways<'a>(
     alloc: Global,
@@ -303,56 +309,37 @@ fn ways<'a>(
     ensures { Gives (λ x. (ways_of x.0, progress_of x.1)) result
         (read_ways left (names_of names.now) depth ask.now (progress_of from.entry)) }
 {
-    match left.checked_sub(1) {
-        Some(left) => cases(alloc, names, left, depth, ask, from),
-        None => Err(Stop::Fault(from.at.fault(FaultKind::Limit))),
+    let mut read = Vec::new(alloc);
+    let mut from = from;
+    for left in (0..left).rev() {
+        if let Some(at) = after_else(from.at) {
+            let (last, from) = last_case(alloc, names, left, depth, from.to(at))?;
+            return Ok((before(alloc, read, last)?, from));
+        }
+        let (next, after) = case(alloc, names, left, depth, ask, from)?;
+        read.push(next)?;
+        from = after;
     }
+    Err(Stop::Fault(from.at.fault(FaultKind::Limit)))
 }
 
-#[cycle(blocks)]
-fn cases<'a>(
-    alloc: Global,
-    names: &Names<'a>,
-    left: usize,
-    depth: Depth,
-    ask: &Ask,
-    from: Progress<'a>,
-) -> Result<(Cases<'a>, Progress<'a>), Stop>
-    ensures { let names = names_of names.now in Gives (λ x. (ways_of x.0, progress_of x.1)) result
-        (more_ways (read_statements left names) (read_ways left names) depth ask.now (tokens_at from.entry.at) from.entry.begun) }
-{
-    if let Token::Key(Keyword::Else) = from.at.token {
-        return last_case(alloc, names, left, depth, from.to(from.at.next()));
-    }
-    let (guards, block, from) = case(alloc, names, left, depth, ask, from)?;
-    before(
-        alloc,
-        guards,
-        block,
-        ways(alloc, names, left, depth, ask, from),
-    )
-}
-
-// A case before those that were read, if they were. It stands apart so that many cases in a row need little stack.
-#[inline(never)]
+// Cases before others.
 fn before<'a>(
     alloc: Global,
-    guards: Vec<Guard>,
-    block: Box<Block<'a>>,
-    read: Result<(Cases<'a>, Progress<'a>), Stop>,
-) -> Result<(Cases<'a>, Progress<'a>), Stop>
-    ensures { MatchResult read.entry
-        (λ x. MatchResult result
-        (λ y. (ways_of y.0 ≡ way guards.items (statements_of (box_value block.entry)) (ways_of x.0)) × (progress_of y.1 ≡ progress_of x.1))
-        (λ e. e ≡ Stop.Memory))
-        (λ e. MatchResult result (λ y. ⊥) (λ f. f ≡ e)) }
+    first: Vec<Guarded<'a>>,
+    others: Cases<'a>,
+) -> Result<Cases<'a>, AllocError>
+    ensures { IfOk result (λ x. ways_of x ≡ before (map guarded_of first.entry.items) (ways_of others.entry)) }
 {
-    let (rest, from) = read?;
-    Ok((Cases::Case(guards, block, Box::new(alloc, rest)?), from))
+    let mut first = first;
+    let mut all = others;
+    while let Some(Guarded { guards, block }) = first.pop() {
+        all = Cases::Case(guards, block, Box::new(alloc, all)?);
+    }
+    Ok(all)
 }
 
 // The last case, after `else`.
-#[inline(never)]
 #[cycle(blocks)]
 fn last_case<'a>(
     alloc: Global,
@@ -368,8 +355,7 @@ fn last_case<'a>(
     Ok((Cases::Else(Box::new(alloc, block)?), from))
 }
 
-// The guards and the block of a case. The block is boxed at once, so that many cases in a row need little stack.
-#[inline(never)]
+// The guards and the block of a case.
 #[cycle(blocks)]
 fn case<'a>(
     alloc: Global,
@@ -378,11 +364,12 @@ fn case<'a>(
     depth: Depth,
     ask: &Ask,
     from: Progress<'a>,
-) -> Result<(Vec<Guard>, Box<Block<'a>>, Progress<'a>), Stop>
-    ensures { Gives (λ x. ((x.0.items, statements_of (box_value x.1)), progress_of x.2)) result
+) -> Result<(Guarded<'a>, Progress<'a>), Stop>
+    ensures { Gives (λ x. (guarded_of x.0, progress_of x.1)) result
         (read_case (read_statements left (names_of names.now)) depth ask.now (progress_of from.entry)) }
 {
     let (guards, at) = guard_list(alloc, ask, from.at)?;
     let (block, from) = block(alloc, names, left, depth, from.to(at))?;
-    Ok((guards, Box::new(alloc, block)?, from))
+    let block = Box::new(alloc, block)?;
+    Ok((Guarded { guards, block }, from))
 }

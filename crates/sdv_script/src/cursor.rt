@@ -1,9 +1,10 @@
 //! Places in a script's text, token by token.
 
-ghost use Rattle.std.specs.Prelude.{◌≡◌, ◌≤◌, false, length, drop};
+ghost use Rattle.std.specs.Prelude.{◌≡◌, ◌≤◌, ◌+◌, false, length, drop, min, count_by};
 ghost use Rattle.sdv_script.specs.Tokens.{after_gap, gap_step, tokens, tokens_by};
 ghost use Rattle.sdv_script.specs.TokenView.{list_of};
 ghost use Rattle.sdv_script.specs.Place.{tokens_at};
+ghost use Rattle.sdv_script.specs.Faults.{kind_at, is_line_feed};
 ghost use Rattle.sdv_script.specs.Printed.{pieces_by, pieces, pieces_at};
 
 use crate::fault::{FaultKind, ScriptFault};
@@ -40,7 +41,10 @@ impl<'a> Cursor<'a> {
     }
 
     /// What is wrong at the token; a stray token is wrong whatever was wanted.
-    pub fn fault(self, kind: FaultKind) -> ScriptFault {
+    pub fn fault(self, kind: FaultKind) -> ScriptFault
+        ensures kind { result.kind ≡ kind_at self.entry.token kind }
+        ensures line { result.line ≡ self.entry.line }
+    {
         let kind = match self.token {
             Token::Stray => FaultKind::Token,
             _ => kind,
@@ -117,7 +121,9 @@ fn in_gap(in_comment: bool, byte: u8) -> Option<bool>
 }
 
 // The line after some text that begins on a line.
-fn line_after(text: &[u8], line: u32) -> u32 {
+fn line_after(text: &[u8], line: u32) -> u32
+    ensures { result ≡ min (line + count_by is_line_feed text.now) u32.MAX }
+{
     let breaks = text.iter().filter(|byte| **byte == b'\n').count();
     line.saturating_add(u32::try_from(breaks).unwrap_or(u32::MAX))
 }

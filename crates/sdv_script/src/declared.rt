@@ -2,6 +2,7 @@
 
 ghost use Rattle.std.specs.Prelude.{◌≡◌, [], is_none};
 ghost use Rattle.sdv_script.specs.Place.{tokens_at, texts, names_of};
+ghost use Rattle.sdv_script.specs.Faults.{no_first_kind};
 ghost use Rattle.sdv_script.specs.Reading.{Gives, may_follow, name_is_new, read_names, read_flags, read_nums, read_declared};
 
 use crate::blocks::is_first_word;
@@ -93,7 +94,10 @@ fn refusal(earlier: &[&str], names: &[&str], limit: usize, name: &str) -> Option
     None
 }
 
-fn no_first_name(at: Cursor<'_>) -> ScriptFault {
+fn no_first_name(at: Cursor<'_>) -> ScriptFault
+    ensures kind { result.kind ≡ no_first_kind at.entry.token }
+    ensures line { result.line ≡ at.entry.line }
+{
     match at.token {
         Token::Key(_) => at.fault(FaultKind::Name),
         _ => at.fault(FaultKind::Syntax),

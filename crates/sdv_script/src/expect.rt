@@ -2,6 +2,7 @@
 
 ghost use Rattle.std.specs.Prelude.{◌≡◌, ℕ, ◌+◌, option_map, drop};
 ghost use Rattle.sdv_script.specs.Place.{tokens_at, texts, names_of};
+ghost use Rattle.sdv_script.specs.Faults.{no_name_kind};
 ghost use Rattle.sdv_script.specs.Rules.{place_of};
 ghost use Rattle.sdv_script.specs.Reading.{Gives, after_open, after_close, after_equals, after_else, after_ok, after_at, after_count, after_card, after_sd, read_figure, read_count, read_flag, read_number_name};
 
@@ -60,9 +61,19 @@ pub fn equals(at: Cursor<'_>) -> Result<Cursor<'_>, Stop>
 pub fn else_word(at: Cursor<'_>) -> Result<Cursor<'_>, Stop>
     ensures { Gives tokens_at result (after_else (tokens_at at.entry)) }
 {
+    match after_else(at) {
+        Some(next) => Ok(next),
+        None => Err(Stop::Fault(at.fault(FaultKind::Syntax))),
+    }
+}
+
+/// What follows `else`, if it stands here.
+pub fn after_else(at: Cursor<'_>) -> Option<Cursor<'_>>
+    ensures { option_map tokens_at result ≡ after_else (tokens_at at.entry) }
+{
     match at.token {
-        Token::Key(Keyword::Else) => Ok(at.next()),
-        _ => Err(Stop::Fault(at.fault(FaultKind::Syntax))),
+        Token::Key(Keyword::Else) => Some(at.next()),
+        _ => None,
     }
 }
 
@@ -189,7 +200,10 @@ pub fn number_name<'a>(
 }
 
 // What is wrong at a token that is no name: a word that is none, or another token.
-fn no_name(at: Cursor<'_>, other: FaultKind) -> ScriptFault {
+fn no_name(at: Cursor<'_>, other: FaultKind) -> ScriptFault
+    ensures kind { result.kind ≡ no_name_kind at.entry.token other }
+    ensures line { result.line ≡ at.entry.line }
+{
     match at.token {
         Token::Key(_) | Token::Dotted => at.fault(FaultKind::Name),
         _ => at.fault(other),

@@ -109,9 +109,10 @@ impl<'a> Graph<'a> {
         }
     }
 
-    /// The kind of card that the script is for.
+    /// The kind of card that the script is for: SD, the one kind that scripts name.
     pub fn kind(&self) -> Kind
-        ensures { result ≡ self.now.kind }
+        ensures kind { result ≡ self.now.kind }
+        ensures sd { result ≡ Kind.Sd }
     {
         self.kind
     }
@@ -157,6 +158,7 @@ impl<'a> Graph<'a> {
     pub fn steps(&self) -> u128
         ensures steps { result ≡ self.now.steps }
         ensures ends { EachRunEnds self.now }
+        ensures sound { IsSound self.now }
     {
         self.steps
     }

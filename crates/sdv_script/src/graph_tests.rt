@@ -7,6 +7,7 @@ ghost use Rattle.sdv_script.specs.Rules.{statements_count, ways_count, statement
 
 use crate::graph::{Action, Point, Target};
 use crate::points::{entry_of, graph_of, put_block};
+use crate::reading::parse;
 use crate::tree::{Atom, Block, Cases, Change, Command, Condition, Let, Names, Phase, Stmt};
 use sdv_card::{Aim, Ask, Guard, Kind};
 use std::alloc::{AllocError, Global};
@@ -184,13 +185,18 @@ fn entering(point: usize, turns: u16) -> Target {
     }
 }
 
-// What a point is, by the index of a command or the first letters of its word, and how many targets it has.
+// What a point is, by the words of its statement.
 fn name_of(point: &Point<'_>) -> &'static str {
     match point.action {
         Action::Send(..) => "send",
-        Action::Phase(..) => "phase",
+        Action::Phase(Phase::ReceiveBlocks, ..) => "recv",
+        Action::Phase(Phase::ReceiveRegister, ..) => "recv reg",
+        Action::Phase(Phase::GiveBlocks, ..) => "give",
+        Action::Phase(Phase::Wait, ..) => "wait",
         Action::Let(..) => "let",
-        Action::If(..) => "if",
+        Action::If(Condition::Flag(_), ..) => "if flag",
+        Action::If(Condition::AtLeast(..), ..) => "if >=",
+        Action::If(Condition::Below(..), ..) => "if <",
         Action::Flag(_, true, _) => "set",
         Action::Flag(_, false, _) => "clear",
         Action::Loop(..) => "loop",
@@ -229,12 +235,23 @@ fn compare(
     wanted: &[(&str, &[u16], &[Target])],
 ) {
     assert_eq!(rt; points.len(), wanted.len());
-    for (number, (point, (name, turns, targets))) in points.iter().zip(wanted).enumerate() {
-        assert_eq!(rt; name_of(point), *name, "point {number}");
-        assert_eq!(rt; point.most_turns.as_slice(), *turns, "point {number}");
-        let found = targets_of(alloc, point).expect(rt, "memory");
-        assert_eq!(rt; found.as_slice(), *targets, "point {number}");
+    for (number, (point, row)) in points.iter().zip(wanted).enumerate() {
+        compare_point(rt, alloc, number, point, *row);
     }
+}
+
+fn compare_point(
+    rt: &impl Abort,
+    alloc: Global,
+    number: usize,
+    point: &Point<'_>,
+    wanted: (&str, &[u16], &[Target]),
+) {
+    let (name, turns, targets) = wanted;
+    assert_eq!(rt; name_of(point), name, "point {number}");
+    assert_eq!(rt; point.most_turns.as_slice(), turns, "point {number}");
+    let found = targets_of(alloc, point).expect(rt, "memory");
+    assert_eq!(rt; found.as_slice(), targets, "point {number}");
 }
 
 #[test]
@@ -287,7 +304,7 @@ fn loops_in_loops(rt: HostRuntime) {
     let wanted: [(&str, &[u16], &[Target]); 8] = [
         ("loop", &[1], &[entering(1, 65535), else_loop]),
         ("loop", &[65535, 0], &[to(2), leaving(4, 1)]),
-        ("if", &[65534, 0], &[to(3), to(1)]),
+        ("if flag", &[65534, 0], &[to(3), to(1)]),
         ("break", &[65534, 0], &[leaving(0, 1)]),
         ("break", &[0], &[leaving(7, 1)]),
         ("loop", &[2], &[to(5), leaving(6, 1)]),
@@ -315,8 +332,8 @@ fn phases_and_statements_behind_the_end(rt: HostRuntime) {
         .expect(&rt, "memory")
         .expect(&rt, "count");
     let wanted: [(&str, &[u16], &[Target]); 5] = [
-        ("phase", &[], &[to(1), to(2)]),
-        ("phase", &[], &[to(3), to(3)]),
+        ("recv", &[], &[to(1), to(2)]),
+        ("wait", &[], &[to(3), to(3)]),
         ("clear", &[], &[to(3)]),
         ("done", &[], &[]),
         ("set", &[], &[to(5)]),
@@ -388,7 +405,7 @@ fn smallest_graph(rt: HostRuntime) {
     let alloc = rt.alloc();
     let script = smallest(alloc).expect(&rt, "memory");
     let names = no_names(alloc);
-    let graph = graph_of(alloc, Kind::Sd, &names, &script);
+    let graph = graph_of(alloc, &names, &script);
     let Names { flags, numbers } = names;
     assert!(rt; flags.is_empty() && numbers.is_empty());
     let graph = graph.expect(&rt, "memory");
@@ -397,4 +414,56 @@ fn smallest_graph(rt: HostRuntime) {
     assert_eq!(rt; graph.first(), to(0));
     assert_eq!(rt; (graph.nums(), graph.flags(), graph.steps()), (0, 0, 1));
     assert_eq!(rt; graph.kind(), Kind::Sd);
+}
+
+// A script with every kind of statement.
+const EVERY_STATEMENT: &str = "card sd
+flags f
+nums x
+send 13 { timeout { fault lost } clean & state=tran { set f } else { } }
+recv { ok { } else { fault rd } }
+recv reg { ok { } else { fault scr } }
+give { ok { clear f } else { } }
+wait { ok { } else { } }
+let x = csd.blocks - 1
+if x >= 8 { } else { fault small }
+if x < 100 { fault few } else { }
+if f { loop 3 { break } else { } } else { }
+done
+";
+
+#[test]
+fn every_statement(rt: HostRuntime) {
+    let alloc = rt.alloc();
+    let script = parse(alloc, EVERY_STATEMENT).expect(&rt, "a script");
+    let graph = script.graph(alloc).expect(&rt, "memory");
+    let wanted: [(&str, &[u16], &[Target]); 19] = [
+        ("send", &[], &[to(1), to(2), to(3)]),
+        ("fault", &[], &[]),
+        ("set", &[], &[to(3)]),
+        ("recv", &[], &[to(5), to(4)]),
+        ("fault", &[], &[]),
+        ("recv reg", &[], &[to(7), to(6)]),
+        ("fault", &[], &[]),
+        ("give", &[], &[to(8), to(9)]),
+        ("clear", &[], &[to(9)]),
+        ("wait", &[], &[to(10), to(10)]),
+        ("let", &[], &[to(11)]),
+        ("if >=", &[], &[to(13), to(12)]),
+        ("fault", &[], &[]),
+        ("if <", &[], &[to(14), to(15)]),
+        ("fault", &[], &[]),
+        ("if flag", &[], &[entering(16, 3), to(18)]),
+        ("loop", &[3], &[to(17), leaving(18, 1)]),
+        ("break", &[2], &[leaving(18, 1)]),
+        ("done", &[], &[]),
+    ];
+    assert_eq!(rt; graph.len(), wanted.len());
+    for number in 0..graph.len() {
+        if let Some(row) = wanted.get(number) {
+            compare_point(&rt, alloc, number, graph.point(number), *row);
+        }
+    }
+    assert_eq!(rt; graph.first(), to(0));
+    assert_eq!(rt; (graph.nums(), graph.flags()), (1, 1));
 }

@@ -33,8 +33,8 @@ mod values;
 pub use fault::{FaultKind, ScriptFault};
 pub use graph::{Action, Graph, Point, Target, Way};
 pub use points::graph_of;
-pub use printing::print;
-pub use reading::{one_tree, parse};
+pub use printing::{print, printed_tree};
+pub use reading::{asks_by_table, one_tree, parse};
 pub use script::Script;
 pub use tree::{
     Address, Atom, Block, Cases, Change, Command, Condition, Let, Names, Phase, Position, Stmt,

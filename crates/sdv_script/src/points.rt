@@ -24,22 +24,21 @@ impl<'a> Script<'a> {
     pub fn graph(&self, alloc: Global) -> Result<Graph<'a>, ScriptFault>
         ensures { MatchResult result (λ g. IsGraphOf Sd (shown self.now).names (shown self.now).body g) (λ f. f ≡ memory_fault) }
     {
-        graph_of(alloc, Kind::Sd, &self.names, &self.body)
+        graph_of(alloc, &self.names, &self.body)
     }
 }
 
-/// The graph of a script for a card of a kind, by the names that it declares and its statements. It is refused only for
+/// The graph of a script for SD cards, by the names that it declares and its statements. It is refused only for
 /// want of memory.
 pub fn graph_of<'a>(
     alloc: Global,
-    kind: Kind,
     names: &Names<'a>,
     block: &Block<'a>,
 ) -> Result<Graph<'a>, ScriptFault>
     requires { CanRun (statements_of block.now) }
-    ensures { MatchResult result (λ g. IsGraphOf kind (declared_names names.now) (statements_of block.now) g) (λ f. f ≡ memory_fault) }
+    ensures { MatchResult result (λ g. IsGraphOf Sd (declared_names names.now) (statements_of block.now) g) (λ f. f ≡ memory_fault) }
 {
-    match build(alloc, kind, names, block) {
+    match build(alloc, names, block) {
         Ok(graph) => Ok(graph),
         Err(_) => Err(ScriptFault {
             kind: FaultKind::Memory,
@@ -48,14 +47,9 @@ pub fn graph_of<'a>(
     }
 }
 
-fn build<'a>(
-    alloc: Global,
-    kind: Kind,
-    names: &Names<'a>,
-    block: &Block<'a>,
-) -> Result<Graph<'a>, AllocError>
+fn build<'a>(alloc: Global, names: &Names<'a>, block: &Block<'a>) -> Result<Graph<'a>, AllocError>
     requires { CanRun (statements_of block.now) }
-    ensures { IfOk result (λ g. IsGraphOf kind (declared_names names.now) (statements_of block.now) g) }
+    ensures { IfOk result (λ g. IsGraphOf Sd (declared_names names.now) (statements_of block.now) g) }
 {
     let end = head_of(count(block));
     let mut points = Vec::new(alloc);
@@ -63,7 +57,7 @@ fn build<'a>(
     let first = entry_of(block, 0, end);
     let steps = moves(block);
     let (numbers, flags) = (names.numbers.len(), names.flags.len());
-    Ok(Graph::from_points(kind, numbers, flags, points, first, steps))
+    Ok(Graph::from_points(Kind::Sd, numbers, flags, points, first, steps))
 }
 
 /// How many statements a list of statements has, those of its blocks included.

@@ -1,6 +1,8 @@
 //! Printing a script.
 
-ghost use Rattle.std.specs.Prelude.{◌≡◌, ◌++◌, ◌∷◌, ◌<◌, [], true, false, length, MatchResult};
+ghost use Rattle.std.specs.Prelude.{◌≡◌, ◌++◌, ◌∷◌, ◌<◌, ◌≤◌, ℕ, List, [], true, false, length, MatchResult};
+ghost use Rattle.sdv_script.specs.Rules.{max_bytes};
+ghost use Rattle.sdv_script.specs.Script.{Parsed, IsScript};
 ghost use Rattle.sdv_script.specs.Tokens.{tokens};
 ghost use Rattle.sdv_script.specs.Place.{tokens_at};
 ghost use Rattle.std.specs.Io.KnownBytes.{Appends};
@@ -24,10 +26,7 @@ pub fn print<W: Write>(script: &Script<'_>, out: &mut W) -> Result<(), Error>
 {
     let mut at = Cursor::new(script.text);
     while !is_end(at) {
-        if let Err(error) = put(out, at.text) {
-            return Err(error);
-        }
-        if let Err(error) = put(out, b" ") {
+        if let Err(error) = put_spaced(out, at.text) {
             return Err(error);
         }
         at = at.next();
@@ -35,12 +34,31 @@ pub fn print<W: Write>(script: &Script<'_>, out: &mut W) -> Result<(), Error>
     put(out, b"\n")
 }
 
+/// What is printed of a script is a script with the same tree, where it is within the size limit; and printed again it
+/// stays the same.
+pub fn printed_tree()
+    ensures script { (s : Parsed) → IsScript s → length (printed s.text) ≤ max_bytes → IsScript (record s { text = printed s.text }) }
+    ensures again { (text : List ℕ) → printed (printed text) ≡ printed text }
+{}
+
 fn is_end(at: Cursor<'_>) -> bool
     ensures end { result ≡ true → pieces_at at.entry ≡ [] }
     ensures more { result ≡ false → pieces_at at.entry ≡ at.entry.text.now ∷ pieces at.entry.rest.now }
     ensures shorter { result ≡ false → length (tokens at.entry.rest.now) < length (tokens_at at.entry) }
 {
     matches!(at.token, Token::End)
+}
+
+// Some bytes, and a space after them.
+fn put_spaced<W: Write>(out: &mut W, bytes: &[u8]) -> Result<(), Error>
+    ensures { MatchResult result
+        (λ _. Appends (W.contents out.old) (W.contents out.new) (bytes.now ++ 32 ∷ []))
+        (λ _. AppendsFront (W.contents out.old) (W.contents out.new) (bytes.now ++ 32 ∷ [])) }
+{
+    match put(out, bytes) {
+        Ok(()) => put(out, b" "),
+        Err(error) => Err(error),
+    }
 }
 
 fn put<W: Write>(out: &mut W, bytes: &[u8]) -> Result<(), Error>

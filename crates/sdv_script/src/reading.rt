@@ -1,6 +1,10 @@
 //! Reading a script.
 
 ghost use Rattle.std.specs.Prelude.{◌≡◌, ◌≢◌, IfOk, IfErr};
+ghost use Rattle.sdv_registers.specs.declared.kind.Kind.TheVariants.{Sd};
+ghost use Rattle.sdv_script.specs.Asks.{AsksByTable};
+ghost use Rattle.sdv_script.specs.Graph.{Flow};
+ghost use Rattle.sdv_script.specs.GraphOf.{IsGraphOf};
 ghost use Rattle.sdv_script.specs.Script.{Parsed, IsScript};
 ghost use Rattle.sdv_script.specs.Place.{tokens_at, names_of};
 ghost use Rattle.sdv_script.specs.Shown.{shown};
@@ -56,6 +60,11 @@ pub fn parse(alloc: Global, text: &str) -> Result<Script<'_>, ScriptFault>
 /// A text has one syntax tree at most.
 pub fn one_tree()
     ensures { (s t : Parsed) → IsScript s → IsScript t → s.text ≡ t.text → (s.names ≡ t.names) × (s.body ≡ t.body) }
+{}
+
+/// Each command of a script's graph asks by a line of the command table.
+pub fn asks_by_table()
+    ensures { (s : Parsed) → (g : Flow) → IsScript s → IsGraphOf Sd s.names s.body g → AsksByTable g }
 {}
 
 #[tactic(auto, unfolding(crate::specs::Reading::read_script))]

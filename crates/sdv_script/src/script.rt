@@ -1,11 +1,14 @@
 //! Scripts.
 
+ghost use Rattle.std.specs.Prelude.{◌≡◌};
+ghost use Rattle.sdv_registers.specs.declared.kind.Kind.TheVariants.{Sd};
 ghost use Rattle.sdv_script.specs.Script.{IsScript};
 ghost use Rattle.sdv_script.specs.Place.{parsed_of};
 ghost use Rattle.sdv_script.specs.GraphOf.{CanRun};
 ghost use Rattle.sdv_script.specs.Tree.{statements_of};
 
 use crate::tree::{Block, Names};
+use sdv_card::Kind;
 
 /// A script: its text, the names that it declares, and its statements.
 #[derive(Drop)]
@@ -18,4 +21,13 @@ pub struct Script<'a> {
     pub(crate) body: Block<'a>,
     ghost can_run: { CanRun (statements_of body) },
     pub ghost is_script: { ∥ IsScript (parsed_of text.now names body) ∥₁ },
+}
+
+impl Script<'_> {
+    /// The kind of card that the script is for.
+    pub fn kind(&self) -> Kind
+        ensures { result ≡ Sd }
+    {
+        Kind::Sd
+    }
 }

@@ -1,4 +1,8 @@
-use Rattle.std.proofs.Common.{◌*◌, ◌+◌}
+use Rattle.std.proofs.Common.{◌≡◌, ◌*◌, ◌+◌, map}
+use Rattle.sdv_script.specs.Place.{names_of, progress_of}
+use Rattle.sdv_script.specs.Tree.{guarded_of}
+use Rattle.sdv_script.specs.Reading.{read_ways}
+use Rattle.sdv_script.proofs.CaseLaws.{ahead}
 use Rattle.sdv_script.proofs.blocks.+blocks.Given as goal
 
 abbrev pub decreases-statements : goal.decreases-statements
@@ -31,11 +35,14 @@ decreases-block l = 10 * l.left + 2
 abbrev pub decreases-ways : goal.decreases-ways
 decreases-ways l = 10 * l.left + 0
 
-abbrev pub decreases-cases : goal.decreases-cases
-decreases-cases l = 10 * l.left + 9
-
 abbrev pub decreases-last_case : goal.decreases-last_case
 decreases-last_case l = 10 * l.left + 3
 
 abbrev pub decreases-case : goal.decreases-case
 decreases-case l = 10 * l.left + 3
+
+-- the cases that were read, before those that are still to be read, are all
+abbrev pub invariant-ways-loop-left : goal.invariant-ways-loop-left
+invariant-ways-loop-left l =
+    ahead (map guarded_of l.read.items) (read_ways l.left (names_of l.names) l.depth l.ask (progress_of l.from))
+    ≡ read_ways l.fn.left (names_of l.names) l.depth l.ask (progress_of l.fn.from)

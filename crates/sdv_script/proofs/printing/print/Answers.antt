@@ -1,17 +1,12 @@
 use Rattle.std.proofs.Common.{◌∙◌, ◌++◌, List, ℕ, ap}
 use Rattle.sdv_script.specs.Printed.{printed_pieces}
-use Rattle.sdv_script.proofs.Written.{piece_failed, space_failed, piece_done, line_done}
+use Rattle.sdv_script.proofs.Written.{piece_failed, piece_done, line_done}
 use Rattle.sdv_script.proofs.printing.print.Goals as goal
 
 pub returns-in-Err : goal.returns-in-Err
 returns-in-Err g c =
     let i = c.loop-at.invariant in
     piece_failed _ _ _ _ i.0 c.loop-at.at.text.now _ (i.1 ∙ ap (λ (ps : List (List ℕ)). i.0 ++ printed_pieces ps) (c.is_end.ensures.more c.loop-at-test.true)) i.2 c.in-Err.ensures
-
-pub returns-in-Err-put : goal.returns-in-Err-put
-returns-in-Err-put g c =
-    let i = c.loop-at.invariant in
-    space_failed _ _ _ _ _ i.0 c.loop-at.at.text.now _ (i.1 ∙ ap (λ (ps : List (List ℕ)). i.0 ++ printed_pieces ps) (c.is_end.ensures.more c.loop-at-test.true)) i.2 c.in_default.ensures c.in-Err-put.ensures
 
 pub loop-at-smaller : goal.loop-at-smaller
 loop-at-smaller g c = rw c.next-at.ensures.tokens (c.is_end.ensures.shorter c.loop-at-test.true)
@@ -20,9 +15,9 @@ pub loop-at-preserved : goal.loop-at-preserved
 loop-at-preserved g c =
     let i = c.loop-at.invariant in
     rw c.next-at.ensures.pieces
-    (piece_done _ _ _ _ _ i.0 c.loop-at.at.text.now _ (i.1 ∙ ap (λ (ps : List (List ℕ)). i.0 ++ printed_pieces ps) (c.is_end.ensures.more c.loop-at-test.true)) i.2 c.in_default.ensures c.in_default-put.ensures)
+    (piece_done _ _ _ _ i.0 c.loop-at.at.text.now _ (i.1 ∙ ap (λ (ps : List (List ℕ)). i.0 ++ printed_pieces ps) (c.is_end.ensures.more c.loop-at-test.true)) i.2 c.in_default.ensures)
 
 pub returns : goal.returns
 returns g c =
     let i = c.loop-at.invariant in
-    line_done c.put-2.result _ _ _ _ i.0 (i.1 ∙ ap (λ (ps : List (List ℕ)). i.0 ++ printed_pieces ps) (c.is_end.ensures.end c.loop-at-test.false)) i.2 c.put-2.ensures
+    line_done c.put.result _ _ _ _ i.0 (i.1 ∙ ap (λ (ps : List (List ℕ)). i.0 ++ printed_pieces ps) (c.is_end.ensures.end c.loop-at-test.false)) i.2 c.put.ensures

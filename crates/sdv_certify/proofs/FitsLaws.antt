@@ -1,0 +1,137 @@
+-- The graph of a script keeps the limits of scripts.
+use Rattle.std.proofs.Common.{◌≡◌, ℕ, zero, suc, ◌+◌, ◌-◌, ◌≤◌, List, [], ◌∷◌, ◌++◌, Some, length, slice_get, sym, ap, ◌∙◌, subst, arith}
+use Rattle.std.proofs.Props.{props}
+use Rattle.std.proofs.Math.Logic.{∥∥₁_elim}
+use Rattle.sdv_registers.specs.declared.kind.Kind.TheVariants.{Sd}
+use Rattle.sdv_script.specs.declared.depth.Depth.{Depth}
+use Rattle.sdv_script.specs.declared.graph.Target.{Target}
+use Rattle.sdv_script.specs.declared.script.Script.{Script}
+use Rattle.sdv_script.specs.declared.tree.Atom.{Atom}
+use Rattle.sdv_script.specs.declared.tree.Atom.TheVariants as atoms
+use Rattle.sdv_card.specs.declared.event.Ask.{Ask}
+use Rattle.sdv_script.specs.Graph.{Flow}
+use Rattle.sdv_script.specs.GraphOf.{IsGraphOf}
+use Rattle.sdv_script.specs.Path.{Node, Place, sends, phases, lets, tests, flags, heads, jumps, stops}
+use Rattle.sdv_script.specs.Points.{points_of, points_of_statements, points_of_ways, points_of_statement, entry, again, outside, past}
+use Rattle.sdv_script.specs.Rules.{AtomFits, StatementsFit, WaysFit, StatementFits, deeper, in_loop, statements_count, statement_count}
+use Rattle.sdv_script.specs.Script.{IsScript, Parsed}
+use Rattle.sdv_script.specs.Shown.{shown}
+use Rattle.sdv_script.specs.Tree.{Statements, nothing, first, Ways, otherwise, way, Statement, send, phase, setting, choice, set, clear, turns, break, done, fault, Declared}
+use Rattle.sdv_facts.specs.Limits.{AtomInLimits}
+use Rattle.sdv_registers.specs.declared.kind.Kind.{Kind}
+use Rattle.sdv_certify.specs.declared.fault.CertifyFault.{CertifyFault}
+use Rattle.sdv_certify.specs.declared.fault.CertifyFault.TheVariants.{Memory}
+use Rattle.sdv_certify.specs.Family.{Family}
+use Rattle.sdv_certify.specs.Refusal.{Certified, RefusedAs}
+use Rattle.sdv_certify.specs.Answers.{IsCertified, IsRefused}
+use Rattle.sdv_certify.specs.Fits.{NodeFits, GraphFits}
+
+abbrev pub EachNode : List Place → Type 0
+EachNode [] = Unit {0}
+EachNode (p ∷ ps) = NodeFits p.node × EachNode ps
+
+both : (a b : List Place) → EachNode a → EachNode b → EachNode (a ++ b)
+both [] b s t = t
+both (p ∷ ps) b s t = (s.0, both ps b s.1 t)
+
+each_at : (ps : List Place) (i : ℕ) (p : Place) → EachNode ps → slice_get ps i ≡ Some p → NodeFits p.node
+each_at [] i p s e = absurd (cc)
+each_at (x ∷ xs) zero p s e = let f : x ≡ p = cc in subst (λ (y : Place). NodeFits y.node) f s.0
+each_at (x ∷ xs) (suc i) p s e = each_at xs i p s.1 e
+
+atom_small : (names : Declared) (a : Atom) → AtomFits names a → AtomInLimits a
+atom_small names (atoms.Number n) h = h
+atom_small names (atoms.Variable x) h = tt
+atom_small names atoms.CsdBlocks h = tt
+atom_small names atoms.ExtBlocks h = tt
+
+module _ (names : Declared) (few : length names.flags ≤ 4) where
+  mutual
+    statements_fit : (depth : Depth) (b : Statements) (at : ℕ) (next brk : Target) (most : List ℕ) → StatementsFit names depth b → EachNode (points_of_statements b at next brk most)
+    statements_fit depth nothing at next brk most f = tt
+    statements_fit depth (first s rest) at next brk most f =
+        both (points_of_statement s at (entry rest (at + statement_count s) next) brk most) (points_of_statements rest (at + statement_count s) next brk most)
+        (statement_fits depth s at (entry rest (at + statement_count s) next) brk most f.0) (statements_fit depth rest (at + statement_count s) next brk most f.1)
+
+    ways_fit : (depth : Depth) (ask : Ask) (w : Ways) (at : ℕ) (next brk : Target) (most : List ℕ) → WaysFit names depth ask w → EachNode (points_of_ways w at next brk most)
+    ways_fit depth ask (otherwise b) at next brk most f = statements_fit (deeper depth) b at next brk most f.1
+    ways_fit depth ask (way gs b rest) at next brk most f =
+        both (points_of_statements b at next brk most) (points_of_ways rest (at + statements_count b) next brk most)
+        (statements_fit (deeper depth) b at next brk most f.2) (ways_fit depth ask rest (at + statements_count b) next brk most f.3)
+
+    statement_fits : (depth : Depth) (s : Statement) (at : ℕ) (next brk : Target) (most : List ℕ) → StatementFits names depth s → EachNode (points_of_statement s at next brk most)
+    statement_fits depth (send c ways) at next brk most f = (tt, ways_fit (deeper depth) c.ask ways (at + 1) next brk most f.2)
+    statement_fits depth (phase p a b) at next brk most f = (
+      tt,
+      both (points_of_statements a (at + 1) next brk most) (points_of_statements b (at + 1 + statements_count a) next brk most)
+          (statements_fit (deeper (deeper depth)) a (at + 1) next brk most f.2) (statements_fit (deeper (deeper depth)) b (at + 1 + statements_count a) next brk most f.3),
+    )
+    statement_fits depth (setting l) at next brk most f = (atom_small names l.atom f.1, tt)
+    statement_fits depth (choice c a b) at next brk most f = (
+      tt,
+      both (points_of_statements a (at + 1) next brk most) (points_of_statements b (at + 1 + statements_count a) next brk most)
+          (statements_fit (deeper depth) a (at + 1) next brk most f.2) (statements_fit (deeper depth) b (at + 1 + statements_count a) next brk most f.3),
+    )
+    statement_fits depth (set x) at next brk most f = (omega (arith, f, few), tt)
+    statement_fits depth (clear x) at next brk most f = (omega (arith, f, few), tt)
+    statement_fits depth (turns n a b) at next brk most f = (
+      tt,
+      both (points_of_statements a (at + 1) (again at) (outside next) ((n - 1) ∷ most)) (points_of_statements b (at + 1 + statements_count a) next brk most)
+          (statements_fit (deeper (in_loop depth)) a (at + 1) (again at) (outside next) ((n - 1) ∷ most) f.4) (statements_fit (deeper depth) b (at + 1 + statements_count a) next brk most f.5),
+    )
+    statement_fits depth break at next brk most f = (tt, tt)
+    statement_fits depth done at next brk most f = (tt, tt)
+    statement_fits depth (fault name) at next brk most f = (tt, tt)
+
+graph_fits : (p : Parsed) (g : Flow) → IsGraphOf Sd p.names p.body g → IsScript p → GraphFits g
+graph_fits p g is s = record {
+  few = (let n = s.fits.names_fit.few_numbers in let e = is.numbers_same in omega (arith, n, e));
+  nodes = λ i place here. each_at (points_of p.body) i place
+      (statements_fit p.names s.fits.names_fit.few_flags (record { braces = 0; loops = 0 }) p.body 0 (past p.body) (past p.body) [] s.fits.statements_fit)
+      (ap (λ l. slice_get l i) (sym is.places_same) ∙ here);
+}
+
+node_prop : (node : Node) → IsProp (NodeFits node)
+node_prop (sends c ways other) = hlevel props
+node_prop (phases p well other) = hlevel props
+node_prop (lets l t) = atom_prop l.atom
+  where
+    atom_prop : (a : Atom) → IsProp (AtomInLimits a)
+    atom_prop (atoms.Number n) = hlevel props
+    atom_prop (atoms.Variable x) = hlevel props
+    atom_prop atoms.CsdBlocks = hlevel props
+    atom_prop atoms.ExtBlocks = hlevel props
+node_prop (tests c met unmet) = hlevel props
+node_prop (flags flag on t) = hlevel props
+node_prop (heads n body other) = hlevel props
+node_prop (jumps t) = hlevel props
+node_prop (stops last) = hlevel props
+
+fits_prop : (g : Flow) → IsProp (GraphFits g)
+fits_prop g = hlevel (props, node_prop)
+
+pub script_fits : (s : Script) (g : Flow) → IsGraphOf Sd (shown s).names (shown s).body g → GraphFits g
+script_fits s g is = ∥∥₁_elim s.is_script (fits_prop g) (graph_fits (shown s) g is)
+
+-- ONE GRAPH
+
+abbrev Same_flow : Flow → Flow → Type 0
+Same_flow a b = a ≡ b
+
+flow_same : (k l : Kind) (m n f h : ℕ) (ps qs : List Place) (t u : Target) (x y : ℕ) → k ≡ l → m ≡ n → f ≡ h → ps ≡ qs → t ≡ u → x ≡ y
+    → Same_flow (record { kind = k; numbers = m; flags = f; places = ps; first = t; steps = x }) (record { kind = l; numbers = n; flags = h; places = qs; first = u; steps = y })
+flow_same k l m n f h ps qs t u x y a b c d e g = cc
+
+one_graph : (p : Parsed) (g h : Flow) → IsGraphOf Sd p.names p.body g → IsGraphOf Sd p.names p.body h → g ≡ h
+one_graph p g h a b =
+    flow_same g.kind h.kind g.numbers h.numbers g.flags h.flags g.places h.places g.first h.first g.steps h.steps (a.kind_same ∙ sym b.kind_same) (a.numbers_same ∙ sym b.numbers_same)
+    (a.flags_same ∙ sym b.flags_same) (a.places_same ∙ sym b.places_same) (a.first_same ∙ sym b.first_same) (a.steps_same ∙ sym b.steps_same)
+
+pub certified_of : (s : Script) (g : Flow) (fam : Family) → IsGraphOf Sd (shown s).names (shown s).body g → Certified g fam → IsCertified s fam
+certified_of s g fam is c h other = subst (λ (x : Flow). Certified x fam) (one_graph (shown s) g h is other) c
+
+pub refused_of : (s : Script) (g : Flow) (why : CertifyFault) → IsGraphOf Sd (shown s).names (shown s).body g → RefusedAs g why → IsRefused s why
+refused_of s g why is r h other = subst (λ (x : Flow). RefusedAs x why) (one_graph (shown s) g h is other) r
+
+pub out_of_memory : (s : Script) → IsRefused s Memory
+out_of_memory s h other = tt

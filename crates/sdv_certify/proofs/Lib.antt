@@ -1,0 +1,16 @@
+pub mod Written
+pub mod SpanLaws
+pub mod AtMost
+pub mod Chain
+pub mod Pays
+pub mod Example
+pub mod WayLaws
+pub mod GrowLaws
+pub mod PassLaws
+pub mod CarryLaws
+pub mod RefusalLaws
+pub mod FitsLaws
+pub mod ExactLaws
+pub mod KeptLaws
+pub mod EdgeLaws
+pub mod StartLaws

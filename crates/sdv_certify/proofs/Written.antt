@@ -1,0 +1,113 @@
+-- The text of a certificate piece by piece.
+use Rattle.std.proofs.Common.{◌≡◌, ℕ, suc, ◌+◌, ◌<◌, ◌≤◌, List, [], ◌∷◌, ◌++◌, length, drop, get_or, Option, Some, None, Result, Ok, Err, flat_map, codes, refl, IsErr, sym, ap, subst, ◌∙◌, append_assoc, append-nil, add-one, drop-cons, drop_of_length-le}
+use Rattle.std.proofs.lemmas.List.Concat.{flat_map-cons}
+use Rattle.std.specs.Io.KnownBytes.{Appends}
+use Rattle.sdv_card.specs.declared.shape.Shape.{Shape}
+use Rattle.sdv_script.specs.Printed.{AppendsFront}
+use Rattle.sdv_script.proofs.Written.{appends_more, front_more, front_longer}
+use Rattle.sdv_facts.specs.declared.numbers.VarFacts.{VarFacts}
+use Rattle.sdv_facts.specs.declared.certificate.PointFacts.{PointFacts}
+use Rattle.sdv_facts.specs.CertificateText.{number_written, gap_written, var_written, shape_written, each_written, point_written, points_written, text_of}
+use Rattle.sdv_certify.specs.Pieces.{number_text, gap_text, var_text, shape_text, bound_text, numbers_text, shapes_text, line_text, lines_text, title_text, Writes}
+
+-- EACH PIECE, before what follows it
+
+each_is : {A : Type 0} (text : A → List ℕ) (written : A → List ℕ → List ℕ) → ((x : A) (others : List ℕ) → text x ++ others ≡ written x others) → (xs : List A) (others : List ℕ) → flat_map text xs ++ others ≡ each_written written xs others
+each_is text written same [] others = refl
+each_is text written same (x ∷ xs) others =
+    ap (λ (l : List ℕ). l ++ others) (flat_map-cons text x xs) ∙ append_assoc (text x) (flat_map text xs) others ∙ same x (flat_map text xs ++ others) ∙ ap (written x) (each_is text written same xs others)
+
+gap_is : (gap : Option ℕ) (others : List ℕ) → gap_text gap ++ others ≡ gap_written gap others
+gap_is None others = refl
+gap_is (Some n) others = refl
+
+var_is : (v : VarFacts) (others : List ℕ) → var_text v ++ others ≡ var_written v others
+var_is v others =
+    ap (λ (l : List ℕ). codes " v" ++ l) (append_assoc (number_text v.lo) (number_text v.hi ++ gap_text v.gap) others ∙ ap (number_written v.lo) (append_assoc (number_text v.hi) (gap_text v.gap) others ∙ ap (number_written v.hi) (gap_is v.gap others)))
+
+bound_is : (place : ℕ) (p : PointFacts) (others : List ℕ) → bound_text place p ++ others ≡ codes "p" ++ number_written place (codes " b" ++ number_written p.base (each_written number_written p.turns.items others))
+bound_is place p others =
+    let turns = flat_map number_text p.turns.items in
+    ap (λ (l : List ℕ). codes "p" ++ l) (append_assoc (number_text place) (codes " b" ++ (number_text p.base ++ flat_map number_text p.turns.items)) others
+    ∙ ap (λ (l : List ℕ). number_written place (codes " b" ++ l)) (append_assoc (number_text p.base) (flat_map number_text p.turns.items) others
+    ∙ ap (number_written p.base) (each_is number_text number_written (λ x rest. refl) p.turns.items others)))
+
+numbers_is : (p : PointFacts) (others : List ℕ) → numbers_text p ++ others ≡ codes " m" ++ number_written p.facts.numbers.m (each_written var_written p.facts.numbers.vars.items (codes " s" ++ others))
+numbers_is p others =
+    ap (λ (l : List ℕ). codes " m" ++ l) (append_assoc (number_text p.facts.numbers.m) (flat_map var_text p.facts.numbers.vars.items ++ codes " s") others
+    ∙ ap (number_written p.facts.numbers.m) (append_assoc (flat_map var_text p.facts.numbers.vars.items) (codes " s") others ∙ each_is var_text var_written var_is p.facts.numbers.vars.items (codes " s" ++ others)))
+
+line_is : (place : ℕ) (p : PointFacts) (others : List ℕ) → line_text place p ++ others ≡ point_written place p others
+line_is place p others =
+    append_assoc (bound_text place p ++ numbers_text p) (shapes_text p.facts.shapes) others
+    ∙ append_assoc (bound_text place p) (numbers_text p) (shapes_text p.facts.shapes ++ others)
+    ∙ bound_is place p (numbers_text p ++ (shapes_text p.facts.shapes ++ others))
+    ∙ ap (λ (l : List ℕ). codes "p" ++ number_written place (codes " b" ++ number_written p.base (each_written number_written p.turns.items l)))
+    (numbers_is p (shapes_text p.facts.shapes ++ others)
+    ∙ ap (λ (l : List ℕ). codes " m" ++ number_written p.facts.numbers.m (each_written var_written p.facts.numbers.vars.items (codes " s" ++ l)))
+    (append_assoc (flat_map shape_text p.facts.shapes) (10 ∷ []) others ∙ each_is shape_text shape_written (λ x rest. refl) p.facts.shapes (10 ∷ others)))
+
+lines_are : (place : ℕ) (ps : List PointFacts) → lines_text place ps ≡ points_written place ps
+lines_are place [] = refl
+lines_are place (p ∷ ps) = line_is place p (lines_text (suc place) ps) ∙ ap (point_written place p) (lines_are (suc place) ps)
+
+-- the whole text
+pub text_is : (c : List PointFacts) → text_of c ≡ title_text (length c) ++ lines_text 0 c
+text_is c =
+    sym (ap (λ (l : List ℕ). codes "sdv-cert 1\npoints" ++ l) (append_assoc (number_text (length c)) (10 ∷ []) (lines_text 0 c) ∙ ap (λ (l : List ℕ). number_written (length c) (10 ∷ l)) (lines_are 0 c)))
+
+-- ONE MORE PIECE: what is written, and all that is to be written
+
+pub one_more : (old mid new : Option (List ℕ)) (all written piece rest : List ℕ) → all ≡ written ++ (piece ++ rest) → Appends old mid written → Appends mid new piece
+    → (w : List ℕ) × (all ≡ w ++ rest) × Appends old new w
+one_more old mid new all written piece rest e p q = (written ++ piece, e ∙ sym (append_assoc written piece rest), appends_more old mid new written piece p q)
+
+pub one_failed : (old mid new : Option (List ℕ)) (all written piece rest : List ℕ) → all ≡ written ++ (piece ++ rest) → Appends old mid written → AppendsFront mid new piece → AppendsFront old new all
+one_failed old mid new all written piece rest e p q = rw e (front_more old mid new written (piece ++ rest) p (front_longer mid new piece rest q))
+
+pub last_shape : (xs : List Shape) (i : ℕ) (d : Shape) → i < length xs → shapes_text (drop i xs) ≡ shape_text (get_or xs i d) ++ shapes_text (drop (i + 1) xs)
+last_shape xs i d lt =
+    ap shapes_text (drop-cons xs i d lt)
+    ∙ ap (λ (l : List ℕ). l ++ 10 ∷ []) (flat_map-cons shape_text (get_or xs i d) (drop (suc i) xs))
+    ∙ append_assoc (shape_text (get_or xs i d)) (flat_map shape_text (drop (suc i) xs)) (10 ∷ [])
+    ∙ rw add-one refl
+
+pub no_shape : (xs : List Shape) (i : ℕ) → length xs ≤ i → shapes_text (drop i xs) ≡ 10 ∷ []
+no_shape xs i le = ap shapes_text (drop_of_length-le xs le)
+
+pub next_line : (ps : List PointFacts) (i : ℕ) (p : PointFacts) → i < length ps → p ≡ get_or ps i p → lines_text i (drop i ps) ≡ line_text i p ++ lines_text (i + 1) (drop (i + 1) ps)
+next_line ps i p lt e =
+    ap (lines_text i) (drop-cons ps i p lt) ∙ ap (λ (q : PointFacts). line_text i q ++ lines_text (suc i) (drop (suc i) ps)) (sym e) ∙ rw add-one refl
+
+pub no_line : (ps : List PointFacts) (i : ℕ) → length ps ≤ i → lines_text i (drop i ps) ≡ []
+no_line ps i le = ap (lines_text i) (drop_of_length-le ps le)
+
+-- THE CODE: fronts of lines, and writers that failed
+
+pub failed : {E : Type 0} (r : Result (Unit {0}) E) (old new : Option (List ℕ)) (text : List ℕ) → IsErr r → AppendsFront old new text → Writes old new r text
+failed (Ok x) old new text err p = absurd (cc err)
+failed (Err e) old new text err p = p
+
+pub title_made : (a b c d : List ℕ) (n : ℕ) → a ≡ [] → b ≡ a ++ codes "sdv-cert 1\npoints" → c ≡ b ++ number_text n → d ≡ c ++ 10 ∷ [] → d ≡ title_text n
+title_made a b c d n e0 e1 e2 e3 =
+    let first : b ≡ codes "sdv-cert 1\npoints" = e1 ∙ ap (λ (l : List ℕ). l ++ codes "sdv-cert 1\npoints") e0 in
+    let second : c ≡ codes "sdv-cert 1\npoints" ++ number_text n = e2 ∙ ap (λ (l : List ℕ). l ++ number_text n) first in
+    e3 ∙ ap (λ (l : List ℕ). l ++ 10 ∷ []) second ∙ append_assoc (codes "sdv-cert 1\npoints") (number_text n) (10 ∷ [])
+
+pub front_made : (a b c : List ℕ) (place : ℕ) (p : PointFacts) → a ≡ [] → b ≡ a ++ bound_text place p → c ≡ b ++ numbers_text p → c ≡ bound_text place p ++ numbers_text p
+front_made a b c place p e0 e1 e2 = e2 ∙ ap (λ (l : List ℕ). l ++ numbers_text p) (e1 ∙ ap (λ (l : List ℕ). l ++ bound_text place p) e0)
+
+pub front_failed : {E : Type 0} (r : Result (Unit {0}) E) (old new : Option (List ℕ)) (front : List ℕ) (place : ℕ) (p : PointFacts) → IsErr r → front ≡ bound_text place p ++ numbers_text p → AppendsFront old new front → Writes old new r (line_text place p)
+front_failed r old new front place p err e h =
+    failed r old new (line_text place p) err (front_longer old new (bound_text place p ++ numbers_text p) (shapes_text p.facts.shapes) (subst (λ (l : List ℕ). AppendsFront old new l) e h))
+
+pub title_failed : {E : Type 0} (r : Result (Unit {0}) E) (old new : Option (List ℕ)) (c : List PointFacts) → IsErr r → AppendsFront old new (title_text (length c)) → Writes old new r (text_of c)
+title_failed r old new c err h =
+    failed r old new (text_of c) err (subst (λ (l : List ℕ). AppendsFront old new l) (sym (text_is c)) (front_longer old new (title_text (length c)) (lines_text 0 c) h))
+
+pub all_written : (old new : Option (List ℕ)) (all written rest : List ℕ) → all ≡ written ++ rest → rest ≡ [] → Appends old new written → Appends old new all
+all_written old new all written rest e none p =
+    subst (λ (l : List ℕ). Appends old new l) (sym (e ∙ ap (λ (l : List ℕ). written ++ l) none ∙ append-nil written)) p
+
+pub same_text : {E : Type 0} (r : Result (Unit {0}) E) (old new : Option (List ℕ)) (a b : List ℕ) → a ≡ b → Writes old new r a → Writes old new r b
+same_text r old new a b e p = subst (λ (l : List ℕ). Writes old new r l) e p

@@ -1,0 +1,12 @@
+pub mod Pieces
+pub mod Spans
+pub mod Forms
+pub mod FormsPay
+pub mod Family
+pub mod Ways
+pub mod Grows
+pub mod Fits
+pub mod Refusal
+pub mod Answers
+pub mod OneAnswer
+pub mod Kept

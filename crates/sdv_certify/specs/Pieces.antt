@@ -1,0 +1,49 @@
+-- The text of a certificate piece by piece, each by itself, and what a writer holds that took it or failed at it.
+use Rattle.std.specs.Prelude.{ℕ, suc, List, [], ◌∷◌, ◌++◌, flat_map, codes, decimal, Option, Some, None, Result, MatchResult}
+use Rattle.std.specs.Int.{w64, to_be_bytes}
+use Rattle.std.specs.Io.KnownBytes.{Appends}
+use Rattle.hex.specs.Hex.{encode_lower}
+use Rattle.sdv_card.specs.declared.shape.Shape.{Shape}
+use Rattle.sdv_script.specs.Printed.{AppendsFront}
+use Rattle.sdv_facts.specs.declared.numbers.VarFacts.{VarFacts}
+use Rattle.sdv_facts.specs.declared.certificate.PointFacts.{PointFacts}
+
+abbrev pub number_text : ℕ → List ℕ
+number_text n = 32 ∷ decimal n
+
+abbrev pub gap_text : Option ℕ → List ℕ
+gap_text None = codes " -"
+gap_text (Some gap) = number_text gap
+
+abbrev pub var_text : VarFacts → List ℕ
+var_text v = codes " v" ++ (number_text v.lo ++ (number_text v.hi ++ gap_text v.gap))
+
+abbrev pub shape_text : Shape → List ℕ
+shape_text s = 32 ∷ encode_lower (to_be_bytes w64 s.0)
+
+-- the line of a point before its shapes
+abbrev pub bound_text : (place : ℕ) → PointFacts → List ℕ
+bound_text place p = codes "p" ++ (number_text place ++ (codes " b" ++ (number_text p.base ++ flat_map number_text p.turns.items)))
+
+abbrev pub numbers_text : PointFacts → List ℕ
+numbers_text p = codes " m" ++ (number_text p.facts.numbers.m ++ (flat_map var_text p.facts.numbers.vars.items ++ codes " s"))
+
+-- and from there on
+abbrev pub shapes_text : List Shape → List ℕ
+shapes_text shapes = flat_map shape_text shapes ++ 10 ∷ []
+
+abbrev pub line_text : (place : ℕ) → PointFacts → List ℕ
+line_text place p = (bound_text place p ++ numbers_text p) ++ shapes_text p.facts.shapes
+
+-- the lines of points from this place on
+abbrev pub lines_text : (place : ℕ) → List PointFacts → List ℕ
+lines_text place [] = []
+lines_text place (p ∷ ps) = line_text place p ++ lines_text (suc place) ps
+
+-- the first two lines
+abbrev pub title_text : (count : ℕ) → List ℕ
+title_text count = codes "sdv-cert 1\npoints" ++ (number_text count ++ 10 ∷ [])
+
+-- known bytes grow by a text, or, where the writer failed, by a front of it
+abbrev pub Writes : {E : Type 0} → Option (List ℕ) → Option (List ℕ) → Result (Unit {0}) E → List ℕ → Type 0
+Writes old new result text = MatchResult result (λ _. Appends old new text) (λ _. AppendsFront old new text)

@@ -1,0 +1,12 @@
+//! Bounds by the turns left.
+
+/// How many commands are sent from a point on, at most: a base, and so many more for each turn left of each loop round the
+/// point.
+#[derive(Clone, Copy, Debug, PartialEq, Eq)]
+pub struct Form {
+    /// The commands where no loop round the point has a turn left.
+    pub base: u64,
+    /// The commands that each turn left adds, the innermost loop first. Where fewer than four loops stand round the point,
+    /// the others have 0.
+    pub each: [u64; 4],
+}

@@ -1,0 +1,151 @@
+//! Which point fails first, and why.
+
+ghost use Rattle.std.specs.Prelude.{◌≡◌, ◌↔◌, length, IsTrue, IfSome, IfNone};
+ghost use Rattle.sdv_card.specs.CommandTable.{addressed_blocks};
+ghost use Rattle.sdv_facts.specs.Closed.{LegalAt, AddressAt, AddressKnown, EndsAt};
+ghost use Rattle.sdv_facts.specs.Known.{AreRising};
+ghost use Rattle.sdv_script.specs.Graph.{node_of, place_of};
+ghost use Rattle.sdv_certify.specs.Refusal.{AllLegal, AddressHolds, AllEnd, IsFine, IsLeastIllegal, FailsAs, FailsIfReached, IsFineIfReached, FailsFirst, AllFine};
+
+use crate::fault::CertifyFault;
+use crate::ways::event_of;
+use sdv_card::{Ask, CardTable, Event, Shape};
+use sdv_facts::{Facts, address_ok};
+use sdv_script::{Action, Address, Graph, Point};
+
+/// The event of a statement is legal at a shape.
+fn legal_at<T: CardTable>(action: &Action<'_>, shape: Shape) -> bool
+    ensures { IsTrue result ↔ LegalAt T.kind (node_of action.now) shape }
+{
+    match action {
+        Action::Send(command, _, _) => T::legal(shape, &Event::Send(command.ask)),
+        Action::Phase(phase, _, _) => T::legal(shape, &event_of(*phase)),
+        _ => true,
+    }
+}
+
+/// The least shape where the event of a statement is not legal.
+fn least_illegal<T: CardTable>(action: &Action<'_>, shapes: &[Shape]) -> Option<Shape>
+    requires rising { AreRising shapes.now }
+    ensures least { IfSome result (IsLeastIllegal T.kind (node_of action.now) shapes.now) }
+    ensures legal { IfNone result (AllLegal T.kind (node_of action.now) shapes.now) }
+{
+    for shape in shapes {
+        if !legal_at::<T>(action, *shape) {
+            return Some(*shape);
+        }
+    }
+    None
+}
+
+/// How many blocks a command addresses, from the address that is sent with it.
+fn addressed_blocks(ask: &Ask) -> Option<u64>
+    ensures { result ≡ addressed_blocks ask.now }
+{
+    match ask.index {
+        17 | 18 | 24 | 25 => Some(u64::from(ask.count)),
+        32 | 33 | 35 | 36 => Some(1),
+        _ => None,
+    }
+}
+
+/// So many blocks are known to lie on the card, from an address that there is.
+fn address_known(facts: &Facts, address: &Option<Address>, blocks: u64) -> bool
+    ensures { IsTrue result ↔ AddressKnown facts.now address.now blocks }
+{
+    match address {
+        Some(address) => address_ok(facts, address, blocks),
+        None => false,
+    }
+}
+
+/// The blocks of a command are known to lie on the card, and are addressed in its unit.
+fn address_at(facts: &Facts, action: &Action<'_>) -> bool
+    ensures { IsTrue result ↔ AddressAt facts.now (node_of action.now) }
+{
+    match action {
+        Action::Send(command, _, _) => match addressed_blocks(&command.ask) {
+            Some(blocks) => address_known(facts, &command.address, blocks),
+            None => true,
+        },
+        _ => true,
+    }
+}
+
+/// The same where the point has a shape.
+#[tactic(auto, using(crate::proofs::RefusalLaws::address_of_none, crate::proofs::RefusalLaws::address_of_some))]
+fn address_holds(facts: &Facts, action: &Action<'_>) -> bool
+    ensures { IsTrue result ↔ AddressHolds (node_of action.now) facts.now }
+{
+    facts.shapes().is_empty() || address_at(facts, action)
+}
+
+/// At `done` a shape is in the transfer state.
+fn ends_at(action: &Action<'_>, shape: Shape) -> bool
+    ensures { IsTrue result ↔ EndsAt (node_of action.now) shape }
+{
+    match action {
+        Action::Done => shape.0 % 16 == 4,
+        _ => true,
+    }
+}
+
+/// At `done` each shape is in the transfer state.
+fn all_end(action: &Action<'_>, shapes: &[Shape]) -> bool
+    ensures { IsTrue result ↔ AllEnd (node_of action.now) shapes.now }
+{
+    for shape in shapes {
+        if !ends_at(action, *shape) {
+            return false;
+        }
+    }
+    true
+}
+
+/// The first clause of a point that fails.
+fn fault_at<T: CardTable>(point: usize, action: &Action<'_>, facts: &Facts) -> Option<CertifyFault>
+    ensures fails { IfSome result (FailsAs T.kind (node_of action.now) facts.now point) }
+    ensures fine { IfNone result (IsFine T.kind (node_of action.now) facts.now) }
+{
+    if let Some(shape) = least_illegal::<T>(action, facts.shapes()) {
+        return Some(CertifyFault::Illegal { point, shape });
+    }
+    if !address_holds(facts, action) {
+        return Some(CertifyFault::Address { point });
+    }
+    if !all_end(action, facts.shapes()) {
+        return Some(CertifyFault::EndState { point });
+    }
+    None
+}
+
+/// The same, as far as the point was reached.
+fn fault_if_reached<T: CardTable>(
+    number: usize,
+    point: &Point<'_>,
+    known: &Option<Facts>,
+) -> Option<CertifyFault>
+    ensures fails { IfSome result (FailsIfReached T.kind (place_of point.now).node known.now number) }
+    ensures fine { IfNone result (IsFineIfReached T.kind (place_of point.now).node known.now) }
+{
+    match known {
+        Some(facts) => fault_at::<T>(number, &point.action, facts),
+        None => None,
+    }
+}
+
+/// The lowest point that fails, with the first of its clauses that does.
+pub fn first_fault<T: CardTable>(graph: &Graph, family: &[Option<Facts>]) -> Option<CertifyFault>
+    requires kind { graph.now.kind ≡ T.kind }
+    requires same { length family.now ≡ length graph.now.places }
+    ensures fails { IfSome result (FailsFirst graph.now family.now) }
+    ensures fine { IfNone result (AllFine graph.now family.now) }
+{
+    for point in 0..graph.len() {
+        match fault_if_reached::<T>(point, graph.point(point), &family[point]) {
+            Some(fault) => return Some(fault),
+            None => {}
+        }
+    }
+    None
+}

@@ -1,0 +1,16 @@
+pub mod Words
+pub mod Numbers
+pub mod Digits
+pub mod Codes
+pub mod Lists
+pub mod Rising
+pub mod TextPoints
+pub mod PointLoop
+pub mod Texts
+pub mod WorstTurns
+pub mod EdgeLaws
+pub mod PointLaws
+pub mod FlagLaws
+pub mod CheckLaws
+pub mod PromiseLaws
+pub mod TextRuns

@@ -1,0 +1,32 @@
+-- What is promised of the paths of a graph holds of the runs of its script's text.
+use Rattle.std.proofs.Common.{◌≡◌, ℕ, List, sym, subst, ◌∙◌}
+use Rattle.sdv_registers.specs.declared.kind.Kind.{Kind}
+use Rattle.sdv_registers.specs.declared.kind.Kind.TheVariants.{Sd}
+use Rattle.sdv_script.specs.Graph.{Flow, begin}
+use Rattle.sdv_script.specs.Path.{Path}
+use Rattle.sdv_script.specs.Script.{Parsed}
+use Rattle.sdv_script.specs.Tree.{Statements, Declared}
+use Rattle.sdv_script.specs.Walk.{Walk}
+use Rattle.sdv_script.proofs.FaultNames.{names_fault}
+use Rattle.sdv_script.proofs.ScriptLaws.{one_tree_lem}
+use Rattle.sdv_facts.specs.declared.certificate.PointFacts.{PointFacts}
+use Rattle.sdv_facts.specs.Beside.{RunsWell}
+use Rattle.sdv_facts.proofs.RunLaws.{same_runs}
+use Rattle.sdv_check.specs.Headline.{EachRunOf}
+use Rattle.sdv_check.specs.Promised.{Promised}
+use Rattle.sdv_check.specs.Verified.{IsGraphOfText}
+
+of_kind : (k : Kind) (names : Declared) (body : Statements) (most : ℕ) → k ≡ Sd → RunsWell k (Walk k names body) most → RunsWell Sd (Walk Sd names body) most
+of_kind k names body most is runs = subst (λ k. RunsWell k (Walk k names body) most) is runs
+
+pub runs_of_text : (text : List ℕ) (g : Flow) (ps : List PointFacts) (most : ℕ) → IsGraphOfText text g → Promised g ps most → EachRunOf text most
+runs_of_text text g ps most of promised s same is_script =
+    let t : Parsed = of.script in
+    let tree = one_tree_lem t s of.is_script is_script (of.same ∙ sym same) in
+    let walks : RunsWell g.kind (Walk g.kind t.names t.body) most =
+    same_runs g.kind (Walk g.kind t.names t.body) (λ e es. Path g.kind g.places e (begin g) es) most of.graph.walks promised.runs in
+    let own : RunsWell Sd (Walk Sd t.names t.body) most = of_kind g.kind t.names t.body most of.graph.kind_same walks in
+    record {
+      runs = subst (λ b. RunsWell Sd (Walk Sd s.names b) most) tree.1 (subst (λ n. RunsWell Sd (Walk Sd n t.body) most) tree.0 own);
+      faults = λ e es walk. names_fault Sd s.names s.body e es walk;
+    }

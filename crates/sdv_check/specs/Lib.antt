@@ -1,0 +1,9 @@
+pub mod Turns
+pub mod Asked
+pub mod Checked
+pub mod Promised
+pub mod Cases
+pub mod Faults
+pub mod Reading
+pub mod Verified
+pub mod Headline

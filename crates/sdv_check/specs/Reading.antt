@@ -1,0 +1,223 @@
+-- Reading the text of a certificate from left to right: the part that it begins with, and what follows; none where it
+-- begins with no such part. The laws of reading say that what is read is what is written.
+use Rattle.std.specs.Prelude.{◌≡◌, ℕ, zero, suc, ◌+◌, ◌-◌, ◌*◌, List, [], ◌∷◌, length, take, drop, Bool, true, false, ◌&&◌, ◌||◌, ◌==◌, nat_lt, nat_le, not, take_while, slice_index, codes, Option, Some, None, Result, Ok, Err, if◌then◌else◌}
+use Rattle.std.specs.List.{list_any}
+use Rattle.std.specs.Int.{w64, from_be_bytes}
+use Rattle.hex.specs.Hex.{decode_sized}
+use Rattle.hex.specs.declared.error.FromHexError.{FromHexError}
+use Rattle.sdv_card.specs.declared.shape.Shape.{Shape}
+use Rattle.sdv_script.specs.Rules.{max_number}
+use Rattle.sdv_facts.specs.declared.numbers.VarFacts.{VarFacts}
+use Rattle.sdv_facts.specs.declared.numbers.Numbers.{Numbers}
+use Rattle.sdv_facts.specs.declared.certificate.PointFacts.{PointFacts}
+use Rattle.sdv_facts.specs.CertificateText.{max_bytes, max_points, max_shapes}
+use Rattle.sdv_check.specs.declared.text.fault.CertFault.{CertFault}
+use Rattle.sdv_check.specs.declared.text.fault.CertFault.TheVariants as faults
+
+infixl 10 ◌>>=◌
+abbrev pub ◌>>=◌ : {A B : Type 0} → Option A → (A → Option B) → Option B
+None >>= f = None
+(Some x) >>= f = f x
+
+abbrev pub Fails : {Y : Type 0} → CertFault → Option Y → Type 0
+Fails faults.Memory read = Unit {0}
+Fails fault read = read ≡ None
+
+-- What a function returned, seen by view, is what reading gives, unless memory ran out.
+abbrev pub Gives : {X Y : Type 0} → (X → Y) → Result X CertFault → Option Y → Type 0
+Gives view (Ok x) read = read ≡ Some (view x)
+Gives view (Err e) read = Fails e read
+
+abbrev pub Read : Type 0 → Type 0
+Read A = Option (A × List ℕ)
+
+-- WORDS AND ENDS
+
+-- what follows a word
+abbrev pub after : List ℕ → List ℕ → Option (List ℕ)
+after [] bs = Some bs
+after (w ∷ ws) [] = None
+after (w ∷ ws) (b ∷ bs) = if b == w then after ws bs else None
+
+-- an item ends before this
+abbrev pub ends_item : List ℕ → Bool
+ends_item [] = true
+ends_item (b ∷ bs) = (b == 32) || (b == 10)
+
+-- NUMBERS
+
+abbrev pub is_digit : ℕ → Bool
+is_digit b = nat_le 48 b && nat_le b 57
+
+-- how many bytes at the front pass a test
+abbrev pub run : (ℕ → Bool) → List ℕ → ℕ
+run test bs = length (take_while test bs)
+
+-- the number that digits spell after what stands before them
+unfoldable pub number_after : (before : ℕ) → List ℕ → ℕ
+number_after before [] = before
+number_after before (b ∷ bs) = number_after (before * 10 + (b - 48)) bs
+
+-- one digit or more, and no zero before others
+abbrev pub is_plain : List ℕ → Bool
+is_plain digits = nat_lt 0 (length digits) && (not (slice_index digits 0 == 48) || (length digits == 1))
+
+abbrev pub figure : (digits rest : List ℕ) → Read ℕ
+figure digits rest =
+    if is_plain digits && ends_item rest
+    then (if nat_le (number_after 0 digits) max_number then Some (number_after 0 digits, rest) else None)
+    else None
+
+abbrev pub read_figure : List ℕ → Read ℕ
+read_figure bs = figure (take (run is_digit bs) bs) (drop (run is_digit bs) bs)
+
+unfoldable pub read_number : List ℕ → Read ℕ
+read_number bs = after (32 ∷ []) bs >>= read_figure
+
+-- GAPS
+
+abbrev pub some_gap : ℕ × List ℕ → Option (Option ℕ × List ℕ)
+some_gap n = Some (Some n.0, n.1)
+
+abbrev pub gap_from : Option (List ℕ) → List ℕ → Read (Option ℕ)
+gap_from (Some rest) bs = Some (None, rest)
+gap_from None bs = read_number bs >>= some_gap
+
+unfoldable pub read_gap : List ℕ → Read (Option ℕ)
+read_gap bs = gap_from (after (codes " -") bs) bs
+
+-- VARIABLES
+
+unfoldable pub read_var : List ℕ → Read VarFacts
+read_var bs = do
+  bs ← after (codes " v") bs
+  lo ← read_number bs
+  hi ← read_number lo.1
+  gap ← read_gap hi.1
+  Some (record { lo = lo.0; hi = hi.0; gap = gap.0 }, gap.1)
+
+-- SHAPES
+
+abbrev pub is_upper : ℕ → Bool
+is_upper b = nat_le 65 b && nat_le b 90
+
+abbrev pub has_upper : List ℕ → Bool
+has_upper digits = list_any is_upper digits
+
+abbrev pub word_of : Result (List ℕ) FromHexError → Option ℕ
+word_of (Ok bytes) = Some (from_be_bytes w64 bytes)
+word_of (Err e) = None
+
+-- the code that 16 digits spell
+abbrev pub code_of : List ℕ → Option ℕ
+code_of digits = if has_upper digits then None else word_of (decode_sized digits 8)
+
+abbrev pub code_item : (digits rest : List ℕ) → Read Shape
+code_item digits rest = code_of digits >>= λ code. if ends_item rest then Some (record { 0 = code }, rest) else None
+
+unfoldable pub read_shape : List ℕ → Read Shape
+read_shape bs = after (32 ∷ []) bs >>= λ rest. if nat_lt (length rest) 16 then None else code_item (take 16 rest) (drop 16 rest)
+
+abbrev pub is_above : Option Shape → Shape → Bool
+is_above None s = true
+is_above (Some last) s = nat_lt last.0 s.0
+
+-- above the one before
+unfoldable pub read_rising : Option Shape → List ℕ → Read Shape
+read_rising last bs = read_shape bs >>= λ s. if is_above last s.0 then Some s else None
+
+-- LISTS, which end where no item begins
+
+abbrev pub begins_with_digit : Option (List ℕ) → Bool
+begins_with_digit None = false
+begins_with_digit (Some bs) = is_digit (slice_index bs 0)
+
+abbrev pub begins_number : List ℕ → Bool
+begins_number bs = begins_with_digit (after (32 ∷ []) bs)
+
+abbrev pub is_item : Option (List ℕ) → Bool
+is_item None = false
+is_item (Some rest) = ends_item rest
+
+abbrev pub begins_var : List ℕ → Bool
+begins_var bs = is_item (after (codes " v") bs)
+
+abbrev pub begins_shape : List ℕ → Bool
+begins_shape bs = slice_index bs 0 == 32
+
+-- at most so many items, each read behind the one before
+unfoldable pub read_each : {A : Type 0} → (List ℕ → Bool) → (Option A → List ℕ → Read A) → (room : ℕ) → Option A → List ℕ → Read (List A)
+read_each begins item zero last bs = if begins bs then None else Some ([], bs)
+read_each begins item (suc room) last bs =
+    if begins bs
+    then (item last bs >>= λ x. read_each begins item room (Some x.0) x.1 >>= λ xs. Some (x.0 ∷ xs.0, xs.1))
+    else Some ([], bs)
+
+abbrev pub read_turns : List ℕ → Read (List ℕ)
+read_turns bs = read_each begins_number (λ last. read_number) 4 None bs
+
+abbrev pub read_vars : List ℕ → Read (List VarFacts)
+read_vars bs = read_each begins_var (λ last. read_var) 8 None bs
+
+abbrev pub read_shapes : (room : ℕ) → List ℕ → Read (List Shape)
+read_shapes room bs = read_each begins_shape read_rising room None bs
+
+-- LINES
+
+-- the place of a point
+unfoldable pub read_place : (place : ℕ) → List ℕ → Option (List ℕ)
+read_place place bs = read_number bs >>= λ n. if n.0 == place then Some n.1 else None
+
+-- the least capacity, and what is known of the variables
+unfoldable pub read_numbers : List ℕ → Read Numbers
+read_numbers bs = do
+  bs ← after (codes " m") bs
+  m ← read_number bs
+  vars ← read_vars m.1
+  Some (record { m = m.0; vars = record { items = vars.0 } }, vars.1)
+
+-- what stands before them
+unfoldable pub read_bound : (place : ℕ) → List ℕ → Read (ℕ × List ℕ)
+read_bound place bs = do
+  bs ← after (codes "p") bs
+  bs ← read_place place bs
+  bs ← after (codes " b") bs
+  base ← read_number bs
+  turns ← read_turns base.1
+  Some ((base.0, turns.0), turns.1)
+
+unfoldable pub read_point : (place room : ℕ) → List ℕ → Read PointFacts
+read_point place room bs = do
+  bound ← read_bound place bs
+  numbers ← read_numbers bound.1
+  bs ← after (codes " s") numbers.1
+  shapes ← read_shapes room bs
+  bs ← after (10 ∷ []) shapes.1
+  Some (record { facts = record { shapes = shapes.0; numbers = numbers.0 }; base = bound.0.0; turns = record { items = bound.0.1 } }, bs)
+
+-- so many points, from a place on, with at most so many shapes
+unfoldable pub read_points : (count place room : ℕ) → List ℕ → Read (List PointFacts)
+read_points zero place room bs = Some ([], bs)
+read_points (suc count) place room bs = do
+  p ← read_point place room bs
+  ps ← read_points count (suc place) (room - length p.0.facts.shapes) p.1
+  Some (p.0 ∷ ps.0, ps.1)
+
+-- CERTIFICATES
+
+-- how many points there are
+unfoldable pub read_count : List ℕ → Read ℕ
+read_count bs = do
+  bs ← after (codes "points") bs
+  count ← read_number bs
+  if nat_le count.0 max_points then (after (10 ∷ []) count.1 >>= λ bs. Some (count.0, bs)) else None
+
+-- behind the first line
+unfoldable pub read_lines : List ℕ → Option (List PointFacts)
+read_lines bs = do
+  count ← read_count bs
+  points ← read_points count.0 0 max_shapes count.1
+  if length points.1 == 0 then Some points.0 else None
+
+unfoldable pub read_text : List ℕ → Option (List PointFacts)
+read_text bs = if nat_le (length bs) max_bytes then (after (codes "sdv-cert 1\n") bs >>= read_lines) else None

@@ -1,0 +1,185 @@
+//! The checker.
+
+ghost use Rattle.std.specs.Prelude.{◌≡◌, ◌<◌, ◌↔◌, ◌^◌, [], true, IsTrue, IfOk, MatchOption, All, length, slice_get};
+ghost use Rattle.sdv_script.specs.Graph.{place_of};
+ghost use Rattle.sdv_script.specs.Limits.{all_keep_limits};
+ghost use Rattle.sdv_script.specs.Path.{turns_at};
+ghost use Rattle.sdv_facts.specs.Bounds.{bound_at};
+ghost use Rattle.sdv_facts.specs.Closed.{PointMatches, PointsMatch, StartsAt, StartCovers, PointClosed, FailsAt};
+ghost use Rattle.sdv_facts.specs.Limits.{IsInLimits, PointInLimits};
+ghost use Rattle.sdv_check.specs.Asked.{EachBelow};
+ghost use Rattle.sdv_check.specs.Checked.{Checked};
+ghost use Rattle.sdv_check.specs.Promised.{Promised};
+ghost use Rattle.sdv_check.specs.Faults.{fault_of};
+ghost use Rattle.sdv_check.specs.Turns.{entering};
+
+use crate::clauses::point_fault;
+use crate::fault::CheckFault;
+use crate::source::Source;
+use crate::turns::costs;
+use sdv_card::{CardTable, Kind, START_SHAPES};
+use sdv_facts::{Certificate, Clause, Numbers, PointFacts, covers, holds_shape};
+use sdv_script::{Graph, Point, Target};
+use sdv_sd::SdTable;
+
+/// The bound of a certificate that is closed for a graph: the commands that it allows from point 0 on, with all turns left
+/// of a loop that begins there.
+///
+/// Nothing is allocated.
+///
+/// # Errors
+///
+/// [`CheckFault::Points`] where the certificate is not of the graph's points, else [`CheckFault::Start`] where it says
+/// more of point 0 than holds there, else the lowest point that fails with the first of its clauses that does.
+pub fn check(graph: &Graph<'_>, certificate: &Certificate) -> Result<u64, CheckFault>
+    ensures checked { Checked graph.now certificate.now result }
+    ensures promised { IfOk result (λ most. Promised graph.now certificate.now most) }
+{
+    match graph.kind() {
+        Kind::Sd => accept_by::<SdTable>(graph, certificate),
+        Kind::Emmc => unreachable!(),
+    }
+}
+
+/// The same by the table of the graph's kind, of which the laws alone are used.
+fn accept_by<T: CardTable>(graph: &Graph<'_>, certificate: &Certificate) -> Result<u64, CheckFault>
+    requires { T.kind ≡ graph.now.kind }
+    ensures checked { Checked graph.now certificate.now result }
+    ensures promised { IfOk result (λ most. Promised graph.now certificate.now most) }
+{
+    let first = graph.first();
+    check_by::<T>(graph, certificate, first)
+}
+
+/// The bound where the certificate is closed, and else the first clause that fails. A run begins at `first`.
+fn check_by<T: CardTable>(
+    graph: &Graph<'_>,
+    certificate: &Certificate,
+    first: Target,
+) -> Result<u64, CheckFault>
+    requires kind { T.kind ≡ graph.now.kind }
+    requires first { first ≡ graph.now.first }
+    requires limits { all_keep_limits graph.now.places ≡ true }
+    ensures { Checked graph.now certificate.now result }
+{
+    let points = certificate.points();
+    if !points_match(graph, points) {
+        return Err(CheckFault::Points);
+    }
+    if !start_covers(graph, points) {
+        return Err(CheckFault::Start);
+    }
+    match first_fault::<T>(graph, points) {
+        Some((number, clause)) => Err(fault_of(clause, number)),
+        None => Ok(bound_at_start(first, points)),
+    }
+}
+
+/// The certificate is of as many loops and number variables at a point as the graph.
+fn point_matches(graph: &Graph<'_>, point: &Point<'_>, facts: &PointFacts) -> bool
+    ensures { IsTrue result ↔ PointMatches graph.now (place_of point.now) facts.now }
+{
+    facts.turns.len() == point.most_turns.len() && facts.facts.numbers().vars.len() == graph.nums()
+}
+
+/// The certificate is of the graph's points.
+fn points_match(graph: &Graph<'_>, certificate: &[PointFacts]) -> bool
+    ensures { IsTrue result ↔ PointsMatch graph.now certificate.now }
+{
+    if certificate.len() != graph.len() {
+        return false;
+    }
+    for number in 0..graph.len() {
+        if !point_matches(graph, graph.point(number), &certificate[number]) {
+            return false;
+        }
+    }
+    true
+}
+
+/// A point says no more than what holds at the start.
+fn starts_at(graph: &Graph<'_>, facts: &PointFacts) -> bool
+    requires { length facts.now.facts.numbers.vars.items ≡ graph.now.numbers }
+    ensures { IsTrue result ↔ StartsAt graph.now facts.now }
+{
+    let numbers = facts.facts.numbers();
+    let [byte, byte_512, block] = START_SHAPES;
+    holds_shape(&facts.facts, byte)
+        && holds_shape(&facts.facts, byte_512)
+        && holds_shape(&facts.facts, block)
+        && covers(numbers, &Numbers::at_start(numbers.vars.len()))
+}
+
+/// Point 0 does.
+fn start_covers(graph: &Graph<'_>, certificate: &[PointFacts]) -> bool
+    requires { PointsMatch graph.now certificate.now }
+    ensures { IsTrue result ↔ StartCovers graph.now certificate.now }
+{
+    match certificate.first() {
+        Some(facts) => starts_at(graph, facts),
+        None => false,
+    }
+}
+
+/// The fault of a clause that fails at a point.
+fn fault_of(clause: Clause, number: usize) -> CheckFault
+    ensures { result ≡ fault_of clause number }
+{
+    match clause {
+        Clause::Illegal => CheckFault::Illegal(number),
+        Clause::Address => CheckFault::Address(number),
+        Clause::Shape => CheckFault::Shape(number),
+        Clause::Number => CheckFault::Number(number),
+        Clause::Bound => CheckFault::Bound(number),
+        Clause::EndState => CheckFault::EndState(number),
+    }
+}
+
+/// The first point that fails, with the first of its clauses that does.
+fn first_fault<T: CardTable>(
+    graph: &Graph<'_>,
+    certificate: &[PointFacts],
+) -> Option<(usize, Clause)>
+    requires kind { T.kind ≡ graph.now.kind }
+    requires limits { all_keep_limits graph.now.places ≡ true }
+    requires matches { PointsMatch graph.now certificate.now }
+    ensures { MatchOption result
+        (EachBelow graph.now.places certificate.now (length graph.now.places) (PointClosed graph.now.kind certificate.now))
+        (λ found. FailsAt graph.now certificate.now found.1 found.0) }
+{
+    for number in 0..graph.len() {
+        let at = Source {
+            kind: graph.kind(),
+            point: graph.point(number),
+            facts: &certificate[number],
+            certificate,
+        };
+        if let Some(clause) = point_fault::<T>(at) {
+            return Some((number, clause));
+        }
+    }
+    None
+}
+
+/// What the turns of a loop that a run begins in cost.
+fn first_cost(enter: Option<u16>, costs: &[u64]) -> u64
+    requires { All IsInLimits costs.now }
+    ensures cost { result ≡ entering enter costs.now }
+    ensures room { result < 2 ^ 63 }
+{
+    match (enter, costs.first()) {
+        (Some(turns), Some(cost)) => *cost * u64::from(turns),
+        _ => 0,
+    }
+}
+
+/// The bound at point 0.
+fn bound_at_start(first: Target, certificate: &[PointFacts]) -> u64
+    requires { All PointInLimits certificate.now }
+    ensures { result ≡ bound_at (slice_get certificate.now 0) (turns_at first []) }
+{
+    match certificate.first() {
+        Some(facts) => facts.base + first_cost(first.enter, &costs(facts)),
+        None => 0,
+    }
+}

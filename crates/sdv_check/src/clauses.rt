@@ -1,0 +1,195 @@
+//! The clauses of a point.
+
+ghost use Rattle.std.specs.Prelude.{◌≡◌, ◌↔◌, IsTrue, MatchOption};
+ghost use Rattle.sdv_card.specs.declared.shape.Shape.{Shape};
+ghost use Rattle.sdv_card.specs.CommandTable.{addressed_blocks};
+ghost use Rattle.sdv_card.specs.Lists.{May};
+ghost use Rattle.sdv_script.specs.Graph.{node_of};
+ghost use Rattle.sdv_facts.specs.Closed.{LegalAt, AddressAt, AddressKnown, EndsAt, ClauseHolds, PointClosed, FirstFails};
+ghost use Rattle.sdv_check.specs.Asked.{place_at, numbers_set, FlagFits, AskedFrom};
+
+use crate::edges::{edges_hold, event_of};
+use crate::source::{Asked, Rules, Source};
+use sdv_card::{Ask, CardTable, Event, Shape};
+use sdv_facts::{Clause, Facts, Numbers, address_ok, after_let};
+use sdv_script::{Action, Address};
+
+/// The event of a statement is legal at a shape.
+fn legal_at<T: CardTable>(action: &Action<'_>, shape: Shape) -> bool
+    ensures { IsTrue result ↔ LegalAt T.kind (node_of action.now) shape }
+{
+    match action {
+        Action::Send(command, _, _) => T::legal(shape, &Event::Send(command.ask)),
+        Action::Phase(phase, _, _) => T::legal(shape, &event_of(*phase)),
+        _ => true,
+    }
+}
+
+/// At `done` a shape is in the transfer state.
+fn ends_at(action: &Action<'_>, shape: Shape) -> bool
+    ensures { IsTrue result ↔ EndsAt (node_of action.now) shape }
+{
+    match action {
+        Action::Done => shape.0 % 16 == 4,
+        _ => true,
+    }
+}
+
+/// How many blocks a command addresses, from the address that is sent with it.
+fn addressed_blocks(ask: &Ask) -> Option<u64>
+    ensures { result ≡ addressed_blocks ask.now }
+{
+    match ask.index {
+        17 | 18 | 24 | 25 => Some(u64::from(ask.count)),
+        32 | 33 | 35 | 36 => Some(1),
+        _ => None,
+    }
+}
+
+/// So many blocks are known to lie on the card, from an address that there is.
+fn address_known(facts: &Facts, address: &Option<Address>, blocks: u64) -> bool
+    ensures { IsTrue result ↔ AddressKnown facts.now address.now blocks }
+{
+    match address {
+        Some(address) => address_ok(facts, address, blocks),
+        None => false,
+    }
+}
+
+/// The blocks of a command are known to lie on the card, and are addressed in its unit.
+fn address_at(facts: &Facts, action: &Action<'_>) -> bool
+    ensures { IsTrue result ↔ AddressAt facts.now (node_of action.now) }
+{
+    match action {
+        Action::Send(command, _, _) => match addressed_blocks(&command.ask) {
+            Some(blocks) => address_known(facts, &command.address, blocks),
+            None => true,
+        },
+        _ => true,
+    }
+}
+
+/// The same where the point has a shape.
+fn address_holds<T: CardTable>(at: Source<'_, '_>) -> bool
+    ensures { IsTrue result ↔ ClauseHolds (Clause.Address) T.kind at.entry.certificate.now (place_at at.entry) at.entry.facts.now }
+{
+    if at.facts.facts.shapes().is_empty() {
+        return true;
+    }
+    address_at(&at.facts.facts, &at.point.action)
+}
+
+/// The numbers after a `let`, of a point that is one.
+fn numbers_set(at: Source<'_, '_>) -> Option<Numbers>
+    ensures { result ≡ numbers_set at.entry.kind at.entry.facts.now.facts (place_at at.entry).node }
+{
+    match &at.point.action {
+        Action::Let(set, _) => after_let(at.kind, &at.facts.facts, set),
+        _ => None,
+    }
+}
+
+/// What is asked holds at a shape.
+fn shape_holds<T: CardTable>(
+    asked: Asked,
+    at: Source<'_, '_>,
+    set: &Option<Numbers>,
+    shape: Shape,
+) -> bool
+    requires set { set.now ≡ numbers_set T.kind at.facts.now.facts (place_at at).node }
+    requires flag { FlagFits (place_at at).node }
+    ensures { IsTrue result ↔ AskedFrom asked T.kind at.entry shape }
+{
+    let action = &at.point.action;
+    match asked {
+        Asked::Legal => legal_at::<T>(action, shape),
+        Asked::Edges(rules) => edges_hold::<T>(rules, at, set, shape),
+        Asked::EndState => ends_at(action, shape),
+        Asked::All => {
+            legal_at::<T>(action, shape)
+                && edges_hold::<T>(Rules::All, at, set, shape)
+                && ends_at(action, shape)
+        }
+    }
+}
+
+/// What is asked holds at each of these shapes.
+fn shapes_hold<T: CardTable>(
+    asked: Asked,
+    at: Source<'_, '_>,
+    set: &Option<Numbers>,
+    shapes: &[Shape],
+) -> bool
+    requires set { set.now ≡ numbers_set T.kind at.facts.now.facts (place_at at).node }
+    requires flag { FlagFits (place_at at).node }
+    ensures { IsTrue result ↔ ((s : Shape) → May shapes.now s → AskedFrom asked T.kind at.entry s) }
+{
+    for shape in shapes {
+        if !shape_holds::<T>(asked, at, set, *shape) {
+            return false;
+        }
+    }
+    true
+}
+
+/// What is asked holds at each shape of the point.
+fn holds<T: CardTable>(asked: Asked, at: Source<'_, '_>) -> bool
+    requires kind { T.kind ≡ at.kind }
+    requires flag { FlagFits (place_at at).node }
+    ensures { IsTrue result ↔ ((s : Shape) → May at.entry.facts.now.facts.shapes s → AskedFrom asked T.kind at.entry s) }
+{
+    let set = numbers_set(at);
+    shapes_hold::<T>(asked, at, &set, at.facts.facts.shapes())
+}
+
+/// All clauses of the point hold, in one pass over its shapes.
+fn is_closed<T: CardTable>(at: Source<'_, '_>) -> bool
+    requires kind { T.kind ≡ at.kind }
+    requires flag { FlagFits (place_at at).node }
+    ensures { IsTrue result ↔ PointClosed T.kind at.entry.certificate.now (place_at at.entry) at.entry.facts.now }
+{
+    address_holds::<T>(at) && holds::<T>(Asked::All, at)
+}
+
+/// The first clause of the point that fails, one after another.
+fn first_failing<T: CardTable>(at: Source<'_, '_>) -> Option<Clause>
+    requires kind { T.kind ≡ at.kind }
+    requires flag { FlagFits (place_at at).node }
+    ensures { MatchOption result
+        (PointClosed T.kind at.entry.certificate.now (place_at at.entry) at.entry.facts.now)
+        (λ clause. FirstFails clause T.kind at.entry.certificate.now (place_at at.entry) at.entry.facts.now) }
+{
+    if !holds::<T>(Asked::Legal, at) {
+        return Some(Clause::Illegal);
+    }
+    if !address_holds::<T>(at) {
+        return Some(Clause::Address);
+    }
+    if !holds::<T>(Asked::Edges(Rules::Shape), at) {
+        return Some(Clause::Shape);
+    }
+    if !holds::<T>(Asked::Edges(Rules::Number), at) {
+        return Some(Clause::Number);
+    }
+    if !holds::<T>(Asked::Edges(Rules::Bound), at) {
+        return Some(Clause::Bound);
+    }
+    if !holds::<T>(Asked::EndState, at) {
+        return Some(Clause::EndState);
+    }
+    None
+}
+
+/// The first clause of the point that fails, if one does.
+pub fn point_fault<T: CardTable>(at: Source<'_, '_>) -> Option<Clause>
+    requires kind { T.kind ≡ at.kind }
+    requires flag { FlagFits (place_at at).node }
+    ensures { MatchOption result
+        (PointClosed T.kind at.entry.certificate.now (place_at at.entry) at.entry.facts.now)
+        (λ clause. FirstFails clause T.kind at.entry.certificate.now (place_at at.entry) at.entry.facts.now) }
+{
+    if is_closed::<T>(at) {
+        return None;
+    }
+    first_failing::<T>(at)
+}

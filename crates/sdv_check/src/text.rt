@@ -1,0 +1,12 @@
+//! Reading the text of a certificate.
+
+mod cursor;
+mod fault;
+mod items;
+mod points;
+mod reading;
+#[cfg(test)]
+mod tests;
+
+pub use fault::CertFault;
+pub use reading::{one_certificate, read};

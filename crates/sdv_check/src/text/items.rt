@@ -1,0 +1,113 @@
+//! The items of a line.
+
+ghost use Rattle.std.specs.Prelude.{◌≡◌, ◌+◌, ◌^◌, min, length};
+ghost use Rattle.sdv_check.specs.Reading.{Gives, run, is_digit, is_plain, number_after, read_number, read_gap, read_var, code_of, read_shape, has_upper};
+
+use crate::text::cursor::{Cursor, ends_item, expect, skip};
+use crate::text::fault::CertFault;
+use hex::FromHex;
+use sdv_card::Shape;
+use sdv_facts::{MAX_NUMBER, VarFacts};
+
+fn digits_len(text: &[u8]) -> usize
+    ensures { result ≡ run is_digit text.now }
+{
+    text.iter()
+        .take_while(|byte| matches!(**byte, b'0'..=b'9'))
+        .count()
+}
+
+// Digits without leading zeros.
+fn is_plain(digits: &[u8]) -> bool
+    ensures { result ≡ is_plain digits.now }
+{
+    !digits.is_empty() && (digits[0] != b'0' || digits.len() == 1)
+}
+
+// What digits spell, or 2^40 + 1 where that is more.
+fn capped_value(digits: &[u8]) -> u64
+    ensures { result ≡ min (number_after 0 digits.now) (2 ^ 40 + 1) }
+{
+    let mut value = 0;
+    for digit in digits {
+        value = (value * 10 + u64::from(digit.saturating_sub(b'0'))).min(MAX_NUMBER + 1);
+    }
+    value
+}
+
+/// A number behind a space, and what follows it.
+#[tactic(auto, unfolding(crate::specs::Reading::read_number))]
+pub fn number(at: Cursor<'_>) -> Result<(u64, Cursor<'_>), CertFault>
+    ensures { Gives (λ x. (x.0, x.1.rest.now)) result (read_number at.entry.rest.now) }
+{
+    let at = expect(at, b" ")?;
+    let (digits, rest) = at.rest.split_at(digits_len(at.rest));
+    if !is_plain(digits) || !ends_item(rest) {
+        return Err(CertFault::Syntax { line: at.line });
+    }
+    let value = capped_value(digits);
+    if value > MAX_NUMBER {
+        return Err(CertFault::Limit);
+    }
+    Ok((value, Cursor { rest, ..at }))
+}
+
+// A gap, or `-` for none, and what follows it.
+#[tactic(auto, unfolding(crate::specs::Reading::read_gap))]
+fn gap(at: Cursor<'_>) -> Result<(Option<u64>, Cursor<'_>), CertFault>
+    ensures { Gives (λ x. (x.0, x.1.rest.now)) result (read_gap at.entry.rest.now) }
+{
+    if let Some(at) = skip(at, b" -") {
+        return Ok((None, at));
+    }
+    let (gap, at) = number(at)?;
+    Ok((Some(gap), at))
+}
+
+/// What is said of a number variable, and what follows it.
+#[tactic(auto, unfolding(crate::specs::Reading::read_var))]
+pub fn variable(at: Cursor<'_>) -> Result<(VarFacts, Cursor<'_>), CertFault>
+    ensures { Gives (λ x. (x.0, x.1.rest.now)) result (read_var at.entry.rest.now) }
+{
+    let at = expect(at, b" v")?;
+    let (lo, at) = number(at)?;
+    let (hi, at) = number(at)?;
+    let (gap, at) = gap(at)?;
+    Ok((VarFacts { lo, hi, gap }, at))
+}
+
+fn has_upper(digits: &[u8]) -> bool
+    ensures { result ≡ has_upper digits.now }
+{
+    digits.iter().any(|byte| matches!(*byte, b'A'..=b'Z'))
+}
+
+// The code that 16 lower-case hexadecimal digits spell.
+fn code_of(digits: &[u8]) -> Option<u64>
+    ensures { result ≡ code_of digits.now }
+{
+    if has_upper(digits) {
+        return None;
+    }
+    match <[u8; 8]>::from_hex(digits) {
+        Ok(bytes) => Some(u64::from_be_bytes(bytes)),
+        Err(_) => None,
+    }
+}
+
+/// A shape, and what follows it.
+#[tactic(auto, unfolding(crate::specs::Reading::read_shape))]
+pub fn shape(at: Cursor<'_>) -> Result<(Shape, Cursor<'_>), CertFault>
+    ensures { Gives (λ x. (x.0, x.1.rest.now)) result (read_shape at.entry.rest.now) }
+{
+    let at = expect(at, b" ")?;
+    let fault = CertFault::Syntax { line: at.line };
+    if at.rest.len() < 16 {
+        return Err(fault);
+    }
+    let (digits, rest) = at.rest.split_at(16);
+    match code_of(digits) {
+        Some(code) if ends_item(rest) => Ok((Shape(code), Cursor { rest, ..at })),
+        _ => Err(fault),
+    }
+}

@@ -1,0 +1,88 @@
+ghost use Rattle.std.specs.Prelude.{◌≡◌, ◌≢◌, ◌<◌, List, length, IfOk, IfErr, Err, All};
+ghost use Rattle.sdv_facts.specs.declared.certificate.PointFacts.{PointFacts};
+ghost use Rattle.sdv_facts.specs.CertificateText.{text_of, max_bytes, WithinLimits};
+ghost use Rattle.sdv_check.specs.Reading.{Gives, read_count, read_lines, read_text};
+ghost use Rattle.sdv_check.specs.declared.text.fault.CertFault.TheVariants.{Limit};
+
+use crate::text::cursor::{Cursor, expect, line_end, skip};
+use crate::text::fault::CertFault;
+use crate::text::items::number;
+use crate::text::points::points;
+use sdv_facts::{Certificate, PointFacts};
+use std::alloc::Global;
+
+/// A text has at most so many bytes.
+pub const MAX_BYTES: usize = 16_777_216;
+
+/// A certificate has at most so many points.
+pub const MAX_POINTS: u64 = 4096;
+
+/// The certificate that a text is.
+///
+/// # Errors
+///
+/// The first fault from left to right, but [`CertFault::Limit`] at once for a text of more than 16,777,216 bytes.
+/// [`CertFault::Memory`] comes only where memory was refused.
+pub fn read(alloc: Global, text: &str) -> Result<Certificate, CertFault>
+    ensures found { IfOk result (λ c. WithinLimits c × (text.entry.now ≡ text_of c)) }
+    // Unless memory was refused, a text that is refused is that of no certificate within the limits.
+    ensures only { IfErr result (λ f. f ≢ CertFault.Memory →
+        (c : List PointFacts) → WithinLimits c → text.entry.now ≡ text_of c → ⊥) }
+    ensures long { max_bytes < length text.entry.now → result ≡ Err Limit }
+{
+    let points = whole(alloc, text.as_bytes())?;
+    Ok(Certificate::from_points(points))
+}
+
+/// A text is that of one certificate at most.
+pub fn one_certificate()
+    ensures { (a b : List PointFacts) → WithinLimits a → WithinLimits b → text_of a ≡ text_of b → a ≡ b }
+{}
+
+// How many points there are, and what follows.
+#[tactic(auto, unfolding(crate::specs::Reading::read_count))]
+fn count(at: Cursor<'_>) -> Result<(u64, Cursor<'_>), CertFault>
+    ensures { Gives (λ x. (x.0, x.1.rest.now)) result (read_count at.entry.rest.now) }
+{
+    let at = expect(at, b"points")?;
+    let (count, at) = number(at)?;
+    if count > MAX_POINTS {
+        return Err(CertFault::Limit);
+    }
+    let at = line_end(at)?;
+    Ok((count, at))
+}
+
+// The points, behind the first line.
+#[tactic(auto, unfolding(crate::specs::Reading::read_lines))]
+fn lines(alloc: Global, at: Cursor<'_>) -> Result<Vec<PointFacts>, CertFault>
+    ensures { Gives (λ x. x.items) result (read_lines at.entry.rest.now) }
+{
+    let (count, at) = count(at)?;
+    let (points, at) = points(alloc, count, at)?;
+    if !at.rest.is_empty() {
+        return Err(CertFault::Syntax { line: at.line });
+    }
+    Ok(points)
+}
+
+// The points of a text.
+#[tactic(auto, unfolding(crate::specs::Reading::read_text))]
+fn whole(alloc: Global, text: &[u8]) -> Result<Vec<PointFacts>, CertFault>
+    ensures read { Gives (λ x. x.items) result (read_text text.now) }
+    ensures long { max_bytes < length text.now → result ≡ Err Limit }
+{
+    if text.len() > MAX_BYTES {
+        return Err(CertFault::Limit);
+    }
+    match skip(
+        Cursor {
+            rest: text,
+            line: 2,
+        },
+        b"sdv-cert 1\n",
+    ) {
+        Some(at) => lines(alloc, at),
+        None => Err(CertFault::Header),
+    }
+}

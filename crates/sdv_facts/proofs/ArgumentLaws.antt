@@ -1,0 +1,149 @@
+-- The argument of a command that a host makes, legal and in bounds on a card of the profile, has 32 bits.
+use Rattle.std.proofs.Common.{◌≡◌, ℕ, ◌<◌, ◌≤◌, ◌+◌, ◌*◌, ◌^◌, ◌⊎◌, inl, inr, refl, sym, ap, subst, ◌∙◌, Bool, true, false, Option, Some, if◌then◌else◌, eqb-true, arith}
+use Rattle.sdv_registers.specs.declared.kind.Kind.{Kind}
+use Rattle.sdv_registers.specs.declared.kind.Kind.TheVariants.{Sd, Emmc}
+use Rattle.sdv_card.specs.declared.event.Aim.{Aim}
+use Rattle.sdv_card.specs.declared.event.Aim.TheVariants.{Rca, Plain}
+use Rattle.sdv_card.specs.declared.event.Ask.{Ask}
+use Rattle.sdv_card.specs.declared.command.Order.{Order}
+use Rattle.sdv_card.specs.declared.command.Order.TheVariants.{GoIdleState, SendOpCond, AllSendCid, SendRelativeAddress, SetRelativeAddress, SelectCard, DeselectCards, SendIfCond, SendExtCsd, SendCsd, SendCid, StopTransmission, SendStatus, SetBlockLength, ReadSingleBlock, ReadMultipleBlock, SetBlockCount, WriteBlock, WriteMultipleBlock, EraseBlockStart, EraseBlockEnd, EraseGroupStart, EraseGroupEnd, Erase, SdSendOpCond, SendScr, AppCommand}
+use Rattle.sdv_card.specs.Card.{Card}
+use Rattle.sdv_card.specs.CommandTable.{is_line, is_counted, order_if, sd_order, emmc_order, order_of, argument_or_none, order_argument}
+use Rattle.sdv_card.specs.Host.{Host}
+use Rattle.sdv_card.specs.Laws.{AsksAddress, order_blocks}
+use Rattle.sdv_card.specs.Legal.{Within, BlocksWithin}
+use Rattle.sdv_card.specs.Port.{IsFine}
+use Rattle.sdv_card.specs.Profile.{IsOfProfile, most_blocks}
+use Rattle.sdv_card.specs.ScriptEvent.{SendCommand}
+use Rattle.sdv_card.proofs.Members.{and_left, and_right}
+use Rattle.sdv_card.proofs.OrdersOfAsks.{of_ask}
+
+-- ARGUMENTS THAT A SCRIPT WRITES are those of the command table
+abbrev OwnIsSmall : Ask → Order → Type 0
+OwnIsSmall ask Erase = ask.argument < 2 ^ 32
+OwnIsSmall ask (SdSendOpCond high) = ask.argument < 2 ^ 32
+OwnIsSmall ask order = Unit {0}
+
+line : (ask : Ask) (order : Order) (is : Bool) (o : Order) (rest : Option Order) → (is ≡ true → OwnIsSmall ask o) → order_if is o rest ≡ Some order → (rest ≡ Some order → OwnIsSmall ask order) → OwnIsSmall ask order
+line ask order true o rest here e later = let f : o ≡ order = cc in subst (λ v. OwnIsSmall ask v) f (here refl)
+line ask order false o rest here e later = later e
+
+small_line : (ask : Ask) (index : ℕ) (aim : Aim) (argument count : ℕ) → argument < 2 ^ 32 → is_line ask index aim argument count ≡ true → ask.argument < 2 ^ 32
+small_line ask index aim argument count small i = subst (λ n. n < 2 ^ 32) (sym (eqb-true ask.argument argument (and_right _ _ (and_left _ _ i)))) small
+
+sd_own : (ask : Ask) (order : Order) → sd_order ask ≡ Some order → OwnIsSmall ask order
+sd_own ask order e =
+    line ask order (is_line ask 0 Plain 0 0) GoIdleState _ (λ i. tt) e (λ e.
+    line ask order (is_line ask 2 Plain 0 0) AllSendCid _ (λ i. tt) e (λ e.
+    line ask order (is_line ask 3 Plain 0 0) SendRelativeAddress _ (λ i. tt) e (λ e.
+    line ask order (is_line ask 7 Rca 0 0) SelectCard _ (λ i. tt) e (λ e.
+    line ask order (is_line ask 7 Plain 0 0) DeselectCards _ (λ i. tt) e (λ e.
+    line ask order (is_line ask 8 Plain 0 0) SendIfCond _ (λ i. tt) e (λ e.
+    line ask order (is_line ask 9 Rca 0 0) SendCsd _ (λ i. tt) e (λ e.
+    line ask order (is_line ask 10 Rca 0 0) SendCid _ (λ i. tt) e (λ e.
+    line ask order (is_line ask 12 Plain 0 0) StopTransmission _ (λ i. tt) e (λ e.
+    line ask order (is_line ask 13 Rca 0 0) SendStatus _ (λ i. tt) e (λ e.
+    line ask order (is_line ask 16 Plain 0 0) SetBlockLength _ (λ i. tt) e (λ e.
+    line ask order (is_line ask 17 Plain 0 1) ReadSingleBlock _ (λ i. tt) e (λ e.
+    line ask order (is_counted ask 18) (ReadMultipleBlock ask.count) _ (λ i. tt) e (λ e.
+    line ask order (is_line ask 24 Plain 0 1) WriteBlock _ (λ i. tt) e (λ e.
+    line ask order (is_counted ask 25) (WriteMultipleBlock ask.count) _ (λ i. tt) e (λ e.
+    line ask order (is_line ask 32 Plain 0 0) EraseBlockStart _ (λ i. tt) e (λ e.
+    line ask order (is_line ask 33 Plain 0 0) EraseBlockEnd _ (λ i. tt) e (λ e.
+    line ask order (is_line ask 38 Plain 0 0) Erase _ (λ i. small_line ask 38 Plain 0 0 (omega arith) i) e (λ e.
+    line ask order (is_line ask 41 Plain 0x00ff8000 0) (SdSendOpCond false) _ (λ i. small_line ask 41 Plain 0x00ff8000 0 (omega arith) i) e (λ e.
+    line ask order (is_line ask 41 Plain 0x40ff8000 0) (SdSendOpCond true) _ (λ i. small_line ask 41 Plain 0x40ff8000 0 (omega arith) i) e (λ e.
+    line ask order (is_line ask 51 Plain 0 0) SendScr _ (λ i. tt) e (λ e.
+    line ask order (is_line ask 55 Rca 0 0) AppCommand _ (λ i. tt) e (λ e.
+    absurd (cc)))))))))))))))))))))))
+
+emmc_own : (ask : Ask) (order : Order) → emmc_order ask ≡ Some order → OwnIsSmall ask order
+emmc_own ask order e =
+    line ask order (is_line ask 0 Plain 0 0) GoIdleState _ (λ i. tt) e (λ e.
+    line ask order (is_line ask 1 Plain 0 0) SendOpCond _ (λ i. tt) e (λ e.
+    line ask order (is_line ask 2 Plain 0 0) AllSendCid _ (λ i. tt) e (λ e.
+    line ask order (is_line ask 3 Plain 0 0) SetRelativeAddress _ (λ i. tt) e (λ e.
+    line ask order (is_line ask 7 Rca 0 0) SelectCard _ (λ i. tt) e (λ e.
+    line ask order (is_line ask 7 Plain 0 0) DeselectCards _ (λ i. tt) e (λ e.
+    line ask order (is_line ask 8 Plain 0 0) SendExtCsd _ (λ i. tt) e (λ e.
+    line ask order (is_line ask 9 Rca 0 0) SendCsd _ (λ i. tt) e (λ e.
+    line ask order (is_line ask 10 Rca 0 0) SendCid _ (λ i. tt) e (λ e.
+    line ask order (is_line ask 12 Plain 0 0) StopTransmission _ (λ i. tt) e (λ e.
+    line ask order (is_line ask 13 Rca 0 0) SendStatus _ (λ i. tt) e (λ e.
+    line ask order (is_line ask 16 Plain 0 0) SetBlockLength _ (λ i. tt) e (λ e.
+    line ask order (is_line ask 17 Plain 0 1) ReadSingleBlock _ (λ i. tt) e (λ e.
+    line ask order (is_counted ask 18) (ReadMultipleBlock ask.count) _ (λ i. tt) e (λ e.
+    line ask order (is_counted ask 23) (SetBlockCount ask.count) _ (λ i. tt) e (λ e.
+    line ask order (is_line ask 24 Plain 0 1) WriteBlock _ (λ i. tt) e (λ e.
+    line ask order (is_counted ask 25) (WriteMultipleBlock ask.count) _ (λ i. tt) e (λ e.
+    line ask order (is_line ask 35 Plain 0 0) EraseGroupStart _ (λ i. tt) e (λ e.
+    line ask order (is_line ask 36 Plain 0 0) EraseGroupEnd _ (λ i. tt) e (λ e.
+    line ask order (is_line ask 38 Plain 0 0) Erase _ (λ i. small_line ask 38 Plain 0 0 (omega arith) i) e (λ e.
+    line ask order (is_line ask 38 Plain 1 0) Erase _ (λ i. small_line ask 38 Plain 1 0 (omega arith) i) e (λ e.
+    line ask order (is_line ask 38 Plain 3 0) Erase _ (λ i. small_line ask 38 Plain 3 0 (omega arith) i) e (λ e.
+    absurd (cc)))))))))))))))))))))))
+
+own_small : (k : Kind) (ask : Ask) (order : Order) → order_of k ask ≡ Some order → OwnIsSmall ask order
+unfolding order_of
+own_small Sd ask order e = sd_own ask order e
+own_small Emmc ask order e = emmc_own ask order e
+
+-- ADDRESSES
+
+by_capacity : (k : Kind) (unit : Bool) (argument position n capacity : ℕ) → 0 < n → argument ≡ (if unit then position else 512 * position) → position + n ≤ capacity → capacity ≤ most_blocks k unit → argument < 2 ^ 32
+by_capacity Sd true argument position n capacity some is room most = omega arith
+by_capacity Sd false argument position n capacity some is room most = omega arith
+by_capacity Emmc true argument position n capacity some is room most = omega arith
+by_capacity Emmc false argument position n capacity some is room most = omega arith
+
+at_address : (c : Card) (argument n : ℕ) → IsOfProfile c → 0 < n → Within c argument n → argument < 2 ^ 32
+at_address c argument n of some w = by_capacity c.kind c.block_unit argument w.position n c.capacity some w.unit w.room of.most
+
+times : (rca : ℕ) → rca < 65536 → 65536 * rca < 2 ^ 32
+times rca small = omega arith
+
+below : (n : ℕ) → n < 65536 → n < 2 ^ 32
+below n small = omega arith
+
+-- ORDER BY ORDER
+module _ (k : Kind) (ask : Ask) (argument : ℕ) (c : Card) (h : Host) (laws : AsksAddress k) (fine : IsFine k (SendCommand ask argument) c h) (of : IsOfProfile c) (order : Order) (asked : order_of k ask ≡ Some order) where
+  blocks : (n : ℕ) → order_blocks order ≡ Some n → 0 < n → argument < 2 ^ 32
+  blocks n is some = at_address c argument n of some (subst (λ o. BlocksWithin o c argument) (sym (laws ask order asked) ∙ is) fine.bounds)
+
+  small_order : (o : Order) → order ≡ o → order_argument o ask.argument h.rca fine.made.address < 2 ^ 32 ⊎ (argument < 2 ^ 32)
+  small_order GoIdleState e = inl (omega arith)
+  small_order SendOpCond e = inl (omega arith)
+  small_order AllSendCid e = inl (omega arith)
+  small_order SendRelativeAddress e = inl (omega arith)
+  small_order SetRelativeAddress e = inl (omega arith)
+  small_order SelectCard e = inl (times h.rca fine.pair.rca)
+  small_order DeselectCards e = inl (omega arith)
+  small_order SendIfCond e = inl (omega arith)
+  small_order SendExtCsd e = inl (omega arith)
+  small_order SendCsd e = inl (times h.rca fine.pair.rca)
+  small_order SendCid e = inl (times h.rca fine.pair.rca)
+  small_order StopTransmission e = inl (omega arith)
+  small_order SendStatus e = inl (times h.rca fine.pair.rca)
+  small_order SetBlockLength e = inl (omega arith)
+  small_order ReadSingleBlock e = inr (blocks 1 (ap order_blocks e) (omega arith))
+  small_order (ReadMultipleBlock n) e = inr (blocks n (ap order_blocks e) ((of_ask k ask (ReadMultipleBlock n) (asked ∙ ap Some e)).some n refl))
+  small_order (SetBlockCount n) e = inl (below n (of_ask k ask (SetBlockCount n) (asked ∙ ap Some e)).count)
+  small_order WriteBlock e = inr (blocks 1 (ap order_blocks e) (omega arith))
+  small_order (WriteMultipleBlock n) e = inr (blocks n (ap order_blocks e) ((of_ask k ask (WriteMultipleBlock n) (asked ∙ ap Some e)).some n refl))
+  small_order EraseBlockStart e = inr (blocks 1 (ap order_blocks e) (omega arith))
+  small_order EraseBlockEnd e = inr (blocks 1 (ap order_blocks e) (omega arith))
+  small_order EraseGroupStart e = inr (blocks 1 (ap order_blocks e) (omega arith))
+  small_order EraseGroupEnd e = inr (blocks 1 (ap order_blocks e) (omega arith))
+  small_order Erase e = inl (own_small k ask Erase (asked ∙ ap Some e))
+  small_order (SdSendOpCond high) e = inl (own_small k ask (SdSendOpCond high) (asked ∙ ap Some e))
+  small_order SendScr e = inl (omega arith)
+  small_order AppCommand e = inl (times h.rca fine.pair.rca)
+
+  settles : order_argument order ask.argument h.rca fine.made.address < 2 ^ 32 ⊎ (argument < 2 ^ 32) → argument < 2 ^ 32
+  settles (inl small) = subst (λ n. n < 2 ^ 32) (sym (fine.made.same ∙ ap (λ o. argument_or_none o ask.argument h.rca fine.made.address) asked)) small
+  settles (inr small) = small
+
+pub narrow : (k : Kind) (ask : Ask) (argument : ℕ) (c : Card) (h : Host) → AsksAddress k → IsFine k (SendCommand ask argument) c h → IsOfProfile c → argument < 2 ^ 32
+narrow k ask argument c h laws fine of =
+    let asked : order_of k ask ≡ Some fine.legal.order = subst (λ v. order_of v ask ≡ Some fine.legal.order) (sym fine.pair.kind) fine.legal.asks.line in
+    settles k ask argument c h laws fine of fine.legal.order asked (small_order k ask argument c h laws fine of fine.legal.order asked fine.legal.order refl)

@@ -1,0 +1,455 @@
+-- Where the facts of a closed certificate hold, each event is legal and in bounds, and after it the facts of the target hold.
+use Rattle.std.proofs.Common.{◌≡◌, ℕ, zero, suc, ◌<◌, ◌≤◌, ◌%◌, refl, sym, ap, ◌∙◌, subst, arith, Bool, true, false, List, [], ◌∷◌, Option, Some, None, length}
+use Rattle.std.specs.Prelude.{slice_get, IfSome, if◌then◌else◌, ◌&&◌, nat_lt, nat_le, slice_index}
+use Rattle.std.proofs.lemmas.List.{length-set}
+use Rattle.std.proofs.lemmas.Option.{slice_get_within}
+use Rattle.std.proofs.lemmas.Bool.{ltb-true, ltb-false, leb-true, leb-false}
+use Rattle.sdv_registers.specs.declared.kind.Kind.{Kind}
+use Rattle.sdv_card.specs.declared.answer.Answer.{Answer}
+use Rattle.sdv_card.specs.declared.command.Order.{Order}
+use Rattle.sdv_card.specs.declared.command.Order.TheVariants.{ReadSingleBlock, ReadMultipleBlock, WriteBlock, WriteMultipleBlock, EraseBlockStart, EraseBlockEnd, EraseGroupStart, EraseGroupEnd}
+use Rattle.sdv_card.specs.declared.event.Ask.{Ask}
+use Rattle.sdv_card.specs.declared.event.Event.TheVariants.{Send}
+use Rattle.sdv_card.specs.declared.event.Outcome.{Outcome}
+use Rattle.sdv_card.specs.declared.guard.Guard.{Guard}
+use Rattle.sdv_card.specs.declared.guard.Guard.TheVariants.{Ok as WentWell}
+use Rattle.sdv_card.specs.declared.shape.Shape.{Shape}
+use Rattle.sdv_card.specs.declared.state.State.{State}
+use Rattle.sdv_card.specs.declared.state.State.TheVariants.{Tran, Data, Rcv}
+use Rattle.sdv_card.specs.declared.state.Transfer.{Transfer}
+use Rattle.sdv_card.specs.declared.state.Transfer.TheVariants.{ReadDue, OpenReadDue, ScrDue, SdStatusDue, ExtCsdDue, WriteDue, OpenWriteDue}
+use Rattle.sdv_card.specs.Card.{Card}
+use Rattle.sdv_card.specs.Code.{digits, state_of}
+use Rattle.sdv_card.specs.CommandTable.{order_of, argument_of, argument_or_none, order_argument, addressed_blocks}
+use Rattle.sdv_card.specs.Guards.{passes}
+use Rattle.sdv_card.specs.Host.{Host, host_after, host_after_order}
+use Rattle.sdv_card.specs.HostEvents.{Makes}
+use Rattle.sdv_card.specs.Laws.{LegalIsExact, HasStep, StepsAreOutcomes, StepsAreExpected, StepsKeepPairs, StepsKeepSame, StepsKeepSound, StepsKeepOnCard, AsksAddress, StartsHold, VerdictsHold, FitsEvent, order_blocks}
+use Rattle.sdv_card.specs.Legal.{EventLegal, InBounds, BlocksWithin, Within, TransferOnCard, recv_legal, recv_reg_legal, give_legal}
+use Rattle.sdv_card.specs.LegalShapes.{legal_code}
+use Rattle.sdv_card.specs.Lists.{May}
+use Rattle.sdv_card.specs.Outcomes.{branch, outcome_of}
+use Rattle.sdv_card.specs.Phases.{blocks_due, register_due}
+use Rattle.sdv_card.specs.Port.{IsFine}
+use Rattle.sdv_card.specs.Profile.{IsOfProfile}
+use Rattle.sdv_card.specs.ScriptEvent.{ScriptEvent, SendCommand, ReceiveBlocks, ReceiveRegister, GiveBlocks, AwaitReady, event_of, Return, Answered, BlocksIn, RegisterIn, BlocksOut, Waited}
+use Rattle.sdv_card.specs.Seen.{seen_of}
+use Rattle.sdv_card.specs.Shapes.{view, pair_code, IsPair}
+use Rattle.sdv_card.specs.Step.{Step}
+use Rattle.sdv_card.specs.Taken.{SameCard}
+use Rattle.sdv_card.proofs.Digits.{digits_law}
+use Rattle.sdv_card.proofs.TableLaws.{legal_is_exact, has_step, steps_are_outcomes, steps_are_expected, steps_keep_pairs, steps_keep_same, steps_keep_sound, steps_keep_on_card, asks_address, starts_hold, verdicts_hold}
+use Rattle.sdv_script.specs.declared.graph.Target.{Target}
+use Rattle.sdv_script.specs.declared.tree.Address.{Address}
+use Rattle.sdv_script.specs.declared.tree.Command.{Command}
+use Rattle.sdv_script.specs.declared.tree.Condition.{Condition}
+use Rattle.sdv_script.specs.declared.tree.Condition.TheVariants as conditions
+use Rattle.sdv_script.specs.declared.tree.Let.{Let}
+use Rattle.sdv_script.specs.declared.tree.Phase.{Phase}
+use Rattle.sdv_script.specs.declared.tree.Phase.TheVariants as kinds
+use Rattle.sdv_script.specs.AddressSent.{address_of_command, address_sent, position_of, is_flag_set}
+use Rattle.sdv_script.specs.Conditions.{condition_holds, with_flag}
+use Rattle.sdv_script.specs.Graph.{Flow}
+use Rattle.sdv_script.specs.Nested.{Pass, Same, Again, Over, InBox, Turned, Nested}
+use Rattle.sdv_script.specs.Path.{Fork, Node, sends, phases, lets, tests, flags, heads, jumps, stops, Place, arrive, way_of, Goes, Does, move_with, move_at_head, node_move, move}
+use Rattle.sdv_script.specs.Rules.{max_number}
+use Rattle.sdv_script.specs.ValueOfLet.{value_of_let, with_number, number}
+use Rattle.sdv_script.specs.Walk.{command_deed, phase_deed, Fell, Broke, Finished, Failed, Open, Ending}
+use Rattle.sdv_facts.specs.declared.certificate.PointFacts.{PointFacts}
+use Rattle.sdv_facts.specs.declared.numbers.Numbers.{Numbers}
+use Rattle.sdv_facts.specs.declared.test.Test.{Test}
+use Rattle.sdv_facts.specs.declared.test.Test.TheVariants.{AtLeast, Below}
+use Rattle.sdv_facts.specs.Known.{var}
+use Rattle.sdv_facts.specs.AfterLet.{after_let}
+use Rattle.sdv_facts.specs.AfterTest.{after_test, TestHolds}
+use Rattle.sdv_facts.specs.Beside.{commands_in}
+use Rattle.sdv_facts.specs.Bounds.{bound, commands_of}
+use Rattle.sdv_facts.specs.Closed.{PointsMatch, PointClosed, Closed, AddressKnown, EndsAt}
+use Rattle.sdv_facts.specs.Edges.{with_flag_shown, EachOutcome, EachTest, EachCondition, EachEdge, event_of_phase, well_or}
+use Rattle.sdv_facts.specs.FactsHold.{VarHolds, NumbersHold, FactsHold, Carries}
+use Rattle.sdv_facts.specs.Keeps.{MayStandIn, IsHonest}
+use Rattle.sdv_facts.specs.Stands.{GuardsSuit, ForksSuit, NodeSuits, EachNodeSuits, Arrived, HaltsWell, MovesWell, StepsWell}
+use Rattle.sdv_facts.proofs.AddressLaws.{on_card}
+use Rattle.sdv_facts.proofs.EdgeLaws.{Reaches, edges}
+use Rattle.sdv_facts.proofs.FlagLaws.{pair_with_flag, flags_kept}
+use Rattle.sdv_facts.proofs.LetLaws.{let_keeps}
+use Rattle.sdv_facts.proofs.TestLaws.{test_keeps, target_holds}
+use Rattle.sdv_facts.proofs.UnitLaws.{flag_shown}
+use Rattle.sdv_facts.proofs.WayLaws.{AllHold, ForksHold, way_taken}
+
+-- THE LAWS OF A TABLE, and nothing else of it
+pub record Laws (k : Kind) : Type 0 where
+  pub legal_is_exact : LegalIsExact k
+  pub has_step : HasStep k
+  pub steps_are_outcomes : StepsAreOutcomes k
+  pub steps_are_expected : StepsAreExpected k
+  pub steps_keep_pairs : StepsKeepPairs k
+  pub steps_keep_same : StepsKeepSame k
+  pub steps_keep_sound : StepsKeepSound k
+  pub steps_keep_on_card : StepsKeepOnCard k
+  pub asks_address : AsksAddress k
+  pub starts_hold : StartsHold k
+  pub verdicts_hold : VerdictsHold k
+
+-- each kind keeps them
+pub laws_of : (k : Kind) → Laws k
+laws_of k = record {
+  legal_is_exact = legal_is_exact k;
+  has_step = has_step k;
+  steps_are_outcomes = steps_are_outcomes k;
+  steps_are_expected = steps_are_expected k;
+  steps_keep_pairs = steps_keep_pairs k;
+  steps_keep_same = steps_keep_same k;
+  steps_keep_sound = steps_keep_sound k;
+  steps_keep_on_card = steps_keep_on_card k;
+  asks_address = asks_address k;
+  starts_hold = starts_hold k;
+  verdicts_hold = verdicts_hold k;
+}
+
+pub has_place : (places : List Place) (i : ℕ) → i < length places → (p : Place) × (slice_get places i ≡ Some p)
+has_place [] i lt = absurd (omega arith)
+has_place (x ∷ xs) zero lt = (x, refl)
+has_place (x ∷ xs) (suc i) lt = has_place xs i (omega arith)
+
+-- THE HOST
+
+-- no event changes the script's variables and flags
+order_numbers : (o : Option Order) (answer : Answer) (h : Host) → (host_after_order o answer h).numbers ≡ h.numbers
+order_numbers None answer h = refl
+order_numbers (Some order) answer h = refl
+
+pub numbers_same : (k : Kind) (event : ScriptEvent) (returned : Return) (h : Host) → (host_after k event returned h).numbers ≡ h.numbers
+numbers_same k (SendCommand ask argument) (Answered answer) h = order_numbers (order_of k ask) answer h
+numbers_same k (SendCommand ask argument) (BlocksIn end blocks) h = refl
+numbers_same k (SendCommand ask argument) (RegisterIn end bytes) h = refl
+numbers_same k (SendCommand ask argument) (BlocksOut end) h = refl
+numbers_same k (SendCommand ask argument) (Waited end) h = refl
+numbers_same k (ReceiveRegister count) (RegisterIn end bytes) h = refl
+numbers_same k (ReceiveRegister count) (Answered answer) h = refl
+numbers_same k (ReceiveRegister count) (BlocksIn end blocks) h = refl
+numbers_same k (ReceiveRegister count) (BlocksOut end) h = refl
+numbers_same k (ReceiveRegister count) (Waited end) h = refl
+numbers_same k (ReceiveBlocks count) returned h = refl
+numbers_same k (GiveBlocks blocks) returned h = refl
+numbers_same k AwaitReady returned h = refl
+
+-- A CARD AFTER A STEP
+
+profile_kept : (c u : Card) (k : Kind) (h : Host) → IsPair k u h → SameCard c u → IsOfProfile c → IsOfProfile u
+profile_kept c u k h pair same of = record {
+  card = pair.card;
+  version = rw (sym same.kind, sym same.version, sym same.block_unit) of.version;
+  least = rw (sym same.capacity) of.least;
+  most = rw (sym same.capacity, sym same.kind, sym same.block_unit) of.most;
+  readable = rw (sym same.kind, sym same.csd) of.readable;
+  told = rw (sym same.kind, sym same.block_unit, sym same.csd, sym same.ext_csd, sym same.capacity) of.told;
+}
+
+-- what the host knows stays true
+pub honest_after : (k : Kind) → Laws k → (e : ScriptEvent) (c : Card) (h : Host) (returned : Return) (u : Card) → IsFine k e c h → IsHonest k c h → Step e c returned u → IsHonest k u (host_after k e returned h)
+honest_after k laws e c h returned u fine honest step =
+    let pair : IsPair k u (host_after k e returned h) = laws.steps_keep_pairs e c h returned u fine.pair fine.made step in
+    record {
+      pair = pair;
+      profile = profile_kept c u k (host_after k e returned h) pair (laws.steps_keep_same e c returned u fine.pair.kind step) honest.profile;
+      sound = laws.steps_keep_sound e c h returned u fine.pair fine.made fine.legal step honest.sound;
+    }
+
+numbers_kept : (ns : Numbers) (c u : Card) (h h' : Host) → c.capacity ≡ u.capacity → h'.numbers ≡ h.numbers → NumbersHold ns c h → NumbersHold ns u h'
+numbers_kept ns c u h h' size same holds = record {
+  least = subst (λ n. ns.m ≤ n) size holds.least;
+  many = ap length same ∙ holds.many;
+  each = λ x. subst (λ n. VarHolds n (var ns x) (number h' x)) size (subst (λ l. VarHolds c.capacity (var ns x) (slice_index l x)) (sym same) (holds.each x));
+}
+
+-- ADDRESSES
+
+-- the argument of a command that addresses blocks is the address
+argument_is : (order : Order) (n argument rca address : ℕ) → order_blocks order ≡ Some n → order_argument order argument rca address ≡ address
+argument_is ReadSingleBlock n argument rca address e = refl
+argument_is (ReadMultipleBlock m) n argument rca address e = refl
+argument_is WriteBlock n argument rca address e = refl
+argument_is (WriteMultipleBlock m) n argument rca address e = refl
+argument_is EraseBlockStart n argument rca address e = refl
+argument_is EraseBlockEnd n argument rca address e = refl
+argument_is EraseGroupStart n argument rca address e = refl
+argument_is EraseGroupEnd n argument rca address e = refl
+argument_is order n argument rca address e = absurd (cc)
+
+sent_at : (b : Bool) (h : Host) (a : Address) (address : ℕ) → (if b then Some (address_sent h a) else None) ≡ Some address → address_sent h a ≡ address
+sent_at true h a address e = cc
+sent_at false h a address e = absurd (cc)
+
+-- PHASES
+
+read_blocks : (s : State) (t : Transfer) → recv_legal s t ≡ true → blocks_due t ≡ true
+read_blocks Data ReadDue e = refl
+read_blocks Data OpenReadDue e = refl
+read_blocks s t e = absurd (cc)
+
+give_blocks : (s : State) (t : Transfer) → give_legal s t ≡ true → blocks_due t ≡ true
+give_blocks Rcv WriteDue e = refl
+give_blocks Rcv OpenWriteDue e = refl
+give_blocks s t e = absurd (cc)
+
+register_blocks : (s : State) (t : Transfer) → recv_reg_legal s t ≡ true → register_due t ≡ true
+register_blocks Data ScrDue e = refl
+register_blocks Data SdStatusDue e = refl
+register_blocks Data ExtCsdDue e = refl
+register_blocks s t e = absurd (cc)
+
+-- THE TRANSFER STATE
+
+state_digit : (n : ℕ) → state_of (n % 16) ≡ (digits n).state
+unfolding digits
+state_digit n = refl
+
+in_tran : (k : Kind) (c : Card) (h : Host) → IsPair k c h → pair_code c h % 16 ≡ 4 → c.state ≡ Tran
+in_tran k c h pair e =
+    sym (ap (λ f. f.state) (digits_law (view c h) pair.flags pair.card.preset)) ∙ sym (state_digit (pair_code c h)) ∙ ap state_of e
+
+and_last : (b : Bool) → b && true ≡ b
+and_last true = refl
+and_last false = refl
+
+-- ONE MOVE
+
+module _ (g : Flow) (ps : List PointFacts) (laws : Laws g.kind) (points : PointsMatch g ps) where
+  abbrev shape : Card → Host → Shape
+  shape c h = record { 0 = pair_code c h }
+
+  -- what is so before a move
+  record Here (place : Place) (p : PointFacts) (ts : List ℕ) (c : Card) (h : Host) : Type 0 where
+    box : InBox ts place.most
+    holds : FactsHold p.facts c h
+    honest : IsHonest g.kind c h
+    on_card : TransferOnCard c
+    variables : length p.facts.numbers.vars.items ≡ g.numbers
+
+  many_of : (place : Place) (p : PointFacts) (ts : List ℕ) (c : Card) (h : Host) → Here place p ts c h → length h.numbers ≡ g.numbers
+  many_of place p ts c h at = at.holds.numbers.many ∙ at.variables
+
+  -- along an edge, with facts that hold of the card and the host after it
+  arrives : (place : Place) (p : PointFacts) (pass : Pass) (t : Target) (s : Shape) (ns : Numbers) → Reaches g.places ps place p pass t s ns →
+      (ts us : List ℕ) → InBox ts place.most → Turned pass ts us → (u : Card) (h : Host) → s ≡ shape u h → length h.numbers ≡ g.numbers → NumbersHold ns u h → IsHonest g.kind u h → TransferOnCard u →
+      Arrived g ps (bound p ts) (commands_of place.node) (arrive t us h) u
+  arrives place p pass t s ns r ts us box turned u h is many holds honest on_card =
+      let within : t.to < length g.places = subst (λ n. t.to < n) points.count (slice_get_within ps t.to r.facts r.known) in
+      let there = has_place g.places t.to within in
+      let matches = points.each t.to there.0 r.facts there.1 r.known in
+      record {
+        stands = record {
+          place = there.0;
+          here = there.1;
+          facts = r.facts;
+          known = r.known;
+          box = r.lands there.0 there.1 ts us box turned;
+          holds = record {
+            shape = subst (λ v. May r.facts.facts.shapes v) is r.shape;
+            numbers = target_holds r.facts.facts.numbers ns (matches.variables ∙ sym many ∙ holds.many) r.numbers u h holds;
+          };
+          honest = honest;
+          on_card = on_card;
+        };
+        falls = r.bounds ts us box turned;
+      }
+
+  -- AN EVENT
+
+  -- an event and what follows each step of it
+  abbrev Goes-well : PointFacts → List ℕ → List Fork → Target → ScriptEvent → Card → Host → Type 0
+  Goes-well p ts ways other e c h =
+      IsFine g.kind e c h × ((returned : Return) (u : Card) → Step e c returned u → Arrived g ps (bound p ts) (commands_in e) (arrive (way_of g.kind ways other returned) ts (host_after g.kind e returned h)) u)
+
+  does : (place : Place) (p : PointFacts) (ts : List ℕ) (e : ScriptEvent) (ways : List Fork) (other : Target) (c : Card) (h : Host) → Here place p ts c h → commands_of place.node ≡ commands_in e →
+      Makes g.kind e h → legal_code g.kind (pair_code c h) (event_of e) ≡ true → (EventLegal e c → InBounds e c) → ((returned : Return) (u : Card) → Step e c returned u → ForksHold g.kind returned ways) →
+      EachOutcome g.kind (event_of e) ways other p.facts.numbers (shape c h) (Reaches g.places ps place p) → Goes-well p ts ways other e c h
+  does place p ts e ways other c h at cost made legal bounds holds edge =
+      let k = g.kind in
+      let pair : IsPair k c h = at.honest.pair in
+      let fine : EventLegal e c = (laws.legal_is_exact e c h pair made).1 legal in
+      let within : InBounds e c = bounds fine in (
+        record { pair = pair; made = made; legal = fine; bounds = within; on_card = at.on_card },
+        λ returned u step.
+            let h' : Host = host_after k e returned h in
+            let after : IsPair k u h' = laws.steps_keep_pairs e c h returned u pair made step in
+            let same : SameCard c u = laws.steps_keep_same e c returned u pair.kind step in
+            let o : Outcome = outcome_of (branch (view u h') (seen_of k returned)) in
+            let r : Reaches g.places ps place p Same (way_of k ways other returned) (shape u h') p.facts.numbers =
+            way_taken k returned ways other (λ t. Reaches g.places ps place p Same t (shape u h') p.facts.numbers) (holds returned u step)
+            (edge legal o (laws.steps_are_outcomes e c h returned u pair made fine step)) in
+            subst (λ n. Arrived g ps (bound p ts) n (arrive (way_of k ways other returned) ts h') u) cost
+            (arrives place p Same (way_of k ways other returned) (shape u h') p.facts.numbers r ts ts at.box refl u h' refl
+            (ap length (numbers_same k e returned h) ∙ many_of place p ts c h at)
+            (numbers_kept p.facts.numbers c u h h' same.capacity (numbers_same k e returned h) at.holds.numbers)
+            (record {
+              pair = after;
+              profile = profile_kept c u k h' after same at.honest.profile;
+              sound = laws.steps_keep_sound e c h returned u pair made fine step at.honest.sound;
+            })
+            (laws.steps_keep_on_card e c h returned u pair fine within step at.on_card)),
+      )
+
+  -- COMMANDS
+
+  forks_hold : (e : ScriptEvent) (c : Card) (h : Host) (returned : Return) (u : Card) (ask : Ask) (argument : ℕ) (ways : List Fork) → e ≡ SendCommand ask argument → IsPair g.kind c h → Step e c returned u → ForksSuit g.kind ask ways → ForksHold g.kind returned ways
+  forks_hold e c h returned u ask argument [] is pair step suit = tt
+  forks_hold e c h returned u ask argument (w ∷ ws) is pair step suit = (guards w.guards suit.0, forks_hold e c h returned u ask argument ws is pair step suit.1)
+    where
+      guards : (gs : List Guard) → GuardsSuit g.kind ask gs → AllHold g.kind returned gs
+      guards [] s = tt
+      guards (x ∷ xs) s = (laws.verdicts_hold x e c h returned u pair (subst (λ e. FitsEvent g.kind x e) (sym is) s.0) step, guards xs s.1)
+
+  -- a legal command has a line in the command table
+  command_in_bounds : (p : PointFacts) (command : Command) (c : Card) (h : Host) (address argument : ℕ) → FactsHold p.facts c h → IsPair g.kind c h → argument ≡ argument_of g.kind command.ask h.rca address →
+      (o : Option ℕ) → addressed_blocks command.ask ≡ o → (a : Option Address) → command.address ≡ a → address_of_command h a ≡ Some address → IfSome o (λ blocks. AddressKnown p.facts a blocks) →
+      EventLegal (SendCommand command.ask argument) c → BlocksWithin o c argument
+  command_in_bounds p command c h address argument holds pair made None is a at sent known legal = tt
+  command_in_bounds p command c h address argument holds pair made (Some n) is None at sent known legal = absurd known
+  command_in_bounds p command c h address argument holds pair made (Some n) is (Some a) at sent known legal =
+      let line : order_of g.kind command.ask ≡ Some legal.order = subst (λ k. order_of k command.ask ≡ Some legal.order) (sym pair.kind) legal.asks.line in
+      let blocks : order_blocks legal.order ≡ Some n = laws.asks_address command.ask legal.order line ∙ is in
+      let same : argument ≡ address = made ∙ ap (λ o. argument_or_none o command.ask.argument h.rca address) line ∙ argument_is legal.order n command.ask.argument h.rca address blocks in
+      let address_same : address_sent h a ≡ address = sent_at (nat_le (position_of h a.position) max_number) h a address sent in
+      subst (λ v. Within c v n) (address_same ∙ sym same) (on_card p.facts a n known g.kind c h pair holds)
+
+  sends_well : (place : Place) (p : PointFacts) (ts : List ℕ) (command : Command) (ways : List Fork) (other : Target) (c : Card) (h : Host) → Here place p ts c h → commands_of place.node ≡ 1 → ForksSuit g.kind command.ask ways →
+      legal_code g.kind (pair_code c h) (Send command.ask) ≡ true → IfSome (addressed_blocks command.ask) (λ blocks. AddressKnown p.facts command.address blocks) →
+      EachOutcome g.kind (Send command.ask) ways other p.facts.numbers (shape c h) (Reaches g.places ps place p) →
+      (o : Option ℕ) → address_of_command h command.address ≡ o →
+      MovesWell g ps (bound p ts) (move_with o (λ address. Does (command_deed g.kind command h address) h (λ returned h'. arrive (way_of g.kind ways other returned) ts h'))) c
+  sends_well place p ts command ways other c h at cost suit legal known edge None is = tt
+  sends_well place p ts command ways other c h at cost suit legal known edge (Some address) is =
+      let argument = argument_of g.kind command.ask h.rca address in
+      let e = SendCommand command.ask argument in
+      λ event deed. subst (λ e. Goes-well p ts ways other e c h) (sym deed)
+      (does place p ts e ways other c h at cost (record { address = address; same = refl }) legal
+      (command_in_bounds p command c h address argument at.holds at.honest.pair refl (addressed_blocks command.ask) refl command.address refl is known)
+      (λ returned u step. forks_hold e c h returned u command.ask argument ways refl at.honest.pair step suit) edge)
+
+  -- PHASES
+
+  -- what follows a phase
+  well_way : (p : PointFacts) (ts : List ℕ) (well other : Target) (e : ScriptEvent) (c : Card) (h : Host) → Goes-well p ts (well_or well) other e c h →
+      IsFine g.kind e c h × ((returned : Return) (u : Card) → Step e c returned u → Arrived g ps (bound p ts) (commands_in e) (arrive (if passes g.kind WentWell returned then well else other) ts (host_after g.kind e returned h)) u)
+  well_way p ts well other e c h goes =
+      (goes.0, λ returned u step. subst (λ b. Arrived g ps (bound p ts) (commands_in e) (arrive (if b then well else other) ts (host_after g.kind e returned h)) u) (and_last (passes g.kind WentWell returned)) (goes.1 returned u step))
+
+  phase_holds : (well : Target) (e : ScriptEvent) (c : Card) (h : Host) (returned : Return) (u : Card) → FitsEvent g.kind WentWell e → IsPair g.kind c h → Step e c returned u → ForksHold g.kind returned (well_or well)
+  phase_holds well e c h returned u fits pair step = ((laws.verdicts_hold WentWell e c h returned u pair fits step, tt), tt)
+
+  phases_well : (phase : Phase) (place : Place) (p : PointFacts) (ts : List ℕ) (well other : Target) (c : Card) (h : Host) → Here place p ts c h → commands_of place.node ≡ 0 →
+      legal_code g.kind (pair_code c h) (event_of_phase phase) ≡ true → EachOutcome g.kind (event_of_phase phase) (well_or well) other p.facts.numbers (shape c h) (Reaches g.places ps place p) →
+      MovesWell g ps (bound p ts) (Does (phase_deed phase h) h (λ returned h'. arrive (if passes g.kind WentWell returned then well else other) ts h')) c
+  phases_well kinds.ReceiveBlocks place p ts well other c h at cost legal edge = λ event deed.
+      subst (λ e. IsFine g.kind e c h × ((returned : Return) (u : Card) → Step e c returned u → Arrived g ps (bound p ts) (commands_in e) (arrive (if passes g.kind WentWell returned then well else other) ts (host_after g.kind e returned h)) u)) (sym deed)
+      (well_way p ts well other (ReceiveBlocks h.announced) c h (does place p ts (ReceiveBlocks h.announced) (well_or well) other c h at cost refl legal
+      (λ l. at.honest.sound.blocks (read_blocks c.state c.transfer l)) (λ returned u step. phase_holds well (ReceiveBlocks h.announced) c h returned u refl at.honest.pair step) edge))
+  phases_well kinds.ReceiveRegister place p ts well other c h at cost legal edge = λ event deed.
+      subst (λ e. IsFine g.kind e c h × ((returned : Return) (u : Card) → Step e c returned u → Arrived g ps (bound p ts) (commands_in e) (arrive (if passes g.kind WentWell returned then well else other) ts (host_after g.kind e returned h)) u)) (sym deed)
+      (well_way p ts well other (ReceiveRegister h.register_length) c h (does place p ts (ReceiveRegister h.register_length) (well_or well) other c h at cost refl legal
+      (λ l. at.honest.sound.register (register_blocks c.state c.transfer l)) (λ returned u step. phase_holds well (ReceiveRegister h.register_length) c h returned u refl at.honest.pair step) edge))
+  phases_well kinds.GiveBlocks place p ts well other c h at cost legal edge = λ event deed.
+      subst (λ e. IsFine g.kind e c h × ((returned : Return) (u : Card) → Step e c returned u → Arrived g ps (bound p ts) (commands_in e) (arrive (if passes g.kind WentWell returned then well else other) ts (host_after g.kind e returned h)) u)) (sym deed.2)
+      (well_way p ts well other (GiveBlocks deed.0) c h (does place p ts (GiveBlocks deed.0) (well_or well) other c h at cost deed.1 legal
+      (λ l. deed.1 ∙ at.honest.sound.blocks (give_blocks c.state c.transfer l)) (λ returned u step. phase_holds well (GiveBlocks deed.0) c h returned u refl at.honest.pair step) edge))
+  phases_well kinds.Wait place p ts well other c h at cost legal edge = λ event deed.
+      subst (λ e. IsFine g.kind e c h × ((returned : Return) (u : Card) → Step e c returned u → Arrived g ps (bound p ts) (commands_in e) (arrive (if passes g.kind WentWell returned then well else other) ts (host_after g.kind e returned h)) u)) (sym deed)
+      (well_way p ts well other AwaitReady c h (does place p ts AwaitReady (well_or well) other c h at cost tt legal
+      (λ l. tt) (λ returned u step. phase_holds well AwaitReady c h returned u refl at.honest.pair step) edge))
+
+  -- WITHOUT AN EVENT
+
+  -- facts that an edge carries hold at its target
+  carried_on : (place : Place) (p : PointFacts) (ts : List ℕ) (t : Target) (c : Card) (h : Host) → Here place p ts c h → commands_of place.node ≡ 0 → (h' : Host) → shape c h ≡ shape c h' → length h'.numbers ≡ g.numbers → IsHonest g.kind c h' →
+      (o : Option Numbers) → IfSome o (λ after. Reaches g.places ps place p Same t (shape c h) after) → Carries p.facts o c h' → Arrived g ps (bound p ts) 0 (arrive t ts h') c
+  carried_on place p ts t c h at cost h' is many honest None edge carries = absurd carries
+  carried_on place p ts t c h at cost h' is many honest (Some after) edge carries =
+      subst (λ n. Arrived g ps (bound p ts) n (arrive t ts h') c) cost
+      (arrives place p Same t (shape c h) after edge ts ts at.box refl c h' is many carries.numbers honest at.on_card)
+
+  lets_well : (place : Place) (p : PointFacts) (ts : List ℕ) (l : Let) (t : Target) (c : Card) (h : Host) → Here place p ts c h → commands_of place.node ≡ 0 → MayStandIn g.kind l.atom →
+      IfSome (after_let g.kind p.facts l) (λ after. Reaches g.places ps place p Same t (shape c h) after) → (o : Option ℕ) → value_of_let g.kind h l ≡ o →
+      MovesWell g ps (bound p ts) (move_with o (λ n. Goes (arrive t ts (with_number h l.target n)))) c
+  lets_well place p ts l t c h at cost stand edge None is = tt
+  lets_well place p ts l t c h at cost stand edge (Some n) is =
+      carried_on place p ts t c h at cost (with_number h l.target n) refl (length-set h.numbers l.target n ∙ many_of place p ts c h at)
+      (record {
+        pair = record { kind = at.honest.pair.kind; card = at.honest.pair.card; flags = at.honest.pair.flags; rca = at.honest.pair.rca };
+        profile = at.honest.profile;
+        sound = record { csd = at.honest.sound.csd; ext_csd = at.honest.sound.ext_csd; blocks = at.honest.sound.blocks; register = at.honest.sound.register };
+      })
+      (after_let g.kind p.facts l) edge (let_keeps g.kind p.facts l c h n stand at.honest at.holds is)
+
+  tests_well : (b : Bool) (place : Place) (p : PointFacts) (ts : List ℕ) (holds fails : Test) (met unmet : Target) (c : Card) (h : Host) → Here place p ts c h → commands_of place.node ≡ 0 → (b ≡ true → TestHolds holds h) → (b ≡ false → TestHolds fails h) →
+      EachTest p.facts.numbers holds fails met unmet (shape c h) (Reaches g.places ps place p) → Arrived g ps (bound p ts) 0 (arrive (if b then met else unmet) ts h) c
+  tests_well true place p ts holds fails met unmet c h at cost yes-it no-it edge =
+      carried_on place p ts met c h at cost h refl (many_of place p ts c h at) at.honest (after_test p.facts.numbers holds) edge.0 (test_keeps p.facts holds c h at.holds (yes-it refl))
+  tests_well false place p ts holds fails met unmet c h at cost yes-it no-it edge =
+      carried_on place p ts unmet c h at cost h refl (many_of place p ts c h at) at.honest (after_test p.facts.numbers fails) edge.1 (test_keeps p.facts fails c h at.holds (no-it refl))
+
+  -- with the same facts, at the target
+  plainly : (place : Place) (p : PointFacts) (ts us : List ℕ) (pass : Pass) (t : Target) (c : Card) (h : Host) → Here place p ts c h → commands_of place.node ≡ 0 → Turned pass ts us → Reaches g.places ps place p pass t (shape c h) p.facts.numbers →
+      Arrived g ps (bound p ts) 0 (arrive t us h) c
+  plainly place p ts us pass t c h at cost turned edge =
+      subst (λ n. Arrived g ps (bound p ts) n (arrive t us h) c) cost
+      (arrives place p pass t (shape c h) p.facts.numbers edge ts us at.box turned c h refl (many_of place p ts c h at) at.holds.numbers at.honest at.on_card)
+
+  condition_well : (x : Condition) (place : Place) (p : PointFacts) (ts : List ℕ) (met unmet : Target) (c : Card) (h : Host) → Here place p ts c h → commands_of place.node ≡ 0 →
+      EachCondition x met unmet p.facts.numbers (shape c h) (Reaches g.places ps place p) → Arrived g ps (bound p ts) 0 (arrive (if condition_holds h x then met else unmet) ts h) c
+  condition_well (conditions.Flag flag) place p ts met unmet c h at cost edge =
+      plainly place p ts ts Same (if is_flag_set h.flags flag then met else unmet) c h at cost refl
+      (subst (λ b. Reaches g.places ps place p Same (if b then met else unmet) (shape c h) p.facts.numbers) (flag_shown g.kind c h at.honest.pair flag) edge)
+  condition_well (conditions.AtLeast x n) place p ts met unmet c h at cost edge =
+      tests_well (nat_le n (number h x)) place p ts (AtLeast x n) (Below x n) met unmet c h at cost (λ e. leb-true n (number h x) e) (λ e. leb-false n (number h x) e) edge
+  condition_well (conditions.Below x n) place p ts met unmet c h at cost edge =
+      tests_well (nat_lt (number h x) n) place p ts (Below x n) (AtLeast x n) met unmet c h at cost (λ e. ltb-true (number h x) n e) (λ e. ltb-false (number h x) n e) edge
+
+  head_well : (place : Place) (p : PointFacts) (ts : List ℕ) (body other : Target) (c : Card) (h : Host) → Here place p ts c h → commands_of place.node ≡ 0 →
+      Reaches g.places ps place p Again body (shape c h) p.facts.numbers × Reaches g.places ps place p Over other (shape c h) p.facts.numbers →
+      MovesWell g ps (bound p ts) (move_at_head ts body other h) c
+  head_well place p [] body other c h at cost edge = tt
+  head_well place p (zero ∷ ts) body other c h at cost edge = plainly place p (zero ∷ ts) (zero ∷ ts) Over other c h at cost refl edge.1
+  head_well place p (suc t ∷ ts) body other c h at cost edge = plainly place p (suc t ∷ ts) (t ∷ ts) Again body c h at cost refl edge.0
+
+  halts_well : (last : Ending) (place : Place) (p : PointFacts) (c : Card) (h : Host) → place.node ≡ stops last → PointClosed g.kind ps place p → FactsHold p.facts c h → IsPair g.kind c h → HaltsWell last c
+  halts_well Finished place p c h is closed holds pair = in_tran g.kind c h pair (subst (λ n. EndsAt n (shape c h)) is (closed.end_state (shape c h) holds.shape))
+  halts_well Fell place p c h is closed holds pair = tt
+  halts_well Broke place p c h is closed holds pair = tt
+  halts_well (Failed name) place p c h is closed holds pair = tt
+  halts_well Open place p c h is closed holds pair = tt
+
+  node_well : (node : Node) (most : List ℕ) (p : PointFacts) (ts : List ℕ) (c : Card) (h : Host) → PointClosed g.kind ps (record { node = node; most = most }) p → NodeSuits g.kind node → Here (record { node = node; most = most }) p ts c h →
+      EachEdge g.kind p.facts node (shape c h) (Reaches g.places ps (record { node = node; most = most }) p) → MovesWell g ps (bound p ts) (node_move g.kind node ts h) c
+  node_well (sends command ways other) most p ts c h closed suit at edge =
+      sends_well (record { node = sends command ways other; most = most }) p ts command ways other c h at refl suit (closed.legal (shape c h) at.holds.shape) (closed.address (shape c h) at.holds.shape) edge (address_of_command h command.address) refl
+  node_well (phases phase well other) most p ts c h closed suit at edge =
+      phases_well phase (record { node = phases phase well other; most = most }) p ts well other c h at refl (closed.legal (shape c h) at.holds.shape) edge
+  node_well (lets l t) most p ts c h closed suit at edge = lets_well (record { node = lets l t; most = most }) p ts l t c h at refl suit edge (value_of_let g.kind h l) refl
+  node_well (tests x met unmet) most p ts c h closed suit at edge = condition_well x (record { node = tests x met unmet; most = most }) p ts met unmet c h at refl edge
+  node_well (flags flag on t) most p ts c h closed suit at edge =
+      let place : Place = record { node = flags flag on t; most = most } in
+      let h' : Host = with_flag h flag on in
+      let same = pair_with_flag g.kind c h flag on at.honest.pair suit in
+      arrives place p Same t (with_flag_shown (shape c h) flag on) p.facts.numbers edge ts ts at.box refl c h' same (many_of place p ts c h at)
+      (record { least = at.holds.numbers.least; many = at.holds.numbers.many; each = at.holds.numbers.each })
+      (record {
+        pair = record { kind = at.honest.pair.kind; card = at.honest.pair.card; flags = flags_kept h flag on at.honest.pair.flags suit; rca = at.honest.pair.rca };
+        profile = at.honest.profile;
+        sound = record { csd = at.honest.sound.csd; ext_csd = at.honest.sound.ext_csd; blocks = at.honest.sound.blocks; register = at.honest.sound.register };
+      })
+      at.on_card
+  node_well (heads n body other) most p ts c h closed suit at edge = head_well (record { node = heads n body other; most = most }) p ts body other c h at refl edge
+  node_well (jumps t) most p ts c h closed suit at edge = plainly (record { node = jumps t; most = most }) p ts ts Same t c h at refl refl edge
+  node_well (stops last) most p ts c h closed suit at edge = halts_well last (record { node = stops last; most = most }) p c h refl closed at.holds at.honest.pair
+
+-- THE STEP: each move from where the facts of a closed certificate hold is as it should be
+pub steps_well : (g : Flow) (ps : List PointFacts) → Laws g.kind → Nested g → EachNodeSuits g → Closed g ps → StepsWell g ps
+steps_well g ps laws nested suits closed s c at =
+    let pc : PointClosed g.kind ps at.place at.facts = closed.each s.point at.place at.facts at.here at.known in
+    let variables = (closed.points.each s.point at.place at.facts at.here at.known).variables in
+    subst (λ o. MovesWell g ps (bound at.facts s.turns) (move g.kind o s.turns s.host) c) (sym at.here)
+    (node_well g ps laws closed.points at.place.node at.place.most at.facts s.turns c s.host pc (suits s.point at.place at.here)
+    (record { box = at.box; holds = at.holds; honest = at.honest; on_card = at.on_card; variables = variables })
+    (edges g.kind g.places ps at.place at.facts (record { 0 = pair_code c s.host }) pc (nested.lands s.point at.place at.here) at.holds.shape))

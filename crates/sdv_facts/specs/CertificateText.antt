@@ -1,0 +1,84 @@
+-- The text of a certificate, and the limits within which certificates have one.
+-- The form and the limits are this project's own.
+--
+-- Each part is written before what follows it. An item stands behind one space and a line ends in LF. Numbers are
+-- decimal, without leading zeros; a shape is the 16 lower-case hexadecimal digits of its code.
+use Rattle.std.specs.Prelude.{ℕ, suc, ◌+◌, ◌^◌, ◌<◌, ◌≤◌, List, [], ◌∷◌, ◌++◌, length, All, Option, Some, None, codes, decimal}
+use Rattle.std.specs.Int.{w64, to_be_bytes}
+use Rattle.std.specs.List.{AllByRecursion}
+use Rattle.hex.specs.Hex.{encode_lower}
+use Rattle.sdv_card.specs.declared.shape.Shape.{Shape}
+use Rattle.sdv_facts.specs.declared.numbers.VarFacts.{VarFacts}
+use Rattle.sdv_facts.specs.declared.certificate.PointFacts.{PointFacts}
+use Rattle.sdv_facts.specs.Known.{AreRising}
+use Rattle.sdv_facts.specs.Limits.{PointInLimits}
+
+-- ITEMS
+
+abbrev pub number_written : ℕ → List ℕ → List ℕ
+number_written n others = 32 ∷ (decimal n ++ others)
+
+-- a gap, or `-` where none is known
+abbrev pub gap_written : Option ℕ → List ℕ → List ℕ
+gap_written None others = codes " -" ++ others
+gap_written (Some gap) others = number_written gap others
+
+-- what is known of a number variable
+abbrev pub var_written : VarFacts → List ℕ → List ℕ
+var_written v others = codes " v" ++ number_written v.lo (number_written v.hi (gap_written v.gap others))
+
+abbrev pub shape_written : Shape → List ℕ → List ℕ
+shape_written s others = 32 ∷ (encode_lower (to_be_bytes w64 s.0) ++ others)
+
+-- one after another
+abbrev pub each_written : {A : Type 0} → (A → List ℕ → List ℕ) → List A → List ℕ → List ℕ
+each_written written [] others = others
+each_written written (x ∷ xs) others = written x (each_written written xs others)
+
+-- LINES
+
+-- p I b BASE C1 .. Ck m M v LO HI GAP .. s SHAPE SHAPE ..
+abbrev pub point_written : (place : ℕ) → PointFacts → List ℕ → List ℕ
+point_written place p others =
+    codes "p" ++ number_written place (
+    codes " b" ++ number_written p.base (each_written number_written p.turns.items (
+    codes " m" ++ number_written p.facts.numbers.m (each_written var_written p.facts.numbers.vars.items (
+    codes " s" ++ each_written shape_written p.facts.shapes (10 ∷ others))))))
+
+-- the points from this place on, one on each line
+abbrev pub points_written : (place : ℕ) → List PointFacts → List ℕ
+points_written place [] = []
+points_written place (p ∷ ps) = point_written place p (points_written (suc place) ps)
+
+-- THE TEXT of a certificate
+abbrev pub text_of : List PointFacts → List ℕ
+text_of points = codes "sdv-cert 1\n" ++ (codes "points" ++ number_written (length points) (10 ∷ points_written 0 points))
+
+-- LIMITS
+
+abbrev pub max_bytes : ℕ
+max_bytes = 16777216
+
+abbrev pub max_points : ℕ
+max_points = 4096
+
+-- over all points
+abbrev pub max_shapes : ℕ
+max_shapes = 65536
+
+abbrev pub shape_count : List PointFacts → ℕ
+shape_count [] = 0
+shape_count (p ∷ ps) = length p.facts.shapes + shape_count ps
+
+pub record PointFits (p : PointFacts) : Type 0 where
+  pub numbers : PointInLimits p
+  pub loops : length p.turns.items ≤ 4
+  pub vars : length p.facts.numbers.vars.items ≤ 8
+  pub rising : AreRising p.facts.shapes
+  pub words : All (λ s. s.0 < 2 ^ 64) p.facts.shapes
+
+pub record WithinLimits (certificate : List PointFacts) : Type 0 where
+  pub bytes : length (text_of certificate) ≤ max_bytes
+  pub points : length certificate ≤ max_points
+  pub shapes : shape_count certificate ≤ max_shapes
+  pub each : AllByRecursion PointFits certificate

@@ -1,0 +1,92 @@
+-- A run that STANDS at a point of a graph, where the facts of a certificate hold, and what a step from there promises.
+use Rattle.std.specs.Prelude.{◌≡◌, ◌+◌, ◌≤◌, ◌<◌, ℕ, List, [], ◌∷◌, ◌++◌, IsTrue, slice_get, Some}
+use Rattle.sdv_registers.specs.declared.kind.Kind.{Kind}
+use Rattle.sdv_card.specs.declared.event.Ask.{Ask}
+use Rattle.sdv_card.specs.declared.guard.Guard.{Guard}
+use Rattle.sdv_card.specs.declared.state.State.TheVariants.{Tran}
+use Rattle.sdv_card.specs.Card.{Card}
+use Rattle.sdv_card.specs.CommandTable.{order_of}
+use Rattle.sdv_card.specs.Host.{Host, host_after}
+use Rattle.sdv_card.specs.Laws.{fits_order}
+use Rattle.sdv_card.specs.Legal.{TransferOnCard}
+use Rattle.sdv_card.specs.Port.{IsFine}
+use Rattle.sdv_card.specs.ScriptEvent.{ScriptEvent, Return}
+use Rattle.sdv_card.specs.Step.{Step}
+use Rattle.sdv_script.specs.Graph.{Flow}
+use Rattle.sdv_script.specs.Nested.{InBox}
+use Rattle.sdv_script.specs.Path.{Fork, Node, sends, lets, flags, Place, Stand, Move, Goes, Does, Halts, move_from}
+use Rattle.sdv_script.specs.Walk.{Pair, Ending, Finished, IsDeed}
+use Rattle.sdv_facts.specs.declared.certificate.PointFacts.{PointFacts}
+use Rattle.sdv_facts.specs.Beside.{StepsOf, commands_in}
+use Rattle.sdv_facts.specs.Bounds.{bound}
+use Rattle.sdv_facts.specs.FactsHold.{FactsHold}
+use Rattle.sdv_facts.specs.Keeps.{MayStandIn, IsHonest}
+
+-- WHAT A GRAPH'S POINTS KEEP of the rules of scripts
+
+-- each guard says something of the answers to the command
+abbrev pub GuardsSuit : Kind → Ask → List Guard → Type 0
+GuardsSuit k ask [] = Unit {0}
+GuardsSuit k ask (g ∷ gs) = IsTrue (fits_order g (order_of k ask)) × GuardsSuit k ask gs
+
+abbrev pub ForksSuit : Kind → Ask → List Fork → Type 0
+ForksSuit k ask [] = Unit {0}
+ForksSuit k ask (w ∷ ws) = GuardsSuit k ask w.guards × ForksSuit k ask ws
+
+abbrev pub NodeSuits : Kind → Node → Type 0
+NodeSuits k (sends c ways other) = ForksSuit k c.ask ways
+NodeSuits k (lets l t) = MayStandIn k l.atom
+NodeSuits k (flags flag on t) = flag < 4
+NodeSuits k node = Unit {0}
+
+abbrev pub EachNodeSuits : Flow → Type 0
+EachNodeSuits g = (i : ℕ) (place : Place) → slice_get g.places i ≡ Some place → NodeSuits g.kind place.node
+
+-- WHERE A RUN STANDS
+
+-- a run stands at a point beside a card, and what the certificate says of the point holds
+pub record Stands (g : Flow) (ps : List PointFacts) (s : Stand) (c : Card) : Type 0 where
+  pub place : Place
+  pub here : slice_get g.places s.point ≡ Some place
+  pub facts : PointFacts
+  pub known : slice_get ps s.point ≡ Some facts
+  pub box : InBox s.turns place.most
+  pub holds : FactsHold facts.facts c s.host
+  -- what the host knows of the card is true
+  pub honest : IsHonest g.kind c s.host
+  pub on_card : TransferOnCard c
+
+-- it came there, with so many commands sent on the way, and the bound has fallen by them
+pub record Arrived (g : Flow) (ps : List PointFacts) (most sent : ℕ) (s : Stand) (c : Card) : Type 0 where
+  pub stands : Stands g ps s c
+  pub falls : bound stands.facts s.turns + sent ≤ most
+
+-- `done` is reached in the transfer state
+abbrev pub HaltsWell : Ending → Card → Type 0
+HaltsWell Finished c = c.state ≡ Tran
+HaltsWell e c = Unit {0}
+
+-- What is so of a move from there: each event that it makes is legal and in bounds, and after each step of the card the
+-- facts of the target hold, what the host knows is true, and the bound has fallen.
+abbrev pub MovesWell : Flow → List PointFacts → (most : ℕ) → Move → Card → Type 0
+MovesWell g ps most (Goes next) c = Arrived g ps most 0 next c
+MovesWell g ps most (Does deed h next) c =
+    (event : ScriptEvent) → IsDeed deed event → IsFine g.kind event c h
+    × ((returned : Return) (u : Card) → Step event c returned u → Arrived g ps most (commands_in event) (next returned (host_after g.kind event returned h)) u)
+MovesWell g ps most (Halts e) c = HaltsWell e c
+
+-- an event that a host makes, legal and in bounds, where what the host knows of the card is true
+pub record IsMade (k : Kind) (event : ScriptEvent) (c : Card) : Type 0 where
+  pub host : Host
+  pub fine : IsFine k event c host
+  pub honest : IsHonest k c host
+
+-- so is each event of a run, wherever the card is then
+abbrev pub EachIsMade : Kind → List Pair → Card → Type 0
+EachIsMade k es c =
+    (front : List Pair) (event : ScriptEvent) (returned : Return) (back : List Pair) (u : Card) →
+    es ≡ front ++ (event, returned) ∷ back → StepsOf c front u → IsMade k event u
+
+-- so it is at each point of a graph for which the certificate is closed
+abbrev pub StepsWell : Flow → List PointFacts → Type 0
+StepsWell g ps = (s : Stand) (c : Card) (at : Stands g ps s c) → MovesWell g ps (bound at.facts s.turns) (move_from g.kind g.places s) c

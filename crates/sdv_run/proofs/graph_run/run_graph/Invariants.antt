@@ -1,0 +1,15 @@
+use Rattle.std.proofs.Common.{◌≡◌, ◌-◌, length}
+use Rattle.sdv_script.specs.GraphOf.{IsSound}
+use Rattle.sdv_run.specs.Announced.{AnnounceAtMost}
+use Rattle.sdv_run.specs.Standing.{stand_of}
+use Rattle.sdv_run.proofs.Runs.{SoFar}
+use Rattle.sdv_run.proofs.graph_run.run_graph.Given as goal
+
+-- the run so far, with room for each phase
+abbrev pub invariant-loop : goal.invariant-loop
+invariant-loop g l = record {
+  sound : IsSound l.graph;
+  kind : l.standing.host.kind ≡ l.graph.kind;
+  room : AnnounceAtMost l.graph.places (length l.blocks);
+  so_far : SoFar g.P.CardPort.steps l.graph (length l.blocks) (record { port = l.fn.port; input = l.fn.input; out = g.O.Write.contents l.fn.out; trace = g.T.Write.contents l.fn.trace }) (l.end - l.counter) (stand_of l.standing) (record { port = l.port; input = l.left; out = g.O.Write.contents l.out; trace = g.T.Write.contents l.trace });
+}
