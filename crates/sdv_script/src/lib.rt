@@ -5,6 +5,7 @@
 #![tactic(auto)]
 
 mod blocks;
+mod body;
 mod commands;
 mod cursor;
 mod declared;

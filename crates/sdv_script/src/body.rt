@@ -1,0 +1,19 @@
+//! The statements of a script.
+
+ghost use Rattle.std.specs.Prelude.{◌≡◌};
+ghost use Rattle.sdv_script.specs.Script.{IsScript};
+ghost use Rattle.sdv_script.specs.Shown.{shown};
+ghost use Rattle.sdv_script.specs.Tree.{statements_of};
+
+use crate::script::Script;
+use crate::tree::Block;
+
+impl<'a> Script<'a> {
+    /// The statements of the script, in their order.
+    pub fn body(&self) -> &Block<'a>
+        ensures body { statements_of result.now ≡ (shown self.now).body }
+        ensures script { ∥ IsScript (shown self.now) ∥₁ }
+    {
+        &self.body
+    }
+}
