@@ -404,21 +404,61 @@ p 0 b 1 m 1 s 0000000000002000 0000000000002800 0000000000002c00
 p 1 b 0 m 1 s 0000000000002000 0000000000002800 0000000000002c00
 ";
 
-/// The texts of certificates for the smallest script that are refused, with the faults.
-const REFUSED: [(&str, VerifyFault); 4] = [
+/// Texts that differ from it in one place, with the faults.
+const REFUSED: [(&str, VerifyFault); 7] = [
     (
-        "sdv-cert 1\npoints 1\np 0 b 1 m 1 s 0000000000002000 0000000000002800 0000000000002c00\n",
-        VerifyFault::Check(CheckFault::Points),
+        "sdv-cert 3
+points 2
+p 0 b 1 m 1 s 0000000000002000 0000000000002800 0000000000002c00
+p 1 b 0 m 1 s 0000000000002000 0000000000002800 0000000000002c00
+",
+        VerifyFault::Certificate(CertFault::Header),
     ),
     (
-        "sdv-cert 1\npoints 1\np 0 b 1 m 1 s 0000000000002800 0000000000002000 0000000000002c00\n",
+        "sdv-cert 1
+points 2
+p 0 b 1 m",
+        VerifyFault::Certificate(CertFault::Syntax { line: 3 }),
+    ),
+    (
+        "sdv-cert 1
+points 2
+p 0 b 1 m 1 s 0000000000002800 0000000000002000 0000000000002c00
+p 1 b 0 m 1 s 0000000000002000 0000000000002800 0000000000002c00
+",
         VerifyFault::Certificate(CertFault::Order { line: 3 }),
     ),
     (
-        "sdv-cert 1\npoints 1\np 0 b 1 m 1",
-        VerifyFault::Certificate(CertFault::Syntax { line: 3 }),
+        "sdv-cert 1
+points 1
+p 0 b 1 m 1 s 0000000000002000 0000000000002800 0000000000002c00
+",
+        VerifyFault::Check(CheckFault::Points),
     ),
-    ("sdv-cert 3\n", VerifyFault::Certificate(CertFault::Header)),
+    (
+        "sdv-cert 1
+points 2
+p 0 b 1 m 1 s 0000000000002000 0000000000002800
+p 1 b 0 m 1 s 0000000000002000 0000000000002800 0000000000002c00
+",
+        VerifyFault::Check(CheckFault::Start),
+    ),
+    (
+        "sdv-cert 1
+points 2
+p 0 b 1 m 1 s 0000000000002000 0000000000002800 0000000000002c00
+p 1 b 0 m 1 s 0000000000002000 0000000000002800
+",
+        VerifyFault::Check(CheckFault::Shape(0)),
+    ),
+    (
+        "sdv-cert 1
+points 2
+p 0 b 0 m 1 s 0000000000002000 0000000000002800 0000000000002c00
+p 1 b 0 m 1 s 0000000000002000 0000000000002800 0000000000002c00
+",
+        VerifyFault::Check(CheckFault::Bound(0)),
+    ),
 ];
 
 #[test]
