@@ -122,7 +122,7 @@ flow_same : (k l : Kind) (m n f h : ℕ) (ps qs : List Place) (t u : Target) (x 
     → Same_flow (record { kind = k; numbers = m; flags = f; places = ps; first = t; steps = x }) (record { kind = l; numbers = n; flags = h; places = qs; first = u; steps = y })
 flow_same k l m n f h ps qs t u x y a b c d e g = cc
 
-one_graph : (p : Parsed) (g h : Flow) → IsGraphOf Sd p.names p.body g → IsGraphOf Sd p.names p.body h → g ≡ h
+pub one_graph : (p : Parsed) (g h : Flow) → IsGraphOf Sd p.names p.body g → IsGraphOf Sd p.names p.body h → g ≡ h
 one_graph p g h a b =
     flow_same g.kind h.kind g.numbers h.numbers g.flags h.flags g.places h.places g.first h.first g.steps h.steps (a.kind_same ∙ sym b.kind_same) (a.numbers_same ∙ sym b.numbers_same)
     (a.flags_same ∙ sym b.flags_same) (a.places_same ∙ sym b.places_same) (a.first_same ∙ sym b.first_same) (a.steps_same ∙ sym b.steps_same)

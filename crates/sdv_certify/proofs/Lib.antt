@@ -1,7 +1,15 @@
 pub mod Written
 pub mod SpanLaws
+pub mod SpanRows
 pub mod AtMost
 pub mod Chain
+pub mod FormLaws
+pub mod SameForms
+pub mod FewCommands
+pub mod BoundLaws
+pub mod RowLaws
+pub mod TurnLaws
+pub mod Sizes
 pub mod Pays
 pub mod Example
 pub mod WayLaws
@@ -14,3 +22,10 @@ pub mod ExactLaws
 pub mod KeptLaws
 pub mod EdgeLaws
 pub mod StartLaws
+pub mod Lives
+pub mod ReachedLaws
+pub mod AssembledLaws
+pub mod TextLength
+pub mod CodeLaws
+pub mod LimitLaws
+pub mod PointLaws

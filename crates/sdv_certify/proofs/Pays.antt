@@ -335,7 +335,7 @@ each_fork : (ws : List Fork) (P Q : Pass → Target → Type 0) → ((pass : Pas
 each_fork [] P Q f h = tt
 each_fork (w ∷ ws) P Q f h = (f Same w.target h.0, each_fork ws P Q f h.1)
 
-each_target : (n : Node) (P Q : Pass → Target → Type 0) → ((pass : Pass) (t : Target) → P pass t → Q pass t) → EachTarget n P → EachTarget n Q
+pub each_target : (n : Node) (P Q : Pass → Target → Type 0) → ((pass : Pass) (t : Target) → P pass t → Q pass t) → EachTarget n P → EachTarget n Q
 each_target (sends c ways other) P Q f h = (each_fork ways P Q f h.0, f Same other h.1)
 each_target (phases p well other) P Q f h = (f Same well h.0, f Same other h.1)
 each_target (lets l t) P Q f h = f Same t h
@@ -376,10 +376,10 @@ worth_at_bound f place p ts h box =
     omega (arith, h.base, e, cost_all (length place.most) f.each ts (omega arith))
 
 -- an index below the length has an element
-is_there : (ps : List Place) (i : ℕ) → i < length ps → (p : Place) × (slice_get ps i ≡ Some p)
+pub is_there : {A : Type 0} (xs : List A) (i : ℕ) → i < length xs → (x : A) × (slice_get xs i ≡ Some x)
 is_there [] i h = absurd (omega arith)
-is_there (p ∷ ps) zero h = (p, refl)
-is_there (p ∷ ps) (suc i) h = is_there ps i (omega arith)
+is_there (x ∷ xs) zero h = (x, refl)
+is_there (x ∷ xs) (suc i) h = is_there xs i (omega arith)
 
 below_length : (ps : List PointFacts) (i : ℕ) (p : PointFacts) → slice_get ps i ≡ Some p → i < length ps
 below_length [] i p h = absurd (cc)

@@ -155,6 +155,10 @@ with_loops n f = record { base = f.base; each = first_of n f.each }
 abbrev pub full_form : Form → Form
 full_form f = with_loops max_loops f
 
+abbrev pub in_full : Option Form → Option Form
+in_full None = None
+in_full (Some f) = Some (full_form f)
+
 pub record FormInLimits (f : Form) : Type 0 where
   pub base : f.base ≤ max_number
   pub each : All (λ c. c ≤ max_number) f.each

@@ -1,6 +1,8 @@
 pub mod Pieces
 pub mod Spans
 pub mod Forms
+pub mod Blocks
+pub mod Turns
 pub mod FormsPay
 pub mod Family
 pub mod Ways
@@ -10,3 +12,6 @@ pub mod Refusal
 pub mod Answers
 pub mod OneAnswer
 pub mod Kept
+pub mod Lives
+pub mod Assembled
+pub mod Points

@@ -24,8 +24,8 @@ pub enum CertifyFault {
         /// The point.
         point: usize,
     },
-    /// More than 65,536 shapes are possible over all points.
-    #[error("too many shapes are possible")]
+    /// More than 65,536 shapes are possible over all points, or a bound is above 2^40.
+    #[error("too many shapes are possible, or a bound is too great")]
     TooMany,
     /// Memory was refused.
     #[error("out of memory")]

@@ -5,8 +5,8 @@
 #[derive(Clone, Copy, Debug, PartialEq, Eq)]
 pub struct Form {
     /// The commands where no loop round the point has a turn left.
-    pub base: u64,
+    pub base: u128,
     /// The commands that each turn left adds, the innermost loop first. Where fewer than four loops stand round the point,
     /// the others have 0.
-    pub each: [u64; 4],
+    pub each: [u128; 4],
 }

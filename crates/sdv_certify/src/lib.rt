@@ -1,17 +1,27 @@
 //! The writer of certificates: what is known at each point of a script, how many commands are sent from there on, and the
 //! text of a certificate.
 //!
-//! Begin at `specs/Family.antt`, which says what passes over the points reach, at `specs/Ways.antt`, which says what is
-//! carried along edges, and at `specs/Refusal.antt`, which says what script is refused. `specs/Forms.antt` defines the
-//! bounds of points, by the syntax alone, and `specs/FormsPay.antt` says that they fall along each edge as a certificate's
-//! should. `write` writes the text of a certificate, which stands in `sdv_facts/specs/CertificateText.antt`.
+//! Begin at `certify`, and at `specs/Assembled.antt`, which says what it answers: what is known at each point, with its
+//! bound form. `specs/Family.antt` says what passes over the points reach, `specs/Ways.antt` what is carried along edges,
+//! and `specs/Refusal.antt` what script is refused. `specs/Forms.antt` defines the bounds of points, by the syntax alone,
+//! and `specs/FormsPay.antt` says that they fall along each edge as a certificate's should; `bound_forms` computes them.
+//! `write` writes the text of a certificate, which stands in `sdv_facts/specs/CertificateText.antt`.
 #![tactic(auto)]
 
-mod certify;
+mod assembling;
+#[cfg(test)]
+mod assembling_tests;
+mod bounds;
+#[cfg(test)]
+mod bounds_tests;
 mod fault;
 mod form;
 mod guards;
+mod known;
 pub mod laws;
+#[cfg(test)]
+mod outcome_tests;
+mod parts;
 mod passes;
 mod refusal;
 mod spans;
@@ -22,7 +32,9 @@ mod writing;
 #[cfg(test)]
 mod writing_tests;
 
-pub use certify::{facts_of_points, facts_of_script};
+pub use assembling::certify;
+pub use bounds::bound_forms;
 pub use fault::CertifyFault;
 pub use form::Form;
+pub use known::{facts_of_points, facts_of_script};
 pub use writing::write;

@@ -25,6 +25,12 @@ const NOTHING: Spans = Spans {
     stop: None,
 };
 
+const NOWHERE: Spans = Spans {
+    on: None,
+    leave: None,
+    stop: None,
+};
+
 /// The commands on a way; 0 where there is none.
 pub fn or_zero(span: Option<u128>) -> u128
     ensures { result ≡ or_zero span }
@@ -117,14 +123,22 @@ pub fn block_spans(block: &Block<'_>) -> Spans
     }
 }
 
+// A text of the size limit may have 13,000 cases, too many for a recursion.
 #[cycle(spans)]
 fn cases_spans(cases: &Cases<'_>) -> Spans
     requires { ways_moves (ways_of cases.now) < 2 ^ 128 }
     ensures { result ≡ spans_ways (ways_of cases.now) }
 {
-    match cases {
-        Cases::Else(block) => block_spans(block),
-        Cases::Case(_, block, rest) => either(block_spans(block), cases_spans(rest)),
+    let mut spans = NOWHERE;
+    let mut rest = cases;
+    loop {
+        match rest {
+            Cases::Else(block) => return either(spans, block_spans(block)),
+            Cases::Case(_, block, others) => {
+                spans = either(spans, block_spans(block));
+                rest = &**others;
+            }
+        }
     }
 }
 
