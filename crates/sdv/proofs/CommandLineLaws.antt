@@ -9,7 +9,7 @@ use Rattle.clap.specs.Takes.{is_given}
 use Rattle.clap.specs.Faults.{entered_fault, level_fault}
 use Rattle.sdv.proofs.WordsGiven.{HasNoDefaults, TakesOneWord, given_text, leaf_given, subcommand_given}
 use Rattle.clap.specs.Words.{App, Kinds, Row, Shape, Text, built, fault_of, first_of, is_simple, is_simple_and_free, matches_of, subcommand_of, takes}
-use Rattle.sdv.specs.CommandLine.{Request, command_line, frame_of, frame_request, meaning_of, request_in, request_of, request_without}
+use Rattle.sdv.specs.CommandLine.{Request, certify, certify_request, check_of, check_request, command_line, frame_of, frame_request, meaning_of, request_in, request_of, request_without}
 use Rattle.sdv.specs.declared.line.Line.{Line}
 use Rattle.sdv.specs.declared.line.LineFault.{LineFault}
 
@@ -50,15 +50,37 @@ meaning-fault words some = go (fault_of command_line words) some
 
 -- ---- words in which clap finds no fault mean a request
 
--- `frame`, as it is built
+-- the commands, as they are built
 abbrev frame_shape : Shape
 frame_shape = unwrap_or (slice_get (built command_line).subs 0) (built command_line).top
 
-each_one_word : AllByRecursion TakesOneWord frame_shape.rules
-each_one_word = (inl (refl, refl), (inl (refl, refl), (inr refl, tt)))
+abbrev certify_shape : Shape
+certify_shape = unwrap_or (slice_get (built command_line).subs 1) (built command_line).top
 
-no_defaults : HasNoDefaults frame_shape.rules
-no_defaults = (refl, (refl, (refl, tt)))
+abbrev check_shape : Shape
+check_shape = unwrap_or (slice_get (built command_line).subs 2) (built command_line).top
+
+frame_one_word : AllByRecursion TakesOneWord frame_shape.rules
+frame_one_word = (inl (refl, refl), (inl (refl, refl), (inr refl, tt)))
+
+frame_no_defaults : HasNoDefaults frame_shape.rules
+frame_no_defaults = (refl, (refl, (refl, tt)))
+
+certify_one_word : AllByRecursion TakesOneWord certify_shape.rules
+certify_one_word = (inl (refl, refl), (inr refl, tt))
+
+certify_no_defaults : HasNoDefaults certify_shape.rules
+certify_no_defaults = (refl, (refl, tt))
+
+check_one_word : AllByRecursion TakesOneWord check_shape.rules
+check_one_word = (inl (refl, refl), (inl (refl, refl), (inr refl, tt)))
+
+check_no_defaults : HasNoDefaults check_shape.rules
+check_no_defaults = (refl, (refl, (refl, tt)))
+
+one_given : (a : Bool) → (not a || false) ≡ false → a ≡ true
+one_given true none = refl
+one_given false none = cc
 
 both_given : (a b : Bool) → (not a || (not b || false)) ≡ false → (a ≡ true) × (b ≡ true)
 both_given true true none = (refl, refl)
@@ -70,23 +92,51 @@ both_texts (Some index) (Some argument) i a = refl
 both_texts (Some index) None i a = cc
 both_texts None argument i a = cc
 
+one_file : (script : Option Text) → is_some script ≡ true → is_some (option_map certify script) ≡ true
+one_file (Some script) s = refl
+one_file None s = cc
+
+both_files : (script certificate : Option Text) → is_some script ≡ true → is_some certificate ≡ true → is_some (check_of script certificate) ≡ true
+both_files (Some script) (Some certificate) s c = refl
+both_files (Some script) None s c = cc
+both_files None certificate s c = cc
+
 frame_given : (words : List Text) → level_fault frame_shape [] nothing_held words false [] ≡ [] → is_some (frame_request (rows_after frame_shape.rules [] words)) ≡ true
 frame_given words none =
     let rows = rows_after frame_shape.rules [] words in
-    let given = leaf_given frame_shape words each_one_word no_defaults none in
+    let given = leaf_given frame_shape words frame_one_word frame_no_defaults none in
     let both = both_given (is_given (codes "INDEX") rows) (is_given (codes "ARG") rows) given.1 in
     both_texts (first_of (codes "INDEX") rows) (first_of (codes "ARG") rows) (given_text (codes "INDEX") rows given.0 both.0) (given_text (codes "ARG") rows given.0 both.1)
+
+certify_given : (words : List Text) → level_fault certify_shape [] nothing_held words false [] ≡ [] → is_some (certify_request (rows_after certify_shape.rules [] words)) ≡ true
+certify_given words none =
+    let rows = rows_after certify_shape.rules [] words in
+    let given = leaf_given certify_shape words certify_one_word certify_no_defaults none in
+    one_file (first_of (codes "SCRIPT") rows) (given_text (codes "SCRIPT") rows given.0 (one_given (is_given (codes "SCRIPT") rows) given.1))
+
+check_given : (words : List Text) → level_fault check_shape [] nothing_held words false [] ≡ [] → is_some (check_request (rows_after check_shape.rules [] words)) ≡ true
+check_given words none =
+    let rows = rows_after check_shape.rules [] words in
+    let given = leaf_given check_shape words check_one_word check_no_defaults none in
+    let both = both_given (is_given (codes "SCRIPT") rows) (is_given (codes "CERT") rows) given.1 in
+    both_files (first_of (codes "SCRIPT") rows) (first_of (codes "CERT") rows) (given_text (codes "SCRIPT") rows given.0 both.0) (given_text (codes "CERT") rows given.0 both.1)
 
 entered_given : (stop : Option (Text × List Text)) → is_some (entered (built command_line) stop) ≡ true → entered_fault (built command_line) stop ≡ []
     → is_some (option_and_then request_in (entered (built command_line) stop)) ≡ true
 entered_given None has none = cc
-entered_given (Some p) has none = go (answers_to p.0 (label_of frame_shape)) has none
+entered_given (Some p) has none =
+    go (answers_to p.0 (label_of frame_shape)) (answers_to p.0 (label_of certify_shape)) (answers_to p.0 (label_of check_shape)) has none
   where
-    go : (b : Bool) → is_some (option_map (λ s. rows_at s p.1) (cond b (Some frame_shape) None)) ≡ true
-        → option_map_or (λ s. level_fault s [] nothing_held p.1 false []) (cond b (Some frame_shape) None) [] ≡ []
-        → is_some (option_and_then request_in (option_map (λ s. rows_at s p.1) (cond b (Some frame_shape) None))) ≡ true
-    go true has none = frame_given p.1 none
-    go false has none = cc
+    found : (is_frame is_certify is_check : Bool) → Option Shape
+    found is_frame is_certify is_check = cond is_frame (Some frame_shape) (cond is_certify (Some certify_shape) (cond is_check (Some check_shape) None))
+
+    go : (is_frame is_certify is_check : Bool) → is_some (option_map (λ s. rows_at s p.1) (found is_frame is_certify is_check)) ≡ true
+        → option_map_or (λ s. level_fault s [] nothing_held p.1 false []) (found is_frame is_certify is_check) [] ≡ []
+        → is_some (option_and_then request_in (option_map (λ s. rows_at s p.1) (found is_frame is_certify is_check))) ≡ true
+    go true is_certify is_check has none = frame_given p.1 none
+    go false true is_check has none = certify_given p.1 none
+    go false false true has none = check_given p.1 none
+    go false false false has none = cc
 
 -- the words mean a request
 meaning_given : (words : List Text) → fault_of command_line words ≡ [] → is_some (meaning_of words) ≡ true

@@ -1,4 +1,6 @@
 mod AnswerLaws
+mod CertifyLaws
+mod FaultLaws
 mod CommandLineLaws
 mod FrameTextLaws
 mod WordsGiven

@@ -1,16 +1,18 @@
 -- What the program answers to the words that it was called with.
-use Rattle.std.specs.Prelude.{◌≡◌, ℕ, List, Option, Some}
+use Rattle.std.specs.Prelude.{◌≡◌, ◌≢◌, ◌⊎◌, ℕ, List, Option, Some}
 use Rattle.std.specs.Io.KnownBytes.{Appends}
 use Rattle.clap.specs.Words.{Text}
 use Rattle.sdv_frames.specs.Frame.{IsCommandFrame}
 use Rattle.sdv_frames.specs.declared.command.Command.{Command}
-use Rattle.sdv.specs.declared.line.LineFault.{LineFault}
-use Rattle.sdv.specs.declared.line.LineFault.TheVariants as line_fault
-use Rattle.sdv.specs.declared.program.Fault.{Fault}
-use Rattle.sdv.specs.declared.program.Fault.TheVariants.{Usage, Output, Memory}
-use Rattle.sdv.specs.CommandLine.{frame, meaning_of}
+use Rattle.sdv.specs.declared.fault.Fault.{Fault}
+use Rattle.sdv.specs.declared.fault.Fault.TheVariants.{Usage, Output, Memory}
+use Rattle.sdv.specs.Certify.{CertifiesFile, UncertifiesFile}
+use Rattle.sdv.specs.Check.{AcceptsFiles, RefusesFiles}
+use Rattle.sdv.specs.CommandLine.{frame, certify, check, meaning_of}
 use Rattle.sdv.specs.FrameText.{frame_text}
 use Rattle.sdv.specs.Number.{Writes}
+
+-- FRAMES
 
 -- the words ask for the frame of the command
 pub record AsksFrame (words : List Text) (c : Command) : Type 0 where
@@ -31,17 +33,61 @@ pub record AnswersFrame (words : List Text) (before after : Option (List ℕ)) :
   pub asked : AsksFrame words command
   pub answered : PrintsFrame command before after
 
--- the words ask for no frame
-abbrev pub AsksNothing : List Text → Type 0
-AsksNothing words = (c : Command) → ¬ AsksFrame words c
+-- what a fault says of the words of `frame`
+abbrev pub RefusesFrame : (index argument : Text) → Fault → Type 0
+RefusesFrame index argument Usage = (c : Command) → ¬ Writes index argument c
+RefusesFrame index argument Output = (c : Command) × Writes index argument c
+RefusesFrame index argument fault = ⊥
 
--- the fault of the program where its words are no line
-abbrev pub fault_of_line : LineFault → Fault
-fault_of_line line_fault.Usage = Usage
-fault_of_line line_fault.Memory = Memory
+-- CERTIFICATES
 
--- the exit status of a fault
-abbrev pub status_of : Fault → ℕ
-status_of Usage = 2
-status_of Output = 2
-status_of Memory = 3
+-- the words ask for the certificate of a script, and that of what the file gave was printed
+pub record AnswersCertify (gives : (file text : Text) → Type 0) (words : List Text) (before after : Option (List ℕ)) : Type 0 where
+  pub script_file : Text
+  pub meaning : meaning_of words ≡ Some (certify script_file)
+  pub certifies : CertifiesFile gives script_file before after
+
+-- the words ask for the certificate of a script, and of the file is so what the fault says
+pub record RefusesCertify (gives : (file text : Text) → Type 0) (words : List Text) (fault : Fault) : Type 0 where
+  pub script_file : Text
+  pub meaning : meaning_of words ≡ Some (certify script_file)
+  pub refuses : UncertifiesFile gives script_file fault
+
+-- CHECKS
+
+-- the words ask for a check, it accepts what the files give, and the bound was printed
+pub record AnswersCheck (gives : (file text : Text) → Type 0) (words : List Text) (before after : Option (List ℕ)) : Type 0 where
+  pub script_file : Text
+  pub certificate_file : Text
+  pub meaning : meaning_of words ≡ Some (check script_file certificate_file)
+  pub accepts : AcceptsFiles gives script_file certificate_file before after
+
+-- the words ask for a check, and of the files is so what the fault says
+pub record RefusesCheck (gives : (file text : Text) → Type 0) (words : List Text) (fault : Fault) : Type 0 where
+  pub script_file : Text
+  pub certificate_file : Text
+  pub meaning : meaning_of words ≡ Some (check script_file certificate_file)
+  pub refuses : RefusesFiles gives script_file certificate_file fault
+
+-- ANSWERS
+
+-- the words ask for no frame, for no certificate and for no check
+pub record AsksNothing (words : List Text) : Type 0 where
+  pub no_frame : (c : Command) → ¬ AsksFrame words c
+  pub no_certificate : (script : Text) → meaning_of words ≢ Some (certify script)
+  pub no_check : (script certificate : Text) → meaning_of words ≢ Some (check script certificate)
+
+abbrev pub Answers : (gives : (file text : Text) → Type 0) → List Text → (before after : Option (List ℕ)) → Type 0
+Answers gives words before after =
+    AnswersFrame words before after ⊎ AnswersCertify gives words before after ⊎ AnswersCheck gives words before after
+
+-- the words ask for a certificate or a check, and of the files is so what the fault says
+abbrev pub RefusesScript : (gives : (file text : Text) → Type 0) → List Text → Fault → Type 0
+RefusesScript gives words fault = RefusesCertify gives words fault ⊎ RefusesCheck gives words fault
+
+-- what a fault says of the words
+abbrev pub IsFaultOf : (gives : (file text : Text) → Type 0) → List Text → Fault → Type 0
+IsFaultOf gives words Usage = AsksNothing words
+IsFaultOf gives words Output = ((c : Command) × AsksFrame words c) ⊎ RefusesScript gives words Output
+IsFaultOf gives words Memory = Unit {0}
+IsFaultOf gives words fault = RefusesScript gives words fault

@@ -1,6 +1,9 @@
 pub mod CommandLine
 pub mod Number
 pub mod FrameText
+pub mod Fault
+pub mod Check
+pub mod Certify
 pub mod Answer
 pub mod PlainPort
 pub mod PlainKeeps

@@ -4,6 +4,14 @@
 //! says what is answered.
 #![tactic(auto)]
 
+mod certify;
+#[cfg(test)]
+mod certify_tests;
+mod check;
+#[cfg(test)]
+mod check_tests;
+mod fault;
+mod file;
 mod frame;
 mod line;
 mod number;
@@ -12,7 +20,8 @@ mod program;
 #[cfg(test)]
 mod tests;
 
-use program::{Fault, program};
+use fault::Fault;
+use program::program;
 use std::io::{self, ErrorKind, Write};
 use std::process::ExitCode;
 use std::rt::{Env, Files};
@@ -41,7 +50,7 @@ fn run_on_words<R: Env + Files + AllocGlobal, O: Write, E: Write>(
 }
 
 // A word that is no text cannot be a word of the program.
-fn fault_of(error: &io::Error) -> Fault {
+fn fault_of(error: &io::Error) -> Fault<'static> {
     match error.kind() {
         ErrorKind::OutOfMemory => Fault::Memory,
         _ => Fault::Usage,

@@ -1,8 +1,9 @@
 //! The program over writers in memory, and over one that takes nothing.
+use crate::fault::Fault;
 use crate::frame::{command_of, write_frame};
 use crate::line::{Line, LineFault, line_of};
 use crate::number::number_of;
-use crate::program::{Fault, program};
+use crate::program::program;
 use sdv_frames::Command;
 use std::io::{self, Write};
 use std::test::Fail;
@@ -40,7 +41,7 @@ fn prints_frames(rt: HostRuntime) {
 
 #[test]
 fn refuses_other_words(rt: HostRuntime) {
-    let rows: [&[&str]; 18] = [
+    let rows: [&[&str]; 21] = [
         &[],
         &["frame"],
         &["frame", "0"],
@@ -56,6 +57,9 @@ fn refuses_other_words(rt: HostRuntime) {
         &["frame", "", "0"],
         &["frame", "+1", "0"],
         &["frame", "1f", "0"],
+        &["certify"],
+        &["certify", "a", "b"],
+        &["certifies", "a"],
         &["help"],
         &["--help"],
         &["frame", "-h"],
@@ -67,7 +71,8 @@ fn refuses_other_words(rt: HostRuntime) {
         assert_eq!(rt; status, 2, "at row {row}");
         assert!(rt; out.is_empty(), "at row {row}");
         assert!(rt;
-            err.as_slice() == b"usage: sdv frame INDEX ARG\n".as_slice(),
+            err.as_slice()
+                == b"usage: sdv frame INDEX ARG | sdv certify SCRIPT | sdv check SCRIPT CERT\n".as_slice(),
             "at row {row}"
         );
     }
@@ -110,11 +115,15 @@ fn reads_a_line(rt: HostRuntime) {
 #[test]
 fn names_faults(rt: HostRuntime) -> Result<(), Fail> {
     let alloc = rt.alloc();
-    let usage = "usage: sdv frame INDEX ARG";
+    let usage = "usage: sdv frame INDEX ARG | sdv certify SCRIPT | sdv check SCRIPT CERT";
     assert!(rt; LineFault::Usage.to_string(alloc)?.as_str() == usage);
     assert!(rt; LineFault::Memory.to_string(alloc)?.as_str() == "out of memory");
     let rows = [
-        (Fault::Usage, 2, "usage: sdv frame INDEX ARG\n"),
+        (
+            Fault::Usage,
+            2,
+            "usage: sdv frame INDEX ARG | sdv certify SCRIPT | sdv check SCRIPT CERT\n",
+        ),
         (Fault::Output, 2, ""),
         (Fault::Memory, 3, "out of memory\n"),
     ];

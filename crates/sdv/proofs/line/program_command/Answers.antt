@@ -1,14 +1,31 @@
-use Rattle.std.proofs.Common.{◌≡◌, ◌∙◌, ap, ap₂, rules, codes, []}
+use Rattle.std.proofs.Common.{◌≡◌, ◌∙◌, ap, ap₂, rules, refl, [], Bool, true, false, not, ◌&&◌}
 use Rattle.std.proofs.lemmas.Result.{IfOk-weaker}
-use Rattle.clap.specs.Words.{App, app_of, rule_of, with_rule, with_subcommand}
-use Rattle.sdv.specs.CommandLine.{frame_command, program_shape, required}
+use Rattle.clap.specs.Walk.{is_empty}
+use Rattle.clap.specs.Words.{App, app_of, with_subcommand}
+use Rattle.clap.specs.declared.builder.command.Command.{Command}
+use Rattle.clap.specs.declared.builder.command.Command.TheViews.{out-Command}
+use Rattle.sdv.specs.CommandLine.{certify_command, check_command, frame_command, program_shape}
 use Rattle.sdv.proofs.line.program_command.Goals as goal
+
+third : (a b g rest : Bool) → (a && (not b && (not g && rest))) ≡ true → g ≡ false
+third false b g rest is = cc
+third true true g rest is = cc
+third true false true rest is = cc
+third true false false rest is = refl
+
+-- a plain command has no global arguments
+no_globals : (c : Command) (a : App) → app_of c ≡ a → a.top.is_plain ≡ true → (out-Command c).has_globals ≡ false
+no_globals c a is plain =
+    let fields = out-Command c in
+    third (is_empty fields.groups.items) fields.allow_external_subcommands fields.has_globals _ (ap (λ (a : App). a.top.is_plain) is ∙ plain)
 
 pub returns : goal.returns
 returns c =
-    let index : rule_of c.required-index.result ≡ required (codes "INDEX") = search rules in
-    let argument : rule_of c.required-argument.result ≡ required (codes "ARG") = search rules in
-    let frame : app_of c.in_ok-frame.frame ≡ frame_command =
-    c.in_ok-frame.ensures.shape (search rules) ∙ ap₂ with_rule (c.in_ok-arg.ensures.shape (search rules) ∙ ap₂ with_rule c.new-3.ensures.app index) argument in
     let top : app_of c.disable_help_subcommand.result ≡ record { top = program_shape; subs = [] } = search rules in
-    IfOk-weaker c.subcommand.result _ _ (λ command added. added.shape (search rules) ∙ ap₂ with_subcommand top (ap (λ (a : App). a.top) frame)) c.subcommand.ensures
+    let frame : app_of c.in_ok-frame_command.field-0 ≡ frame_command = c.in_ok-frame_command.ensures in
+    let certify : app_of c.in_ok-certify_command.field-0 ≡ certify_command = c.in_ok-certify_command.ensures in
+    let check : app_of c.in_ok-check_command.field-0 ≡ check_command = c.in_ok-check_command.ensures in
+    let first = c.in_ok-subcommand.ensures.shape (no_globals _ _ frame refl) ∙ ap₂ with_subcommand top (ap (λ (a : App). a.top) frame) in
+    let second = c.in_ok-subcommand-2.ensures.shape (no_globals _ _ certify refl) ∙ ap₂ with_subcommand first (ap (λ (a : App). a.top) certify) in
+    IfOk-weaker c.subcommand-3.result _ _
+    (λ command added. added.shape (no_globals _ _ check refl) ∙ ap₂ with_subcommand second (ap (λ (a : App). a.top) check)) c.subcommand-3.ensures

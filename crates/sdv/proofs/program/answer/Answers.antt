@@ -1,27 +1,31 @@
-use Rattle.std.proofs.Common.{◌≡◌, Err, ap, refl, Bor}
-use Rattle.std.proofs.KnownBytes.{Keeps-refl}
+use Rattle.std.proofs.Common.{◌≡◌, ◌∙◌, Err, Some, ap}
 use Rattle.clap.specs.Walk.{texts}
-use Rattle.clap.specs.Words.{Text}
-use Rattle.sdv.specs.declared.line.Line.{Line}
-use Rattle.sdv.specs.declared.line.Line.TheVariants.{Frame}
-use Rattle.sdv.proofs.AnswerLaws.{asks_nothing, asks_nothing-refused}
+use Rattle.sdv.specs.CommandLine.{certify, check, frame, meaning_of, request_of}
+use Rattle.sdv.proofs.AnswerLaws.{faults_of_certify, faults_of_check, faults_of_frame, faults_of_line}
 use Rattle.sdv.proofs.program.answer.Goals as goal
 
--- a line is one of `frame`
-parts : (line : Line) → (index : Bor Text) × (argument : Bor Text) × (line ≡ Frame index argument)
-parts (Frame index argument) = (index, argument, refl)
+pub returns-in_err-index-clause-faults : goal.returns-in_err-index-clause-faults
+returns-in_err-index-clause-faults g c =
+    faults_of_line (g.T.Texts.gives c.args.files.now) (texts c.args.words.now) c.in_err-index.field-0.0 c.from_residual.result c.from_residual.ensures.1
+    (λ is. c.in_err-index.ensures.usage (ap Err is))
 
-pub returns-clause-usage : goal.returns-clause-usage
-returns-clause-usage g c = λ refused.
-    let usage = c.answer_frame.ensures.usage refused in
-    let line = parts c.in_ok-index.field-0 in
-    let meaning = rw line.2 at c.in_ok-index.ensures.ok in
-    let none = rw line.2 at usage.0 in
-    (asks_nothing (texts c.args.words.now) line.0.now line.1.now meaning none, usage.1)
+pub returns-in-Frame-clause-faults : goal.returns-in-Frame-clause-faults
+returns-in-Frame-clause-faults g c =
+    let meaning : meaning_of (texts c.args.words.now) ≡ Some (frame c.in-Frame.index.now c.in-Frame.argument.now) =
+    c.in_ok-index.ensures.ok ∙ ap (λ line. Some (request_of line)) c.in-Frame.is in
+    faults_of_frame (g.T.Texts.gives c.args.files.now) (texts c.args.words.now) c.in-Frame.index.now c.in-Frame.argument.now meaning c.answer_frame.result
+    c.answer_frame.ensures.refused
 
-pub returns-in_err-index-clause-usage : goal.returns-in_err-index-clause-usage
-returns-in_err-index-clause-usage g c = λ refused. (
-  asks_nothing-refused (texts c.args.words.now) c.in_err-index.field-0.0 c.from_residual.result c.from_residual.ensures.1
-      (λ is. c.in_err-index.ensures.usage (ap Err is)) refused,
-  Keeps-refl (g.O.Write.contents c.args.out.now),
-)
+pub returns-in-Certify-clause-faults : goal.returns-in-Certify-clause-faults
+returns-in-Certify-clause-faults g c =
+    let meaning : meaning_of (texts c.args.words.now) ≡ Some (certify c.in-Certify.script.now) =
+    c.in_ok-index.ensures.ok ∙ ap (λ line. Some (request_of line)) c.in-Certify.is in
+    faults_of_certify (g.T.Texts.gives c.args.files.now) (texts c.args.words.now) c.in-Certify.script.now meaning c.certify_file.result
+    c.certify_file.ensures.refused
+
+pub returns-in-Check-clause-faults : goal.returns-in-Check-clause-faults
+returns-in-Check-clause-faults g c =
+    let meaning : meaning_of (texts c.args.words.now) ≡ Some (check c.in-Check.script.now c.in-Check.certificate.now) =
+    c.in_ok-index.ensures.ok ∙ ap (λ line. Some (request_of line)) c.in-Check.is in
+    faults_of_check (g.T.Texts.gives c.args.files.now) (texts c.args.words.now) c.in-Check.script.now c.in-Check.certificate.now meaning c.check_files.result
+    c.check_files.ensures.refused
