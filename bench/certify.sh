@@ -1,0 +1,47 @@
+#!/bin/sh
+# How long `sdv certify` takes on the longest scripts: 4,096 points in four nested loops, and 4,023 with status commands after a
+# bring-up, where a card may have other shapes. `sdv check` has to accept what it writes.
+#
+# With valgrind on the path it also says how many instructions that is for each point and each shape; the number does not
+# depend on what else the machine does.
+set -eu
+top=$(cd "$(dirname "$0")/.." && pwd)
+export PATH="/opt/rattle/bin:$PATH"
+work=$(mktemp -d)
+trap 'rm -rf "$work"' EXIT
+
+(cd "$top/crates/sdv" && rt run -- frame 0 0) > "$work/built" 2>&1 || { cat "$work/built"; exit 1; }
+sdv="$top/crates/sdv/out/sdv"
+
+repeat() {
+    awk -v count="$1" -v statement="$2" 'BEGIN { for (i = 0; i < count; i++) print statement }'
+}
+
+{
+    echo "card sd loop 2 { loop 2 { loop 2 { loop 2 {"
+    repeat 4091 "send 0{else{}}"
+    echo "} else { } } else { } } else { } } else { } fault stop"
+} > "$work/loops.sdv"
+
+{
+    sed 's/^done$//' "$top/examples/sd_bring_up.sdv"
+    repeat 4000 "send 13{else{}}"
+    echo "fault stop"
+} > "$work/status.sdv"
+
+measure() {
+    start=$(date +%s%N)
+    "$sdv" certify "$work/$1.sdv" > "$work/$1.cert"
+    end=$(date +%s%N)
+    points=$(sed -n 's/^points //p' "$work/$1.cert")
+    shapes=$(sed -n 's/.* s//p' "$work/$1.cert" | wc -w)
+    echo "$1: $points points, $shapes shapes, $(((end - start) / 1000000)) milliseconds, $("$sdv" check "$work/$1.sdv" "$work/$1.cert")"
+    if command -v valgrind > "$work/found"; then
+        valgrind --tool=callgrind --callgrind-out-file=/dev/null "$sdv" certify "$work/$1.sdv" 2> "$work/counted" > "$work/again"
+        instructions=$(sed -n 's/.*Collected : //p' "$work/counted")
+        echo "  $((instructions / points)) instructions a point, $((instructions / shapes)) instructions a shape"
+    fi
+}
+
+measure loops
+measure status
