@@ -1,5 +1,5 @@
 -- The certificate of a script is that of its text, and what came of writing it.
-use Rattle.std.proofs.Common.{◌≡◌, ◌≢◌, ◌∙◌, sym, refl, subst, ℕ, List, Option, Result, Ok, Err, IfErr, IsErrAnd, OnOk}
+use Rattle.std.proofs.Common.{◌≡◌, ◌∙◌, sym, subst, ℕ, List, Option, Result, Ok, Err, IfErr, IsErrAnd, OnOk}
 use Rattle.std.specs.Prelude.{is_ok}
 use Rattle.clap.specs.Words.{Text}
 use Rattle.std.specs.Io.KnownBytes.{Appends}
