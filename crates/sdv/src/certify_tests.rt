@@ -1,37 +1,11 @@
-//! Certificates of files, and of texts in memory.
-use crate::fault::Fault;
-use crate::file::Texts;
-use crate::program::{answer, program};
-use sdv_card::Shape;
-use sdv_certify::CertifyFault;
-use std::alloc::{AllocError, Global};
+//! Certificates of scripts in files.
+use crate::program::program;
+use crate::testing::{
+    BRING_UP, CERTIFICATE, Expected, SMALLEST, expect, expect_certify, prints, says,
+};
 use std::fs;
 use std::io::{self, Write};
 use std::test::Fail;
-
-const SMALLEST: &str = "card sd\nsend 0 { else { } }\nfault stop\n";
-
-const CERTIFICATE: &str = "sdv-cert 1
-points 2
-p 0 b 1 m 1 s 0000000000002000 0000000000002800 0000000000002c00
-p 1 b 0 m 1 s 0000000000002000 0000000000002800 0000000000002c00
-";
-
-/// A script in memory, whatever file is asked for.
-#[derive(Drop)]
-struct Alone<'a> {
-    script: &'a str,
-}
-
-impl<'a> Texts for Alone<'a> {
-    ghost use Rattle.sdv.specs.Check.{any_text};
-
-    ghost gives = { λ _. any_text };
-
-    fn text_of(&self, alloc: Global, _file: &str) -> Result<Option<String>, AllocError> {
-        Ok(Some(String::from_str(alloc, self.script)?))
-    }
-}
 
 /// A writer that takes one byte at a time, so many and no more, and keeps them.
 #[derive(Drop)]
@@ -59,50 +33,105 @@ impl Write for Small {
     }
 }
 
+const ILLEGAL: &str = "card sd send 7 { else { } } fault stop";
+
+const ADDRESS: &str = "card sd flags hc nums cap
+send 0 { else { } } send 8 { else { } }
+loop 1000 { send 55 { app { send 41 0x40ff8000 {
+  ocr.ready & ocr.block { set hc break } ocr.ready { break } answer { } else { fault lost } } } else { fault lost } }
+} else { fault busy }
+send 2 { answer { } else { fault cid } } send 3 { clean { } else { fault rca } }
+send 9 { answer { } else { fault csd } } send 7 { clean { } else { fault select } }
+send 16 { clean { } else { fault blen } } let cap = csd.blocks
+send 17 at block 0 { clean { recv { ok { } else { fault rd } } } else { fault rd } }
+done";
+
+const END_STATE: &str = "card sd send 0 { else { } } done";
+
+const TOO_MANY: &str = "card sd
+send 0 { else { } } loop 257 { loop 65535 { loop 65535 { send 0 { else { } } } else { } } else { } } else { }
+fault stop";
+
 #[test]
 fn certifies_files(rt: HostRuntime) -> Result<(), Fail> {
-    fs::write(&rt, "smallest.sdv", SMALLEST)?;
-    fs::write(&rt, "bytes.sdv", b"card sd\n\xff")?;
-    let rows: [(&str, u8, &str, &str); 4] = [
-        ("smallest.sdv", 0, CERTIFICATE, ""),
-        ("bytes.sdv", 2, "", "cannot use bytes.sdv\n"),
-        ("missing.sdv", 2, "", "cannot use missing.sdv\n"),
-        (".", 2, "", "cannot use .\n"),
+    let file = "certified.sdv";
+    let rows: [(&[u8], Expected<'_>); 14] = [
+        (SMALLEST.as_bytes(), prints(CERTIFICATE)),
+        (
+            b"card sd\nsend 16 @\n",
+            says(1, "script fault Token line 2\n"),
+        ),
+        (b"", says(1, "script fault Syntax line 1\n")),
+        (b"card sd\nset hc\n", says(1, "script fault Name line 2\n")),
+        (
+            b"card sd\nsend 1 { else { } }\n",
+            says(1, "script fault Command line 2\n"),
+        ),
+        (
+            b"card sd\nsend 17 { else { } }\n",
+            says(1, "script fault Argument line 2\n"),
+        ),
+        (
+            b"card sd\nsend 16 { ocr.ready { } else { } }\n",
+            says(1, "script fault Guard line 2\n"),
+        ),
+        (
+            b"card sd\nnums a b c d e f g h i\n",
+            says(1, "script fault Limit line 2\n"),
+        ),
+        (b"card sd\n", says(1, "script fault NoEnd line 2\n")),
+        (
+            ILLEGAL.as_bytes(),
+            says(1, "refused Illegal point 0 shape 0000000000002000\n"),
+        ),
+        (ADDRESS.as_bytes(), says(1, "refused Address point 22\n")),
+        (END_STATE.as_bytes(), says(1, "refused EndState point 1\n")),
+        (TOO_MANY.as_bytes(), says(1, "refused TooMany\n")),
+        (b"card sd\n\xff", says(2, "cannot use certified.sdv\n")),
     ];
-    for (script, status, printed, said) in rows {
-        let mut out = Vec::new(rt.alloc());
-        let mut err = Vec::new(rt.alloc());
-        let words = ["certify", script];
-        assert_eq!(rt;
-            program(&rt, &words, &mut out, &mut err),
-            status,
-            "at {said}"
-        );
-        assert!(rt; out.as_slice() == printed.as_bytes(), "at {said}");
-        assert!(rt; err.as_slice() == said.as_bytes(), "at {said}");
+    for (script, expected) in rows {
+        expect_certify(&rt, file, script, expected)?;
     }
+    expect(
+        &rt,
+        &["certify", "missing.sdv"],
+        says(2, "cannot use missing.sdv\n"),
+    );
+    expect(&rt, &["certify", "."], says(2, "cannot use .\n"));
     Ok(())
 }
 
+/// The certificate of a script that brings a card up is accepted, and is refused with its bound lowered by one.
 #[test]
 fn checks_what_it_certified(rt: HostRuntime) -> Result<(), Fail> {
-    fs::write(&rt, "smallest.sdv", SMALLEST)?;
-    let mut certificate = Vec::new(rt.alloc());
+    let (script, certificate) = ("bring_up.sdv", "bring_up.cert");
+    fs::write(&rt, script, BRING_UP)?;
     let mut out = Vec::new(rt.alloc());
     let mut err = Vec::new(rt.alloc());
-    let words = ["certify", "smallest.sdv"];
-    assert_eq!(rt; program(&rt, &words, &mut certificate, &mut err), 0);
-    fs::write(&rt, "smallest.cert", certificate.as_slice())?;
-    let words = ["check", "smallest.sdv", "smallest.cert"];
-    assert_eq!(rt; program(&rt, &words, &mut out, &mut err), 0);
-    assert!(rt; out.as_slice() == b"accepted 1\n".as_slice());
+    let status = program(&rt, &["certify", script], &mut out, &mut err);
+    assert_eq!(rt; status, 0);
     assert!(rt; err.is_empty());
+
+    let text = String::from_utf8(out)?;
+    assert_eq!(rt; text.lines().count(), 25);
+    assert!(rt; text.starts_with("sdv-cert 1\npoints 23\np 0 "));
+    fs::write(&rt, certificate, text.as_str())?;
+    let words = ["check", script, certificate];
+    expect(&rt, &words, prints("accepted 2007\n"));
+
+    assert_eq!(rt; text.matches("p 0 b 2007").count(), 1);
+    let lowered = text.replace(rt.alloc(), "p 0 b 2007", "p 0 b 2006")?;
+    fs::write(&rt, certificate, lowered.as_str())?;
+    expect(&rt, &words, says(1, "refused Bound point 0\n"));
+    fs::remove_file(&rt, script)?;
+    fs::remove_file(&rt, certificate)?;
     Ok(())
 }
 
 #[test]
 fn certifies_into_a_full_writer(rt: HostRuntime) -> Result<(), Fail> {
-    fs::write(&rt, "smallest.sdv", SMALLEST)?;
+    let file = "printed.sdv";
+    fs::write(&rt, file, SMALLEST)?;
     for room in 0..=CERTIFICATE.len() {
         let mut err = Vec::new(rt.alloc());
         let mut out = Small {
@@ -110,7 +139,7 @@ fn certifies_into_a_full_writer(rt: HostRuntime) -> Result<(), Fail> {
             room,
         };
         let status = if room == CERTIFICATE.len() { 0 } else { 2 };
-        let words = ["certify", "smallest.sdv"];
+        let words = ["certify", file];
         assert_eq!(rt;
             program(&rt, &words, &mut out, &mut err),
             status,
@@ -122,89 +151,6 @@ fn certifies_into_a_full_writer(rt: HostRuntime) -> Result<(), Fail> {
         );
         assert!(rt; err.is_empty(), "at {room}");
     }
+    fs::remove_file(&rt, file)?;
     Ok(())
-}
-
-const NOT_LEGAL: &str = "card sd send 7 { else { } } fault stop";
-
-const NO_ADDRESS: &str = "card sd flags hc nums cap
-send 0 { else { } } send 8 { else { } }
-loop 1000 { send 55 { app { send 41 0x40ff8000 {
-  ocr.ready & ocr.block { set hc break } ocr.ready { break } answer { } else { fault lost } } } else { fault lost } }
-} else { fault busy }
-send 2 { answer { } else { fault cid } } send 3 { clean { } else { fault rca } }
-send 9 { answer { } else { fault csd } } send 7 { clean { } else { fault select } }
-send 16 { clean { } else { fault blen } } let cap = csd.blocks
-send 17 at block 0 { clean { recv { ok { } else { fault rd } } } else { fault rd } }
-done";
-
-const NOT_AT_END: &str = "card sd send 0 { else { } } done";
-
-const TOO_OFTEN: &str = "card sd
-send 0 { else { } } loop 257 { loop 65535 { loop 65535 { send 0 { else { } } } else { } } else { } } else { }
-fault stop";
-
-#[test]
-fn refuses_to_certify(rt: HostRuntime) {
-    let rows: [(&str, &str); 6] = [
-        ("", "script fault Syntax line 1\n"),
-        ("card sd\n", "script fault NoEnd line 2\n"),
-        (
-            NOT_LEGAL,
-            "refused Illegal point 0 shape 0000000000002000\n",
-        ),
-        (NO_ADDRESS, "refused Address point 22\n"),
-        (NOT_AT_END, "refused EndState point 1\n"),
-        (TOO_OFTEN, "refused TooMany\n"),
-    ];
-    for (script, said) in rows {
-        let files = Alone { script };
-        let mut out = Vec::new(rt.alloc());
-        let mut err = Vec::new(rt.alloc());
-        let words = ["certify", "script"];
-        let answered = match answer(rt.alloc(), &files, &words, &mut out) {
-            Ok(()) => 0,
-            Err(fault) => fault.report(&mut err),
-        };
-        assert_eq!(rt; answered, 1, "at {said}");
-        assert!(rt; out.is_empty(), "at {said}");
-        assert!(rt; err.as_slice() == said.as_bytes(), "at {said}");
-    }
-}
-
-#[test]
-fn says_why_there_is_no_certificate(rt: HostRuntime) {
-    let rows = [
-        (
-            CertifyFault::Illegal {
-                point: 3,
-                shape: Shape(0x2001),
-            },
-            "refused Illegal point 3 shape 0000000000002001\n",
-        ),
-        (
-            CertifyFault::Illegal {
-                point: 4095,
-                shape: Shape(u64::MAX),
-            },
-            "refused Illegal point 4095 shape ffffffffffffffff\n",
-        ),
-        (
-            CertifyFault::Address { point: 22 },
-            "refused Address point 22\n",
-        ),
-        (
-            CertifyFault::EndState { point: 25 },
-            "refused EndState point 25\n",
-        ),
-        (CertifyFault::TooMany, "refused TooMany\n"),
-    ];
-    for (fault, line) in rows {
-        let mut err = Vec::new(rt.alloc());
-        assert_eq!(rt; Fault::Uncertified(fault).report(&mut err), 1, "at {line}");
-        assert!(rt; err.as_slice() == line.as_bytes(), "at {line}");
-    }
-    let mut err = Vec::new(rt.alloc());
-    assert_eq!(rt; Fault::from(CertifyFault::Memory).report(&mut err), 3);
-    assert!(rt; err.as_slice() == b"out of memory\n".as_slice());
 }

@@ -1,39 +1,26 @@
-//! Checks of files, and of texts in memory.
-use crate::fault::Fault;
+//! Checks of scripts and certificates in files, and in memory.
 use crate::file::{Texts, bytes_within};
 use crate::program::{answer, program};
-use sdv_check::{CertFault, CheckFault};
-use sdv_script::{FaultKind, ScriptFault};
+use crate::testing::{CERTIFICATE, Expected, SMALLEST, expect, expect_check, prints, says};
 use std::alloc::{AllocError, Global};
 use std::fs;
 use std::io::{self, ErrorKind, Read, Write};
 use std::test::Fail;
 
-const SMALLEST: &str = "card sd\nsend 0 { else { } }\nfault stop\n";
-
-const CERTIFICATE: &str = "sdv-cert 1
-points 2
-p 0 b 1 m 1 s 0000000000002000 0000000000002800 0000000000002c00
-p 1 b 0 m 1 s 0000000000002000 0000000000002800 0000000000002c00
-";
-
-/// A script beside a certificate in memory: whatever file is asked for by the name `script` or by another.
+/// A script beside its certificate in memory: whatever file is asked for by the name `script` or by another.
 #[derive(Drop)]
-struct Pair<'a> {
-    script: &'a str,
-    certificate: &'a str,
-}
+struct Pair;
 
-impl<'a> Texts for Pair<'a> {
+impl Texts for Pair {
     ghost use Rattle.sdv.specs.Check.{any_text};
 
     ghost gives = { λ _. any_text };
 
     fn text_of(&self, alloc: Global, file: &str) -> Result<Option<String>, AllocError> {
         let text = if file == "script" {
-            self.script
+            SMALLEST
         } else {
-            self.certificate
+            CERTIFICATE
         };
         Ok(Some(String::from_str(alloc, text)?))
     }
@@ -79,67 +66,6 @@ impl Read for Slow {
     }
 }
 
-#[test]
-fn checks_files(rt: HostRuntime) -> Result<(), Fail> {
-    fs::write(&rt, "smallest.sdv", SMALLEST)?;
-    fs::write(&rt, "smallest.cert", CERTIFICATE)?;
-    fs::write(&rt, "bytes.sdv", b"card sd\n\xff")?;
-    let rows: [(&str, &str, u8, &str, &str); 6] = [
-        ("smallest.sdv", "smallest.cert", 0, "accepted 1\n", ""),
-        (
-            "smallest.cert",
-            "smallest.sdv",
-            1,
-            "",
-            "script fault Syntax line 1\n",
-        ),
-        (
-            "bytes.sdv",
-            "smallest.cert",
-            2,
-            "",
-            "cannot use bytes.sdv\n",
-        ),
-        ("smallest.sdv", "bytes.sdv", 2, "", "cannot use bytes.sdv\n"),
-        (
-            "missing.sdv",
-            "missing.cert",
-            2,
-            "",
-            "cannot use missing.sdv\n",
-        ),
-        (".", "smallest.cert", 2, "", "cannot use .\n"),
-    ];
-    for (script, certificate, status, printed, said) in rows {
-        let mut out = Vec::new(rt.alloc());
-        let mut err = Vec::new(rt.alloc());
-        let words = ["check", script, certificate];
-        assert_eq!(rt;
-            program(&rt, &words, &mut out, &mut err),
-            status,
-            "at {said}"
-        );
-        assert!(rt; out.as_slice() == printed.as_bytes(), "at {said}");
-        assert!(rt; err.as_slice() == said.as_bytes(), "at {said}");
-    }
-    let words = ["check", "smallest.sdv", "smallest.cert"];
-    let mut err = Vec::new(rt.alloc());
-    assert_eq!(rt; program(&rt, &words, &mut Full, &mut err), 2);
-    assert!(rt; err.is_empty());
-    assert_eq!(rt;
-        program(
-            &rt,
-            &["check", "missing", "smallest.cert"],
-            &mut Full,
-            &mut Full
-        ),
-        2
-    );
-    Ok(())
-}
-
-const OTHER_HEADER: &str = "sdv-cert 3\n";
-
 const CUT: &str = "sdv-cert 1\npoints 2\np 0 b 1 m";
 
 const FALLING: &str = "sdv-cert 1
@@ -151,12 +77,6 @@ p 1 b 0 m 1 s 0000000000002000 0000000000002800 0000000000002c00
 const ONE_POINT: &str = "sdv-cert 1
 points 1
 p 0 b 1 m 1 s 0000000000002000 0000000000002800 0000000000002c00
-";
-
-const NO_COMMAND: &str = "sdv-cert 1
-points 2
-p 0 b 0 m 1 s 0000000000002000 0000000000002800 0000000000002c00
-p 1 b 0 m 1 s 0000000000002000 0000000000002800 0000000000002c00
 ";
 
 const FEWER_AT_START: &str = "sdv-cert 1
@@ -171,104 +91,143 @@ p 0 b 1 m 1 s 0000000000002000 0000000000002800 0000000000002c00
 p 1 b 0 m 1 s 0000000000002000 0000000000002800
 ";
 
+const LARGER_AFTER: &str = "sdv-cert 1
+points 2
+p 0 b 1 m 1 s 0000000000002000 0000000000002800 0000000000002c00
+p 1 b 0 m 2 s 0000000000002000 0000000000002800 0000000000002c00
+";
+
+const NO_COMMAND: &str = "sdv-cert 1
+points 2
+p 0 b 0 m 1 s 0000000000002000 0000000000002800 0000000000002c00
+p 1 b 0 m 1 s 0000000000002000 0000000000002800 0000000000002c00
+";
+
+const ILLEGAL: &str = "card sd send 7 { else { } } fault stop";
+
+const AT_BYTE: &str = "card sd flags f if f { send 17 at byte 0 { else { } } } else { } fault stop";
+
+const BLOCK_ADDRESSED: &str = "sdv-cert 1
+points 3
+p 0 b 0 m 1 s 0000000000002000 0000000000002800 0000000000002c00
+p 1 b 1 m 1 s 0000000000002c04
+p 2 b 0 m 1 s 0000000000002000 0000000000002800 0000000000002c00 0000000000002c04
+";
+
 #[test]
-fn checks_texts(rt: HostRuntime) {
-    let rows: [(&str, &str, u8, &str); 10] = [
-        (SMALLEST, CERTIFICATE, 0, ""),
-        ("", CERTIFICATE, 1, "script fault Syntax line 1\n"),
-        ("card sd\n", OTHER_HEADER, 1, "script fault NoEnd line 2\n"),
-        (SMALLEST, OTHER_HEADER, 1, "certificate fault Header\n"),
-        (SMALLEST, CUT, 1, "certificate fault Syntax line 3\n"),
-        (SMALLEST, FALLING, 1, "certificate fault Order line 3\n"),
-        (SMALLEST, ONE_POINT, 1, "refused Points\n"),
-        (SMALLEST, NO_COMMAND, 1, "refused Bound point 0\n"),
-        (SMALLEST, FEWER_AT_START, 1, "refused Start\n"),
-        (SMALLEST, FEWER_AFTER, 1, "refused Shape point 0\n"),
+fn checks_files(rt: HostRuntime) -> Result<(), Fail> {
+    let rows: [(&str, &str, Expected<'_>); 13] = [
+        (SMALLEST, CERTIFICATE, prints("accepted 1\n")),
+        ("card sd\n", CUT, says(1, "script fault NoEnd line 2\n")),
+        (
+            SMALLEST,
+            "sdv-cert 3\n",
+            says(1, "certificate fault Header\n"),
+        ),
+        (SMALLEST, CUT, says(1, "certificate fault Syntax line 3\n")),
+        (
+            SMALLEST,
+            FALLING,
+            says(1, "certificate fault Order line 3\n"),
+        ),
+        (SMALLEST, ONE_POINT, says(1, "refused Points\n")),
+        (SMALLEST, FEWER_AT_START, says(1, "refused Start\n")),
+        (ILLEGAL, CERTIFICATE, says(1, "refused Illegal point 0\n")),
+        (
+            AT_BYTE,
+            BLOCK_ADDRESSED,
+            says(1, "refused Address point 1\n"),
+        ),
+        (SMALLEST, FEWER_AFTER, says(1, "refused Shape point 0\n")),
+        (SMALLEST, LARGER_AFTER, says(1, "refused Number point 0\n")),
+        (SMALLEST, NO_COMMAND, says(1, "refused Bound point 0\n")),
+        (
+            "card sd done",
+            ONE_POINT,
+            says(1, "refused EndState point 0\n"),
+        ),
     ];
-    for (script, certificate, status, said) in rows {
-        let files = Pair {
-            script,
-            certificate,
-        };
-        let mut out = Vec::new(rt.alloc());
-        let mut err = Vec::new(rt.alloc());
-        let words = ["check", "script", "certificate"];
-        let answered = match answer(rt.alloc(), &files, &words, &mut out) {
-            Ok(()) => 0,
-            Err(fault) => fault.report(&mut err),
-        };
-        assert_eq!(rt; answered, status, "at {said}");
-        let printed: &[u8] = if status == 0 { b"accepted 1\n" } else { b"" };
-        assert!(rt; out.as_slice() == printed, "at {said}");
-        assert!(rt; err.as_slice() == said.as_bytes(), "at {said}");
+    for (script, certificate, expected) in rows {
+        let texts = [script.as_bytes(), certificate.as_bytes()];
+        expect_check(&rt, ["checked.sdv", "checked.cert"], texts, expected)?;
     }
+    Ok(())
 }
 
 #[test]
-fn says_each_fault(rt: HostRuntime) {
-    let script = |kind| Fault::Script(ScriptFault { kind, line: 7 });
-    let rows: [(Fault<'_>, u8, &str); 20] = [
-        (Fault::Memory, 3, "out of memory\n"),
-        (Fault::Output, 2, ""),
-        (Fault::File("a b"), 2, "cannot use a b\n"),
-        (script(FaultKind::Token), 1, "script fault Token line 7\n"),
-        (script(FaultKind::Syntax), 1, "script fault Syntax line 7\n"),
-        (script(FaultKind::Name), 1, "script fault Name line 7\n"),
+fn refuses_a_certificate_above_16_mebibytes(rt: HostRuntime) -> Result<(), Fail> {
+    let long = vec![in rt.alloc(); b'x'; 16_777_217]?;
+    expect_check(
+        &rt,
+        ["long.sdv", "long.cert"],
+        [SMALLEST.as_bytes(), long.as_slice()],
+        says(1, "certificate fault Limit\n"),
+    )?;
+    Ok(())
+}
+
+#[test]
+fn names_files_that_it_cannot_use(rt: HostRuntime) -> Result<(), Fail> {
+    let bytes: &[u8] = b"card sd\n\xff";
+    let rows: [([&str; 2], [&[u8]; 2], &str); 2] = [
         (
-            script(FaultKind::Command),
-            1,
-            "script fault Command line 7\n",
+            ["bytes.sdv", "used.cert"],
+            [bytes, CERTIFICATE.as_bytes()],
+            "cannot use bytes.sdv\n",
         ),
         (
-            script(FaultKind::Argument),
-            1,
-            "script fault Argument line 7\n",
-        ),
-        (script(FaultKind::Guard), 1, "script fault Guard line 7\n"),
-        (script(FaultKind::Limit), 1, "script fault Limit line 7\n"),
-        (script(FaultKind::NoEnd), 1, "script fault NoEnd line 7\n"),
-        (
-            Fault::Certificate(CertFault::Limit),
-            1,
-            "certificate fault Limit\n",
-        ),
-        (Fault::Refused(CheckFault::Points), 1, "refused Points\n"),
-        (Fault::Refused(CheckFault::Start), 1, "refused Start\n"),
-        (
-            Fault::Refused(CheckFault::Illegal(4095)),
-            1,
-            "refused Illegal point 4095\n",
-        ),
-        (
-            Fault::Refused(CheckFault::Address(22)),
-            1,
-            "refused Address point 22\n",
-        ),
-        (
-            Fault::Refused(CheckFault::Shape(0)),
-            1,
-            "refused Shape point 0\n",
-        ),
-        (
-            Fault::Refused(CheckFault::Number(9)),
-            1,
-            "refused Number point 9\n",
-        ),
-        (
-            Fault::Refused(CheckFault::Bound(10)),
-            1,
-            "refused Bound point 10\n",
-        ),
-        (
-            Fault::Refused(CheckFault::EndState(25)),
-            1,
-            "refused EndState point 25\n",
+            ["used.sdv", "bytes.cert"],
+            [SMALLEST.as_bytes(), bytes],
+            "cannot use bytes.cert\n",
         ),
     ];
-    for (fault, status, line) in rows {
-        let mut err = Vec::new(rt.alloc());
-        assert_eq!(rt; fault.report(&mut err), status, "at {line}");
-        assert!(rt; err.as_slice() == line.as_bytes(), "at {line}");
+    for (files, texts, said) in rows {
+        expect_check(&rt, files, texts, says(2, said))?;
+    }
+    fs::write(&rt, "used.sdv", SMALLEST)?;
+    let rows: [([&str; 3], &str); 3] = [
+        (
+            ["check", "missing.sdv", "missing.cert"],
+            "cannot use missing.sdv\n",
+        ),
+        (
+            ["check", "used.sdv", "missing.cert"],
+            "cannot use missing.cert\n",
+        ),
+        (["check", ".", "missing.cert"], "cannot use .\n"),
+    ];
+    for (words, said) in rows {
+        expect(&rt, &words, says(2, said));
+    }
+    fs::remove_file(&rt, "used.sdv")?;
+    Ok(())
+}
+
+#[test]
+fn checks_into_a_full_writer(rt: HostRuntime) -> Result<(), Fail> {
+    fs::write(&rt, "full.sdv", SMALLEST)?;
+    fs::write(&rt, "full.cert", CERTIFICATE)?;
+    let words = ["check", "full.sdv", "full.cert"];
+    let mut err = Vec::new(rt.alloc());
+    assert_eq!(rt; program(&rt, &words, &mut Full, &mut err), 2);
+    assert!(rt; err.is_empty());
+    let words = ["check", "missing.sdv", "full.cert"];
+    assert_eq!(rt; program(&rt, &words, &mut Full, &mut Full), 2);
+    fs::remove_file(&rt, "full.sdv")?;
+    fs::remove_file(&rt, "full.cert")?;
+    Ok(())
+}
+
+#[test]
+fn answers_from_texts_in_memory(rt: HostRuntime) {
+    let rows: [(&[&str], &str); 2] = [
+        (&["certify", "script"], CERTIFICATE),
+        (&["check", "script", "certificate"], "accepted 1\n"),
+    ];
+    for (words, printed) in rows {
+        let mut out = Vec::new(rt.alloc());
+        assert_eq!(rt; answer(rt.alloc(), &Pair, words, &mut out), Ok(()));
+        assert!(rt; out.as_slice() == printed.as_bytes(), "{printed}");
     }
 }
 

@@ -32,15 +32,7 @@ pub fn text_in<'a, T: Texts>(alloc: Global, files: &T, file: &'a str) -> Result<
 
 /// The files of a machine, of which nothing is claimed.
 #[derive(Clone, Copy)]
-pub struct MachineFiles<'a, R: Files> {
-    rt: &'a R,
-}
-
-impl<'a, R: Files> MachineFiles<'a, R> {
-    pub fn new(rt: &'a R) -> MachineFiles<'a, R> {
-        MachineFiles { rt }
-    }
-}
+pub struct MachineFiles<'a, R: Files>(pub &'a R);
 
 impl<'a, R: Files> Texts for MachineFiles<'a, R> {
     ghost use Rattle.sdv.specs.Check.{any_text};
@@ -48,7 +40,7 @@ impl<'a, R: Files> Texts for MachineFiles<'a, R> {
     ghost gives = { λ _. any_text };
 
     fn text_of(&self, alloc: Global, file: &str) -> Result<Option<String>, AllocError> {
-        let Ok(mut file) = fs::open(self.rt, file) else {
+        let Ok(mut file) = fs::open(self.0, file) else {
             return Ok(None);
         };
         match bytes_within(alloc, LIMIT, &mut file)? {

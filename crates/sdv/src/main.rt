@@ -18,6 +18,8 @@ mod number;
 mod plain;
 mod program;
 #[cfg(test)]
+mod testing;
+#[cfg(test)]
 mod tests;
 
 use fault::Fault;

@@ -42,7 +42,7 @@ pub fn program<R: Files + AllocGlobal, O: Write, E: Write>(
         → Keeps (E.contents err.old) (E.contents err.new) }
     ensures no_memory { result ≡ 3 → Keeps (O.contents out.old) (O.contents out.new) }
 {
-    match answer(rt.alloc(), &MachineFiles::new(rt), words, out) {
+    match answer(rt.alloc(), &MachineFiles(rt), words, out) {
         Ok(()) => 0,
         Err(fault) => fault.report(err),
     }
