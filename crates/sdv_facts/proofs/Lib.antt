@@ -7,10 +7,12 @@ mod GapLaws
 pub mod Headline
 pub mod JoinLaws
 pub mod LetLaws
+mod MergeLaws
 pub mod RegisterLaws
 mod Rising
 pub mod RunLaws
 pub mod SetLaws
+mod SortLaws
 pub mod SoundLaws
 pub mod StartLaws
 pub mod StepLaws

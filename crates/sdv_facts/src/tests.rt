@@ -1,6 +1,6 @@
 //! Rows of the rules, from outside.
 
-ghost use Rattle.std.specs.Prelude.{◌≡◌, length};
+ghost use Rattle.std.specs.Prelude.{◌≡◌, length, IfOk};
 
 use crate::{
     Certificate, Facts, Numbers, PointFacts, Test, VarFacts, address_ok, after_let, after_test,
@@ -9,6 +9,7 @@ use crate::{
 use arrayvec::ArrayVec;
 use sdv_card::{Kind, Shape};
 use sdv_script::{Address, Atom, Change, Let, Position, Unit};
+use std::alloc::{AllocError, Global};
 use std::test::Fail;
 
 /// A byte-addressed and a block-addressed card in transfer state; the second also with the first flag set.
@@ -40,6 +41,73 @@ fn set(target: usize, atom: Atom, change: Change) -> Let {
         atom,
         change,
     }
+}
+
+fn shapes_of(alloc: Global, codes: &[u64]) -> Result<Vec<Shape>, AllocError> {
+    let mut shapes = Vec::new(alloc);
+    for code in codes {
+        shapes.push(Shape(*code))?;
+    }
+    Ok(shapes)
+}
+
+/// Facts with the shapes of these codes, and two variables.
+fn facts_of(alloc: Global, codes: &[u64]) -> Result<Facts, AllocError>
+    ensures { IfOk result (λ facts. length facts.numbers.vars.items ≡ 2) }
+{
+    let bounds = numbers(1, var(0, 0, None), var(0, 0, None));
+    Ok(Facts::of_shapes(shapes_of(alloc, codes)?, bounds))
+}
+
+#[test]
+fn sets_of_shapes(rt: HostRuntime) -> Result<(), Fail> {
+    let rows: [(&[u64], &[u64]); 5] = [
+        (&[], &[]),
+        (&[7], &[7]),
+        (&[3, 1, 2], &[1, 2, 3]),
+        (&[2, 2, 2], &[2]),
+        (&[5, 1, 5, 3, 1], &[1, 3, 5]),
+    ];
+    for (codes, set) in rows {
+        let facts = facts_of(rt.alloc(), codes)?;
+        let wanted = shapes_of(rt.alloc(), set)?;
+        assert_eq!(&rt; facts.shapes(), wanted.as_slice());
+    }
+    Ok(())
+}
+
+#[test]
+fn joined_shapes(rt: HostRuntime) -> Result<(), Fail> {
+    let rows: [(&[u64], &[u64], &[u64]); 9] = [
+        (&[], &[], &[]),
+        (&[], &[1, 2], &[1, 2]),
+        (&[1, 2], &[], &[1, 2]),
+        (&[1, 2], &[4, 5], &[1, 2, 4, 5]),
+        (&[4, 5], &[1, 2], &[1, 2, 4, 5]),
+        (&[1, 3, 5], &[2, 4, 6], &[1, 2, 3, 4, 5, 6]),
+        (&[1, 2, 3], &[1, 3], &[1, 2, 3]),
+        (&[1, 3, 4], &[2, 3], &[1, 2, 3, 4]),
+        (&[2], &[1, 2, 3, 4], &[1, 2, 3, 4]),
+    ];
+    for (known, carried, both) in rows {
+        let mut facts = facts_of(rt.alloc(), known)?;
+        let changed = facts.join(false, &facts_of(rt.alloc(), carried)?)?;
+        let wanted = shapes_of(rt.alloc(), both)?;
+        assert_eq!(&rt; facts.shapes(), wanted.as_slice());
+        assert_eq!(&rt; changed, both.len() > known.len());
+    }
+    Ok(())
+}
+
+#[test]
+fn joined_numbers(rt: HostRuntime) -> Result<(), Fail> {
+    let mut facts = facts_of(rt.alloc(), &[1])?;
+    let more = numbers(1, var(0, 4, None), var(0, 0, None));
+    let carried = Facts::of_shapes(shapes_of(rt.alloc(), &[1])?, more);
+    assert!(&rt; facts.join(false, &carried)?);
+    assert_eq!(&rt; facts.numbers(), carried.numbers());
+    assert_eq!(&rt; facts.shapes(), [Shape(1)].as_slice());
+    Ok(())
 }
 
 #[test]
