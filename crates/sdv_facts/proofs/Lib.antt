@@ -2,7 +2,7 @@ pub mod AddressLaws
 pub mod ArgumentLaws
 pub mod EdgeLaws
 pub mod FlagLaws
-mod Flags
+pub mod Flags
 mod GapLaws
 pub mod Headline
 pub mod JoinLaws
