@@ -22,11 +22,11 @@ use Rattle.sdv_facts.specs.declared.clause.Clause.TheVariants.{Address as Addres
 use Rattle.sdv_facts.specs.declared.numbers.Numbers.{Numbers}
 use Rattle.sdv_facts.specs.Closed.{ShapeRule, NumberRule, BoundRule, ClauseHolds, PointClosed}
 use Rattle.sdv_facts.specs.Edges.{Rule, EachWay}
+use Rattle.sdv_facts.proofs.EdgeLaws.{edges_both, edges_map}
 use Rattle.sdv_check.specs.declared.source.Rules.{Rules}
 use Rattle.sdv_check.specs.declared.source.Rules.TheVariants as rules
 use Rattle.sdv_check.specs.declared.source.Asked.TheVariants as asks
 use Rattle.sdv_check.specs.Asked.{RuleAt, RuleOf, AskedAt}
-use Rattle.sdv_check.proofs.EdgeLaws.{edges_both, edges_map}
 
 -- LISTS
 
@@ -72,9 +72,9 @@ module _ (k : Kind) (ps : List PointFacts) (place : Place) (p : PointFacts) wher
       let B : Rule = NumberRule ps in
       let C : Rule = BoundRule ps place p in
       let AB : Rule = λ pass t s ns. A pass t s ns × B pass t s ns in
-      let all = edges_both k AB C p.facts place.node s (edges_both k A B p.facts place.node s (closed.shape s m) (closed.number s m)) (closed.bound s m) in (
+      let all = edges_both k p.facts place.node s AB C (edges_both k p.facts place.node s A B (closed.shape s m) (closed.number s m)) (closed.bound s m) in (
         closed.legal s m,
-        edges_map k (λ pass t s ns. AB pass t s ns × C pass t s ns) (RuleOf rules.All ps place p) (λ pass t s ns r. (r.0.0, r.0.1, r.1)) p.facts place.node s all,
+        edges_map (λ pass t s ns. AB pass t s ns × C pass t s ns) (RuleOf rules.All ps place p) (λ pass t s ns r. (r.0.0, r.0.1, r.1)) k p.facts place.node s all,
         closed.end_state s m,
       )
 
@@ -82,9 +82,9 @@ module _ (k : Kind) (ps : List PointFacts) (place : Place) (p : PointFacts) wher
   apart address all = record {
     legal = λ s m. (all s m).0;
     address = address;
-    shape = λ s m. edges_map k (RuleOf rules.All ps place p) (ShapeRule ps) (λ pass t s ns r. r.0) p.facts place.node s (all s m).1;
-    number = λ s m. edges_map k (RuleOf rules.All ps place p) (NumberRule ps) (λ pass t s ns r. r.1) p.facts place.node s (all s m).1;
-    bound = λ s m. edges_map k (RuleOf rules.All ps place p) (BoundRule ps place p) (λ pass t s ns r. r.2) p.facts place.node s (all s m).1;
+    shape = λ s m. edges_map (RuleOf rules.All ps place p) (ShapeRule ps) (λ pass t s ns r. r.0) k p.facts place.node s (all s m).1;
+    number = λ s m. edges_map (RuleOf rules.All ps place p) (NumberRule ps) (λ pass t s ns r. r.1) k p.facts place.node s (all s m).1;
+    bound = λ s m. edges_map (RuleOf rules.All ps place p) (BoundRule ps place p) (λ pass t s ns r. r.2) k p.facts place.node s (all s m).1;
     end_state = λ s m. (all s m).2;
   }
 
