@@ -13,6 +13,7 @@ pub mod RunLaws
 pub mod SetLaws
 pub mod SoundLaws
 pub mod StartLaws
+mod StatementLaws
 pub mod StepLaws
 pub mod SuitLaws
 pub mod TestLaws

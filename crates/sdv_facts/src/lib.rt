@@ -37,6 +37,6 @@ pub use joining::join;
 pub use numbers::{MAX_NUMBER, Numbers, VarFacts};
 pub use search::holds_shape;
 pub use setting::after_let;
-pub use statement::{address_at, ends_at, event_of_phase, legal_at};
+pub use statement::{address_holds, ends_at, event_of_phase, legal_at};
 pub use test::Test;
 pub use units::{has_flag, with_flag};

@@ -1,7 +1,7 @@
 //! Rows of what guards make of an answer, and of what statements ask.
 
 use crate::{
-    Facts, Numbers, VarFacts, address_at, all_may_hold, ends_at, event_of_phase, one_may_fail,
+    Facts, Numbers, VarFacts, address_holds, all_may_hold, ends_at, event_of_phase, one_may_fail,
 };
 use arrayvec::ArrayVec;
 use sdv_card::{Aim, Ask, Event, Guard, Seen, Shape, State};
@@ -121,11 +121,11 @@ fn blocks_of_a_command_lie_on_the_card(rt: HostRuntime) -> Result<(), Fail> {
         (13, 0, None, true),
     ] {
         assert_eq!(&rt;
-            address_at(&facts, &send(&rt, index, count, address)),
+            address_holds(&facts, &send(&rt, index, count, address)),
             known,
             "{index}"
         );
     }
-    assert!(&rt; address_at(&facts, &Action::Done));
+    assert!(&rt; address_holds(&facts, &Action::Done));
     Ok(())
 }
