@@ -1,5 +1,5 @@
 -- The clauses of a point, from what is asked of its shapes in one pass.
-use Rattle.std.proofs.Common.{◌≡◌, ◌≢◌, arith, ℕ, ◌+◌, ◌<◌, List, [], ◌∷◌, length, take, get_or, refl, sym, subst, Bool, true, false, IsTrue, ◌↔◌, Some, inl, inr}
+use Rattle.std.proofs.Common.{◌≡◌, ℕ, ◌+◌, ◌<◌, List, length, take, get_or, refl, sym, subst, Bool, true, false, IsTrue, ◌↔◌, Some, inl, inr}
 use Rattle.std.specs.Prelude.{slice_get, map}
 use Rattle.std.specs.Borrow.{Bor}
 use Rattle.sdv_card.specs.declared.event.Seen.{Seen}
@@ -13,7 +13,6 @@ use Rattle.sdv_registers.specs.declared.kind.Kind.{Kind}
 use Rattle.sdv_card.specs.declared.shape.Shape.{Shape}
 use Rattle.sdv_card.specs.Lists.{May}
 use Rattle.sdv_card.proofs.Distinct.{May-push_cases, May-at}
-use Rattle.sdv_card.proofs.Members.{here}
 use Rattle.sdv_script.specs.declared.graph.Target.{Target}
 use Rattle.sdv_script.specs.Nested.{Pass}
 use Rattle.sdv_script.specs.Path.{Place}
@@ -38,15 +37,6 @@ fails_at P xs i d r lt test bad = ((λ e. absurd (cc)), (λ all. let t : r ≡ t
 pub each_more : {A : Type 0} → (P : A → Type 0) (xs : List A) (i : ℕ) (d : A) → i < length xs → ((x : A) → May (take i xs) x → P x) → P (get_or xs i d) → (x : A) → May (take (i + 1) xs) x → P x
 each_more P xs i d h n e x m =
     elim (May-push_cases (take i xs) (get_or xs i d) x (subst (λ v. May v x) (take_more xs i d h) m)) [ inl k ↦ n x k | inr f ↦ subst P f e ]
-
--- what does not depend on the element holds of each where there is none, and else where it holds
-pub of_none : {A : Type 0} (P : Type 0) (xs : List A) → length xs ≡ 0 → IsTrue true ↔ ((x : A) → May xs x → P)
-of_none P [] e = ((λ t x m. absurd m.one), (λ f. refl))
-of_none P (y ∷ ys) e = absurd (omega arith)
-
-pub of_some : {A : Type 0} (P : Type 0) (xs : List A) (r : Bool) → length xs ≢ 0 → (IsTrue r ↔ P) → IsTrue r ↔ ((x : A) → May xs x → P)
-of_some P [] r ne test = absurd (ne refl)
-of_some P (y ∷ ys) r ne test = ((λ t x m. test.0 t), (λ f. test.1 (f y (here refl))))
 
 -- RULES
 

@@ -3,24 +3,14 @@
 ghost use Rattle.std.specs.Prelude.{◌≡◌, ◌↔◌, IsTrue, MatchOption};
 ghost use Rattle.sdv_card.specs.declared.shape.Shape.{Shape};
 ghost use Rattle.sdv_card.specs.Lists.{May};
-ghost use Rattle.sdv_facts.specs.Closed.{ClauseHolds, PointClosed, FirstFails};
+ghost use Rattle.sdv_facts.specs.Closed.{PointClosed, FirstFails};
 ghost use Rattle.sdv_check.specs.Asked.{place_at, numbers_set, FlagFits, AskedFrom};
 
 use crate::edges::edges_hold;
 use crate::source::{Asked, Rules, Source};
 use sdv_card::{CardTable, Shape};
-use sdv_facts::{Clause, Numbers, address_at, after_let, ends_at, legal_at};
+use sdv_facts::{Clause, Numbers, address_holds, after_let, ends_at, legal_at};
 use sdv_script::Action;
-
-/// The blocks of a command are known to lie on the card, and are addressed in its unit, where the point has a shape.
-fn address_holds<T: CardTable>(at: Source<'_, '_>) -> bool
-    ensures { IsTrue result ↔ ClauseHolds (Clause.Address) T.kind at.entry.certificate.now (place_at at.entry) at.entry.facts.now }
-{
-    if at.facts.facts.shapes().is_empty() {
-        return true;
-    }
-    address_at(&at.facts.facts, &at.point.action)
-}
 
 /// The numbers after a `let`, of a point that is one.
 fn numbers_set(at: Source<'_, '_>) -> Option<Numbers>
@@ -91,7 +81,7 @@ fn is_closed<T: CardTable>(at: Source<'_, '_>) -> bool
     requires flag { FlagFits (place_at at).node }
     ensures { IsTrue result ↔ PointClosed T.kind at.entry.certificate.now (place_at at.entry) at.entry.facts.now }
 {
-    address_holds::<T>(at) && holds::<T>(Asked::All, at)
+    address_holds(&at.facts.facts, &at.point.action) && holds::<T>(Asked::All, at)
 }
 
 /// The first clause of the point that fails, one after another.
@@ -105,7 +95,7 @@ fn first_failing<T: CardTable>(at: Source<'_, '_>) -> Option<Clause>
     if !holds::<T>(Asked::Legal, at) {
         return Some(Clause::Illegal);
     }
-    if !address_holds::<T>(at) {
+    if !address_holds(&at.facts.facts, &at.point.action) {
         return Some(Clause::Address);
     }
     if !holds::<T>(Asked::Edges(Rules::Shape), at) {
