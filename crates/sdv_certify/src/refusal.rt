@@ -7,7 +7,7 @@ ghost use Rattle.sdv_certify.specs.Refusal.{AllLegal, AddressHolds, AllEnd, IsFi
 
 use crate::fault::CertifyFault;
 use sdv_card::{CardTable, Shape};
-use sdv_facts::{Facts, address_at, ends_at, legal_at};
+use sdv_facts::{Facts, address_holds, ends_at, legal_at};
 use sdv_script::{Action, Graph, Point};
 
 /// The least shape where the event of a statement is not legal.
@@ -22,14 +22,6 @@ fn least_illegal<T: CardTable>(action: &Action<'_>, shapes: &[Shape]) -> Option<
         }
     }
     None
-}
-
-/// The blocks of a command are known to lie on the card, and are addressed in its unit, where the point has a shape.
-#[tactic(auto, using(crate::proofs::RefusalLaws::address_of_none, crate::proofs::RefusalLaws::address_of_some))]
-fn address_holds(facts: &Facts, action: &Action<'_>) -> bool
-    ensures { IsTrue result ↔ AddressHolds (node_of action.now) facts.now }
-{
-    facts.shapes().is_empty() || address_at(facts, action)
 }
 
 /// At `done` each shape is in the transfer state.
