@@ -127,5 +127,7 @@ fn blocks_of_a_command_lie_on_the_card(rt: HostRuntime) -> Result<(), Fail> {
         );
     }
     assert!(&rt; address_holds(&facts, &Action::Done));
+    let unreached = Facts::new(Vec::new(rt.alloc()), facts.numbers().copied());
+    assert!(&rt; address_holds(&unreached, &send(&rt, 18, 8, None)));
     Ok(())
 }
