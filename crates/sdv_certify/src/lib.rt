@@ -16,7 +16,6 @@ mod bounds;
 mod bounds_tests;
 mod fault;
 mod form;
-mod guards;
 mod known;
 pub mod laws;
 #[cfg(test)]

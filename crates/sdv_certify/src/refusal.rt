@@ -1,28 +1,14 @@
 //! Which point fails first, and why.
 
 ghost use Rattle.std.specs.Prelude.{◌≡◌, ◌↔◌, length, IsTrue, IfSome, IfNone};
-ghost use Rattle.sdv_card.specs.CommandTable.{addressed_blocks};
-ghost use Rattle.sdv_facts.specs.Closed.{LegalAt, AddressAt, AddressKnown, EndsAt};
 ghost use Rattle.sdv_facts.specs.Known.{AreRising};
 ghost use Rattle.sdv_script.specs.Graph.{node_of, place_of};
 ghost use Rattle.sdv_certify.specs.Refusal.{AllLegal, AddressHolds, AllEnd, IsFine, IsLeastIllegal, FailsAs, FailsIfReached, IsFineIfReached, FailsFirst, AllFine};
 
 use crate::fault::CertifyFault;
-use crate::ways::event_of;
-use sdv_card::{Ask, CardTable, Event, Shape};
-use sdv_facts::{Facts, address_ok};
-use sdv_script::{Action, Address, Graph, Point};
-
-/// The event of a statement is legal at a shape.
-fn legal_at<T: CardTable>(action: &Action<'_>, shape: Shape) -> bool
-    ensures { IsTrue result ↔ LegalAt T.kind (node_of action.now) shape }
-{
-    match action {
-        Action::Send(command, _, _) => T::legal(shape, &Event::Send(command.ask)),
-        Action::Phase(phase, _, _) => T::legal(shape, &event_of(*phase)),
-        _ => true,
-    }
-}
+use sdv_card::{CardTable, Shape};
+use sdv_facts::{Facts, address_holds, ends_at, legal_at};
+use sdv_script::{Action, Graph, Point};
 
 /// The least shape where the event of a statement is not legal.
 fn least_illegal<T: CardTable>(action: &Action<'_>, shapes: &[Shape]) -> Option<Shape>
@@ -36,58 +22,6 @@ fn least_illegal<T: CardTable>(action: &Action<'_>, shapes: &[Shape]) -> Option<
         }
     }
     None
-}
-
-/// How many blocks a command addresses, from the address that is sent with it.
-fn addressed_blocks(ask: &Ask) -> Option<u64>
-    ensures { result ≡ addressed_blocks ask.now }
-{
-    match ask.index {
-        17 | 18 | 24 | 25 => Some(u64::from(ask.count)),
-        32 | 33 | 35 | 36 => Some(1),
-        _ => None,
-    }
-}
-
-/// So many blocks are known to lie on the card, from an address that there is.
-fn address_known(facts: &Facts, address: &Option<Address>, blocks: u64) -> bool
-    ensures { IsTrue result ↔ AddressKnown facts.now address.now blocks }
-{
-    match address {
-        Some(address) => address_ok(facts, address, blocks),
-        None => false,
-    }
-}
-
-/// The blocks of a command are known to lie on the card, and are addressed in its unit.
-fn address_at(facts: &Facts, action: &Action<'_>) -> bool
-    ensures { IsTrue result ↔ AddressAt facts.now (node_of action.now) }
-{
-    match action {
-        Action::Send(command, _, _) => match addressed_blocks(&command.ask) {
-            Some(blocks) => address_known(facts, &command.address, blocks),
-            None => true,
-        },
-        _ => true,
-    }
-}
-
-/// The same where the point has a shape.
-#[tactic(auto, using(crate::proofs::RefusalLaws::address_of_none, crate::proofs::RefusalLaws::address_of_some))]
-fn address_holds(facts: &Facts, action: &Action<'_>) -> bool
-    ensures { IsTrue result ↔ AddressHolds (node_of action.now) facts.now }
-{
-    facts.shapes().is_empty() || address_at(facts, action)
-}
-
-/// At `done` a shape is in the transfer state.
-fn ends_at(action: &Action<'_>, shape: Shape) -> bool
-    ensures { IsTrue result ↔ EndsAt (node_of action.now) shape }
-{
-    match action {
-        Action::Done => shape.0 % 16 == 4,
-        _ => true,
-    }
 }
 
 /// At `done` each shape is in the transfer state.

@@ -8,9 +8,7 @@ pub mod TextPoints
 pub mod PointLoop
 pub mod Texts
 pub mod WorstTurns
-pub mod EdgeLaws
 pub mod PointLaws
-pub mod FlagLaws
 pub mod CheckLaws
 pub mod PromiseLaws
 pub mod TextRuns

@@ -1,5 +1,5 @@
 -- The clauses of a point, from what is asked of its shapes in one pass.
-use Rattle.std.proofs.Common.{◌≡◌, ◌≢◌, arith, ℕ, ◌+◌, ◌<◌, List, [], ◌∷◌, length, take, get_or, refl, sym, subst, Bool, true, false, IsTrue, ◌↔◌, Some, inl, inr}
+use Rattle.std.proofs.Common.{◌≡◌, ℕ, ◌+◌, ◌<◌, List, length, take, get_or, refl, sym, subst, Bool, true, false, IsTrue, ◌↔◌, Some, inl, inr}
 use Rattle.std.specs.Prelude.{slice_get, map}
 use Rattle.std.specs.Borrow.{Bor}
 use Rattle.sdv_card.specs.declared.event.Seen.{Seen}
@@ -13,7 +13,6 @@ use Rattle.sdv_registers.specs.declared.kind.Kind.{Kind}
 use Rattle.sdv_card.specs.declared.shape.Shape.{Shape}
 use Rattle.sdv_card.specs.Lists.{May}
 use Rattle.sdv_card.proofs.Distinct.{May-push_cases, May-at}
-use Rattle.sdv_card.proofs.Members.{here}
 use Rattle.sdv_script.specs.declared.graph.Target.{Target}
 use Rattle.sdv_script.specs.Nested.{Pass}
 use Rattle.sdv_script.specs.Path.{Place}
@@ -22,11 +21,11 @@ use Rattle.sdv_facts.specs.declared.clause.Clause.TheVariants.{Address as Addres
 use Rattle.sdv_facts.specs.declared.numbers.Numbers.{Numbers}
 use Rattle.sdv_facts.specs.Closed.{ShapeRule, NumberRule, BoundRule, ClauseHolds, PointClosed}
 use Rattle.sdv_facts.specs.Edges.{Rule, EachWay}
+use Rattle.sdv_facts.proofs.EdgeLaws.{edges_both, edges_map}
 use Rattle.sdv_check.specs.declared.source.Rules.{Rules}
 use Rattle.sdv_check.specs.declared.source.Rules.TheVariants as rules
 use Rattle.sdv_check.specs.declared.source.Asked.TheVariants as asks
 use Rattle.sdv_check.specs.Asked.{RuleAt, RuleOf, AskedAt}
-use Rattle.sdv_check.proofs.EdgeLaws.{edges_both, edges_map}
 
 -- LISTS
 
@@ -38,15 +37,6 @@ fails_at P xs i d r lt test bad = ((λ e. absurd (cc)), (λ all. let t : r ≡ t
 pub each_more : {A : Type 0} → (P : A → Type 0) (xs : List A) (i : ℕ) (d : A) → i < length xs → ((x : A) → May (take i xs) x → P x) → P (get_or xs i d) → (x : A) → May (take (i + 1) xs) x → P x
 each_more P xs i d h n e x m =
     elim (May-push_cases (take i xs) (get_or xs i d) x (subst (λ v. May v x) (take_more xs i d h) m)) [ inl k ↦ n x k | inr f ↦ subst P f e ]
-
--- what does not depend on the element holds of each where there is none, and else where it holds
-pub of_none : {A : Type 0} (P : Type 0) (xs : List A) → length xs ≡ 0 → IsTrue true ↔ ((x : A) → May xs x → P)
-of_none P [] e = ((λ t x m. absurd m.one), (λ f. refl))
-of_none P (y ∷ ys) e = absurd (omega arith)
-
-pub of_some : {A : Type 0} (P : Type 0) (xs : List A) (r : Bool) → length xs ≢ 0 → (IsTrue r ↔ P) → IsTrue r ↔ ((x : A) → May xs x → P)
-of_some P [] r ne test = absurd (ne refl)
-of_some P (y ∷ ys) r ne test = ((λ t x m. test.0 t), (λ f. test.1 (f y (here refl))))
 
 -- RULES
 
@@ -72,9 +62,9 @@ module _ (k : Kind) (ps : List PointFacts) (place : Place) (p : PointFacts) wher
       let B : Rule = NumberRule ps in
       let C : Rule = BoundRule ps place p in
       let AB : Rule = λ pass t s ns. A pass t s ns × B pass t s ns in
-      let all = edges_both k AB C p.facts place.node s (edges_both k A B p.facts place.node s (closed.shape s m) (closed.number s m)) (closed.bound s m) in (
+      let all = edges_both k p.facts place.node s AB C (edges_both k p.facts place.node s A B (closed.shape s m) (closed.number s m)) (closed.bound s m) in (
         closed.legal s m,
-        edges_map k (λ pass t s ns. AB pass t s ns × C pass t s ns) (RuleOf rules.All ps place p) (λ pass t s ns r. (r.0.0, r.0.1, r.1)) p.facts place.node s all,
+        edges_map (λ pass t s ns. AB pass t s ns × C pass t s ns) (RuleOf rules.All ps place p) (λ pass t s ns r. (r.0.0, r.0.1, r.1)) k p.facts place.node s all,
         closed.end_state s m,
       )
 
@@ -82,9 +72,9 @@ module _ (k : Kind) (ps : List PointFacts) (place : Place) (p : PointFacts) wher
   apart address all = record {
     legal = λ s m. (all s m).0;
     address = address;
-    shape = λ s m. edges_map k (RuleOf rules.All ps place p) (ShapeRule ps) (λ pass t s ns r. r.0) p.facts place.node s (all s m).1;
-    number = λ s m. edges_map k (RuleOf rules.All ps place p) (NumberRule ps) (λ pass t s ns r. r.1) p.facts place.node s (all s m).1;
-    bound = λ s m. edges_map k (RuleOf rules.All ps place p) (BoundRule ps place p) (λ pass t s ns r. r.2) p.facts place.node s (all s m).1;
+    shape = λ s m. edges_map (RuleOf rules.All ps place p) (ShapeRule ps) (λ pass t s ns r. r.0) k p.facts place.node s (all s m).1;
+    number = λ s m. edges_map (RuleOf rules.All ps place p) (NumberRule ps) (λ pass t s ns r. r.1) k p.facts place.node s (all s m).1;
+    bound = λ s m. edges_map (RuleOf rules.All ps place p) (BoundRule ps place p) (λ pass t s ns r. r.2) k p.facts place.node s (all s m).1;
     end_state = λ s m. (all s m).2;
   }
 

@@ -2,82 +2,15 @@
 
 ghost use Rattle.std.specs.Prelude.{◌≡◌, ◌↔◌, IsTrue, MatchOption};
 ghost use Rattle.sdv_card.specs.declared.shape.Shape.{Shape};
-ghost use Rattle.sdv_card.specs.CommandTable.{addressed_blocks};
 ghost use Rattle.sdv_card.specs.Lists.{May};
-ghost use Rattle.sdv_script.specs.Graph.{node_of};
-ghost use Rattle.sdv_facts.specs.Closed.{LegalAt, AddressAt, AddressKnown, EndsAt, ClauseHolds, PointClosed, FirstFails};
+ghost use Rattle.sdv_facts.specs.Closed.{PointClosed, FirstFails};
 ghost use Rattle.sdv_check.specs.Asked.{place_at, numbers_set, FlagFits, AskedFrom};
 
-use crate::edges::{edges_hold, event_of};
+use crate::edges::edges_hold;
 use crate::source::{Asked, Rules, Source};
-use sdv_card::{Ask, CardTable, Event, Shape};
-use sdv_facts::{Clause, Facts, Numbers, address_ok, after_let};
-use sdv_script::{Action, Address};
-
-/// The event of a statement is legal at a shape.
-fn legal_at<T: CardTable>(action: &Action<'_>, shape: Shape) -> bool
-    ensures { IsTrue result ↔ LegalAt T.kind (node_of action.now) shape }
-{
-    match action {
-        Action::Send(command, _, _) => T::legal(shape, &Event::Send(command.ask)),
-        Action::Phase(phase, _, _) => T::legal(shape, &event_of(*phase)),
-        _ => true,
-    }
-}
-
-/// At `done` a shape is in the transfer state.
-fn ends_at(action: &Action<'_>, shape: Shape) -> bool
-    ensures { IsTrue result ↔ EndsAt (node_of action.now) shape }
-{
-    match action {
-        Action::Done => shape.0 % 16 == 4,
-        _ => true,
-    }
-}
-
-/// How many blocks a command addresses, from the address that is sent with it.
-fn addressed_blocks(ask: &Ask) -> Option<u64>
-    ensures { result ≡ addressed_blocks ask.now }
-{
-    match ask.index {
-        17 | 18 | 24 | 25 => Some(u64::from(ask.count)),
-        32 | 33 | 35 | 36 => Some(1),
-        _ => None,
-    }
-}
-
-/// So many blocks are known to lie on the card, from an address that there is.
-fn address_known(facts: &Facts, address: &Option<Address>, blocks: u64) -> bool
-    ensures { IsTrue result ↔ AddressKnown facts.now address.now blocks }
-{
-    match address {
-        Some(address) => address_ok(facts, address, blocks),
-        None => false,
-    }
-}
-
-/// The blocks of a command are known to lie on the card, and are addressed in its unit.
-fn address_at(facts: &Facts, action: &Action<'_>) -> bool
-    ensures { IsTrue result ↔ AddressAt facts.now (node_of action.now) }
-{
-    match action {
-        Action::Send(command, _, _) => match addressed_blocks(&command.ask) {
-            Some(blocks) => address_known(facts, &command.address, blocks),
-            None => true,
-        },
-        _ => true,
-    }
-}
-
-/// The same where the point has a shape.
-fn address_holds<T: CardTable>(at: Source<'_, '_>) -> bool
-    ensures { IsTrue result ↔ ClauseHolds (Clause.Address) T.kind at.entry.certificate.now (place_at at.entry) at.entry.facts.now }
-{
-    if at.facts.facts.shapes().is_empty() {
-        return true;
-    }
-    address_at(&at.facts.facts, &at.point.action)
-}
+use sdv_card::{CardTable, Shape};
+use sdv_facts::{Clause, Numbers, address_holds, after_let, ends_at, legal_at};
+use sdv_script::Action;
 
 /// The numbers after a `let`, of a point that is one.
 fn numbers_set(at: Source<'_, '_>) -> Option<Numbers>
@@ -148,7 +81,7 @@ fn is_closed<T: CardTable>(at: Source<'_, '_>) -> bool
     requires flag { FlagFits (place_at at).node }
     ensures { IsTrue result ↔ PointClosed T.kind at.entry.certificate.now (place_at at.entry) at.entry.facts.now }
 {
-    address_holds::<T>(at) && holds::<T>(Asked::All, at)
+    address_holds(&at.facts.facts, &at.point.action) && holds::<T>(Asked::All, at)
 }
 
 /// The first clause of the point that fails, one after another.
@@ -162,7 +95,7 @@ fn first_failing<T: CardTable>(at: Source<'_, '_>) -> Option<Clause>
     if !holds::<T>(Asked::Legal, at) {
         return Some(Clause::Illegal);
     }
-    if !address_holds::<T>(at) {
+    if !address_holds(&at.facts.facts, &at.point.action) {
         return Some(Clause::Address);
     }
     if !holds::<T>(Asked::Edges(Rules::Shape), at) {

@@ -12,7 +12,6 @@ mod checker;
 mod clauses;
 mod edges;
 mod fault;
-mod guards;
 mod source;
 #[cfg(test)]
 mod tests;

@@ -2,7 +2,7 @@ pub mod AddressLaws
 pub mod ArgumentLaws
 pub mod EdgeLaws
 pub mod FlagLaws
-mod Flags
+pub mod Flags
 mod GapLaws
 pub mod Headline
 pub mod JoinLaws
@@ -15,6 +15,7 @@ pub mod SetLaws
 mod SortLaws
 pub mod SoundLaws
 pub mod StartLaws
+mod StatementLaws
 pub mod StepLaws
 pub mod SuitLaws
 pub mod TestLaws

@@ -2,7 +2,8 @@
 //!
 //! The definitions stand in `specs/`. Begin at `specs/FactsHold.antt`, which says when facts hold of a card and its host.
 //! `specs/AfterLet.antt`, `specs/AfterTest.antt` and `specs/Covers.antt` say what an edge of the script's graph carries,
-//! and `specs/AddressFits.antt` which addresses lie on the card.
+//! and `specs/AddressFits.antt` which addresses lie on the card. `specs/Edges.antt` says what guards may make of what is
+//! seen, and `specs/Closed.antt` what a statement asks at a shape.
 #![tactic(auto)]
 
 mod address;
@@ -12,10 +13,14 @@ mod comparison;
 mod cover;
 mod facts;
 mod gap;
+mod guards;
 mod joining;
 mod numbers;
 mod search;
 mod setting;
+mod statement;
+#[cfg(test)]
+mod statement_tests;
 mod test;
 #[cfg(test)]
 mod tests;
@@ -27,9 +32,11 @@ pub use clause::Clause;
 pub use comparison::after_test;
 pub use cover::covers;
 pub use facts::Facts;
+pub use guards::{all_may_hold, one_may_fail};
 pub use joining::join;
 pub use numbers::{MAX_NUMBER, Numbers, VarFacts};
 pub use search::holds_shape;
 pub use setting::after_let;
+pub use statement::{address_holds, ends_at, event_of_phase, legal_at};
 pub use test::Test;
 pub use units::{has_flag, with_flag};

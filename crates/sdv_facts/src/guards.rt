@@ -1,14 +1,16 @@
-//! What the guards of a case make of what is seen.
+//! What the guards of a case may make of what is seen of an answer.
+//!
+//! What is seen may leave a guard open: it may then hold, and it may fail.
 
 ghost use Rattle.std.specs.Prelude.{◌≡◌};
-ghost use Rattle.sdv_card.specs.Guards.{verdict};
+ghost use Rattle.sdv_card.specs.Guards.{verdict, may_hold, may_fail};
 ghost use Rattle.sdv_facts.specs.Edges.{all_may_hold, one_may_fail};
 
 use sdv_card::{Guard, Seen};
 
-/// The guard may hold of such an answer.
+/// The guard may hold of what is seen so.
 fn may_hold(guard: Guard, seen: Seen) -> bool
-    ensures { result ≡ Rattle.sdv_card.specs.Guards.may_hold (verdict guard seen) }
+    ensures { result ≡ may_hold (verdict guard seen) }
 {
     match (guard, seen) {
         (Guard::Timeout, Seen::TimeOut) => true,
@@ -26,9 +28,9 @@ fn may_hold(guard: Guard, seen: Seen) -> bool
     }
 }
 
-/// The guard may fail of such an answer.
+/// The guard may fail of what is seen so.
 fn may_fail(guard: Guard, seen: Seen) -> bool
-    ensures { result ≡ Rattle.sdv_card.specs.Guards.may_fail (verdict guard seen) }
+    ensures { result ≡ may_fail (verdict guard seen) }
 {
     match (guard, seen) {
         (Guard::Timeout, Seen::TimeOut) => false,
@@ -44,7 +46,7 @@ fn may_fail(guard: Guard, seen: Seen) -> bool
     }
 }
 
-/// All guards may hold.
+/// The guards may all hold of what is seen so, and a case with these guards may be taken. It is so of no guards.
 pub fn all_may_hold(guards: &[Guard], seen: Seen) -> bool
     ensures { result ≡ all_may_hold guards.now seen }
 {
@@ -56,7 +58,8 @@ pub fn all_may_hold(guards: &[Guard], seen: Seen) -> bool
     true
 }
 
-/// One of the guards may fail.
+/// One of the guards may fail of what is seen so, and a case after one with these guards may be taken. It is not so of no
+/// guards.
 pub fn one_may_fail(guards: &[Guard], seen: Seen) -> bool
     ensures { result ≡ one_may_fail guards.now seen }
 {
