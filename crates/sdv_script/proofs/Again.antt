@@ -18,22 +18,22 @@ use Rattle.sdv_script.specs.declared.token.Sign.TheVariants as sign
 use Rattle.sdv_script.specs.declared.keyword.Keyword.TheVariants as word
 use Rattle.sdv_script.specs.declared.form.Form.{Form}
 use Rattle.sdv_script.specs.declared.form.Form.TheVariants.{Bare, Select, Conditions, Addressed, Counted}
-use Rattle.sdv_script.specs.declared.tree.Command.{Command}
-use Rattle.sdv_script.specs.declared.tree.Address.{Address}
-use Rattle.sdv_script.specs.declared.tree.Unit.{Unit as AddressUnit}
-use Rattle.sdv_script.specs.declared.tree.Unit.TheVariants as units
-use Rattle.sdv_script.specs.declared.tree.Position.{Position}
-use Rattle.sdv_script.specs.declared.tree.Position.TheVariants as positions
-use Rattle.sdv_script.specs.declared.tree.Let.{Let}
-use Rattle.sdv_script.specs.declared.tree.Atom.{Atom}
-use Rattle.sdv_script.specs.declared.tree.Atom.TheVariants as atoms
-use Rattle.sdv_script.specs.declared.tree.Change.{Change}
-use Rattle.sdv_script.specs.declared.tree.Change.TheVariants as changes
-use Rattle.sdv_script.specs.declared.tree.Condition.{Condition}
-use Rattle.sdv_script.specs.declared.tree.Condition.TheVariants as conditions
+use Rattle.sdv_graph.specs.declared.tree.Command.{Command}
+use Rattle.sdv_graph.specs.declared.tree.Address.{Address}
+use Rattle.sdv_graph.specs.declared.tree.Unit.{Unit as AddressUnit}
+use Rattle.sdv_graph.specs.declared.tree.Unit.TheVariants as units
+use Rattle.sdv_graph.specs.declared.tree.Position.{Position}
+use Rattle.sdv_graph.specs.declared.tree.Position.TheVariants as positions
+use Rattle.sdv_graph.specs.declared.tree.Let.{Let}
+use Rattle.sdv_graph.specs.declared.tree.Atom.{Atom}
+use Rattle.sdv_graph.specs.declared.tree.Atom.TheVariants as atoms
+use Rattle.sdv_graph.specs.declared.tree.Change.{Change}
+use Rattle.sdv_graph.specs.declared.tree.Change.TheVariants as changes
+use Rattle.sdv_graph.specs.declared.tree.Condition.{Condition}
+use Rattle.sdv_graph.specs.declared.tree.Condition.TheVariants as conditions
 use Rattle.sdv_script.specs.Tokens.{Token, Key, Name, Number, Mark}
 use Rattle.sdv_script.specs.Commands.{sd_form, guard_suits, fits_order}
-use Rattle.sdv_script.specs.Tree.{Declared}
+use Rattle.sdv_graph.specs.Tree.{Declared}
 use Rattle.sdv_script.specs.Grammar.{flag_name, number_name, unit_written, position_written, address_written, address_if_any, select_written, form_written, form_if_any, command_written, state_word, guard_written, guards_written, atom_written, change_written, condition_written}
 use Rattle.sdv_script.specs.Rules.{max_number, max_name, place_from, place_of, AreNew, NamesFit, UnitFits, PositionFits, AddressFits, ask_with, FormFits, CommandFits, GuardsFit, AtomFits, ChangeFits, LetFits, ConditionFits}
 use Rattle.sdv_script.specs.Reading.{◌>>=◌, Read, read_figure, read_count, read_flag, read_number_name, read_unit, read_sum, read_position, read_address, read_select, read_counted, read_form, read_command, state_of, read_guard, read_guards, read_atom, read_change, read_let, read_test, read_condition, read_fault}

@@ -8,10 +8,10 @@ use Rattle.sdv_card.specs.declared.guard.Guard.TheVariants as guards
 use Rattle.sdv_script.specs.declared.depth.Depth.{Depth}
 use Rattle.sdv_script.specs.declared.token.Sign.TheVariants as sign
 use Rattle.sdv_script.specs.declared.keyword.Keyword.TheVariants as word
-use Rattle.sdv_script.specs.declared.tree.Phase.{Phase}
-use Rattle.sdv_script.specs.declared.tree.Phase.TheVariants as phases
+use Rattle.sdv_graph.specs.declared.tree.Phase.{Phase}
+use Rattle.sdv_graph.specs.declared.tree.Phase.TheVariants as phases
 use Rattle.sdv_script.specs.Tokens.{Token, Key, Mark}
-use Rattle.sdv_script.specs.Tree.{Declared, Statements, nothing, first, Ways, otherwise, way, Statement, send, phase, setting, choice, set, clear, turns, break, done, fault}
+use Rattle.sdv_graph.specs.Tree.{Declared, Statements, nothing, first, Ways, otherwise, way, Statement, send, phase, setting, choice, set, clear, turns, break, done, fault}
 use Rattle.sdv_script.specs.Grammar.{guard_written, guards_written, phase_written, statements_written, ways_written, statement_written}
 use Rattle.sdv_script.specs.Rules.{max_statements, max_loops, max_braces, NamesFit, GuardsFit, deeper, in_loop, HasRoom, StatementsFit, WaysFit, StatementFits, statements_count, ways_count, statement_count}
 use Rattle.sdv_script.specs.Reading.{progress_to, Reading, Blocks, WaysOf, after_open, read_block, read_branches, read_phase, read_statement, closes, more_ways, next_way, read_statements, read_ways}

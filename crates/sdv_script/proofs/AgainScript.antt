@@ -13,23 +13,23 @@ use Rattle.sdv_script.specs.declared.form.Form.TheVariants.{Bare, Select, Condit
 use Rattle.sdv_script.specs.declared.token.Sign.TheVariants as sign
 use Rattle.sdv_script.specs.declared.keyword.Keyword.{Keyword}
 use Rattle.sdv_script.specs.declared.keyword.Keyword.TheVariants as word
-use Rattle.sdv_script.specs.declared.tree.Command.{Command}
-use Rattle.sdv_script.specs.declared.tree.Address.{Address}
-use Rattle.sdv_script.specs.declared.tree.Unit.{Unit as AddressUnit}
-use Rattle.sdv_script.specs.declared.tree.Unit.TheVariants as units
-use Rattle.sdv_script.specs.declared.tree.Position.{Position}
-use Rattle.sdv_script.specs.declared.tree.Position.TheVariants as positions
-use Rattle.sdv_script.specs.declared.tree.Phase.{Phase}
-use Rattle.sdv_script.specs.declared.tree.Phase.TheVariants as phases
-use Rattle.sdv_script.specs.declared.tree.Atom.{Atom}
-use Rattle.sdv_script.specs.declared.tree.Atom.TheVariants as atoms
-use Rattle.sdv_script.specs.declared.tree.Change.{Change}
-use Rattle.sdv_script.specs.declared.tree.Change.TheVariants as changes
-use Rattle.sdv_script.specs.declared.tree.Condition.{Condition}
-use Rattle.sdv_script.specs.declared.tree.Condition.TheVariants as conditions
+use Rattle.sdv_graph.specs.declared.tree.Command.{Command}
+use Rattle.sdv_graph.specs.declared.tree.Address.{Address}
+use Rattle.sdv_graph.specs.declared.tree.Unit.{Unit as AddressUnit}
+use Rattle.sdv_graph.specs.declared.tree.Unit.TheVariants as units
+use Rattle.sdv_graph.specs.declared.tree.Position.{Position}
+use Rattle.sdv_graph.specs.declared.tree.Position.TheVariants as positions
+use Rattle.sdv_graph.specs.declared.tree.Phase.{Phase}
+use Rattle.sdv_graph.specs.declared.tree.Phase.TheVariants as phases
+use Rattle.sdv_graph.specs.declared.tree.Atom.{Atom}
+use Rattle.sdv_graph.specs.declared.tree.Atom.TheVariants as atoms
+use Rattle.sdv_graph.specs.declared.tree.Change.{Change}
+use Rattle.sdv_graph.specs.declared.tree.Change.TheVariants as changes
+use Rattle.sdv_graph.specs.declared.tree.Condition.{Condition}
+use Rattle.sdv_graph.specs.declared.tree.Condition.TheVariants as conditions
 use Rattle.sdv_script.specs.Tokens.{Token, Key, Number, Mark}
 use Rattle.sdv_script.specs.Commands.{sd_form}
-use Rattle.sdv_script.specs.Tree.{Declared, Statements, nothing, first, Ways, otherwise, way, Statement, send, phase, setting, choice, set, clear, turns, break, done, fault}
+use Rattle.sdv_graph.specs.Tree.{Declared, Statements, nothing, first, Ways, otherwise, way, Statement, send, phase, setting, choice, set, clear, turns, break, done, fault}
 use Rattle.sdv_script.specs.Grammar.{unit_written, position_written, address_if_any, select_written, form_if_any, guard_written, guards_written, atom_written, change_written, condition_written, phase_written, names_written, list_written, statements_written, ways_written, statement_written, script_written}
 use Rattle.sdv_script.specs.Rules.{max_name, max_flags, max_numbers, max_bytes, place_from, place_of, AreNew, NamesFit, ScriptFits}
 use Rattle.sdv_script.specs.Reading.{may_follow, name_is_new, read_names, read_flags, read_nums, read_declared, start, read_body, read_script}

@@ -14,15 +14,15 @@ use Rattle.sdv_card.specs.CommandTable.{order_of, sd_order}
 use Rattle.sdv_script.specs.declared.depth.Depth.{Depth}
 use Rattle.sdv_script.specs.declared.form.Form.{Form}
 use Rattle.sdv_script.specs.declared.form.Form.TheVariants.{Bare, Select, Conditions, Addressed, Counted}
-use Rattle.sdv_script.specs.declared.tree.Command.{Command}
-use Rattle.sdv_script.specs.declared.graph.Target.{Target}
+use Rattle.sdv_graph.specs.declared.tree.Command.{Command}
+use Rattle.sdv_graph.specs.declared.graph.Target.{Target}
 use Rattle.sdv_script.specs.Commands.{either, is_conditions}
 use Rattle.sdv_script.specs.Rules.{ask_with, deeper, in_loop, FormFits, CommandFits, StatementsFit, WaysFit, StatementFits, statements_count, statement_count}
-use Rattle.sdv_script.specs.Tree.{Statements, nothing, first, Ways, otherwise, way, Statement, send, phase, setting, choice, set, clear, turns, break, done, fault, Declared}
-use Rattle.sdv_script.specs.Path.{Place, sends}
-use Rattle.sdv_script.specs.Points.{again, entry, outside, past, forks, other_of, place, points_of_statements, points_of_ways, points_of_statement}
-use Rattle.sdv_script.specs.Graph.{Flow}
-use Rattle.sdv_script.specs.GraphOf.{IsGraphOf}
+use Rattle.sdv_graph.specs.Tree.{Statements, nothing, first, Ways, otherwise, way, Statement, send, phase, setting, choice, set, clear, turns, break, done, fault, Declared}
+use Rattle.sdv_graph.specs.Path.{Place, sends}
+use Rattle.sdv_graph.specs.Points.{again, entry, outside, past, forks, other_of, place, points_of_statements, points_of_ways, points_of_statement}
+use Rattle.sdv_graph.specs.Graph.{Flow}
+use Rattle.sdv_graph.specs.GraphOf.{IsGraphOf}
 use Rattle.sdv_script.specs.Script.{Parsed, IsScript}
 use Rattle.sdv_script.specs.Asks.{IsAsked, PlaceAsks, AsksByTable}
 

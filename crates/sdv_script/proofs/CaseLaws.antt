@@ -8,7 +8,8 @@ use Rattle.sdv_script.specs.declared.keyword.Keyword.TheVariants as word
 use Rattle.sdv_script.specs.declared.depth.Depth.{Depth}
 use Rattle.sdv_script.specs.Tokens.{Token, Key}
 use Rattle.sdv_script.specs.declared.blocks.Guarded.{Guarded as Case}
-use Rattle.sdv_script.specs.Tree.{Declared, statements_of, Ways, way, Guarded, guarded_of, before}
+use Rattle.sdv_graph.specs.Tree.{Declared, statements_of, Ways, way, Guarded, before}
+use Rattle.sdv_script.specs.GuardedOf.{guarded_of}
 use Rattle.sdv_script.specs.declared.fault.Stop.{Stop}
 use Rattle.sdv_script.specs.declared.fault.Stop.TheVariants as stop
 use Rattle.sdv_script.specs.Reading.{◌>>=◌, Fails, Progress, progress_to, Reading, Blocks, WaysOf, after_else, read_case, last_way, next_way, more_ways, read_statements, read_ways}

@@ -17,11 +17,11 @@ use Rattle.sdv_card.specs.declared.event.Ask.{Ask}
 use Rattle.sdv_card.specs.declared.guard.Guard.TheVariants.{Echo}
 use Rattle.sdv_card.specs.CommandTable.{order_of}
 use Rattle.sdv_card.specs.ScriptEvent.{SendCommand, Answered}
-use Rattle.sdv_script.specs.declared.tree.Atom.TheVariants as atoms
-use Rattle.sdv_script.specs.declared.tree.Change.TheVariants as changes
+use Rattle.sdv_graph.specs.declared.tree.Atom.TheVariants as atoms
+use Rattle.sdv_graph.specs.declared.tree.Change.TheVariants as changes
 use Rattle.sdv_script.specs.Rules.{ask_with}
-use Rattle.sdv_script.specs.Tree.{Statements, nothing, first, otherwise, way, send, setting, turns, break, done, fault, Declared}
-use Rattle.sdv_script.specs.Walk.{Pair, Open, Walk, number_fault}
+use Rattle.sdv_graph.specs.Tree.{Statements, nothing, first, otherwise, way, send, setting, turns, break, done, fault, Declared}
+use Rattle.sdv_graph.specs.Walk.{Pair, Open, Walk, number_fault}
 
 abbrev reset : Ask
 reset = ask_with 0 Plain 0 0

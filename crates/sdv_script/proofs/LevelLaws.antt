@@ -2,7 +2,7 @@
 use Rattle.std.proofs.Common.{◌≡◌, ℕ, zero, suc, ◌≤◌, refl, arith, None}
 use Rattle.sdv_card.specs.declared.event.Ask.{Ask}
 use Rattle.sdv_script.specs.declared.depth.Depth.{Depth}
-use Rattle.sdv_script.specs.Tree.{Declared}
+use Rattle.sdv_graph.specs.Tree.{Declared}
 use Rattle.sdv_script.specs.Reading.{Progress, read_statements, read_ways, more_statements, more_ways}
 
 pub statements_more : (n m : ℕ) (names : Declared) (depth : Depth) (at : Progress) → n ≡ suc m → read_statements n names depth at ≡ more_statements (read_statements m names) (read_ways m names) names depth at

@@ -2,10 +2,10 @@
 use Rattle.std.proofs.Common.{◌≡◌, ℕ, zero, suc, ◌+◌, ◌*◌, ◌<◌, ◌≤◌, ◌^◌, refl, arith, add-mul, one-mul, mul_comm, lit≤}
 use Rattle.std.proofs.lemmas.Nat.{mul-le}
 use Rattle.sdv_card.specs.declared.event.Ask.{Ask}
-use Rattle.sdv_script.specs.Tree.{Statements, nothing, first, Ways, otherwise, way, Statement, send, phase, setting, choice, set, clear, turns, break, done, fault, Declared}
+use Rattle.sdv_graph.specs.Tree.{Statements, nothing, first, Ways, otherwise, way, Statement, send, phase, setting, choice, set, clear, turns, break, done, fault, Declared}
 use Rattle.sdv_script.specs.declared.depth.Depth.{Depth}
 use Rattle.sdv_script.specs.Rules.{StatementsFit, WaysFit, StatementFits, ScriptFits, statements_count, ways_count, statement_count, deeper, in_loop}
-use Rattle.sdv_script.specs.Moves.{statements_moves, ways_moves, statement_moves}
+use Rattle.sdv_graph.specs.Moves.{statements_moves, ways_moves, statement_moves}
 
 -- the moves of one statement, in so many more loops
 power : ℕ → ℕ

@@ -6,15 +6,15 @@ use Rattle.sdv_card.specs.declared.event.Ask.{Ask}
 use Rattle.sdv_script.specs.declared.depth.Depth.{Depth}
 use Rattle.sdv_script.specs.declared.form.Form.{Form}
 use Rattle.sdv_script.specs.declared.form.Form.TheVariants.{Bare, Select, Conditions, Addressed, Counted}
-use Rattle.sdv_script.specs.declared.graph.Target.{Target}
-use Rattle.sdv_script.specs.declared.tree.Command.{Command}
+use Rattle.sdv_graph.specs.declared.graph.Target.{Target}
+use Rattle.sdv_graph.specs.declared.tree.Command.{Command}
 use Rattle.sdv_script.specs.Commands.{either}
-use Rattle.sdv_script.specs.Tree.{Statements, nothing, first, Ways, otherwise, way, Statement, send, phase, setting, choice, set, clear, turns, break, done, fault, Declared}
+use Rattle.sdv_graph.specs.Tree.{Statements, nothing, first, Ways, otherwise, way, Statement, send, phase, setting, choice, set, clear, turns, break, done, fault, Declared}
 use Rattle.sdv_script.specs.Rules.{CommandFits, FormFits, StatementsFit, WaysFit, StatementFits, ScriptFits, max_flags, max_loops, max_name, statements_count, statement_count, deeper, in_loop}
-use Rattle.sdv_script.specs.Walk.{Finished, Failed}
-use Rattle.sdv_script.specs.Path.{Node, Place, sends, phases, lets, tests, flags, heads, jumps, stops}
-use Rattle.sdv_script.specs.Points.{entry, outside, again, forks, other_of, place, points_of_statements, points_of_ways, points_of_statement, past, points_of}
-use Rattle.sdv_script.specs.Limits.{node_keeps_limits, keeps_limits, all_keep_limits}
+use Rattle.sdv_graph.specs.Walk.{Finished, Failed}
+use Rattle.sdv_graph.specs.Path.{Node, Place, sends, phases, lets, tests, flags, heads, jumps, stops}
+use Rattle.sdv_graph.specs.Points.{entry, outside, again, forks, other_of, place, points_of_statements, points_of_ways, points_of_statement, past, points_of}
+use Rattle.sdv_graph.specs.Limits.{node_keeps_limits, keeps_limits, all_keep_limits}
 
 both : (a b : Bool) → a ≡ true → b ≡ true → a && b ≡ true
 both true b p q = q

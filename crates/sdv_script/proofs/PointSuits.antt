@@ -4,15 +4,15 @@ use Rattle.std.specs.Prelude.{◌&&◌}
 use Rattle.sdv_card.specs.declared.event.Ask.{Ask}
 use Rattle.sdv_card.specs.declared.guard.Guard.{Guard}
 use Rattle.sdv_script.specs.declared.depth.Depth.{Depth}
-use Rattle.sdv_script.specs.declared.graph.Target.{Target}
-use Rattle.sdv_script.specs.declared.tree.Atom.{Atom}
-use Rattle.sdv_script.specs.declared.tree.Atom.TheVariants as atoms
+use Rattle.sdv_graph.specs.declared.graph.Target.{Target}
+use Rattle.sdv_graph.specs.declared.tree.Atom.{Atom}
+use Rattle.sdv_graph.specs.declared.tree.Atom.TheVariants as atoms
 use Rattle.sdv_script.specs.Commands.{guard_suits}
-use Rattle.sdv_script.specs.Tree.{Statements, nothing, first, Ways, otherwise, way, Statement, send, phase, setting, choice, set, clear, turns, break, done, fault, Declared}
+use Rattle.sdv_graph.specs.Tree.{Statements, nothing, first, Ways, otherwise, way, Statement, send, phase, setting, choice, set, clear, turns, break, done, fault, Declared}
 use Rattle.sdv_script.specs.Rules.{GuardsFit, AtomFits, StatementsFit, WaysFit, StatementFits, ScriptFits, statements_count, statement_count, deeper, in_loop}
-use Rattle.sdv_script.specs.Path.{Place}
-use Rattle.sdv_script.specs.Points.{entry, outside, again, forks, points_of_statements, points_of_ways, points_of_statement, past, points_of}
-use Rattle.sdv_script.specs.Suits.{guards_suit, forks_suit, atom_suits, node_suits, all_suit}
+use Rattle.sdv_graph.specs.Path.{Place}
+use Rattle.sdv_graph.specs.Points.{entry, outside, again, forks, points_of_statements, points_of_ways, points_of_statement, past, points_of}
+use Rattle.sdv_graph.specs.Suits.{guards_suit, forks_suit, atom_suits, node_suits, all_suit}
 
 both : (a b : Bool) → a ≡ true → b ≡ true → a && b ≡ true
 both true b p q = q

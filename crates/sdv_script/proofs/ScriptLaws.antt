@@ -2,7 +2,7 @@
 use Rattle.std.proofs.Common.{◌≡◌, ℕ, ◌≤◌, List, length, subst, sym, ap, ◌∙◌, arith, Option, Some, None}
 use Rattle.std.specs.Prelude.{IfSome}
 use Rattle.sdv_script.specs.Tokens.{tokens}
-use Rattle.sdv_script.specs.Tree.{Declared, Statements}
+use Rattle.sdv_graph.specs.Tree.{Declared, Statements}
 use Rattle.sdv_script.specs.Grammar.{script_written}
 use Rattle.sdv_script.specs.Rules.{max_bytes, ScriptFits}
 use Rattle.sdv_script.specs.Reading.{Whole, read_script}

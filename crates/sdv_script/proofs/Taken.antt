@@ -9,12 +9,12 @@ use Rattle.sdv_script.specs.declared.token.Sign.TheVariants as sign
 use Rattle.sdv_script.specs.declared.keyword.Keyword.TheVariants as word
 use Rattle.sdv_script.specs.declared.form.Form.{Form}
 use Rattle.sdv_script.specs.declared.form.Form.TheVariants.{Bare, Select, Conditions, Addressed, Counted}
-use Rattle.sdv_script.specs.declared.tree.Command.{Command}
-use Rattle.sdv_script.specs.declared.tree.Atom.{Atom}
-use Rattle.sdv_script.specs.declared.tree.Atom.TheVariants as atoms
+use Rattle.sdv_graph.specs.declared.tree.Command.{Command}
+use Rattle.sdv_graph.specs.declared.tree.Atom.{Atom}
+use Rattle.sdv_graph.specs.declared.tree.Atom.TheVariants as atoms
 use Rattle.sdv_script.specs.Tokens.{Token, Key, Name, Number, Mark}
 use Rattle.sdv_script.specs.Commands.{sd_form, is_conditions}
-use Rattle.sdv_script.specs.Tree.{Declared}
+use Rattle.sdv_graph.specs.Tree.{Declared}
 use Rattle.sdv_script.specs.Grammar.{flag_name, number_name, unit_written, position_written, address_written, form_written, form_if_any, command_written, atom_written, change_written, let_written, condition_written, phase_written}
 use Rattle.sdv_script.specs.Rules.{max_number, max_name, max_braces, place_from, place_of, UnitFits, PositionFits, AddressFits, FormFits, CommandFits, AtomFits, ChangeFits, LetFits, ConditionFits, deeper, HasRoom}
 use Rattle.sdv_script.specs.Reading.{◌>>=◌, after_open, after_close, after_equals, after_else, after_ok, after_at, after_count, after_card, after_sd, read_figure, read_count, read_flag, read_number_name, read_unit, read_sum, read_position, read_address, read_select, read_conditions, read_counted, read_form, read_command, read_atom, read_change, read_let, read_test, condition_by, read_condition, read_receive, read_fault}

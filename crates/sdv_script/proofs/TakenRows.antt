@@ -7,10 +7,10 @@ use Rattle.sdv_script.specs.declared.depth.Depth.{Depth}
 use Rattle.sdv_script.specs.declared.token.Sign.TheVariants as sign
 use Rattle.sdv_script.specs.declared.keyword.Keyword.{Keyword}
 use Rattle.sdv_script.specs.declared.keyword.Keyword.TheVariants as word
-use Rattle.sdv_script.specs.declared.tree.Phase.{Phase}
-use Rattle.sdv_script.specs.declared.tree.Phase.TheVariants as phases
+use Rattle.sdv_graph.specs.declared.tree.Phase.{Phase}
+use Rattle.sdv_graph.specs.declared.tree.Phase.TheVariants as phases
 use Rattle.sdv_script.specs.Tokens.{Token, Key, Name, Mark}
-use Rattle.sdv_script.specs.Tree.{Declared, Statements, nothing, first, Ways, Guarded, Statement, setting, set, clear, fault}
+use Rattle.sdv_graph.specs.Tree.{Declared, Statements, nothing, first, Ways, Guarded, Statement, setting, set, clear, fault}
 use Rattle.sdv_script.specs.Grammar.{guards_written, phase_written, statements_written, ways_written, statement_written}
 use Rattle.sdv_script.specs.Rules.{max_statements, max_loops, GuardsFit, deeper, in_loop, HasRoom, StatementsFit, WaysFit, StatementFits, statements_count, ways_count, statement_count}
 use Rattle.sdv_script.specs.Reading.{◌>>=◌, Progress, progress_to, Blocks, WaysOf, Pair, after_open, after_close, after_else, after_ok, read_count, read_command, read_condition, read_receive, read_let, read_flag, read_fault, read_guards, read_block, read_branches, read_ends, read_phase, read_send, read_if, read_loop, moved, starts, read_after, read_statement, closes, last_way, read_case, next_way, more_ways, read_statements, read_ways}

@@ -6,7 +6,7 @@ use Rattle.std.proofs.lemmas.Bool.{ltb-true, leb-true}
 use Rattle.std.proofs.lemmas.List.{append-nil, length-append}
 use Rattle.sdv_script.specs.declared.keyword.Keyword.TheVariants as word
 use Rattle.sdv_script.specs.Tokens.{Token, Key, Name}
-use Rattle.sdv_script.specs.Tree.{Declared, Statements}
+use Rattle.sdv_graph.specs.Tree.{Declared, Statements}
 use Rattle.sdv_script.specs.Grammar.{names_written, list_written, statements_written, script_written}
 use Rattle.sdv_script.specs.Rules.{max_name, max_flags, max_numbers, max_bytes, max_statements, place_from, place_of, AreNew, NamesFit, StatementsFit, statements_count, statements_fall, ScriptFits}
 use Rattle.sdv_script.specs.Reading.{progress_to, after_card, after_sd, may_follow, name_is_new, read_names, read_flags, read_nums, read_declared, Whole, whole_if, start, read_statements, read_body, read_script}

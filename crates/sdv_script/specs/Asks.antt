@@ -6,8 +6,8 @@ use Rattle.sdv_card.specs.declared.event.Ask.{Ask}
 use Rattle.sdv_card.specs.declared.command.Order.{Order}
 use Rattle.sdv_card.specs.CommandTable.{Asks}
 use Rattle.std.specs.List.{All}
-use Rattle.sdv_script.specs.Graph.{Flow}
-use Rattle.sdv_script.specs.Path.{Node, Place, sends}
+use Rattle.sdv_graph.specs.Graph.{Flow}
+use Rattle.sdv_graph.specs.Path.{Node, Place, sends}
 
 -- a line of the command table gives the ask
 abbrev pub IsAsked : Kind → Ask → Type 0

@@ -1,15 +1,11 @@
 -- What a script writes after the index of a command.
 -- SD Physical Layer Simplified Specification, section 4.7.4 (detailed command description).
 use Rattle.std.specs.Prelude.{ℕ, Bool, false, ◌||◌, ◌==◌, Option, Some, None, if◌then◌else◌}
-use Rattle.sdv_registers.specs.declared.kind.Kind.TheVariants.{Sd}
 use Rattle.sdv_card.specs.declared.event.Aim.TheVariants.{Rca, Plain}
-use Rattle.sdv_card.specs.declared.event.Ask.{Ask}
-use Rattle.sdv_card.specs.declared.guard.Guard.{Guard}
-use Rattle.sdv_card.specs.declared.command.Order.{Order}
-use Rattle.sdv_card.specs.CommandTable.{order_of}
-use Rattle.sdv_card.specs.Guards.{guard_fits}
 use Rattle.sdv_script.specs.declared.form.Form.{Form}
 use Rattle.sdv_script.specs.declared.form.Form.TheVariants.{Bare, Select, Conditions, Addressed, Counted}
+pub use Rattle.sdv_graph.specs.GuardSuits.{fits_order}
+unfoldable pub use Rattle.sdv_graph.specs.GuardSuits.{guard_suits}
 
 abbrev pub either : Bool → Form → Option Form → Option Form
 either is form others = if is then Some form else others
@@ -28,11 +24,3 @@ sd_form n =
 -- the two arguments of ACMD41: with high capacity, and without
 abbrev pub is_conditions : ℕ → Bool
 is_conditions n = (n == 0x00ff8000) || (n == 0x40ff8000)
-
-abbrev pub fits_order : Guard → Option Order → Bool
-fits_order guard None = false
-fits_order guard (Some order) = guard_fits guard order
-
--- a guard says something of the answers to a command of SD
-unfoldable pub guard_suits : Guard → Ask → Bool
-guard_suits guard ask = fits_order guard (order_of Sd ask)

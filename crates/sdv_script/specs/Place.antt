@@ -2,13 +2,13 @@
 use Rattle.std.specs.Prelude.{ℕ, List, map}
 use Rattle.sdv_script.specs.declared.cursor.Cursor.{Cursor}
 use Rattle.sdv_script.specs.declared.progress.Progress.{Progress as From}
-use Rattle.sdv_script.specs.declared.tree.Names.{Names}
+use Rattle.sdv_graph.specs.declared.tree.Names.{Names}
 use Rattle.sdv_script.specs.Reading.{Progress}
 use Rattle.sdv_script.specs.Tokens.{Token, tokens}
 use Rattle.sdv_script.specs.TokenView.{list_of}
-use Rattle.sdv_script.specs.declared.tree.Block.{Block}
+use Rattle.sdv_graph.specs.declared.tree.Block.{Block}
 use Rattle.sdv_script.specs.Script.{Parsed}
-use Rattle.sdv_script.specs.Tree.{Declared, statements_of}
+use Rattle.sdv_graph.specs.Tree.{Declared, statements_of}
 use Rattle.std.specs.Borrow.{Bor}
 
 abbrev pub tokens_at : Cursor → List Token

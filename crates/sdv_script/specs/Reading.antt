@@ -15,25 +15,25 @@ use Rattle.sdv_script.specs.declared.keyword.Keyword.TheVariants as word
 use Rattle.sdv_script.specs.declared.depth.Depth.{Depth}
 use Rattle.sdv_script.specs.declared.form.Form.{Form}
 use Rattle.sdv_script.specs.declared.form.Form.TheVariants.{Bare, Select, Conditions, Addressed, Counted}
-use Rattle.sdv_script.specs.declared.tree.Command.{Command}
-use Rattle.sdv_script.specs.declared.tree.Address.{Address}
-use Rattle.sdv_script.specs.declared.tree.Unit.{Unit as AddressUnit}
-use Rattle.sdv_script.specs.declared.tree.Unit.TheVariants as units
-use Rattle.sdv_script.specs.declared.tree.Position.{Position}
-use Rattle.sdv_script.specs.declared.tree.Position.TheVariants as positions
-use Rattle.sdv_script.specs.declared.tree.Phase.{Phase}
-use Rattle.sdv_script.specs.declared.tree.Phase.TheVariants as phases
-use Rattle.sdv_script.specs.declared.tree.Let.{Let}
-use Rattle.sdv_script.specs.declared.tree.Atom.{Atom}
-use Rattle.sdv_script.specs.declared.tree.Atom.TheVariants as atoms
-use Rattle.sdv_script.specs.declared.tree.Change.{Change}
-use Rattle.sdv_script.specs.declared.tree.Change.TheVariants as changes
-use Rattle.sdv_script.specs.declared.tree.Condition.{Condition}
-use Rattle.sdv_script.specs.declared.tree.Condition.TheVariants as conditions
+use Rattle.sdv_graph.specs.declared.tree.Command.{Command}
+use Rattle.sdv_graph.specs.declared.tree.Address.{Address}
+use Rattle.sdv_graph.specs.declared.tree.Unit.{Unit as AddressUnit}
+use Rattle.sdv_graph.specs.declared.tree.Unit.TheVariants as units
+use Rattle.sdv_graph.specs.declared.tree.Position.{Position}
+use Rattle.sdv_graph.specs.declared.tree.Position.TheVariants as positions
+use Rattle.sdv_graph.specs.declared.tree.Phase.{Phase}
+use Rattle.sdv_graph.specs.declared.tree.Phase.TheVariants as phases
+use Rattle.sdv_graph.specs.declared.tree.Let.{Let}
+use Rattle.sdv_graph.specs.declared.tree.Atom.{Atom}
+use Rattle.sdv_graph.specs.declared.tree.Atom.TheVariants as atoms
+use Rattle.sdv_graph.specs.declared.tree.Change.{Change}
+use Rattle.sdv_graph.specs.declared.tree.Change.TheVariants as changes
+use Rattle.sdv_graph.specs.declared.tree.Condition.{Condition}
+use Rattle.sdv_graph.specs.declared.tree.Condition.TheVariants as conditions
 use Rattle.sdv_script.specs.Tokens.{Token, Key, Name, Number, Mark}
 use Rattle.sdv_script.specs.Commands.{sd_form, is_conditions, guard_suits}
 use Rattle.sdv_script.specs.Rules.{place_of, ask_with, deeper, in_loop, max_number, max_braces, max_loops, max_statements, max_name, max_flags, max_numbers, max_bytes, statements_fall}
-use Rattle.sdv_script.specs.Tree.{Statements, nothing, first, Ways, otherwise, way, Statement, send, phase, setting, choice, set, clear, turns, break, done, fault, Declared, Guarded}
+use Rattle.sdv_graph.specs.Tree.{Statements, nothing, first, Ways, otherwise, way, Statement, send, phase, setting, choice, set, clear, turns, break, done, fault, Declared, Guarded}
 
 infixl 10 ◌>>=◌
 abbrev pub ◌>>=◌ : {A B : Type 0} → Option A → (A → Option B) → Option B

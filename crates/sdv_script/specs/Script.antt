@@ -1,7 +1,7 @@
 -- Scripts: texts with their syntax trees.
 use Rattle.std.specs.Prelude.{◌≡◌, ℕ, ◌≤◌, List, length}
 use Rattle.sdv_script.specs.Tokens.{tokens}
-use Rattle.sdv_script.specs.Tree.{Declared, Statements}
+use Rattle.sdv_graph.specs.Tree.{Declared, Statements}
 use Rattle.sdv_script.specs.Grammar.{script_written}
 use Rattle.sdv_script.specs.Rules.{max_bytes, ScriptFits}
 

@@ -4,7 +4,8 @@
 
 ghost use Rattle.std.specs.Prelude.{◌≡◌, IfOk, map};
 ghost use Rattle.sdv_script.specs.Place.{tokens_at, names_of, progress_of};
-ghost use Rattle.sdv_script.specs.Tree.{statements_of, ways_of, statement_of, guarded_of, before};
+ghost use Rattle.sdv_graph.specs.Tree.{statements_of, ways_of, statement_of, before};
+ghost use Rattle.sdv_script.specs.GuardedOf.{guarded_of};
 ghost use Rattle.sdv_script.specs.Reading.{Gives, begins, starts, closes, more_statements, last_way, read_case, read_statement, read_after, read_send, read_phase, read_loop, read_branches, read_block, read_statements, read_ways};
 
 use crate::commands::command;
@@ -16,7 +17,7 @@ use crate::guards::guard_list;
 use crate::keyword::Keyword;
 use crate::progress::Progress;
 use crate::token::{Sign, Token};
-use crate::tree::{Block, Cases, Names, Phase, Stmt};
+use sdv_graph::{Block, Cases, Names, Phase, Stmt};
 use crate::values::{condition, fault_name, receive, setting};
 use sdv_card::{Ask, Guard};
 use std::alloc::{AllocError, Global};

@@ -3,10 +3,10 @@
 ghost use Rattle.std.specs.Prelude.{◌≡◌};
 ghost use Rattle.sdv_script.specs.Script.{IsScript};
 ghost use Rattle.sdv_script.specs.Shown.{shown};
-ghost use Rattle.sdv_script.specs.Tree.{statements_of};
+ghost use Rattle.sdv_graph.specs.Tree.{statements_of};
 
 use crate::script::Script;
-use crate::tree::Block;
+use sdv_graph::Block;
 
 impl<'a> Script<'a> {
     /// The statements of the script, in their order.

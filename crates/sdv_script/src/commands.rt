@@ -11,7 +11,7 @@ use crate::fault::{FaultKind, Stop};
 use crate::form::{Form, form_of};
 use crate::keyword::Keyword;
 use crate::token::{Sign, Token};
-use crate::tree::{Address, Command, Names, Position, Unit};
+use sdv_graph::{Address, Command, Names, Position, Unit};
 use sdv_card::{Aim, Ask};
 
 /// A command, from its index on.

@@ -11,7 +11,7 @@ use crate::expect::place_of;
 use crate::fault::{FaultKind, ScriptFault, Stop};
 use crate::keyword::Keyword;
 use crate::token::Token;
-use crate::tree::Names;
+use sdv_graph::Names;
 use crate::values::MAX_NAME;
 use std::alloc::Global;
 

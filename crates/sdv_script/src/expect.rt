@@ -11,7 +11,7 @@ use crate::depth::Depth;
 use crate::fault::{FaultKind, ScriptFault, Stop};
 use crate::keyword::Keyword;
 use crate::token::{MAX_NUMBER, Sign, Token};
-use crate::tree::Names;
+use sdv_graph::Names;
 
 /// Braces may be nested so deep.
 pub const MAX_BRACES: usize = 64;

@@ -2,9 +2,9 @@
 
 ghost use Rattle.std.specs.Prelude.{◌≡◌};
 ghost use Rattle.sdv_script.specs.Rules.{statements_fall, ways_fall, statement_falls, statements_break, ways_break, statement_breaks};
-ghost use Rattle.sdv_script.specs.Tree.{statements_of, ways_of, statement_of};
+ghost use Rattle.sdv_graph.specs.Tree.{statements_of, ways_of, statement_of};
 
-use crate::tree::{Block, Cases, Stmt};
+use sdv_graph::{Block, Cases, Stmt};
 
 /// A run can come to what follows the block.
 #[cycle(falls)]

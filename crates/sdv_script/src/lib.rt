@@ -14,13 +14,10 @@ mod expect;
 mod fault;
 mod flow;
 mod form;
-mod graph;
-#[cfg(test)]
-mod graph_tests;
+pub mod graph;
+mod graphed;
 mod guards;
 mod keyword;
-mod moves;
-mod points;
 mod printing;
 mod progress;
 mod reading;
@@ -28,15 +25,14 @@ mod script;
 #[cfg(test)]
 mod tests;
 mod token;
-mod tree;
+pub mod tree;
 mod values;
 
 pub use fault::{FaultKind, ScriptFault};
-pub use graph::{Action, Graph, Point, Target, Way};
-pub use points::graph_of;
 pub use printing::{print, printed_tree};
 pub use reading::{asks_by_table, one_tree, parse};
 pub use script::Script;
+pub use graph::{Action, Graph, Point, Target, Way};
 pub use tree::{
     Address, Atom, Block, Cases, Change, Command, Condition, Let, Names, Phase, Position, Stmt,
     Unit,

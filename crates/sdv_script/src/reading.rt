@@ -3,12 +3,12 @@
 ghost use Rattle.std.specs.Prelude.{◌≡◌, ◌≢◌, IfOk, IfErr};
 ghost use Rattle.sdv_registers.specs.declared.kind.Kind.TheVariants.{Sd};
 ghost use Rattle.sdv_script.specs.Asks.{AsksByTable};
-ghost use Rattle.sdv_script.specs.Graph.{Flow};
-ghost use Rattle.sdv_script.specs.GraphOf.{IsGraphOf};
+ghost use Rattle.sdv_graph.specs.Graph.{Flow};
+ghost use Rattle.sdv_graph.specs.GraphOf.{IsGraphOf};
 ghost use Rattle.sdv_script.specs.Script.{Parsed, IsScript};
 ghost use Rattle.sdv_script.specs.Place.{tokens_at, names_of};
 ghost use Rattle.sdv_script.specs.Shown.{shown};
-ghost use Rattle.sdv_script.specs.Tree.{statements_of};
+ghost use Rattle.sdv_graph.specs.Tree.{statements_of};
 ghost use Rattle.sdv_script.specs.Tokens.{tokens};
 ghost use Rattle.sdv_script.specs.Reading.{Gives, read_body, read_script};
 
@@ -22,7 +22,7 @@ use crate::flow::block_falls;
 use crate::progress::Progress;
 use crate::script::Script;
 use crate::token::Token;
-use crate::tree::{Block, Names};
+use sdv_graph::{Block, Names};
 use std::alloc::Global;
 
 /// A text has at most so many bytes.

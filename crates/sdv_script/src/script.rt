@@ -4,11 +4,11 @@ ghost use Rattle.std.specs.Prelude.{◌≡◌};
 ghost use Rattle.sdv_registers.specs.declared.kind.Kind.TheVariants.{Sd};
 ghost use Rattle.sdv_script.specs.Script.{IsScript};
 ghost use Rattle.sdv_script.specs.Place.{parsed_of};
-ghost use Rattle.sdv_script.specs.GraphOf.{CanRun};
-ghost use Rattle.sdv_script.specs.Tree.{statements_of};
+ghost use Rattle.sdv_graph.specs.GraphOf.{CanRun};
+ghost use Rattle.sdv_graph.specs.Tree.{statements_of};
 
-use crate::tree::{Block, Names};
 use sdv_card::Kind;
+use sdv_graph::{Block, Names};
 
 /// A script: its text, the names that it declares, and its statements.
 #[derive(Drop)]

@@ -9,7 +9,7 @@ use crate::expect::{equals, figure, number_name, place_of};
 use crate::fault::{FaultKind, Stop};
 use crate::keyword::Keyword;
 use crate::token::{Sign, Token};
-use crate::tree::{Atom, Change, Condition, Let, Names, Phase};
+use sdv_graph::{Atom, Change, Condition, Let, Names, Phase};
 
 /// A name has at most so many characters.
 pub const MAX_NAME: usize = 16;

@@ -2,7 +2,8 @@ use Rattle.std.proofs.Common.{◌-◌, map, sym, ◌∙◌, arith}
 use Rattle.std.proofs.lemmas.Result.{err_from_is_err_and}
 use Rattle.std.proofs.lemmas.List.{map-append}
 use Rattle.sdv_script.specs.Place.{names_of, progress_of}
-use Rattle.sdv_script.specs.Tree.{ways_of, guarded_of}
+use Rattle.sdv_graph.specs.Tree.{ways_of}
+use Rattle.sdv_script.specs.GuardedOf.{guarded_of}
 use Rattle.sdv_script.proofs.CaseLaws.{ahead_ends, ahead_goes_on, last_fails, case_fails, no_level_left}
 use Rattle.sdv_script.proofs.LevelLaws.{no_level, statements_more, statements_none}
 use Rattle.sdv_script.proofs.blocks.+blocks.Goals as goal

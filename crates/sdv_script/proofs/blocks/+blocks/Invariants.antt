@@ -1,6 +1,6 @@
 use Rattle.std.proofs.Common.{◌≡◌, ◌*◌, ◌+◌, map}
 use Rattle.sdv_script.specs.Place.{names_of, progress_of}
-use Rattle.sdv_script.specs.Tree.{guarded_of}
+use Rattle.sdv_script.specs.GuardedOf.{guarded_of}
 use Rattle.sdv_script.specs.Reading.{read_ways}
 use Rattle.sdv_script.proofs.CaseLaws.{ahead}
 use Rattle.sdv_script.proofs.blocks.+blocks.Given as goal

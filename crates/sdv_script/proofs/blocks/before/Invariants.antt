@@ -1,5 +1,6 @@
 use Rattle.std.proofs.Common.{◌≡◌, vec_len, map}
-use Rattle.sdv_script.specs.Tree.{ways_of, guarded_of, before}
+use Rattle.sdv_graph.specs.Tree.{ways_of, before}
+use Rattle.sdv_script.specs.GuardedOf.{guarded_of}
 use Rattle.sdv_script.proofs.blocks.before.Given as goal
 
 -- the cases that are left, before those that were put together, are all

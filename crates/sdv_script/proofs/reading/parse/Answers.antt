@@ -1,5 +1,5 @@
 use Rattle.sdv_script.specs.Place.{names_of}
-use Rattle.sdv_script.specs.Tree.{statements_of}
+use Rattle.sdv_graph.specs.Tree.{statements_of}
 use Rattle.sdv_script.proofs.GraphOf.{can_run}
 use Rattle.sdv_script.proofs.ScriptLaws.{is_script, no_script}
 use Rattle.sdv_script.proofs.reading.parse.Goals as goal

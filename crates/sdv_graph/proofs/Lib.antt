@@ -1,0 +1,6 @@
+pub mod Ends
+pub mod FaultNames
+pub mod GraphOf
+pub mod Nesting
+pub mod Paths
+pub mod Standing

@@ -1,0 +1,36 @@
+-- Which address a script's command sends. Positions count blocks, in whatever unit they are sent.
+-- SD Physical Layer Simplified Specification, section 4.3.14; JESD84-B51, section 6.6.2.
+use Rattle.std.specs.Prelude.{◌+◌, ◌*◌, ◌/◌, ◌%◌, ◌^◌, ◌==◌, ℕ, Bool, true, false, nat_le, Option, Some, None, if◌then◌else◌}
+use Rattle.sdv_card.specs.Host.{Host}
+use Rattle.sdv_graph.specs.declared.tree.Address.{Address}
+use Rattle.sdv_graph.specs.declared.tree.Unit.{Unit as AddressUnit}
+use Rattle.sdv_graph.specs.declared.tree.Unit.TheVariants.{Block, Byte, By}
+use Rattle.sdv_graph.specs.declared.tree.Position.{Position}
+use Rattle.sdv_graph.specs.declared.tree.Position.TheVariants.{Number, Variable}
+use Rattle.sdv_graph.specs.Counts.{max_number}
+use Rattle.sdv_graph.specs.ValueOfLet.{number}
+
+-- the block
+abbrev pub position_of : Host → Position → ℕ
+position_of h (Number n) = n
+position_of h (Variable x None) = number h x
+position_of h (Variable x (Some k)) = number h x + k
+
+-- the flag in this place, from 0, is set in the bits of these flags
+abbrev pub is_flag_set : (flags flag : ℕ) → Bool
+is_flag_set flags flag = flags / 2 ^ flag % 2 == 1
+
+-- the number of the block is sent, and not 512 times it
+abbrev pub sends_block : Host → AddressUnit → Bool
+sends_block h Block = true
+sends_block h Byte = false
+sends_block h (By flag) = is_flag_set h.flags flag
+
+abbrev pub address_sent : Host → Address → ℕ
+address_sent h a = if sends_block h a.unit then position_of h a.position else 512 * position_of h a.position
+
+-- the address that goes with a command: none where the block is above 2^40, and the run ends in the fault `number`; a
+-- command without an address goes with 0, which no argument shows
+abbrev pub address_of_command : Host → Option Address → Option ℕ
+address_of_command h None = Some 0
+address_of_command h (Some a) = if nat_le (position_of h a.position) max_number then Some (address_sent h a) else None

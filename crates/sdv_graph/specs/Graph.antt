@@ -1,0 +1,83 @@
+-- What contracts see of a graph, and what is claimed of it.
+use Rattle.std.specs.Prelude.{◌↔◌, ℕ, zero, suc, List, [], map}
+use Rattle.sdv_registers.specs.declared.kind.Kind.{Kind}
+use Rattle.sdv_card.specs.Host.{Host}
+use Rattle.sdv_card.specs.Profile.{host_at_start}
+use Rattle.sdv_card.specs.ScriptEvent.{Return}
+use Rattle.sdv_graph.specs.declared.graph.Target.{Target}
+use Rattle.sdv_graph.specs.declared.graph.Way.{Way}
+use Rattle.sdv_graph.specs.declared.graph.Action.{Action}
+use Rattle.sdv_graph.specs.declared.graph.Action.TheVariants as actions
+use Rattle.sdv_graph.specs.declared.graph.Point.{Point}
+use Rattle.std.specs.Borrow.{Bor}
+use Rattle.sdv_graph.specs.declared.tree.Names.{Names}
+use Rattle.sdv_graph.specs.Tree.{Statements, Declared}
+use Rattle.sdv_graph.specs.Walk.{Pair, Ending, Finished, Failed, Walk}
+use Rattle.sdv_graph.specs.Path.{Fork, Node, Place, Stand, Move, Goes, Does, Halts, sends, phases, lets, tests, flags, heads, jumps, stops, arrive, move_from, Path}
+
+-- a point without where it lies in memory
+abbrev pub fork_of : Way → Fork
+fork_of w = record { guards = w.guards.items; target = w.target }
+
+abbrev pub node_of : Action → Node
+node_of (actions.Send c ways other) = sends c (map fork_of ways.items) other
+node_of (actions.Phase p well other) = phases p well other
+node_of (actions.Let l t) = lets l t
+node_of (actions.If c holds other) = tests c holds other
+node_of (actions.Flag f on t) = flags f on t
+node_of (actions.Loop n body other) = heads n body other
+node_of (actions.Break t) = jumps t
+node_of actions.Done = stops Finished
+node_of (actions.Fault name) = stops (Failed name.now)
+
+abbrev pub place_of : Point → Place
+place_of p = record { node = node_of p.action; most = p.most_turns.items }
+
+abbrev pub places_of : List Point → List Place
+places_of ps = map place_of ps
+
+-- a graph
+pub record Flow : Type 0 where
+  pub kind : Kind
+  -- how many number variables and flags the script has
+  pub numbers : ℕ
+  pub flags : ℕ
+  pub places : List Place
+  -- where a run begins
+  pub first : Target
+  -- no run has more moves
+  pub steps : ℕ
+
+abbrev pub begin : Flow → Stand
+begin g = arrive g.first [] (host_at_start g.numbers)
+
+-- the walks of the script are the paths of the graph, with the same events and answers and the same end
+abbrev pub HasWalks : Declared → Statements → Flow → Type 0
+HasWalks names script g = (e : Ending) (es : List Pair) → Walk g.kind names script e es ↔ Path g.kind g.places e (begin g) es
+
+-- EVERY RUN ENDS
+
+-- wherever a move leads; no run falls off the script, or leaves a loop that it is not in
+abbrev pub WhereverTo : (Stand → Type 0) → Move → Type 0
+WhereverTo holds (Goes next) = holds next
+WhereverTo holds (Does deed before next) = (returned : Return) (after : Host) → holds (next returned after)
+WhereverTo holds (Halts Finished) = Unit {0}
+WhereverTo holds (Halts (Failed name)) = Unit {0}
+WhereverTo holds (Halts last) = ⊥
+
+-- a run from there has at most n moves, whatever is returned, and ends in `done` or in a fault
+abbrev pub Lasts : Kind → List Place → ℕ → Stand → Type 0
+Lasts k g zero s = ⊥
+Lasts k g (suc n) s = WhereverTo (Lasts k g n) (move_from k g s)
+
+abbrev pub EachRunEnds : Flow → Type 0
+EachRunEnds g = Lasts g.kind g.places g.steps (begin g)
+
+-- THE GRAPH OF A SCRIPT
+
+abbrev pub texts : List (Bor (List ℕ)) → List (List ℕ)
+texts names = map (λ n. n.now) names
+
+-- the names that a script declares
+abbrev pub declared_names : Names → Declared
+declared_names names = record { flags = texts names.flags.items; numbers = texts names.numbers.items }

@@ -1,0 +1,16 @@
+pub mod AddressSent
+pub mod Conditions
+pub mod Counts
+pub mod Graph
+pub mod GraphOf
+pub mod GuardSuits
+pub mod Limits
+pub mod Moves
+pub mod NamedFaults
+pub mod Nested
+pub mod Path
+pub mod Points
+pub mod Suits
+pub mod Tree
+pub mod ValueOfLet
+pub mod Walk

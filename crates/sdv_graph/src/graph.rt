@@ -1,0 +1,165 @@
+//! The graph of a script: one point for each statement, and where it leads.
+//!
+//! A point is numbered by the order of the statements' first tokens, from 0. The point of a loop is its head, which is
+//! reached on entry and after each turn.
+
+use crate::tree::{Command, Condition, Let, Phase};
+use sdv_card::{Guard, Kind};
+use std::marker::Model;
+
+/// Where a run goes on, and what becomes of the loops on the way.
+#[derive(Clone, Copy, Debug, PartialEq, Eq)]
+pub struct Target {
+    /// The point. One that is not below the number of points leads nowhere: no run gets there.
+    pub to: usize,
+    /// How many loops are left first, the innermost one before the others.
+    pub leave: usize,
+    /// The turns of the loop that is then entered, if one is: the point is its head.
+    pub enter: Option<u16>,
+}
+
+/// A case of a command: where it leads if its guards all hold, and no earlier case's do.
+#[derive(Drop)]
+pub struct Way {
+    /// The guards, one or more.
+    pub guards: Vec<Guard>,
+    /// The case's block, or what follows it where it has no statement.
+    pub target: Target,
+}
+
+/// What a statement does, and where it leads.
+#[derive(Drop)]
+pub enum Action<'a> {
+    /// A command, its cases in their order, and where it leads if none is taken.
+    Send(Command, Vec<Way>, Target),
+    /// A data phase or a wait, where it leads if it ends well, and where otherwise.
+    Phase(Phase, Target, Target),
+    /// A number variable is set.
+    Let(Let, Target),
+    /// Where the statement leads if the condition holds, and where otherwise.
+    If(Condition, Target, Target),
+    /// A flag is set (true) or cleared.
+    Flag(usize, bool, Target),
+    /// The head of a loop of so many turns: its body while turns are left, and its else block.
+    Loop(u16, Target, Target),
+    /// The innermost loop is left whose body the statement stands in.
+    Break(Target),
+    /// The run ends.
+    Done,
+    /// The run ends in the fault of this name.
+    Fault(&'a str),
+}
+
+/// A point: a statement with the loops round it.
+#[derive(Drop)]
+pub struct Point<'a> {
+    /// What the statement does, and where it leads.
+    pub action: Action<'a>,
+    /// The most turns that are left here of each loop round the statement, the innermost loop first. Of a loop of N turns
+    /// that is N at its own head, and N - 1 in its body; its else block does not stand in it.
+    pub most_turns: Vec<u16>,
+}
+
+/// The points of a script, with what a run needs to know of its names.
+#[derive(Drop)]
+pub struct Graph<'a> {
+    kind: Kind,
+    numbers: usize,
+    flags: usize,
+    points: Vec<Point<'a>>,
+    first: Target,
+    steps: u128,
+}
+
+impl<'a> Model for Graph<'a> {
+    ghost use Rattle.sdv_graph.specs.Graph.{Flow, places_of};
+    ghost use Rattle.sdv_graph.specs.GraphOf.{IsSound};
+
+    ghost Value = { Flow };
+
+    ghost view = { λ g. record { kind = g.kind; numbers = g.numbers; flags = g.flags; places = places_of g.points.items; first = g.first; steps = g.steps } };
+
+    ghost invariant = { λ g. IsSound (record { kind = g.kind; numbers = g.numbers; flags = g.flags; places = places_of g.points.items; first = g.first; steps = g.steps }) };
+}
+
+impl<'a> Graph<'a> {
+    ghost use Rattle.std.specs.Prelude.{◌≡◌, ◌<◌, length, slice_get, Some};
+    ghost use Rattle.sdv_graph.specs.Graph.{Flow, EachRunEnds, place_of, places_of};
+    ghost use Rattle.sdv_graph.specs.GraphOf.{IsSound};
+
+    /// A graph of these points.
+    pub(crate) fn from_points(
+        kind: Kind,
+        numbers: usize,
+        flags: usize,
+        points: Vec<Point<'a>>,
+        first: Target,
+        steps: u128,
+    ) -> Self
+        requires { IsSound (record { kind = kind; numbers = numbers; flags = flags; places = places_of points.items; first = first; steps = steps }) }
+        ensures { result ≡ record { kind = kind; numbers = numbers; flags = flags; places = places_of points.entry.items; first = first; steps = steps } }
+    {
+        Graph {
+            kind,
+            numbers,
+            flags,
+            points,
+            first,
+            steps,
+        }
+    }
+
+    /// The kind of card that the script is for: SD, the one kind that scripts name.
+    pub fn kind(&self) -> Kind
+        ensures kind { result ≡ self.now.kind }
+        ensures sd { result ≡ Kind.Sd }
+    {
+        self.kind
+    }
+
+    /// How many number variables the script has.
+    pub fn nums(&self) -> usize
+        ensures { result ≡ self.now.numbers }
+    {
+        self.numbers
+    }
+
+    /// How many flags the script has.
+    pub fn flags(&self) -> usize
+        ensures { result ≡ self.now.flags }
+    {
+        self.flags
+    }
+
+    /// The number of points.
+    pub fn len(&self) -> usize
+        ensures { result ≡ length self.now.places }
+    {
+        self.points.len()
+    }
+
+    /// The point with a number below `len()`.
+    pub fn point(&self, number: usize) -> &Point<'a>
+        requires { number < length self.now.places }
+        ensures { slice_get self.now.places number ≡ Some (place_of result.now) }
+    {
+        &self.points[number]
+    }
+
+    /// Where a run begins: at point 0. Each run ends, and the loops are nested as the targets say.
+    pub fn first(&self) -> Target
+        ensures first { result ≡ self.now.first }
+        ensures sound { IsSound self.now }
+    {
+        self.first
+    }
+
+    /// No run makes more moves from point to point.
+    pub fn steps(&self) -> u128
+        ensures steps { result ≡ self.now.steps }
+        ensures ends { EachRunEnds self.now }
+        ensures sound { IsSound self.now }
+    {
+        self.steps
+    }
+}

@@ -1,0 +1,276 @@
+//! From the syntax tree of a script to the points of its graph.
+
+ghost use Rattle.std.specs.Prelude.{◌≡◌, ◌+◌, ◌-◌, ◌<◌, ◌^◌, ◌++◌, ◌∷◌, [], IfOk, OnOk, map};
+ghost use Rattle.sdv_graph.specs.Tree.{statements_of, ways_of, statement_of};
+ghost use Rattle.sdv_graph.specs.Counts.{statements_count, ways_count, statement_count};
+ghost use Rattle.sdv_graph.specs.Moves.{statements_moves};
+ghost use Rattle.sdv_graph.specs.Points.{start_of, entry, outside, again, forks, other_of, points_of_statements, points_of_ways, points_of_statement};
+ghost use Rattle.sdv_graph.specs.Graph.{fork_of, node_of, place_of, places_of, declared_names};
+ghost use Rattle.sdv_registers.specs.declared.kind.Kind.TheVariants.{Sd};
+ghost use Rattle.sdv_graph.specs.GraphOf.{CanRun, IsGraphOf};
+
+use crate::graph::{Action, Graph, Point, Target, Way};
+use crate::moves::moves;
+use crate::tree::{Block, Cases, Names, Stmt};
+use sdv_card::Kind;
+use std::alloc::{AllocError, Global};
+
+/// The graph of a script for SD cards, by the names that it declares and its statements. It is refused only for
+/// want of memory.
+pub fn graph_of<'a>(
+    alloc: Global,
+    names: &Names<'a>,
+    block: &Block<'a>,
+) -> Result<Graph<'a>, AllocError>
+    requires { CanRun (statements_of block.now) }
+    ensures { IfOk result (λ g. IsGraphOf Sd (declared_names names.now) (statements_of block.now) g) }
+{
+    let end = head_of(count(block));
+    let mut points = Vec::new(alloc);
+    put_block(alloc, &mut points, 0, block, end, end, &[])?;
+    let first = entry_of(block, 0, end);
+    let steps = moves(block);
+    let (numbers, flags) = (names.numbers.len(), names.flags.len());
+    Ok(Graph::from_points(Kind::Sd, numbers, flags, points, first, steps))
+}
+
+/// How many statements a list of statements has, those of its blocks included.
+#[cycle(count)]
+pub fn count(block: &Block<'_>) -> usize
+    requires { statements_count (statements_of block.now) < 2 ^ 64 }
+    ensures { result ≡ statements_count (statements_of block.now) }
+{
+    match block {
+        Block::Empty => 0,
+        Block::Then(stmt, rest) => count_stmt(stmt) + count(rest),
+    }
+}
+
+#[cycle(count)]
+fn count_cases(cases: &Cases<'_>) -> usize
+    requires { ways_count (ways_of cases.now) < 2 ^ 64 }
+    ensures { result ≡ ways_count (ways_of cases.now) }
+{
+    match cases {
+        Cases::Else(block) => count(block),
+        Cases::Case(_, block, rest) => count(block) + count_cases(rest),
+    }
+}
+
+#[cycle(count)]
+fn count_stmt(stmt: &Stmt<'_>) -> usize
+    requires { statement_count (statement_of stmt.now) < 2 ^ 64 }
+    ensures { result ≡ statement_count (statement_of stmt.now) }
+{
+    match stmt {
+        Stmt::Send(_, cases) => 1 + count_cases(cases),
+        Stmt::Phase(_, a, b) => 1 + (count(a) + count(b)),
+        Stmt::If(_, a, b) => 1 + (count(a) + count(b)),
+        Stmt::Loop(_, a, b) => 1 + (count(a) + count(b)),
+        _ => 1,
+    }
+}
+
+/// To the first statement of a list, which has the number `at`, or to `next` where it has none.
+pub fn entry_of(block: &Block<'_>, at: usize, next: Target) -> Target
+    ensures { result ≡ entry (statements_of block.now) at next }
+{
+    match block {
+        Block::Empty => next,
+        Block::Then(Stmt::Loop(turns, _, _), _) => Target {
+            to: at,
+            leave: 0,
+            enter: Some(*turns),
+        },
+        Block::Then(_, _) => head_of(at),
+    }
+}
+
+// To a point, with no loop left or entered.
+fn head_of(at: usize) -> Target
+    ensures { result ≡ again at }
+{
+    Target {
+        to: at,
+        leave: 0,
+        enter: None,
+    }
+}
+
+// The same place, seen from inside one more loop.
+fn outside_of(target: Target) -> Target
+    requires { target.leave + 1 < 2 ^ 64 }
+    ensures { result ≡ outside target }
+{
+    Target {
+        leave: target.leave + 1,
+        ..target
+    }
+}
+
+// The cases of a command, whose first block's first statement has the number `at`.
+fn put_ways(
+    alloc: Global,
+    ways: &mut Vec<Way>,
+    at: usize,
+    cases: &Cases<'_>,
+    next: Target,
+) -> Result<(), AllocError>
+    requires { at + ways_count (ways_of cases.now) < 2 ^ 64 }
+    ensures { OnOk result (map fork_of ways.new.items ≡ map fork_of ways.old.items ++ forks (ways_of cases.now) at next) }
+{
+    match cases {
+        Cases::Else(_) => Ok(()),
+        Cases::Case(guards, block, rest) => {
+            let way = Way {
+                guards: Vec::from_slice(alloc, guards)?,
+                target: entry_of(block, at, next),
+            };
+            ways.push(way)?;
+            put_ways(alloc, ways, at + count(block), rest, next)
+        }
+    }
+}
+
+// Where a command leads if no case is taken.
+fn other_target(at: usize, cases: &Cases<'_>, next: Target) -> Target
+    requires { at + ways_count (ways_of cases.now) < 2 ^ 64 }
+    ensures { result ≡ other_of (ways_of cases.now) at next }
+{
+    match cases {
+        Cases::Else(block) => entry_of(block, at, next),
+        Cases::Case(_, block, rest) => other_target(at + count(block), rest, next),
+    }
+}
+
+// The turns left of the loops round a statement, with those of one more loop.
+fn with_turns(alloc: Global, turns: u16, most: &[u16]) -> Result<Vec<u16>, AllocError>
+    ensures { IfOk result (λ all. all.items ≡ turns ∷ most.now) }
+{
+    let mut all = Vec::new(alloc);
+    all.push(turns)?;
+    all.extend_from_slice(most)?;
+    Ok(all)
+}
+
+fn put<'a>(
+    points: &mut Vec<Point<'a>>,
+    action: Action<'a>,
+    most_turns: Vec<u16>,
+) -> Result<(), AllocError>
+    ensures { OnOk result (places_of points.new.items ≡ places_of points.old.items ++ record { node = node_of action.entry; most = most_turns.items } ∷ []) }
+{
+    points.push(Point { action, most_turns })?;
+    Ok(())
+}
+
+/// Appends the points of a list of statements: its first statement has the number `at`, its end leads to `next`, a
+/// `break` in it to `brk`, and `most` are the most turns left of the loops round it.
+#[cycle(put)]
+pub fn put_block<'a>(
+    alloc: Global,
+    points: &mut Vec<Point<'a>>,
+    at: usize,
+    block: &Block<'a>,
+    next: Target,
+    brk: Target,
+    most: &[u16],
+) -> Result<(), AllocError>
+    requires { at + statements_count (statements_of block.now) + next.leave < 2 ^ 64 }
+    ensures { OnOk result (places_of points.new.items ≡ places_of points.old.items ++ points_of_statements (statements_of block.now) at next brk most.now) }
+{
+    match block {
+        Block::Empty => Ok(()),
+        Block::Then(stmt, rest) => {
+            let mid = at + count_stmt(stmt);
+            let after = entry_of(rest, mid, next);
+            put_stmt(alloc, points, at, stmt, after, brk, most)?;
+            put_block(alloc, points, mid, rest, next, brk, most)
+        }
+    }
+}
+
+#[cycle(put)]
+fn put_cases<'a>(
+    alloc: Global,
+    points: &mut Vec<Point<'a>>,
+    at: usize,
+    cases: &Cases<'a>,
+    next: Target,
+    brk: Target,
+    most: &[u16],
+) -> Result<(), AllocError>
+    requires { at + ways_count (ways_of cases.now) + next.leave < 2 ^ 64 }
+    ensures { OnOk result (places_of points.new.items ≡ places_of points.old.items ++ points_of_ways (ways_of cases.now) at next brk most.now) }
+{
+    match cases {
+        Cases::Else(block) => put_block(alloc, points, at, block, next, brk, most),
+        Cases::Case(_, block, rest) => {
+            put_block(alloc, points, at, block, next, brk, most)?;
+            put_cases(alloc, points, at + count(block), rest, next, brk, most)
+        }
+    }
+}
+
+#[cycle(put)]
+fn put_stmt<'a>(
+    alloc: Global,
+    points: &mut Vec<Point<'a>>,
+    at: usize,
+    stmt: &Stmt<'a>,
+    next: Target,
+    brk: Target,
+    most: &[u16],
+) -> Result<(), AllocError>
+    requires { at + statement_count (statement_of stmt.now) + next.leave < 2 ^ 64 }
+    ensures { OnOk result (places_of points.new.items ≡ places_of points.old.items ++ points_of_statement (statement_of stmt.now) at next brk most.now) }
+{
+    let here = Vec::from_slice(alloc, most)?;
+    match stmt {
+        Stmt::Send(command, cases) => {
+            let mut ways = Vec::new(alloc);
+            put_ways(alloc, &mut ways, at + 1, cases, next)?;
+            let other = other_target(at + 1, cases, next);
+            put(points, Action::Send(*command, ways, other), here)?;
+            put_cases(alloc, points, at + 1, cases, next, brk, most)
+        }
+        Stmt::Phase(phase, a, b) => {
+            let mid = at + 1 + count(a);
+            let (well, other) = (entry_of(a, at + 1, next), entry_of(b, mid, next));
+            put(points, Action::Phase(*phase, well, other), here)?;
+            put_block(alloc, points, at + 1, a, next, brk, most)?;
+            put_block(alloc, points, mid, b, next, brk, most)
+        }
+        Stmt::If(condition, a, b) => {
+            let mid = at + 1 + count(a);
+            let (holds, other) = (entry_of(a, at + 1, next), entry_of(b, mid, next));
+            put(points, Action::If(*condition, holds, other), here)?;
+            put_block(alloc, points, at + 1, a, next, brk, most)?;
+            put_block(alloc, points, mid, b, next, brk, most)
+        }
+        Stmt::Loop(turns, a, b) => {
+            let mid = at + 1 + count(a);
+            let body = entry_of(a, at + 1, head_of(at));
+            let other = outside_of(entry_of(b, mid, next));
+            let at_head = with_turns(alloc, *turns, most)?;
+            let in_body = with_turns(alloc, turns.saturating_sub(1), most)?;
+            put(points, Action::Loop(*turns, body, other), at_head)?;
+            put_block(
+                alloc,
+                points,
+                at + 1,
+                a,
+                head_of(at),
+                outside_of(next),
+                &in_body,
+            )?;
+            put_block(alloc, points, mid, b, next, brk, most)
+        }
+        Stmt::Let(setting) => put(points, Action::Let(*setting, next), here),
+        Stmt::Set(flag) => put(points, Action::Flag(*flag, true, next), here),
+        Stmt::Clear(flag) => put(points, Action::Flag(*flag, false, next), here),
+        Stmt::Break => put(points, Action::Break(brk), here),
+        Stmt::Done => put(points, Action::Done, here),
+        Stmt::Fault(name) => put(points, Action::Fault(name), here),
+    }
+}

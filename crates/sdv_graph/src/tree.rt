@@ -1,0 +1,158 @@
+//! The syntax tree of scripts.
+//!
+//! Flags and number variables are named by their places in declared order, from 0. The texts of tokens that a tree keeps
+//! are slices of the script's text.
+
+use sdv_card::{Ask, Guard};
+
+/// A list of statements: none, or a first one and the rest.
+#[derive(Drop)]
+#[cycle(tree)]
+pub enum Block<'a> {
+    /// No statement.
+    Empty,
+    /// A statement, and those after it.
+    Then(Stmt<'a>, Box<Block<'a>>),
+}
+
+/// What the answers to a command lead to: the first case whose guards all hold is taken.
+#[derive(Drop)]
+#[cycle(tree)]
+pub enum Cases<'a> {
+    /// `else`, which comes last.
+    Else(Box<Block<'a>>),
+    /// The guards of a case, one or more, its block, and the cases after it.
+    Case(Vec<Guard>, Box<Block<'a>>, Box<Cases<'a>>),
+}
+
+/// A statement.
+#[derive(Drop)]
+#[cycle(tree)]
+pub enum Stmt<'a> {
+    /// `send`: a command, and what its answers lead to.
+    Send(Command, Cases<'a>),
+    /// `recv`, `recv reg`, `give` and `wait`, with the block after `ok` and that after `else`.
+    Phase(Phase, Box<Block<'a>>, Box<Block<'a>>),
+    /// `let`: a number variable is set.
+    Let(Let),
+    /// `if`, with the block where the condition holds, and the other one.
+    If(Condition, Box<Block<'a>>, Box<Block<'a>>),
+    /// `set`: a flag is set.
+    Set(usize),
+    /// `clear`: a flag is cleared.
+    Clear(usize),
+    /// `loop`: at most so many turns of a body, 1 to 65,535, and the block after the last of them.
+    Loop(u16, Box<Block<'a>>, Box<Block<'a>>),
+    /// `break`: the innermost loop is left whose body it stands in.
+    Break,
+    /// `done`: the run ends.
+    Done,
+    /// `fault`: the run ends in the fault of this name.
+    Fault(&'a str),
+}
+
+/// A command as a script writes it.
+#[derive(Clone, Copy)]
+pub struct Command {
+    /// The index, what the argument is, and the announced count.
+    pub ask: Ask,
+    /// The address of a block, of the commands that have one.
+    pub address: Option<Address>,
+}
+
+/// An address: it counts blocks, in whatever unit it is sent.
+#[derive(Clone, Copy)]
+pub struct Address {
+    /// The unit that it is sent in.
+    pub unit: Unit,
+    /// The block.
+    pub position: Position,
+}
+
+/// The unit of the address that is sent.
+#[derive(Clone, Copy)]
+pub enum Unit {
+    /// `block`: the number of the block.
+    Block,
+    /// `byte`: 512 times the number of the block.
+    Byte,
+    /// `by`: the number of the block where the flag is set, and 512 times it otherwise.
+    By(usize),
+}
+
+/// The number of a block, up to 2^40.
+#[derive(Clone, Copy)]
+pub enum Position {
+    /// A number.
+    Number(u64),
+    /// A number variable, with what is added to it.
+    Variable(usize, Option<u64>),
+}
+
+/// What follows on the data lines, or a wait.
+#[derive(Clone, Copy)]
+pub enum Phase {
+    /// `recv`: the blocks that were announced last come from the card.
+    ReceiveBlocks,
+    /// `recv reg`: a register comes from the card.
+    ReceiveRegister,
+    /// `give`: the blocks that were announced last go to the card.
+    GiveBlocks,
+    /// `wait`: the card is busy, or not.
+    Wait,
+}
+
+/// A number variable gets a value.
+#[derive(Clone, Copy)]
+pub struct Let {
+    /// The variable.
+    pub target: usize,
+    /// Where the value comes from.
+    pub atom: Atom,
+    /// How it is changed.
+    pub change: Change,
+}
+
+/// Where a value comes from.
+#[derive(Clone, Copy)]
+pub enum Atom {
+    /// A number, up to 2^40.
+    Number(u64),
+    /// A number variable.
+    Variable(usize),
+    /// `csd.blocks`: the capacity by the last CSD.
+    CsdBlocks,
+    /// `ext.blocks`: SEC_COUNT of the last EXT_CSD.
+    ExtBlocks,
+}
+
+/// How a value is changed.
+#[derive(Clone, Copy)]
+pub enum Change {
+    /// Not at all.
+    Same,
+    /// A number up to 2^40 is added.
+    Plus(u64),
+    /// A number up to 2^40 is taken away.
+    Minus(u64),
+}
+
+/// The condition of an `if`.
+#[derive(Clone, Copy)]
+pub enum Condition {
+    /// The flag is set.
+    Flag(usize),
+    /// The number variable is at least so much.
+    AtLeast(usize, u64),
+    /// The number variable is less than that.
+    Below(usize, u64),
+}
+
+/// The names of a script, in declared order.
+#[derive(Drop)]
+pub struct Names<'a> {
+    /// The flags, at most 4.
+    pub flags: Vec<&'a str>,
+    /// The number variables, at most 8.
+    pub numbers: Vec<&'a str>,
+}

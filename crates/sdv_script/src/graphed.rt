@@ -1,0 +1,28 @@
+//! The graph of a script.
+
+ghost use Rattle.std.specs.Prelude.{◌≡◌, MatchResult};
+ghost use Rattle.sdv_registers.specs.declared.kind.Kind.TheVariants.{Sd};
+ghost use Rattle.sdv_graph.specs.GraphOf.{IsGraphOf};
+ghost use Rattle.sdv_script.specs.Refusal.{memory_fault};
+ghost use Rattle.sdv_script.specs.Shown.{shown};
+
+use crate::fault::{FaultKind, ScriptFault};
+use crate::script::Script;
+use sdv_graph::{Graph, graph_of};
+use std::alloc::Global;
+
+impl<'a> Script<'a> {
+    /// The graph of the script: its paths are the script's walks, each run over it ends, and its loops are nested. It is
+    /// refused only for want of memory.
+    pub fn graph(&self, alloc: Global) -> Result<Graph<'a>, ScriptFault>
+        ensures { MatchResult result (λ g. IsGraphOf Sd (shown self.now).names (shown self.now).body g) (λ f. f ≡ memory_fault) }
+    {
+        match graph_of(alloc, &self.names, &self.body) {
+            Ok(graph) => Ok(graph),
+            Err(_) => Err(ScriptFault {
+                kind: FaultKind::Memory,
+                line: 0,
+            }),
+        }
+    }
+}
