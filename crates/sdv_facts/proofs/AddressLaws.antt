@@ -8,16 +8,16 @@ use Rattle.sdv_card.specs.Lists.{May}
 use Rattle.sdv_card.specs.Card.{Card}
 use Rattle.sdv_card.specs.Host.{Host}
 use Rattle.sdv_card.specs.Shapes.{pair_code, IsPair}
-use Rattle.sdv_script.specs.declared.tree.Address.{Address}
-use Rattle.sdv_script.specs.declared.tree.Unit.{Unit as AddressUnit}
-use Rattle.sdv_script.specs.declared.tree.Unit.TheVariants.{Block, Byte, By}
-use Rattle.sdv_script.specs.declared.tree.Position.{Position}
-use Rattle.sdv_script.specs.declared.tree.Position.TheVariants.{Number, Variable}
+use Rattle.sdv_graph.specs.declared.tree.Address.{Address}
+use Rattle.sdv_graph.specs.declared.tree.Unit.{Unit as AddressUnit}
+use Rattle.sdv_graph.specs.declared.tree.Unit.TheVariants.{Block, Byte, By}
+use Rattle.sdv_graph.specs.declared.tree.Position.{Position}
+use Rattle.sdv_graph.specs.declared.tree.Position.TheVariants.{Number, Variable}
 use Rattle.sdv_facts.specs.declared.numbers.Numbers.{Numbers}
 use Rattle.sdv_facts.specs.Known.{Known, var}
 use Rattle.sdv_facts.specs.FactsHold.{GapHolds, NumbersHold}
-use Rattle.sdv_script.specs.ValueOfLet.{number}
-use Rattle.sdv_script.specs.AddressSent.{position_of, sends_block}
+use Rattle.sdv_graph.specs.ValueOfLet.{number}
+use Rattle.sdv_graph.specs.AddressSent.{position_of, sends_block}
 use Rattle.sdv_facts.specs.AfterLet.{has_block_unit}
 use Rattle.sdv_facts.specs.AddressFits.{has_flag, unit_fits, gap_allows, variable_fits, position_fits, address_fits}
 use Rattle.sdv_facts.specs.Keeps.{IsOnCard}

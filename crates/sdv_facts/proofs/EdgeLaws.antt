@@ -7,11 +7,11 @@ use Rattle.sdv_card.specs.declared.event.Event.TheVariants.{Send}
 use Rattle.sdv_card.specs.declared.event.Seen.{Seen}
 use Rattle.sdv_card.specs.declared.shape.Shape.{Shape}
 use Rattle.sdv_card.specs.Lists.{May}
-use Rattle.sdv_script.specs.declared.graph.Target.{Target}
-use Rattle.sdv_script.specs.declared.tree.Condition.{Condition}
-use Rattle.sdv_script.specs.declared.tree.Condition.TheVariants as conditions
-use Rattle.sdv_script.specs.Nested.{Pass, Same, EachFork, EachTarget, Lands}
-use Rattle.sdv_script.specs.Path.{Fork, Node, sends, phases, lets, tests, flags, heads, jumps, stops, Place}
+use Rattle.sdv_graph.specs.declared.graph.Target.{Target}
+use Rattle.sdv_graph.specs.declared.tree.Condition.{Condition}
+use Rattle.sdv_graph.specs.declared.tree.Condition.TheVariants as conditions
+use Rattle.sdv_graph.specs.Nested.{Pass, Same, EachFork, EachTarget, Lands}
+use Rattle.sdv_graph.specs.Path.{Fork, Node, sends, phases, lets, tests, flags, heads, jumps, stops, Place}
 use Rattle.sdv_facts.specs.declared.certificate.PointFacts.{PointFacts}
 use Rattle.sdv_facts.specs.declared.numbers.Numbers.{Numbers}
 use Rattle.sdv_facts.specs.declared.test.Test.{Test}

@@ -7,8 +7,8 @@ use Rattle.sdv_card.specs.Card.{Card}
 use Rattle.sdv_card.specs.Code.{code_of}
 use Rattle.sdv_card.specs.Host.{Host}
 use Rattle.sdv_card.specs.Shapes.{view, pair_code, IsPair}
-use Rattle.sdv_script.specs.AddressSent.{is_flag_set}
-use Rattle.sdv_script.specs.Conditions.{put_bit, with_flag}
+use Rattle.sdv_graph.specs.AddressSent.{is_flag_set}
+use Rattle.sdv_graph.specs.Conditions.{put_bit, with_flag}
 use Rattle.sdv_facts.specs.Edges.{with_flag_shown}
 use Rattle.sdv_facts.proofs.UnitLaws.{flag_shown}
 

@@ -1,9 +1,9 @@
 -- What a closed certificate says of every step and of every run of a script.
-use Rattle.sdv_script.specs.Graph.{Flow, begin, HasWalks}
-use Rattle.sdv_script.specs.GraphOf.{IsSound}
-use Rattle.sdv_script.specs.Path.{Path}
-use Rattle.sdv_script.specs.Tree.{Statements, Declared}
-use Rattle.sdv_script.specs.Walk.{Pair, Ending, Walk}
+use Rattle.sdv_graph.specs.Graph.{Flow, begin, HasWalks}
+use Rattle.sdv_graph.specs.GraphOf.{IsSound}
+use Rattle.sdv_graph.specs.Path.{Path}
+use Rattle.sdv_graph.specs.Tree.{Statements, Declared}
+use Rattle.sdv_graph.specs.Walk.{Pair, Ending, Walk}
 use Rattle.sdv_card.specs.Card.{Card}
 use Rattle.sdv_card.specs.Profile.{IsAtStart}
 use Rattle.sdv_facts.specs.declared.certificate.PointFacts.{PointFacts}

@@ -12,16 +12,16 @@ use Rattle.sdv_card.specs.Card.{Card}
 use Rattle.sdv_card.specs.Host.{Host}
 use Rattle.sdv_card.specs.Profile.{told_blocks}
 use Rattle.sdv_card.specs.Shapes.{pair_code}
-use Rattle.sdv_script.specs.declared.tree.Let.{Let}
-use Rattle.sdv_script.specs.declared.tree.Atom.{Atom}
-use Rattle.sdv_script.specs.declared.tree.Atom.TheVariants.{Number, Variable, CsdBlocks, ExtBlocks}
-use Rattle.sdv_script.specs.declared.tree.Change.{Change}
-use Rattle.sdv_script.specs.declared.tree.Change.TheVariants.{Same, Plus, Minus}
-use Rattle.sdv_script.specs.Rules.{max_number}
+use Rattle.sdv_graph.specs.declared.tree.Let.{Let}
+use Rattle.sdv_graph.specs.declared.tree.Atom.{Atom}
+use Rattle.sdv_graph.specs.declared.tree.Atom.TheVariants.{Number, Variable, CsdBlocks, ExtBlocks}
+use Rattle.sdv_graph.specs.declared.tree.Change.{Change}
+use Rattle.sdv_graph.specs.declared.tree.Change.TheVariants.{Same, Plus, Minus}
+use Rattle.sdv_graph.specs.Counts.{max_number}
 use Rattle.sdv_facts.specs.declared.numbers.VarFacts.{VarFacts}
 use Rattle.sdv_facts.specs.Known.{Known, var, with_var}
 use Rattle.sdv_facts.specs.FactsHold.{VarHolds, FactsHold, Carries}
-use Rattle.sdv_script.specs.ValueOfLet.{number, with_number, value_of_atom, in_range, changed}
+use Rattle.sdv_graph.specs.ValueOfLet.{number, with_number, value_of_atom, in_range, changed}
 use Rattle.sdv_facts.specs.Gaps.{gap_less, gap_more}
 use Rattle.sdv_facts.specs.AfterLet.{has_block_unit, all_block_unit, all_byte_unit, csd_tells, ext_csd_tells, register_facts, atom_facts, changed_facts, after_let}
 use Rattle.sdv_facts.specs.Keeps.{MayStandIn, IsHonest, KeptByLet}

@@ -13,14 +13,14 @@ use Rattle.sdv_card.specs.Profile.{IsAtStart, host_at_start}
 use Rattle.sdv_card.specs.ScriptEvent.{ScriptEvent, SendCommand, ReceiveBlocks, ReceiveRegister, GiveBlocks, AwaitReady, Return, Answered, BlocksIn, RegisterIn, BlocksOut, Waited, MayReturn}
 use Rattle.sdv_card.specs.Shapes.{pair_code}
 use Rattle.sdv_card.specs.Step.{Step}
-use Rattle.sdv_script.specs.Graph.{Flow, begin, WhereverTo, Lasts, EachRunEnds, HasWalks}
-use Rattle.sdv_script.specs.Nested.{Nested}
-use Rattle.sdv_script.specs.declared.graph.Target.{Target}
-use Rattle.sdv_script.specs.AddressSent.{address_of_command}
-use Rattle.sdv_script.specs.ValueOfLet.{value_of_let, with_number}
-use Rattle.sdv_script.specs.Path.{Node, sends, phases, lets, tests, flags, heads, jumps, stops, Stand, arrive, turns_at, way_of, Move, Goes, Does, Halts, move_with, move_at_head, node_move, move, move_from, Follows, PathWithin, Path}
-use Rattle.sdv_script.specs.Tree.{Statements, Declared}
-use Rattle.sdv_script.specs.Walk.{Pair, Ending, Fell, Broke, Finished, Failed, Open, Stops, Deed, exactly, giving, IsDeed, command_deed, Walk}
+use Rattle.sdv_graph.specs.Graph.{Flow, begin, WhereverTo, Lasts, EachRunEnds, HasWalks}
+use Rattle.sdv_graph.specs.Nested.{Nested}
+use Rattle.sdv_graph.specs.declared.graph.Target.{Target}
+use Rattle.sdv_graph.specs.AddressSent.{address_of_command}
+use Rattle.sdv_graph.specs.ValueOfLet.{value_of_let, with_number}
+use Rattle.sdv_graph.specs.Path.{Node, sends, phases, lets, tests, flags, heads, jumps, stops, Stand, arrive, turns_at, way_of, Move, Goes, Does, Halts, move_with, move_at_head, node_move, move, move_from, Follows, PathWithin, Path}
+use Rattle.sdv_graph.specs.Tree.{Statements, Declared}
+use Rattle.sdv_graph.specs.Walk.{Pair, Ending, Fell, Broke, Finished, Failed, Open, Stops, Deed, exactly, giving, IsDeed, command_deed, Walk}
 use Rattle.sdv_facts.specs.declared.certificate.PointFacts.{PointFacts}
 use Rattle.sdv_facts.specs.Beside.{StepsOf, commands_in, commands, Walks, IsOver, EndsWell, IsGood, RunsWell}
 use Rattle.sdv_facts.specs.Bounds.{bound, bound_at, bound_of}

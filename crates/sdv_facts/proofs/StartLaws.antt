@@ -5,7 +5,7 @@ use Rattle.std.proofs.lemmas.List.{get_or-replicate, get_or_past, length-replica
 use Rattle.sdv_card.specs.Profile.{host_at_start}
 use Rattle.sdv_facts.specs.Known.{weakest, var}
 use Rattle.sdv_facts.specs.FactsHold.{VarHolds}
-use Rattle.sdv_script.specs.ValueOfLet.{number}
+use Rattle.sdv_graph.specs.ValueOfLet.{number}
 use Rattle.sdv_facts.specs.Start.{start_var, start_numbers, HoldAtStart}
 
 is_zero : (n x : ℕ) → number (host_at_start n) x ≡ 0

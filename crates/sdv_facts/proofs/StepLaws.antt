@@ -39,22 +39,22 @@ use Rattle.sdv_card.specs.Step.{Step}
 use Rattle.sdv_card.specs.Taken.{SameCard}
 use Rattle.sdv_card.proofs.Digits.{digits_law}
 use Rattle.sdv_card.proofs.TableLaws.{legal_is_exact, has_step, steps_are_outcomes, steps_are_expected, steps_keep_pairs, steps_keep_same, steps_keep_sound, steps_keep_on_card, asks_address, starts_hold, verdicts_hold}
-use Rattle.sdv_script.specs.declared.graph.Target.{Target}
-use Rattle.sdv_script.specs.declared.tree.Address.{Address}
-use Rattle.sdv_script.specs.declared.tree.Command.{Command}
-use Rattle.sdv_script.specs.declared.tree.Condition.{Condition}
-use Rattle.sdv_script.specs.declared.tree.Condition.TheVariants as conditions
-use Rattle.sdv_script.specs.declared.tree.Let.{Let}
-use Rattle.sdv_script.specs.declared.tree.Phase.{Phase}
-use Rattle.sdv_script.specs.declared.tree.Phase.TheVariants as kinds
-use Rattle.sdv_script.specs.AddressSent.{address_of_command, address_sent, position_of, is_flag_set}
-use Rattle.sdv_script.specs.Conditions.{condition_holds, with_flag}
-use Rattle.sdv_script.specs.Graph.{Flow}
-use Rattle.sdv_script.specs.Nested.{Pass, Same, Again, Over, InBox, Turned, Nested}
-use Rattle.sdv_script.specs.Path.{Fork, Node, sends, phases, lets, tests, flags, heads, jumps, stops, Place, arrive, way_of, Goes, Does, move_with, move_at_head, node_move, move}
-use Rattle.sdv_script.specs.Rules.{max_number}
-use Rattle.sdv_script.specs.ValueOfLet.{value_of_let, with_number, number}
-use Rattle.sdv_script.specs.Walk.{command_deed, phase_deed, Fell, Broke, Finished, Failed, Open, Ending}
+use Rattle.sdv_graph.specs.declared.graph.Target.{Target}
+use Rattle.sdv_graph.specs.declared.tree.Address.{Address}
+use Rattle.sdv_graph.specs.declared.tree.Command.{Command}
+use Rattle.sdv_graph.specs.declared.tree.Condition.{Condition}
+use Rattle.sdv_graph.specs.declared.tree.Condition.TheVariants as conditions
+use Rattle.sdv_graph.specs.declared.tree.Let.{Let}
+use Rattle.sdv_graph.specs.declared.tree.Phase.{Phase}
+use Rattle.sdv_graph.specs.declared.tree.Phase.TheVariants as kinds
+use Rattle.sdv_graph.specs.AddressSent.{address_of_command, address_sent, position_of, is_flag_set}
+use Rattle.sdv_graph.specs.Conditions.{condition_holds, with_flag}
+use Rattle.sdv_graph.specs.Graph.{Flow}
+use Rattle.sdv_graph.specs.Nested.{Pass, Same, Again, Over, InBox, Turned, Nested}
+use Rattle.sdv_graph.specs.Path.{Fork, Node, sends, phases, lets, tests, flags, heads, jumps, stops, Place, arrive, way_of, Goes, Does, move_with, move_at_head, node_move, move}
+use Rattle.sdv_graph.specs.Counts.{max_number}
+use Rattle.sdv_graph.specs.ValueOfLet.{value_of_let, with_number, number}
+use Rattle.sdv_graph.specs.Walk.{command_deed, phase_deed, Fell, Broke, Finished, Failed, Open, Ending}
 use Rattle.sdv_facts.specs.declared.certificate.PointFacts.{PointFacts}
 use Rattle.sdv_facts.specs.declared.numbers.Numbers.{Numbers}
 use Rattle.sdv_facts.specs.declared.test.Test.{Test}

@@ -8,16 +8,16 @@ use Rattle.sdv_card.specs.declared.event.Ask.{Ask}
 use Rattle.sdv_card.specs.declared.guard.Guard.{Guard}
 use Rattle.sdv_card.specs.CommandTable.{order_of}
 use Rattle.sdv_card.specs.Laws.{fits_order}
-use Rattle.sdv_script.specs.declared.tree.Atom.{Atom}
-use Rattle.sdv_script.specs.declared.tree.Atom.TheVariants as atoms
-use Rattle.sdv_script.specs.Commands.{guard_suits}
-use Rattle.sdv_script.specs.Commands as commands
-use Rattle.sdv_script.specs.Graph.{Flow}
-use Rattle.sdv_script.specs.GraphOf.{IsSound}
-use Rattle.sdv_script.specs.Limits.{node_keeps_limits, keeps_limits, all_keep_limits}
-use Rattle.sdv_script.specs.Path.{Fork, Node, Place, sends, phases, lets, tests, flags, heads, jumps, stops}
-use Rattle.sdv_script.specs.Rules.{max_flags}
-use Rattle.sdv_script.specs.Suits.{guards_suit, forks_suit, atom_suits, node_suits, all_suit}
+use Rattle.sdv_graph.specs.declared.tree.Atom.{Atom}
+use Rattle.sdv_graph.specs.declared.tree.Atom.TheVariants as atoms
+use Rattle.sdv_graph.specs.GuardSuits.{guard_suits}
+use Rattle.sdv_graph.specs.GuardSuits as commands
+use Rattle.sdv_graph.specs.Graph.{Flow}
+use Rattle.sdv_graph.specs.GraphOf.{IsSound}
+use Rattle.sdv_graph.specs.Limits.{node_keeps_limits, keeps_limits, all_keep_limits}
+use Rattle.sdv_graph.specs.Path.{Fork, Node, Place, sends, phases, lets, tests, flags, heads, jumps, stops}
+use Rattle.sdv_graph.specs.Counts.{max_flags}
+use Rattle.sdv_graph.specs.Suits.{guards_suit, forks_suit, atom_suits, node_suits, all_suit}
 use Rattle.sdv_facts.specs.Keeps.{MayStandIn}
 use Rattle.sdv_facts.specs.Stands.{GuardsSuit, ForksSuit, NodeSuits, EachNodeSuits}
 use Rattle.sdv_facts.proofs.UnitLaws.{both}

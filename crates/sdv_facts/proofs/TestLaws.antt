@@ -10,7 +10,7 @@ use Rattle.sdv_facts.specs.declared.test.Test.{Test}
 use Rattle.sdv_facts.specs.declared.test.Test.TheVariants.{AtLeast, Below}
 use Rattle.sdv_facts.specs.Known.{Known, weakest, var, with_var}
 use Rattle.sdv_facts.specs.FactsHold.{GapHolds, VarHolds, NumbersHold, FactsHold, Carries}
-use Rattle.sdv_script.specs.ValueOfLet.{number}
+use Rattle.sdv_graph.specs.ValueOfLet.{number}
 use Rattle.sdv_facts.specs.AfterTest.{least_by, raised, lowered, after_test}
 use Rattle.sdv_facts.specs.Covers.{VarCovers, Covers}
 use Rattle.sdv_facts.specs.Keeps.{KeptByTest, HoldsAtTarget}

@@ -8,7 +8,7 @@ use Rattle.sdv_card.specs.Code.{digits}
 use Rattle.sdv_card.specs.Shapes.{view, pair_code, IsPair}
 use Rattle.sdv_card.proofs.Digits.{digits_law}
 use Rattle.sdv_facts.specs.AfterLet.{has_block_unit}
-use Rattle.sdv_script.specs.AddressSent.{is_flag_set}
+use Rattle.sdv_graph.specs.AddressSent.{is_flag_set}
 use Rattle.sdv_facts.specs.AddressFits.{has_flag}
 
 pub both : (a b : Bool) → a && b ≡ true → (a ≡ true) × (b ≡ true)

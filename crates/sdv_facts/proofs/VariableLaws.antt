@@ -8,7 +8,7 @@ use Rattle.sdv_card.specs.Host.{Host}
 use Rattle.sdv_facts.specs.declared.numbers.VarFacts.{VarFacts}
 use Rattle.sdv_facts.specs.declared.numbers.Numbers.{Numbers}
 use Rattle.sdv_facts.specs.Known.{weakest, with_var}
-use Rattle.sdv_script.specs.ValueOfLet.{number, with_number}
+use Rattle.sdv_graph.specs.ValueOfLet.{number, with_number}
 use Rattle.sdv_facts.specs.FactsHold.{VarHolds, NumbersHold}
 
 set_same : (vars : List VarFacts) (xs : List ℕ) (x capacity n : ℕ) (v : VarFacts) → length vars ≡ length xs → VarHolds capacity v n →

@@ -7,9 +7,9 @@ use Rattle.sdv_card.specs.Guards.{passes, verdict, may_hold, may_fail}
 use Rattle.sdv_card.specs.Laws.{VerdictHolds}
 use Rattle.sdv_card.specs.ScriptEvent.{Return}
 use Rattle.sdv_card.specs.Seen.{seen_of}
-use Rattle.sdv_script.specs.declared.graph.Target.{Target}
-use Rattle.sdv_script.specs.Path.{Fork, way_of}
-use Rattle.sdv_script.specs.Walk.{all_pass}
+use Rattle.sdv_graph.specs.declared.graph.Target.{Target}
+use Rattle.sdv_graph.specs.Path.{Fork, way_of}
+use Rattle.sdv_graph.specs.Walk.{all_pass}
 use Rattle.sdv_facts.specs.Edges.{all_may_hold, one_may_fail, EachWay}
 
 either : (b : Bool) (t u : Target) (P : Target → Type 0) → (b ≡ true → P t) → (b ≡ false → P u) → P (if b then t else u)

@@ -5,15 +5,15 @@ use mathlib.Core.Bool.{beq}
 use Rattle.sdv_card.specs.declared.shape.Shape.{Shape}
 use Rattle.sdv_card.specs.Code.{digits}
 use Rattle.sdv_card.specs.Lists.{all}
-use Rattle.sdv_script.specs.declared.tree.Address.{Address}
-use Rattle.sdv_script.specs.declared.tree.Unit.{Unit as AddressUnit}
-use Rattle.sdv_script.specs.declared.tree.Unit.TheVariants.{Block, Byte, By}
-use Rattle.sdv_script.specs.declared.tree.Position.{Position}
-use Rattle.sdv_script.specs.declared.tree.Position.TheVariants.{Number, Variable}
+use Rattle.sdv_graph.specs.declared.tree.Address.{Address}
+use Rattle.sdv_graph.specs.declared.tree.Unit.{Unit as AddressUnit}
+use Rattle.sdv_graph.specs.declared.tree.Unit.TheVariants.{Block, Byte, By}
+use Rattle.sdv_graph.specs.declared.tree.Position.{Position}
+use Rattle.sdv_graph.specs.declared.tree.Position.TheVariants.{Number, Variable}
 use Rattle.sdv_facts.specs.declared.numbers.Numbers.{Numbers}
 use Rattle.sdv_facts.specs.Known.{Known, var}
 use Rattle.sdv_facts.specs.AfterLet.{has_block_unit, all_block_unit, all_byte_unit}
-use Rattle.sdv_script.specs.AddressSent.{is_flag_set}
+use Rattle.sdv_graph.specs.AddressSent.{is_flag_set}
 
 -- the shape has the flag in this place set
 abbrev pub has_flag : Shape → ℕ → Bool

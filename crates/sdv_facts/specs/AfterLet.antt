@@ -7,12 +7,12 @@ use Rattle.sdv_registers.specs.declared.kind.Kind.TheVariants.{Sd, Emmc}
 use Rattle.sdv_card.specs.declared.shape.Shape.{Shape}
 use Rattle.sdv_card.specs.Code.{digits}
 use Rattle.sdv_card.specs.Lists.{all}
-use Rattle.sdv_script.specs.declared.tree.Let.{Let}
-use Rattle.sdv_script.specs.declared.tree.Atom.{Atom}
-use Rattle.sdv_script.specs.declared.tree.Atom.TheVariants.{Number, Variable, CsdBlocks, ExtBlocks}
-use Rattle.sdv_script.specs.declared.tree.Change.{Change}
-use Rattle.sdv_script.specs.declared.tree.Change.TheVariants.{Same, Plus, Minus}
-use Rattle.sdv_script.specs.Rules.{max_number}
+use Rattle.sdv_graph.specs.declared.tree.Let.{Let}
+use Rattle.sdv_graph.specs.declared.tree.Atom.{Atom}
+use Rattle.sdv_graph.specs.declared.tree.Atom.TheVariants.{Number, Variable, CsdBlocks, ExtBlocks}
+use Rattle.sdv_graph.specs.declared.tree.Change.{Change}
+use Rattle.sdv_graph.specs.declared.tree.Change.TheVariants.{Same, Plus, Minus}
+use Rattle.sdv_graph.specs.Counts.{max_number}
 use Rattle.sdv_facts.specs.declared.numbers.VarFacts.{VarFacts}
 use Rattle.sdv_facts.specs.declared.numbers.Numbers.{Numbers}
 use Rattle.sdv_facts.specs.Known.{Known, var, with_var}

@@ -2,13 +2,13 @@
 -- Comparisons are this project's own.
 use Rattle.std.specs.Prelude.{◌+◌, ◌-◌, ◌≤◌, ◌<◌, ℕ, nat_le, nat_lt, min, max, Option, Some, None, if◌then◌else◌}
 use Rattle.sdv_card.specs.Host.{Host}
-use Rattle.sdv_script.specs.Rules.{max_number}
+use Rattle.sdv_graph.specs.Counts.{max_number}
 use Rattle.sdv_facts.specs.declared.numbers.VarFacts.{VarFacts}
 use Rattle.sdv_facts.specs.declared.numbers.Numbers.{Numbers}
 use Rattle.sdv_facts.specs.declared.test.Test.{Test}
 use Rattle.sdv_facts.specs.declared.test.Test.TheVariants.{AtLeast, Below}
 use Rattle.sdv_facts.specs.Known.{var, with_var}
-use Rattle.sdv_script.specs.ValueOfLet.{number}
+use Rattle.sdv_graph.specs.ValueOfLet.{number}
 
 -- the comparison holds of a host
 abbrev pub TestHolds : Test → Host → Type 0

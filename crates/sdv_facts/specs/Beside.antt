@@ -8,7 +8,7 @@ use Rattle.sdv_card.specs.Legal.{EventLegal, InBounds}
 use Rattle.sdv_card.specs.Profile.{IsAtStart}
 use Rattle.sdv_card.specs.ScriptEvent.{ScriptEvent, SendCommand, Return}
 use Rattle.sdv_card.specs.Step.{Step}
-use Rattle.sdv_script.specs.Walk.{Pair, Ending, Finished, Failed, Open}
+use Rattle.sdv_graph.specs.Walk.{Pair, Ending, Finished, Failed, Open}
 
 -- the events with what they returned are, in order, steps of one card
 abbrev pub StepsOf : Card → List Pair → (last : Card) → Type 0

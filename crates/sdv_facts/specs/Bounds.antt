@@ -1,10 +1,10 @@
 -- How many commands a certificate allows from a point on, by the turns left of the loops round it.
 -- Bounds are this project's own.
 use Rattle.std.specs.Prelude.{◌+◌, ◌*◌, ◌≤◌, ℕ, List, [], ◌∷◌, reverse, slice_get, Option, Some, None}
-use Rattle.sdv_script.specs.declared.graph.Target.{Target}
-use Rattle.sdv_script.specs.Graph.{Flow}
-use Rattle.sdv_script.specs.Nested.{Pass, InBox, Turned}
-use Rattle.sdv_script.specs.Path.{Node, sends, turns_at}
+use Rattle.sdv_graph.specs.declared.graph.Target.{Target}
+use Rattle.sdv_graph.specs.Graph.{Flow}
+use Rattle.sdv_graph.specs.Nested.{Pass, InBox, Turned}
+use Rattle.sdv_graph.specs.Path.{Node, sends, turns_at}
 use Rattle.sdv_facts.specs.declared.certificate.PointFacts.{PointFacts}
 
 -- so many for each turn left, the innermost loop first

@@ -9,10 +9,10 @@ use Rattle.sdv_card.specs.CommandTable.{addressed_blocks}
 use Rattle.sdv_card.specs.LegalShapes.{legal_code}
 use Rattle.sdv_card.specs.Lists.{May}
 use Rattle.sdv_card.specs.Shapes.{start_codes}
-use Rattle.sdv_script.specs.declared.tree.Address.{Address}
-use Rattle.sdv_script.specs.Graph.{Flow}
-use Rattle.sdv_script.specs.Path.{Node, Place, sends, phases, stops}
-use Rattle.sdv_script.specs.Walk.{Finished}
+use Rattle.sdv_graph.specs.declared.tree.Address.{Address}
+use Rattle.sdv_graph.specs.Graph.{Flow}
+use Rattle.sdv_graph.specs.Path.{Node, Place, sends, phases, stops}
+use Rattle.sdv_graph.specs.Walk.{Finished}
 use Rattle.sdv_facts.specs.declared.certificate.PointFacts.{PointFacts}
 use Rattle.sdv_facts.specs.declared.clause.Clause.{Clause}
 use Rattle.sdv_facts.specs.declared.clause.Clause.TheVariants.{Illegal, Address as AddressOff, Shape as ShapeMissing, Number, Bound, EndState}

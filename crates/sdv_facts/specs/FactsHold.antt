@@ -8,7 +8,7 @@ use Rattle.sdv_card.specs.Shapes.{pair_code}
 use Rattle.sdv_facts.specs.declared.numbers.VarFacts.{VarFacts}
 use Rattle.sdv_facts.specs.declared.numbers.Numbers.{Numbers}
 use Rattle.sdv_facts.specs.Known.{Known, var}
-use Rattle.sdv_script.specs.ValueOfLet.{number}
+use Rattle.sdv_graph.specs.ValueOfLet.{number}
 
 -- the card has so many blocks from x on, if that is known
 abbrev pub GapHolds : Option ℕ → ℕ → ℕ → Type 0

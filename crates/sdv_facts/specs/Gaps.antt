@@ -1,7 +1,7 @@
 -- How the blocks that a card has from a number on change with the number.
 -- Bounds are this project's own.
 use Rattle.std.specs.Prelude.{◌+◌, ◌-◌, ℕ, nat_le, min, Option, Some, None, if◌then◌else◌}
-use Rattle.sdv_script.specs.Rules.{max_number}
+use Rattle.sdv_graph.specs.Counts.{max_number}
 
 -- the number is greater by k: the blocks are fewer, and with fewer than k nothing is known
 abbrev pub gap_less : Option ℕ → ℕ → Option ℕ

@@ -10,16 +10,16 @@ use Rattle.sdv_card.specs.Laws.{Sound}
 use Rattle.sdv_card.specs.Legal.{Within}
 use Rattle.sdv_card.specs.Profile.{IsOfProfile}
 use Rattle.sdv_card.specs.Shapes.{IsPair}
-use Rattle.sdv_script.specs.declared.tree.Address.{Address}
-use Rattle.sdv_script.specs.declared.tree.Let.{Let}
-use Rattle.sdv_script.specs.declared.tree.Atom.{Atom}
-use Rattle.sdv_script.specs.declared.tree.Atom.TheVariants.{ExtBlocks}
+use Rattle.sdv_graph.specs.declared.tree.Address.{Address}
+use Rattle.sdv_graph.specs.declared.tree.Let.{Let}
+use Rattle.sdv_graph.specs.declared.tree.Atom.{Atom}
+use Rattle.sdv_graph.specs.declared.tree.Atom.TheVariants.{ExtBlocks}
 use Rattle.sdv_facts.specs.declared.numbers.Numbers.{Numbers}
 use Rattle.sdv_facts.specs.declared.test.Test.{Test}
 use Rattle.sdv_facts.specs.Known.{Known}
 use Rattle.sdv_facts.specs.FactsHold.{NumbersHold, FactsHold, Carries}
-use Rattle.sdv_script.specs.ValueOfLet.{value_of_let, with_number}
-use Rattle.sdv_script.specs.AddressSent.{address_sent}
+use Rattle.sdv_graph.specs.ValueOfLet.{value_of_let, with_number}
+use Rattle.sdv_graph.specs.AddressSent.{address_sent}
 use Rattle.sdv_facts.specs.AfterTest.{TestHolds}
 
 -- a script for an SD card has no `ext.blocks`

@@ -3,7 +3,7 @@
 use Rattle.std.specs.Prelude.{◌<◌, ℕ, List, slice_index_or, AllPairs, None}
 use Rattle.arrayvec.specs.ArrayVec.{with_item}
 use Rattle.sdv_card.specs.declared.shape.Shape.{Shape}
-use Rattle.sdv_script.specs.Rules.{max_number}
+use Rattle.sdv_graph.specs.Counts.{max_number}
 use Rattle.sdv_facts.specs.declared.numbers.VarFacts.{VarFacts}
 use Rattle.sdv_facts.specs.declared.numbers.Numbers.{Numbers}
 

@@ -1,9 +1,9 @@
 -- Which numbers a certificate can say: none is above the greatest number of a script.
 -- The limit is this project's own.
 use Rattle.std.specs.Prelude.{◌≤◌, ℕ, All, IfSome}
-use Rattle.sdv_script.specs.declared.tree.Atom.{Atom}
-use Rattle.sdv_script.specs.declared.tree.Atom.TheVariants.{Number}
-use Rattle.sdv_script.specs.Rules.{max_number}
+use Rattle.sdv_graph.specs.declared.tree.Atom.{Atom}
+use Rattle.sdv_graph.specs.declared.tree.Atom.TheVariants.{Number}
+use Rattle.sdv_graph.specs.Counts.{max_number}
 use Rattle.sdv_facts.specs.declared.numbers.VarFacts.{VarFacts}
 use Rattle.sdv_facts.specs.declared.numbers.Numbers.{Numbers}
 use Rattle.sdv_facts.specs.declared.certificate.PointFacts.{PointFacts}

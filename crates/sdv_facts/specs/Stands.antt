@@ -12,10 +12,10 @@ use Rattle.sdv_card.specs.Legal.{TransferOnCard}
 use Rattle.sdv_card.specs.Port.{IsFine}
 use Rattle.sdv_card.specs.ScriptEvent.{ScriptEvent, Return}
 use Rattle.sdv_card.specs.Step.{Step}
-use Rattle.sdv_script.specs.Graph.{Flow}
-use Rattle.sdv_script.specs.Nested.{InBox}
-use Rattle.sdv_script.specs.Path.{Fork, Node, sends, lets, flags, Place, Stand, Move, Goes, Does, Halts, move_from}
-use Rattle.sdv_script.specs.Walk.{Pair, Ending, Finished, IsDeed}
+use Rattle.sdv_graph.specs.Graph.{Flow}
+use Rattle.sdv_graph.specs.Nested.{InBox}
+use Rattle.sdv_graph.specs.Path.{Fork, Node, sends, lets, flags, Place, Stand, Move, Goes, Does, Halts, move_from}
+use Rattle.sdv_graph.specs.Walk.{Pair, Ending, Finished, IsDeed}
 use Rattle.sdv_facts.specs.declared.certificate.PointFacts.{PointFacts}
 use Rattle.sdv_facts.specs.Beside.{StepsOf, commands_in}
 use Rattle.sdv_facts.specs.Bounds.{bound}

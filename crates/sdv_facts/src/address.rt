@@ -5,7 +5,7 @@ ghost use Rattle.sdv_facts.specs.Keeps.{IsOnCard};
 use crate::facts::Facts;
 use crate::numbers::Numbers;
 use crate::units::fits;
-use sdv_script::{Address, Position};
+use sdv_graph::{Address, Position};
 
 /// From a number on there are `count` blocks from `k` on, where `gap` are known of.
 fn allows(gap: Option<u64>, k: u64, count: u64) -> bool

@@ -8,7 +8,7 @@ use crate::gap::{less, more};
 use crate::numbers::{MAX_NUMBER, Numbers, VarFacts};
 use crate::units::{all_block, all_byte};
 use sdv_card::Kind;
-use sdv_script::{Atom, Change, Let};
+use sdv_graph::{Atom, Change, Let};
 
 /// The value of a register, which tells the capacity or not: the capacity is at least `m` blocks.
 fn register_facts(tells: bool, m: u64) -> VarFacts

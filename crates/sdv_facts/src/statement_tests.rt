@@ -5,7 +5,7 @@ use crate::{
 };
 use arrayvec::ArrayVec;
 use sdv_card::{Aim, Ask, Event, Guard, Seen, Shape, State};
-use sdv_script::{Action, Address, Command, Phase, Position, Target, Unit};
+use sdv_graph::{Action, Address, Command, Phase, Position, Target, Unit};
 use std::test::Fail;
 
 /// A block-addressed card in transfer state.

@@ -8,7 +8,7 @@ use crate::{
 };
 use arrayvec::ArrayVec;
 use sdv_card::{Kind, Shape};
-use sdv_script::{Address, Atom, Change, Let, Position, Unit};
+use sdv_graph::{Address, Atom, Change, Let, Position, Unit};
 use std::alloc::{AllocError, Global};
 use std::test::Fail;
 

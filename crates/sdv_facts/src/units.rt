@@ -8,7 +8,7 @@ ghost use Rattle.sdv_facts.specs.AddressFits.{has_flag, unit_fits};
 ghost use Rattle.sdv_facts.specs.Edges.{with_flag_shown};
 
 use sdv_card::Shape;
-use sdv_script::Unit;
+use sdv_graph::Unit;
 
 /// The card has block addresses.
 #[tactic(auto, unfolding(sdv_card::specs::Code::digits))]

@@ -1,6 +1,6 @@
 use Rattle.std.proofs.Common.{◌≢◌, length, subst, sym, ◌∙◌}
 use Rattle.std.proofs.lemmas.Bool.{eqb-false}
-use Rattle.sdv_script.specs.Graph.{node_of}
+use Rattle.sdv_graph.specs.Graph.{node_of}
 use Rattle.sdv_facts.specs.Closed.{AddressAt}
 use Rattle.sdv_facts.proofs.StatementLaws.{of_some}
 use Rattle.sdv_facts.proofs.statement.address_holds.Goals as goal

@@ -1,5 +1,5 @@
 use Rattle.std.proofs.Common.{◌≡◌, drop}
-use Rattle.sdv_script.specs.declared.tree.Unit.TheVariants.{By}
+use Rattle.sdv_graph.specs.declared.tree.Unit.TheVariants.{By}
 use Rattle.sdv_facts.specs.AddressFits.{unit_fits}
 use Rattle.sdv_facts.proofs.units.all_by.Given as goal
 
