@@ -4,26 +4,8 @@
 //! says what is answered.
 #![tactic(auto)]
 
-mod certify;
-#[cfg(test)]
-mod certify_tests;
-mod check;
-#[cfg(test)]
-mod check_tests;
-mod fault;
-mod file;
-mod frame;
-mod line;
-mod number;
-mod plain;
-mod program;
-#[cfg(test)]
-mod testing;
-#[cfg(test)]
-mod tests;
-
-use fault::Fault;
-use program::program;
+use sdv_words::fault::Fault;
+use sdv_words::program::program;
 use std::io::{self, ErrorKind, Write};
 use std::process::ExitCode;
 use std::rt::{Env, Files};

@@ -1,0 +1,97 @@
+-- The certificate of a script is that of its text, and what came of writing it.
+use Rattle.std.proofs.Common.{◌≡◌, ◌∙◌, sym, subst, ℕ, List, Option, Result, Ok, Err, IfErr, IsErrAnd, OnOk}
+use Rattle.std.specs.Prelude.{is_ok}
+use Rattle.clap.specs.Words.{Text}
+use Rattle.std.specs.Io.KnownBytes.{Appends}
+use Rattle.std.proofs.lemmas.Result.{on_ok_weaker}
+use Rattle.sdv_registers.specs.declared.kind.Kind.TheVariants.{Sd}
+use Rattle.sdv_script.specs.declared.script.Script.{Script as Tree}
+use Rattle.sdv_script.specs.Graph.{Flow}
+use Rattle.sdv_script.specs.GraphOf.{IsGraphOf}
+use Rattle.sdv_script.specs.Printed.{AppendsFront}
+use Rattle.sdv_script.specs.Script.{Parsed, IsScript}
+use Rattle.sdv_script.specs.Shown.{shown}
+use Rattle.sdv_script.proofs.ScriptLaws.{one_tree_lem}
+use Rattle.sdv_facts.specs.declared.certificate.PointFacts.{PointFacts}
+use Rattle.sdv_facts.specs.CertificateText.{text_of, WithinLimits}
+use Rattle.sdv_check.specs.Verified.{IsGraphOfText}
+use Rattle.sdv_certify.specs.Assembled.{CertificateOf, ClosedFor, RefusedFor}
+use Rattle.sdv_certify.specs.declared.fault.CertifyFault.{CertifyFault}
+use Rattle.sdv_certify.specs.declared.fault.CertifyFault.TheVariants as certifies
+use Rattle.sdv_certify.specs.Pieces.{Writes}
+use Rattle.sdv_words.specs.Certify.{Certifies, CertifiesInPart, IsTextOfScript, IsCertificateOfText, Uncertifies}
+use Rattle.sdv_words.specs.Fault.{fault_of_certify}
+use Rattle.sdv_words.specs.declared.fault.Fault.{Fault}
+use Rattle.sdv_words.specs.declared.fault.Fault.TheVariants.{Output}
+
+-- a graph of the text is one of the script, since a text has one tree
+graph_of_script : (text : Text) (s : Tree) (g : Flow) → IsTextOfScript text s → IsGraphOfText text g → IsGraphOf Sd (shown s).names (shown s).body g
+graph_of_script text s g is of =
+    let p : Parsed = of.script in
+    let tree = one_tree_lem p (shown s) of.is_script is.is_script (of.same ∙ sym is.same) in
+    subst (λ b. IsGraphOf Sd (shown s).names b g) tree.1 (subst (λ n. IsGraphOf Sd n p.body g) tree.0 of.graph)
+
+pub certificate_of_text : (text : Text) (s : Tree) (points : List PointFacts) → (shown s).text ≡ text → IsScript (shown s) → CertificateOf s points → ClosedFor s points
+    → WithinLimits points → IsCertificateOfText text points
+certificate_of_text text s points same is_script certificate closed limits =
+    let is : IsTextOfScript text s = record { same = same; is_script = is_script } in
+    record {
+      script = s;
+      is = is;
+      certificate = certificate;
+      closed = λ g graph. closed g (graph_of_script text s g is graph);
+      limits = limits;
+    }
+
+-- WHAT CAME OF IT
+
+-- a refusal is so of the text
+pub refused_of_text : {T : Type 0} (text : Text) (s : Tree) (fault : CertifyFault) (r : Result T Fault) → IsErrAnd r (λ f. f ≡ fault_of_certify fault)
+    → (shown s).text ≡ text → IsScript (shown s) → RefusedFor s fault → IfErr r (Uncertifies text)
+refused_of_text text s fault (Ok x) is same is_script refused = absurd is
+refused_of_text text s certifies.Memory (Err f) is same is_script refused = rw is tt
+refused_of_text text s (certifies.Illegal point shape) (Err f) is same is_script refused =
+    rw is (record { script = s; is = record { same = same; is_script = is_script }; reason = λ e. cc; refused = refused })
+refused_of_text text s (certifies.Address point) (Err f) is same is_script refused =
+    rw is (record { script = s; is = record { same = same; is_script = is_script }; reason = λ e. cc; refused = refused })
+refused_of_text text s (certifies.EndState point) (Err f) is same is_script refused =
+    rw is (record { script = s; is = record { same = same; is_script = is_script }; reason = λ e. cc; refused = refused })
+refused_of_text text s certifies.TooMany (Err f) is same is_script refused =
+    rw is (record { script = s; is = record { same = same; is_script = is_script }; reason = λ e. cc; refused = refused })
+
+module _ {E : Type 0} (before after : Option (List ℕ)) (text : List ℕ) where
+  -- what was written, where the answer is as good as the writing
+  whole : (w : Result (Unit {0}) E) (r : Result (Unit {0}) Fault) → is_ok r ≡ is_ok w → Writes before after w text → OnOk r (Appends before after text)
+  whole (Ok u) (Ok v) same writes = writes
+  whole (Err e) (Ok v) same writes = cc
+  whole w (Err f) same writes = tt
+
+  in_part : (w : Result (Unit {0}) E) (r : Result (Unit {0}) Fault) → is_ok r ≡ is_ok w → Writes before after w text → IfErr r (λ _. AppendsFront before after text)
+  in_part w (Ok v) same writes = tt
+  in_part (Ok u) (Err f) same writes = cc
+  in_part (Err e) (Err f) same writes = writes
+
+if_err : {T : Type 0} (r : Result T Fault) (P Q : Fault → Type 0) → IfErr r P → ((fault : Fault) → P fault → Q fault) → IfErr r Q
+if_err (Ok x) P Q is step = tt
+if_err (Err fault) P Q is step = step fault is
+
+module _ (text : Text) (points : List PointFacts) (certificate : IsCertificateOfText text points) where
+  -- a certificate that was written whole
+  pub written_whole : {E : Type 0} (before after : Option (List ℕ)) (w : Result (Unit {0}) E) (r : Result (Unit {0}) Fault) → is_ok r ≡ is_ok w
+      → Writes before after w (text_of points) → OnOk r (Certifies text before after)
+  written_whole before after w r same writes =
+      let certifies : Appends before after (text_of points) → Certifies text before after =
+      λ printed. record { points = points; certificate = certificate; printed = printed } in
+      on_ok_weaker r certifies (whole before after (text_of points) w r same writes)
+
+  -- a certificate of which a front was written
+  pub written_in_part : {E : Type 0} (before after : Option (List ℕ)) (w : Result (Unit {0}) E) (r : Result (Unit {0}) Fault) → is_ok r ≡ is_ok w
+      → Writes before after w (text_of points) → IfErr r (λ fault. fault ≡ Output → CertifiesInPart text before after)
+  written_in_part before after w r same writes =
+      if_err r (λ _. AppendsFront before after (text_of points)) (λ fault. fault ≡ Output → CertifiesInPart text before after) (in_part before after (text_of points) w r same writes)
+      (λ fault printed is. record { points = points; certificate = certificate; printed = printed })
+
+  -- of an output that failed
+  pub output_failed : {T : Type 0} (r : Result T Fault) → IfErr r (λ fault. fault ≡ Output) → IfErr r (Uncertifies text)
+  output_failed (Ok x) is = tt
+  output_failed (Err fault) is = rw is (points, certificate)

@@ -1,0 +1,93 @@
+-- What the program answers to the words that it was called with.
+use Rattle.std.specs.Prelude.{◌≡◌, ◌≢◌, ◌⊎◌, ℕ, List, Option, Some}
+use Rattle.std.specs.Io.KnownBytes.{Appends}
+use Rattle.clap.specs.Words.{Text}
+use Rattle.sdv_frames.specs.Frame.{IsCommandFrame}
+use Rattle.sdv_frames.specs.declared.command.Command.{Command}
+use Rattle.sdv_words.specs.declared.fault.Fault.{Fault}
+use Rattle.sdv_words.specs.declared.fault.Fault.TheVariants.{Usage, Output, Memory}
+use Rattle.sdv_words.specs.Certify.{CertifiesFile, UncertifiesFile}
+use Rattle.sdv_words.specs.Check.{AcceptsFiles, RefusesFiles}
+use Rattle.sdv_words.specs.CommandLine.{frame, certify, check, meaning_of}
+use Rattle.sdv_words.specs.FrameText.{frame_text}
+use Rattle.sdv_words.specs.Number.{Writes}
+
+-- FRAMES
+
+-- the words ask for the frame of the command
+pub record AsksFrame (words : List Text) (c : Command) : Type 0 where
+  pub index : Text
+  pub argument : Text
+  pub meaning : meaning_of words ≡ Some (frame index argument)
+  pub writes : Writes index argument c
+
+-- what is known of the writer grew by the text of the frame of the command
+pub record PrintsFrame (c : Command) (before after : Option (List ℕ)) : Type 0 where
+  pub bytes : List ℕ
+  pub is_frame : IsCommandFrame c bytes
+  pub printed : Appends before after (frame_text bytes)
+
+-- the words ask for a frame, and it was printed
+pub record AnswersFrame (words : List Text) (before after : Option (List ℕ)) : Type 0 where
+  pub command : Command
+  pub asked : AsksFrame words command
+  pub answered : PrintsFrame command before after
+
+-- what a fault says of the words of `frame`
+abbrev pub RefusesFrame : (index argument : Text) → Fault → Type 0
+RefusesFrame index argument Usage = (c : Command) → ¬ Writes index argument c
+RefusesFrame index argument Output = (c : Command) × Writes index argument c
+RefusesFrame index argument fault = ⊥
+
+-- CERTIFICATES
+
+-- the words ask for the certificate of a script, and that of what the file gave was printed
+pub record AnswersCertify (gives : (file text : Text) → Type 0) (words : List Text) (before after : Option (List ℕ)) : Type 0 where
+  pub script_file : Text
+  pub meaning : meaning_of words ≡ Some (certify script_file)
+  pub certifies : CertifiesFile gives script_file before after
+
+-- the words ask for the certificate of a script, and of the file is so what the fault says
+pub record RefusesCertify (gives : (file text : Text) → Type 0) (words : List Text) (fault : Fault) : Type 0 where
+  pub script_file : Text
+  pub meaning : meaning_of words ≡ Some (certify script_file)
+  pub refuses : UncertifiesFile gives script_file fault
+
+-- CHECKS
+
+-- the words ask for a check, it accepts what the files give, and the bound was printed
+pub record AnswersCheck (gives : (file text : Text) → Type 0) (words : List Text) (before after : Option (List ℕ)) : Type 0 where
+  pub script_file : Text
+  pub certificate_file : Text
+  pub meaning : meaning_of words ≡ Some (check script_file certificate_file)
+  pub accepts : AcceptsFiles gives script_file certificate_file before after
+
+-- the words ask for a check, and of the files is so what the fault says
+pub record RefusesCheck (gives : (file text : Text) → Type 0) (words : List Text) (fault : Fault) : Type 0 where
+  pub script_file : Text
+  pub certificate_file : Text
+  pub meaning : meaning_of words ≡ Some (check script_file certificate_file)
+  pub refuses : RefusesFiles gives script_file certificate_file fault
+
+-- ANSWERS
+
+-- the words ask for no frame, for no certificate and for no check
+pub record AsksNothing (words : List Text) : Type 0 where
+  pub no_frame : (c : Command) → ¬ AsksFrame words c
+  pub no_certificate : (script : Text) → meaning_of words ≢ Some (certify script)
+  pub no_check : (script certificate : Text) → meaning_of words ≢ Some (check script certificate)
+
+abbrev pub Answers : (gives : (file text : Text) → Type 0) → List Text → (before after : Option (List ℕ)) → Type 0
+Answers gives words before after =
+    AnswersFrame words before after ⊎ AnswersCertify gives words before after ⊎ AnswersCheck gives words before after
+
+-- the words ask for a certificate or a check, and of the files is so what the fault says
+abbrev pub RefusesScript : (gives : (file text : Text) → Type 0) → List Text → Fault → Type 0
+RefusesScript gives words fault = RefusesCertify gives words fault ⊎ RefusesCheck gives words fault
+
+-- what a fault says of the words
+abbrev pub IsFaultOf : (gives : (file text : Text) → Type 0) → List Text → Fault → Type 0
+IsFaultOf gives words Usage = AsksNothing words
+IsFaultOf gives words Output = ((c : Command) × AsksFrame words c) ⊎ RefusesScript gives words Output
+IsFaultOf gives words Memory = Unit {0}
+IsFaultOf gives words fault = RefusesScript gives words fault

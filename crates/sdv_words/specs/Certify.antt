@@ -1,0 +1,86 @@
+-- What the program answers to a script that it is to certify: to its text, and to the name of its file.
+use Rattle.std.specs.Prelude.{◌≡◌, ◌≢◌, ℕ, List, Option}
+use Rattle.std.specs.Io.KnownBytes.{Appends}
+use Rattle.clap.specs.Words.{Text}
+use Rattle.sdv_script.specs.declared.script.Script.{Script as Tree}
+use Rattle.sdv_script.specs.Graph.{Flow}
+use Rattle.sdv_script.specs.Printed.{AppendsFront}
+use Rattle.sdv_script.specs.Script.{IsScript}
+use Rattle.sdv_script.specs.Shown.{shown}
+use Rattle.sdv_facts.specs.declared.certificate.PointFacts.{PointFacts}
+use Rattle.sdv_facts.specs.CertificateText.{text_of, WithinLimits}
+use Rattle.sdv_facts.specs.Closed.{Closed}
+use Rattle.sdv_check.specs.Verified.{IsGraphOfText, IsNoScript}
+use Rattle.sdv_certify.specs.declared.fault.CertifyFault.{CertifyFault}
+use Rattle.sdv_certify.specs.declared.fault.CertifyFault.TheVariants.{Memory as NoMemory}
+use Rattle.sdv_certify.specs.Assembled.{CertificateOf, RefusedFor}
+use Rattle.sdv_words.specs.declared.fault.Fault.{Fault}
+use Rattle.sdv_words.specs.declared.fault.Fault.TheVariants.{File, Script, Uncertified, Output, Memory}
+
+-- TEXTS
+
+-- the text is that of the script
+pub record IsTextOfScript (text : Text) (s : Tree) : Type 0 where
+  pub same : (shown s).text ≡ text
+  pub is_script : IsScript (shown s)
+
+-- the text is a script, and this is its certificate, which is closed for its graph and within the limits
+pub record IsCertificateOfText (text : Text) (points : List PointFacts) : Type 0 where
+  pub script : Tree
+  pub is : IsTextOfScript text script
+  pub certificate : CertificateOf script points
+  pub closed : (g : Flow) → IsGraphOfText text g → Closed g points
+  pub limits : WithinLimits points
+
+-- the text is a script that has no certificate, for this reason
+pub record HasNoCertificate (text : Text) (fault : CertifyFault) : Type 0 where
+  pub script : Tree
+  pub is : IsTextOfScript text script
+  pub reason : fault ≢ NoMemory
+  pub refused : RefusedFor script fault
+
+-- the certificate of the text was printed
+pub record Certifies (script : Text) (before after : Option (List ℕ)) : Type 0 where
+  pub points : List PointFacts
+  pub certificate : IsCertificateOfText script points
+  pub printed : Appends before after (text_of points)
+
+-- a front of it was
+pub record CertifiesInPart (script : Text) (before after : Option (List ℕ)) : Type 0 where
+  pub points : List PointFacts
+  pub certificate : IsCertificateOfText script points
+  pub printed : AppendsFront before after (text_of points)
+
+-- what a fault says of the text; want of memory says nothing
+abbrev pub Uncertifies : (script : Text) → Fault → Type 0
+Uncertifies script (Script fault) = IsNoScript script
+Uncertifies script (Uncertified fault) = HasNoCertificate script fault
+Uncertifies script Output = (points : List PointFacts) × IsCertificateOfText script points
+Uncertifies script Memory = Unit {0}
+Uncertifies script fault = ⊥
+
+-- FILES, where a file of a name may give a text
+
+-- the file gave a text whose certificate was printed
+pub record CertifiesFile (gives : (file text : Text) → Type 0) (script_file : Text) (before after : Option (List ℕ)) : Type 0 where
+  pub script : Text
+  pub given : gives script_file script
+  pub certifies : Certifies script before after
+
+-- the file gave a text, and of its certificate a front was printed
+pub record CertifiesFileInPart (gives : (file text : Text) → Type 0) (script_file : Text) (before after : Option (List ℕ)) : Type 0 where
+  pub script : Text
+  pub given : gives script_file script
+  pub certifies : CertifiesInPart script before after
+
+-- the file gave a text of which is so what the fault says
+pub record UncertifiesText (gives : (file text : Text) → Type 0) (script_file : Text) (fault : Fault) : Type 0 where
+  pub script : Text
+  pub given : gives script_file script
+  pub refuses : Uncertifies script fault
+
+-- what a fault says of the file
+abbrev pub UncertifiesFile : (gives : (file text : Text) → Type 0) → (script_file : Text) → Fault → Type 0
+UncertifiesFile gives script_file (File file) = file.now ≡ script_file
+UncertifiesFile gives script_file Memory = Unit {0}
+UncertifiesFile gives script_file fault = UncertifiesText gives script_file fault

@@ -1,0 +1,62 @@
+-- What the program answers to a script and a certificate: to their texts, and to the names of their files.
+use Rattle.std.specs.Prelude.{◌≡◌, ◌⊎◌, ℕ, List, [], ◌∷◌, ◌++◌, Option, codes, decimal}
+use Rattle.std.specs.Io.KnownBytes.{Appends}
+use Rattle.clap.specs.Words.{Text}
+use Rattle.sdv_script.specs.Graph.{Flow}
+use Rattle.sdv_check.specs.Headline.{EachRunOf}
+use Rattle.sdv_check.specs.Verified.{Acceptance, IsAccepted, IsGraphOfText, IsNoCertificate, IsNoScript, IsOpen}
+use Rattle.sdv_words.specs.declared.fault.Fault.{Fault}
+use Rattle.sdv_words.specs.declared.fault.Fault.TheVariants.{File, Script, Certificate, Refused, Output, Memory}
+
+-- TEXTS
+
+abbrev pub accepted_text : (bound : ℕ) → Text
+accepted_text bound = codes "accepted " ++ (decimal bound ++ 10 ∷ [])
+
+-- the certificate is closed for the graph of the script, each run of the script is as it should be and sends no more
+-- commands than the bound, and the bound was printed
+pub record Accepts (script certificate : Text) (before after : Option (List ℕ)) : Type 0 where
+  pub acceptance : Acceptance
+  pub accepted : IsAccepted script certificate acceptance
+  pub runs : EachRunOf script acceptance.bound
+  pub printed : Appends before after (accepted_text acceptance.bound)
+
+-- what a fault says of the texts; want of memory says nothing
+abbrev pub Refuses : (script certificate : Text) → Fault → Type 0
+Refuses script certificate (Script fault) = IsNoScript script
+Refuses script certificate (Certificate fault) = ((g : Flow) × IsGraphOfText script g) × IsNoCertificate certificate
+Refuses script certificate (Refused fault) = IsOpen script certificate fault
+Refuses script certificate Output = (a : Acceptance) × IsAccepted script certificate a
+Refuses script certificate Memory = Unit {0}
+Refuses script certificate fault = ⊥
+
+-- FILES, where a file of a name may give a text
+
+-- nothing is claimed of what a file of the machine gives
+abbrev pub any_text : (file text : Text) → Type 0
+any_text file text = Unit {0}
+
+-- the files gave these texts
+pub record FilesGive (gives : (file text : Text) → Type 0) (script_file certificate_file script certificate : Text) : Type 0 where
+  pub script_given : gives script_file script
+  pub certificate_given : gives certificate_file certificate
+
+-- the files gave texts that are accepted
+pub record AcceptsFiles (gives : (file text : Text) → Type 0) (script_file certificate_file : Text) (before after : Option (List ℕ)) : Type 0 where
+  pub script : Text
+  pub certificate : Text
+  pub given : FilesGive gives script_file certificate_file script certificate
+  pub accepts : Accepts script certificate before after
+
+-- the files gave texts of which is so what the fault says
+pub record RefusesTexts (gives : (file text : Text) → Type 0) (script_file certificate_file : Text) (fault : Fault) : Type 0 where
+  pub script : Text
+  pub certificate : Text
+  pub given : FilesGive gives script_file certificate_file script certificate
+  pub refuses : Refuses script certificate fault
+
+-- what a fault says of the files: a file that cannot be used is one of them
+abbrev pub RefusesFiles : (gives : (file text : Text) → Type 0) → (script_file certificate_file : Text) → Fault → Type 0
+RefusesFiles gives script_file certificate_file (File file) = (file.now ≡ script_file) ⊎ (file.now ≡ certificate_file)
+RefusesFiles gives script_file certificate_file Memory = Unit {0}
+RefusesFiles gives script_file certificate_file fault = RefusesTexts gives script_file certificate_file fault

@@ -1,0 +1,90 @@
+-- What the words of a call of the program mean: the command line as clap reads it.
+use Rattle.std.specs.Prelude.{List, [], ◌∷◌, Option, Some, None, codes, true, option_and_then, option_map}
+use Rattle.std.specs.Prelude.{if◌then◌else◌}
+use Rattle.std.specs.Str.{bytes_eq}
+use Rattle.clap.specs.Words.{App, Kinds, Row, Rule, Shape, Text, fault_of, first_of, new_app}
+use Rattle.clap.specs.Words.{new_rule, subcommand_of, with_rule, with_subcommand}
+use Rattle.sdv_words.specs.declared.line.Line.{Line}
+use Rattle.sdv_words.specs.declared.line.Line.TheVariants.{Frame, Certify, Check}
+
+-- a word that stands by its place, and may not be left out
+abbrev pub required : Text → Rule
+required name = record (new_rule name) { required = true }
+
+-- `frame INDEX ARG`
+abbrev pub frame_command : App
+frame_command =
+    with_rule (with_rule (new_app (codes "frame")) (required (codes "INDEX"))) (required (codes "ARG"))
+
+-- `certify SCRIPT`
+abbrev pub certify_command : App
+certify_command = with_rule (new_app (codes "certify")) (required (codes "SCRIPT"))
+
+-- `check SCRIPT CERT`
+abbrev pub check_command : App
+check_command =
+    with_rule (with_rule (new_app (codes "check")) (required (codes "SCRIPT"))) (required (codes "CERT"))
+
+-- the program's own settings: its words leave out its name, and name one of its commands; help is
+-- asked for by `-h` and `--help` alone
+abbrev pub program_shape : Shape
+program_shape = record (new_app (codes "sdv")).top {
+  no_binary_name = true;
+  subcommand_required = true;
+  disable_help_subcommand = true;
+}
+
+-- `sdv`, and its commands
+abbrev pub command_line : App
+command_line =
+    with_subcommand (with_subcommand (with_subcommand (record { top = program_shape; subs = [] }) frame_command.top) certify_command.top)
+    check_command.top
+
+-- a command of the program, with the texts of its words
+pub data Request : Type 0 where
+  frame : Text → Text → Request
+  certify : Text → Request
+  check : Text → Text → Request
+
+-- the request that a line holds
+abbrev pub request_of : Line → Request
+request_of (Frame index argument) = frame index.now argument.now
+request_of (Certify script) = certify script.now
+request_of (Check script certificate) = check script.now certificate.now
+
+abbrev pub frame_of : Option Text → Option Text → Option Request
+frame_of (Some index) (Some argument) = Some (frame index argument)
+frame_of _ _ = None
+
+-- the request in what clap matched for the words of `frame`
+abbrev pub frame_request : List Row → Option Request
+frame_request matched = frame_of (first_of (codes "INDEX") matched) (first_of (codes "ARG") matched)
+
+-- the request in what clap matched for the words of `certify`
+abbrev pub certify_request : List Row → Option Request
+certify_request matched = option_map certify (first_of (codes "SCRIPT") matched)
+
+abbrev pub check_of : Option Text → Option Text → Option Request
+check_of (Some script) (Some certificate) = Some (check script certificate)
+check_of _ _ = None
+
+-- the request in what clap matched for the words of `check`
+abbrev pub check_request : List Row → Option Request
+check_request matched = check_of (first_of (codes "SCRIPT") matched) (first_of (codes "CERT") matched)
+
+-- the request in a command's name and what clap matched for its words
+abbrev pub request_in : Text × List Row → Option Request
+request_in used =
+    if bytes_eq used.0 (codes "frame") then frame_request used.1
+    else if bytes_eq used.0 (codes "certify") then certify_request used.1
+    else if bytes_eq used.0 (codes "check") then check_request used.1
+    else None
+
+-- the same, by the kinds of fault that clap finds in the words: there is no request where there are
+abbrev pub request_without : Kinds → Option (Text × List Row) → Option Request
+request_without [] used = option_and_then request_in used
+request_without (kind ∷ kinds) used = None
+
+-- the request that words mean
+abbrev pub meaning_of : List Text → Option Request
+meaning_of words = request_without (fault_of command_line words) (subcommand_of command_line words)

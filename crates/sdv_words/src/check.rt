@@ -1,0 +1,65 @@
+//! `check SCRIPT CERT`: what the checker says of a script and a certificate.
+ghost use Rattle.std.specs.Prelude.{◌≡◌, ◌≢◌, OnOk, IfErr, Err};
+ghost use Rattle.std.specs.Io.KnownBytes.{Appends, Keeps};
+ghost use Rattle.sdv_words.specs.Check.{Accepts, AcceptsFiles, Refuses, RefusesFiles, accepted_text};
+ghost use Rattle.sdv_words.specs.declared.fault.Fault.{Fault};
+
+use crate::fault::Fault;
+use crate::file::{Texts, text_in};
+use sdv_check::verify;
+use std::alloc::Global;
+use std::io::{self, Write};
+
+/// Checks the script of a file with the certificate of another, and prints the bound of the commands where it is accepted.
+/// The script is read first.
+///
+/// # Errors
+///
+/// - [`Fault::File`]: a file cannot be used. Nothing was printed.
+/// - The faults of [`check_texts`].
+pub fn check_files<'a, T: Texts, O: Write>(
+    alloc: Global,
+    files: &T,
+    script: &'a str,
+    certificate: &'a str,
+    out: &mut O,
+) -> Result<(), Fault<'a>>
+    ensures accepted { OnOk result (AcceptsFiles (T.gives files.now) script.entry.now certificate.entry.now
+        (O.contents out.old) (O.contents out.new)) }
+    ensures refused { IfErr result
+        (RefusesFiles (T.gives files.now) script.entry.now certificate.entry.now) }
+    ensures quiet { IfErr result (λ fault. fault ≢ Fault.Output
+        → Keeps (O.contents out.old) (O.contents out.new)) }
+{
+    let script = text_in(alloc, files, script)?;
+    let certificate = text_in(alloc, files, certificate)?;
+    check_texts(alloc, script.as_str(), certificate.as_str(), out)
+}
+
+/// Checks a script with a certificate, by their texts, and prints the bound of the commands where they are accepted.
+///
+/// # Errors
+///
+/// - [`Fault::Script`], [`Fault::Certificate`], [`Fault::Refused`]: the texts are not accepted. Nothing was printed.
+/// - [`Fault::Output`]: they are, and the output failed.
+/// - [`Fault::Memory`]: memory was refused. Nothing was printed.
+pub fn check_texts<'a, O: Write>(
+    alloc: Global,
+    script: &str,
+    certificate: &str,
+    out: &mut O,
+) -> Result<(), Fault<'a>>
+    ensures accepted { OnOk result (Accepts script.now certificate.now (O.contents out.old) (O.contents out.new)) }
+    ensures refused { IfErr result (Refuses script.now certificate.now) }
+    ensures quiet { IfErr result (λ fault. fault ≢ Fault.Output
+        → Keeps (O.contents out.old) (O.contents out.new)) }
+{
+    let accepted = verify(alloc, script, certificate)?;
+    print_bound(accepted.bound(), out).map_err(|_| Fault::Output)
+}
+
+fn print_bound<O: Write>(bound: u64, out: &mut O) -> io::Result<()>
+    ensures { OnOk result (Appends (O.contents out.old) (O.contents out.new) (accepted_text bound)) }
+{
+    writeln!(out, "accepted {bound}")
+}

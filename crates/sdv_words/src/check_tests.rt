@@ -1,0 +1,261 @@
+//! Checks of scripts and certificates in files, and in memory.
+use crate::file::{Texts, bytes_within};
+use crate::program::{answer, program};
+use crate::testing::{CERTIFICATE, Expected, SMALLEST, expect, expect_check, prints, says};
+use std::alloc::{AllocError, Global};
+use std::fs;
+use std::io::{self, ErrorKind, Read, Write};
+use std::test::Fail;
+
+/// A script beside its certificate in memory: whatever file is asked for by the name `script` or by another.
+#[derive(Drop)]
+struct Pair;
+
+impl Texts for Pair {
+    ghost use Rattle.sdv_words.specs.Check.{any_text};
+
+    ghost gives = { λ _. any_text };
+
+    fn text_of(&self, alloc: Global, file: &str) -> Result<Option<String>, AllocError> {
+        let text = if file == "script" {
+            SMALLEST
+        } else {
+            CERTIFICATE
+        };
+        Ok(Some(String::from_str(alloc, text)?))
+    }
+}
+
+/// A writer that takes nothing.
+#[derive(Drop)]
+struct Full;
+
+impl Write for Full {
+    fn write(&mut self, _buf: &[u8]) -> io::Result<usize> {
+        Ok(0)
+    }
+
+    fn flush(&mut self) -> io::Result<()> {
+        Ok(())
+    }
+}
+
+/// A reader of so many bytes, one at a time; between them each read is interrupted once. It fails at the end if it has to.
+#[derive(Drop)]
+struct Slow {
+    left: usize,
+    interrupted: bool,
+    fails: bool,
+}
+
+impl Read for Slow {
+    fn read(&mut self, buf: &mut [u8]) -> io::Result<usize> {
+        self.interrupted = !self.interrupted;
+        if self.interrupted {
+            return Err(io::Error::from(ErrorKind::Interrupted));
+        }
+        if self.left == 0 && self.fails {
+            return Err(io::Error::from(ErrorKind::Other));
+        }
+        if self.left == 0 || buf.is_empty() {
+            return Ok(0);
+        }
+        self.left -= 1;
+        buf[0] = b'a';
+        Ok(1)
+    }
+}
+
+const CUT: &str = "sdv-cert 1\npoints 2\np 0 b 1 m";
+
+const FALLING: &str = "sdv-cert 1
+points 2
+p 0 b 1 m 1 s 0000000000002800 0000000000002000 0000000000002c00
+p 1 b 0 m 1 s 0000000000002000 0000000000002800 0000000000002c00
+";
+
+const ONE_POINT: &str = "sdv-cert 1
+points 1
+p 0 b 1 m 1 s 0000000000002000 0000000000002800 0000000000002c00
+";
+
+const FEWER_AT_START: &str = "sdv-cert 1
+points 2
+p 0 b 1 m 1 s 0000000000002000 0000000000002800
+p 1 b 0 m 1 s 0000000000002000 0000000000002800 0000000000002c00
+";
+
+const FEWER_AFTER: &str = "sdv-cert 1
+points 2
+p 0 b 1 m 1 s 0000000000002000 0000000000002800 0000000000002c00
+p 1 b 0 m 1 s 0000000000002000 0000000000002800
+";
+
+const LARGER_AFTER: &str = "sdv-cert 1
+points 2
+p 0 b 1 m 1 s 0000000000002000 0000000000002800 0000000000002c00
+p 1 b 0 m 2 s 0000000000002000 0000000000002800 0000000000002c00
+";
+
+const NO_COMMAND: &str = "sdv-cert 1
+points 2
+p 0 b 0 m 1 s 0000000000002000 0000000000002800 0000000000002c00
+p 1 b 0 m 1 s 0000000000002000 0000000000002800 0000000000002c00
+";
+
+const ILLEGAL: &str = "card sd send 7 { else { } } fault stop";
+
+const AT_BYTE: &str = "card sd flags f if f { send 17 at byte 0 { else { } } } else { } fault stop";
+
+const BLOCK_ADDRESSED: &str = "sdv-cert 1
+points 3
+p 0 b 0 m 1 s 0000000000002000 0000000000002800 0000000000002c00
+p 1 b 1 m 1 s 0000000000002c04
+p 2 b 0 m 1 s 0000000000002000 0000000000002800 0000000000002c00 0000000000002c04
+";
+
+#[test]
+fn checks_files(rt: HostRuntime) -> Result<(), Fail> {
+    let rows: [(&str, &str, Expected<'_>); 13] = [
+        (SMALLEST, CERTIFICATE, prints("accepted 1\n")),
+        ("card sd\n", CUT, says(1, "script fault NoEnd line 2\n")),
+        (
+            SMALLEST,
+            "sdv-cert 3\n",
+            says(1, "certificate fault Header\n"),
+        ),
+        (SMALLEST, CUT, says(1, "certificate fault Syntax line 3\n")),
+        (
+            SMALLEST,
+            FALLING,
+            says(1, "certificate fault Order line 3\n"),
+        ),
+        (SMALLEST, ONE_POINT, says(1, "refused Points\n")),
+        (SMALLEST, FEWER_AT_START, says(1, "refused Start\n")),
+        (ILLEGAL, CERTIFICATE, says(1, "refused Illegal point 0\n")),
+        (
+            AT_BYTE,
+            BLOCK_ADDRESSED,
+            says(1, "refused Address point 1\n"),
+        ),
+        (SMALLEST, FEWER_AFTER, says(1, "refused Shape point 0\n")),
+        (SMALLEST, LARGER_AFTER, says(1, "refused Number point 0\n")),
+        (SMALLEST, NO_COMMAND, says(1, "refused Bound point 0\n")),
+        (
+            "card sd done",
+            ONE_POINT,
+            says(1, "refused EndState point 0\n"),
+        ),
+    ];
+    for (script, certificate, expected) in rows {
+        let texts = [script.as_bytes(), certificate.as_bytes()];
+        expect_check(&rt, ["checked.sdv", "checked.cert"], texts, expected)?;
+    }
+    Ok(())
+}
+
+#[test]
+fn refuses_a_certificate_above_16_mebibytes(rt: HostRuntime) -> Result<(), Fail> {
+    let long = vec![in rt.alloc(); b'x'; 16_777_217]?;
+    expect_check(
+        &rt,
+        ["long.sdv", "long.cert"],
+        [SMALLEST.as_bytes(), long.as_slice()],
+        says(1, "certificate fault Limit\n"),
+    )?;
+    Ok(())
+}
+
+#[test]
+fn names_files_that_it_cannot_use(rt: HostRuntime) -> Result<(), Fail> {
+    let bytes: &[u8] = b"card sd\n\xff";
+    let rows: [([&str; 2], [&[u8]; 2], &str); 2] = [
+        (
+            ["bytes.sdv", "used.cert"],
+            [bytes, CERTIFICATE.as_bytes()],
+            "cannot use bytes.sdv\n",
+        ),
+        (
+            ["used.sdv", "bytes.cert"],
+            [SMALLEST.as_bytes(), bytes],
+            "cannot use bytes.cert\n",
+        ),
+    ];
+    for (files, texts, said) in rows {
+        expect_check(&rt, files, texts, says(2, said))?;
+    }
+    fs::write(&rt, "used.sdv", SMALLEST)?;
+    let rows: [([&str; 3], &str); 3] = [
+        (
+            ["check", "missing.sdv", "missing.cert"],
+            "cannot use missing.sdv\n",
+        ),
+        (
+            ["check", "used.sdv", "missing.cert"],
+            "cannot use missing.cert\n",
+        ),
+        (["check", ".", "missing.cert"], "cannot use .\n"),
+    ];
+    for (words, said) in rows {
+        expect(&rt, &words, says(2, said));
+    }
+    fs::remove_file(&rt, "used.sdv")?;
+    Ok(())
+}
+
+#[test]
+fn checks_into_a_full_writer(rt: HostRuntime) -> Result<(), Fail> {
+    fs::write(&rt, "full.sdv", SMALLEST)?;
+    fs::write(&rt, "full.cert", CERTIFICATE)?;
+    let words = ["check", "full.sdv", "full.cert"];
+    let mut err = Vec::new(rt.alloc());
+    assert_eq!(rt; program(&rt, &words, &mut Full, &mut err), 2);
+    assert!(rt; err.is_empty());
+    let words = ["check", "missing.sdv", "full.cert"];
+    assert_eq!(rt; program(&rt, &words, &mut Full, &mut Full), 2);
+    fs::remove_file(&rt, "full.sdv")?;
+    fs::remove_file(&rt, "full.cert")?;
+    Ok(())
+}
+
+#[test]
+fn answers_from_texts_in_memory(rt: HostRuntime) {
+    let rows: [(&[&str], &str); 2] = [
+        (&["certify", "script"], CERTIFICATE),
+        (&["check", "script", "certificate"], "accepted 1\n"),
+    ];
+    for (words, printed) in rows {
+        let mut out = Vec::new(rt.alloc());
+        assert_eq!(rt; answer(rt.alloc(), &Pair, words, &mut out), Ok(()));
+        assert!(rt; out.as_slice() == printed.as_bytes(), "{printed}");
+    }
+}
+
+#[test]
+fn reads_within_a_limit(rt: HostRuntime) {
+    // The bytes of the reader, whether it fails, the limit, and how many bytes are given.
+    let rows: [(usize, bool, u64, Option<usize>); 6] = [
+        (0, false, 2, Some(0)),
+        (0, false, 1, None),
+        (3, false, 8, Some(3)),
+        (3, false, 7, None),
+        (3, true, 100, None),
+        (3, false, 0, None),
+    ];
+    for (left, fails, limit, want) in rows {
+        let mut file = Slow {
+            left,
+            interrupted: false,
+            fails,
+        };
+        let found = match bytes_within(rt.alloc(), limit, &mut file) {
+            Ok(found) => found.map(|bytes| bytes.len()),
+            Err(_) => Some(usize::MAX),
+        };
+        assert_eq!(rt; found, want, "at {left} within {limit}");
+    }
+    let mut many: &[u8] = b"abcd";
+    assert!(rt; matches!(bytes_within(rt.alloc(), 3, &mut many), Ok(None)));
+    let mut few: &[u8] = b"abcd";
+    assert!(rt; matches!(bytes_within(rt.alloc(), 4, &mut few), Ok(Some(_))));
+}

@@ -1,0 +1,155 @@
+//! The program's words, as `clap` reads them.
+ghost use Rattle.std.specs.Prelude.{◌≡◌, ◌≢◌, [], true, Some, IfErr, IfOk};
+ghost use Rattle.std.specs.Prelude.{option_and_then, option_map};
+ghost use Rattle.std.specs.Str.{bytes_eq};
+ghost use Rattle.clap.specs.Words.{app_of, fault_of, found_of, kind_of, rows_of};
+ghost use Rattle.clap.specs.Words.{subcommand_rows_of, takes};
+ghost use Rattle.clap.specs.Walk.{texts};
+ghost use Rattle.clap.specs.declared.error.kind.ErrorKind.TheVariants.{OutOfMemory};
+ghost use Rattle.sdv_words.specs.CommandLine.{certify_command, certify_request, check_command, check_request, command_line};
+ghost use Rattle.sdv_words.specs.CommandLine.{frame_command, frame_request, meaning_of, request_in, request_of};
+
+use clap::error::ErrorKind;
+use clap::{Arg, ArgMatches, Command};
+use std::alloc::{AllocError, Global};
+use thiserror::Error;
+
+/// How the program is called.
+pub const USAGE: &str = "usage: sdv frame INDEX ARG | sdv certify SCRIPT | sdv check SCRIPT CERT";
+
+/// A command of the program, with the texts of its words.
+#[derive(Clone, Copy, Debug, PartialEq, Eq)]
+pub enum Line<'a> {
+    /// The frame of the command with this index and argument.
+    Frame {
+        index: &'a str,
+        argument: &'a str,
+    },
+    /// The certificate of the script in this file.
+    Certify {
+        script: &'a str,
+    },
+    /// What the checker says of the script and the certificate in these files.
+    Check {
+        script: &'a str,
+        certificate: &'a str,
+    },
+}
+
+/// Why words are no line.
+#[derive(Clone, Copy, Debug, PartialEq, Eq, Error)]
+pub enum LineFault {
+    /// The words name no command, or leave out a word or have one too many, or ask for help.
+    #[error("{}", USAGE)]
+    Usage,
+    #[error("out of memory")]
+    Memory,
+}
+
+impl From<AllocError> for LineFault {
+    ghost use Rattle.sdv_words.specs.declared.line.LineFault.TheVariants.{Memory};
+
+    ghost from_gives = { λ _ fault. fault ≡ Memory };
+
+    fn from(_error: AllocError) -> LineFault {
+        LineFault::Memory
+    }
+}
+
+impl From<clap::Error> for LineFault {
+    ghost use Rattle.sdv_words.specs.declared.line.LineFault.TheVariants.{Memory};
+
+    ghost from_gives = { λ error fault. kind_of error ≡ OutOfMemory → fault ≡ Memory };
+
+    fn from(error: clap::Error) -> LineFault {
+        match error.kind() {
+            ErrorKind::OutOfMemory => LineFault::Memory,
+            _ => LineFault::Usage,
+        }
+    }
+}
+
+/// Reads the words that the program is called with, without the program's own name.
+pub fn line_of<'a>(alloc: Global, words: &'a [&'a str]) -> Result<Line<'a>, LineFault>
+    ensures ok { IfOk result (λ line. meaning_of (texts words.now) ≡ Some (request_of line)) }
+    ensures usage { result ≡ Err LineFault.Usage → fault_of command_line (texts words.now) ≢ [] }
+    ensures taken { takes command_line (texts words.now) ≡ true
+        → IfErr result (λ fault. fault ≡ LineFault.Memory) }
+{
+    let matches = program_command(alloc)?.try_get_matches_from(words)?;
+    line_in(&matches).ok_or(LineFault::Usage)
+}
+
+// `sdv` as clap knows it.
+fn program_command<'a>(alloc: Global) -> Result<Command<'a>, AllocError>
+    ensures { IfOk result (λ command. app_of command ≡ command_line) }
+{
+    Command::new(alloc, "sdv")
+        .no_binary_name(true)
+        .subcommand_required(true)
+        .disable_help_subcommand(true)
+        .subcommand(frame_command(alloc)?)?
+        .subcommand(certify_command(alloc)?)?
+        .subcommand(check_command(alloc)?)
+}
+
+fn frame_command<'a>(alloc: Global) -> Result<Command<'a>, AllocError>
+    ensures { IfOk result (λ command. app_of command ≡ frame_command) }
+{
+    let index = Arg::new(alloc, "INDEX").required(true);
+    let argument = Arg::new(alloc, "ARG").required(true);
+    Command::new(alloc, "frame").arg(index)?.arg(argument)
+}
+
+fn certify_command<'a>(alloc: Global) -> Result<Command<'a>, AllocError>
+    ensures { IfOk result (λ command. app_of command ≡ certify_command) }
+{
+    let script = Arg::new(alloc, "SCRIPT").required(true);
+    Command::new(alloc, "certify").arg(script)
+}
+
+fn check_command<'a>(alloc: Global) -> Result<Command<'a>, AllocError>
+    ensures { IfOk result (λ command. app_of command ≡ check_command) }
+{
+    let script = Arg::new(alloc, "SCRIPT").required(true);
+    let certificate = Arg::new(alloc, "CERT").required(true);
+    Command::new(alloc, "check").arg(script)?.arg(certificate)
+}
+
+fn line_in<'a>(matches: &ArgMatches<'a>) -> Option<Line<'a>>
+    ensures { option_map request_of result
+        ≡ option_and_then request_in (subcommand_rows_of matches.now) }
+{
+    match matches.subcommand()? {
+        ("frame", matches) => frame_line(matches),
+        ("certify", matches) => certify_line(matches),
+        ("check", matches) => check_line(matches),
+        _ => None,
+    }
+}
+
+fn frame_line<'a>(matches: &ArgMatches<'a>) -> Option<Line<'a>>
+    ensures { option_map request_of result ≡ frame_request (rows_of (found_of matches.now)) }
+{
+    let index = matches.get_str("INDEX")?;
+    let argument = matches.get_str("ARG")?;
+    Some(Line::Frame { index, argument })
+}
+
+fn certify_line<'a>(matches: &ArgMatches<'a>) -> Option<Line<'a>>
+    ensures { option_map request_of result ≡ certify_request (rows_of (found_of matches.now)) }
+{
+    let script = matches.get_str("SCRIPT")?;
+    Some(Line::Certify { script })
+}
+
+fn check_line<'a>(matches: &ArgMatches<'a>) -> Option<Line<'a>>
+    ensures { option_map request_of result ≡ check_request (rows_of (found_of matches.now)) }
+{
+    let script = matches.get_str("SCRIPT")?;
+    let certificate = matches.get_str("CERT")?;
+    Some(Line::Check {
+        script,
+        certificate,
+    })
+}

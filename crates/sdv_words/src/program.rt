@@ -1,0 +1,83 @@
+//! The program over its words and its two output streams.
+ghost use Rattle.std.specs.Prelude.{◌≡◌, ◌≢◌, ◌⊎◌, IfErr, OnOk};
+ghost use Rattle.std.specs.Io.KnownBytes.{Keeps};
+ghost use Rattle.clap.specs.Walk.{texts};
+ghost use Rattle.sdv_words.specs.Answer.{Answers, AsksFrame, AsksNothing, IsFaultOf, PrintsFrame, RefusesFrame};
+ghost use Rattle.sdv_words.specs.Check.{any_text};
+ghost use Rattle.sdv_words.specs.Fault.{status_of};
+ghost use Rattle.sdv_words.specs.Number.{Writes};
+ghost use Rattle.sdv_frames.specs.declared.command.Command.{Command};
+
+use crate::certify::certify_file;
+use crate::check::check_files;
+use crate::fault::Fault;
+use crate::file::{MachineFiles, Texts};
+use crate::frame::{command_of, write_frame};
+use crate::line::{Line, line_of};
+use std::alloc::Global;
+use std::io::Write;
+use std::rt::Files;
+
+/// Runs the program on the words that it is called with, without its own name, and gives the exit status: 0 where the
+/// answer was printed, 1 where what was asked for is refused, 2 where the words are no line of the program, a file cannot
+/// be used or standard output failed, 3 where memory ran out.
+pub fn program<R: Files + AllocGlobal, O: Write, E: Write>(
+    rt: &R,
+    words: &[&str],
+    out: &mut O,
+    err: &mut E,
+) -> u8
+    ensures statuses { (result ≡ 0) ⊎ (result ≡ 1) ⊎ (result ≡ 2) ⊎ (result ≡ 3) }
+
+    ensures answered { result ≡ 0
+        → Answers any_text (texts words.now) (O.contents out.old) (O.contents out.new) }
+    ensures quiet { result ≡ 0 → Keeps (E.contents err.old) (E.contents err.new) }
+    ensures faults { result ≢ 0
+        → (fault : Fault) × (result ≡ status_of fault) × IsFaultOf any_text (texts words.now) fault }
+
+    ensures nothing_asked { AsksNothing (texts words.now)
+        → Keeps (O.contents out.old) (O.contents out.new) }
+    ensures refused { result ≡ 1 → Keeps (O.contents out.old) (O.contents out.new) }
+    ensures output_failed { (c : Command) → AsksFrame (texts words.now) c → result ≡ 2
+        → Keeps (E.contents err.old) (E.contents err.new) }
+    ensures no_memory { result ≡ 3 → Keeps (O.contents out.old) (O.contents out.new) }
+{
+    match answer(rt.alloc(), &MachineFiles(rt), words, out) {
+        Ok(()) => 0,
+        Err(fault) => fault.report(err),
+    }
+}
+
+/// Answers a line of the program from these files.
+pub fn answer<'a, T: Texts, O: Write>(
+    alloc: Global,
+    files: &T,
+    words: &'a [&'a str],
+    out: &mut O,
+) -> Result<(), Fault<'a>>
+    ensures ok { OnOk result
+        (Answers (T.gives files.now) (texts words.now) (O.contents out.old) (O.contents out.new)) }
+    ensures faults { IfErr result (IsFaultOf (T.gives files.now) (texts words.now)) }
+    ensures quiet { IfErr result (λ fault. fault ≢ Fault.Output
+        → Keeps (O.contents out.old) (O.contents out.new)) }
+{
+    match line_of(alloc, words)? {
+        Line::Frame { index, argument } => answer_frame(index, argument, out),
+        Line::Certify { script } => certify_file(alloc, files, script, out),
+        Line::Check {
+            script,
+            certificate,
+        } => check_files(alloc, files, script, certificate, out),
+    }
+}
+
+fn answer_frame<'a, O: Write>(index: &str, argument: &str, out: &mut O) -> Result<(), Fault<'a>>
+    ensures ok { OnOk result ((c : Command) × Writes index.now argument.now c
+        × PrintsFrame c (O.contents out.old) (O.contents out.new)) }
+    ensures refused { IfErr result (RefusesFrame index.now argument.now) }
+    ensures quiet { IfErr result (λ fault. fault ≢ Fault.Output
+        → Keeps (O.contents out.old) (O.contents out.new)) }
+{
+    let command = command_of(index, argument).ok_or(Fault::Usage)?;
+    write_frame(command, out).map_err(|_| Fault::Output)
+}
