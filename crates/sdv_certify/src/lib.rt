@@ -9,27 +9,17 @@
 #![tactic(auto)]
 
 mod assembling;
-#[cfg(test)]
-mod assembling_tests;
 mod bounds;
-#[cfg(test)]
-mod bounds_tests;
 mod fault;
 mod form;
 mod known;
 pub mod laws;
-#[cfg(test)]
-mod outcome_tests;
 mod parts;
 mod passes;
 mod refusal;
 mod spans;
-#[cfg(test)]
-mod tests;
 mod ways;
 mod writing;
-#[cfg(test)]
-mod writing_tests;
 
 pub use assembling::certify;
 pub use bounds::bound_forms;

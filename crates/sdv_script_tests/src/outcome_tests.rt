@@ -1,6 +1,6 @@
 //! What is answered of scripts as a production line writes them: the bound, or why there is none.
 
-use crate::{CertifyFault, certify};
+use sdv_certify::{CertifyFault, certify};
 use sdv_card::Shape;
 use sdv_check::check;
 use sdv_script::parse;

@@ -1,6 +1,6 @@
 //! Certificates as they are written, over writers in memory and over one that takes no more than it has room for.
 
-use crate::write;
+use sdv_certify::write;
 use arrayvec::ArrayVec;
 use sdv_card::Shape;
 use sdv_check::read;

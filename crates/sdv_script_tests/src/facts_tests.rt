@@ -1,6 +1,6 @@
 //! Scripts that bring an SD card up and then read, write or erase, accepted or refused as they should be.
 
-use crate::{CertifyFault, facts_of_script};
+use sdv_certify::{CertifyFault, facts_of_script};
 use sdv_card::Shape;
 use sdv_facts::{MAX_NUMBER, VarFacts};
 use sdv_script::parse;

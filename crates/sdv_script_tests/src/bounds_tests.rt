@@ -1,6 +1,6 @@
 //! The bounds of known scripts.
 
-use crate::{CertifyFault, Form, bound_forms};
+use sdv_certify::{CertifyFault, Form, bound_forms};
 use sdv_script::parse;
 use std::alloc::Global;
 use std::process::Abort;
