@@ -1,4 +1,3 @@
-//! The plain program beside values from outside, and the traits at a type of their own.
+//! The traits at a type of their own, and the examples.
 
-mod plain;
 mod port;

@@ -10,13 +10,12 @@ use crate::fields::Fields;
 use crate::state::State;
 use arrayvec::ArrayVec;
 
-/// Room for all that may follow an event: of two settled cards, three times all that a row may leave, twice all that
-/// may stay, and the card itself.
-pub type Branches = ArrayVec<Branch, 900>;
+/// Room for all that may follow an event: at most 16 branches of each of two settled cards.
+pub type Branches = ArrayVec<Branch, 32>;
 
 /// Adds the same branch for each of the fields.
-pub fn with_seen<const N: usize>(all: &mut ArrayVec<Branch, N>, seen: Seen, cards: &[Fields])
-    requires { array_vec_len all.old + length cards.now ≤ N }
+pub fn with_seen(all: &mut Branches, seen: Seen, cards: &[Fields])
+    requires { array_vec_len all.old + length cards.now ≤ 32 }
     ensures items { all.new.items ≡ all.old.items ++ with_seen seen cards.now }
     ensures len { array_vec_len all.new ≡ array_vec_len all.old + length cards.now }
 {
@@ -29,14 +28,8 @@ pub fn with_seen<const N: usize>(all: &mut ArrayVec<Branch, N>, seen: Seen, card
 }
 
 /// Adds a branch with the status that a settled card gives for each of the fields.
-pub fn with_status<const N: usize>(
-    all: &mut ArrayVec<Branch, N>,
-    row: Row,
-    doubt: bool,
-    t: &Fields,
-    cards: &[Fields],
-)
-    requires { array_vec_len all.old + length cards.now ≤ N }
+pub fn with_status(all: &mut Branches, row: Row, doubt: bool, t: &Fields, cards: &[Fields])
+    requires { array_vec_len all.old + length cards.now ≤ 32 }
     ensures items { all.new.items ≡ all.old.items ++ with_status row doubt t.now cards.now }
     ensures len { array_vec_len all.new ≡ array_vec_len all.old + length cards.now }
 {
@@ -64,8 +57,8 @@ fn status_seen(row: Row, doubt: bool, t: &Fields, after: &Fields) -> Seen
 }
 
 /// Adds a branch with the operating conditions for each of the fields.
-pub fn with_conditions<const N: usize>(all: &mut ArrayVec<Branch, N>, cards: &[Fields])
-    requires { array_vec_len all.old + length cards.now ≤ N }
+pub fn with_conditions(all: &mut Branches, cards: &[Fields])
+    requires { array_vec_len all.old + length cards.now ≤ 32 }
     ensures items { all.new.items ≡ all.old.items ++ with_conditions cards.now }
     ensures len { array_vec_len all.new ≡ array_vec_len all.old + length cards.now }
 {
@@ -94,14 +87,8 @@ fn conditions_seen(after: &Fields) -> Seen
 }
 
 /// Adds what may follow a row that is answered with a status, by what takes it and what stays.
-pub fn statuses<const N: usize>(
-    all: &mut ArrayVec<Branch, N>,
-    row: Row,
-    t: &Fields,
-    took: &[Fields],
-    stay: &[Fields],
-)
-    requires { array_vec_len all.old + 2 * length took.now + length stay.now ≤ N }
+pub fn statuses(all: &mut Branches, row: Row, t: &Fields, took: &[Fields], stay: &[Fields])
+    requires { array_vec_len all.old + 2 * length took.now + length stay.now ≤ 32 }
     ensures items { all.new.items ≡ all.old.items ++ statuses row t.now took.now stay.now }
     ensures len { array_vec_len all.new ≡ array_vec_len all.old + 2 * length took.now + length stay.now }
 {
@@ -121,8 +108,8 @@ pub fn unaddressed_seen(order: Order) -> Seen
 }
 
 /// Adds what may follow a phase that ends so.
-pub fn phase_ends<const N: usize>(all: &mut ArrayVec<Branch, N>, end: DataEnd, fields: &Fields)
-    requires { array_vec_len all.old + 2 ≤ N }
+pub fn phase_ends(all: &mut Branches, end: DataEnd, fields: &Fields)
+    requires { array_vec_len all.old + 2 ≤ 32 }
     ensures items { all.new.items ≡ all.old.items ++ phase_ends end fields.now }
     ensures len { array_vec_len all.new ≤ array_vec_len all.old + 2 }
 {
@@ -144,8 +131,8 @@ pub fn phase_ends<const N: usize>(all: &mut ArrayVec<Branch, N>, end: DataEnd, f
 }
 
 /// Adds what may follow a wait that ends so.
-pub fn wait_ends<const N: usize>(all: &mut ArrayVec<Branch, N>, end: WaitEnd, fields: &Fields)
-    requires { array_vec_len all.old + 2 ≤ N }
+pub fn wait_ends(all: &mut Branches, end: WaitEnd, fields: &Fields)
+    requires { array_vec_len all.old + 2 ≤ 32 }
     ensures items { all.new.items ≡ all.old.items ++ wait_ends end fields.now }
     ensures len { array_vec_len all.new ≤ array_vec_len all.old + 2 }
 {

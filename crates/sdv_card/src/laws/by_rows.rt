@@ -11,7 +11,7 @@ ghost use Rattle.sdv_card.specs.Responses.{response_of};
 ghost use Rattle.sdv_card.specs.LegalShapes.{row_legal, settled_legal, order_legal, event_legal, legal_code};
 ghost use Rattle.sdv_card.specs.Outcomes.{row_branches, settled_branches, order_branches, event_branches, outcomes_code};
 
-use super::branches::{phase_ends, wait_ends, with_seen};
+use super::branches::{Branches, phase_ends, wait_ends, with_seen};
 use super::commands::order;
 use super::distinct::distinct;
 use super::phases::{give_legal, recv_legal, recv_reg_legal, wait_legal};
@@ -20,7 +20,7 @@ use super::shapes::is_shape;
 use super::takes::taken_as;
 use crate::answer::{DataEnd, WaitEnd};
 use crate::command::{Order, Row, TakenAs};
-use crate::event::{Ask, Branch, Event, Outcome, Seen};
+use crate::event::{Ask, Event, Outcome, Seen};
 use crate::fields::Fields;
 use crate::shape::Shape;
 use arrayvec::ArrayVec;
@@ -39,7 +39,7 @@ pub trait Rows {
         ensures { result ≡ row_legal kind row t.now };
 
     /// Adds what may follow the row.
-    fn add_branches(all: &mut ArrayVec<Branch, 32>, order: Order, row: Row, t: &Fields)
+    fn add_branches(all: &mut Branches, order: Order, row: Row, t: &Fields)
         requires { array_vec_len all.old ≤ 16 }
         ensures items { all.new.items ≡ all.old.items ++ row_branches kind order row (response_of row) t.now }
         ensures few { array_vec_len all.new ≤ array_vec_len all.old + 16 };
@@ -109,7 +109,7 @@ pub fn outcomes_by_rows<T: Rows>(shape: Shape, event: &Event) -> ArrayVec<Outcom
     }
 }
 
-fn event_branches<T: Rows>(event: &Event, fields: &Fields) -> ArrayVec<Branch, 32>
+fn event_branches<T: Rows>(event: &Event, fields: &Fields) -> Branches
     ensures items { result.items ≡ event_branches T.kind event.now fields.now }
     ensures few { array_vec_len result ≤ 32 }
 {
@@ -128,7 +128,7 @@ fn event_branches<T: Rows>(event: &Event, fields: &Fields) -> ArrayVec<Branch, 3
     all
 }
 
-fn ask_branches<T: Rows>(all: &mut ArrayVec<Branch, 32>, ask: &Ask, fields: &Fields)
+fn ask_branches<T: Rows>(all: &mut Branches, ask: &Ask, fields: &Fields)
     requires { array_vec_len all.old ≤ 0 }
     ensures items { all.new.items ≡ all.old.items ++ event_branches T.kind (Send ask.now) fields.now }
     ensures few { array_vec_len all.new ≤ 32 }
@@ -138,7 +138,7 @@ fn ask_branches<T: Rows>(all: &mut ArrayVec<Branch, 32>, ask: &Ask, fields: &Fie
     }
 }
 
-fn order_branches<T: Rows>(all: &mut ArrayVec<Branch, 32>, order: Order, fields: &Fields)
+fn order_branches<T: Rows>(all: &mut Branches, order: Order, fields: &Fields)
     requires { array_vec_len all.old ≤ 0 }
     ensures items { all.new.items ≡ all.old.items ++ order_branches T.kind order fields.now }
     ensures few { array_vec_len all.new ≤ 32 }
@@ -149,7 +149,7 @@ fn order_branches<T: Rows>(all: &mut ArrayVec<Branch, 32>, order: Order, fields:
     }
 }
 
-fn settled_branches<T: Rows>(all: &mut ArrayVec<Branch, 32>, order: Order, t: &Fields)
+fn settled_branches<T: Rows>(all: &mut Branches, order: Order, t: &Fields)
     requires { array_vec_len all.old ≤ 16 }
     ensures items { all.new.items ≡ all.old.items ++ settled_branches T.kind order t.now (taken_as_of order t.now.app t.now.matched) }
     ensures few { array_vec_len all.new ≤ array_vec_len all.old + 16 }

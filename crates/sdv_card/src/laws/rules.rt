@@ -1,14 +1,11 @@
 ghost use Rattle.std.specs.Prelude.{◌≡◌, ◌≤◌, length};
-ghost use Rattle.arrayvec.specs.ArrayVec.{array_vec_len};
 ghost use Rattle.sdv_card.specs.States.{is_open, own_target};
-ghost use Rattle.sdv_card.specs.RowRules.{may_reach, app_after, erase_after, erase_stayed, preset_kept, preset_after, length_after, matched_after, matched_stayed, counted, transfer_after, length_allows, erase_allows, preset_allows};
+ghost use Rattle.sdv_card.specs.RowRules.{erase_after, matched_stayed, counted, transfer_after, length_allows, erase_allows, preset_allows};
 ghost use Rattle.sdv_card.specs.Responses.{response_of};
 
 use crate::command::{Response, Row};
 use crate::fields::Fields;
 use crate::state::{EraseStage, State, Transfer};
-use arrayvec::ArrayVec;
-use sdv_registers::Kind;
 
 impl Transfer {
     /// The transfer goes on after its phase, until a stop command.
@@ -62,33 +59,6 @@ pub fn response(row: Row) -> Response
     }
 }
 
-/// A card with block addresses or not may reach a state by the row.
-pub fn may_reach(row: Row, block_unit: bool, target: State) -> bool
-    ensures { result ≡ may_reach row block_unit target }
-{
-    match (row, block_unit, target) {
-        (
-            Row::Acmd41 {
-                high_capacity: false,
-            },
-            true,
-            State::Ready,
-        ) => false,
-        _ => true,
-    }
-}
-
-/// The application flag after a row.
-pub fn app_after(row: Row) -> &'static [bool]
-    ensures flags { result.now ≡ app_after row }
-    ensures few { length result.now ≤ 2 }
-{
-    match row {
-        Row::Cmd55 => &[false, true],
-        _ => &[false],
-    }
-}
-
 /// The erase stage after a row.
 pub fn erase_after(row: Row, erase: EraseStage) -> EraseStage
     ensures { result ≡ erase_after row erase }
@@ -99,87 +69,6 @@ pub fn erase_after(row: Row, erase: EraseStage) -> EraseStage
         Row::Cmd33 | Row::Cmd36 => EraseStage::Both,
         _ => EraseStage::Outside,
     }
-}
-
-/// The erase stage of a card that stayed.
-pub fn erase_stayed(row: Row, erase: EraseStage) -> ArrayVec<EraseStage, 2>
-    ensures stages { result.items ≡ erase_stayed row erase }
-    ensures few { array_vec_len result ≤ 2 }
-{
-    let mut all = ArrayVec::new();
-    all.push(erase);
-    match row {
-        Row::Cmd13 | Row::Acmd13 => {}
-        _ => all.push(EraseStage::Outside),
-    }
-    all
-}
-
-/// The preset count that a card keeps or forgets.
-pub fn preset_kept(kind: Kind, preset: u16) -> ArrayVec<u16, 2>
-    ensures counts { result.items ≡ preset_kept kind preset }
-    ensures few { array_vec_len result ≤ 2 }
-{
-    let mut all = ArrayVec::new();
-    all.push(preset);
-    match kind {
-        Kind::Sd => {}
-        Kind::Emmc => all.push(0),
-    }
-    all
-}
-
-/// The preset count after a row.
-pub fn preset_after(kind: Kind, row: Row, preset: u16) -> ArrayVec<u16, 2>
-    ensures counts { result.items ≡ preset_after kind row preset }
-    ensures few { array_vec_len result ≤ 2 }
-{
-    let count = match row {
-        Row::Cmd0 | Row::Cmd18 { .. } | Row::Cmd25 { .. } => 0,
-        Row::Cmd23 { count } => count,
-        _ => return preset_kept(kind, preset),
-    };
-    let mut all = ArrayVec::new();
-    all.push(count);
-    all
-}
-
-/// Whether the block length is 512 after a row.
-pub fn length_after(row: Row, block_unit: bool, length_512: bool) -> ArrayVec<bool, 2>
-    ensures lengths { result.items ≡ length_after row block_unit length_512 }
-    ensures few { array_vec_len result ≤ 2 }
-{
-    let mut all = ArrayVec::new();
-    match row {
-        Row::Cmd0 => {
-            if !block_unit {
-                all.push(false);
-            }
-            all.push(true);
-        }
-        Row::Cmd16 => all.push(true),
-        _ => all.push(length_512),
-    }
-    all
-}
-
-/// Whether the host has the card's relative address after a row; `known`: the host saw the address that the card chose.
-pub fn matched_after(row: Row, known: bool, matched: bool) -> ArrayVec<bool, 2>
-    ensures matches { result.items ≡ matched_after row known matched }
-    ensures few { array_vec_len result ≤ 2 }
-{
-    let mut all = ArrayVec::new();
-    match row {
-        Row::Cmd0 | Row::Cmd3Emmc => all.push(true),
-        Row::Cmd3Sd => {
-            if !known {
-                all.push(false);
-            }
-            all.push(true);
-        }
-        _ => all.push(matched),
-    }
-    all
 }
 
 /// The same of a card that stayed, where the host took a number for the card's address.
@@ -194,7 +83,7 @@ pub fn matched_stayed(state: State) -> &'static [bool]
 }
 
 /// The transfer with a preset count, or without.
-pub fn counted(preset: u16, with_count: Transfer, without: Transfer) -> Transfer
+fn counted(preset: u16, with_count: Transfer, without: Transfer) -> Transfer
     ensures { result ≡ counted preset with_count without }
 {
     if preset == 0 { without } else { with_count }
