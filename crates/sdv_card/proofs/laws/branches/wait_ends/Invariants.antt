@@ -4,7 +4,7 @@ use Rattle.sdv_card.specs.Outcomes.{branch}
 use Rattle.sdv_card.proofs.laws.branches.wait_ends.Given as goal
 
 abbrev pub invariant-loop-state : goal.invariant-loop-state
-invariant-loop-state g l = record {
+invariant-loop-state l = record {
   items : l.all.items ≡ l.initial.all.items ++ map (λ state. branch (record l.fields { state = state }) l.seen) (take l.state-index l.states);
   len : array_vec_len l.all ≡ array_vec_len l.initial.all + l.state-index;
 }
