@@ -17,6 +17,7 @@ mod line;
 mod number;
 mod plain;
 pub mod program;
+pub mod start;
 #[cfg(test)]
 mod testing;
 #[cfg(test)]
