@@ -1,9 +1,12 @@
+//! The controller over a wire that plays one response.
+
 ghost use Rattle.std.specs.Prelude.{None};
 ghost use Rattle.sdv_controller.specs.Silent.{shows_nothing};
 
-use super::*;
+use crate::shared::{frame_of, replies};
 use sdv_card::{Answer, CardPort, DataEnd, WaitEnd};
-use sdv_frames::{Command, Expect, FrameFault, Reply, encode_reply};
+use sdv_controller::{Controller, Wire, WireEnd};
+use sdv_frames::{Command, Expect, FrameFault, Reply};
 
 /// A wire that gives one response, and keeps what it was handed.
 #[derive(Clone, Copy, Debug, PartialEq, Eq)]
@@ -141,38 +144,27 @@ fn answers(rt: HostRuntime) {
     ];
     for (end, expect, answer) in rows {
         let mut controller = Controller::new(playing(&FRAME, end));
-        assert_eq!(rt; ask(&mut controller, expect), answer, "{end:?} {expect:?}");
+        let found = ask(&mut controller, expect);
         let wire = controller.into_wire();
-        assert_eq!(rt; wire.frame, [0x51, 0, 0, 0, 0, 0x55]);
-        assert_eq!(rt; wire.transfers, 1);
+        assert!(rt;
+            found == answer && wire.frame == [0x51, 0, 0, 0, 0, 0x55] && wire.transfers == 1,
+            "{end:?} {expect:?}"
+        );
     }
 }
 
 /// Each format of a reply, and a damaged one.
 #[test]
 fn formats(rt: HostRuntime) {
-    let rows = [
-        (Expect::R1(17), STATUS),
-        (Expect::R2, Reply::R2([7; 15])),
-        (Expect::R3, Reply::R3(0x80ff8000)),
-        (Expect::R6, Reply::R6(0x12340500)),
-        (Expect::R7, Reply::R7(0x1aa)),
-    ];
-    for (expect, reply) in rows {
-        let frame = match reply {
-            Reply::R1 { status, .. } => encode_reply(&Reply::R1 { index: 17, status }),
-            _ => encode_reply(&reply),
-        };
+    for (expect, reply) in replies(17) {
+        let frame = frame_of(&rt, reply);
         let mut wire = playing(frame.as_slice(), WireEnd::Bytes(frame.len()));
-        assert_eq!(rt;
-            ask(&mut Controller::new(wire), expect),
-            Answer::Reply(reply),
-            "{reply:?}"
-        );
+        let found = ask(&mut Controller::new(wire), expect);
         wire.response[0] ^= 0x80;
-        assert_eq!(rt;
-            ask(&mut Controller::new(wire), expect),
-            Answer::Damaged(FrameFault::StartBit)
+        let damaged = ask(&mut Controller::new(wire), expect);
+        assert!(rt;
+            found == Answer::Reply(reply) && damaged == Answer::Damaged(FrameFault::StartBit),
+            "{reply:?}"
         );
     }
 }
@@ -182,12 +174,14 @@ fn formats(rt: HostRuntime) {
 fn phases(rt: HostRuntime) {
     let mut controller = Controller::new(playing(&[], WireEnd::Silent));
     let mut blocks = [[0; 512]; 2];
-    assert_eq!(rt; controller.data_in(&mut blocks), DataEnd::Ok);
-    assert_eq!(rt; blocks[1][0], 0x5a);
     let mut bytes = [0; 8];
-    assert_eq!(rt; controller.data_in_reg(&mut bytes), DataEnd::Cut);
-    assert_eq!(rt; bytes, [0xa5; 8]);
-    assert_eq!(rt; controller.data_out(&[[0; 512]; 3]), DataEnd::Ok);
-    assert_eq!(rt; controller.wait(), WaitEnd::Late);
-    assert_eq!(rt; controller.into_wire().phases, 4);
+    let ends = (
+        controller.data_in(&mut blocks),
+        controller.data_in_reg(&mut bytes),
+        controller.data_out(&[[0; 512]; 3]),
+        controller.wait(),
+    );
+    assert!(rt; ends == (DataEnd::Ok, DataEnd::Cut, DataEnd::Ok, WaitEnd::Late));
+    assert!(rt; blocks[1][0] == 0x5a && bytes == [0xa5; 8]);
+    assert!(rt; controller.into_wire().phases == 4);
 }

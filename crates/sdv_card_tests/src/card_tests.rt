@@ -1,7 +1,9 @@
+//! The trait of ports at a type of its own, and the examples.
+
 ghost use Rattle.std.specs.Prelude.{None, MatchOption};
 ghost use Rattle.std.proofs.Common.{subst};
 
-use crate::{Answer, CardPort, DataEnd, WaitEnd, examples};
+use sdv_card::{Answer, CardPort, DataEnd, WaitEnd, examples};
 use sdv_frames::{Command, Expect};
 
 /// A port behind which there is nothing.
