@@ -171,7 +171,10 @@ fn say_number<E: Write>(words: &str, number: u64, err: &mut E) -> io::Result<()>
     ensures { Writes (E.contents err.old) (E.contents err.new) result (numbered_line words.now number) }
 {
     let mut digits = Buffer::new();
-    write_texts(err, &[words.as_bytes(), digits.format(number).as_bytes(), b"\n"])
+    write_texts(
+        err,
+        &[words.as_bytes(), digits.format(number).as_bytes(), b"\n"],
+    )
 }
 
 fn say_script<E: Write>(fault: ScriptFault, err: &mut E) -> io::Result<()>
@@ -216,7 +219,11 @@ fn say_uncertified<E: Write>(fault: CertifyFault, err: &mut E) -> io::Result<()>
     match fault {
         CertifyFault::Illegal { point, shape } => say_illegal(point, shape, err),
         CertifyFault::Address { point } => say_number("refused Address point ", point as u64, err),
-        CertifyFault::EndState { point } => say_number("refused EndState point ", point as u64, err),
+        CertifyFault::EndState { point } => say_number(
+            "refused EndState point ",
+            point as u64,
+            err,
+        ),
         CertifyFault::TooMany => say_plain("refused TooMany", err),
         CertifyFault::Memory => say_plain("refused Memory", err),
     }
@@ -227,7 +234,16 @@ fn say_illegal<E: Write>(point: usize, shape: Shape, err: &mut E) -> io::Result<
 {
     let mut digits = Buffer::new();
     let point = digits.format(point as u64).as_bytes();
-    write_texts(err, &[b"refused Illegal point ", point, b" shape ", &digits_of(shape), b"\n"])
+    write_texts(
+        err,
+        &[
+            b"refused Illegal point ",
+            point,
+            b" shape ",
+            &digits_of(shape),
+            b"\n",
+        ],
+    )
 }
 
 /// The sixteen hexadecimal digits of a shape's code.

@@ -22,4 +22,3 @@ pub mod start;
 mod testing;
 #[cfg(test)]
 mod tests;
-

@@ -35,7 +35,7 @@ pub fn program<R: Files + AllocGlobal, O: Write, E: Write>(
     ensures quiet { result ≡ 0 → Keeps (E.contents err.old) (E.contents err.new) }
     ensures faults { result ≢ 0 → (fault : Fault) × (result ≡ status_of fault)
         × EndsBy any_text (texts words.now) fault (O.contents out.old) (O.contents out.new)
-            (E.contents err.old) (E.contents err.new) }
+        (E.contents err.old) (E.contents err.new) }
 
     ensures nothing_asked { AsksNothing (texts words.now)
         → Keeps (O.contents out.old) (O.contents out.new) }
