@@ -22,6 +22,7 @@ use Rattle.sdv_words.specs.Certify.{Certifies, CertifiesInPart, IsTextOfScript, 
 use Rattle.sdv_words.specs.Fault.{fault_of_certify}
 use Rattle.sdv_words.specs.declared.fault.Fault.{Fault}
 use Rattle.sdv_words.specs.declared.fault.Fault.TheVariants.{Output}
+use Rattle.sdv_words.proofs.OutputLaws.{whole, in_part, if_err}
 
 -- a graph of the text is one of the script, since a text has one tree
 graph_of_script : (text : Text) (s : Tree) (g : Flow) → IsTextOfScript text s → IsGraphOfText text g → IsGraphOf Sd (shown s).names (shown s).body g
@@ -57,22 +58,6 @@ refused_of_text text s (certifies.EndState point) (Err f) is same is_script refu
     rw is (record { script = s; is = record { same = same; is_script = is_script }; reason = λ e. cc; refused = refused })
 refused_of_text text s certifies.TooMany (Err f) is same is_script refused =
     rw is (record { script = s; is = record { same = same; is_script = is_script }; reason = λ e. cc; refused = refused })
-
-module _ {E : Type 0} (before after : Option (List ℕ)) (text : List ℕ) where
-  -- what was written, where the answer is as good as the writing
-  whole : (w : Result (Unit {0}) E) (r : Result (Unit {0}) Fault) → is_ok r ≡ is_ok w → Writes before after w text → OnOk r (Appends before after text)
-  whole (Ok u) (Ok v) same writes = writes
-  whole (Err e) (Ok v) same writes = cc
-  whole w (Err f) same writes = tt
-
-  in_part : (w : Result (Unit {0}) E) (r : Result (Unit {0}) Fault) → is_ok r ≡ is_ok w → Writes before after w text → IfErr r (λ _. AppendsPart before after text)
-  in_part w (Ok v) same writes = tt
-  in_part (Ok u) (Err f) same writes = cc
-  in_part (Err e) (Err f) same writes = writes
-
-if_err : {T : Type 0} (r : Result T Fault) (P Q : Fault → Type 0) → IfErr r P → ((fault : Fault) → P fault → Q fault) → IfErr r Q
-if_err (Ok x) P Q is step = tt
-if_err (Err fault) P Q is step = step fault is
 
 module _ (text : Text) (points : List PointFacts) (certificate : IsCertificateOfText text points) where
   -- a certificate that was written whole

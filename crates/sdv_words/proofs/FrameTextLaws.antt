@@ -1,5 +1,5 @@
 -- The text of a frame, byte by byte.
-use Rattle.std.proofs.Common.{◌≡◌, ◌≢◌, ◌<◌, ◌+◌, ℕ, zero, suc, refl, ap, arith, List, [], ◌∷◌, ◌++◌, length, map, take, get_or}
+use Rattle.std.proofs.Common.{◌≡◌, ◌≢◌, ◌<◌, ◌+◌, ◌∙◌, ℕ, zero, suc, refl, sym, ap, append_assoc, arith, List, [], ◌∷◌, ◌++◌, length, map, take, get_or}
 use Rattle.std.specs.List.{join_with_byte}
 use Rattle.std.proofs.lemmas.List.{take_more}
 use Rattle.sdv_words.specs.FrameText.{two_digits}
@@ -8,9 +8,14 @@ abbrev pub shown : List ℕ → List ℕ
 shown bytes = join_with_byte 32 (map two_digits bytes)
 
 -- one more byte after others is shown after a space
+module _ (digits : ℕ → List ℕ) where
+  more : (x : ℕ) (xs : List ℕ) (byte : ℕ)
+      → join_with_byte 32 (map digits (x ∷ xs ++ byte ∷ [])) ≡ join_with_byte 32 (map digits (x ∷ xs)) ++ (32 ∷ [] ++ digits byte)
+  more x [] byte = refl
+  more x (y ∷ xs) byte = ap (λ text. digits x ++ (32 ∷ text)) (more y xs byte) ∙ sym (append_assoc (digits x) (32 ∷ join_with_byte 32 (map digits (y ∷ xs))) (32 ∷ [] ++ digits byte))
+
 shown_more : (x : ℕ) (xs : List ℕ) (byte : ℕ) → shown (x ∷ xs ++ byte ∷ []) ≡ shown (x ∷ xs) ++ (32 ∷ [] ++ two_digits byte)
-shown_more x [] byte = refl
-shown_more x (y ∷ xs) byte = ap (λ text. two_digits x ++ (32 ∷ text)) (shown_more y xs byte)
+shown_more = more two_digits
 
 -- the byte at i is shown after those before it, and after a space where there are any
 pub shown_take : (bytes : List ℕ) (i : ℕ) (separator : List ℕ) → i < length bytes → (i ≡ 0 → separator ≡ []) → (i ≢ 0 → separator ≡ 32 ∷ [])

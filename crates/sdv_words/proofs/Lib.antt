@@ -4,3 +4,5 @@ mod CommandLineLaws
 mod FrameTextLaws
 mod WordsGiven
 mod PlainRuns
+pub mod OutputLaws
+pub mod StartLaws

@@ -191,8 +191,16 @@ fn say_certificate<E: Write>(fault: CertFault, err: &mut E) -> io::Result<()>
 {
     match fault {
         CertFault::Header => say_plain("certificate fault Header", err),
-        CertFault::Syntax { line } => say_number("certificate fault Syntax line ", line, err),
-        CertFault::Order { line } => say_number("certificate fault Order line ", line, err),
+        CertFault::Syntax { line } => say_number(
+            "certificate fault Syntax line ",
+            u64::from(line),
+            err,
+        ),
+        CertFault::Order { line } => say_number(
+            "certificate fault Order line ",
+            u64::from(line),
+            err,
+        ),
         CertFault::Limit => say_plain("certificate fault Limit", err),
         CertFault::Memory => say_plain("certificate fault Memory", err),
     }

@@ -43,7 +43,7 @@ pub fn write_frame<W: Write>(command: Command, out: &mut W) -> io::Result<()>
 }
 
 /// Room for six bytes, each with its separator, and the end of the line.
-type FrameLine = ArrayVec<u8, 18>;
+type FrameLine = ArrayVec<u8, 19>;
 
 fn line_of(frame: &[u8; 6]) -> FrameLine
     ensures { result.items ≡ frame_text frame.now }
@@ -58,7 +58,7 @@ fn line_of(frame: &[u8; 6]) -> FrameLine
 }
 
 fn push_byte(separator: &str, byte: u8, line: &mut FrameLine)
-    requires room { array_vec_len line.old + 3 ≤ 18 }
+    requires room { array_vec_len line.old + 3 ≤ 19 }
     requires short { length separator.now ≤ 1 }
     ensures items { line.new.items ≡ line.old.items ++ (separator.now ++ two_digits byte) }
     ensures len { array_vec_len line.new ≤ array_vec_len line.old + (length separator.now + 2) }

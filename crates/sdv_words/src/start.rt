@@ -1,5 +1,5 @@
 //! The program over the words of a process.
-ghost use Rattle.std.specs.Prelude.{◌≡◌, ◌×◌, IfErr, IfOk, drop, map, string_bytes};
+ghost use Rattle.std.specs.Prelude.{◌≡◌, IfErr, IfOk, drop, map, string_bytes};
 ghost use Rattle.std.specs.IoError.{error_kind};
 ghost use Rattle.std.specs.Io.KnownBytes.{Keeps};
 ghost use Rattle.clap.specs.Walk.{texts};
@@ -43,11 +43,16 @@ fn start_on<R: Files + AllocGlobal, O: Write, E: Write>(
     ensures { Ends any_text (drop 1 (map string_bytes words.now)) result
         (O.contents out.old) (O.contents out.new) (E.contents err.old) (E.contents err.new) }
 {
-    let rest = words.get(1..).unwrap_or(&[]);
-    match texts_of(rt.alloc(), rest) {
+    match texts_of(rt.alloc(), but_the_first(words)) {
         Ok(texts) => program(rt, texts.as_slice(), out, err),
         Err(_) => Fault::Memory.report(err),
     }
+}
+
+fn but_the_first(words: &[String]) -> &[String]
+    ensures { result.now ≡ drop 1 words.now }
+{
+    if words.is_empty() { words } else { &words[1..] }
 }
 
 fn texts_of<'a>(alloc: Global, words: &'a [String]) -> Result<Vec<&'a str>, AllocError>

@@ -1,8 +1,11 @@
-use Rattle.std.proofs.Common.{◌≡◌, rules}
+use Rattle.std.proofs.Common.{◌≡◌, rules, subst}
 use Rattle.clap.specs.Walk.{texts}
 use Rattle.sdv_words.specs.Check.{any_text}
-use Rattle.sdv_words.specs.Fault.{status_of}
+use Rattle.sdv_words.specs.Fault.{Says, status_of}
+use Rattle.sdv_words.specs.declared.fault.Fault.{Fault}
+use Rattle.sdv_words.specs.declared.fault.Fault.TheVariants.{Output}
 use Rattle.sdv_words.proofs.AnswerLaws.{frame_output, no_answer, no_output}
+use Rattle.sdv_words.proofs.OutputLaws.{left_kept, nothing_said}
 use Rattle.sdv_words.proofs.program.program.Goals as goal
 
 pub returns-in-Ok-clause-nothing_asked : goal.returns-in-Ok-clause-nothing_asked
@@ -10,9 +13,10 @@ returns-in-Ok-clause-nothing_asked g c = λ nothing. absurd (no_answer any_text 
 
 pub returns-in-Err-clause-nothing_asked : goal.returns-in-Err-clause-nothing_asked
 returns-in-Err-clause-nothing_asked g c = λ nothing.
-    c.in-Err.ensures.quiet (no_output any_text (texts c.args.words.now) c.in-Err.fault nothing c.in-Err.ensures.faults)
+    left_kept any_text (texts c.args.words.now) c.in-Err.fault _ _ (no_output any_text (texts c.args.words.now) c.in-Err.fault nothing c.in-Err.ensures.faults) c.in-Err.ensures.left
 
 pub returns-in-Err-clause-output_failed : goal.returns-in-Err-clause-output_failed
 returns-in-Err-clause-output_failed g c = λ command asked status.
     let two : status_of c.in-Err.fault ≡ 2 = search rules in
-    c.report.ensures.silent (frame_output any_text (texts c.args.words.now) command asked c.in-Err.fault two c.in-Err.ensures.faults)
+    let output : c.in-Err.fault ≡ Output = frame_output any_text (texts c.args.words.now) command asked c.in-Err.fault two c.in-Err.ensures.faults in
+    nothing_said _ _ (subst (λ (fault : Fault). Says fault (g.E.Write.contents c.args.err.now) (g.E.Write.contents c.report.new.err)) output c.report.ensures.said)
