@@ -1,6 +1,21 @@
 //! `sdv`, the program: `sdv_words` does its work, over the words, files and streams of the process.
 #![tactic(auto)]
 
+#[cfg(test)]
+mod certify_tests;
+#[cfg(test)]
+mod check_tests;
+#[cfg(test)]
+mod plain_scripts;
+#[cfg(test)]
+mod plain_tests;
+#[cfg(test)]
+mod start_tests;
+#[cfg(test)]
+mod testing;
+#[cfg(test)]
+mod tests;
+
 use sdv_words::start::start;
 use std::io;
 use std::process::ExitCode;

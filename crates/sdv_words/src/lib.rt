@@ -4,21 +4,13 @@
 //! says what is answered.
 #![tactic(auto)]
 
-mod certify;
-#[cfg(test)]
-mod certify_tests;
-mod check;
-#[cfg(test)]
-mod check_tests;
+pub mod certify;
+pub mod check;
 pub mod fault;
-mod file;
-mod frame;
-mod line;
-mod number;
-mod plain;
+pub mod file;
+pub mod frame;
+pub mod line;
+pub mod number;
+pub mod plain;
 pub mod program;
 pub mod start;
-#[cfg(test)]
-mod testing;
-#[cfg(test)]
-mod tests;

@@ -5,10 +5,6 @@ ghost use Rattle.std.specs.Io.KnownBytes.{Keeps};
 ghost use Rattle.sdv_words.specs.PlainRun.{WholeRun, PartOfRun, StoppedRun, IsNoScript};
 
 mod port;
-#[cfg(test)]
-mod scripts;
-#[cfg(test)]
-mod tests;
 
 use port::PlainPort;
 use sdv_run::{End, RunFault, run_graph};

@@ -1,5 +1,5 @@
 //! Texts that tests share, and the call of the program.
-use crate::program::program;
+use sdv_words::program::program;
 use std::process::Abort;
 use std::rt::Files;
 use std::{fs, io, str};
@@ -33,7 +33,7 @@ done
 ";
 
 /// What the program has to answer.
-#[derive(Clone, Copy)]
+#[derive(Clone, Copy, Debug)]
 pub struct Expected<'a> {
     pub status: u8,
     /// All of standard output.

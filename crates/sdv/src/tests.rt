@@ -1,10 +1,10 @@
 //! The program over writers in memory, and over one that takes nothing.
-use crate::fault::Fault;
-use crate::frame::{command_of, write_frame};
-use crate::line::{Line, LineFault, line_of};
-use crate::number::number_of;
-use crate::program::program;
 use sdv_frames::Command;
+use sdv_words::fault::Fault;
+use sdv_words::frame::{command_of, write_frame};
+use sdv_words::line::{Line, LineFault, line_of};
+use sdv_words::number::number_of;
+use sdv_words::program::program;
 use std::io::{self, Write};
 use std::test::Fail;
 

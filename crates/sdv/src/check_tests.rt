@@ -1,7 +1,7 @@
 //! Checks of scripts and certificates in files, and in memory.
-use crate::file::{Texts, bytes_within};
-use crate::program::{answer, program};
 use crate::testing::{CERTIFICATE, Expected, SMALLEST, expect, expect_check, prints, says};
+use sdv_words::file::{Texts, bytes_within};
+use sdv_words::program::{answer, program};
 use std::alloc::{AllocError, Global};
 use std::fs;
 use std::io::{self, ErrorKind, Read, Write};

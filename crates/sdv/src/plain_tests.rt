@@ -1,9 +1,9 @@
 //! Scripts, and texts that are none, each with its trace.
 
-use super::scripts::{BOOT, BYTE_HOST, IDENTIFICATION};
-use super::{PlainFault, plain_run};
+use crate::plain_scripts::{BOOT, BYTE_HOST, IDENTIFICATION};
 use sdv_run::{End, RunFault};
 use sdv_script::{FaultKind, ScriptFault};
+use sdv_words::plain::{PlainFault, plain_run};
 use std::alloc::Global;
 use std::io::{self, Write};
 use std::process::Abort;

@@ -1,8 +1,8 @@
 //! Certificates of scripts in files.
-use crate::program::program;
 use crate::testing::{
     BRING_UP, CERTIFICATE, Expected, SMALLEST, expect, expect_certify, prints, says,
 };
+use sdv_words::program::program;
 use std::fs;
 use std::io::{self, Write};
 use std::test::Fail;
