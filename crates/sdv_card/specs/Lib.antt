@@ -1,6 +1,7 @@
 pub mod Lists
 pub mod States
 pub mod StateTable
+pub mod NextStates
 pub mod CommandTable
 pub mod Takes
 pub mod RowRules

@@ -3,7 +3,7 @@ ghost use Rattle.sdv_registers.specs.declared.kind.Kind.TheVariants.{Sd};
 use crate::rows;
 use arrayvec::ArrayVec;
 use sdv_card::laws::{Rows, legal_by_rows, outcomes_by_rows};
-use sdv_card::{Branch, CardTable, Event, Fields, Order, Outcome, Row, Shape};
+use sdv_card::{CardTable, Event, Outcome, Row, Shape, State};
 use sdv_registers::Kind;
 
 /// The state table of SD cards.
@@ -16,12 +16,14 @@ impl Rows for SdTable {
         Kind::Sd
     }
 
-    fn is_legal(row: Row, t: &Fields) -> bool {
-        rows::is_legal(row, t)
+    fn next(row: Row, from: State) -> Option<State> {
+        rows::next(row, from)
     }
 
-    fn add_branches(all: &mut ArrayVec<Branch, 32>, order: Order, row: Row, t: &Fields) {
-        rows::add_branches(all, order, row, t);
+    fn preset_kept(preset: u16) -> ArrayVec<u16, 2> {
+        let mut kept = ArrayVec::new();
+        kept.push(preset);
+        kept
     }
 }
 
