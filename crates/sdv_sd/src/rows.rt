@@ -1,3 +1,5 @@
+//! The rows of SD cards.
+
 ghost use Rattle.std.specs.Prelude.{◌≡◌};
 ghost use Rattle.sdv_card.specs.StateTable.{sd_rows, targets};
 ghost use Rattle.sdv_card.specs.NextStates.{next_states};

@@ -28,7 +28,7 @@ impl Rows for SdTable {
 }
 
 impl CardTable for SdTable {
-    ghost use Rattle.sdv_card.proofs.TableLaws.{pairs_have_shapes, legal_is_exact, has_step, steps_are_outcomes, steps_are_expected, steps_keep_pairs, steps_keep_same, steps_keep_sound, steps_keep_on_card, asks_address, starts_hold, verdicts_hold};
+    ghost use Rattle.sdv_card.proofs.TableLaws.{pairs_have_shapes, legal_is_exact, has_step, has_outcome, steps_are_outcomes, steps_are_expected, steps_keep_pairs, steps_keep_same, steps_keep_sound, steps_keep_on_card, asks_address, starts_hold, verdicts_hold};
 
     ghost kind = { Sd };
 
@@ -45,6 +45,8 @@ impl CardTable for SdTable {
     ghost legal_is_exact = { legal_is_exact Sd };
 
     ghost has_step = { has_step Sd };
+
+    ghost has_outcome = { has_outcome Sd };
 
     ghost steps_are_outcomes = { steps_are_outcomes Sd };
 
