@@ -29,3 +29,4 @@ pub mod Guards
 pub mod Laws
 pub mod Port
 pub mod BringUp
+pub mod EmmcBringUp
