@@ -16,8 +16,6 @@ mod port;
 mod shape;
 mod state;
 mod table;
-#[cfg(test)]
-mod tests;
 
 pub use answer::{Answer, DataEnd, WaitEnd};
 pub use command::{Move, Order, Response, Row, TakenAs};

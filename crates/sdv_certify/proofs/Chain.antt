@@ -99,7 +99,7 @@ either_leads (Some g) None f a b = a
 either_leads (Some g) (Some h) f a b = both_of g h f a b
 
 sends_at_most : (o : Option Form) (f : Form) → AtMost (leads_to o) f → AtMost (sends_then o) (paid 1 f)
-sends_at_most None f h = end_at_most (paid 1 f)
+sends_at_most None f h = record { base = omega arith; each = λ i. omega arith }
 sends_at_most (Some g) f h = record { base = omega (arith, h.base); each = h.each }
 
 on_at_most : (f o : Form) → AtMost f (form_at (spans (Some 0) None None) f o)

@@ -3,12 +3,12 @@ use Rattle.std.proofs.Common.{◌≡◌, ℕ, suc, ◌+◌, ◌<◌, ◌≤◌, 
 use Rattle.std.proofs.lemmas.List.Concat.{flat_map-cons}
 use Rattle.std.specs.Io.KnownBytes.{Appends}
 use Rattle.sdv_card.specs.declared.shape.Shape.{Shape}
-use Rattle.sdv_script.specs.Printed.{AppendsFront}
-use Rattle.sdv_script.proofs.Written.{appends_more, front_more, front_longer}
+use Rattle.sdv_text.specs.Written.{AppendsPart, Writes}
+use Rattle.sdv_text.proofs.WrittenLaws.{appends_more, part_after, part_before}
 use Rattle.sdv_facts.specs.declared.numbers.VarFacts.{VarFacts}
 use Rattle.sdv_facts.specs.declared.certificate.PointFacts.{PointFacts}
 use Rattle.sdv_facts.specs.CertificateText.{number_written, gap_written, var_written, shape_written, each_written, point_written, points_written, text_of}
-use Rattle.sdv_certify.specs.Pieces.{number_text, gap_text, var_text, shape_text, bound_text, numbers_text, shapes_text, line_text, lines_text, title_text, Writes}
+use Rattle.sdv_certify.specs.Pieces.{number_text, gap_text, var_text, shape_text, bound_text, numbers_text, shapes_text, line_text, lines_text, title_text}
 
 -- EACH PIECE, before what follows it
 
@@ -62,8 +62,8 @@ pub one_more : (old mid new : Option (List ℕ)) (all written piece rest : List 
     → (w : List ℕ) × (all ≡ w ++ rest) × Appends old new w
 one_more old mid new all written piece rest e p q = (written ++ piece, e ∙ sym (append_assoc written piece rest), appends_more old mid new written piece p q)
 
-pub one_failed : (old mid new : Option (List ℕ)) (all written piece rest : List ℕ) → all ≡ written ++ (piece ++ rest) → Appends old mid written → AppendsFront mid new piece → AppendsFront old new all
-one_failed old mid new all written piece rest e p q = rw e (front_more old mid new written (piece ++ rest) p (front_longer mid new piece rest q))
+pub one_failed : (old mid new : Option (List ℕ)) (all written piece rest : List ℕ) → all ≡ written ++ (piece ++ rest) → Appends old mid written → AppendsPart mid new piece → AppendsPart old new all
+one_failed old mid new all written piece rest e p q = rw e (part_after old mid new written (piece ++ rest) p (part_before mid new piece rest q))
 
 pub last_shape : (xs : List Shape) (i : ℕ) (d : Shape) → i < length xs → shapes_text (drop i xs) ≡ shape_text (get_or xs i d) ++ shapes_text (drop (i + 1) xs)
 last_shape xs i d lt =
@@ -84,7 +84,7 @@ no_line ps i le = ap (lines_text i) (drop_of_length-le ps le)
 
 -- THE CODE: fronts of lines, and writers that failed
 
-pub failed : {E : Type 0} (r : Result (Unit {0}) E) (old new : Option (List ℕ)) (text : List ℕ) → IsErr r → AppendsFront old new text → Writes old new r text
+pub failed : {E : Type 0} (r : Result (Unit {0}) E) (old new : Option (List ℕ)) (text : List ℕ) → IsErr r → AppendsPart old new text → Writes old new r text
 failed (Ok x) old new text err p = absurd (cc err)
 failed (Err e) old new text err p = p
 
@@ -97,13 +97,13 @@ title_made a b c d n e0 e1 e2 e3 =
 pub front_made : (a b c : List ℕ) (place : ℕ) (p : PointFacts) → a ≡ [] → b ≡ a ++ bound_text place p → c ≡ b ++ numbers_text p → c ≡ bound_text place p ++ numbers_text p
 front_made a b c place p e0 e1 e2 = e2 ∙ ap (λ (l : List ℕ). l ++ numbers_text p) (e1 ∙ ap (λ (l : List ℕ). l ++ bound_text place p) e0)
 
-pub front_failed : {E : Type 0} (r : Result (Unit {0}) E) (old new : Option (List ℕ)) (front : List ℕ) (place : ℕ) (p : PointFacts) → IsErr r → front ≡ bound_text place p ++ numbers_text p → AppendsFront old new front → Writes old new r (line_text place p)
+pub front_failed : {E : Type 0} (r : Result (Unit {0}) E) (old new : Option (List ℕ)) (front : List ℕ) (place : ℕ) (p : PointFacts) → IsErr r → front ≡ bound_text place p ++ numbers_text p → AppendsPart old new front → Writes old new r (line_text place p)
 front_failed r old new front place p err e h =
-    failed r old new (line_text place p) err (front_longer old new (bound_text place p ++ numbers_text p) (shapes_text p.facts.shapes) (subst (λ (l : List ℕ). AppendsFront old new l) e h))
+    failed r old new (line_text place p) err (part_before old new (bound_text place p ++ numbers_text p) (shapes_text p.facts.shapes) (subst (λ (l : List ℕ). AppendsPart old new l) e h))
 
-pub title_failed : {E : Type 0} (r : Result (Unit {0}) E) (old new : Option (List ℕ)) (c : List PointFacts) → IsErr r → AppendsFront old new (title_text (length c)) → Writes old new r (text_of c)
+pub title_failed : {E : Type 0} (r : Result (Unit {0}) E) (old new : Option (List ℕ)) (c : List PointFacts) → IsErr r → AppendsPart old new (title_text (length c)) → Writes old new r (text_of c)
 title_failed r old new c err h =
-    failed r old new (text_of c) err (subst (λ (l : List ℕ). AppendsFront old new l) (sym (text_is c)) (front_longer old new (title_text (length c)) (lines_text 0 c) h))
+    failed r old new (text_of c) err (subst (λ (l : List ℕ). AppendsPart old new l) (sym (text_is c)) (part_before old new (title_text (length c)) (lines_text 0 c) h))
 
 pub all_written : (old new : Option (List ℕ)) (all written rest : List ℕ) → all ≡ written ++ rest → rest ≡ [] → Appends old new written → Appends old new all
 all_written old new all written rest e none p =

@@ -37,9 +37,9 @@ abbrev pub leads_to : Option Form → Form
 leads_to None = end_form
 leads_to (Some f) = f
 
--- a command is sent first
+-- a command is sent first; where it leads nowhere, that is all
 abbrev pub sends_then : Option Form → Form
-sends_then None = end_form
+sends_then None = record { base = 1; each = [] }
 sends_then (Some f) = record f { base = 1 + f.base }
 
 -- OF A LOOP

@@ -1,10 +1,8 @@
--- The text of a certificate piece by piece, each by itself, and what a writer holds that took it or failed at it.
-use Rattle.std.specs.Prelude.{ℕ, suc, List, [], ◌∷◌, ◌++◌, flat_map, codes, decimal, Option, Some, None, Result, MatchResult}
+-- The text of a certificate piece by piece, each by itself.
+use Rattle.std.specs.Prelude.{ℕ, suc, List, [], ◌∷◌, ◌++◌, flat_map, codes, decimal, Option, Some, None}
 use Rattle.std.specs.Int.{w64, to_be_bytes}
-use Rattle.std.specs.Io.KnownBytes.{Appends}
 use Rattle.hex.specs.Hex.{encode_lower}
 use Rattle.sdv_card.specs.declared.shape.Shape.{Shape}
-use Rattle.sdv_script.specs.Printed.{AppendsFront}
 use Rattle.sdv_facts.specs.declared.numbers.VarFacts.{VarFacts}
 use Rattle.sdv_facts.specs.declared.certificate.PointFacts.{PointFacts}
 
@@ -43,7 +41,3 @@ lines_text place (p ∷ ps) = line_text place p ++ lines_text (suc place) ps
 -- the first two lines
 abbrev pub title_text : (count : ℕ) → List ℕ
 title_text count = codes "sdv-cert 1\npoints" ++ (number_text count ++ 10 ∷ [])
-
--- known bytes grow by a text, or, where the writer failed, by a front of it
-abbrev pub Writes : {E : Type 0} → Option (List ℕ) → Option (List ℕ) → Result (Unit {0}) E → List ℕ → Type 0
-Writes old new result text = MatchResult result (λ _. Appends old new text) (λ _. AppendsFront old new text)

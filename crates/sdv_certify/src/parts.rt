@@ -50,17 +50,15 @@ pub fn leads_to(next: Option<Form>) -> Form
     }
 }
 
-/// The form of a command that leads there.
+/// The form of a command that leads there; where that is nowhere, only the command counts.
 pub fn sends_then(next: Option<Form>) -> Form
     requires { 1 + (leads_to next).base < 2 ^ 128 }
     ensures { full_form result ≡ full_form (sends_then next) }
 {
-    match next {
-        None => END,
-        Some(form) => Form {
-            base: 1 + form.base,
-            ..form
-        },
+    let form = leads_to(next);
+    Form {
+        base: 1 + form.base,
+        ..form
     }
 }
 

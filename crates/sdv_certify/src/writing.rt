@@ -3,13 +3,15 @@
 ghost use Rattle.std.specs.Prelude.{◌≡◌, ◌<◌, ◌≤◌, ◌+◌, ◌++◌, [], ◌∷◌, length};
 ghost use Rattle.arrayvec.specs.ArrayVec.{array_vec_len};
 ghost use Rattle.sdv_facts.specs.CertificateText.{text_of};
-ghost use Rattle.sdv_certify.specs.Pieces.{Writes, number_text, gap_text, var_text, shape_text, bound_text, numbers_text, line_text, title_text};
+ghost use Rattle.sdv_text.specs.Written.{Writes};
+ghost use Rattle.sdv_certify.specs.Pieces.{number_text, gap_text, var_text, shape_text, bound_text, numbers_text, line_text, title_text};
 
 use arrayvec::ArrayVec;
 use itoa::Buffer;
 use sdv_card::Shape;
 use sdv_facts::{Certificate, PointFacts, VarFacts};
-use std::io::{Error, ErrorKind, Write};
+use sdv_text::write_text;
+use std::io::{Error, Write};
 
 /// The front of a line: room for the words, four loops and eight variables with numbers of 20 digits.
 type Front = ArrayVec<u8, 1024>;
@@ -85,27 +87,12 @@ fn push_numbers(front: &mut Front, point: &PointFacts)
     push(front, b" s");
 }
 
-// Where the writer fails, a front of the bytes is written.
-fn put<W: Write>(out: &mut W, bytes: &[u8]) -> Result<(), Error>
-    ensures { Writes (W.contents out.old) (W.contents out.new) result bytes.now }
-{
-    let mut rest = bytes;
-    while !rest.is_empty() {
-        match out.write(rest) {
-            Ok(0) => return Err(Error::from(ErrorKind::WriteZero)),
-            Ok(count) => rest = &rest[count..],
-            Err(error) => return Err(error),
-        }
-    }
-    Ok(())
-}
-
 fn put_shape<W: Write>(out: &mut W, shape: Shape) -> Result<(), Error>
     ensures { Writes (W.contents out.old) (W.contents out.new) result (shape_text shape) }
 {
     let mut item = [b' '; 17];
     hex::encode_to_slice(shape.0.to_be_bytes(), &mut item[1..]).unwrap();
-    put(out, &item)
+    write_text(out, &item)
 }
 
 // The line of a point.
@@ -115,12 +102,12 @@ fn put_line<W: Write>(out: &mut W, place: u64, point: &PointFacts) -> Result<(),
     let mut front = Front::new();
     push_bound(&mut front, place, point);
     push_numbers(&mut front, point);
-    put(out, front.as_slice())?;
+    write_text(out, front.as_slice())?;
     let shapes = point.facts.shapes();
     for shape in shapes {
         put_shape(out, *shape)?;
     }
-    put(out, b"\n")
+    write_text(out, b"\n")
 }
 
 // The first two lines.
@@ -131,14 +118,15 @@ fn put_title<W: Write>(out: &mut W, count: u64) -> Result<(), Error>
     push(&mut front, b"sdv-cert 1\npoints");
     push_number(&mut front, count);
     push(&mut front, b"\n");
-    put(out, front.as_slice())
+    write_text(out, front.as_slice())
 }
 
 /// Writes the text of a certificate.
 ///
 /// # Errors
 ///
-/// The writer's error, or [`ErrorKind::WriteZero`] where it takes no byte. A front of the text is written then.
+/// The writer's error, or [`ErrorKind::WriteZero`](std::io::ErrorKind::WriteZero) where it takes no byte. Then a part of
+/// the text is written, and not all of it.
 pub fn write<W: Write>(certificate: &Certificate, out: &mut W) -> Result<(), Error>
     ensures { Writes (W.contents out.old) (W.contents out.new) result (text_of certificate.now) }
 {

@@ -10,6 +10,3 @@ mod wire;
 
 pub use controller::Controller;
 pub use wire::{Wire, WireEnd};
-
-#[cfg(test)]
-mod tests;

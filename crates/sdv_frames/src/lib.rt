@@ -16,6 +16,3 @@ pub use command::{Command, decode_command, encode};
 pub use crc::crc7;
 pub use fault::FrameFault;
 pub use reply::{Expect, Reply, decode_reply, encode_reply};
-
-#[cfg(test)]
-mod tests;

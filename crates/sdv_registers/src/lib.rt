@@ -28,6 +28,3 @@ pub use published::PublishedRca;
 pub use scr::Scr;
 pub use sd_cid::SdCid;
 pub use status::Status;
-
-#[cfg(test)]
-mod tests;

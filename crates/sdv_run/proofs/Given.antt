@@ -12,7 +12,7 @@ use Rattle.sdv_run.specs.Trace.{line_of}
 use Rattle.sdv_run.specs.Run.{Steps}
 use Rattle.sdv_run.specs.Deeds.{Unprinted}
 use Rattle.sdv_run.specs.Step.{Made, CutDeed}
-use Rattle.sdv_run.proofs.Known.{appends_none}
+use Rattle.sdv_text.proofs.WrittenLaws.{appends_none}
 
 -- blocks that were given are those that the input has lost
 pub made_gift : {S : Type 0} (k : Kind) (steps : Steps S) (blocks rest input : List Block) (returned : Return) (s s' : S) (o t t' : Option (List ℕ)) → input ≡ blocks ++ rest → MayReturn (GiveBlocks blocks) returned → steps s (DataOut blocks) returned s' → Appends t t' (line_of (GiveBlocks blocks) returned) → Made k steps (GiveBlocks blocks) returned (record { port = s; input = input; out = o; trace = t }) (record { port = s'; input = rest; out = o; trace = t' })

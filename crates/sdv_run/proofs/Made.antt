@@ -12,7 +12,7 @@ use Rattle.sdv_run.specs.Trace.{line_of}
 use Rattle.sdv_run.specs.Run.{Steps, Moved, lines, received_by, received}
 use Rattle.sdv_run.specs.Ran.{Happened, Written}
 use Rattle.sdv_run.specs.Step.{World, Made, Leads}
-use Rattle.sdv_run.proofs.Known.{appends_more, appends_none}
+use Rattle.sdv_text.proofs.WrittenLaws.{appends_more, appends_none}
 use Rattle.sdv_run.proofs.Places.{Onward}
 
 -- LISTS OF EVENTS

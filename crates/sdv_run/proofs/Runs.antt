@@ -22,11 +22,13 @@ use Rattle.sdv_run.specs.declared.fault.RunFault.{RunFault}
 use Rattle.sdv_run.specs.declared.fault.RunFault.TheVariants.{Reply, Input, Output, Trace, Memory}
 use Rattle.sdv_run.specs.Announced.{AnnounceAtMost}
 use Rattle.sdv_run.specs.Answers.{is_taken}
-use Rattle.sdv_run.specs.Trace.{line_of, end_line, AppendsPart}
+use Rattle.sdv_text.specs.Written.{AppendsPart}
+use Rattle.sdv_run.specs.Trace.{line_of, end_line}
 use Rattle.sdv_run.specs.Run.{Steps, lines, received_by, received, ending_of}
 use Rattle.sdv_run.specs.Ran.{Happened, IsWalk, Written, Ended, Stopped}
 use Rattle.sdv_run.specs.Step.{World, Leads, CutDeed, CutShort}
-use Rattle.sdv_run.proofs.Known.{appends_more, breaks_off}
+use Rattle.sdv_text.proofs.WrittenLaws.{appends_more}
+use Rattle.sdv_run.proofs.Known.{breaks_off}
 use Rattle.sdv_run.proofs.Places.{Sits, Ready, ready, begins_sitting}
 use Rattle.sdv_run.proofs.Announced.{announced_after}
 use Rattle.sdv_run.proofs.Made.{received_more, happened_more, written_more, none_happened, none_written, moves, led_to, led_onward}

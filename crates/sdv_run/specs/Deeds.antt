@@ -21,7 +21,8 @@ use Rattle.sdv_script.specs.AddressSent.{address_of_command}
 use Rattle.sdv_script.specs.Path.{Stand, arrive}
 use Rattle.sdv_run.specs.declared.fault.RunFault.{RunFault}
 use Rattle.sdv_run.specs.declared.fault.RunFault.TheVariants.{Reply, Output, Trace}
-use Rattle.sdv_run.specs.Trace.{line_of, AppendsPart}
+use Rattle.sdv_text.specs.Written.{AppendsPart}
+use Rattle.sdv_run.specs.Trace.{line_of}
 use Rattle.sdv_run.specs.Run.{Steps, received_by}
 use Rattle.sdv_run.specs.Answers.{is_taken}
 

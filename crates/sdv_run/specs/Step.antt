@@ -14,7 +14,8 @@ use Rattle.sdv_script.specs.Path.{Stand, Move, Goes, Does, Halts}
 use Rattle.sdv_run.specs.declared.end.End.{End}
 use Rattle.sdv_run.specs.declared.fault.RunFault.{RunFault}
 use Rattle.sdv_run.specs.declared.fault.RunFault.TheVariants.{Reply, Input, Output, Trace}
-use Rattle.sdv_run.specs.Trace.{line_of, AppendsPart}
+use Rattle.sdv_text.specs.Written.{AppendsPart}
+use Rattle.sdv_run.specs.Trace.{line_of}
 use Rattle.sdv_run.specs.Run.{Steps, received_by, ending_of}
 use Rattle.sdv_run.specs.Answers.{is_taken}
 

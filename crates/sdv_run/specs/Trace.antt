@@ -76,14 +76,6 @@ abbrev pub end_line : End → List ℕ
 end_line Done = codes "done" ++ line_feed
 end_line (Fault name) = codes "fault " ++ (name.bytes ++ line_feed)
 
--- known bytes grow by a front of a text, and not by all of it
-abbrev pub AppendsPart : Option (List ℕ) → Option (List ℕ) → List ℕ → Type 0
-AppendsPart old new text = (front back : List ℕ) × (text ≡ front ++ back) × (0 < length back) × Appends old new front
-
 -- known bytes grow by a text and then by a front of another one, and not by all of it
 abbrev pub BreaksOff : Option (List ℕ) → Option (List ℕ) → (whole text : List ℕ) → Type 0
 BreaksOff old new whole text = (front back : List ℕ) × (text ≡ front ++ back) × (0 < length back) × Appends old new (whole ++ front)
-
--- a writer's known bytes grow by a text, or, where the writer failed, by a part of it
-abbrev pub Writes : {E : Type 0} → Option (List ℕ) → Option (List ℕ) → Result (Unit {0}) E → List ℕ → Type 0
-Writes old new result text = MatchResult result (λ _. Appends old new text) (λ _. AppendsPart old new text)

@@ -3,13 +3,15 @@
 ghost use Rattle.std.specs.Prelude.{◌≡◌, ◌<◌, ◌≤◌, ◌+◌, ◌^◌, ◌++◌, [], ◌∷◌, length, codes, decimal};
 ghost use Rattle.arrayvec.specs.ArrayVec.{array_vec_len};
 ghost use Rattle.hex.specs.Hex.{encode_lower};
-ghost use Rattle.sdv_run.specs.Trace.{word_text, reply_text, answer_text, command_text, command_line, phase_line, wait_line, end_line, Writes};
+ghost use Rattle.sdv_run.specs.Trace.{word_text, reply_text, answer_text, command_text, command_line, phase_line, wait_line, end_line};
+ghost use Rattle.sdv_text.specs.Written.{Writes};
 
 use crate::end::End;
 use arrayvec::ArrayVec;
 use itoa::Buffer;
 use sdv_card::{Answer, DataEnd, WaitEnd};
 use sdv_frames::{Command, Reply};
+use sdv_text::write_text;
 use std::io::Write;
 
 /// A line before it is written: room for every word, a number of 20 digits and a register.
@@ -88,18 +90,11 @@ fn put_answer(line: &mut Line, answer: &Answer)
     }
 }
 
-/// Writes bytes to a trace. Where the writer fails, a front of them is written.
+/// Writes bytes to a trace. Where the writer fails, a part of them is written, and not all.
 pub(crate) fn write_all<T: Write>(trace: &mut T, bytes: &[u8]) -> Result<(), TraceFault>
     ensures { Writes (T.contents trace.old) (T.contents trace.new) result bytes.now }
 {
-    let mut rest = bytes;
-    while !rest.is_empty() {
-        match trace.write(rest) {
-            Ok(0) | Err(_) => return Err(TraceFault),
-            Ok(count) => rest = &rest[count..],
-        }
-    }
-    Ok(())
+    write_text(trace, bytes).map_err(|_| TraceFault)
 }
 
 /// Puts the command of an exchange, with its argument.

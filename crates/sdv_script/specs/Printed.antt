@@ -1,7 +1,6 @@
 -- What is printed of a script: the tokens of its text as they are written there, with one space after each, and then a
 -- line feed.
-use Rattle.std.specs.Prelude.{◌≡◌, ℕ, zero, suc, List, [], ◌∷◌, ◌++◌, length, take, drop, Option, false}
-use Rattle.std.specs.Io.KnownBytes.{Appends}
+use Rattle.std.specs.Prelude.{◌≡◌, ℕ, zero, suc, List, [], ◌∷◌, ◌++◌, length, take, drop, false}
 use Rattle.sdv_script.specs.declared.token.Token.{Token as Read}
 use Rattle.sdv_script.specs.declared.token.Token.TheVariants as read
 use Rattle.sdv_script.specs.declared.cursor.Cursor.{Cursor}
@@ -35,7 +34,3 @@ piece_list token piece others = piece ∷ others
 
 abbrev pub pieces_at : Cursor → List (List ℕ)
 pieces_at cursor = piece_list cursor.token cursor.text.now (pieces cursor.rest.now)
-
--- known bytes grow by some of these, from the front
-abbrev pub AppendsFront : Option (List ℕ) → Option (List ℕ) → List ℕ → Type 0
-AppendsFront old new text = (front back : List ℕ) × (text ≡ front ++ back) × Appends old new front

@@ -17,9 +17,9 @@ use crate::guards::guard_list;
 use crate::keyword::Keyword;
 use crate::progress::Progress;
 use crate::token::{Sign, Token};
-use sdv_graph::{Block, Cases, Names, Phase, Stmt};
 use crate::values::{condition, fault_name, receive, setting};
 use sdv_card::{Ask, Guard};
+use sdv_graph::{Block, Cases, Names, Phase, Stmt};
 use std::alloc::{AllocError, Global};
 
 /// A script has at most so many statements.

@@ -11,8 +11,8 @@ use crate::fault::{FaultKind, Stop};
 use crate::form::{Form, form_of};
 use crate::keyword::Keyword;
 use crate::token::{Sign, Token};
-use sdv_graph::{Address, Command, Names, Position, Unit};
 use sdv_card::{Aim, Ask};
+use sdv_graph::{Address, Command, Names, Position, Unit};
 
 /// A command, from its index on.
 pub fn command<'a>(names: &Names<'_>, at: Cursor<'a>) -> Result<(Command, Cursor<'a>), Stop>

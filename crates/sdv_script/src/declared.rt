@@ -11,8 +11,8 @@ use crate::expect::place_of;
 use crate::fault::{FaultKind, ScriptFault, Stop};
 use crate::keyword::Keyword;
 use crate::token::Token;
-use sdv_graph::Names;
 use crate::values::MAX_NAME;
+use sdv_graph::Names;
 use std::alloc::Global;
 
 /// A script declares at most so many flags.

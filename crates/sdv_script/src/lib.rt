@@ -29,10 +29,10 @@ pub mod tree;
 mod values;
 
 pub use fault::{FaultKind, ScriptFault};
+pub use graph::{Action, Graph, Point, Target, Way};
 pub use printing::{print, printed_tree};
 pub use reading::{asks_by_table, one_tree, parse};
 pub use script::Script;
-pub use graph::{Action, Graph, Point, Target, Way};
 pub use tree::{
     Address, Atom, Block, Cases, Change, Command, Condition, Let, Names, Phase, Position, Stmt,
     Unit,

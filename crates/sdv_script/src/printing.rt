@@ -1,28 +1,28 @@
 //! Printing a script.
 
-ghost use Rattle.std.specs.Prelude.{◌≡◌, ◌++◌, ◌∷◌, ◌<◌, ◌≤◌, ℕ, List, [], true, false, length, MatchResult};
+ghost use Rattle.std.specs.Prelude.{◌≡◌, ◌++◌, ◌∷◌, ◌<◌, ◌≤◌, ℕ, List, [], true, false, length};
 ghost use Rattle.sdv_script.specs.Rules.{max_bytes};
 ghost use Rattle.sdv_script.specs.Script.{Parsed, IsScript};
 ghost use Rattle.sdv_script.specs.Tokens.{tokens};
 ghost use Rattle.sdv_script.specs.Place.{tokens_at};
-ghost use Rattle.std.specs.Io.KnownBytes.{Appends};
-ghost use Rattle.sdv_script.specs.Printed.{printed, pieces, pieces_at, AppendsFront};
+ghost use Rattle.sdv_text.specs.Written.{Writes};
+ghost use Rattle.sdv_script.specs.Printed.{printed, pieces, pieces_at};
 ghost use Rattle.sdv_script.specs.Shown.{shown};
 
 use crate::cursor::Cursor;
 use crate::script::Script;
 use crate::token::Token;
-use std::io::{Error, ErrorKind, Write};
+use sdv_text::write_text;
+use std::io::{Error, Write};
 
 /// Writes the tokens of the script's text, with one space after each, and then a line feed.
 ///
 /// # Errors
 ///
-/// The writer's error, or [`ErrorKind::WriteZero`] where it takes no byte.
+/// The writer's error, or [`ErrorKind::WriteZero`](std::io::ErrorKind::WriteZero) where it takes no byte. Then a part of
+/// the text is written, and not all of it.
 pub fn print<W: Write>(script: &Script<'_>, out: &mut W) -> Result<(), Error>
-    ensures { MatchResult result
-        (λ _. Appends (W.contents out.old) (W.contents out.new) (printed (shown script.now).text))
-        (λ _. AppendsFront (W.contents out.old) (W.contents out.new) (printed (shown script.now).text)) }
+    ensures { Writes (W.contents out.old) (W.contents out.new) result (printed (shown script.now).text) }
 {
     let mut at = Cursor::new(script.text);
     while !is_end(at) {
@@ -31,7 +31,7 @@ pub fn print<W: Write>(script: &Script<'_>, out: &mut W) -> Result<(), Error>
         }
         at = at.next();
     }
-    put(out, b"\n")
+    write_text(out, b"\n")
 }
 
 /// What is printed of a script is a script with the same tree, where it is within the size limit; and printed again it
@@ -51,28 +51,10 @@ fn is_end(at: Cursor<'_>) -> bool
 
 // Some bytes, and a space after them.
 fn put_spaced<W: Write>(out: &mut W, bytes: &[u8]) -> Result<(), Error>
-    ensures { MatchResult result
-        (λ _. Appends (W.contents out.old) (W.contents out.new) (bytes.now ++ 32 ∷ []))
-        (λ _. AppendsFront (W.contents out.old) (W.contents out.new) (bytes.now ++ 32 ∷ [])) }
+    ensures { Writes (W.contents out.old) (W.contents out.new) result (bytes.now ++ 32 ∷ []) }
 {
-    match put(out, bytes) {
-        Ok(()) => put(out, b" "),
+    match write_text(out, bytes) {
+        Ok(()) => write_text(out, b" "),
         Err(error) => Err(error),
     }
-}
-
-fn put<W: Write>(out: &mut W, bytes: &[u8]) -> Result<(), Error>
-    ensures { MatchResult result
-        (λ _. Appends (W.contents out.old) (W.contents out.new) bytes.now)
-        (λ _. AppendsFront (W.contents out.old) (W.contents out.new) bytes.now) }
-{
-    let mut rest = bytes;
-    while !rest.is_empty() {
-        match out.write(rest) {
-            Ok(0) => return Err(Error::from(ErrorKind::WriteZero)),
-            Ok(n) => rest = &rest[n..],
-            Err(error) => return Err(error),
-        }
-    }
-    Ok(())
 }

@@ -5,7 +5,5 @@
 
 mod rows;
 mod table;
-#[cfg(test)]
-mod tests;
 
 pub use table::SdTable;

@@ -3,12 +3,12 @@ use Rattle.std.proofs.Common.{◌≡◌, ◌∙◌, sym, subst, ℕ, List, Optio
 use Rattle.std.specs.Prelude.{is_ok}
 use Rattle.clap.specs.Words.{Text}
 use Rattle.std.specs.Io.KnownBytes.{Appends}
+use Rattle.sdv_text.specs.Written.{AppendsPart, Writes}
 use Rattle.std.proofs.lemmas.Result.{on_ok_weaker}
 use Rattle.sdv_registers.specs.declared.kind.Kind.TheVariants.{Sd}
 use Rattle.sdv_script.specs.declared.script.Script.{Script as Tree}
 use Rattle.sdv_script.specs.Graph.{Flow}
 use Rattle.sdv_script.specs.GraphOf.{IsGraphOf}
-use Rattle.sdv_script.specs.Printed.{AppendsFront}
 use Rattle.sdv_script.specs.Script.{Parsed, IsScript}
 use Rattle.sdv_script.specs.Shown.{shown}
 use Rattle.sdv_script.proofs.ScriptLaws.{one_tree_lem}
@@ -18,7 +18,6 @@ use Rattle.sdv_check.specs.Verified.{IsGraphOfText}
 use Rattle.sdv_certify.specs.Assembled.{CertificateOf, ClosedFor, RefusedFor}
 use Rattle.sdv_certify.specs.declared.fault.CertifyFault.{CertifyFault}
 use Rattle.sdv_certify.specs.declared.fault.CertifyFault.TheVariants as certifies
-use Rattle.sdv_certify.specs.Pieces.{Writes}
 use Rattle.sdv_words.specs.Certify.{Certifies, CertifiesInPart, IsTextOfScript, IsCertificateOfText, Uncertifies}
 use Rattle.sdv_words.specs.Fault.{fault_of_certify}
 use Rattle.sdv_words.specs.declared.fault.Fault.{Fault}
@@ -66,7 +65,7 @@ module _ {E : Type 0} (before after : Option (List ℕ)) (text : List ℕ) where
   whole (Err e) (Ok v) same writes = cc
   whole w (Err f) same writes = tt
 
-  in_part : (w : Result (Unit {0}) E) (r : Result (Unit {0}) Fault) → is_ok r ≡ is_ok w → Writes before after w text → IfErr r (λ _. AppendsFront before after text)
+  in_part : (w : Result (Unit {0}) E) (r : Result (Unit {0}) Fault) → is_ok r ≡ is_ok w → Writes before after w text → IfErr r (λ _. AppendsPart before after text)
   in_part w (Ok v) same writes = tt
   in_part (Ok u) (Err f) same writes = cc
   in_part (Err e) (Err f) same writes = writes
@@ -84,11 +83,11 @@ module _ (text : Text) (points : List PointFacts) (certificate : IsCertificateOf
       λ printed. record { points = points; certificate = certificate; printed = printed } in
       on_ok_weaker r certifies (whole before after (text_of points) w r same writes)
 
-  -- a certificate of which a front was written
+  -- a certificate of which a part was written
   pub written_in_part : {E : Type 0} (before after : Option (List ℕ)) (w : Result (Unit {0}) E) (r : Result (Unit {0}) Fault) → is_ok r ≡ is_ok w
       → Writes before after w (text_of points) → IfErr r (λ fault. fault ≡ Output → CertifiesInPart text before after)
   written_in_part before after w r same writes =
-      if_err r (λ _. AppendsFront before after (text_of points)) (λ fault. fault ≡ Output → CertifiesInPart text before after) (in_part before after (text_of points) w r same writes)
+      if_err r (λ _. AppendsPart before after (text_of points)) (λ fault. fault ≡ Output → CertifiesInPart text before after) (in_part before after (text_of points) w r same writes)
       (λ fault printed is. record { points = points; certificate = certificate; printed = printed })
 
   -- of an output that failed

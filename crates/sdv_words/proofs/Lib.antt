@@ -1,6 +1,5 @@
 mod AnswerLaws
 mod CertifyLaws
-mod FaultLaws
 mod CommandLineLaws
 mod FrameTextLaws
 mod WordsGiven

@@ -1,14 +1,16 @@
 -- What the program answers to the words that it was called with.
 use Rattle.std.specs.Prelude.{◌≡◌, ◌≢◌, ◌⊎◌, ℕ, List, Option, Some}
-use Rattle.std.specs.Io.KnownBytes.{Appends}
+use Rattle.std.specs.Io.KnownBytes.{Appends, Keeps}
+use Rattle.sdv_text.specs.Written.{AppendsPart}
 use Rattle.clap.specs.Words.{Text}
 use Rattle.sdv_frames.specs.Frame.{IsCommandFrame}
 use Rattle.sdv_frames.specs.declared.command.Command.{Command}
 use Rattle.sdv_words.specs.declared.fault.Fault.{Fault}
 use Rattle.sdv_words.specs.declared.fault.Fault.TheVariants.{Usage, Output, Memory}
-use Rattle.sdv_words.specs.Certify.{CertifiesFile, UncertifiesFile}
-use Rattle.sdv_words.specs.Check.{AcceptsFiles, RefusesFiles}
+use Rattle.sdv_words.specs.Certify.{CertifiesFile, CertifiesFileInPart, UncertifiesFile}
+use Rattle.sdv_words.specs.Check.{AcceptsFiles, AcceptsFilesInPart, RefusesFiles}
 use Rattle.sdv_words.specs.CommandLine.{frame, certify, check, meaning_of}
+use Rattle.sdv_words.specs.Fault.{Says, status_of}
 use Rattle.sdv_words.specs.FrameText.{frame_text}
 use Rattle.sdv_words.specs.Number.{Writes}
 
@@ -27,11 +29,23 @@ pub record PrintsFrame (c : Command) (before after : Option (List ℕ)) : Type 0
   pub is_frame : IsCommandFrame c bytes
   pub printed : Appends before after (frame_text bytes)
 
+-- or by a part of that text
+pub record PrintsFrameInPart (c : Command) (before after : Option (List ℕ)) : Type 0 where
+  pub bytes : List ℕ
+  pub is_frame : IsCommandFrame c bytes
+  pub printed : AppendsPart before after (frame_text bytes)
+
 -- the words ask for a frame, and it was printed
 pub record AnswersFrame (words : List Text) (before after : Option (List ℕ)) : Type 0 where
   pub command : Command
   pub asked : AsksFrame words command
   pub answered : PrintsFrame command before after
+
+-- the words ask for a frame, and a part of it was printed
+pub record AnswersFrameInPart (words : List Text) (before after : Option (List ℕ)) : Type 0 where
+  pub command : Command
+  pub asked : AsksFrame words command
+  pub answered : PrintsFrameInPart command before after
 
 -- what a fault says of the words of `frame`
 abbrev pub RefusesFrame : (index argument : Text) → Fault → Type 0
@@ -47,6 +61,12 @@ pub record AnswersCertify (gives : (file text : Text) → Type 0) (words : List 
   pub meaning : meaning_of words ≡ Some (certify script_file)
   pub certifies : CertifiesFile gives script_file before after
 
+-- the words ask for the certificate of a script, and a part of that of what the file gave was printed
+pub record AnswersCertifyInPart (gives : (file text : Text) → Type 0) (words : List Text) (before after : Option (List ℕ)) : Type 0 where
+  pub script_file : Text
+  pub meaning : meaning_of words ≡ Some (certify script_file)
+  pub certifies : CertifiesFileInPart gives script_file before after
+
 -- the words ask for the certificate of a script, and of the file is so what the fault says
 pub record RefusesCertify (gives : (file text : Text) → Type 0) (words : List Text) (fault : Fault) : Type 0 where
   pub script_file : Text
@@ -61,6 +81,13 @@ pub record AnswersCheck (gives : (file text : Text) → Type 0) (words : List Te
   pub certificate_file : Text
   pub meaning : meaning_of words ≡ Some (check script_file certificate_file)
   pub accepts : AcceptsFiles gives script_file certificate_file before after
+
+-- the words ask for a check, it accepts what the files give, and a part of the line was printed
+pub record AnswersCheckInPart (gives : (file text : Text) → Type 0) (words : List Text) (before after : Option (List ℕ)) : Type 0 where
+  pub script_file : Text
+  pub certificate_file : Text
+  pub meaning : meaning_of words ≡ Some (check script_file certificate_file)
+  pub accepts : AcceptsFilesInPart gives script_file certificate_file before after
 
 -- the words ask for a check, and of the files is so what the fault says
 pub record RefusesCheck (gives : (file text : Text) → Type 0) (words : List Text) (fault : Fault) : Type 0 where
@@ -81,6 +108,11 @@ abbrev pub Answers : (gives : (file text : Text) → Type 0) → List Text → (
 Answers gives words before after =
     AnswersFrame words before after ⊎ AnswersCertify gives words before after ⊎ AnswersCheck gives words before after
 
+-- what was asked for was printed in part, and not all of it
+abbrev pub AnswersInPart : (gives : (file text : Text) → Type 0) → List Text → (before after : Option (List ℕ)) → Type 0
+AnswersInPart gives words before after =
+    AnswersFrameInPart words before after ⊎ AnswersCertifyInPart gives words before after ⊎ AnswersCheckInPart gives words before after
+
 -- the words ask for a certificate or a check, and of the files is so what the fault says
 abbrev pub RefusesScript : (gives : (file text : Text) → Type 0) → List Text → Fault → Type 0
 RefusesScript gives words fault = RefusesCertify gives words fault ⊎ RefusesCheck gives words fault
@@ -91,3 +123,22 @@ IsFaultOf gives words Usage = AsksNothing words
 IsFaultOf gives words Output = ((c : Command) × AsksFrame words c) ⊎ RefusesScript gives words Output
 IsFaultOf gives words Memory = Unit {0}
 IsFaultOf gives words fault = RefusesScript gives words fault
+
+-- REFUSALS
+
+-- what is known of standard output after a fault: as it was, but where it failed
+abbrev pub Leaves : (gives : (file text : Text) → Type 0) → List Text → Fault → (before after : Option (List ℕ)) → Type 0
+Leaves gives words Output before after = AnswersInPart gives words before after
+Leaves gives words fault before after = Keeps before after
+
+-- the program ended by this fault: it is so of the words and the files, and what standard output and standard error hold
+pub record EndsBy (gives : (file text : Text) → Type 0) (words : List Text) (fault : Fault) (out out' err err' : Option (List ℕ)) : Type 0 where
+  pub is_so : IsFaultOf gives words fault
+  pub left : Leaves gives words fault out out'
+  pub said : Says fault err err'
+
+-- the program ended with this status: with 0 only after the answer, and else by a fault
+pub record Ends (gives : (file text : Text) → Type 0) (words : List Text) (status : ℕ) (out out' err err' : Option (List ℕ)) : Type 0 where
+  pub answered : status ≡ 0 → Answers gives words out out'
+  pub quiet : status ≡ 0 → Keeps err err'
+  pub refused : status ≢ 0 → (fault : Fault) × (status ≡ status_of fault) × EndsBy gives words fault out out' err err'

@@ -4,7 +4,7 @@ use Rattle.std.specs.Io.KnownBytes.{Appends}
 use Rattle.clap.specs.Words.{Text}
 use Rattle.sdv_script.specs.declared.script.Script.{Script as Tree}
 use Rattle.sdv_script.specs.Graph.{Flow}
-use Rattle.sdv_script.specs.Printed.{AppendsFront}
+use Rattle.sdv_text.specs.Written.{AppendsPart}
 use Rattle.sdv_script.specs.Script.{IsScript}
 use Rattle.sdv_script.specs.Shown.{shown}
 use Rattle.sdv_facts.specs.declared.certificate.PointFacts.{PointFacts}
@@ -45,11 +45,11 @@ pub record Certifies (script : Text) (before after : Option (List ℕ)) : Type 0
   pub certificate : IsCertificateOfText script points
   pub printed : Appends before after (text_of points)
 
--- a front of it was
+-- a part of it was
 pub record CertifiesInPart (script : Text) (before after : Option (List ℕ)) : Type 0 where
   pub points : List PointFacts
   pub certificate : IsCertificateOfText script points
-  pub printed : AppendsFront before after (text_of points)
+  pub printed : AppendsPart before after (text_of points)
 
 -- what a fault says of the text; want of memory says nothing
 abbrev pub Uncertifies : (script : Text) → Fault → Type 0
@@ -67,7 +67,7 @@ pub record CertifiesFile (gives : (file text : Text) → Type 0) (script_file : 
   pub given : gives script_file script
   pub certifies : Certifies script before after
 
--- the file gave a text, and of its certificate a front was printed
+-- the file gave a text, and of its certificate a part was printed
 pub record CertifiesFileInPart (gives : (file text : Text) → Type 0) (script_file : Text) (before after : Option (List ℕ)) : Type 0 where
   pub script : Text
   pub given : gives script_file script

@@ -1,6 +1,7 @@
 -- What the program answers to a script and a certificate: to their texts, and to the names of their files.
 use Rattle.std.specs.Prelude.{◌≡◌, ◌⊎◌, ℕ, List, [], ◌∷◌, ◌++◌, Option, codes, decimal}
 use Rattle.std.specs.Io.KnownBytes.{Appends}
+use Rattle.sdv_text.specs.Written.{AppendsPart}
 use Rattle.clap.specs.Words.{Text}
 use Rattle.sdv_script.specs.Graph.{Flow}
 use Rattle.sdv_check.specs.Headline.{EachRunOf}
@@ -20,6 +21,12 @@ pub record Accepts (script certificate : Text) (before after : Option (List ℕ)
   pub accepted : IsAccepted script certificate acceptance
   pub runs : EachRunOf script acceptance.bound
   pub printed : Appends before after (accepted_text acceptance.bound)
+
+-- the same, and a part of the line was printed
+pub record AcceptsInPart (script certificate : Text) (before after : Option (List ℕ)) : Type 0 where
+  pub acceptance : Acceptance
+  pub accepted : IsAccepted script certificate acceptance
+  pub printed : AppendsPart before after (accepted_text acceptance.bound)
 
 -- what a fault says of the texts; want of memory says nothing
 abbrev pub Refuses : (script certificate : Text) → Fault → Type 0
@@ -48,6 +55,18 @@ pub record AcceptsFiles (gives : (file text : Text) → Type 0) (script_file cer
   pub given : FilesGive gives script_file certificate_file script certificate
   pub accepts : Accepts script certificate before after
 
+-- the files gave texts that are accepted, and a part of the line was printed
+pub record AcceptsFilesInPart (gives : (file text : Text) → Type 0) (script_file certificate_file : Text) (before after : Option (List ℕ)) : Type 0 where
+  pub script : Text
+  pub certificate : Text
+  pub given : FilesGive gives script_file certificate_file script certificate
+  pub accepts : AcceptsInPart script certificate before after
+
+-- the file that cannot be used is that of the script; or that of the certificate, where the script's gave a text
+abbrev pub NamesFile : (gives : (file text : Text) → Type 0) → (script_file certificate_file file : Text) → Type 0
+NamesFile gives script_file certificate_file file =
+    (file ≡ script_file) ⊎ ((file ≡ certificate_file) × ((script : Text) × gives script_file script))
+
 -- the files gave texts of which is so what the fault says
 pub record RefusesTexts (gives : (file text : Text) → Type 0) (script_file certificate_file : Text) (fault : Fault) : Type 0 where
   pub script : Text
@@ -55,8 +74,8 @@ pub record RefusesTexts (gives : (file text : Text) → Type 0) (script_file cer
   pub given : FilesGive gives script_file certificate_file script certificate
   pub refuses : Refuses script certificate fault
 
--- what a fault says of the files: a file that cannot be used is one of them
+-- what a fault says of the files
 abbrev pub RefusesFiles : (gives : (file text : Text) → Type 0) → (script_file certificate_file : Text) → Fault → Type 0
-RefusesFiles gives script_file certificate_file (File file) = (file.now ≡ script_file) ⊎ (file.now ≡ certificate_file)
+RefusesFiles gives script_file certificate_file (File file) = NamesFile gives script_file certificate_file file.now
 RefusesFiles gives script_file certificate_file Memory = Unit {0}
 RefusesFiles gives script_file certificate_file fault = RefusesTexts gives script_file certificate_file fault

@@ -1,6 +1,10 @@
 -- The faults of the program: what is said of them on standard error, and the exit status.
-use Rattle.std.specs.Prelude.{ℕ, [], ◌∷◌, ◌++◌, codes, decimal}
+use Rattle.std.specs.Prelude.{◌⊎◌, ℕ, List, [], ◌∷◌, ◌++◌, Option, codes, decimal}
+use Rattle.std.specs.Io.KnownBytes.{Appends}
+use Rattle.sdv_text.specs.Written.{AppendsPart}
 use Rattle.std.specs.Int.{w64, to_be_bytes}
+use Rattle.std.specs.declared.io.ErrorKind.{ErrorKind}
+use Rattle.std.specs.declared.io.ErrorKind.TheVariants.{OutOfMemory}
 use Rattle.clap.specs.Words.{Text}
 use Rattle.hex.specs.Hex.{encode_lower}
 use Rattle.sdv_card.specs.declared.shape.Shape.{Shape}
@@ -33,44 +37,54 @@ kind_name kinds.Limit = codes "Limit"
 kind_name kinds.NoEnd = codes "NoEnd"
 kind_name kinds.Memory = codes "Memory"
 
-abbrev pub certificate_text : CertFault → Text
-certificate_text certificates.Header = codes "certificate fault Header"
-certificate_text (certificates.Syntax line) = codes "certificate fault Syntax line " ++ decimal line
-certificate_text (certificates.Order line) = codes "certificate fault Order line " ++ decimal line
-certificate_text certificates.Limit = codes "certificate fault Limit"
-certificate_text certificates.Memory = codes "certificate fault Memory"
+abbrev pub plain_line : (words : Text) → Text
+plain_line words = words ++ 10 ∷ []
 
-abbrev pub refusal_text : CheckFault → Text
-refusal_text checks.Points = codes "refused Points"
-refusal_text checks.Start = codes "refused Start"
-refusal_text (checks.Illegal point) = codes "refused Illegal point " ++ decimal point
-refusal_text (checks.Address point) = codes "refused Address point " ++ decimal point
-refusal_text (checks.Shape point) = codes "refused Shape point " ++ decimal point
-refusal_text (checks.Number point) = codes "refused Number point " ++ decimal point
-refusal_text (checks.Bound point) = codes "refused Bound point " ++ decimal point
-refusal_text (checks.EndState point) = codes "refused EndState point " ++ decimal point
+abbrev pub numbered_line : (words : Text) → ℕ → Text
+numbered_line words number = words ++ (decimal number ++ 10 ∷ [])
+
+abbrev pub certificate_line : CertFault → Text
+certificate_line certificates.Header = plain_line (codes "certificate fault Header")
+certificate_line (certificates.Syntax line) = numbered_line (codes "certificate fault Syntax line ") line
+certificate_line (certificates.Order line) = numbered_line (codes "certificate fault Order line ") line
+certificate_line certificates.Limit = plain_line (codes "certificate fault Limit")
+certificate_line certificates.Memory = plain_line (codes "certificate fault Memory")
+
+abbrev pub refusal_line : CheckFault → Text
+refusal_line checks.Points = plain_line (codes "refused Points")
+refusal_line checks.Start = plain_line (codes "refused Start")
+refusal_line (checks.Illegal point) = numbered_line (codes "refused Illegal point ") point
+refusal_line (checks.Address point) = numbered_line (codes "refused Address point ") point
+refusal_line (checks.Shape point) = numbered_line (codes "refused Shape point ") point
+refusal_line (checks.Number point) = numbered_line (codes "refused Number point ") point
+refusal_line (checks.Bound point) = numbered_line (codes "refused Bound point ") point
+refusal_line (checks.EndState point) = numbered_line (codes "refused EndState point ") point
 
 -- the digits of a shape's code are those of a certificate
-abbrev pub illegal_text : (point : ℕ) → Shape → Text
-illegal_text point shape = codes "refused Illegal point " ++ (decimal point ++ (codes " shape " ++ encode_lower (to_be_bytes w64 shape.0)))
+abbrev pub illegal_line : (point : ℕ) → Shape → Text
+illegal_line point shape = codes "refused Illegal point " ++ (decimal point ++ (codes " shape " ++ (encode_lower (to_be_bytes w64 shape.0) ++ 10 ∷ [])))
 
-abbrev pub uncertified_text : CertifyFault → Text
-uncertified_text (certifies.Illegal point shape) = illegal_text point shape
-uncertified_text (certifies.Address point) = codes "refused Address point " ++ decimal point
-uncertified_text (certifies.EndState point) = codes "refused EndState point " ++ decimal point
-uncertified_text certifies.TooMany = codes "refused TooMany"
-uncertified_text certifies.Memory = codes "refused Memory"
+abbrev pub uncertified_line : CertifyFault → Text
+uncertified_line (certifies.Illegal point shape) = illegal_line point shape
+uncertified_line (certifies.Address point) = numbered_line (codes "refused Address point ") point
+uncertified_line (certifies.EndState point) = numbered_line (codes "refused EndState point ") point
+uncertified_line certifies.TooMany = plain_line (codes "refused TooMany")
+uncertified_line certifies.Memory = plain_line (codes "refused Memory")
 
 -- nothing of a failed output
 abbrev pub fault_line : Fault → Text
-fault_line Usage = codes "usage: sdv frame INDEX ARG | sdv certify SCRIPT | sdv check SCRIPT CERT" ++ 10 ∷ []
+fault_line Usage = plain_line (codes "usage: sdv frame INDEX ARG | sdv certify SCRIPT | sdv check SCRIPT CERT")
 fault_line (File file) = codes "cannot use " ++ (file.now ++ 10 ∷ [])
 fault_line (Script fault) = codes "script fault " ++ (kind_name fault.kind ++ (codes " line " ++ (decimal fault.line ++ 10 ∷ [])))
-fault_line (Certificate fault) = certificate_text fault ++ 10 ∷ []
-fault_line (Refused fault) = refusal_text fault ++ 10 ∷ []
-fault_line (Uncertified fault) = uncertified_text fault ++ 10 ∷ []
+fault_line (Certificate fault) = certificate_line fault
+fault_line (Refused fault) = refusal_line fault
+fault_line (Uncertified fault) = uncertified_line fault
 fault_line Output = []
-fault_line Memory = codes "out of memory" ++ 10 ∷ []
+fault_line Memory = plain_line (codes "out of memory")
+
+-- known bytes grow by the fault's line, or, where the writer failed, by a part of it
+abbrev pub Says : Fault → (before after : Option (List ℕ)) → Type 0
+Says fault before after = Appends before after (fault_line fault) ⊎ AppendsPart before after (fault_line fault)
 
 -- THE STATUS: 1 for a refusal, 2 for words, files and output that cannot be used, 3 for want of memory
 
@@ -90,6 +104,11 @@ status_of Memory = 3
 abbrev pub fault_of_line : LineFault → Fault
 fault_of_line lines.Usage = Usage
 fault_of_line lines.Memory = Memory
+
+-- words that could not be read
+abbrev pub fault_of_words : ErrorKind → Fault
+fault_of_words OutOfMemory = Memory
+fault_of_words kind = Usage
 
 -- texts that are no script
 abbrev pub fault_of_script : FaultKind → ScriptFault → Fault

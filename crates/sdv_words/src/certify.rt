@@ -29,7 +29,7 @@ pub fn certify_file<'a, T: Texts, O: Write>(
     ensures refused { IfErr result (UncertifiesFile (T.gives files.now) script.entry.now) }
     ensures quiet { IfErr result (λ fault. fault ≢ Fault.Output
         → Keeps (O.contents out.old) (O.contents out.new)) }
-    ensures front { IfErr result (λ fault. fault ≡ Fault.Output
+    ensures part { IfErr result (λ fault. fault ≡ Fault.Output
         → CertifiesFileInPart (T.gives files.now) script.entry.now (O.contents out.old) (O.contents out.new)) }
 {
     let script = text_in(alloc, files, script)?;
@@ -42,14 +42,14 @@ pub fn certify_file<'a, T: Texts, O: Write>(
 ///
 /// - [`Fault::Script`]: the text is no script. Nothing was printed.
 /// - [`Fault::Uncertified`]: the script has no certificate. Nothing was printed.
-/// - [`Fault::Output`]: it has one, and the output failed. A front of the certificate's text was printed.
+/// - [`Fault::Output`]: it has one, and the output failed. A part of the certificate's text was printed.
 /// - [`Fault::Memory`]: memory was refused. Nothing was printed.
 pub fn certify_text<'a, O: Write>(alloc: Global, script: &str, out: &mut O) -> Result<(), Fault<'a>>
     ensures certified { OnOk result (Certifies script.now (O.contents out.old) (O.contents out.new)) }
     ensures refused { IfErr result (Uncertifies script.now) }
     ensures quiet { IfErr result (λ fault. fault ≢ Fault.Output
         → Keeps (O.contents out.old) (O.contents out.new)) }
-    ensures front { IfErr result (λ fault. fault ≡ Fault.Output
+    ensures part { IfErr result (λ fault. fault ≡ Fault.Output
         → CertifiesInPart script.now (O.contents out.old) (O.contents out.new)) }
 {
     let script = parse(alloc, script)?;

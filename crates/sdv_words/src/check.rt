@@ -1,12 +1,16 @@
 //! `check SCRIPT CERT`: what the checker says of a script and a certificate.
 ghost use Rattle.std.specs.Prelude.{◌≡◌, ◌≢◌, OnOk, IfErr, Err};
-ghost use Rattle.std.specs.Io.KnownBytes.{Appends, Keeps};
-ghost use Rattle.sdv_words.specs.Check.{Accepts, AcceptsFiles, Refuses, RefusesFiles, accepted_text};
+ghost use Rattle.std.specs.Io.KnownBytes.{Keeps};
+ghost use Rattle.sdv_text.specs.Written.{Writes};
+ghost use Rattle.sdv_words.specs.Check.{Accepts, AcceptsInPart, AcceptsFiles, AcceptsFilesInPart, Refuses, RefusesFiles};
+ghost use Rattle.sdv_words.specs.Check.{accepted_text};
 ghost use Rattle.sdv_words.specs.declared.fault.Fault.{Fault};
 
 use crate::fault::Fault;
 use crate::file::{Texts, text_in};
+use itoa::Buffer;
 use sdv_check::verify;
+use sdv_text::write_texts;
 use std::alloc::Global;
 use std::io::{self, Write};
 
@@ -15,7 +19,8 @@ use std::io::{self, Write};
 ///
 /// # Errors
 ///
-/// - [`Fault::File`]: a file cannot be used. Nothing was printed.
+/// - [`Fault::File`]: a file cannot be used; that of the certificate is read only where that of the script gave a text.
+///   Nothing was printed.
 /// - The faults of [`check_texts`].
 pub fn check_files<'a, T: Texts, O: Write>(
     alloc: Global,
@@ -30,6 +35,8 @@ pub fn check_files<'a, T: Texts, O: Write>(
         (RefusesFiles (T.gives files.now) script.entry.now certificate.entry.now) }
     ensures quiet { IfErr result (λ fault. fault ≢ Fault.Output
         → Keeps (O.contents out.old) (O.contents out.new)) }
+    ensures part { IfErr result (λ fault. fault ≡ Fault.Output → AcceptsFilesInPart (T.gives files.now)
+        script.entry.now certificate.entry.now (O.contents out.old) (O.contents out.new)) }
 {
     let script = text_in(alloc, files, script)?;
     let certificate = text_in(alloc, files, certificate)?;
@@ -41,7 +48,7 @@ pub fn check_files<'a, T: Texts, O: Write>(
 /// # Errors
 ///
 /// - [`Fault::Script`], [`Fault::Certificate`], [`Fault::Refused`]: the texts are not accepted. Nothing was printed.
-/// - [`Fault::Output`]: they are, and the output failed.
+/// - [`Fault::Output`]: they are, and the output failed. A part of the line was printed.
 /// - [`Fault::Memory`]: memory was refused. Nothing was printed.
 pub fn check_texts<'a, O: Write>(
     alloc: Global,
@@ -53,13 +60,16 @@ pub fn check_texts<'a, O: Write>(
     ensures refused { IfErr result (Refuses script.now certificate.now) }
     ensures quiet { IfErr result (λ fault. fault ≢ Fault.Output
         → Keeps (O.contents out.old) (O.contents out.new)) }
+    ensures part { IfErr result (λ fault. fault ≡ Fault.Output
+        → AcceptsInPart script.now certificate.now (O.contents out.old) (O.contents out.new)) }
 {
     let accepted = verify(alloc, script, certificate)?;
     print_bound(accepted.bound(), out).map_err(|_| Fault::Output)
 }
 
 fn print_bound<O: Write>(bound: u64, out: &mut O) -> io::Result<()>
-    ensures { OnOk result (Appends (O.contents out.old) (O.contents out.new) (accepted_text bound)) }
+    ensures { Writes (O.contents out.old) (O.contents out.new) result (accepted_text bound) }
 {
-    writeln!(out, "accepted {bound}")
+    let mut digits = Buffer::new();
+    write_texts(out, &[b"accepted ", digits.format(bound).as_bytes(), b"\n"])
 }

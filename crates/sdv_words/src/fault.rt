@@ -1,15 +1,18 @@
 //! Why the program ends without its answer, and the line that says so.
-ghost use Rattle.std.specs.Prelude.{◌≡◌, ◌++◌, ◌∷◌, [], OnOk};
+ghost use Rattle.std.specs.Prelude.{◌≡◌};
 ghost use Rattle.std.specs.Int.{w64, to_be_bytes};
 ghost use Rattle.hex.specs.Hex.{encode_lower};
-ghost use Rattle.std.specs.Io.KnownBytes.{Appends, Keeps};
-ghost use Rattle.sdv_words.specs.Fault.{certificate_text, fault_line, illegal_text, kind_name, refusal_text, status_of, uncertified_text};
+ghost use Rattle.sdv_text.specs.Written.{Writes};
+ghost use Rattle.sdv_words.specs.Fault.{Says, certificate_line, fault_line, illegal_line, kind_name, numbered_line, plain_line};
+ghost use Rattle.sdv_words.specs.Fault.{refusal_line, status_of, uncertified_line};
 
 use crate::line::{LineFault, USAGE};
+use itoa::Buffer;
 use sdv_card::Shape;
 use sdv_certify::CertifyFault;
 use sdv_check::{CertFault, CheckFault, VerifyFault};
 use sdv_script::{FaultKind, ScriptFault};
+use sdv_text::write_texts;
 use std::alloc::AllocError;
 use std::io::{self, Write};
 
@@ -111,28 +114,31 @@ impl<'a> Fault<'a> {
         }
     }
 
-    /// Says on a line what is wrong, but nothing of a failed output. After an error the writer may hold part of the line.
+    /// Says on a line what is wrong, but nothing of a failed output.
+    ///
+    /// # Errors
+    ///
+    /// The writer's error. Then a part of the line is written, and not all of it.
     pub fn say<E: Write>(self, err: &mut E) -> io::Result<()>
-        ensures line { OnOk result (Appends (E.contents err.old) (E.contents err.new) (fault_line self.entry)) }
-        ensures silent { self.entry ≡ Fault.Output → Keeps (E.contents err.old) (E.contents err.new) }
+        ensures { Writes (E.contents err.old) (E.contents err.new) result (fault_line self.entry) }
     {
         match self {
-            Fault::Usage => writeln!(err, "{USAGE}"),
-            Fault::File(file) => writeln!(err, "cannot use {file}"),
+            Fault::Usage => say_plain(USAGE, err),
+            Fault::File(file) => write_texts(err, &[b"cannot use ", file.as_bytes(), b"\n"]),
             Fault::Script(fault) => say_script(fault, err),
             Fault::Certificate(fault) => say_certificate(fault, err),
             Fault::Refused(fault) => say_refusal(fault, err),
             Fault::Uncertified(fault) => say_uncertified(fault, err),
             Fault::Output => Ok(()),
-            Fault::Memory => writeln!(err, "out of memory"),
+            Fault::Memory => say_plain("out of memory", err),
         }
     }
 
-    /// Says on standard error what is wrong, and answers the exit status. Where standard error fails too, the line may be
-    /// missing.
+    /// Says on standard error what is wrong, and answers the exit status. Where standard error fails too, a part of the
+    /// line is missing, or all of it.
     pub fn report<E: Write>(self, err: &mut E) -> u8
         ensures status { result ≡ status_of self.entry }
-        ensures silent { self.entry ≡ Fault.Output → Keeps (E.contents err.old) (E.contents err.new) }
+        ensures said { Says self.entry (E.contents err.old) (E.contents err.new) }
     {
         let _ = self.say(err);
         self.status()
@@ -155,59 +161,89 @@ fn kind_name(kind: FaultKind) -> &'static str
     }
 }
 
-fn say_script<E: Write>(fault: ScriptFault, err: &mut E) -> io::Result<()>
-    ensures { OnOk result (Appends (E.contents err.old) (E.contents err.new) (fault_line (Fault.Script fault))) }
+fn say_plain<E: Write>(words: &str, err: &mut E) -> io::Result<()>
+    ensures { Writes (E.contents err.old) (E.contents err.new) result (plain_line words.now) }
 {
-    let name = kind_name(fault.kind);
-    let line = fault.line;
-    writeln!(err, "script fault {name} line {line}")
+    write_texts(err, &[words.as_bytes(), b"\n"])
+}
+
+fn say_number<E: Write>(words: &str, number: u64, err: &mut E) -> io::Result<()>
+    ensures { Writes (E.contents err.old) (E.contents err.new) result (numbered_line words.now number) }
+{
+    let mut digits = Buffer::new();
+    write_texts(
+        err,
+        &[words.as_bytes(), digits.format(number).as_bytes(), b"\n"],
+    )
+}
+
+fn say_script<E: Write>(fault: ScriptFault, err: &mut E) -> io::Result<()>
+    ensures { Writes (E.contents err.old) (E.contents err.new) result (fault_line (Fault.Script fault)) }
+{
+    let mut digits = Buffer::new();
+    let name = kind_name(fault.kind).as_bytes();
+    let line = digits.format(fault.line).as_bytes();
+    write_texts(err, &[b"script fault ", name, b" line ", line, b"\n"])
 }
 
 fn say_certificate<E: Write>(fault: CertFault, err: &mut E) -> io::Result<()>
-    ensures { OnOk result (Appends (E.contents err.old) (E.contents err.new) (fault_line (Fault.Certificate fault))) }
+    ensures { Writes (E.contents err.old) (E.contents err.new) result (certificate_line fault) }
 {
     match fault {
-        CertFault::Header => writeln!(err, "certificate fault Header"),
-        CertFault::Syntax { line } => writeln!(err, "certificate fault Syntax line {line}"),
-        CertFault::Order { line } => writeln!(err, "certificate fault Order line {line}"),
-        CertFault::Limit => writeln!(err, "certificate fault Limit"),
-        CertFault::Memory => writeln!(err, "certificate fault Memory"),
+        CertFault::Header => say_plain("certificate fault Header", err),
+        CertFault::Syntax { line } => say_number("certificate fault Syntax line ", line, err),
+        CertFault::Order { line } => say_number("certificate fault Order line ", line, err),
+        CertFault::Limit => say_plain("certificate fault Limit", err),
+        CertFault::Memory => say_plain("certificate fault Memory", err),
     }
 }
 
 fn say_refusal<E: Write>(fault: CheckFault, err: &mut E) -> io::Result<()>
-    ensures { OnOk result (Appends (E.contents err.old) (E.contents err.new) (fault_line (Fault.Refused fault))) }
+    ensures { Writes (E.contents err.old) (E.contents err.new) result (refusal_line fault) }
 {
     match fault {
-        CheckFault::Points => writeln!(err, "refused Points"),
-        CheckFault::Start => writeln!(err, "refused Start"),
-        CheckFault::Illegal(point) => writeln!(err, "refused Illegal point {point}"),
-        CheckFault::Address(point) => writeln!(err, "refused Address point {point}"),
-        CheckFault::Shape(point) => writeln!(err, "refused Shape point {point}"),
-        CheckFault::Number(point) => writeln!(err, "refused Number point {point}"),
-        CheckFault::Bound(point) => writeln!(err, "refused Bound point {point}"),
-        CheckFault::EndState(point) => writeln!(err, "refused EndState point {point}"),
+        CheckFault::Points => say_plain("refused Points", err),
+        CheckFault::Start => say_plain("refused Start", err),
+        CheckFault::Illegal(point) => say_number("refused Illegal point ", point as u64, err),
+        CheckFault::Address(point) => say_number("refused Address point ", point as u64, err),
+        CheckFault::Shape(point) => say_number("refused Shape point ", point as u64, err),
+        CheckFault::Number(point) => say_number("refused Number point ", point as u64, err),
+        CheckFault::Bound(point) => say_number("refused Bound point ", point as u64, err),
+        CheckFault::EndState(point) => say_number("refused EndState point ", point as u64, err),
     }
 }
 
 fn say_uncertified<E: Write>(fault: CertifyFault, err: &mut E) -> io::Result<()>
-    ensures { OnOk result (Appends (E.contents err.old) (E.contents err.new) (fault_line (Fault.Uncertified fault))) }
+    ensures { Writes (E.contents err.old) (E.contents err.new) result (uncertified_line fault) }
 {
     match fault {
         CertifyFault::Illegal { point, shape } => say_illegal(point, shape, err),
-        CertifyFault::Address { point } => writeln!(err, "refused Address point {point}"),
-        CertifyFault::EndState { point } => writeln!(err, "refused EndState point {point}"),
-        CertifyFault::TooMany => writeln!(err, "refused TooMany"),
-        CertifyFault::Memory => writeln!(err, "refused Memory"),
+        CertifyFault::Address { point } => say_number("refused Address point ", point as u64, err),
+        CertifyFault::EndState { point } => say_number(
+            "refused EndState point ",
+            point as u64,
+            err,
+        ),
+        CertifyFault::TooMany => say_plain("refused TooMany", err),
+        CertifyFault::Memory => say_plain("refused Memory", err),
     }
 }
 
 fn say_illegal<E: Write>(point: usize, shape: Shape, err: &mut E) -> io::Result<()>
-    ensures { OnOk result (Appends (E.contents err.old) (E.contents err.new) (illegal_text point shape ++ 10 ∷ [])) }
+    ensures { Writes (E.contents err.old) (E.contents err.new) result (illegal_line point shape) }
 {
-    write!(err, "refused Illegal point {point} shape ")?;
-    err.write_all(&digits_of(shape))?;
-    writeln!(err)
+    let mut digits = Buffer::new();
+    let point = digits.format(point as u64).as_bytes();
+    write_texts(
+        err,
+        &[
+            b"refused Illegal point ",
+            point,
+            b" shape ",
+            &digits_of(shape),
+            b"\n",
+        ],
+    )
 }
 
 /// The sixteen hexadecimal digits of a shape's code.

@@ -17,8 +17,8 @@ mod line;
 mod number;
 mod plain;
 pub mod program;
+pub mod start;
 #[cfg(test)]
 mod testing;
 #[cfg(test)]
 mod tests;
-

@@ -2,7 +2,8 @@
 ghost use Rattle.std.specs.Prelude.{◌≡◌, ◌≢◌, ◌⊎◌, IfErr, OnOk};
 ghost use Rattle.std.specs.Io.KnownBytes.{Keeps};
 ghost use Rattle.clap.specs.Walk.{texts};
-ghost use Rattle.sdv_words.specs.Answer.{Answers, AsksFrame, AsksNothing, IsFaultOf, PrintsFrame, RefusesFrame};
+ghost use Rattle.sdv_words.specs.Answer.{Answers, AsksFrame, AsksNothing, EndsBy, IsFaultOf, Leaves, PrintsFrame};
+ghost use Rattle.sdv_words.specs.Answer.{PrintsFrameInPart, RefusesFrame};
 ghost use Rattle.sdv_words.specs.Check.{any_text};
 ghost use Rattle.sdv_words.specs.Fault.{status_of};
 ghost use Rattle.sdv_words.specs.Number.{Writes};
@@ -32,8 +33,9 @@ pub fn program<R: Files + AllocGlobal, O: Write, E: Write>(
     ensures answered { result ≡ 0
         → Answers any_text (texts words.now) (O.contents out.old) (O.contents out.new) }
     ensures quiet { result ≡ 0 → Keeps (E.contents err.old) (E.contents err.new) }
-    ensures faults { result ≢ 0
-        → (fault : Fault) × (result ≡ status_of fault) × IsFaultOf any_text (texts words.now) fault }
+    ensures faults { result ≢ 0 → (fault : Fault) × (result ≡ status_of fault)
+        × EndsBy any_text (texts words.now) fault (O.contents out.old) (O.contents out.new)
+        (E.contents err.old) (E.contents err.new) }
 
     ensures nothing_asked { AsksNothing (texts words.now)
         → Keeps (O.contents out.old) (O.contents out.new) }
@@ -58,8 +60,8 @@ pub fn answer<'a, T: Texts, O: Write>(
     ensures ok { OnOk result
         (Answers (T.gives files.now) (texts words.now) (O.contents out.old) (O.contents out.new)) }
     ensures faults { IfErr result (IsFaultOf (T.gives files.now) (texts words.now)) }
-    ensures quiet { IfErr result (λ fault. fault ≢ Fault.Output
-        → Keeps (O.contents out.old) (O.contents out.new)) }
+    ensures left { IfErr result (λ fault.
+        Leaves (T.gives files.now) (texts words.now) fault (O.contents out.old) (O.contents out.new)) }
 {
     match line_of(alloc, words)? {
         Line::Frame { index, argument } => answer_frame(index, argument, out),
@@ -77,6 +79,8 @@ fn answer_frame<'a, O: Write>(index: &str, argument: &str, out: &mut O) -> Resul
     ensures refused { IfErr result (RefusesFrame index.now argument.now) }
     ensures quiet { IfErr result (λ fault. fault ≢ Fault.Output
         → Keeps (O.contents out.old) (O.contents out.new)) }
+    ensures part { IfErr result (λ fault. fault ≡ Fault.Output → (c : Command) × Writes index.now argument.now c
+        × PrintsFrameInPart c (O.contents out.old) (O.contents out.new)) }
 {
     let command = command_of(index, argument).ok_or(Fault::Usage)?;
     write_frame(command, out).map_err(|_| Fault::Output)

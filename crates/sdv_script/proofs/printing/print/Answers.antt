@@ -20,4 +20,4 @@ loop-at-preserved g c =
 pub returns : goal.returns
 returns g c =
     let i = c.loop-at.invariant in
-    line_done c.put.result _ _ _ _ i.0 (i.1 ∙ ap (λ (ps : List (List ℕ)). i.0 ++ printed_pieces ps) (c.is_end.ensures.end c.loop-at-test.false)) i.2 c.put.ensures
+    line_done c.write_text.result _ _ _ _ i.0 (i.1 ∙ ap (λ (ps : List (List ℕ)). i.0 ++ printed_pieces ps) (c.is_end.ensures.end c.loop-at-test.false)) i.2 c.write_text.ensures

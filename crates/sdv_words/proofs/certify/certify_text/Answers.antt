@@ -25,8 +25,8 @@ returns-clause-refused g c =
     c.in_ok-certificate.ensures.certificate c.in_ok-certificate.ensures.closed c.in_ok-certificate.ensures.limits in
     output_failed c.args.script.now c.in_ok-certificate.certificate certificate c.map_err.result output
 
-pub returns-clause-front : goal.returns-clause-front
-returns-clause-front g c =
+pub returns-clause-part : goal.returns-clause-part
+returns-clause-part g c =
     let certificate : IsCertificateOfText c.args.script.now c.in_ok-certificate.certificate =
     certificate_of_text c.args.script.now c.in_ok-script.script c.in_ok-certificate.certificate c.in_ok-script.ensures.text c.in_ok-script.ensures.script
     c.in_ok-certificate.ensures.certificate c.in_ok-certificate.ensures.closed c.in_ok-certificate.ensures.limits in

@@ -1,0 +1,175 @@
+//! Frames, from the worked tables of the standard and from bring-up traces.
+
+use crate::shared::{frame_of, replies};
+use sdv_frames::{
+    Command, Expect, FrameFault, Reply, crc7, decode_command, decode_reply, encode, laws,
+};
+use std::process::Abort;
+use std::test::Fail;
+
+/// Frames of commands. `0x75` is the value that CRC-7/MMC is known by.
+#[test]
+fn command_frames(rt: HostRuntime) {
+    assert!(rt; crc7(b"123456789") == 0x75);
+    let rows = [
+        (0, 0, [0x40, 0x00, 0x00, 0x00, 0x00, 0x95]),
+        (8, 0x1aa, [0x48, 0x00, 0x00, 0x01, 0xaa, 0x87]),
+        (17, 0, [0x51, 0x00, 0x00, 0x00, 0x00, 0x55]),
+        (41, 0x40ff8000, [0x69, 0x40, 0xff, 0x80, 0x00, 0x17]),
+        (1, 0x40ff8080, [0x41, 0x40, 0xff, 0x80, 0x80, 0x89]),
+    ];
+    for (index, argument, frame) in rows {
+        let command = Command { index, argument };
+        assert!(rt; command.index < 64);
+        assert!(rt;
+            encode(command) == frame && decode_command(&frame) == Ok(command),
+            "CMD{index}"
+        );
+        single_bits(&rt, &frame);
+    }
+    laws::crc7_is_one();
+    laws::spelling_is_one();
+}
+
+/// No bit of a frame may change: the start bit, the transmission bit, 45 bits under the CRC7 or of it, the end bit.
+fn single_bits(rt: &impl Abort, frame: &[u8; 6]) {
+    for bit in 0..48usize {
+        let mut changed = *frame;
+        changed[bit / 8] ^= 0x80 >> (bit % 8);
+        let fault = match bit {
+            0 => FrameFault::StartBit,
+            1 => FrameFault::Direction,
+            47 => FrameFault::EndBit,
+            _ => FrameFault::Crc,
+        };
+        assert!(rt; decode_command(&changed) == Err(fault), "bit {bit}");
+    }
+}
+
+/// Frames of responses that were seen elsewhere.
+#[test]
+fn reply_frames(rt: HostRuntime) {
+    let status = Reply::R1 {
+        index: 17,
+        status: 0x900,
+    };
+    for (expect, reply, frame) in [
+        (Expect::R1(17), status, [0x11, 0, 0, 0x09, 0, 0x67]),
+        (
+            Expect::R3,
+            Reply::R3(0x80ff8000),
+            [0x3f, 0x80, 0xff, 0x80, 0, 0xff],
+        ),
+    ] {
+        let written = frame_of(&rt, reply);
+        assert!(rt;
+            decode_reply(expect, &frame) == Ok(reply) && written.as_slice() == frame.as_slice()
+        );
+    }
+}
+
+/// The same frames with one byte changed, or where another response is waited for, and the fault that answers them.
+#[test]
+fn refused_replies(rt: HostRuntime) {
+    for (expect, frame, fault) in [
+        (
+            Expect::R1(17),
+            [0x11, 0, 0, 0x09, 0, 0x66],
+            FrameFault::EndBit,
+        ),
+        (Expect::R1(17), [0x11, 0, 0, 0x09, 0, 0x65], FrameFault::Crc),
+        (Expect::R1(17), [0x11, 0, 0, 0x09, 0, 0x64], FrameFault::Crc),
+        (
+            Expect::R1(17),
+            [0x91, 0, 0, 0x09, 0, 0x67],
+            FrameFault::StartBit,
+        ),
+        (
+            Expect::R1(17),
+            [0x51, 0, 0, 0x09, 0, 0x67],
+            FrameFault::Direction,
+        ),
+        (
+            Expect::R1(17),
+            [0x12, 0, 0, 0x09, 0, 0x67],
+            FrameFault::Index,
+        ),
+        (
+            Expect::R1(81),
+            [0x11, 0, 0, 0x09, 0, 0x67],
+            FrameFault::Index,
+        ),
+        (
+            Expect::R1(17),
+            [0x3f, 0x80, 0xff, 0x80, 0, 0xff],
+            FrameFault::Index,
+        ),
+        (
+            Expect::R3,
+            [0x3f, 0x80, 0xff, 0x80, 0, 0x7f],
+            FrameFault::Reserved,
+        ),
+        (
+            Expect::R3,
+            [0x3f, 0x80, 0xff, 0x80, 0, 0xfe],
+            FrameFault::EndBit,
+        ),
+        (
+            Expect::R3,
+            [0x3e, 0x80, 0xff, 0x80, 0, 0xff],
+            FrameFault::Index,
+        ),
+    ] {
+        assert!(rt; decode_reply(expect, &frame) == Err(fault), "{frame:?}");
+    }
+}
+
+/// What is written is read again.
+#[test]
+fn round_trips(rt: HostRuntime) {
+    for (expect, reply) in replies(13) {
+        let frame = frame_of(&rt, reply);
+        let read = decode_reply(expect, frame.as_slice());
+        assert!(rt; read == Ok(reply), "{reply:?}");
+    }
+}
+
+/// No other length is read, and none where nothing is waited for.
+#[test]
+fn lengths(rt: HostRuntime) {
+    let bytes = [0u8; 18];
+    let rows = [
+        (Expect::Nothing, None),
+        (Expect::R1(0), Some(6)),
+        (Expect::R2, Some(17)),
+        (Expect::R3, Some(6)),
+        (Expect::R6, Some(6)),
+        (Expect::R7, Some(6)),
+    ];
+    for (expect, wanted) in rows {
+        for length in 0..=18usize {
+            let refused = decode_reply(expect, &bytes[..length]) == Err(FrameFault::Length);
+            assert!(rt; refused == (wanted != Some(length)), "{expect:?} {length}");
+        }
+    }
+}
+
+#[test]
+fn fault_texts(rt: HostRuntime) -> Result<(), Fail> {
+    let rows = [
+        (FrameFault::Length, "the frame has another length"),
+        (FrameFault::StartBit, "the start bit is not 0"),
+        (
+            FrameFault::Direction,
+            "the direction bit is that of the other side",
+        ),
+        (FrameFault::Index, "the command index is another one"),
+        (FrameFault::Crc, "the CRC7 is wrong"),
+        (FrameFault::EndBit, "the end bit is not 1"),
+        (FrameFault::Reserved, "reserved bits are not all 1"),
+    ];
+    for (fault, text) in rows {
+        assert_eq!(rt; fault.to_string(rt.alloc())?.as_str(), text);
+    }
+    Ok(())
+}

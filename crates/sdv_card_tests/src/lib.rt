@@ -1,0 +1,18 @@
+//! Tests of cards and their hosts: frames, registers, the traits and examples of `sdv_card`, the table of SD cards, and
+//! the controller.
+//!
+//! The crate has no code of its own; its tests name the crates below by what those export.
+#![tactic(auto)]
+
+#[cfg(test)]
+mod card_tests;
+#[cfg(test)]
+mod controller_tests;
+#[cfg(test)]
+mod frames_tests;
+#[cfg(test)]
+mod registers_tests;
+#[cfg(test)]
+mod shared;
+#[cfg(test)]
+mod table_tests;

@@ -1,0 +1,44 @@
+//! Texts that go out whole, or in part where the writer fails.
+//!
+//! `specs/Written.antt` says what a writer then holds. Whatever prints here, scripts, certificates, traces and the lines of
+//! the program, is said in its words.
+#![tactic(auto)]
+
+ghost use Rattle.std.specs.Prelude.{flat_map};
+ghost use Rattle.sdv_text.specs.Written.{Writes};
+
+use std::io::{Error, ErrorKind, Write};
+
+/// Writes all of a text.
+///
+/// # Errors
+///
+/// The writer's error, or [`ErrorKind::WriteZero`] where it takes no byte. Then a part of the text is written, and not all
+/// of it.
+pub fn write_text<W: Write>(out: &mut W, text: &[u8]) -> Result<(), Error>
+    ensures { Writes (W.contents out.old) (W.contents out.new) result text.now }
+{
+    let mut rest = text;
+    while !rest.is_empty() {
+        match out.write(rest) {
+            Ok(0) => return Err(Error::from(ErrorKind::WriteZero)),
+            Ok(count) => rest = &rest[count..],
+            Err(error) => return Err(error),
+        }
+    }
+    Ok(())
+}
+
+/// Writes texts one after another, each of them whole.
+///
+/// # Errors
+///
+/// As [`write_text`]: then a part of all of them together is written.
+pub fn write_texts<W: Write>(out: &mut W, texts: &[&[u8]]) -> Result<(), Error>
+    ensures { Writes (W.contents out.old) (W.contents out.new) result (flat_map (λ text. text.now) texts.now) }
+{
+    for text in texts {
+        write_text(out, text)?;
+    }
+    Ok(())
+}
