@@ -1,4 +1,4 @@
--- One e.MMC device, and what happens at it when a host brings it up and reads its EXT_CSD: an example of a device's steps.
+-- One e.MMC device, and what happens at it when a host brings it up and reads its EXT_CSD: an example of its steps.
 -- JESD84-B51, sections 6.4 (device identification mode) and 7.4 (extended CSD register).
 use Rattle.std.specs.Prelude.{true, false, ℕ, List, [], ◌∷◌, ◌++◌, replicate, Some, None}
 use Rattle.sdv_registers.specs.declared.kind.Kind.TheVariants.{Emmc}
@@ -74,4 +74,5 @@ device_bring_up =
 -- it happens at a device of the profile, from the start to the transfer state
 pub record DeviceBringUpHappens : Type 0 where
   pub start : (contents : List Block) → AreBlocks 1024 contents → IsAtStart (example_device contents)
-  pub all : (contents : List Block) → AllHappen device_bring_up (example_device contents) (host_at_start 0) (selected_device contents)
+  pub all : (contents : List Block) →
+      AllHappen device_bring_up (example_device contents) (host_at_start 0) (selected_device contents)

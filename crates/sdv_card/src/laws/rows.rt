@@ -155,8 +155,8 @@ fn with_matches(all: &mut ArrayVec<Fields, 8>, card: Fields, matches: &[bool], p
     }
 }
 
-/// A settled card that did not take a row, with each match: it lost its application flag, and perhaps its erase stage or
-/// its preset count.
+/// A settled card that did not take a row, with each match: it lost its application flag, and perhaps its erase stage
+/// or its preset count.
 pub fn stayed<T: Rows>(row: Row, matches: &[bool], t: &Fields) -> ArrayVec<Fields, 8>
     requires { length matches.now ≤ 2 }
     ensures items { result.items ≡ stayed T.kind row matches.now t.now }
