@@ -86,37 +86,37 @@ settled_step Ignored order argument t l = (TimeOut, t, (refl, refl))
 settled_step (By row) order argument t l = row_step (response_of row) order row argument t refl l
 
 -- a legal phase is due
-read_is_due : (s : State) (x : Transfer) → recv_legal s x ≡ true → read_due x ≡ true
+pub read_is_due : (s : State) (x : Transfer) → recv_legal s x ≡ true → read_due x ≡ true
 read_is_due Data x e = e
 read_is_due s x e = absurd (let f : false ≡ true = e in cc)
 
-register_is_due : (s : State) (x : Transfer) → recv_reg_legal s x ≡ true → register_due x ≡ true
+pub register_is_due : (s : State) (x : Transfer) → recv_reg_legal s x ≡ true → register_due x ≡ true
 register_is_due Data x e = e
 register_is_due s x e = absurd (let f : false ≡ true = e in cc)
 
-write_is_due : (s : State) (x : Transfer) → give_legal s x ≡ true → write_due x ≡ true
+pub write_is_due : (s : State) (x : Transfer) → give_legal s x ≡ true → write_due x ≡ true
 write_is_due Rcv x e = e
 write_is_due s x e = absurd (let f : false ≡ true = e in cc)
 
 -- a phase that is due may be cut
-cut_read : (x : Transfer) → read_due x ≡ true → (p : Place) × May (after_phase x Cut) p
+pub cut_read : (x : Transfer) → read_due x ≡ true → (p : Place) × May (after_phase x Cut) p
 cut_read ReadDue e = (_, here refl)
 cut_read OpenReadDue e = (_, here refl)
 cut_read x e = absurd (let f : false ≡ true = e in cc)
 
-cut_register : (x : Transfer) → register_due x ≡ true → (p : Place) × May (after_phase x Cut) p
+pub cut_register : (x : Transfer) → register_due x ≡ true → (p : Place) × May (after_phase x Cut) p
 cut_register ScrDue e = (_, here refl)
 cut_register SdStatusDue e = (_, here refl)
 cut_register ExtCsdDue e = (_, here refl)
 cut_register x e = absurd (let f : false ≡ true = e in cc)
 
-cut_write : (x : Transfer) → write_due x ≡ true → (p : Place) × May (after_phase x Cut) p
+pub cut_write : (x : Transfer) → write_due x ≡ true → (p : Place) × May (after_phase x Cut) p
 cut_write WriteDue e = (_, here refl)
 cut_write OpenWriteDue e = (_, here refl)
 cut_write x e = absurd (let f : false ≡ true = e in cc)
 
 -- a wait may be late, and leave the state
-late_wait : (s : State) → wait_legal s ≡ true → May (after_wait s Late) s
+pub late_wait : (s : State) → wait_legal s ≡ true → May (after_wait s Late) s
 late_wait Tran e = here refl
 late_wait Prg e = here refl
 late_wait s e = absurd (let f : false ≡ true = e in cc)

@@ -42,7 +42,7 @@ settled_as_is P c t e p (inl same) = subst P same p
 settled_as_is P c t e p (inr own) = absurd (let f : None ≡ Some own.0 = sym e ∙ own.1 in cc)
 
 -- what happens at a card that has no step of its own
-happens : (ask : Ask) (argument : ℕ) (order : Order) (answer : Answer) (c u : Card) (h : Host) →
+pub happens : (ask : Ask) (argument : ℕ) (order : Order) (answer : Answer) (c u : Card) (h : Host) →
     own_target c.state c.transfer ≡ None → order_of c.kind ask ≡ Some order → Makes c.kind (SendCommand ask argument) h →
     SettledLegal (card_takes c order argument) c → SettledAnswer (card_takes c order argument) order argument c answer u →
     SendLegal ask argument c × Sends ask argument c answer u
@@ -51,7 +51,7 @@ happens ask argument order answer c u h own line made legal step = (
   record { order = order; asks = record { line = line }; exchange = record { settled_card = c; settled = inl refl; answered = step } },
 )
 
-first : {A : Type 0} {x : A} {xs : List A} → May (x ∷ xs) x
+pub first : {A : Type 0} {x : A} {xs : List A} → May (x ∷ xs) x
 first = record { one = inl refl }
 
 second : {A : Type 0} {x y : A} {xs : List A} → May (y ∷ x ∷ xs) x
@@ -87,17 +87,17 @@ taken row argument contents s s' r r' a a' state reached app rca erase length pr
   contents = same;
 }
 
-made : {k : Kind} {ask : Ask} {argument : ℕ} {h : Host} → argument ≡ argument_of k ask h.rca 0 → Makes k (SendCommand ask argument) h
+pub made : {k : Kind} {ask : Ask} {argument : ℕ} {h : Host} → argument ≡ argument_of k ask h.rca 0 → Makes k (SendCommand ask argument) h
 made same = record { address = 0; same = same }
 
 -- an error that is not pending is shown by no status
-no_error : (t u : Card) (shown : Bool) → t.doubt ≡ false → u.doubt ≡ false → ErrorShown t shown u
+pub no_error : (t u : Card) (shown : Bool) → t.doubt ≡ false → u.doubt ≡ false → ErrorShown t shown u
 no_error t u shown before after = record {
   ends = after ∙ sym (ap (λ v. v && not shown) before);
   must = λ tran pending. absurd (let f : true ≡ false = sym pending ∙ before in cc);
 }
 
-no_blocks : (c u : Card) → c.next_block ≡ u.next_block → c.announced ≡ u.announced → SameBlocks c u
+pub no_blocks : (c u : Card) → c.next_block ≡ u.next_block → c.announced ≡ u.announced → SameBlocks c u
 no_blocks c u block count = record { block = block; count_is = count }
 
 -- EACH COMMAND
@@ -225,7 +225,7 @@ block_length cs =
 
 -- THE CARD AT THE START
 
-bytes_fit : (xs : List ℕ) → AllByRecursion IsByte xs → All IsByte xs
+pub bytes_fit : (xs : List ℕ) → AllByRecursion IsByte xs → All IsByte xs
 bytes_fit xs h = All-from_recursion IsByte xs h
 
 csd_fits : IsRegister 15 example_csd

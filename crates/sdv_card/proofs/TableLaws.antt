@@ -2,6 +2,7 @@
 pub use Rattle.sdv_card.proofs.PairShapes.{pairs_have_shapes}
 pub use Rattle.sdv_card.proofs.LegalExact.{legal_is_exact}
 pub use Rattle.sdv_card.proofs.HasStep.{has_step}
+pub use Rattle.sdv_card.proofs.HasOutcome.{has_outcome}
 pub use Rattle.sdv_card.proofs.StepOutcomes.{steps_are_outcomes}
 pub use Rattle.sdv_card.proofs.KeepPairs.{steps_keep_pairs}
 pub use Rattle.sdv_card.proofs.Same.{steps_keep_same}

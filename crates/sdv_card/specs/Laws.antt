@@ -7,6 +7,8 @@ use Rattle.sdv_card.specs.declared.guard.Guard.TheVariants.{Ok as WentWell}
 use Rattle.sdv_card.specs.declared.command.Order.{Order}
 use Rattle.sdv_card.specs.declared.command.Order.TheVariants.{ReadSingleBlock, ReadMultipleBlock, WriteBlock, WriteMultipleBlock, EraseBlockStart, EraseBlockEnd, EraseGroupStart, EraseGroupEnd}
 use Rattle.sdv_card.specs.declared.event.Ask.{Ask}
+use Rattle.sdv_card.specs.declared.event.Event.{Event}
+use Rattle.sdv_card.specs.declared.event.Outcome.{Outcome}
 use Rattle.sdv_card.specs.Lists.{May}
 use Rattle.sdv_card.specs.Card.{Card}
 use Rattle.sdv_card.specs.Host.{Host, host_after}
@@ -52,6 +54,14 @@ pub record SomeStep (event : ScriptEvent) (c : Card) : Type 0 where
 
 abbrev pub HasStep : Kind → Type 0
 HasStep k = (event : ScriptEvent) (c : Card) (h : Host) → IsPair k c h → EventLegal event c → SomeStep event c
+
+-- a legal event has an outcome
+pub record SomeOutcome (k : Kind) (code : ℕ) (event : Event) : Type 0 where
+  pub outcome : Outcome
+  pub may : May (outcomes_code k code event) outcome
+
+abbrev pub HasOutcome : Kind → Type 0
+HasOutcome k = (code : ℕ) (event : Event) → IsTrue (legal_code k code event) → SomeOutcome k code event
 
 -- each legal step of a card beside its host is among the outcomes at their code
 abbrev pub StepsAreOutcomes : Kind → Type 0

@@ -1,6 +1,7 @@
 pub mod Lists
 pub mod States
 pub mod StateTable
+pub mod NextStates
 pub mod CommandTable
 pub mod Takes
 pub mod RowRules
@@ -28,3 +29,4 @@ pub mod Guards
 pub mod Laws
 pub mod Port
 pub mod BringUp
+pub mod EmmcBringUp

@@ -1,6 +1,7 @@
 ghost use Rattle.std.specs.Prelude.{◌≡◌, map};
 ghost use Rattle.sdv_card.specs.Shapes.{start_codes};
 ghost use Rattle.sdv_card.specs.BringUp.{BringUpHappens, LostAnswerHappens, ProgrammingEnds, DoubtStays, StopIsNotLegal, LastBlockIsBound};
+ghost use Rattle.sdv_card.specs.EmmcBringUp.{DeviceBringUpHappens};
 
 use crate::shape::START_SHAPES;
 
@@ -12,6 +13,11 @@ pub fn start_shapes_are_codes()
 /// A card of the profile can be brought up, command by command.
 pub fn bring_up_happens()
     ensures { BringUpHappens }
+{}
+
+/// An e.MMC device of the profile can be brought up, command by command, and its EXT_CSD read.
+pub fn device_bring_up_happens()
+    ensures { DeviceBringUpHappens }
 {}
 
 /// The answer to a command can be lost, and the card has taken the command.

@@ -8,17 +8,12 @@ mod by_rows;
 mod commands;
 mod distinct;
 mod phases;
+mod rows;
 mod rules;
 mod shapes;
 mod takes;
 
-pub use branches::{Branches, statuses, unaddressed_seen, with_conditions, with_seen};
-pub use by_rows::{Rows, legal_by_rows, outcomes_by_rows};
+pub use by_rows::{legal_by_rows, outcomes_by_rows};
 pub use commands::order;
-pub use phases::{after_phase, after_wait, give_legal, recv_legal, recv_reg_legal, wait_legal};
-pub use rules::{
-    erase_after, erase_allows, length_allows, matched_stayed, own_step, own_target, preset_allows,
-    response, transfer_after,
-};
+pub use rows::Rows;
 pub use shapes::is_shape;
-pub use takes::taken_as;

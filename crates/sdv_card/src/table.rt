@@ -4,7 +4,7 @@ ghost use Rattle.sdv_card.specs.declared.event.Outcome.{Outcome};
 ghost use Rattle.sdv_card.specs.Lists.{May, AreDistinct};
 ghost use Rattle.sdv_card.specs.Outcomes.{outcomes_code};
 ghost use Rattle.sdv_card.specs.LegalShapes.{legal_code};
-ghost use Rattle.sdv_card.specs.Laws.{PairsHaveShapes, LegalIsExact, HasStep, StepsAreOutcomes, StepsAreExpected, StepsKeepPairs, StepsKeepSame, StepsKeepSound, StepsKeepOnCard, AsksAddress, StartsHold, VerdictsHold};
+ghost use Rattle.sdv_card.specs.Laws.{PairsHaveShapes, LegalIsExact, HasStep, HasOutcome, StepsAreOutcomes, StepsAreExpected, StepsKeepPairs, StepsKeepSame, StepsKeepSound, StepsKeepOnCard, AsksAddress, StartsHold, VerdictsHold};
 
 use crate::event::{Event, Outcome};
 use crate::shape::Shape;
@@ -36,6 +36,9 @@ pub trait CardTable {
 
     /// A card has a step at each legal event.
     ghost has_step: { HasStep kind };
+
+    /// A legal event has an outcome.
+    ghost has_outcome: { HasOutcome kind };
 
     /// Each legal step of a card is among the outcomes at the shape.
     ghost steps_are_outcomes: { StepsAreOutcomes kind };

@@ -3,7 +3,7 @@ ghost use Rattle.sdv_registers.specs.declared.kind.Kind.TheVariants.{Sd};
 use crate::rows;
 use arrayvec::ArrayVec;
 use sdv_card::laws::{Rows, legal_by_rows, outcomes_by_rows};
-use sdv_card::{Branch, CardTable, Event, Fields, Order, Outcome, Row, Shape};
+use sdv_card::{CardTable, Event, Outcome, Row, Shape, State};
 use sdv_registers::Kind;
 
 /// The state table of SD cards.
@@ -16,17 +16,19 @@ impl Rows for SdTable {
         Kind::Sd
     }
 
-    fn is_legal(row: Row, t: &Fields) -> bool {
-        rows::is_legal(row, t)
+    fn next(row: Row, from: State) -> Option<State> {
+        rows::next(row, from)
     }
 
-    fn add_branches(all: &mut ArrayVec<Branch, 32>, order: Order, row: Row, t: &Fields) {
-        rows::add_branches(all, order, row, t);
+    fn preset_kept(preset: u16) -> ArrayVec<u16, 2> {
+        let mut kept = ArrayVec::new();
+        kept.push(preset);
+        kept
     }
 }
 
 impl CardTable for SdTable {
-    ghost use Rattle.sdv_card.proofs.TableLaws.{pairs_have_shapes, legal_is_exact, has_step, steps_are_outcomes, steps_are_expected, steps_keep_pairs, steps_keep_same, steps_keep_sound, steps_keep_on_card, asks_address, starts_hold, verdicts_hold};
+    ghost use Rattle.sdv_card.proofs.TableLaws.{pairs_have_shapes, legal_is_exact, has_step, has_outcome, steps_are_outcomes, steps_are_expected, steps_keep_pairs, steps_keep_same, steps_keep_sound, steps_keep_on_card, asks_address, starts_hold, verdicts_hold};
 
     ghost kind = { Sd };
 
@@ -43,6 +45,8 @@ impl CardTable for SdTable {
     ghost legal_is_exact = { legal_is_exact Sd };
 
     ghost has_step = { has_step Sd };
+
+    ghost has_outcome = { has_outcome Sd };
 
     ghost steps_are_outcomes = { steps_are_outcomes Sd };
 

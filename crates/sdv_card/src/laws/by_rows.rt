@@ -1,49 +1,32 @@
-//! What a state table says of events, by what it says of rows.
+//! The state table of a kind, by what the kind says of its rows.
 
 ghost use Rattle.std.specs.Prelude.{◌≡◌, ◌≤◌, ◌+◌, ◌++◌, ◌↔◌};
 ghost use Rattle.arrayvec.specs.ArrayVec.{array_vec_len};
-ghost use Rattle.sdv_registers.specs.declared.kind.Kind.{Kind};
 ghost use Rattle.sdv_card.specs.declared.event.Outcome.{Outcome};
 ghost use Rattle.sdv_card.specs.declared.event.Event.TheVariants.{Send};
+ghost use Rattle.sdv_card.specs.declared.event.Seen.TheVariants.{TimeOut};
 ghost use Rattle.sdv_card.specs.Lists.{May, AreDistinct};
 ghost use Rattle.sdv_card.specs.Takes.{taken_as_of};
 ghost use Rattle.sdv_card.specs.Responses.{response_of};
-ghost use Rattle.sdv_card.specs.LegalShapes.{row_legal, settled_legal, order_legal, event_legal, legal_code};
-ghost use Rattle.sdv_card.specs.Outcomes.{row_branches, settled_branches, order_branches, event_branches, outcomes_code};
+ghost use Rattle.sdv_card.specs.LegalShapes.{settled_legal, order_legal, event_legal, legal_code};
+ghost use Rattle.sdv_card.specs.Outcomes.{with_seen, lost, row_branches, settled_branches, order_branches, event_branches, outcomes_code};
 
-use super::branches::{Branches, phase_ends, wait_ends, with_seen};
+use super::branches::{
+    Branches, phase_ends, statuses, unaddressed_seen, wait_ends, with_conditions, with_seen,
+};
 use super::commands::order;
 use super::distinct::distinct;
 use super::phases::{give_legal, recv_legal, recv_reg_legal, wait_legal};
-use super::rules::{own_step, own_target};
+use super::rows::{Rows, row_legal, stayed, taken};
+use super::rules::{matched_stayed, own_step, own_target, response};
 use super::shapes::is_shape;
 use super::takes::taken_as;
 use crate::answer::{DataEnd, WaitEnd};
-use crate::command::{Order, Row, TakenAs};
+use crate::command::{Order, Response, Row, TakenAs};
 use crate::event::{Ask, Event, Outcome, Seen};
 use crate::fields::Fields;
 use crate::shape::Shape;
 use arrayvec::ArrayVec;
-use sdv_registers::Kind;
-
-/// What a state table of one kind says of each row, at the fields of a settled card: the part in which the kinds differ.
-pub trait Rows {
-    ghost kind: { Kind };
-
-    /// The kind of card.
-    fn kind() -> Kind
-        ensures { result ≡ kind };
-
-    /// The card has the row, and meets its conditions.
-    fn is_legal(row: Row, t: &Fields) -> bool
-        ensures { result ≡ row_legal kind row t.now };
-
-    /// Adds what may follow the row.
-    fn add_branches(all: &mut Branches, order: Order, row: Row, t: &Fields)
-        requires { array_vec_len all.old ≤ 16 }
-        ensures items { all.new.items ≡ all.old.items ++ row_branches kind order row (response_of row) t.now }
-        ensures few { array_vec_len all.new ≤ array_vec_len all.old + 16 };
-}
 
 /// The event is legal at the shape.
 pub fn legal_by_rows<T: Rows>(shape: Shape, event: &Event) -> bool
@@ -94,7 +77,7 @@ fn settled_legal<T: Rows>(order: Order, t: &Fields) -> bool
     match taken_as(order, t.app, t.matched) {
         TakenAs::Forbidden => false,
         TakenAs::Ignored => true,
-        TakenAs::By(row) => T::is_legal(row, t),
+        TakenAs::By(row) => row_legal::<T>(row, t),
     }
 }
 
@@ -157,6 +140,57 @@ fn settled_branches<T: Rows>(all: &mut Branches, order: Order, t: &Fields)
     match taken_as(order, t.app, t.matched) {
         TakenAs::Forbidden => {}
         TakenAs::Ignored => with_seen(all, Seen::TimeOut, &[*t]),
-        TakenAs::By(row) => T::add_branches(all, order, row, t),
+        TakenAs::By(row) => row_branches::<T>(all, order, row, t),
+    }
+}
+
+fn row_branches<T: Rows>(all: &mut Branches, order: Order, row: Row, t: &Fields)
+    requires { array_vec_len all.old ≤ 16 }
+    ensures items { all.new.items ≡ all.old.items ++ row_branches T.kind order row (response_of row) t.now }
+    ensures few { array_vec_len all.new ≤ array_vec_len all.old + 16 }
+{
+    let took = taken::<T>(row, true, t);
+    match response(row) {
+        Response::Absent => with_seen(all, Seen::Sent, took.as_slice()),
+        Response::NotAddressed => {
+            let seen = unaddressed_seen(order);
+            with_seen(all, seen, &[*t]);
+            with_seen(all, seen, took.as_slice());
+        }
+        Response::CardStatus => {
+            add_lost::<T>(all, row, t);
+            let stay = stayed::<T>(row, &[t.matched], t);
+            statuses(all, row, t, took.as_slice(), stay.as_slice());
+        }
+        Response::NewAddress => {
+            add_lost::<T>(all, row, t);
+            let stay = stayed::<T>(row, matched_stayed(t.state), t);
+            statuses(all, row, t, took.as_slice(), stay.as_slice());
+        }
+        Response::Contents => {
+            add_lost::<T>(all, row, t);
+            with_seen(all, Seen::Bare, took.as_slice());
+        }
+        Response::Conditions => {
+            add_lost::<T>(all, row, t);
+            with_conditions(all, took.as_slice());
+        }
+    }
+}
+
+/// Adds what may follow a row whose command or response was lost: the card is as it was, took the row or stayed.
+fn add_lost<T: Rows>(all: &mut Branches, row: Row, t: &Fields)
+    requires { array_vec_len all.old ≤ 16 }
+    ensures items { all.new.items ≡ all.old.items ++ with_seen TimeOut (lost T.kind (response_of row) row t.now) }
+    ensures few { array_vec_len all.new ≤ array_vec_len all.old + 7 }
+{
+    with_seen(all, Seen::TimeOut, &[*t]);
+    with_seen(all, Seen::TimeOut, taken::<T>(row, false, t).as_slice());
+    match response(row) {
+        Response::CardStatus | Response::NewAddress => {
+            let stay = stayed::<T>(row, &[t.matched], t);
+            with_seen(all, Seen::TimeOut, stay.as_slice());
+        }
+        Response::Absent | Response::NotAddressed | Response::Contents | Response::Conditions => {}
     }
 }

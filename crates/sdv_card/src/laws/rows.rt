@@ -1,0 +1,180 @@
+//! What a row leaves of a settled card, by what a kind says of its rows.
+
+ghost use Rattle.std.specs.Prelude.{◌≡◌, ◌≤◌, ◌+◌, ◌*◌, ◌++◌, length};
+ghost use Rattle.arrayvec.specs.ArrayVec.{array_vec_len};
+ghost use Rattle.sdv_registers.specs.declared.kind.Kind.{Kind};
+ghost use Rattle.sdv_card.specs.StateTable.{rows, targets};
+ghost use Rattle.sdv_card.specs.NextStates.{next_states};
+ghost use Rattle.sdv_card.specs.RowRules.{preset_kept};
+ghost use Rattle.sdv_card.specs.LegalShapes.{row_legal};
+ghost use Rattle.sdv_card.specs.Outcomes.{with_presets, with_matches, taken, stayed};
+
+use super::rules::{erase_after, erase_allows, length_allows, preset_allows, transfer_after};
+use crate::command::Row;
+use crate::fields::Fields;
+use crate::state::{EraseStage, State};
+use arrayvec::ArrayVec;
+use sdv_registers::Kind;
+
+/// In what the state tables of the kinds differ: the states to which rows lead, and what becomes of a preset count.
+pub trait Rows {
+    ghost kind: { Kind };
+
+    /// The kind of card.
+    fn kind() -> Kind
+        ensures { result ≡ kind };
+
+    /// The state after a row, if cards have the row in the state. After CMD1 and ACMD41 a card may stay in idle too.
+    fn next(row: Row, from: State) -> Option<State>
+        ensures { targets (rows kind row) from ≡ next_states row result };
+
+    /// The preset counts that a row may leave if it neither sets nor ends one.
+    fn preset_kept(preset: u16) -> ArrayVec<u16, 2>
+        ensures { result.items ≡ preset_kept kind preset };
+}
+
+/// Cards have the row in the state, and the block length, the erase stage and the preset count allow it.
+pub fn row_legal<T: Rows>(row: Row, t: &Fields) -> bool
+    ensures { result ≡ row_legal T.kind row t.now }
+{
+    T::next(row, t.state).is_some()
+        && length_allows(row, t.length_512)
+        && erase_allows(row, t.erase)
+        && preset_allows(row, t.preset)
+}
+
+/// Adds a card for each preset count.
+fn with_presets<const N: usize>(all: &mut ArrayVec<Fields, N>, card: Fields, presets: &[u16])
+    requires { array_vec_len all.old + length presets.now ≤ N }
+    ensures items { all.new.items ≡ all.old.items ++ with_presets card presets.now }
+    ensures len { array_vec_len all.new ≡ array_vec_len all.old + length presets.now }
+{
+    for preset in presets {
+        all.push(Fields {
+            preset: *preset,
+            ..card
+        });
+    }
+}
+
+/// A settled card after a row; `known`: the host saw the address that an SD card chose.
+pub fn taken<T: Rows>(row: Row, known: bool, t: &Fields) -> ArrayVec<Fields, 4>
+    ensures { result.items ≡ taken T.kind row known t.now }
+{
+    let mut all = ArrayVec::new();
+    let Some(state) = T::next(row, t.state) else {
+        return all;
+    };
+    let u = Fields {
+        state,
+        app: false,
+        erase: erase_after(row, t.erase),
+        transfer: transfer_after(row, t.preset, t.transfer),
+        ..*t
+    };
+    let kept = T::preset_kept(t.preset);
+    let kept = kept.as_slice();
+    match row {
+        Row::Cmd0 => {
+            let u = Fields {
+                matched: true,
+                preset: 0,
+                ..u
+            };
+            if !t.block_unit {
+                all.push(Fields {
+                    length_512: false,
+                    ..u
+                });
+            }
+            all.push(Fields {
+                length_512: true,
+                ..u
+            });
+        }
+        Row::Cmd1 => {
+            with_presets(&mut all, u, kept);
+            let idle = Fields {
+                state: State::Idle,
+                ..u
+            };
+            with_presets(&mut all, idle, kept);
+        }
+        Row::Cmd3Sd => {
+            if !known {
+                let unknown = Fields {
+                    matched: false,
+                    ..u
+                };
+                with_presets(&mut all, unknown, kept);
+            }
+            with_presets(&mut all, Fields { matched: true, ..u }, kept);
+        }
+        Row::Cmd3Emmc => with_presets(&mut all, Fields { matched: true, ..u }, kept),
+        Row::Cmd16 => {
+            let set = Fields {
+                length_512: true,
+                ..u
+            };
+            with_presets(&mut all, set, kept);
+        }
+        Row::Cmd18 { .. } | Row::Cmd25 { .. } => all.push(Fields { preset: 0, ..u }),
+        Row::Cmd23 { count } => all.push(Fields { preset: count, ..u }),
+        Row::Cmd55 => {
+            with_presets(&mut all, u, kept);
+            with_presets(&mut all, Fields { app: true, ..u }, kept);
+        }
+        Row::Acmd41 { high_capacity } => {
+            if high_capacity || !t.block_unit {
+                with_presets(&mut all, u, kept);
+            }
+            let idle = Fields {
+                state: State::Idle,
+                ..u
+            };
+            with_presets(&mut all, idle, kept);
+        }
+        _ => with_presets(&mut all, u, kept),
+    }
+    all
+}
+
+/// Adds a card for each match, with each preset count.
+fn with_matches(all: &mut ArrayVec<Fields, 8>, card: Fields, matches: &[bool], presets: &[u16])
+    requires few_presets { length presets.now ≤ 2 }
+    requires room { array_vec_len all.old + 2 * length matches.now ≤ 8 }
+    ensures items { all.new.items ≡ all.old.items ++ with_matches card matches.now presets.now }
+    ensures few { array_vec_len all.new ≤ array_vec_len all.old + 2 * length matches.now }
+{
+    for matched in matches {
+        let card = Fields {
+            matched: *matched,
+            ..card
+        };
+        with_presets(all, card, presets);
+    }
+}
+
+/// A settled card that did not take a row, with each match: it lost its application flag, and perhaps its erase stage
+/// or its preset count.
+pub fn stayed<T: Rows>(row: Row, matches: &[bool], t: &Fields) -> ArrayVec<Fields, 8>
+    requires { length matches.now ≤ 2 }
+    ensures items { result.items ≡ stayed T.kind row matches.now t.now }
+    ensures few { array_vec_len result ≤ 4 * length matches.now }
+{
+    let u = Fields { app: false, ..*t };
+    let kept = T::preset_kept(t.preset);
+    let mut all = ArrayVec::new();
+    with_matches(&mut all, u, matches, kept.as_slice());
+    match row {
+        Row::Cmd13 | Row::Acmd13 => {}
+        _ => {
+            let ended = Fields {
+                erase: EraseStage::Outside,
+                ..u
+            };
+            with_matches(&mut all, ended, matches, kept.as_slice());
+        }
+    }
+    all
+}
