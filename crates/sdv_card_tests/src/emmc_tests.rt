@@ -1,0 +1,119 @@
+//! The state table of e.MMC devices, by rows that the standard and the rules of the preset count give.
+
+use crate::outcomes::{
+    expect_outcomes, follow, outcome, outcomes_of, shapes_and_longest_list, status,
+};
+use crate::shared::send;
+use sdv_card::{Aim, Event, Kind, Seen, Shape};
+use sdv_emmc::EmmcTable;
+
+/// Commands at shapes of e.MMC devices, with and without a preset count of 8, and at codes that are no shape of one; and
+/// how many shapes there are without flags and preset, and the most outcomes at them with a preset count.
+#[test]
+fn legal_at_shapes_of_emmc(rt: HostRuntime) {
+    for (code, index, aim, argument, count, legal) in [
+        (0x2000, 1, Aim::Plain, 0, 0, true),
+        (0x2001, 1, Aim::Plain, 0, 0, false),
+        (0x2002, 3, Aim::Plain, 0, 0, true),
+        (0x2003, 3, Aim::Plain, 0, 0, false),
+        (0x0003, 9, Aim::Rca, 0, 0, true),
+        (0x0004, 7, Aim::Rca, 0, 0, true),
+        (0x2804, 8, Aim::Plain, 0, 0, true),
+        (0x2000, 8, Aim::Plain, 0, 0, false),
+        (0x2825, 12, Aim::Plain, 0, 0, true),
+        (0x2855, 12, Aim::Plain, 0, 0, false),
+        (0x2804, 23, Aim::Plain, 0, 8, true),
+        (0x2804, 23, Aim::Plain, 0, 0, false),
+        (0x8_0000_2804, 18, Aim::Plain, 0, 8, true),
+        (0x8_0000_2804, 18, Aim::Plain, 0, 4, false),
+        (0x8_0000_2804, 25, Aim::Plain, 0, 4, false),
+        (0x8_0000_2804, 17, Aim::Plain, 0, 1, true),
+        (0x2804, 36, Aim::Plain, 0, 0, false),
+        (0x2904, 36, Aim::Plain, 0, 0, true),
+        (0x2904, 38, Aim::Plain, 0, 0, false),
+        (0x2a04, 38, Aim::Plain, 1, 0, true),
+        (0x2a04, 38, Aim::Plain, 2, 0, false),
+        (0x2a04, 38, Aim::Plain, 3, 0, true),
+        (0x2804, 32, Aim::Plain, 0, 0, false),
+        (0x2804, 55, Aim::Rca, 0, 0, false),
+        (0x2804, 51, Aim::Plain, 0, 0, false),
+        (0x2855, 0, Aim::Plain, 0, 0, true),
+        (0x2835, 0, Aim::Plain, 0, 0, false),
+        (0x3804, 0, Aim::Plain, 0, 0, false),
+        (0x0002, 0, Aim::Plain, 0, 0, false),
+    ] {
+        let event = send(index, aim, argument, count);
+        let found = follow::<EmmcTable>(Shape(code), &event).is_some();
+        assert!(rt; found == legal, "command {index} at {code:x}");
+    }
+    let found = shapes_and_longest_list::<EmmcTable>(Kind::Emmc, 0x1_0000_0000);
+    assert_eq!(rt; found, (261, 28));
+    assert_eq!(rt;
+        outcomes_of::<EmmcTable>(0x1_0000_2108, &send(7, Aim::Rca, 0, 0)),
+        28
+    );
+}
+
+/// What may follow the operating conditions, the address that the host gives, the EXT_CSD and its phase, and commands that
+/// set, keep, use and end a preset count.
+#[test]
+fn outcomes_at_shapes_of_emmc(rt: HostRuntime) {
+    let ready = Seen::Ocr {
+        ready: true,
+        block: Some(true),
+    };
+    let not_ready = Seen::Ocr {
+        ready: false,
+        block: None,
+    };
+    let conditions = [
+        outcome(0x2c00, Seen::TimeOut),
+        outcome(0x2c01, Seen::TimeOut),
+        outcome(0x2c01, ready),
+        outcome(0x2c00, not_ready),
+    ];
+    expect_outcomes::<EmmcTable>(&rt, 0x2c00, &send(1, Aim::Plain, 0, 0), &conditions);
+    let preset = 0x8_0000_2804;
+    let ended = [outcome(0x2000, Seen::Sent), outcome(0x2800, Seen::Sent)];
+    expect_outcomes::<EmmcTable>(&rt, preset, &send(0, Aim::Plain, 0, 0), &ended);
+    let kept = [
+        outcome(preset, Seen::TimeOut),
+        outcome(0x2804, Seen::TimeOut),
+        outcome(preset, status(4, false)),
+        outcome(0x2804, status(4, false)),
+        outcome(preset, status(4, true)),
+        outcome(0x2804, status(4, true)),
+    ];
+    expect_outcomes::<EmmcTable>(&rt, preset, &send(13, Aim::Rca, 0, 0), &kept);
+    let used = [
+        outcome(preset, Seen::TimeOut),
+        outcome(0x2804, Seen::TimeOut),
+        outcome(0x2815, Seen::TimeOut),
+        outcome(0x2815, status(4, false)),
+        outcome(0x2815, status(4, true)),
+        outcome(preset, status(4, true)),
+        outcome(0x2804, status(4, true)),
+    ];
+    expect_outcomes::<EmmcTable>(&rt, preset, &send(18, Aim::Plain, 0, 8), &used);
+    for (code, index, count, state, after) in [
+        (0x2002, 3, 0, 2, 0x2003),
+        (0x2804, 8, 0, 4, 0x2855),
+        (0x2804, 18, 8, 4, 0x2825),
+        (0x2804, 23, 8, 4, preset),
+    ] {
+        let taken = [
+            outcome(code, Seen::TimeOut),
+            outcome(after, Seen::TimeOut),
+            outcome(after, status(state, false)),
+            outcome(after, status(state, true)),
+            outcome(code, status(state, true)),
+        ];
+        expect_outcomes::<EmmcTable>(&rt, code, &send(index, Aim::Plain, 0, count), &taken);
+    }
+    let phase = [
+        outcome(0x2804, Seen::Ok),
+        outcome(0x2865, Seen::NotOk),
+        outcome(0x2804, Seen::NotOk),
+    ];
+    expect_outcomes::<EmmcTable>(&rt, 0x2855, &Event::RecvReg, &phase);
+}

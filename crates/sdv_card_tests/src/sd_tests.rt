@@ -1,0 +1,91 @@
+//! The state table of SD cards, by rows that the standard gives.
+
+use crate::outcomes::{
+    expect_outcomes, follow, outcome, outcomes_of, shapes_and_longest_list, status,
+};
+use crate::shared::send;
+use sdv_card::{Aim, Event, Kind, Seen, Shape};
+use sdv_sd::SdTable;
+
+/// Commands at shapes of SD cards, also with flags of the script, and at codes that are no shape of an SD card.
+#[test]
+fn legal_at_shapes_of_sd(rt: HostRuntime) {
+    for (code, index, aim, count, legal) in [
+        (0x2001, 55, Aim::Rca, 0, false),
+        (0x2865, 12, Aim::Plain, 0, false),
+        (0x28b6, 12, Aim::Plain, 0, true),
+        (0x2805, 13, Aim::Rca, 0, false),
+        (0x3003, 7, Aim::Rca, 0, false),
+        (0x2003, 7, Aim::Rca, 0, true),
+        (0x2003, 3, Aim::Plain, 0, true),
+        (0x2004, 17, Aim::Plain, 1, false),
+        (0x2804, 17, Aim::Plain, 1, true),
+        (0x2804, 17, Aim::Plain, 2, false),
+        (0x2804, 33, Aim::Plain, 0, false),
+        (0x2904, 33, Aim::Plain, 0, true),
+        (0x3_2000, 0, Aim::Plain, 0, true),
+        (0xf_2804, 17, Aim::Plain, 1, true),
+        (0x5_3107, 55, Aim::Rca, 0, true),
+        (0x2005, 0, Aim::Plain, 0, false),
+        (0x2c85, 0, Aim::Plain, 0, false),
+        (0x4000, 0, Aim::Plain, 0, false),
+        (0x10_2000, 0, Aim::Plain, 0, false),
+        (0x8_0000_2804, 18, Aim::Plain, 8, false),
+        (0xffff_ffff_ffff_ffff, 0, Aim::Plain, 0, false),
+    ] {
+        let event = send(index, aim, 0, count);
+        let found = follow::<SdTable>(Shape(code), &event).is_some();
+        assert!(rt; found == legal, "command {index} at {code:x}");
+    }
+}
+
+/// What may follow a reset, the publication of an address, an ACMD41 of a host without block addresses, the phases and
+/// the wait.
+#[test]
+fn outcomes_at_shapes_of_sd(rt: HostRuntime) {
+    let reset = [outcome(0x2000, Seen::Sent), outcome(0x2800, Seen::Sent)];
+    expect_outcomes::<SdTable>(&rt, 0x2000, &send(0, Aim::Plain, 0, 0), &reset);
+    let address = [
+        outcome(0x2002, Seen::TimeOut),
+        outcome(0x0003, Seen::TimeOut),
+        outcome(0x2003, Seen::TimeOut),
+        outcome(0x2003, status(2, false)),
+        outcome(0x2003, status(2, true)),
+        outcome(0x2002, status(2, true)),
+    ];
+    expect_outcomes::<SdTable>(&rt, 0x2002, &send(3, Aim::Plain, 0, 0), &address);
+    let not_ready = Seen::Ocr {
+        ready: false,
+        block: None,
+    };
+    let without_high_capacity = [
+        outcome(0x3c00, Seen::TimeOut),
+        outcome(0x2c00, Seen::TimeOut),
+        outcome(0x2c00, not_ready),
+    ];
+    let conditions = send(41, Aim::Plain, 0x00ff_8000, 0);
+    expect_outcomes::<SdTable>(&rt, 0x3c00, &conditions, &without_high_capacity);
+    for (code, event, good, cut) in [
+        (0x2815, Event::RecvBlocks, 0x2804, 0x2865),
+        (0x2835, Event::RecvReg, 0x2804, 0x2865),
+        (0x2886, Event::Give, 0x2807, 0x28a6),
+        (0x2807, Event::Wait, 0x2804, 0x2807),
+    ] {
+        let ends = [
+            outcome(good, Seen::Ok),
+            outcome(cut, Seen::NotOk),
+            outcome(good, Seen::NotOk),
+        ];
+        expect_outcomes::<SdTable>(&rt, code, &event, &ends);
+    }
+}
+
+/// The shapes of SD cards without flags, and the longest list of outcomes at them.
+#[test]
+fn shapes_of_sd(rt: HostRuntime) {
+    assert_eq!(rt; shapes_and_longest_list::<SdTable>(Kind::Sd, 0), (558, 18));
+    assert_eq!(rt;
+        outcomes_of::<SdTable>(0x3107, &send(55, Aim::Rca, 0, 0)),
+        18
+    );
+}
