@@ -1,0 +1,269 @@
+//! Texts of certificates, and what others are refused for.
+
+use crate::common::CERTIFICATE;
+use sdv_check::{CertFault, read};
+use std::alloc::Global;
+use std::process::Abort;
+use std::str;
+use std::test::Fail;
+
+fn refused(rt: &impl Abort, alloc: Global, text: &str, fault: CertFault) {
+    assert_eq!(rt; read(alloc, text).err(), Some(fault), "{text:?}");
+}
+
+const HEADER: CertFault = CertFault::Header;
+
+const SYNTAX_2: CertFault = CertFault::Syntax { line: 2 };
+
+const SYNTAX_3: CertFault = CertFault::Syntax { line: 3 };
+
+const SYNTAX_4: CertFault = CertFault::Syntax { line: 4 };
+
+const SYNTAX_5: CertFault = CertFault::Syntax { line: 5 };
+
+const ORDER_3: CertFault = CertFault::Order { line: 3 };
+
+const LIMIT: CertFault = CertFault::Limit;
+
+// Texts with their first fault.
+const REFUSED: [(&str, CertFault); 61] = [
+    ("", HEADER),
+    ("sdv-cert 1", HEADER),
+    ("sdv-cert 1\r\npoints 0\n", HEADER),
+    ("sdv-cert 2\npoints 0\n", HEADER),
+    ("sdv-cert 3\npoints 0\n", HEADER),
+    ("sdv-cert 01\npoints 0\n", HEADER),
+    ("sdv-cert  1\npoints 0\n", HEADER),
+    (" sdv-cert 1\npoints 0\n", HEADER),
+    ("\u{feff}sdv-cert 1\npoints 0\n", HEADER),
+    ("sdv-cert 1\n", SYNTAX_2),
+    ("sdv-cert 1\npoint 0\n", SYNTAX_2),
+    ("sdv-cert 1\npoints\n", SYNTAX_2),
+    ("sdv-cert 1\npoints  0\n", SYNTAX_2),
+    ("sdv-cert 1\npoints 00\n", SYNTAX_2),
+    ("sdv-cert 1\npoints 0", SYNTAX_2),
+    ("sdv-cert 1\npoints 0 \n", SYNTAX_2),
+    ("sdv-cert 1\npoints 0\r\n", SYNTAX_2),
+    ("sdv-cert 1\npoints +1\n", SYNTAX_2),
+    ("sdv-cert 1\npoints 0x1\n", SYNTAX_2),
+    ("sdv-cert 1\npoints 4096\n", SYNTAX_3),
+    ("sdv-cert 1\npoints 4097\n", LIMIT),
+    ("sdv-cert 1\npoints 123456789012345678901234567890\n", LIMIT),
+    (
+        "sdv-cert 1\npoints 123456789012345678901234567890x\n",
+        SYNTAX_2,
+    ),
+    (
+        "sdv-cert 1\npoints 0123456789012345678901234567890\n",
+        SYNTAX_2,
+    ),
+    ("sdv-cert 1\npoints 0\n\n", SYNTAX_3),
+    ("sdv-cert 1\npoints 0\np 0 b 0 m 1 s\n", SYNTAX_3),
+    ("sdv-cert 1\npoints 1\n", SYNTAX_3),
+    ("sdv-cert 1\npoints 2\np 0 b 0 m 1 s\n", SYNTAX_4),
+    (
+        "sdv-cert 1\npoints 1\np 0 b 0 m 1 s\np 1 b 0 m 1 s\n",
+        SYNTAX_4,
+    ),
+    ("sdv-cert 1\npoints 1\np 1 b 0 m 1 s\n", SYNTAX_3),
+    ("sdv-cert 1\npoints 1\np 00 b 0 m 1 s\n", SYNTAX_3),
+    (
+        "sdv-cert 1\npoints 1\np 99999999999999 b 0 m 1 s\n",
+        SYNTAX_3,
+    ),
+    ("sdv-cert 1\npoints 1\np 0 b m 1 s\n", SYNTAX_3),
+    ("sdv-cert 1\npoints 1\np 0 b 01 m 1 s\n", SYNTAX_3),
+    ("sdv-cert 1\npoints 1\np 0 b 1099511627777 m 1 s\n", LIMIT),
+    (
+        "sdv-cert 1\npoints 1\np 0 b 123456789012345678901234567890 m 1 s\n",
+        LIMIT,
+    ),
+    (
+        "sdv-cert 1\npoints 1\np 0 b 18446744073709551616 m 1 s\n",
+        LIMIT,
+    ),
+    ("sdv-cert 1\npoints 1\np 0 b 0 1 2 3 4 5 m 1 s\n", LIMIT),
+    ("sdv-cert 1\npoints 1\np 0 b 0 1 2 3 4 05 m 1 s\n", SYNTAX_3),
+    ("sdv-cert 1\npoints 1\np 0 b 0 - m 1 s\n", SYNTAX_3),
+    ("sdv-cert 1\npoints 1\np 0 b 0 s\n", SYNTAX_3),
+    ("sdv-cert 1\npoints 1\np 0 b 0 m 1\n", SYNTAX_3),
+    ("sdv-cert 1\npoints 1\np 0 b 0 m 1 s", SYNTAX_3),
+    ("sdv-cert 1\npoints 1\np 0 b 0 m 1 s \n", SYNTAX_3),
+    ("sdv-cert 1\npoints 1\np 0 b 0 m 1 s\r\n", SYNTAX_3),
+    ("sdv-cert 1\npoints 1\np\t0 b 0 m 1 s\n", SYNTAX_3),
+    ("sdv-cert 1\npoints 1\np 0 b 0 m 1 v 0 0 s\n", SYNTAX_3),
+    ("sdv-cert 1\npoints 1\np 0 b 0 m 1 v 0 0 -1 s\n", SYNTAX_3),
+    (
+        "sdv-cert 1\npoints 1\np 0 b 0 m 1 v 0 0 1099511627777 s\n",
+        LIMIT,
+    ),
+    ("sdv-cert 1\npoints 1\np 0 b 0 m 1 v0 0 1 s\n", SYNTAX_3),
+    (
+        "sdv-cert 1\npoints 1\np 0 b 0 m 1 v 0 0 - v 0 0 - v 0 0 - v 0 0 - v 0 0 - v 0 0 - v 0 0 - v 0 0 - v 0 0 - s\n",
+        LIMIT,
+    ),
+    (
+        "sdv-cert 1\npoints 1\np 0 b 0 m 1 s 000000000002000\n",
+        SYNTAX_3,
+    ),
+    (
+        "sdv-cert 1\npoints 1\np 0 b 0 m 1 s 00000000000002000\n",
+        SYNTAX_3,
+    ),
+    (
+        "sdv-cert 1\npoints 1\np 0 b 0 m 1 s 0000000000002C00\n",
+        SYNTAX_3,
+    ),
+    (
+        "sdv-cert 1\npoints 1\np 0 b 0 m 1 s 0x00000000002c00\n",
+        SYNTAX_3,
+    ),
+    (
+        "sdv-cert 1\npoints 1\np 0 b 0 m 1 s  0000000000002c00\n",
+        SYNTAX_3,
+    ),
+    (
+        "sdv-cert 1\npoints 1\np 0 b 0 m 1 s 0000000000002c00 0000000000002c00\n",
+        ORDER_3,
+    ),
+    (
+        "sdv-cert 1\npoints 1\np 0 b 0 m 1 s 0000000000002c00 0000000000002000 x\n",
+        ORDER_3,
+    ),
+    (
+        "sdv-cert 1\npoints 1\np 0 b 0 m 1 s 8000000000000000 7fffffffffffffff\n",
+        ORDER_3,
+    ),
+    (
+        "sdv-cert 1\npoints 1\np 0 b 0 m 1 s 0000000000002c00 0000000000002000x\n",
+        SYNTAX_3,
+    ),
+    ("sdv-cert 1\npoints 1\nP 0 b 0 m 1 s\n", SYNTAX_3),
+];
+
+#[test]
+fn refusals(rt: HostRuntime) -> Result<(), Fail> {
+    for (text, fault) in REFUSED {
+        refused(&rt, rt.alloc(), text, fault);
+    }
+    for (fault, text) in [
+        (HEADER, "certificate fault Header"),
+        (SYNTAX_5, "certificate fault Syntax line 5"),
+        (ORDER_3, "certificate fault Order line 3"),
+        (LIMIT, "certificate fault Limit"),
+        (CertFault::Memory, "certificate fault Memory"),
+    ] {
+        assert_eq!(rt; fault.to_string(rt.alloc())?.as_str(), text);
+    }
+    Ok(())
+}
+
+// The smallest certificate with one part in the place of another.
+fn changed(alloc: Global, from: usize, to: usize, part: &str) -> Result<Vec<u8>, Fail> {
+    let mut other = Vec::new(alloc);
+    for (place, byte) in CERTIFICATE.as_bytes().iter().enumerate() {
+        if place == from {
+            other.extend_from_slice(part.as_bytes())?;
+        }
+        if place < from || place >= to {
+            other.push(*byte)?;
+        }
+    }
+    Ok(other)
+}
+
+// Parts of the smallest certificate with what stands in their place, and what the text is refused for; nothing where it is
+// not.
+const CHANGED: [(usize, usize, &str, Option<CertFault>); 18] = [
+    // a number that is raised by one
+    (9, 10, "2", Some(HEADER)),
+    (18, 19, "3", Some(SYNTAX_5)),
+    (22, 23, "1", Some(SYNTAX_3)),
+    (26, 27, "2", None),
+    (30, 31, "2", None),
+    (34, 50, "0000000000002001", None),
+    (51, 67, "0000000000002801", None),
+    (68, 84, "0000000000002c01", None),
+    (87, 88, "2", Some(SYNTAX_4)),
+    (91, 92, "1", None),
+    (95, 96, "2", None),
+    (99, 115, "0000000000002001", None),
+    (133, 149, "0000000000002c01", None),
+    // two shapes exchanged
+    (34, 67, "0000000000002800 0000000000002000", Some(ORDER_3)),
+    // a line that stands twice
+    (0, 0, "sdv-cert 1\n", Some(SYNTAX_2)),
+    (11, 11, "points 2\n", Some(SYNTAX_3)),
+    (
+        20,
+        20,
+        "p 0 b 1 m 1 s 0000000000002000 0000000000002800 0000000000002c00\n",
+        Some(SYNTAX_4),
+    ),
+    (
+        85,
+        85,
+        "p 1 b 0 m 1 s 0000000000002000 0000000000002800 0000000000002c00\n",
+        Some(SYNTAX_5),
+    ),
+];
+
+#[test]
+fn changed_texts(rt: HostRuntime) -> Result<(), Fail> {
+    let alloc = rt.alloc();
+    for (from, to, part, fault) in CHANGED {
+        let text = changed(alloc, from, to, part)?;
+        assert_eq!(rt;
+            read(alloc, str::from_utf8(&text)?).err(),
+            fault,
+            "at {from}"
+        );
+    }
+    // cut before each byte
+    let mut front = Vec::new(alloc);
+    let mut fault = HEADER;
+    let mut line: u32 = 1;
+    for byte in CERTIFICATE.as_bytes() {
+        refused(&rt, alloc, str::from_utf8(&front)?, fault);
+        front.push(*byte)?;
+        if *byte == b'\n' {
+            line = line.saturating_add(1);
+            fault = CertFault::Syntax { line };
+        }
+    }
+    Ok(())
+}
+
+// Two points with so many shapes each.
+fn many_shapes(alloc: Global, counts: [u64; 2]) -> Result<String, Fail> {
+    let mut text = String::new(alloc);
+    text.push_str("sdv-cert 1\npoints 2\n")?;
+    for (front, count) in ["p 0 b 0 m 1 s", "p 1 b 0 m 1 s"].iter().zip(counts) {
+        text.push_str(front)?;
+        for code in 0..count {
+            text.push_str(format!(in alloc; " {code:016x}")?.as_str())?;
+        }
+        text.push_str("\n")?;
+    }
+    Ok(text)
+}
+
+#[test]
+fn limits(rt: HostRuntime) -> Result<(), Fail> {
+    let alloc = rt.alloc();
+    // shapes over all points
+    for (counts, fault) in [
+        ([65_535, 1], None),
+        ([65_537, 0], Some(LIMIT)),
+        ([65_536, 1], Some(LIMIT)),
+    ] {
+        let text = many_shapes(alloc, counts)?;
+        assert_eq!(rt; read(alloc, &text).err(), fault, "{counts:?}");
+    }
+    // the longest text
+    for (len, fault) in [(16_777_217, LIMIT), (16_777_216, HEADER)] {
+        let text = vec![in alloc; b'x'; len]?;
+        assert_eq!(rt; read(alloc, str::from_utf8(&text)?).err(), Some(fault));
+    }
+    Ok(())
+}

@@ -1,0 +1,468 @@
+//! Texts of scripts, beside what is read and printed of them.
+
+use crate::common::BRING_UP;
+use sdv_card::Kind;
+use sdv_script::{FaultKind, ScriptFault, parse, print};
+use std::alloc::{AllocError, Global};
+use std::process::Abort;
+use std::str;
+use std::test::Fail;
+
+// How many statements the script of a text has, or why it is none.
+fn statements(alloc: Global, text: &str) -> Result<usize, ScriptFault> {
+    Ok(parse(alloc, text)?.graph(alloc)?.len())
+}
+
+fn refused(rt: &impl Abort, alloc: Global, text: &str, kind: FaultKind, line: u32) {
+    assert_eq!(rt;
+        statements(alloc, text),
+        Err(ScriptFault { kind, line }),
+        "{text:?}"
+    );
+}
+
+// Scripts, with how many statements each has.
+const SCRIPTS: [(&str, usize); 13] = [
+    (BRING_UP, 23),
+    ("card sd done", 1),
+    ("card sd fault stop", 1),
+    (
+        "card sd # a comment with any characters: \u{e9} @ $\ndone",
+        1,
+    ),
+    ("card\tsd\r\ndone", 1),
+    (
+        "card sd flags f nums x let x = 007 if x >= 0x7 { done } else { set f } clear f done",
+        6,
+    ),
+    (
+        "card sd nums x let x = csd.blocks let x = x - 8 send 18 at byte x + 0 count 8 { else { } } done",
+        4,
+    ),
+    (
+        "card sd send 7 none { answer { } else { } } send 7 { ready & clean & state=stby { } else { } } done",
+        3,
+    ),
+    (
+        "card sd send 41 16744448 { timeout { } else { } } send 8 { echo { } else { } } done",
+        3,
+    ),
+    (
+        "card sd loop 3 { recv reg { ok { } else { break } } } else { fault x } give { ok { done } else { } } done",
+        7,
+    ),
+    ("card sd flags f fault a set f", 2),
+    (
+        "card sd flags abcdefghijklmnop b c d nums e f g h i j k l done",
+        1,
+    ),
+    ("card sd nums x let x = 1099511627776 done", 2),
+];
+
+#[test]
+fn scripts(rt: HostRuntime) -> Result<(), Fail> {
+    let alloc = rt.alloc();
+    for (text, count) in SCRIPTS {
+        assert_eq!(rt; statements(alloc, text), Ok(count), "{text:?}");
+        assert_eq!(rt; parse(alloc, text)?.kind(), Kind::Sd);
+    }
+    Ok(())
+}
+
+// What is wrong wherever a statement may stand, where the flag `f` and the number variable `x` are declared, with its
+// kind.
+const WRONG: [(&str, FaultKind); 114] = [
+    ("$", FaultKind::Token),
+    ("set A", FaultKind::Token),
+    ("12a", FaultKind::Token),
+    ("0x", FaultKind::Token),
+    ("0X1", FaultKind::Token),
+    ("send 16 @", FaultKind::Token),
+    (">", FaultKind::Token),
+    ("if f > 3", FaultKind::Token),
+    ("1_", FaultKind::Token),
+    ("loop 3. { } else { }", FaultKind::Token),
+    ("fault stop!", FaultKind::Token),
+    ("set \u{e9}", FaultKind::Token),
+    ("break", FaultKind::Syntax),
+    ("}", FaultKind::Syntax),
+    ("{", FaultKind::Syntax),
+    ("17", FaultKind::Syntax),
+    ("a.b", FaultKind::Syntax),
+    ("send x", FaultKind::Syntax),
+    ("let x 3", FaultKind::Syntax),
+    ("let x = &", FaultKind::Syntax),
+    ("let x = 3 + x", FaultKind::Syntax),
+    ("if x { } else { }", FaultKind::Syntax),
+    ("if x >= x", FaultKind::Syntax),
+    ("if x < {", FaultKind::Syntax),
+    ("if f { } set", FaultKind::Syntax),
+    ("if 3 >= 3", FaultKind::Syntax),
+    ("loop f { } else { }", FaultKind::Syntax),
+    ("loop { } else { }", FaultKind::Syntax),
+    ("recv { set", FaultKind::Syntax),
+    ("recv reg ok", FaultKind::Syntax),
+    ("wait { ok { } else { } set", FaultKind::Syntax),
+    ("give reg { ok { } else { } }", FaultKind::Syntax),
+    ("fault a.b", FaultKind::Syntax),
+    ("fault 3", FaultKind::Syntax),
+    ("send 55 { ok { } else { } }", FaultKind::Syntax),
+    ("send 55 { app & { } else { } }", FaultKind::Syntax),
+    ("send 55 { app app { } else { } }", FaultKind::Syntax),
+    ("send 13 { state tran { } else { } }", FaultKind::Syntax),
+    ("send 13 { state=busy { } else { } }", FaultKind::Syntax),
+    ("send 13 { state=x { } else { } }", FaultKind::Syntax),
+    ("send 0 { }", FaultKind::Syntax),
+    ("send 0 { else { } else", FaultKind::Syntax),
+    ("loop 3 { } else { break }", FaultKind::Syntax),
+    ("set hc", FaultKind::Name),
+    ("clear hc", FaultKind::Name),
+    ("set x", FaultKind::Name),
+    ("let f = 3", FaultKind::Name),
+    ("let y = 3", FaultKind::Name),
+    ("set done", FaultKind::Name),
+    ("set a.b", FaultKind::Name),
+    ("if y >= 3", FaultKind::Name),
+    ("if ready { } else { }", FaultKind::Name),
+    ("if a.b { } else { }", FaultKind::Name),
+    ("let x = ext.blocks", FaultKind::Name),
+    ("let x = f", FaultKind::Name),
+    ("let x = y", FaultKind::Name),
+    ("let x = a.b", FaultKind::Name),
+    ("fault send", FaultKind::Name),
+    ("fault number", FaultKind::Name),
+    ("fault ocr.ready", FaultKind::Name),
+    ("send 17 at block y", FaultKind::Name),
+    ("send 17 at block f", FaultKind::Name),
+    ("send 17 at by g 0", FaultKind::Name),
+    ("send 17 at by x 0", FaultKind::Name),
+    ("send 1 { else { } }", FaultKind::Command),
+    ("send 64 { else { } }", FaultKind::Command),
+    ("send 6 { else { } }", FaultKind::Command),
+    ("send 23 count 3 { else { } }", FaultKind::Command),
+    ("send 35 at block 0 { else { } }", FaultKind::Command),
+    ("send 36 at block 0 { else { } }", FaultKind::Command),
+    ("send 256 { else { } }", FaultKind::Command),
+    ("send 1099511627777", FaultKind::Command),
+    ("send 17 { else { } }", FaultKind::Argument),
+    ("send 0 1 { else { } }", FaultKind::Argument),
+    ("send 16 512 { else { } }", FaultKind::Argument),
+    ("send 7 all { else { } }", FaultKind::Argument),
+    ("send 13 none { else { } }", FaultKind::Argument),
+    ("send 41 { else { } }", FaultKind::Argument),
+    ("send 41 0x40ff8001 { else { } }", FaultKind::Argument),
+    ("send 41 1099511627777", FaultKind::Argument),
+    ("send 18 at block 0 { else { } }", FaultKind::Argument),
+    (
+        "send 18 at block 0 count 0 { else { } }",
+        FaultKind::Argument,
+    ),
+    (
+        "send 18 at block 0 count 65536 { else { } }",
+        FaultKind::Argument,
+    ),
+    (
+        "send 25 at block 0 count x { else { } }",
+        FaultKind::Argument,
+    ),
+    ("send 17 block 0 { else { } }", FaultKind::Argument),
+    ("send 17 at 0 { else { } }", FaultKind::Argument),
+    ("send 17 at block {", FaultKind::Argument),
+    ("send 17 at by 3", FaultKind::Argument),
+    (
+        "send 24 at byte 0 count 3 { else { } }",
+        FaultKind::Argument,
+    ),
+    ("send 38 0 { else { } }", FaultKind::Argument),
+    ("send 17 at block x + x", FaultKind::Argument),
+    ("send 17 at block x - 3", FaultKind::Argument),
+    ("send 0 else", FaultKind::Argument),
+    ("send 16 { ocr.ready { } else { } }", FaultKind::Guard),
+    ("send 0 { clean { } else { } }", FaultKind::Guard),
+    ("send 7 none { ready { } else { } }", FaultKind::Guard),
+    ("send 13 { app { } else { } }", FaultKind::Guard),
+    ("send 55 { echo { } else { } }", FaultKind::Guard),
+    ("send 8 { state x { } else { } }", FaultKind::Guard),
+    ("send 8 { ready { } else { } }", FaultKind::Guard),
+    (
+        "send 41 0x00ff8000 { clean { } else { } }",
+        FaultKind::Guard,
+    ),
+    ("send 9 { answer & clean { } else { } }", FaultKind::Guard),
+    ("send 2 { ocr.block { } else { } }", FaultKind::Guard),
+    ("loop 0 { } else { }", FaultKind::Limit),
+    ("loop 65536 { } else { }", FaultKind::Limit),
+    ("loop 1099511627777", FaultKind::Limit),
+    ("fault abcdefghijklmnopq", FaultKind::Limit),
+    ("let x = 1099511627777", FaultKind::Limit),
+    ("let x = x + 0x10000000001", FaultKind::Limit),
+    ("let x = x - 1099511627777", FaultKind::Limit),
+    (
+        "if x < 99999999999999999999999999999999999",
+        FaultKind::Limit,
+    ),
+    ("send 17 at block 1099511627777", FaultKind::Limit),
+    ("send 17 at block x + 1099511627777", FaultKind::Limit),
+    (
+        "loop 1 { loop 1 { loop 1 { loop 1 { loop 1",
+        FaultKind::Limit,
+    ),
+];
+
+// A wrong statement is refused after some others, whatever comes after it.
+#[test]
+fn wrong_statements(rt: HostRuntime) -> Result<(), Fail> {
+    let alloc = rt.alloc();
+    for (before, line) in [("", 2), ("send 0 { else { } }\n\n", 4)] {
+        for (statement, kind) in WRONG {
+            for after in ["", "\ndone\n"] {
+                let text = format!(in alloc; "card sd flags f nums x\n{before}{statement}{after}")?;
+                refused(&rt, alloc, &text, kind, line);
+            }
+        }
+    }
+    Ok(())
+}
+
+// What is wrong with a declaration, or with a text that ends too early, with the kind and the line.
+const REFUSED: [(&str, FaultKind, u32); 42] = [
+    ("card sd\nelse", FaultKind::Syntax, 2),
+    ("card sd\nx", FaultKind::Syntax, 2),
+    (
+        "card sd\nwait { ok { timeout } else { } }",
+        FaultKind::Syntax,
+        2,
+    ),
+    ("@", FaultKind::Token, 1),
+    ("card sd\ndone @", FaultKind::Token, 2),
+    ("", FaultKind::Syntax, 1),
+    ("sd", FaultKind::Syntax, 1),
+    ("card", FaultKind::Syntax, 1),
+    ("card emmc", FaultKind::Syntax, 1),
+    ("card sd sd", FaultKind::Syntax, 1),
+    ("card sd\nsend", FaultKind::Syntax, 2),
+    ("card sd\nflags", FaultKind::Syntax, 2),
+    ("card sd\nflags 3", FaultKind::Syntax, 2),
+    ("card sd\nflags a.b", FaultKind::Syntax, 2),
+    ("card sd\nnums x\nlet x =", FaultKind::Syntax, 3),
+    ("card sd\nnums x\nlet x = 3 +\ndone", FaultKind::Syntax, 4),
+    ("card sd\nflags f\nif f { }\ndone", FaultKind::Syntax, 4),
+    ("card sd\nrecv { done", FaultKind::Syntax, 2),
+    ("card sd\nwait { ok { } else { }", FaultKind::Syntax, 2),
+    ("card sd\nfault", FaultKind::Syntax, 2),
+    ("card sd\nsend 0 { else { }\ndone", FaultKind::Syntax, 3),
+    ("card sd\nflags f f", FaultKind::Name, 2),
+    ("card sd\nflags f\nnums f", FaultKind::Name, 3),
+    ("card sd\nflags send", FaultKind::Name, 2),
+    ("card sd\nflags f timeout", FaultKind::Name, 2),
+    ("card sd\nnums x\nflags f", FaultKind::Name, 3),
+    ("card sd\nsend 0\ndone", FaultKind::Argument, 3),
+    ("card sd\nsend 0", FaultKind::Argument, 2),
+    ("card sd\nsend 17 at", FaultKind::Argument, 2),
+    ("card sd\nnums a b c d e f g h i", FaultKind::Limit, 2),
+    ("card sd\nflags a b c d e", FaultKind::Limit, 2),
+    ("card sd\nflags a b c d a", FaultKind::Name, 2),
+    ("card sd\nflags abcdefghijklmnopq", FaultKind::Limit, 2),
+    ("card sd\n", FaultKind::NoEnd, 2),
+    ("card sd", FaultKind::NoEnd, 1),
+    ("card sd # to the end of the line", FaultKind::NoEnd, 1),
+    ("card sd\nsend 0 { else { } }\n", FaultKind::NoEnd, 3),
+    (
+        "card sd\nflags f\nif f { done } else { }",
+        FaultKind::NoEnd,
+        3,
+    ),
+    (
+        "card sd\nloop 3 { break } else { done }",
+        FaultKind::NoEnd,
+        2,
+    ),
+    ("card sd\nloop 3 { done } else { }\n\n", FaultKind::NoEnd, 4),
+    (
+        "card sd\nsend 0 { timeout { done } else { } }",
+        FaultKind::NoEnd,
+        2,
+    ),
+    (
+        "card sd\nwait { ok { } else { done } }",
+        FaultKind::NoEnd,
+        2,
+    ),
+];
+
+#[test]
+fn refusals(rt: HostRuntime) -> Result<(), Fail> {
+    let alloc = rt.alloc();
+    for (text, kind, line) in REFUSED {
+        refused(&rt, alloc, text, kind, line);
+    }
+    let fault = ScriptFault {
+        kind: FaultKind::NoEnd,
+        line: 7,
+    };
+    assert_eq!(rt;
+        fault.to_string(alloc)?.as_str(),
+        "script fault NoEnd line 7"
+    );
+    Ok(())
+}
+
+// Pieces of a text, each so many times.
+fn repeated(alloc: Global, pieces: &[(&str, usize)]) -> Result<String, AllocError> {
+    let mut text = String::new(alloc);
+    for (piece, times) in pieces {
+        for _ in 0..*times {
+            text.push_str(piece)?;
+        }
+    }
+    Ok(text)
+}
+
+// Texts at the limits, with how many statements they have, and past them, with the line where they are refused, and trees as deep as a text can make them: they are read, walked and freed within
+// the stack of a program.
+const LONG: [(&[(&str, usize)], Result<usize, u32>); 10] = [
+    (
+        &[("card sd flags f\n", 1), ("set f\n", 4_095), ("done", 1)],
+        Ok(4_096),
+    ),
+    (
+        &[("card sd flags f\n", 1), ("set f\n", 4_096), ("done", 1)],
+        Err(4_098),
+    ),
+    (&[("card sd done #", 1), ("x", 65_522)], Ok(1)),
+    (&[("card sd done #", 1), ("x", 65_523)], Err(1)),
+    (
+        &[
+            ("card sd flags f ", 1),
+            ("if f {", 64),
+            ("} else { }", 64),
+            ("done", 1),
+        ],
+        Ok(65),
+    ),
+    (&[("card sd flags f ", 1), ("if f {", 65)], Err(1)),
+    (
+        &[
+            ("card sd send 55{", 1),
+            ("app{}", 13_000),
+            ("else{}}done", 1),
+        ],
+        Ok(2),
+    ),
+    (
+        &[
+            ("card sd send 55{app", 1),
+            ("&app", 16_000),
+            ("{}else{}}done", 1),
+        ],
+        Ok(2),
+    ),
+    (
+        &[
+            ("card sd flags f ", 1),
+            ("if f{}else{}", 4_095),
+            ("done", 1),
+        ],
+        Ok(4_096),
+    ),
+    (
+        &[
+            ("card sd ", 1),
+            ("done ", 4_095),
+            ("send 55{", 1),
+            ("app{}", 9_000),
+            ("else{}}", 1),
+        ],
+        Ok(4_096),
+    ),
+];
+
+#[test]
+fn long_and_deep_texts(rt: HostRuntime) -> Result<(), Fail> {
+    let alloc = rt.alloc();
+    for (number, (pieces, wanted)) in LONG.iter().enumerate() {
+        let text = repeated(alloc, pieces)?;
+        let kind = FaultKind::Limit;
+        let wanted = match *wanted {
+            Ok(count) => Ok(count),
+            Err(line) => Err(ScriptFault { kind, line }),
+        };
+        assert_eq!(rt; statements(alloc, &text), wanted, "row {number}");
+    }
+    Ok(())
+}
+
+// Ok, or a fault with a line within the text.
+fn is_answered(alloc: Global, text: &str) -> bool {
+    let lines = text.bytes().filter(|byte| *byte == b'\n').count() + 1;
+    match parse(alloc, text) {
+        Ok(_) => true,
+        Err(fault) => {
+            fault.kind != FaultKind::Memory && 0 < fault.line && fault.line as usize <= lines
+        }
+    }
+}
+
+// The script that brings a card up, cut before each character, and with others in its place.
+#[test]
+fn changed_texts(rt: HostRuntime) -> Result<(), Fail> {
+    let alloc = rt.alloc();
+    let mut front = String::new(alloc);
+    for (i, own) in BRING_UP.char_indices() {
+        assert!(rt; is_answered(alloc, &front), "{front:?}");
+        for other in ['{', '}', '0', 'x', ' ', '#', '@', '.'] {
+            let mut text = String::new(alloc);
+            for (j, c) in BRING_UP.char_indices() {
+                text.push(if i == j { other } else { c })?;
+            }
+            assert!(rt; is_answered(alloc, &text), "{text:?}");
+        }
+        front.push(own)?;
+    }
+    Ok(())
+}
+
+const SOUP: [&str; 32] = [
+    "card", "sd", "flags", "nums", "f", "x", "send", "0", "17", "55", "at", "block", "by", "count",
+    "{", "}", "{", "}", "else", "ok", "app", "&", "let", "=", "+", "if", ">=", "loop", "break",
+    "done", "fault", "wait",
+];
+
+#[test]
+fn words_in_any_order(rt: HostRuntime) -> Result<(), Fail> {
+    let alloc = rt.alloc();
+    let mut seed: u32 = 1;
+    for _ in 0..2000 {
+        let mut text = String::new(alloc);
+        text.push_str("card sd flags f nums x ")?;
+        for _ in 0..40 {
+            seed = seed.wrapping_mul(1_664_525).wrapping_add(1_013_904_223);
+            text.push_str(SOUP[(seed >> 27) as usize])?;
+            text.push(' ')?;
+        }
+        assert!(rt; is_answered(alloc, &text), "{text:?}");
+    }
+    Ok(())
+}
+
+// What is printed of a script.
+fn printed(alloc: Global, text: &str) -> Result<Vec<u8>, Fail> {
+    let script = parse(alloc, text)?;
+    let mut out = Vec::new(alloc);
+    print(&script, &mut out)?;
+    Ok(out)
+}
+
+#[test]
+fn printed_again(rt: HostRuntime) -> Result<(), Fail> {
+    let alloc = rt.alloc();
+    let text = "card  sd # kind\nnums x\nlet x=0x07 if x>=7 { done } else{fault stop}";
+    let once = printed(alloc, text)?;
+    let want = b"card sd nums x let x = 0x07 if x >= 7 { done } else { fault stop } \n";
+    assert_eq!(rt; once.as_slice(), want.as_slice());
+    let first = printed(alloc, BRING_UP)?;
+    assert_eq!(rt; statements(alloc, str::from_utf8(&first)?), Ok(23));
+    let again = printed(alloc, str::from_utf8(&first)?)?;
+    assert_eq!(rt; first.as_slice(), again.as_slice());
+    Ok(())
+}
