@@ -59,7 +59,7 @@ fn answer(rt: &impl Abort, alloc: Global, text: &str) -> Answer {
 }
 
 // A part of the script that brings a card up, another one in its place, and what follows.
-const BRING_UPS: [(&str, &str, &str, Answer); 17] = [
+static BRING_UPS: [(&str, &str, &str, Answer); 17] = [
     // nothing is asked of the card
     (LENGTH, LENGTH, "done", Ok(2007)),
     // the answer that makes a card ready may be lost
@@ -202,7 +202,7 @@ const BRING_UPS: [(&str, &str, &str, Answer); 17] = [
 #[test]
 fn bring_ups(rt: HostRuntime) -> Result<(), Fail> {
     let alloc = rt.alloc();
-    for (part, other, rest, wanted) in BRING_UPS {
+    for &(part, other, rest, wanted) in BRING_UPS.iter() {
         let text = text_of(alloc, part, other, rest)?;
         assert_eq!(&rt; answer(&rt, alloc, &text), wanted, "{text}");
     }
@@ -210,7 +210,7 @@ fn bring_ups(rt: HostRuntime) -> Result<(), Fail> {
 }
 
 // What follows where a card has been brought up.
-const RESTS: [(&str, Answer); 45] = [
+static RESTS: [(&str, Answer); 45] = [
     // a range, by a number that is guarded in the loop
     (
         "if cap >= 8 { loop 8 { if pos < 8 { send 17 at by hc pos { clean { } else { fault rd } } recv { ok { } else { fault rd } } let pos = pos + 1 } else { break } } else { } } else { fault small } done",
@@ -463,7 +463,7 @@ const RESTS: [(&str, Answer); 45] = [
 #[test]
 fn after_bringing_up(rt: HostRuntime) -> Result<(), Fail> {
     let alloc = rt.alloc();
-    for (rest, wanted) in RESTS {
+    for &(rest, wanted) in RESTS.iter() {
         let text = text_of(alloc, LENGTH, LENGTH, rest)?;
         assert_eq!(&rt; answer(&rt, alloc, &text), wanted, "{rest}");
     }
@@ -471,7 +471,7 @@ fn after_bringing_up(rt: HostRuntime) -> Result<(), Fail> {
 }
 
 // Whole scripts.
-const SCRIPTS: [(&str, Answer); 4] = [
+static SCRIPTS: [(&str, Answer); 4] = [
     // no edge leaves the second `let`
     (
         "card sd nums x let x = 1099511627776 let x = x + 1 send 17 at block x { else { fault stop } }",
@@ -499,7 +499,7 @@ const SCRIPTS: [(&str, Answer); 4] = [
 
 #[test]
 fn whole_scripts(rt: HostRuntime) {
-    for (text, wanted) in SCRIPTS {
+    for &(text, wanted) in SCRIPTS.iter() {
         assert_eq!(&rt; answer(&rt, rt.alloc(), text), wanted, "{text}");
     }
 }

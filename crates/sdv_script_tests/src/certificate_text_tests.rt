@@ -26,7 +26,7 @@ const ORDER_3: CertFault = CertFault::Order { line: 3 };
 const LIMIT: CertFault = CertFault::Limit;
 
 // Texts with their first fault.
-const REFUSED: [(&str, CertFault); 61] = [
+static REFUSED: [(&str, CertFault); 61] = [
     ("", HEADER),
     ("sdv-cert 1", HEADER),
     ("sdv-cert 1\r\npoints 0\n", HEADER),
@@ -143,7 +143,7 @@ const REFUSED: [(&str, CertFault); 61] = [
 
 #[test]
 fn refusals(rt: HostRuntime) -> Result<(), Fail> {
-    for (text, fault) in REFUSED {
+    for &(text, fault) in REFUSED.iter() {
         refused(&rt, rt.alloc(), text, fault);
     }
     for (fault, text) in [
@@ -174,7 +174,7 @@ fn changed(alloc: Global, from: usize, to: usize, part: &str) -> Result<Vec<u8>,
 
 // Parts of the smallest certificate with what stands in their place, and what the text is refused for; nothing where it is
 // not.
-const CHANGED: [(usize, usize, &str, Option<CertFault>); 18] = [
+static CHANGED: [(usize, usize, &str, Option<CertFault>); 18] = [
     // a number that is raised by one
     (9, 10, "2", Some(HEADER)),
     (18, 19, "3", Some(SYNTAX_5)),
@@ -211,7 +211,7 @@ const CHANGED: [(usize, usize, &str, Option<CertFault>); 18] = [
 #[test]
 fn changed_texts(rt: HostRuntime) -> Result<(), Fail> {
     let alloc = rt.alloc();
-    for (from, to, part, fault) in CHANGED {
+    for &(from, to, part, fault) in CHANGED.iter() {
         let text = changed(alloc, from, to, part)?;
         assert_eq!(rt;
             read(alloc, str::from_utf8(&text)?).err(),

@@ -16,7 +16,7 @@ fn written(alloc: Global, script: &str) -> Result<Vec<u8>, Fail> {
 }
 
 // Scripts with their certificates.
-const CERTIFICATES: [(&str, &str); 3] = [
+static CERTIFICATES: [(&str, &str); 3] = [
     (SMALLEST, CERTIFICATE),
     // points that no run reaches
     (
@@ -44,7 +44,7 @@ p 3 b 0 m 1 v 0 1099511627776 - v 3 3 - s 0000000000002000 0000000000002800 0000
 ];
 
 // Scripts with the bound of each point, and behind it what each turn left adds, the outermost loop first.
-const BOUNDS: [(&str, &[&str]); 2] = [
+static BOUNDS: [(&str, &[&str]); 2] = [
     // three turns of 28, and then 2
     (
         "card sd flags f loop 3 { loop 10 { send 0 { else { } } if f { break } else { } send 0 { else { } } send 0 { else { } } } else { fault x } } else { fault y }",
@@ -70,11 +70,11 @@ const BOUNDS: [(&str, &[&str]); 2] = [
 #[test]
 fn certificates(rt: HostRuntime) -> Result<(), Fail> {
     let alloc = rt.alloc();
-    for (script, wanted) in CERTIFICATES {
+    for &(script, wanted) in CERTIFICATES.iter() {
         let text = written(alloc, script)?;
         assert_eq!(rt; str::from_utf8(&text)?, wanted, "{script}");
     }
-    for (script, wanted) in BOUNDS {
+    for &(script, wanted) in BOUNDS.iter() {
         let text = written(alloc, script)?;
         for (line, bound) in str::from_utf8(&text)?.lines().skip(2).zip(wanted) {
             let known = line.split_once(" m ").expect(&rt, "a point");

@@ -111,7 +111,7 @@ const CASES: &str =
     "card sd send 0 { timeout { fault least } answer { fault most } else { } } fault least";
 
 // Scripts, the points of certificates, and the bound or the fault.
-const ANSWERS: [(&str, &[&str], Result<u64, CheckFault>); 55] = [
+static ANSWERS: [(&str, &[&str], Result<u64, CheckFault>); 55] = [
     (SMALLEST, &[SENT, START], Ok(1)),
     (SMALLEST, &["b 7 m 1 s 2000 2800 2c00", START], Ok(7)),
     (
@@ -312,7 +312,7 @@ const ANSWERS: [(&str, &[&str], Result<u64, CheckFault>); 55] = [
 #[test]
 fn certificates(rt: HostRuntime) -> Result<(), Fail> {
     let alloc = rt.alloc();
-    for (script, points, wanted) in ANSWERS {
+    for &(script, points, wanted) in ANSWERS.iter() {
         let found = match verify(alloc, script, &certificate(alloc, points)?) {
             Ok(accepted) => Ok(accepted.bound()),
             Err(VerifyFault::Check(fault)) => Err(fault),

@@ -50,7 +50,7 @@ fn facts_of(alloc: Global, codes: &[u64], numbers: Numbers) -> Result<Facts, All
 }
 
 // Codes with the set of them.
-const SETS: [(&[u64], &[u64]); 5] = [
+static SETS: [(&[u64], &[u64]); 5] = [
     (&[], &[]),
     (&[7], &[7]),
     (&[3, 1, 2], &[1, 2, 3]),
@@ -59,7 +59,7 @@ const SETS: [(&[u64], &[u64]); 5] = [
 ];
 
 // The shapes that are known, those that are carried, and both.
-const JOINED: [(&[u64], &[u64], &[u64]); 9] = [
+static JOINED: [(&[u64], &[u64], &[u64]); 9] = [
     (&[], &[], &[]),
     (&[], &[1, 2], &[1, 2]),
     (&[1, 2], &[], &[1, 2]),
@@ -74,14 +74,14 @@ const JOINED: [(&[u64], &[u64], &[u64]); 9] = [
 #[test]
 fn shapes(rt: HostRuntime) -> Result<(), Fail> {
     let alloc = rt.alloc();
-    for (codes, set) in SETS {
+    for &(codes, set) in SETS.iter() {
         let facts = facts_of(alloc, codes, numbers(1, ZERO, ZERO))?;
         assert_eq!(&rt; facts.shapes(), shapes_of(alloc, set)?.as_slice());
         for code in 0..9 {
             assert_eq!(&rt; holds_shape(&facts, Shape(code)), set.contains(&code));
         }
     }
-    for (known, carried, both) in JOINED {
+    for &(known, carried, both) in JOINED.iter() {
         let mut facts = facts_of(alloc, known, numbers(1, ZERO, ZERO))?;
         let more = facts_of(alloc, carried, numbers(1, ZERO, ZERO))?;
         assert_eq!(&rt; facts.join(false, &more)?, both.len() > known.len());
@@ -102,7 +102,7 @@ const BLOCK: u64 = 0x2c04;
 const BLOCK_WITH_FLAG: u64 = 0x12c04;
 
 // What is known of the first variable after it was set, with 100 blocks and what is known of the second one.
-const LETS: [(Known, Atom, Change, Option<Known>); 14] = [
+static LETS: [(Known, Atom, Change, Option<Known>); 14] = [
     (
         ZERO,
         Atom::Number(70),
@@ -185,7 +185,7 @@ const TOLD: Known = (100, 4_294_967_296, Some(0));
 const NOT_TOLD: Known = (0, 4_294_967_296, None);
 
 // What is known of a variable after it was set by a register, with 100 blocks and two shapes.
-const REGISTERS: [(Kind, [u64; 2], Atom, Known); 7] = [
+static REGISTERS: [(Kind, [u64; 2], Atom, Known); 7] = [
     (Kind::Sd, [BYTE, BLOCK], Atom::CsdBlocks, TOLD),
     (Kind::Emmc, [BYTE, 0x2805], Atom::CsdBlocks, TOLD),
     (Kind::Emmc, [BYTE, BLOCK], Atom::CsdBlocks, NOT_TOLD),
@@ -216,7 +216,7 @@ fn set_first(kind: Kind, facts: &Facts, atom: Atom, change: Change) -> Option<Kn
 #[test]
 fn lets(rt: HostRuntime) -> Result<(), Fail> {
     let alloc = rt.alloc();
-    for (known, atom, change, after) in LETS {
+    for &(known, atom, change, after) in LETS.iter() {
         let facts = facts_of(alloc, &[BYTE], numbers(100, ZERO, known))?;
         assert_eq!(&rt;
             set_first(Kind::Sd, &facts, atom, change),
@@ -224,7 +224,7 @@ fn lets(rt: HostRuntime) -> Result<(), Fail> {
             "{known:?}"
         );
     }
-    for (kind, codes, atom, after) in REGISTERS {
+    for &(kind, codes, atom, after) in REGISTERS.iter() {
         let facts = facts_of(alloc, &codes, numbers(100, ZERO, ZERO))?;
         assert_eq!(&rt;
             set_first(kind, &facts, atom, Change::Same),
@@ -237,7 +237,7 @@ fn lets(rt: HostRuntime) -> Result<(), Fail> {
 
 // What is known of the first variable, a test, and what is known after it of the capacity and both variables, where ten
 // blocks were known and the second variable is at most 9.
-const COMPARISONS: [(Known, Test, Option<(u64, Known, Known)>); 11] = [
+static COMPARISONS: [(Known, Test, Option<(u64, Known, Known)>); 11] = [
     (
         (3, 5, Some(7)),
         Test::AtLeast(0, 5),
@@ -287,7 +287,7 @@ const UP_TO_NINE: Known = (0, 9, Some(1));
 
 // What is asked at a target of the capacity and the first variable, and whether it is covered by 10 blocks and 3 to 5
 // with a gap of 7.
-const TARGETS: [(u64, Known, bool); 7] = [
+static TARGETS: [(u64, Known, bool); 7] = [
     (10, (3, 5, Some(7)), true),
     (1, (0, 9, None), true),
     (9, (2, 6, Some(6)), true),
@@ -299,7 +299,7 @@ const TARGETS: [(u64, Known, bool); 7] = [
 
 #[test]
 fn comparisons_and_targets(rt: HostRuntime) -> Result<(), Fail> {
-    for (x, test, after) in COMPARISONS {
+    for &(x, test, after) in COMPARISONS.iter() {
         let facts = facts_of(rt.alloc(), &[BYTE], numbers(10, x, UP_TO_NINE))?;
         let wanted = match after {
             Some((m, x, y)) => Some(numbers(m, x, y)),
@@ -309,7 +309,7 @@ fn comparisons_and_targets(rt: HostRuntime) -> Result<(), Fail> {
     }
     let y = (0, 9, None);
     let carried = numbers(10, (3, 5, Some(7)), y);
-    for (m, x, covered) in TARGETS {
+    for &(m, x, covered) in TARGETS.iter() {
         assert_eq!(&rt; covers(&numbers(m, x, y), &carried), covered, "{m} {x:?}");
     }
     let (with, without) = ((0, 9, Some(0)), (0, 9, None));
@@ -340,7 +340,7 @@ fn send(alloc: Global, index: u8, count: u16, address: Option<Address>) -> Actio
 // The index of a command, the blocks that it announces, and the block that it begins with, on a card of at least 10
 // blocks: whether they are known to lie on the card. The first variable is 3 to 5 and 7 blocks before the end, the second
 // one 2 to 4.
-const POSITIONS: [(u8, u16, Position, bool); 15] = [
+static POSITIONS: [(u8, u16, Position, bool); 15] = [
     (18, 8, Position::Number(2), true),
     (18, 9, Position::Number(2), false),
     (18, 0, Position::Number(10), true),
@@ -359,7 +359,7 @@ const POSITIONS: [(u8, u16, Position, bool); 15] = [
 ];
 
 // Two shapes, and whether an address in the unit is meant by both.
-const UNITS: [([u64; 2], Unit, bool); 12] = [
+static UNITS: [([u64; 2], Unit, bool); 12] = [
     ([BYTE, 0x2805], Unit::Byte, true),
     ([BYTE, BLOCK], Unit::Byte, false),
     ([BLOCK, BLOCK_WITH_FLAG], Unit::Byte, false),
@@ -379,12 +379,12 @@ fn addresses(rt: HostRuntime) -> Result<(), Fail> {
     let alloc = rt.alloc();
     let (x, y) = ((3, 5, Some(7)), (2, 4, None));
     let facts = facts_of(alloc, &[BYTE], numbers(10, x, y))?;
-    for (index, count, position, known) in POSITIONS {
+    for &(index, count, position, known) in POSITIONS.iter() {
         let unit = Unit::Byte;
         let action = send(alloc, index, count, Some(Address { unit, position }));
         assert_eq!(&rt; address_holds(&facts, &action), known, "{index} {count}");
     }
-    for (codes, unit, known) in UNITS {
+    for &(codes, unit, known) in UNITS.iter() {
         let facts = facts_of(alloc, &codes, numbers(10, x, y))?;
         let position = Position::Number(0);
         let action = send(alloc, 17, 1, Some(Address { unit, position }));
@@ -414,7 +414,7 @@ const SURE: Seen = Seen::Status {
 };
 
 // Guards of an answer, and whether all may hold and one may fail.
-const GUARDS: [(&[Guard], Seen, bool, bool); 12] = [
+static GUARDS: [(&[Guard], Seen, bool, bool); 12] = [
     (&[Guard::Ok, Guard::Ok], Seen::Ok, true, false),
     (&[Guard::Ok, Guard::Ok], Seen::NotOk, false, true),
     (
@@ -444,22 +444,26 @@ const GUARDS: [(&[Guard], Seen, bool, bool); 12] = [
     (&[], SURE, true, false),
 ];
 
+static PHASES: [(Phase, Event); 4] = [
+    (Phase::ReceiveBlocks, Event::RecvBlocks),
+    (Phase::ReceiveRegister, Event::RecvReg),
+    (Phase::GiveBlocks, Event::Give),
+    (Phase::Wait, Event::Wait),
+];
+
+// Shapes, and whether `done` may stand there: in transfer state alone.
+static ENDS: [(u64, bool); 4] = [(0x2c04, true), (0x2c05, false), (0x2c06, false), (0, false)];
+
 #[test]
 fn guards_phases_and_ends(rt: HostRuntime) {
-    for (guards, seen, all_hold, one_fails) in GUARDS {
+    for &(guards, seen, all_hold, one_fails) in GUARDS.iter() {
         assert_eq!(&rt; all_may_hold(guards, seen), all_hold, "{guards:?}");
         assert_eq!(&rt; one_may_fail(guards, seen), one_fails, "{guards:?}");
     }
-    for (phase, event) in [
-        (Phase::ReceiveBlocks, Event::RecvBlocks),
-        (Phase::ReceiveRegister, Event::RecvReg),
-        (Phase::GiveBlocks, Event::Give),
-        (Phase::Wait, Event::Wait),
-    ] {
+    for &(phase, event) in PHASES.iter() {
         assert_eq!(&rt; event_of_phase(phase), event);
     }
-    // `done` in transfer state alone
-    for (code, ends) in [(0x2c04, true), (0x2c05, false), (0x2c06, false), (0, false)] {
+    for &(code, ends) in ENDS.iter() {
         assert_eq!(&rt; ends_at(&Action::Done, Shape(code)), ends, "{code:x}");
         assert!(&rt; ends_at(&Action::Fault("off"), Shape(code)));
     }

@@ -73,7 +73,7 @@ fn text_of(alloc: Global, graph: &Graph<'_>) -> Result<String, AllocError> {
 }
 
 // Scripts with their graphs.
-const GRAPHS: [(&str, &str); 5] = [
+static GRAPHS: [(&str, &str); 5] = [
     ("card sd done", "0 0 1 0\ndone []"),
     (
         BRING_UP,
@@ -167,7 +167,7 @@ done []",
 #[test]
 fn graphs(rt: HostRuntime) -> Result<(), Fail> {
     let alloc = rt.alloc();
-    for (text, wanted) in GRAPHS {
+    for &(text, wanted) in GRAPHS.iter() {
         let graph = parse(alloc, text)?.graph(alloc)?;
         assert_eq!(rt; text_of(alloc, &graph)?.as_str(), wanted, "{text}");
     }

@@ -74,7 +74,7 @@ const CARD_OF_LATER: [Play; 7] = [
 ];
 
 // Scripts, what is played to them, their ends, their calls, their traces, and how many bytes are put out.
-const RUNS: [(&str, &[Play], &str, usize, &str, usize); 19] = [
+static RUNS: [(&str, &[Play], &str, usize, &str, usize); 19] = [
     (
         BRING_UP,
         &CARD,
@@ -262,7 +262,7 @@ CMD3 00000000 R6 12340500
 #[test]
 fn runs(rt: HostRuntime) -> Result<(), Fail> {
     let alloc = rt.alloc();
-    for (text, plays, end, calls, lines, bytes) in RUNS {
+    for &(text, plays, end, calls, lines, bytes) in RUNS.iter() {
         let mut port = PlayPort::new(plays);
         let (mut out, mut trace) = (Vec::new(alloc), Vec::new(alloc));
         let result = played(&rt, alloc, text, &mut port, &[], &mut out, &mut trace);
@@ -272,7 +272,8 @@ fn runs(rt: HostRuntime) -> Result<(), Fail> {
         assert_eq!(rt; out.len(), bytes, "{text}");
     }
     let accepted = verify(alloc, SMALLEST, CERTIFICATE)?;
-    let mut port = PlayPort::new(&CARD);
+    let plays = [Play::Answer(Answer::Sent)];
+    let mut port = PlayPort::new(&plays);
     let (mut out, mut trace) = (Vec::new(alloc), Vec::new(alloc));
     let result = run(alloc, &accepted, &mut port, &[], &mut out, &mut trace);
     assert_eq!(rt; name_of(&result), "stop");
@@ -281,7 +282,7 @@ fn runs(rt: HostRuntime) -> Result<(), Fail> {
 }
 
 // Every kind of answer.
-const ANSWERS: [Answer; 8] = [
+static ANSWERS: [Answer; 8] = [
     Answer::Sent,
     Answer::TimeOut,
     Answer::Reply(Reply::R1 {
@@ -297,7 +298,7 @@ const ANSWERS: [Answer; 8] = [
 
 // Commands with the place of the answer that each is given; behind the last place, an R1 with another index than all of
 // them.
-const COMMANDS: [(&str, usize); 22] = [
+static COMMANDS: [(&str, usize); 22] = [
     ("0", 0),
     ("7 none", 0),
     ("2", 3),
@@ -325,7 +326,7 @@ const COMMANDS: [(&str, usize); 22] = [
 #[test]
 fn answers_to_commands(rt: HostRuntime) -> Result<(), Fail> {
     let alloc = rt.alloc();
-    for (command, own) in COMMANDS {
+    for &(command, own) in COMMANDS.iter() {
         let text = format!(in alloc; "card sd send {command} {{ else {{ }} }} done")?;
         for (number, answer) in ANSWERS.iter().enumerate() {
             let plays = [Play::Answer(*answer)];
@@ -343,7 +344,7 @@ fn answers_to_commands(rt: HostRuntime) -> Result<(), Fail> {
 
 const COPY: &str = "card sd send 17 at block 2 { else { } } recv { ok { } else { fault rd } } done";
 
-const COPIED: [Play; 2] = [Play::R1(17, 0x900), Play::Data(DataEnd::Ok, 0x5a)];
+static COPIED: [Play; 2] = [Play::R1(17, 0x900), Play::Data(DataEnd::Ok, 0x5a)];
 
 // A run with room for so many bytes of output and trace: its end, its calls, and how many bytes were taken.
 fn copy_into(

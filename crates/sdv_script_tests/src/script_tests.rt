@@ -22,7 +22,7 @@ fn refused(rt: &impl Abort, alloc: Global, text: &str, kind: FaultKind, line: u3
 }
 
 // Scripts, with how many statements each has.
-const SCRIPTS: [(&str, usize); 13] = [
+static SCRIPTS: [(&str, usize); 13] = [
     (BRING_UP, 23),
     ("card sd done", 1),
     ("card sd fault stop", 1),
@@ -62,7 +62,7 @@ const SCRIPTS: [(&str, usize); 13] = [
 #[test]
 fn scripts(rt: HostRuntime) -> Result<(), Fail> {
     let alloc = rt.alloc();
-    for (text, count) in SCRIPTS {
+    for &(text, count) in SCRIPTS.iter() {
         assert_eq!(rt; statements(alloc, text), Ok(count), "{text:?}");
         assert_eq!(rt; parse(alloc, text)?.kind(), Kind::Sd);
     }
@@ -71,7 +71,7 @@ fn scripts(rt: HostRuntime) -> Result<(), Fail> {
 
 // What is wrong wherever a statement may stand, where the flag `f` and the number variable `x` are declared, with its
 // kind.
-const WRONG: [(&str, FaultKind); 114] = [
+static WRONG: [(&str, FaultKind); 114] = [
     ("$", FaultKind::Token),
     ("set A", FaultKind::Token),
     ("12a", FaultKind::Token),
@@ -214,7 +214,7 @@ const WRONG: [(&str, FaultKind); 114] = [
 fn wrong_statements(rt: HostRuntime) -> Result<(), Fail> {
     let alloc = rt.alloc();
     for (before, line) in [("", 2), ("send 0 { else { } }\n\n", 4)] {
-        for (statement, kind) in WRONG {
+        for &(statement, kind) in WRONG.iter() {
             for after in ["", "\ndone\n"] {
                 let text = format!(in alloc; "card sd flags f nums x\n{before}{statement}{after}")?;
                 refused(&rt, alloc, &text, kind, line);
@@ -225,7 +225,7 @@ fn wrong_statements(rt: HostRuntime) -> Result<(), Fail> {
 }
 
 // What is wrong with a declaration, or with a text that ends too early, with the kind and the line.
-const REFUSED: [(&str, FaultKind, u32); 42] = [
+static REFUSED: [(&str, FaultKind, u32); 42] = [
     ("card sd\nelse", FaultKind::Syntax, 2),
     ("card sd\nx", FaultKind::Syntax, 2),
     (
@@ -293,7 +293,7 @@ const REFUSED: [(&str, FaultKind, u32); 42] = [
 #[test]
 fn refusals(rt: HostRuntime) -> Result<(), Fail> {
     let alloc = rt.alloc();
-    for (text, kind, line) in REFUSED {
+    for &(text, kind, line) in REFUSED.iter() {
         refused(&rt, alloc, text, kind, line);
     }
     let fault = ScriptFault {
@@ -320,7 +320,7 @@ fn repeated(alloc: Global, pieces: &[(&str, usize)]) -> Result<String, AllocErro
 
 // Texts at the limits, with how many statements they have, and past them, with the line where they are refused, and trees as deep as a text can make them: they are read, walked and freed within
 // the stack of a program.
-const LONG: [(&[(&str, usize)], Result<usize, u32>); 10] = [
+static LONG: [(&[(&str, usize)], Result<usize, u32>); 10] = [
     (
         &[("card sd flags f\n", 1), ("set f\n", 4_095), ("done", 1)],
         Ok(4_096),
@@ -422,7 +422,7 @@ fn changed_texts(rt: HostRuntime) -> Result<(), Fail> {
     Ok(())
 }
 
-const SOUP: [&str; 32] = [
+static SOUP: [&str; 32] = [
     "card", "sd", "flags", "nums", "f", "x", "send", "0", "17", "55", "at", "block", "by", "count",
     "{", "}", "{", "}", "else", "ok", "app", "&", "let", "=", "+", "if", ">=", "loop", "break",
     "done", "fault", "wait",

@@ -14,12 +14,18 @@ use std::test::Fail;
 // A certificate with a point in two loops, with two variables and one shape.
 fn one_point(alloc: Global) -> Result<Certificate, AllocError> {
     let (mut vars, mut turns) = (ArrayVec::new(), ArrayVec::new());
-    for (lo, hi, gap) in [(0, 9, None), (3, 5, Some(7))] {
-        vars.push(VarFacts { lo, hi, gap });
-    }
-    for turn in [12, 8] {
-        turns.push(turn);
-    }
+    vars.push(VarFacts {
+        lo: 0,
+        hi: 9,
+        gap: None,
+    });
+    vars.push(VarFacts {
+        lo: 3,
+        hi: 5,
+        gap: Some(7),
+    });
+    turns.push(12);
+    turns.push(8);
     let facts = Facts::new(vec![in alloc; Shape(0x2c04)]?, Numbers { m: 10, vars });
     let base = 6;
     let points = vec![in alloc; PointFacts { facts, base, turns }]?;
