@@ -403,7 +403,7 @@ fn is_answered(alloc: Global, text: &str) -> bool {
     }
 }
 
-// The script that brings a card up, cut before each character, and with others in its place.
+// The script that brings a card up, cut before each character, with others in its place, and with each line doubled.
 #[test]
 fn changed_texts(rt: HostRuntime) -> Result<(), Fail> {
     let alloc = rt.alloc();
@@ -418,6 +418,16 @@ fn changed_texts(rt: HostRuntime) -> Result<(), Fail> {
             assert!(rt; is_answered(alloc, &text), "{text:?}");
         }
         front.push(own)?;
+    }
+    for (i, _) in BRING_UP.lines().enumerate() {
+        let mut text = String::new(alloc);
+        for (j, line) in BRING_UP.lines().enumerate() {
+            for _ in 0..if i == j { 2 } else { 1 } {
+                text.push_str(line)?;
+                text.push('\n')?;
+            }
+        }
+        assert!(rt; is_answered(alloc, &text), "{text:?}");
     }
     Ok(())
 }
