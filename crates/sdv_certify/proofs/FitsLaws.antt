@@ -20,10 +20,8 @@ use Rattle.sdv_script.specs.Tree.{Statements, nothing, first, Ways, otherwise, w
 use Rattle.sdv_facts.specs.Limits.{AtomInLimits}
 use Rattle.sdv_registers.specs.declared.kind.Kind.{Kind}
 use Rattle.sdv_certify.specs.declared.fault.CertifyFault.{CertifyFault}
-use Rattle.sdv_certify.specs.declared.fault.CertifyFault.TheVariants.{Memory}
-use Rattle.sdv_certify.specs.Family.{Family}
-use Rattle.sdv_certify.specs.Refusal.{Certified, RefusedAs}
-use Rattle.sdv_certify.specs.Answers.{IsCertified, IsRefused}
+use Rattle.sdv_certify.specs.Refusal.{RefusedAs}
+use Rattle.sdv_certify.specs.Answers.{IsRefused}
 use Rattle.sdv_certify.specs.Fits.{NodeFits, GraphFits}
 
 abbrev pub EachNode : List Place → Type 0
@@ -127,11 +125,5 @@ one_graph p g h a b =
     flow_same g.kind h.kind g.numbers h.numbers g.flags h.flags g.places h.places g.first h.first g.steps h.steps (a.kind_same ∙ sym b.kind_same) (a.numbers_same ∙ sym b.numbers_same)
     (a.flags_same ∙ sym b.flags_same) (a.places_same ∙ sym b.places_same) (a.first_same ∙ sym b.first_same) (a.steps_same ∙ sym b.steps_same)
 
-pub certified_of : (s : Script) (g : Flow) (fam : Family) → IsGraphOf Sd (shown s).names (shown s).body g → Certified g fam → IsCertified s fam
-certified_of s g fam is c h other = subst (λ (x : Flow). Certified x fam) (one_graph (shown s) g h is other) c
-
 pub refused_of : (s : Script) (g : Flow) (why : CertifyFault) → IsGraphOf Sd (shown s).names (shown s).body g → RefusedAs g why → IsRefused s why
 refused_of s g why is r h other = subst (λ (x : Flow). RefusedAs x why) (one_graph (shown s) g h is other) r
-
-pub out_of_memory : (s : Script) → IsRefused s Memory
-out_of_memory s h other = tt

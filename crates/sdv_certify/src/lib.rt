@@ -22,8 +22,5 @@ mod ways;
 mod writing;
 
 pub use assembling::certify;
-pub use bounds::bound_forms;
 pub use fault::CertifyFault;
-pub use form::Form;
-pub use known::{facts_of_points, facts_of_script};
 pub use writing::write;

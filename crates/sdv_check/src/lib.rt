@@ -13,8 +13,6 @@ mod clauses;
 mod edges;
 mod fault;
 mod source;
-#[cfg(test)]
-mod tests;
 mod text;
 mod turns;
 mod verifying;

@@ -5,8 +5,6 @@ mod fault;
 mod items;
 mod points;
 mod reading;
-#[cfg(test)]
-mod tests;
 
 pub use fault::CertFault;
 pub use reading::{one_certificate, read};

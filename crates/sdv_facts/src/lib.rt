@@ -19,14 +19,9 @@ mod numbers;
 mod search;
 mod setting;
 mod statement;
-#[cfg(test)]
-mod statement_tests;
 mod test;
-#[cfg(test)]
-mod tests;
 mod units;
 
-pub use address::address_ok;
 pub use certificate::{Certificate, PointFacts};
 pub use clause::Clause;
 pub use comparison::after_test;

@@ -34,9 +34,9 @@ pub fn graph_of<'a>(
     Ok(Graph::from_points(Kind::Sd, numbers, flags, points, first, steps))
 }
 
-/// How many statements a list of statements has, those of its blocks included.
+// How many statements a list of statements has, those of its blocks included.
 #[cycle(count)]
-pub fn count(block: &Block<'_>) -> usize
+fn count(block: &Block<'_>) -> usize
     requires { statements_count (statements_of block.now) < 2 ^ 64 }
     ensures { result ≡ statements_count (statements_of block.now) }
 {
@@ -71,8 +71,8 @@ fn count_stmt(stmt: &Stmt<'_>) -> usize
     }
 }
 
-/// To the first statement of a list, which has the number `at`, or to `next` where it has none.
-pub fn entry_of(block: &Block<'_>, at: usize, next: Target) -> Target
+// To the first statement of a list, which has the number `at`, or to `next` where it has none.
+fn entry_of(block: &Block<'_>, at: usize, next: Target) -> Target
     ensures { result ≡ entry (statements_of block.now) at next }
 {
     match block {
@@ -164,10 +164,10 @@ fn put<'a>(
     Ok(())
 }
 
-/// Appends the points of a list of statements: its first statement has the number `at`, its end leads to `next`, a
-/// `break` in it to `brk`, and `most` are the most turns left of the loops round it.
+// Appends the points of a list of statements: its first statement has the number `at`, its end leads to `next`, a
+// `break` in it to `brk`, and `most` are the most turns left of the loops round it.
 #[cycle(put)]
-pub fn put_block<'a>(
+fn put_block<'a>(
     alloc: Global,
     points: &mut Vec<Point<'a>>,
     at: usize,

@@ -13,13 +13,9 @@ mod guards;
 mod host;
 mod moves;
 mod points;
-#[cfg(test)]
-mod run_tests;
 mod standing;
 mod step;
-#[cfg(test)]
-mod tests;
-pub mod trace;
+mod trace;
 mod values;
 
 pub use accepted::run;

@@ -22,8 +22,6 @@ mod printing;
 mod progress;
 mod reading;
 mod script;
-#[cfg(test)]
-mod tests;
 mod token;
 pub mod tree;
 mod values;

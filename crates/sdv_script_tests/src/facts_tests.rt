@@ -1,198 +1,470 @@
-//! Scripts that bring an SD card up and then read, write or erase, accepted or refused as they should be.
+//! Rows of the rules of facts, from outside.
 
-use sdv_certify::{CertifyFault, facts_of_script};
-use sdv_card::Shape;
-use sdv_facts::{MAX_NUMBER, VarFacts};
-use sdv_script::parse;
-use std::alloc::Global;
-use std::process::Abort;
+ghost use Rattle.std.specs.Prelude.{◌≡◌, length, IfOk};
+
+use arrayvec::ArrayVec;
+use sdv_card::{Aim, Ask, Event, Guard, Kind, Seen, Shape, State};
+use sdv_facts::{
+    Facts, Numbers, Test, VarFacts, address_holds, after_let, after_test, all_may_hold, covers,
+    ends_at, event_of_phase, holds_shape, one_may_fail,
+};
+use sdv_graph::{Action, Address, Atom, Change, Command, Let, Phase, Position, Target, Unit};
+use std::alloc::{AllocError, Global};
 use std::test::Fail;
 
-const HEAD: &str = "card sd flags hc nums cap x send 0 { else { } } send 8 { else { } }";
+const MAX: u64 = 1_099_511_627_776;
 
-const POWER_UP: &str =
-    "loop 1000 { send 55 { app { send 41 0x40ff8000 { ocr.ready & ocr.block { set hc break } ocr.ready { break } answer { } else { fault lost41 } } } else { fault lost55 } } } else { fault busy }";
+// What is known of a variable: its least value, its greatest, and how far it stays from the capacity.
+type Known = (u64, u64, Option<u64>);
 
-const NAMING: &str =
-    "send 2 { answer { } else { fault cid } } send 3 { clean { } else { fault rca } }";
-
-const SELECT: &str =
-    "send 9 { answer { } else { fault csd } } send 7 { clean { } else { fault select } }";
-
-const LENGTH: &str = "send 16 { clean { } else { fault blen } }";
-
-const CAPACITY: &str = "let cap = csd.blocks";
-
-// A script of these parts, answered.
-fn answer(rt: &impl Abort, alloc: Global, parts: &[&str]) -> Result<Option<CertifyFault>, Fail> {
-    let mut text = String::new(alloc);
-    for part in parts {
-        text.push_str(part)?;
-        text.push_str("\n")?;
-    }
-    let script = parse(alloc, text.as_str()).ok().expect(rt, "a script");
-    Ok(facts_of_script(alloc, &script).err())
+fn var((lo, hi, gap): Known) -> VarFacts {
+    VarFacts { lo, hi, gap }
 }
 
-fn illegal(point: usize, code: u64) -> Option<CertifyFault> {
-    Some(CertifyFault::Illegal {
-        point,
-        shape: Shape(code),
-    })
+const ZERO: Known = (0, 0, None);
+
+// Numbers with two variables.
+fn numbers(m: u64, x: Known, y: Known) -> Numbers
+    ensures { length result.vars.items ≡ 2 }
+{
+    let mut vars = ArrayVec::new();
+    vars.push(var(x));
+    vars.push(var(y));
+    Numbers { m, vars }
+}
+
+fn shapes_of(alloc: Global, codes: &[u64]) -> Result<Vec<Shape>, AllocError> {
+    let mut shapes = Vec::new(alloc);
+    for code in codes {
+        shapes.push(Shape(*code))?;
+    }
+    Ok(shapes)
+}
+
+// Facts with the shapes of these codes.
+fn facts_of(alloc: Global, codes: &[u64], numbers: Numbers) -> Result<Facts, AllocError>
+    requires { length numbers.vars.items ≡ 2 }
+    ensures { IfOk result (λ facts. length facts.numbers.vars.items ≡ 2) }
+{
+    Ok(Facts::of_shapes(shapes_of(alloc, codes)?, numbers))
+}
+
+// Codes with the set of them.
+static SETS: [(&[u64], &[u64]); 5] = [
+    (&[], &[]),
+    (&[7], &[7]),
+    (&[3, 1, 2], &[1, 2, 3]),
+    (&[2, 2, 2], &[2]),
+    (&[5, 1, 5, 3, 1], &[1, 3, 5]),
+];
+
+// The shapes that are known, those that are carried, and both.
+static JOINED: [(&[u64], &[u64], &[u64]); 9] = [
+    (&[], &[], &[]),
+    (&[], &[1, 2], &[1, 2]),
+    (&[1, 2], &[], &[1, 2]),
+    (&[1, 2], &[4, 5], &[1, 2, 4, 5]),
+    (&[4, 5], &[1, 2], &[1, 2, 4, 5]),
+    (&[1, 3, 5], &[2, 4, 6], &[1, 2, 3, 4, 5, 6]),
+    (&[1, 2, 3], &[1, 3], &[1, 2, 3]),
+    (&[1, 3, 4], &[2, 3], &[1, 2, 3, 4]),
+    (&[2], &[1, 2, 3, 4], &[1, 2, 3, 4]),
+];
+
+#[test]
+fn shapes(rt: HostRuntime) -> Result<(), Fail> {
+    let alloc = rt.alloc();
+    for &(codes, set) in SETS.iter() {
+        let facts = facts_of(alloc, codes, numbers(1, ZERO, ZERO))?;
+        assert_eq!(&rt; facts.shapes(), shapes_of(alloc, set)?.as_slice());
+        for code in 0..9 {
+            assert_eq!(&rt; holds_shape(&facts, Shape(code)), set.contains(&code));
+        }
+    }
+    for &(known, carried, both) in JOINED.iter() {
+        let mut facts = facts_of(alloc, known, numbers(1, ZERO, ZERO))?;
+        let more = facts_of(alloc, carried, numbers(1, ZERO, ZERO))?;
+        assert_eq!(&rt; facts.join(false, &more)?, both.len() > known.len());
+        assert_eq!(&rt; facts.shapes(), shapes_of(alloc, both)?.as_slice());
+    }
+    let mut facts = facts_of(alloc, &[1], numbers(1, ZERO, ZERO))?;
+    let more = facts_of(alloc, &[1], numbers(1, (0, 4, None), ZERO))?;
+    assert!(&rt; facts.join(false, &more)?);
+    assert_eq!(&rt; facts.numbers(), more.numbers());
+    Ok(())
+}
+
+// A byte-addressed and a block-addressed card in transfer state; the second also with the first flag set.
+const BYTE: u64 = 0x2804;
+
+const BLOCK: u64 = 0x2c04;
+
+const BLOCK_WITH_FLAG: u64 = 0x12c04;
+
+// What is known of the first variable after it was set, with 100 blocks and what is known of the second one.
+static LETS: [(Known, Atom, Change, Option<Known>); 14] = [
+    (
+        ZERO,
+        Atom::Number(70),
+        Change::Same,
+        Some((70, 70, Some(30))),
+    ),
+    (
+        ZERO,
+        Atom::Number(100),
+        Change::Same,
+        Some((100, 100, Some(0))),
+    ),
+    (
+        ZERO,
+        Atom::Number(101),
+        Change::Same,
+        Some((101, 101, None)),
+    ),
+    (
+        (3, 5, Some(7)),
+        Atom::Variable(1),
+        Change::Same,
+        Some((3, 5, Some(7))),
+    ),
+    (
+        (3, 5, Some(7)),
+        Atom::Variable(1),
+        Change::Plus(7),
+        Some((10, 12, Some(0))),
+    ),
+    (
+        (3, 5, Some(7)),
+        Atom::Variable(1),
+        Change::Plus(8),
+        Some((11, 13, None)),
+    ),
+    (
+        (3, MAX, None),
+        Atom::Variable(1),
+        Change::Plus(4),
+        Some((7, MAX, None)),
+    ),
+    (
+        (3, 5, None),
+        Atom::Variable(1),
+        Change::Plus(MAX - 3),
+        Some((MAX, MAX, None)),
+    ),
+    ((3, 5, None), Atom::Variable(1), Change::Plus(MAX - 2), None),
+    (
+        (3, 5, Some(7)),
+        Atom::Variable(1),
+        Change::Minus(4),
+        Some((0, 1, Some(11))),
+    ),
+    (
+        (3, 5, Some(MAX - 1)),
+        Atom::Variable(1),
+        Change::Minus(4),
+        Some((0, 1, Some(MAX))),
+    ),
+    (
+        (3, 5, None),
+        Atom::Variable(1),
+        Change::Minus(5),
+        Some(ZERO),
+    ),
+    ((3, 5, None), Atom::Variable(1), Change::Minus(6), None),
+    // the last eight blocks, where the variable has the capacity
+    (
+        (1, 4_294_967_296, Some(0)),
+        Atom::Variable(1),
+        Change::Minus(8),
+        Some((0, 4_294_967_288, Some(8))),
+    ),
+];
+
+const TOLD: Known = (100, 4_294_967_296, Some(0));
+
+const NOT_TOLD: Known = (0, 4_294_967_296, None);
+
+// What is known of a variable after it was set by a register, with 100 blocks and two shapes.
+static REGISTERS: [(Kind, [u64; 2], Atom, Known); 7] = [
+    (Kind::Sd, [BYTE, BLOCK], Atom::CsdBlocks, TOLD),
+    (Kind::Emmc, [BYTE, 0x2805], Atom::CsdBlocks, TOLD),
+    (Kind::Emmc, [BYTE, BLOCK], Atom::CsdBlocks, NOT_TOLD),
+    (
+        Kind::Emmc,
+        [BLOCK, BLOCK_WITH_FLAG],
+        Atom::CsdBlocks,
+        NOT_TOLD,
+    ),
+    (Kind::Emmc, [BLOCK, BLOCK_WITH_FLAG], Atom::ExtBlocks, TOLD),
+    (Kind::Emmc, [BYTE, BLOCK], Atom::ExtBlocks, NOT_TOLD),
+    (Kind::Emmc, [BYTE, 0x2805], Atom::ExtBlocks, NOT_TOLD),
+];
+
+// The first variable is set.
+fn set_first(kind: Kind, facts: &Facts, atom: Atom, change: Change) -> Option<Known>
+    requires { length facts.now.numbers.vars.items ≡ 2 }
+{
+    let setting = Let {
+        target: 0,
+        atom,
+        change,
+    };
+    let VarFacts { lo, hi, gap } = after_let(kind, facts, &setting)?.var(0);
+    Some((lo, hi, gap))
 }
 
 #[test]
-fn bringing_up(rt: HostRuntime) -> Result<(), Fail> {
+fn lets(rt: HostRuntime) -> Result<(), Fail> {
     let alloc = rt.alloc();
-    let reset =
-        "loop 1000 { send 55 { app { send 41 0x40ff8000 { ocr.ready & ocr.block { set hc break } ocr.ready { break } answer { } else { send 0 { else { } } } } } else { fault lost55 } } } else { fault busy }";
-    // the answer that makes a card ready may be lost
-    let careless =
-        "loop 1000 { send 55 { app { send 41 0x40ff8000 { ocr.ready & ocr.block { set hc break } ocr.ready { break } answer { } else { } } } else { fault lost55 } } } else { fault busy }";
-    // the answer that names a card may be lost: it names itself again
-    let twice =
-        "send 2 { answer { } else { fault cid } } send 3 { clean { } else { send 3 { clean { } else { fault rca } } } }";
-    // the next command of a card that keeps its application flag is another one
-    let hasty = "send 55 { timeout { send 13 { else { } } } else { } }";
-    for (power_up, naming, before_select, refused) in [
-        (POWER_UP, NAMING, "", None),
-        (reset, NAMING, "", None),
-        (careless, NAMING, "", illegal(3, 0x2001)),
-        (POWER_UP, twice, "", None),
-        (POWER_UP, NAMING, hasty, illegal(18, 0x3003)),
-    ] {
-        // `send 9` stands before `send 7`, and the part between them
-        let parts = [
-            HEAD,
-            power_up,
-            naming,
-            "send 9 { answer { } else { fault csd } }",
-            before_select,
-            "send 7 { clean { } else { fault select } }",
-            LENGTH,
-            CAPACITY,
-            "done",
-        ];
+    for &(known, atom, change, after) in LETS.iter() {
+        let facts = facts_of(alloc, &[BYTE], numbers(100, ZERO, known))?;
         assert_eq!(&rt;
-            answer(&rt, alloc, &parts)?,
-            refused,
-            "{power_up} {naming} {before_select}"
+            set_first(Kind::Sd, &facts, atom, change),
+            after,
+            "{known:?}"
+        );
+    }
+    for &(kind, codes, atom, after) in REGISTERS.iter() {
+        let facts = facts_of(alloc, &codes, numbers(100, ZERO, ZERO))?;
+        assert_eq!(&rt;
+            set_first(kind, &facts, atom, Change::Same),
+            Some(after),
+            "{codes:?}"
         );
     }
     Ok(())
 }
 
+// What is known of the first variable, a test, and what is known after it of the capacity and both variables, where ten
+// blocks were known and the second variable is at most 9.
+static COMPARISONS: [(Known, Test, Option<(u64, Known, Known)>); 11] = [
+    (
+        (3, 5, Some(7)),
+        Test::AtLeast(0, 5),
+        Some((12, (5, 5, Some(7)), UP_TO_NINE)),
+    ),
+    (
+        (3, 5, Some(7)),
+        Test::AtLeast(0, 2),
+        Some((10, (3, 5, Some(7)), UP_TO_NINE)),
+    ),
+    (
+        (3, 5, Some(1)),
+        Test::AtLeast(0, 4),
+        Some((10, (4, 5, Some(1)), UP_TO_NINE)),
+    ),
+    (
+        (3, 5, None),
+        Test::AtLeast(0, 4),
+        Some((10, (4, 5, None), UP_TO_NINE)),
+    ),
+    (
+        (3, MAX, Some(MAX)),
+        Test::AtLeast(0, 4),
+        Some((MAX, (4, MAX, Some(MAX)), UP_TO_NINE)),
+    ),
+    ((3, 5, Some(7)), Test::AtLeast(0, 6), None),
+    (
+        (3, 5, Some(7)),
+        Test::Below(0, 5),
+        Some((10, (3, 4, Some(7)), UP_TO_NINE)),
+    ),
+    (
+        (3, 5, Some(7)),
+        Test::Below(0, 9),
+        Some((10, (3, 5, Some(7)), UP_TO_NINE)),
+    ),
+    ((3, 5, Some(7)), Test::Below(0, 3), None),
+    ((0, 5, Some(7)), Test::Below(0, 0), None),
+    (
+        (3, 5, None),
+        Test::Below(1, 4),
+        Some((10, (3, 5, None), (0, 3, Some(1)))),
+    ),
+];
+
+const UP_TO_NINE: Known = (0, 9, Some(1));
+
+// What is asked at a target of the capacity and the first variable, and whether it is covered by 10 blocks and 3 to 5
+// with a gap of 7.
+static TARGETS: [(u64, Known, bool); 7] = [
+    (10, (3, 5, Some(7)), true),
+    (1, (0, 9, None), true),
+    (9, (2, 6, Some(6)), true),
+    (11, (3, 5, Some(7)), false),
+    (10, (4, 5, Some(7)), false),
+    (10, (3, 4, Some(7)), false),
+    (10, (3, 5, Some(8)), false),
+];
+
 #[test]
-fn after_bringing_up(rt: HostRuntime) -> Result<(), Fail> {
-    let alloc = rt.alloc();
-    let address = |point: usize| -> Option<CertifyFault> { Some(CertifyFault::Address { point }) };
-    for (rest, refused) in [
-        // a status with a kept application flag sends a register, and the card is in another state at the end
-        (
-            "send 55 { timeout { send 13 { else { } } } else { fault noapp } } done",
-            Some(CertifyFault::EndState { point: 25 }),
-        ),
-        (
-            "send 55 { timeout { send 55 { app { send 13 { clean { recv reg { ok { } else { fault st } } } else { fault st } } } else { fault noapp } } } else { fault noapp } } done",
-            None,
-        ),
-        // the unit is that of the flag, and not always blocks
-        (
-            "send 17 at block 0 { clean { recv { ok { } else { fault rd } } } else { fault rd } } done",
-            address(22),
-        ),
-        (
-            "send 17 at by hc 0 { clean { recv { ok { } else { fault rd } } } else { fault rd } } done",
-            None,
-        ),
-        // the last eight blocks, and one too many
-        (
-            "let x = cap - 8 send 18 at by hc x count 8 { else { fault stop } }",
-            None,
-        ),
-        (
-            "let x = cap - 7 send 18 at by hc x count 8 { else { fault stop } }",
-            address(23),
-        ),
-        // a card may have one block alone
-        ("send 17 at by hc 1 { else { fault stop } }", address(22)),
-        (
-            "if cap >= 2 { send 17 at by hc 1 { else { fault stop } } } else { fault small }",
-            None,
-        ),
-        // a write that was cut is stopped and waited for
-        (
-            "send 24 at by hc 0 { clean { } else { fault wr } } give { ok { fault stop } else { } } send 13 { clean & state=rcv { } else { fault wr } } send 12 { clean { } else { fault wr } } loop 100 { wait { ok { break } else { } } } else { fault busy } done",
-            None,
-        ),
-        // a read that was cut may be over
-        (
-            "send 17 at by hc 0 { clean { } else { fault rd } } recv { ok { fault stop } else { } } send 13 { clean & state=data { } else { fault rd } } send 12 { else { fault stop } }",
-            illegal(28, 0x2865),
-        ),
-        // another command than a status ends an erase
-        (
-            "send 32 at by hc 0 { clean { } else { fault er } } send 16 { clean { } else { fault er } } send 33 at by hc 0 { clean { } else { fault er } } fault stop",
-            illegal(26, 0x2804),
-        ),
-        (
-            "send 32 at by hc 0 { clean { } else { fault er } } send 13 { clean { } else { fault er } } send 33 at by hc 0 { clean { } else { fault er } } fault stop",
-            None,
-        ),
-    ] {
-        let parts = [HEAD, POWER_UP, NAMING, SELECT, LENGTH, CAPACITY, rest];
-        assert_eq!(&rt; answer(&rt, alloc, &parts)?, refused, "{rest}");
+fn comparisons_and_targets(rt: HostRuntime) -> Result<(), Fail> {
+    for &(x, test, after) in COMPARISONS.iter() {
+        let facts = facts_of(rt.alloc(), &[BYTE], numbers(10, x, UP_TO_NINE))?;
+        let wanted = match after {
+            Some((m, x, y)) => Some(numbers(m, x, y)),
+            None => None,
+        };
+        assert_eq!(&rt; after_test(&facts, &test), wanted, "{test:?}");
     }
-    // a read wants the block length 512
-    let parts = [
-        HEAD,
-        POWER_UP,
-        NAMING,
-        SELECT,
-        CAPACITY,
-        "send 17 at by hc 0 { clean { recv { ok { } else { fault rd } } } else { fault rd } } done",
-    ];
-    assert_eq!(&rt; answer(&rt, alloc, &parts)?, illegal(20, 0x2004));
+    let y = (0, 9, None);
+    let carried = numbers(10, (3, 5, Some(7)), y);
+    for &(m, x, covered) in TARGETS.iter() {
+        assert_eq!(&rt; covers(&numbers(m, x, y), &carried), covered, "{m} {x:?}");
+    }
+    let (with, without) = ((0, 9, Some(0)), (0, 9, None));
+    assert!(&rt; !covers(&numbers(1, with, with), &numbers(1, with, without)));
+    let start = (0, 0, Some(1));
+    assert_eq!(&rt; Numbers::at_start(2), numbers(1, start, start));
+    assert_eq!(&rt; Numbers::at_start(0).var(0), VarFacts::weakest());
+    assert_eq!(&rt; VarFacts::weakest(), var((0, MAX, None)));
     Ok(())
 }
 
+// A command, with an address or without one.
+fn send(alloc: Global, index: u8, count: u16, address: Option<Address>) -> Action<'static> {
+    let ask = Ask {
+        index,
+        aim: Aim::Plain,
+        argument: 0,
+        count,
+    };
+    let nowhere = Target {
+        to: 0,
+        leave: 0,
+        enter: None,
+    };
+    Action::Send(Command { ask, address }, Vec::new(alloc), nowhere)
+}
+
+// The index of a command, the blocks that it announces, and the block that it begins with, on a card of at least 10
+// blocks: whether they are known to lie on the card. The first variable is 3 to 5 and 7 blocks before the end, the second
+// one 2 to 4.
+static POSITIONS: [(u8, u16, Position, bool); 15] = [
+    (18, 8, Position::Number(2), true),
+    (18, 9, Position::Number(2), false),
+    (18, 0, Position::Number(10), true),
+    (18, 2, Position::Number(u64::MAX), false),
+    (18, 7, Position::Variable(0, None), true),
+    (18, 8, Position::Variable(0, None), false),
+    (18, 4, Position::Variable(0, Some(3)), true),
+    (18, 5, Position::Variable(0, Some(3)), false),
+    (18, 6, Position::Variable(1, None), true),
+    (18, 7, Position::Variable(1, None), false),
+    (18, 4, Position::Variable(1, Some(2)), true),
+    (18, 5, Position::Variable(1, Some(2)), false),
+    (17, 1, Position::Number(9), true),
+    (32, 0, Position::Number(9), true),
+    (32, 0, Position::Number(10), false),
+];
+
+// Two shapes, and whether an address in the unit is meant by both.
+static UNITS: [([u64; 2], Unit, bool); 12] = [
+    ([BYTE, 0x2805], Unit::Byte, true),
+    ([BYTE, BLOCK], Unit::Byte, false),
+    ([BLOCK, BLOCK_WITH_FLAG], Unit::Byte, false),
+    ([BLOCK, BLOCK_WITH_FLAG], Unit::Block, true),
+    ([BYTE, BLOCK], Unit::Block, false),
+    ([BYTE, BLOCK_WITH_FLAG], Unit::By(0), true),
+    ([BYTE, BLOCK], Unit::By(0), false),
+    ([BYTE, 0x12804], Unit::By(0), false),
+    ([BYTE, 0x82c04], Unit::By(3), true),
+    ([BYTE, 0x42c04], Unit::By(3), false),
+    ([BYTE, 0x2805], Unit::By(60), true),
+    ([BYTE, BLOCK], Unit::By(60), false),
+];
+
 #[test]
-fn numbers_of_a_loop(rt: HostRuntime) -> Result<(), Fail> {
+fn addresses(rt: HostRuntime) -> Result<(), Fail> {
     let alloc = rt.alloc();
-    let text = "card sd nums a b let b = 3 loop 9 { let a = a + 1 } else { fault stop }";
-    let script = parse(alloc, text).ok().expect(&rt, "a script");
-    let family = facts_of_script(alloc, &script).ok().expect(&rt, "accepted");
-    assert_eq!(&rt; family.len(), 4);
-    // the turns of a loop weaken what they change at once, and nothing else
-    let head = family[1].as_ref().expect(&rt, "reached");
-    let a = VarFacts {
-        lo: 0,
-        hi: MAX_NUMBER,
-        gap: None,
-    };
-    let b = VarFacts {
-        lo: 3,
-        hi: 3,
-        gap: None,
-    };
-    assert_eq!(&rt; head.numbers().var(0), a);
-    assert_eq!(&rt; head.numbers().var(1), b);
-    assert_eq!(&rt;
-        head.shapes(),
-        [Shape(0x2000), Shape(0x2800), Shape(0x2c00)].as_slice()
-    );
+    let (x, y) = ((3, 5, Some(7)), (2, 4, None));
+    let facts = facts_of(alloc, &[BYTE], numbers(10, x, y))?;
+    for &(index, count, position, known) in POSITIONS.iter() {
+        let unit = Unit::Byte;
+        let action = send(alloc, index, count, Some(Address { unit, position }));
+        assert_eq!(&rt; address_holds(&facts, &action), known, "{index} {count}");
+    }
+    for &(codes, unit, known) in UNITS.iter() {
+        let facts = facts_of(alloc, &codes, numbers(10, x, y))?;
+        let position = Position::Number(0);
+        let action = send(alloc, 17, 1, Some(Address { unit, position }));
+        assert_eq!(&rt; address_holds(&facts, &action), known, "{codes:?}");
+    }
+    let nowhere = send(alloc, 18, 8, None);
+    assert!(&rt; !address_holds(&facts, &nowhere));
+    assert!(&rt; address_holds(&facts, &send(alloc, 13, 0, None)));
+    assert!(&rt; address_holds(&facts, &Action::Done));
+    let unreached = facts_of(alloc, &[], numbers(10, x, y))?;
+    assert!(&rt; address_holds(&unreached, &nowhere));
     Ok(())
 }
 
+// A status that shows the transfer state, and may come of a card that stayed as it was.
+const DOUBTFUL: Seen = Seen::Status {
+    state: 4,
+    doubt: true,
+    app: None,
+};
+
+// The same of a card that did what was asked.
+const SURE: Seen = Seen::Status {
+    state: 4,
+    doubt: false,
+    app: None,
+};
+
+// Guards of an answer, and whether all may hold and one may fail.
+static GUARDS: [(&[Guard], Seen, bool, bool); 12] = [
+    (&[Guard::Ok, Guard::Ok], Seen::Ok, true, false),
+    (&[Guard::Ok, Guard::Ok], Seen::NotOk, false, true),
+    (
+        &[Guard::Timeout, Guard::Timeout],
+        Seen::TimeOut,
+        true,
+        false,
+    ),
+    (&[Guard::Answer, Guard::Timeout], SURE, false, true),
+    (
+        &[Guard::Answer, Guard::State(State::Tran)],
+        SURE,
+        true,
+        false,
+    ),
+    (
+        &[Guard::Answer, Guard::State(State::Prg)],
+        SURE,
+        false,
+        true,
+    ),
+    (&[Guard::Answer, Guard::Clean], SURE, true, true),
+    (&[Guard::Answer, Guard::Clean], DOUBTFUL, false, true),
+    (&[Guard::Answer, Guard::Ready], SURE, true, true),
+    (&[Guard::Answer, Guard::App], SURE, false, true),
+    (&[Guard::Echo, Guard::Answer], Seen::Bare, true, false),
+    (&[], SURE, true, false),
+];
+
+static PHASES: [(Phase, Event); 4] = [
+    (Phase::ReceiveBlocks, Event::RecvBlocks),
+    (Phase::ReceiveRegister, Event::RecvReg),
+    (Phase::GiveBlocks, Event::Give),
+    (Phase::Wait, Event::Wait),
+];
+
+// Shapes, and whether `done` may stand there: in transfer state alone.
+static ENDS: [(u64, bool); 4] = [(0x2c04, true), (0x2c05, false), (0x2c06, false), (0, false)];
+
 #[test]
-fn statements_that_no_run_reaches(rt: HostRuntime) -> Result<(), Fail> {
-    let alloc = rt.alloc();
-    let script = parse(alloc, "card sd flags f fault stop set f")
-        .ok()
-        .expect(&rt, "a script");
-    let family = facts_of_script(alloc, &script).ok().expect(&rt, "accepted");
-    assert_eq!(&rt; family.len(), 2);
-    assert!(&rt; family[0].is_some());
-    assert!(&rt; family[1].is_none());
-    Ok(())
+fn guards_phases_and_ends(rt: HostRuntime) {
+    for &(guards, seen, all_hold, one_fails) in GUARDS.iter() {
+        assert_eq!(&rt; all_may_hold(guards, seen), all_hold, "{guards:?}");
+        assert_eq!(&rt; one_may_fail(guards, seen), one_fails, "{guards:?}");
+    }
+    for &(phase, event) in PHASES.iter() {
+        assert_eq!(&rt; event_of_phase(phase), event);
+    }
+    for &(code, ends) in ENDS.iter() {
+        assert_eq!(&rt; ends_at(&Action::Done, Shape(code)), ends, "{code:x}");
+        assert!(&rt; ends_at(&Action::Fault("off"), Shape(code)));
+    }
 }

@@ -1,15 +1,27 @@
-//! Tests of what is answered of whole scripts: what is certified, what is refused, and that the checker accepts it.
+//! Tests of the libraries of scripts, of what is known at their points, of certificates and of runs.
 //!
-//! The crate has no code of its own; its tests name the crates below by what those export.
+//! A module stands for a subject, and `common` has the texts, the writer and the port that several of them use.
 #![tactic(auto)]
 
 #[cfg(test)]
-mod assembling_tests;
+mod answer_tests;
 #[cfg(test)]
-mod bounds_tests;
+mod certificate_text_tests;
+#[cfg(test)]
+mod certify_tests;
+#[cfg(test)]
+mod check_tests;
+#[cfg(test)]
+mod common;
 #[cfg(test)]
 mod facts_tests;
 #[cfg(test)]
-mod outcome_tests;
+mod graph_tests;
+#[cfg(test)]
+mod port;
+#[cfg(test)]
+mod run_tests;
+#[cfg(test)]
+mod script_tests;
 #[cfg(test)]
 mod writing_tests;

@@ -1,64 +1,14 @@
 //! Texts of certificates, and what others are refused for.
 
-use crate::text::{CertFault, read};
+use crate::common::CERTIFICATE;
+use sdv_check::{CertFault, read};
 use std::alloc::Global;
 use std::process::Abort;
 use std::str;
 use std::test::Fail;
 
-// The certificate of `card sd`, `send 0 { else { } }`, `fault stop`.
-const SMALLEST: &str = "sdv-cert 1
-points 2
-p 0 b 1 m 1 s 0000000000002000 0000000000002800 0000000000002c00
-p 1 b 0 m 1 s 0000000000002000 0000000000002800 0000000000002c00
-";
-
-// A point in four loops, with two variables and no shapes.
-const WIDE: &str = "sdv-cert 1
-points 1
-p 0 b 1099511627776 0 12 7 65535 m 0 v 0 1099511627776 - v 3 5 40 s
-";
-
 fn refused(rt: &impl Abort, alloc: Global, text: &str, fault: CertFault) {
-    let found = read(alloc, text).err();
-    assert!(rt; found == Some(fault), "{found:?} for {text:?}");
-}
-
-#[test]
-fn the_smallest(rt: HostRuntime) -> Result<(), Fail> {
-    let certificate = read(rt.alloc(), SMALLEST)?;
-    assert_eq!(&rt; certificate.points().len(), 2);
-    for (place, point) in certificate.points().iter().enumerate() {
-        assert_eq!(&rt; point.base, if place == 0 { 1 } else { 0 });
-        assert_eq!(&rt; point.turns.len(), 0);
-        assert_eq!(&rt; point.facts.numbers().m, 1);
-        let mut codes = [0; 3];
-        for (code, shape) in codes.iter_mut().zip(point.facts.shapes()) {
-            *code = shape.0;
-        }
-        assert_eq!(&rt; point.facts.shapes().len(), 3);
-        assert_eq!(&rt; codes, [0x2000, 0x2800, 0x2c00]);
-    }
-    Ok(())
-}
-
-#[test]
-fn all_items(rt: HostRuntime) -> Result<(), Fail> {
-    let certificate = read(rt.alloc(), WIDE)?;
-    for point in certificate.points() {
-        assert_eq!(&rt; point.base, 1 << 40);
-        assert_eq!(&rt; point.turns.as_slice(), [0, 12, 7, 65_535].as_slice());
-        let numbers = point.facts.numbers();
-        assert_eq!(&rt; numbers.vars.len(), 2);
-        assert_eq!(&rt; numbers.var(0).hi, 1 << 40);
-        assert_eq!(&rt; numbers.var(0).gap, None);
-        assert_eq!(&rt; numbers.var(1).lo, 3);
-        assert_eq!(&rt; numbers.var(1).gap, Some(40));
-        assert!(&rt; point.facts.shapes().is_empty());
-    }
-    let none = read(rt.alloc(), "sdv-cert 1\npoints 0\n")?;
-    assert!(&rt; none.points().is_empty());
-    Ok(())
+    assert_eq!(rt; read(alloc, text).err(), Some(fault), "{text:?}");
 }
 
 const HEADER: CertFault = CertFault::Header;
@@ -76,7 +26,7 @@ const ORDER_3: CertFault = CertFault::Order { line: 3 };
 const LIMIT: CertFault = CertFault::Limit;
 
 // Texts with their first fault.
-const REFUSED: [(&str, CertFault); 61] = [
+static REFUSED: [(&str, CertFault); 61] = [
     ("", HEADER),
     ("sdv-cert 1", HEADER),
     ("sdv-cert 1\r\npoints 0\n", HEADER),
@@ -192,16 +142,26 @@ const REFUSED: [(&str, CertFault); 61] = [
 ];
 
 #[test]
-fn refusals(rt: HostRuntime) {
-    for (text, fault) in REFUSED {
+fn refusals(rt: HostRuntime) -> Result<(), Fail> {
+    for &(text, fault) in REFUSED.iter() {
         refused(&rt, rt.alloc(), text, fault);
     }
+    for (fault, text) in [
+        (HEADER, "certificate fault Header"),
+        (SYNTAX_5, "certificate fault Syntax line 5"),
+        (ORDER_3, "certificate fault Order line 3"),
+        (LIMIT, "certificate fault Limit"),
+        (CertFault::Memory, "certificate fault Memory"),
+    ] {
+        assert_eq!(rt; fault.to_string(rt.alloc())?.as_str(), text);
+    }
+    Ok(())
 }
 
 // The smallest certificate with one part in the place of another.
 fn changed(alloc: Global, from: usize, to: usize, part: &str) -> Result<Vec<u8>, Fail> {
     let mut other = Vec::new(alloc);
-    for (place, byte) in SMALLEST.as_bytes().iter().enumerate() {
+    for (place, byte) in CERTIFICATE.as_bytes().iter().enumerate() {
         if place == from {
             other.extend_from_slice(part.as_bytes())?;
         }
@@ -212,8 +172,10 @@ fn changed(alloc: Global, from: usize, to: usize, part: &str) -> Result<Vec<u8>,
     Ok(other)
 }
 
-// The smallest certificate with one number raised by one, and what it is refused for; nothing where it is not.
-const RAISED: [(usize, usize, &str, Option<CertFault>); 13] = [
+// Parts of the smallest certificate with what stands in their place, and what the text is refused for; nothing where it is
+// not.
+static CHANGED: [(usize, usize, &str, Option<CertFault>); 18] = [
+    // a number that is raised by one
     (9, 10, "2", Some(HEADER)),
     (18, 19, "3", Some(SYNTAX_5)),
     (22, 23, "1", Some(SYNTAX_3)),
@@ -227,62 +189,47 @@ const RAISED: [(usize, usize, &str, Option<CertFault>); 13] = [
     (95, 96, "2", None),
     (99, 115, "0000000000002001", None),
     (133, 149, "0000000000002c01", None),
+    // two shapes exchanged
+    (34, 67, "0000000000002800 0000000000002000", Some(ORDER_3)),
+    // a line that stands twice
+    (0, 0, "sdv-cert 1\n", Some(SYNTAX_2)),
+    (11, 11, "points 2\n", Some(SYNTAX_3)),
+    (
+        20,
+        20,
+        "p 0 b 1 m 1 s 0000000000002000 0000000000002800 0000000000002c00\n",
+        Some(SYNTAX_4),
+    ),
+    (
+        85,
+        85,
+        "p 1 b 0 m 1 s 0000000000002000 0000000000002800 0000000000002c00\n",
+        Some(SYNTAX_5),
+    ),
 ];
 
 #[test]
-fn raised_numbers(rt: HostRuntime) -> Result<(), Fail> {
-    for (from, to, part, fault) in RAISED {
-        let text = changed(rt.alloc(), from, to, part)?;
-        let found = read(rt.alloc(), str::from_utf8(&text)?).err();
-        assert!(&rt; found == fault, "{found:?} at {from}");
+fn changed_texts(rt: HostRuntime) -> Result<(), Fail> {
+    let alloc = rt.alloc();
+    for &(from, to, part, fault) in CHANGED.iter() {
+        let text = changed(alloc, from, to, part)?;
+        assert_eq!(rt;
+            read(alloc, str::from_utf8(&text)?).err(),
+            fault,
+            "at {from}"
+        );
     }
-    Ok(())
-}
-
-#[test]
-fn exchanged_shapes(rt: HostRuntime) -> Result<(), Fail> {
-    let part = "0000000000002800 0000000000002000";
-    let text = changed(rt.alloc(), 34, 67, part)?;
-    refused(&rt, rt.alloc(), str::from_utf8(&text)?, ORDER_3);
-    Ok(())
-}
-
-#[test]
-fn cut_at_each_byte(rt: HostRuntime) -> Result<(), Fail> {
-    let mut front = Vec::new(rt.alloc());
+    // cut before each byte
+    let mut front = Vec::new(alloc);
     let mut fault = HEADER;
     let mut line: u32 = 1;
-    for byte in SMALLEST.as_bytes() {
-        refused(&rt, rt.alloc(), str::from_utf8(&front)?, fault);
+    for byte in CERTIFICATE.as_bytes() {
+        refused(&rt, alloc, str::from_utf8(&front)?, fault);
         front.push(*byte)?;
         if *byte == b'\n' {
             line = line.saturating_add(1);
             fault = CertFault::Syntax { line };
         }
-    }
-    Ok(())
-}
-
-const LINES: [(usize, &str, CertFault); 4] = [
-    (0, "sdv-cert 1\n", SYNTAX_2),
-    (11, "points 2\n", SYNTAX_3),
-    (
-        20,
-        "p 0 b 1 m 1 s 0000000000002000 0000000000002800 0000000000002c00\n",
-        SYNTAX_4,
-    ),
-    (
-        85,
-        "p 1 b 0 m 1 s 0000000000002000 0000000000002800 0000000000002c00\n",
-        SYNTAX_5,
-    ),
-];
-
-#[test]
-fn doubled_lines(rt: HostRuntime) -> Result<(), Fail> {
-    for (from, line, fault) in LINES {
-        let text = changed(rt.alloc(), from, from, line)?;
-        refused(&rt, rt.alloc(), str::from_utf8(&text)?, fault);
     }
     Ok(())
 }
@@ -294,10 +241,7 @@ fn many_shapes(alloc: Global, counts: [u64; 2]) -> Result<String, Fail> {
     for (front, count) in ["p 0 b 0 m 1 s", "p 1 b 0 m 1 s"].iter().zip(counts) {
         text.push_str(front)?;
         for code in 0..count {
-            let mut digits = [0; 16];
-            hex::encode_to_slice(code.to_be_bytes(), &mut digits)?;
-            text.push_str(" ")?;
-            text.push_str(str::from_utf8(&digits)?)?;
+            text.push_str(format!(in alloc; " {code:016x}")?.as_str())?;
         }
         text.push_str("\n")?;
     }
@@ -305,45 +249,21 @@ fn many_shapes(alloc: Global, counts: [u64; 2]) -> Result<String, Fail> {
 }
 
 #[test]
-fn shapes_over_all_points(rt: HostRuntime) -> Result<(), Fail> {
-    let most = many_shapes(rt.alloc(), [65_535, 1])?;
-    let certificate = read(rt.alloc(), most.as_str())?;
-    for (place, point) in certificate.points().iter().enumerate() {
-        assert_eq!(&rt;
-            point.facts.shapes().len(),
-            if place == 0 { 65_535 } else { 1 }
-        );
-    }
-    for counts in [[65_537, 0], [65_536, 1]] {
-        let more = many_shapes(rt.alloc(), counts)?;
-        refused(&rt, rt.alloc(), more.as_str(), LIMIT);
-    }
-    Ok(())
-}
-
-fn filled(alloc: Global, len: usize) -> Result<Vec<u8>, Fail> {
-    Ok(vec![in alloc; b'x'; len]?)
-}
-
-#[test]
-fn longest_text(rt: HostRuntime) -> Result<(), Fail> {
-    for (len, fault) in [(16_777_217, LIMIT), (16_777_216, HEADER)] {
-        let text = filled(rt.alloc(), len)?;
-        refused(&rt, rt.alloc(), str::from_utf8(&text)?, fault);
-    }
-    Ok(())
-}
-
-#[test]
-fn texts_of_faults(rt: HostRuntime) -> Result<(), Fail> {
-    for (fault, text) in [
-        (HEADER, "certificate fault Header"),
-        (SYNTAX_5, "certificate fault Syntax line 5"),
-        (ORDER_3, "certificate fault Order line 3"),
-        (LIMIT, "certificate fault Limit"),
-        (CertFault::Memory, "certificate fault Memory"),
+fn limits(rt: HostRuntime) -> Result<(), Fail> {
+    let alloc = rt.alloc();
+    // shapes over all points
+    for (counts, fault) in [
+        ([65_535, 1], None),
+        ([65_537, 0], Some(LIMIT)),
+        ([65_536, 1], Some(LIMIT)),
     ] {
-        assert_eq!(&rt; fault.to_string(rt.alloc())?.as_str(), text);
+        let text = many_shapes(alloc, counts)?;
+        assert_eq!(rt; read(alloc, &text).err(), fault, "{counts:?}");
+    }
+    // the longest text
+    for (len, fault) in [(16_777_217, LIMIT), (16_777_216, HEADER)] {
+        let text = vec![in alloc; b'x'; len]?;
+        assert_eq!(rt; read(alloc, str::from_utf8(&text)?).err(), Some(fault));
     }
     Ok(())
 }

@@ -1,56 +1,77 @@
-//! Texts and what they are refused for.
+//! Texts of scripts, beside what is read and printed of them.
 
-use crate::{FaultKind, ScriptFault, parse, print};
+use crate::common::BRING_UP;
 use sdv_card::Kind;
+use sdv_script::{FaultKind, ScriptFault, parse, print};
 use std::alloc::{AllocError, Global};
 use std::process::Abort;
 use std::str;
 use std::test::Fail;
 
-const BRING_UP: &str = "card sd
-flags hc
-nums cap
-send 0 { else { } }
-send 8 { else { } }
-loop 1000 { send 55 { app { send 41 0x40ff8000 { ocr.ready & ocr.block { set hc break } ocr.ready { break } answer { } else { fault lost41 } } } else { fault lost55 } } } else { fault busy }
-send 2 { answer { } else { fault cid } }
-send 3 { clean { } else { fault rca } }
-send 9 { answer { } else { fault csd } }
-send 7 { clean { } else { fault select } }
-send 16 { clean { } else { fault blen } }
-let cap = csd.blocks
-done
-";
-
-// The fault that a text is refused with.
-fn fault_of(alloc: Global, text: &str) -> Option<ScriptFault> {
-    parse(alloc, text).err()
-}
-
-fn refused(rt: &impl Abort, alloc: Global, text: &str, kind: FaultKind, line: u32) {
-    let fault = fault_of(alloc, text);
-    assert!(rt;
-        fault == Some(ScriptFault { kind, line }),
-        "{fault:?} for {text:?}"
-    );
-}
-
-// How many statements a script has.
-fn statements(alloc: Global, text: &str) -> Result<usize, Fail> {
+// How many statements the script of a text has, or why it is none.
+fn statements(alloc: Global, text: &str) -> Result<usize, ScriptFault> {
     Ok(parse(alloc, text)?.graph(alloc)?.len())
 }
 
+fn refused(rt: &impl Abort, alloc: Global, text: &str, kind: FaultKind, line: u32) {
+    assert_eq!(rt;
+        statements(alloc, text),
+        Err(ScriptFault { kind, line }),
+        "{text:?}"
+    );
+}
+
+// Scripts, with how many statements each has.
+static SCRIPTS: [(&str, usize); 13] = [
+    (BRING_UP, 23),
+    ("card sd done", 1),
+    ("card sd fault stop", 1),
+    (
+        "card sd # a comment with any characters: \u{e9} @ $\ndone",
+        1,
+    ),
+    ("card\tsd\r\ndone", 1),
+    (
+        "card sd flags f nums x let x = 007 if x >= 0x7 { done } else { set f } clear f done",
+        6,
+    ),
+    (
+        "card sd nums x let x = csd.blocks let x = x - 8 send 18 at byte x + 0 count 8 { else { } } done",
+        4,
+    ),
+    (
+        "card sd send 7 none { answer { } else { } } send 7 { ready & clean & state=stby { } else { } } done",
+        3,
+    ),
+    (
+        "card sd send 41 16744448 { timeout { } else { } } send 8 { echo { } else { } } done",
+        3,
+    ),
+    (
+        "card sd loop 3 { recv reg { ok { } else { break } } } else { fault x } give { ok { done } else { } } done",
+        7,
+    ),
+    ("card sd flags f fault a set f", 2),
+    (
+        "card sd flags abcdefghijklmnop b c d nums e f g h i j k l done",
+        1,
+    ),
+    ("card sd nums x let x = 1099511627776 done", 2),
+];
+
 #[test]
-fn bring_up(rt: HostRuntime) -> Result<(), Fail> {
+fn scripts(rt: HostRuntime) -> Result<(), Fail> {
     let alloc = rt.alloc();
-    assert_eq!(rt; statements(alloc, BRING_UP)?, 23);
-    assert_eq!(rt; parse(alloc, BRING_UP)?.kind(), Kind::Sd);
+    for &(text, count) in SCRIPTS.iter() {
+        assert_eq!(rt; statements(alloc, text), Ok(count), "{text:?}");
+        assert_eq!(rt; parse(alloc, text)?.kind(), Kind::Sd);
+    }
     Ok(())
 }
 
 // What is wrong wherever a statement may stand, where the flag `f` and the number variable `x` are declared, with its
 // kind.
-const WRONG: [(&str, FaultKind); 114] = [
+static WRONG: [(&str, FaultKind); 114] = [
     ("$", FaultKind::Token),
     ("set A", FaultKind::Token),
     ("12a", FaultKind::Token),
@@ -188,40 +209,23 @@ const WRONG: [(&str, FaultKind); 114] = [
     ),
 ];
 
-// A statement is refused after some others, at this line, whatever comes after it.
-fn refused_after(
-    rt: &impl Abort,
-    alloc: Global,
-    before: &str,
-    line: u32,
-    (text, kind): (&str, FaultKind),
-) -> Result<(), Fail> {
-    let front = "card sd flags f nums x";
-    let last = format!(in alloc; "{front}\n{before}{text}")?;
-    refused(rt, alloc, last.as_str(), kind, line);
-    let more = format!(in alloc; "{last}\ndone\n")?;
-    refused(rt, alloc, more.as_str(), kind, line);
-    Ok(())
-}
-
+// A wrong statement is refused after some others, whatever comes after it.
 #[test]
-fn wrong_at_the_start(rt: HostRuntime) -> Result<(), Fail> {
-    for wrong in WRONG {
-        refused_after(&rt, rt.alloc(), "", 2, wrong)?;
-    }
-    Ok(())
-}
-
-#[test]
-fn wrong_later(rt: HostRuntime) -> Result<(), Fail> {
-    for wrong in WRONG {
-        refused_after(&rt, rt.alloc(), "send 0 { else { } }\n\n", 4, wrong)?;
+fn wrong_statements(rt: HostRuntime) -> Result<(), Fail> {
+    let alloc = rt.alloc();
+    for (before, line) in [("", 2), ("send 0 { else { } }\n\n", 4)] {
+        for &(statement, kind) in WRONG.iter() {
+            for after in ["", "\ndone\n"] {
+                let text = format!(in alloc; "card sd flags f nums x\n{before}{statement}{after}")?;
+                refused(&rt, alloc, &text, kind, line);
+            }
+        }
     }
     Ok(())
 }
 
 // What is wrong with a declaration, or with a text that ends too early, with the kind and the line.
-const REFUSED: [(&str, FaultKind, u32); 42] = [
+static REFUSED: [(&str, FaultKind, u32); 42] = [
     ("card sd\nelse", FaultKind::Syntax, 2),
     ("card sd\nx", FaultKind::Syntax, 2),
     (
@@ -287,136 +291,103 @@ const REFUSED: [(&str, FaultKind, u32); 42] = [
 ];
 
 #[test]
-fn refusals(rt: HostRuntime) {
+fn refusals(rt: HostRuntime) -> Result<(), Fail> {
     let alloc = rt.alloc();
-    for (text, kind, line) in REFUSED {
+    for &(text, kind, line) in REFUSED.iter() {
         refused(&rt, alloc, text, kind, line);
     }
+    let fault = ScriptFault {
+        kind: FaultKind::NoEnd,
+        line: 7,
+    };
+    assert_eq!(rt;
+        fault.to_string(alloc)?.as_str(),
+        "script fault NoEnd line 7"
+    );
+    Ok(())
 }
 
-const ACCEPTED: [&str; 12] = [
-    "card sd done",
-    "card sd fault stop",
-    "card sd # a comment with any characters: \u{e9} @ $\ndone",
-    "card\tsd\r\ndone",
-    "card sd flags f nums x let x = 007 if x >= 0x7 { done } else { set f } clear f done",
-    "card sd nums x let x = csd.blocks let x = x - 8 send 18 at byte x + 0 count 8 { else { } } done",
-    "card sd send 7 none { answer { } else { } } send 7 { ready & clean & state=stby { } else { } } done",
-    "card sd send 41 16744448 { timeout { } else { } } send 8 { echo { } else { } } done",
-    "card sd loop 3 { recv reg { ok { } else { break } } } else { fault x } give { ok { done } else { } } done",
-    "card sd flags f fault a set f",
-    "card sd flags abcdefghijklmnop b c d nums e f g h i j k l done",
-    "card sd nums x let x = 1099511627776 done",
+// Pieces of a text, each so many times.
+fn repeated(alloc: Global, pieces: &[(&str, usize)]) -> Result<String, AllocError> {
+    let mut text = String::new(alloc);
+    for (piece, times) in pieces {
+        for _ in 0..*times {
+            text.push_str(piece)?;
+        }
+    }
+    Ok(text)
+}
+
+// Texts at the limits, with how many statements they have, and past them, with the line where they are refused, and trees as deep as a text can make them: they are read, walked and freed within
+// the stack of a program.
+static LONG: [(&[(&str, usize)], Result<usize, u32>); 10] = [
+    (
+        &[("card sd flags f\n", 1), ("set f\n", 4_095), ("done", 1)],
+        Ok(4_096),
+    ),
+    (
+        &[("card sd flags f\n", 1), ("set f\n", 4_096), ("done", 1)],
+        Err(4_098),
+    ),
+    (&[("card sd done #", 1), ("x", 65_522)], Ok(1)),
+    (&[("card sd done #", 1), ("x", 65_523)], Err(1)),
+    (
+        &[
+            ("card sd flags f ", 1),
+            ("if f {", 64),
+            ("} else { }", 64),
+            ("done", 1),
+        ],
+        Ok(65),
+    ),
+    (&[("card sd flags f ", 1), ("if f {", 65)], Err(1)),
+    (
+        &[
+            ("card sd send 55{", 1),
+            ("app{}", 13_000),
+            ("else{}}done", 1),
+        ],
+        Ok(2),
+    ),
+    (
+        &[
+            ("card sd send 55{app", 1),
+            ("&app", 16_000),
+            ("{}else{}}done", 1),
+        ],
+        Ok(2),
+    ),
+    (
+        &[
+            ("card sd flags f ", 1),
+            ("if f{}else{}", 4_095),
+            ("done", 1),
+        ],
+        Ok(4_096),
+    ),
+    (
+        &[
+            ("card sd ", 1),
+            ("done ", 4_095),
+            ("send 55{", 1),
+            ("app{}", 9_000),
+            ("else{}}", 1),
+        ],
+        Ok(4_096),
+    ),
 ];
 
 #[test]
-fn accepted(rt: HostRuntime) {
-    for text in ACCEPTED {
-        let fault = fault_of(rt.alloc(), text);
-        assert!(rt; fault.is_none(), "{fault:?} for {text:?}");
-    }
-}
-
-// A script of so many statements, the last of which is `done`.
-fn long(alloc: Global, statements: usize) -> Result<String, AllocError> {
-    let mut text = String::new(alloc);
-    text.push_str("card sd flags f\n")?;
-    for _ in 1..statements {
-        text.push_str("set f\n")?;
-    }
-    text.push_str("done")?;
-    Ok(text)
-}
-
-#[test]
-fn most_statements(rt: HostRuntime) -> Result<(), Fail> {
+fn long_and_deep_texts(rt: HostRuntime) -> Result<(), Fail> {
     let alloc = rt.alloc();
-    let fault = fault_of(alloc, long(alloc, 4096)?.as_str());
-    assert!(rt; fault.is_none(), "{fault:?}");
-    refused(
-        &rt,
-        alloc,
-        long(alloc, 4097)?.as_str(),
-        FaultKind::Limit,
-        4098,
-    );
-    Ok(())
-}
-
-// A text of so many bytes, which a comment fills up.
-fn filled(alloc: Global, front: &str, bytes: usize) -> Result<String, AllocError> {
-    let mut text = String::new(alloc);
-    text.push_str(front)?;
-    text.push_str("#")?;
-    for _ in text.len()..bytes {
-        text.push_str("x")?;
-    }
-    Ok(text)
-}
-
-#[test]
-fn most_bytes(rt: HostRuntime) -> Result<(), Fail> {
-    let alloc = rt.alloc();
-    let fault = fault_of(alloc, filled(alloc, "card sd done ", 65_536)?.as_str());
-    assert!(rt; fault.is_none(), "{fault:?}");
-    refused(
-        &rt,
-        alloc,
-        filled(alloc, "card sd done ", 65_537)?.as_str(),
-        FaultKind::Limit,
-        1,
-    );
-    Ok(())
-}
-
-// A piece many times, between a front and a back.
-fn repeated(
-    alloc: Global,
-    front: &str,
-    piece: &str,
-    times: usize,
-    back: &str,
-) -> Result<String, AllocError> {
-    let mut text = String::new(alloc);
-    text.push_str(front)?;
-    for _ in 0..times {
-        text.push_str(piece)?;
-    }
-    text.push_str(back)?;
-    Ok(text)
-}
-
-// Trees as deep as a text of the size limit can make them: they are read, walked and freed within the stack of a program.
-#[test]
-fn deepest_trees(rt: HostRuntime) -> Result<(), Fail> {
-    let alloc = rt.alloc();
-    let cases = repeated(alloc, "card sd send 55{", "app{}", 13_000, "else{}}done")?;
-    let guards = repeated(
-        alloc,
-        "card sd send 55{app",
-        "&app",
-        16_000,
-        "{}else{}}done",
-    )?;
-    let ifs = repeated(alloc, "card sd flags f ", "if f{}else{}", 4_095, "done")?;
-    let ends = repeated(alloc, "card sd ", "done ", 4_095, "send 55{")?;
-    let both = repeated(alloc, ends.as_str(), "app{}", 9_000, "else{}}")?;
-    for (text, count) in [(cases, 2), (guards, 2), (ifs, 4_096), (both, 4_096)] {
-        assert_eq!(rt; statements(alloc, text.as_str())?, count);
-    }
-    Ok(())
-}
-
-#[test]
-fn braces(rt: HostRuntime) -> Result<(), Fail> {
-    let alloc = rt.alloc();
-    for (times, kind) in [(64, FaultKind::Syntax), (65, FaultKind::Limit)] {
-        let mut text = String::new(alloc);
-        text.push_str("card sd flags f ")?;
-        for _ in 0..times {
-            text.push_str("if f {")?;
-        }
-        refused(&rt, alloc, text.as_str(), kind, 1);
+    for (number, (pieces, wanted)) in LONG.iter().enumerate() {
+        let text = repeated(alloc, pieces)?;
+        let kind = FaultKind::Limit;
+        let wanted = match *wanted {
+            Ok(count) => Ok(count),
+            Err(line) => Err(ScriptFault { kind, line }),
+        };
+        assert_eq!(rt; statements(alloc, &text), wanted, "row {number}");
     }
     Ok(())
 }
@@ -432,35 +403,22 @@ fn is_answered(alloc: Global, text: &str) -> bool {
     }
 }
 
-#[test]
-fn cut_texts(rt: HostRuntime) -> Result<(), Fail> {
-    let alloc = rt.alloc();
-    let mut text = String::new(alloc);
-    for c in BRING_UP.chars() {
-        assert!(rt; is_answered(alloc, text.as_str()), "{text:?}");
-        text.push(c)?;
-    }
-    Ok(())
-}
-
+// The script that brings a card up, cut before each character, with others in its place, and with each line doubled.
 #[test]
 fn changed_texts(rt: HostRuntime) -> Result<(), Fail> {
     let alloc = rt.alloc();
-    for (i, _) in BRING_UP.char_indices() {
+    let mut front = String::new(alloc);
+    for (i, own) in BRING_UP.char_indices() {
+        assert!(rt; is_answered(alloc, &front), "{front:?}");
         for other in ['{', '}', '0', 'x', ' ', '#', '@', '.'] {
             let mut text = String::new(alloc);
             for (j, c) in BRING_UP.char_indices() {
                 text.push(if i == j { other } else { c })?;
             }
-            assert!(rt; is_answered(alloc, text.as_str()), "{text:?}");
+            assert!(rt; is_answered(alloc, &text), "{text:?}");
         }
+        front.push(own)?;
     }
-    Ok(())
-}
-
-#[test]
-fn doubled_lines(rt: HostRuntime) -> Result<(), Fail> {
-    let alloc = rt.alloc();
     for (i, _) in BRING_UP.lines().enumerate() {
         let mut text = String::new(alloc);
         for (j, line) in BRING_UP.lines().enumerate() {
@@ -469,19 +427,19 @@ fn doubled_lines(rt: HostRuntime) -> Result<(), Fail> {
                 text.push('\n')?;
             }
         }
-        assert!(rt; is_answered(alloc, text.as_str()), "{text:?}");
+        assert!(rt; is_answered(alloc, &text), "{text:?}");
     }
     Ok(())
 }
 
-const SOUP: [&str; 32] = [
+static SOUP: [&str; 32] = [
     "card", "sd", "flags", "nums", "f", "x", "send", "0", "17", "55", "at", "block", "by", "count",
     "{", "}", "{", "}", "else", "ok", "app", "&", "let", "=", "+", "if", ">=", "loop", "break",
     "done", "fault", "wait",
 ];
 
 #[test]
-fn token_soup(rt: HostRuntime) -> Result<(), Fail> {
+fn words_in_any_order(rt: HostRuntime) -> Result<(), Fail> {
     let alloc = rt.alloc();
     let mut seed: u32 = 1;
     for _ in 0..2000 {
@@ -492,7 +450,7 @@ fn token_soup(rt: HostRuntime) -> Result<(), Fail> {
             text.push_str(SOUP[(seed >> 27) as usize])?;
             text.push(' ')?;
         }
-        assert!(rt; is_answered(alloc, text.as_str()), "{text:?}");
+        assert!(rt; is_answered(alloc, &text), "{text:?}");
     }
     Ok(())
 }
@@ -513,20 +471,8 @@ fn printed_again(rt: HostRuntime) -> Result<(), Fail> {
     let want = b"card sd nums x let x = 0x07 if x >= 7 { done } else { fault stop } \n";
     assert_eq!(rt; once.as_slice(), want.as_slice());
     let first = printed(alloc, BRING_UP)?;
-    assert_eq!(rt; statements(alloc, str::from_utf8(&first)?)?, 23);
+    assert_eq!(rt; statements(alloc, str::from_utf8(&first)?), Ok(23));
     let again = printed(alloc, str::from_utf8(&first)?)?;
     assert_eq!(rt; first.as_slice(), again.as_slice());
-    Ok(())
-}
-
-#[test]
-fn text_of_a_fault(rt: HostRuntime) -> Result<(), Fail> {
-    let alloc = rt.alloc();
-    let fault = ScriptFault {
-        kind: FaultKind::NoEnd,
-        line: 7,
-    };
-    let text = format!(in alloc; "{fault}")?;
-    assert_eq!(rt; text.as_str(), "script fault NoEnd line 7");
     Ok(())
 }

@@ -1,0 +1,85 @@
+//! Certificates of known scripts, beside texts that were written down by hand.
+
+use crate::common::{CERTIFICATE, SMALLEST};
+use sdv_certify::{certify, write};
+use sdv_script::parse;
+use std::alloc::Global;
+use std::str;
+use std::test::Fail;
+
+// The text of a script's certificate.
+fn written(alloc: Global, script: &str) -> Result<Vec<u8>, Fail> {
+    let certificate = certify(alloc, &parse(alloc, script)?)?;
+    let mut out = Vec::new(alloc);
+    write(&certificate, &mut out)?;
+    Ok(out)
+}
+
+// Scripts with their certificates.
+static CERTIFICATES: [(&str, &str); 3] = [
+    (SMALLEST, CERTIFICATE),
+    // points that no run reaches
+    (
+        "card sd nums x loop 3 { fault stop loop 2 { let x = 7 } else { } } else { fault over }",
+        "sdv-cert 1
+points 5
+p 0 b 0 0 m 1 v 0 0 1 s 0000000000002000 0000000000002800 0000000000002c00
+p 1 b 0 0 m 1 v 0 0 1 s 0000000000002000 0000000000002800 0000000000002c00
+p 2 b 0 0 0 m 1 v 0 1099511627776 - s
+p 3 b 0 0 0 m 1 v 0 1099511627776 - s
+p 4 b 0 m 1 v 0 0 1 s 0000000000002000 0000000000002800 0000000000002c00
+",
+    ),
+    // the turns of a loop weaken what they change at once, and nothing else
+    (
+        "card sd nums a b let b = 3 loop 9 { let a = a + 1 } else { fault stop }",
+        "sdv-cert 1
+points 4
+p 0 b 0 m 1 v 0 0 1 v 0 0 1 s 0000000000002000 0000000000002800 0000000000002c00
+p 1 b 0 0 m 1 v 0 1099511627776 - v 3 3 - s 0000000000002000 0000000000002800 0000000000002c00
+p 2 b 0 0 m 1 v 0 1099511627776 - v 3 3 - s 0000000000002000 0000000000002800 0000000000002c00
+p 3 b 0 m 1 v 0 1099511627776 - v 3 3 - s 0000000000002000 0000000000002800 0000000000002c00
+",
+    ),
+];
+
+// Scripts with the bound of each point, and behind it what each turn left adds, the outermost loop first.
+static BOUNDS: [(&str, &[&str]); 2] = [
+    // three turns of 28, and then 2
+    (
+        "card sd flags f loop 3 { loop 10 { send 0 { else { } } if f { break } else { } send 0 { else { } } send 0 { else { } } } else { fault x } } else { fault y }",
+        &[
+            "p 0 b 2 28",
+            "p 1 b 0 28 3",
+            "p 2 b 3 28 3",
+            "p 3 b 2 28 3",
+            "p 4 b 2 28 0",
+            "p 5 b 2 28 3",
+            "p 6 b 1 28 3",
+            "p 7 b 0 0",
+            "p 8 b 0",
+        ],
+    ),
+    // a body that never comes back to its head
+    (
+        "card sd loop 3 { loop 5 { break } else { send 0 { else { } } } } else { fault y }",
+        &["p 0 b 0 1"],
+    ),
+];
+
+#[test]
+fn certificates(rt: HostRuntime) -> Result<(), Fail> {
+    let alloc = rt.alloc();
+    for &(script, wanted) in CERTIFICATES.iter() {
+        let text = written(alloc, script)?;
+        assert_eq!(rt; str::from_utf8(&text)?, wanted, "{script}");
+    }
+    for &(script, wanted) in BOUNDS.iter() {
+        let text = written(alloc, script)?;
+        for (line, bound) in str::from_utf8(&text)?.lines().skip(2).zip(wanted) {
+            let known = line.split_once(" m ").expect(&rt, "a point");
+            assert_eq!(rt; known.0, *bound, "{script}");
+        }
+    }
+    Ok(())
+}

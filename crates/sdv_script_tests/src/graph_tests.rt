@@ -1,0 +1,175 @@
+//! Points of scripts, beside values that were written down by hand.
+
+use crate::common::BRING_UP;
+use sdv_script::{Action, Condition, Graph, Phase, Point, Target, parse};
+use std::alloc::{AllocError, Global};
+use std::test::Fail;
+
+// The words of a point's statement.
+fn words_of(point: &Point<'_>) -> &'static str {
+    match point.action {
+        Action::Send(..) => "send",
+        Action::Phase(Phase::ReceiveBlocks, ..) => "recv",
+        Action::Phase(Phase::ReceiveRegister, ..) => "recv reg",
+        Action::Phase(Phase::GiveBlocks, ..) => "give",
+        Action::Phase(Phase::Wait, ..) => "wait",
+        Action::Let(..) => "let",
+        Action::If(Condition::Flag(_), ..) => "if flag",
+        Action::If(Condition::AtLeast(..), ..) => "if >=",
+        Action::If(Condition::Below(..), ..) => "if <",
+        Action::Flag(_, true, _) => "set",
+        Action::Flag(_, false, _) => "clear",
+        Action::Loop(..) => "loop",
+        Action::Break(_) => "break",
+        Action::Done => "done",
+        Action::Fault(_) => "fault",
+    }
+}
+
+// Adds a target: its point, and behind `-` how many loops are left, behind `+` the turns of the loop that is entered.
+fn put_target(text: &mut String, alloc: Global, target: Target) -> Result<(), AllocError> {
+    text.push_str(format!(in alloc; " {}", target.to)?.as_str())?;
+    if target.leave > 0 {
+        text.push_str(format!(in alloc; "-{}", target.leave)?.as_str())?;
+    }
+    if let Some(turns) = target.enter {
+        text.push_str(format!(in alloc; "+{turns}")?.as_str())?;
+    }
+    Ok(())
+}
+
+// Adds the targets of a point, in the order of the text.
+fn put_targets(text: &mut String, alloc: Global, point: &Point<'_>) -> Result<(), AllocError> {
+    match &point.action {
+        Action::Send(_, ways, other) => {
+            for way in ways {
+                put_target(text, alloc, way.target)?;
+            }
+            put_target(text, alloc, *other)
+        }
+        Action::Phase(_, a, b) | Action::If(_, a, b) | Action::Loop(_, a, b) => {
+            put_target(text, alloc, *a)?;
+            put_target(text, alloc, *b)
+        }
+        Action::Let(_, target) | Action::Flag(_, _, target) | Action::Break(target) => {
+            put_target(text, alloc, *target)
+        }
+        Action::Done | Action::Fault(_) => Ok(()),
+    }
+}
+
+// A graph: its number variables, its flags, its most moves and its first target, and a line for each point, with the most
+// turns left of the loops round it and its targets.
+fn text_of(alloc: Global, graph: &Graph<'_>) -> Result<String, AllocError> {
+    let mut text = format!(in alloc; "{} {} {}", graph.nums(), graph.flags(), graph.steps())?;
+    put_target(&mut text, alloc, graph.first())?;
+    for number in 0..graph.len() {
+        let point = graph.point(number);
+        let turns = point.most_turns.as_slice();
+        text.push_str(format!(in alloc; "\n{} {turns:?}", words_of(point))?.as_str())?;
+        put_targets(&mut text, alloc, point)?;
+    }
+    Ok(text)
+}
+
+// Scripts with their graphs.
+static GRAPHS: [(&str, &str); 5] = [
+    ("card sd done", "0 0 1 0\ndone []"),
+    (
+        BRING_UP,
+        "1 1 8023 0
+send [] 1
+send [] 2+1000
+loop [1000] 3 10-1
+send [999] 4 9
+send [999] 5 7 2 8
+set [999] 6
+break [999] 11-1
+break [999] 11-1
+fault [999]
+fault [999]
+fault []
+send [] 13 12
+fault []
+send [] 15 14
+fault []
+send [] 17 16
+fault []
+send [] 19 18
+fault []
+send [] 21 20
+fault []
+let [] 22
+done []",
+    ),
+    // a loop of one turn with a loop of 65,535 turns in it, each with a `break` at its depth, and a loop in its else block
+    (
+        "card sd flags f loop 1 { loop 65535 { if f { break } else { } } else { break } } else { loop 2 { } else { done } } fault out",
+        "0 1 393225 0+1
+loop [1] 1+65535 5-1+2
+loop [65535, 0] 2 4-1
+if flag [65534, 0] 3 1
+break [65534, 0] 0-1
+break [0] 7-1
+loop [2] 5 6-1
+done []
+fault []",
+    ),
+    // a phase with a wait in its first block, and a statement that no run gets to
+    (
+        "card sd flags f recv { ok { wait { ok { } else { } } } else { clear f } } done set f",
+        "0 1 5 0
+recv [] 1 2
+wait [] 3 3
+clear [] 3
+done []
+set [] 5",
+    ),
+    // every kind of statement
+    (
+        "card sd
+flags f
+nums x
+send 13 { timeout { fault lost } clean & state=tran { set f } else { } }
+recv { ok { } else { fault rd } }
+recv reg { ok { } else { fault scr } }
+give { ok { clear f } else { } }
+wait { ok { } else { } }
+let x = csd.blocks - 1
+if x >= 8 { } else { fault small }
+if x < 100 { fault few } else { }
+if f { loop 3 { break } else { } } else { }
+done
+",
+        "1 1 25 0
+send [] 1 2 3
+fault []
+set [] 3
+recv [] 5 4
+fault []
+recv reg [] 7 6
+fault []
+give [] 8 9
+clear [] 9
+wait [] 10 10
+let [] 11
+if >= [] 13 12
+fault []
+if < [] 14 15
+fault []
+if flag [] 16+3 18
+loop [3] 17 18-1
+break [2] 18-1
+done []",
+    ),
+];
+
+#[test]
+fn graphs(rt: HostRuntime) -> Result<(), Fail> {
+    let alloc = rt.alloc();
+    for &(text, wanted) in GRAPHS.iter() {
+        let graph = parse(alloc, text)?.graph(alloc)?;
+        assert_eq!(rt; text_of(alloc, &graph)?.as_str(), wanted, "{text}");
+    }
+    Ok(())
+}

@@ -1,0 +1,454 @@
+//! Runs over a port that plays a list, with their traces.
+
+use crate::common::{BRING_UP, CERTIFICATE, Room, SMALLEST};
+use crate::port::{Play, PlayPort};
+use sdv_card::{Answer, DataEnd, WaitEnd};
+use sdv_check::verify;
+use sdv_frames::{FrameFault, Reply};
+use sdv_run::{End, RunFault, run, run_graph};
+use sdv_script::parse;
+use std::alloc::Global;
+use std::io::Write;
+use std::process::Abort;
+use std::str;
+use std::test::Fail;
+
+// Runs the script of a text: its end.
+fn played<O: Write, T: Write>(
+    rt: &impl Abort,
+    alloc: Global,
+    text: &str,
+    port: &mut PlayPort<'_>,
+    input: &[[u8; 512]],
+    out: &mut O,
+    trace: &mut T,
+) -> Result<End, RunFault> {
+    let script = parse(alloc, text).expect(rt, "a script");
+    let graph = script.graph(alloc).expect(rt, "memory");
+    run_graph(alloc, &graph, port, input, out, trace)
+}
+
+// The name of a fault that a script ended in, or what else came of a run.
+fn name_of(outcome: &Result<End, RunFault>) -> &str {
+    match outcome {
+        Ok(End::Done) => "DONE",
+        Ok(End::Fault(name)) => name.as_str(),
+        Err(RunFault::Reply) => "REPLY",
+        Err(RunFault::Input) => "INPUT",
+        Err(RunFault::Output) => "OUTPUT",
+        Err(RunFault::Trace) => "TRACE",
+        Err(RunFault::Memory) => "MEMORY",
+    }
+}
+
+const CID: [u8; 15] = [
+    0x00, 0x58, 0x58, 0x53, 0x44, 0x56, 0x20, 0x20, 0x10, 0x00, 0x00, 0x00, 0x01, 0x01, 0x81,
+];
+
+const CSD: [u8; 15] = [0x40, 0, 0, 0, 0, 0x09, 0, 0, 0, 0, 0, 0, 0, 0, 0];
+
+const OTHER_CSD: [u8; 15] = [0x80, 0, 0, 0, 0, 0x09, 0, 0, 0, 0, 0, 0, 0, 0, 0];
+
+// The answers of a card with block addresses.
+const CARD: [Play; 9] = [
+    Play::Answer(Answer::Sent),
+    Play::Reply(Reply::R7(0x1aa)),
+    Play::R1(55, 0x120),
+    Play::Reply(Reply::R3(0xc0ff_8000)),
+    Play::Reply(Reply::R2(CID)),
+    Play::Reply(Reply::R6(0x1234_0500)),
+    Play::Reply(Reply::R2(CSD)),
+    Play::R1(7, 0x700),
+    Play::R1(16, 0x900),
+];
+
+// The same of a card with a CSD of another structure.
+const CARD_OF_LATER: [Play; 7] = [
+    Play::Answer(Answer::Sent),
+    Play::Reply(Reply::R7(0x1aa)),
+    Play::R1(55, 0x120),
+    Play::Reply(Reply::R3(0xc0ff_8000)),
+    Play::Reply(Reply::R2(CID)),
+    Play::Reply(Reply::R6(0x1234_0500)),
+    Play::Reply(Reply::R2(OTHER_CSD)),
+];
+
+// Scripts, what is played to them, their ends, their calls, their traces, and how many bytes are put out.
+static RUNS: [(&str, &[Play], &str, usize, &str, usize); 19] = [
+    (
+        BRING_UP,
+        &CARD,
+        "DONE",
+        9,
+        "CMD0 00000000 -
+CMD8 000001aa R7 000001aa
+CMD55 00000000 R1 00000120
+CMD41 40ff8000 R3 c0ff8000
+CMD2 00000000 R2 005858534456202010000000010181
+CMD3 00000000 R6 12340500
+CMD9 12340000 R2 400000000009000000000000000000
+CMD7 12340000 R1 00000700
+CMD16 00000200 R1 00000900
+done
+",
+        0,
+    ),
+    // no answer to CMD0, which has none
+    (
+        BRING_UP,
+        &[Play::Answer(Answer::TimeOut)],
+        "REPLY",
+        1,
+        "",
+        0,
+    ),
+    (
+        BRING_UP,
+        &CARD_OF_LATER,
+        "REPLY",
+        7,
+        "CMD0 00000000 -
+CMD8 000001aa R7 000001aa
+CMD55 00000000 R1 00000120
+CMD41 40ff8000 R3 c0ff8000
+CMD2 00000000 R2 005858534456202010000000010181
+CMD3 00000000 R6 12340500
+",
+        0,
+    ),
+    // numbers above 2^40, by a `let` and by an address, and below 0
+    (
+        "card sd nums x let x = 1099511627776 let x = x + 1 done",
+        &[],
+        "number",
+        0,
+        "fault number\n",
+        0,
+    ),
+    (
+        "card sd nums x let x = 1099511627776 send 17 at block x + 1 { else { } } done",
+        &[],
+        "number",
+        0,
+        "fault number\n",
+        0,
+    ),
+    (
+        "card sd nums x let x = 1 - 2 done",
+        &[],
+        "number",
+        0,
+        "fault number\n",
+        0,
+    ),
+    // a register that was not read
+    (
+        "card sd nums x let x = csd.blocks done",
+        &[],
+        "number",
+        0,
+        "fault number\n",
+        0,
+    ),
+    // more than 32 bits
+    (
+        "card sd send 17 at block 4294967296 { else { } } done",
+        &[],
+        "REPLY",
+        0,
+        "",
+        0,
+    ),
+    (
+        "card sd send 32 at byte 8388608 { else { } } done",
+        &[],
+        "REPLY",
+        0,
+        "",
+        0,
+    ),
+    // four loops, each left early
+    (
+        "card sd loop 65535 { loop 65535 { loop 65535 { loop 65535 { break } else { } break } else { } break } else { } break } else { } fault out",
+        &[],
+        "out",
+        0,
+        "fault out\n",
+        0,
+    ),
+    // units
+    (
+        "card sd flags f send 17 at by f 3 { else { } } set f send 17 at by f 3 { else { } } send 17 at byte 3 { else { } } done",
+        &[],
+        "DONE",
+        3,
+        "CMD17 00000600 timeout\nCMD17 00000003 timeout\nCMD17 00000600 timeout\ndone\n",
+        0,
+    ),
+    // phases
+    (
+        "card sd send 18 at block 1 count 3 { clean { recv { ok { } else { fault rd } } } else { fault rd } } done",
+        &[Play::R1(18, 0x900), Play::Data(DataEnd::Ok, 7)],
+        "DONE",
+        2,
+        "CMD18 00000001 R1 00000900\nIN 3 ok\ndone\n",
+        1536,
+    ),
+    (
+        "card sd send 18 at block 1 count 3 { else { } } recv { ok { } else { fault rd } } done",
+        &[Play::R1(18, 0x900), Play::Data(DataEnd::Cut, 7)],
+        "rd",
+        2,
+        "CMD18 00000001 R1 00000900\nIN 3 cut\nfault rd\n",
+        0,
+    ),
+    (
+        "card sd send 51 { else { } } recv reg { ok { } else { fault scr } } wait { ok { } else { fault late } } wait { ok { } else { fault late } } done",
+        &[
+            Play::R1(51, 0x920),
+            Play::Data(DataEnd::Ok, 0),
+            Play::Wait(WaitEnd::Ok),
+            Play::Wait(WaitEnd::Late),
+        ],
+        "late",
+        4,
+        "CMD51 00000000 R1 00000920\nREG 8 ok\nWAIT ok\nWAIT late\nfault late\n",
+        0,
+    ),
+    (
+        "card sd send 51 { else { } } recv reg { ok { } else { fault scr } } done",
+        &[Play::R1(51, 0x920), Play::Data(DataEnd::Cut, 0)],
+        "scr",
+        2,
+        "CMD51 00000000 R1 00000920\nREG 8 cut\nfault scr\n",
+        0,
+    ),
+    // the first of two cases that both hold
+    (
+        "card sd send 16 { answer { fault first } clean { fault second } else { } } done",
+        &[Play::R1(16, 0x900)],
+        "first",
+        1,
+        "CMD16 00000200 R1 00000900\nfault first\n",
+        0,
+    ),
+    (
+        "card sd send 16 { clean { fault first } answer { fault second } else { } } done",
+        &[Play::R1(16, 0x8_0900)],
+        "second",
+        1,
+        "CMD16 00000200 R1 00080900\nfault second\n",
+        0,
+    ),
+    // an R1 has the index of its command
+    (
+        "card sd send 16 { else { } } done",
+        &[Play::R1(16, 0x900)],
+        "DONE",
+        1,
+        "CMD16 00000200 R1 00000900\ndone\n",
+        0,
+    ),
+    (
+        "card sd send 16 { else { } } done",
+        &[Play::R1(17, 0x900)],
+        "REPLY",
+        1,
+        "",
+        0,
+    ),
+];
+
+#[test]
+fn runs(rt: HostRuntime) -> Result<(), Fail> {
+    let alloc = rt.alloc();
+    for &(text, plays, end, calls, lines, bytes) in RUNS.iter() {
+        let mut port = PlayPort::new(plays);
+        let (mut out, mut trace) = (Vec::new(alloc), Vec::new(alloc));
+        let result = played(&rt, alloc, text, &mut port, &[], &mut out, &mut trace);
+        assert_eq!(rt; name_of(&result), end, "{text}");
+        assert_eq!(rt; port.calls, calls, "{text}");
+        assert_eq!(rt; str::from_utf8(&trace)?, lines, "{text}");
+        assert_eq!(rt; out.len(), bytes, "{text}");
+    }
+    let accepted = verify(alloc, SMALLEST, CERTIFICATE)?;
+    let plays = [Play::Answer(Answer::Sent)];
+    let mut port = PlayPort::new(&plays);
+    let (mut out, mut trace) = (Vec::new(alloc), Vec::new(alloc));
+    let result = run(alloc, &accepted, &mut port, &[], &mut out, &mut trace);
+    assert_eq!(rt; name_of(&result), "stop");
+    assert_eq!(rt; str::from_utf8(&trace)?, "CMD0 00000000 -\nfault stop\n");
+    Ok(())
+}
+
+// Every kind of answer.
+static ANSWERS: [Answer; 8] = [
+    Answer::Sent,
+    Answer::TimeOut,
+    Answer::Reply(Reply::R1 {
+        index: 61,
+        status: 0x900,
+    }),
+    Answer::Reply(Reply::R2(CSD)),
+    Answer::Reply(Reply::R3(0x80ff_8000)),
+    Answer::Reply(Reply::R6(0x0001_0500)),
+    Answer::Reply(Reply::R7(0x1aa)),
+    Answer::Damaged(FrameFault::Crc),
+];
+
+// Commands with the place of the answer that each is given; behind the last place, an R1 with another index than all of
+// them.
+static COMMANDS: [(&str, usize); 22] = [
+    ("0", 0),
+    ("7 none", 0),
+    ("2", 3),
+    ("9", 3),
+    ("10", 3),
+    ("41 0x40ff8000", 4),
+    ("41 0x00ff8000", 4),
+    ("3", 5),
+    ("8", 6),
+    ("7", 8),
+    ("12", 8),
+    ("13", 8),
+    ("16", 8),
+    ("17 at block 0", 8),
+    ("18 at block 0 count 2", 8),
+    ("24 at block 0", 8),
+    ("25 at block 0 count 2", 8),
+    ("32 at block 0", 8),
+    ("33 at block 0", 8),
+    ("38", 8),
+    ("51", 8),
+    ("55", 8),
+];
+
+#[test]
+fn answers_to_commands(rt: HostRuntime) -> Result<(), Fail> {
+    let alloc = rt.alloc();
+    for &(command, own) in COMMANDS.iter() {
+        let text = format!(in alloc; "card sd send {command} {{ else {{ }} }} done")?;
+        for (number, answer) in ANSWERS.iter().enumerate() {
+            let plays = [Play::Answer(*answer)];
+            let mut port = PlayPort::new(&plays);
+            let (mut out, mut trace) = (Vec::new(alloc), Vec::new(alloc));
+            let result = played(&rt, alloc, &text, &mut port, &[], &mut out, &mut trace);
+            let taken = number == own || own != 0 && number == 1;
+            let wanted = if taken { "DONE" } else { "REPLY" };
+            assert_eq!(&rt; name_of(&result), wanted, "{command}, answer {number}");
+            assert_eq!(&rt; trace.is_empty(), !taken, "{command}, answer {number}");
+        }
+    }
+    Ok(())
+}
+
+const COPY: &str = "card sd send 17 at block 2 { else { } } recv { ok { } else { fault rd } } done";
+
+static COPIED: [Play; 2] = [Play::R1(17, 0x900), Play::Data(DataEnd::Ok, 0x5a)];
+
+// A run with room for so many bytes of output and trace: its end, its calls, and how many bytes were taken.
+fn copy_into(
+    rt: &impl Abort,
+    alloc: Global,
+    output: usize,
+    traced: usize,
+) -> (&'static str, usize, usize, usize) {
+    let mut port = PlayPort::new(&COPIED);
+    let mut out = Room {
+        taken: Vec::new(alloc),
+        room: output,
+    };
+    let mut trace = Room {
+        taken: Vec::new(alloc),
+        room: traced,
+    };
+    let end = match played(rt, alloc, COPY, &mut port, &[], &mut out, &mut trace) {
+        Ok(_) => "ended",
+        Err(RunFault::Output) => "output",
+        Err(RunFault::Trace) => "trace",
+        Err(_) => "other",
+    };
+    (end, port.calls, out.taken.len(), trace.taken.len())
+}
+
+// A trace and an output that fail at each byte: the event has happened.
+#[test]
+fn writers_that_fail(rt: HostRuntime) {
+    let alloc = rt.alloc();
+    for room in 0..41 {
+        let calls = if room < 27 { 1 } else { 2 };
+        let end = if room == 40 { "ended" } else { "trace" };
+        let wanted = (end, calls, 512 * (calls - 1), room);
+        assert_eq!(rt; copy_into(&rt, alloc, 512, room), wanted);
+    }
+    for room in 0..512 {
+        let wanted = ("output", 2, room, 27);
+        assert_eq!(rt; copy_into(&rt, alloc, room, 40), wanted);
+    }
+}
+
+// Phases to the card take the next blocks, also where they are cut, and none begins without enough of them.
+#[test]
+fn input_in_order(rt: HostRuntime) -> Result<(), Fail> {
+    let alloc = rt.alloc();
+    let text =
+        "card sd send 25 at block 0 count 2 { else { } } give { ok { } else { } } send 24 at block 9 { else { } } give { ok { } else { } } done";
+    let plays = [
+        Play::R1(25, 0x900),
+        Play::Data(DataEnd::Cut, 0),
+        Play::R1(24, 0x900),
+        Play::Data(DataEnd::Ok, 0),
+    ];
+    let lines =
+        "CMD25 00000000 R1 00000900\nOUT 2 cut\nCMD24 00000009 R1 00000900\nOUT 1 ok\ndone\n";
+    let input = [[1; 512], [2; 512], [3; 512], [4; 512]];
+    for (blocks, end, calls, sent) in [
+        (0, "INPUT", 1, (0, 0)),
+        (1, "INPUT", 1, (0, 0)),
+        (2, "INPUT", 3, (2, 2)),
+        (3, "DONE", 4, (3, 3)),
+        (4, "DONE", 4, (3, 3)),
+    ] {
+        let mut port = PlayPort::new(&plays);
+        let (mut out, mut trace) = (Vec::new(alloc), Vec::new(alloc));
+        let result = played(
+            &rt,
+            alloc,
+            text,
+            &mut port,
+            &input[..blocks],
+            &mut out,
+            &mut trace,
+        );
+        assert_eq!(&rt; name_of(&result), end, "{blocks} blocks");
+        assert_eq!(&rt; port.calls, calls, "{blocks} blocks");
+        assert_eq!(&rt; port.sent, sent, "{blocks} blocks");
+        assert_eq!(&rt;
+            str::from_utf8(&trace)? == lines,
+            blocks > 2,
+            "{blocks} blocks"
+        );
+    }
+    Ok(())
+}
+
+// Whichever allocation is refused, a run ends well or does not begin.
+#[test]
+fn memory_before_the_first_event(rt: HostRuntime) {
+    let alloc = rt.alloc();
+    let text = "card sd nums x send 17 at block x { else { } } recv { ok { } else { } } done";
+    let Ok(script) = parse(alloc, text) else {
+        return;
+    };
+    let Ok(graph) = script.graph(alloc) else {
+        return;
+    };
+    let mut port = PlayPort::new(&COPIED);
+    let (mut output, mut trace) = ([0; 512], [0; 64]);
+    let (mut out, mut lines) = (output.as_mut_slice(), trace.as_mut_slice());
+    let outcome = run_graph(alloc, &graph, &mut port, &[], &mut out, &mut lines);
+    let left = (out.len(), lines.len());
+    let refused = name_of(&outcome) == "MEMORY" && port.calls == 0 && left == (512, 64);
+    let ended = name_of(&outcome) == "DONE" && port.calls == 2 && left == (0, 24);
+    assert!(rt; refused || ended);
+}
