@@ -73,13 +73,13 @@ by_event steps card s s' k AwaitReady c returned keeps x = keeps returned x
 
 -- a wire's card is shown by what holds the wire
 behind : {C S : Type 0} (wire : C → S) (card : S → Option Card) (s : C) (c : Card) → Shows (λ x. card (wire x)) s c → Shows card (wire s) c
-behind wire card s c shown = record { shown = shown.shown; shows = shown.shows; same = shown.same }
+behind wire card s c shown = record { shown = shown.shown; shows = shown.shows; same = shown.same; count = shown.count }
 
 before : {C S : Type 0} (wire : C → S) (card : S → Option Card) (s' : C) (event : ScriptEvent) (c : Card) (returned : Return) → Kept card event c returned (wire s') → Kept (λ x. card (wire x)) event c returned s'
 before wire card s' event c returned kept = record {
   after = kept.after;
   step = kept.step;
-  shown = record { shown = kept.shown.shown; shows = kept.shown.shows; same = kept.shown.same };
+  shown = record { shown = kept.shown.shown; shows = kept.shown.shows; same = kept.shown.same; count = kept.shown.count };
 }
 
 -- what holds a wire that keeps the tables keeps them

@@ -372,5 +372,5 @@ port_keeps s s' k event c h returned shows fine step =
     record {
       after = at zeros c.announced s';
       step = subst (λ v. Step event v returned (at zeros c.announced s')) same here;
-      shown = record { shown = card_at s'; shows = refl; same = refl };
+      shown = record { shown = card_at s'; shows = refl; same = refl; count = λ due. absurd (let no : false ≡ true = due in cc) };
     }
