@@ -5,6 +5,7 @@ use Rattle.sdv_frames.specs.declared.command.Command.{Command}
 use Rattle.sdv_frames.specs.declared.reply.Expect.{Expect}
 use Rattle.sdv_card.specs.declared.state.Transfer.{Transfer}
 use Rattle.sdv_card.specs.declared.state.Transfer.TheVariants.{ReadDue, WriteDue}
+use Rattle.sdv_card.specs.declared.event.Ask.{Ask}
 use Rattle.sdv_card.specs.CommandTable.{expect_of}
 use Rattle.sdv_card.specs.Card.{Card, Block}
 use Rattle.sdv_card.specs.Host.{Host}
@@ -23,9 +24,13 @@ pub data Call : Type 0 where
   DataOut : (blocks : List Block) → Call
   WaitWhileBusy : Call
 
--- the call that an event becomes
+-- the command of an ask
+abbrev pub command_of : Ask → (argument : ℕ) → Command
+command_of ask argument = record { index = ask.index; argument = argument }
+
+-- the call that an event becomes: of a command's position the port sees the argument alone
 abbrev pub call_of : Kind → ScriptEvent → Call
-call_of k (SendCommand ask argument) = Exchange (record { index = ask.index; argument = argument }) (expect_of k ask)
+call_of k (SendCommand ask position argument) = Exchange (command_of ask argument) (expect_of k ask)
 call_of k (ReceiveBlocks count) = DataIn count
 call_of k (ReceiveRegister count) = DataInRegister count
 call_of k (GiveBlocks blocks) = DataOut blocks

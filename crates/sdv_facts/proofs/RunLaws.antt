@@ -16,7 +16,7 @@ use Rattle.sdv_card.specs.Step.{Step}
 use Rattle.sdv_graph.specs.Graph.{Flow, begin, WhereverTo, Lasts, EachRunEnds, HasWalks}
 use Rattle.sdv_graph.specs.Nested.{Nested}
 use Rattle.sdv_graph.specs.declared.graph.Target.{Target}
-use Rattle.sdv_graph.specs.AddressSent.{address_of_command}
+use Rattle.sdv_graph.specs.AddressSent.{position_of_command}
 use Rattle.sdv_graph.specs.ValueOfLet.{value_of_let, with_number}
 use Rattle.sdv_graph.specs.Path.{Node, sends, phases, lets, tests, flags, heads, jumps, stops, Stand, arrive, turns_at, way_of, Move, Goes, Does, Halts, move_with, move_at_head, node_move, move, move_from, Follows, PathWithin, Path}
 use Rattle.sdv_graph.specs.Tree.{Statements, Declared}
@@ -85,11 +85,11 @@ is_over Broke P w = absurd w
 is_over Open P w = absurd w
 
 may_return : (k : Kind) (event : ScriptEvent) (returned : Return) → Expected k event returned → MayReturn event returned
-may_return k (SendCommand ask argument) (Answered answer) e = tt
-may_return k (SendCommand ask argument) (BlocksIn end blocks) e = absurd e
-may_return k (SendCommand ask argument) (RegisterIn end bytes) e = absurd e
-may_return k (SendCommand ask argument) (BlocksOut end) e = absurd e
-may_return k (SendCommand ask argument) (Waited end) e = absurd e
+may_return k (SendCommand ask position argument) (Answered answer) e = tt
+may_return k (SendCommand ask position argument) (BlocksIn end blocks) e = absurd e
+may_return k (SendCommand ask position argument) (RegisterIn end bytes) e = absurd e
+may_return k (SendCommand ask position argument) (BlocksOut end) e = absurd e
+may_return k (SendCommand ask position argument) (Waited end) e = absurd e
 may_return k (ReceiveBlocks count) returned e = e
 may_return k (ReceiveRegister count) returned e = e
 may_return k (GiveBlocks blocks) returned e = e
@@ -141,7 +141,7 @@ module _ (g : Flow) (ps : List PointFacts) (laws : Laws g.kind) (well : StepsWel
   honest_head (suc t ∷ ts) body other h c = tt
 
   honest_node : (node : Node) (ts : List ℕ) (h : Host) (c : Card) → IsHonest g.kind c h → HonestMove (node_move g.kind node ts h) c
-  honest_node (sends command ways other) ts h c hon = honest_with (address_of_command h command.address) (λ address. Does (command_deed g.kind command h address) h (λ returned h'. arrive (way_of g.kind ways other returned) ts h')) c (λ n. hon)
+  honest_node (sends command ways other) ts h c hon = honest_with (position_of_command h command.address) (λ position. Does (command_deed g.kind command h position) h (λ returned h'. arrive (way_of g.kind ways other returned) ts h')) c (λ n. hon)
   honest_node (phases p well other) ts h c hon = hon
   honest_node (lets l t) ts h c hon = honest_with (value_of_let g.kind h l) (λ n. Goes (arrive t ts (with_number h l.target n))) c (λ n. tt)
   honest_node (tests x met unmet) ts h c hon = tt

@@ -17,7 +17,7 @@ StepsOf c (p ∷ es) last = (u : Card) × Step p.0 c p.1 u × StepsOf u es last
 
 -- each command counts, whether it arrives or not; phases and waits do not
 abbrev pub commands_in : ScriptEvent → ℕ
-commands_in (SendCommand ask argument) = 1
+commands_in (SendCommand ask position argument) = 1
 commands_in event = 0
 
 abbrev pub commands : List Pair → ℕ
