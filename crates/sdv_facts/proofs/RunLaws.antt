@@ -21,8 +21,9 @@ use Rattle.sdv_graph.specs.ValueOfLet.{value_of_let, with_number}
 use Rattle.sdv_graph.specs.Path.{Node, sends, phases, lets, tests, flags, heads, jumps, stops, Stand, arrive, turns_at, way_of, Move, Goes, Does, Halts, move_with, move_at_head, node_move, move, move_from, Follows, PathWithin, Path}
 use Rattle.sdv_graph.specs.Tree.{Statements, Declared}
 use Rattle.sdv_graph.specs.Walk.{Pair, Ending, Fell, Broke, Finished, Failed, Open, Stops, Deed, exactly, giving, IsDeed, command_deed, Walk}
+use Rattle.sdv_graph.proofs.FewEvents.{few_events}
 use Rattle.sdv_facts.specs.declared.certificate.PointFacts.{PointFacts}
-use Rattle.sdv_facts.specs.Beside.{StepsOf, commands_in, commands, Walks, IsOver, EndsWell, IsGood, RunsWell}
+use Rattle.sdv_facts.specs.Beside.{StepsOf, commands_in, commands, Walks, IsOver, EndsWell, IsGood, RunsEnd, RunsWell}
 use Rattle.sdv_facts.specs.Bounds.{bound, bound_at, bound_of}
 use Rattle.sdv_facts.specs.Closed.{StartsAt, Closed}
 use Rattle.sdv_facts.specs.Keeps.{IsHonest}
@@ -362,6 +363,14 @@ pub each_is_made : (g : Flow) (ps : List PointFacts) → Laws g.kind → EachRun
 each_is_made g ps laws ends nested suits closed c kind start e es path =
     let b = begins g ps laws nested closed c kind start in
     (each_run g ps laws (steps_well g ps laws nested suits closed) path.0 g.steps e (begin g) es c b.stands path.1 ends).made
+
+-- every path is over within the moves of the graph
+pub runs_end : (g : Flow) → EachRunEnds g → RunsEnd (λ e es. Path g.kind g.places e (begin g) es) g.steps
+runs_end g ends e es path = few_events g.kind g.places e path.0 g.steps (begin g) es path.1 ends
+
+-- and every walk of the script, where they are the paths
+pub walks_end : (g : Flow) (names : Declared) (script : Statements) → EachRunEnds g → HasWalks names script g → RunsEnd (Walk g.kind names script) g.steps
+walks_end g names script ends walks e es walk = runs_end g ends e es ((walks e es).0 walk)
 
 -- the same of other lists, where they are the paths
 pub same_runs : (k : Kind) (v w : Walks) (most : ℕ) → ((e : Ending) (es : List Pair) → v e es ↔ w e es) → RunsWell k w most → RunsWell k v most

@@ -1,5 +1,5 @@
 -- A run that lasts so many moves has no more events.
-use Rattle.std.proofs.Common.{◌≡◌, ℕ, zero, suc, ◌≤◌, inl, inr, sym, subst, arith, List, [], ◌∷◌, length}
+use Rattle.std.proofs.Common.{◌≡◌, ℕ, zero, suc, ◌≤◌, inl, inr, sym, subst, arith, List, [], length}
 use Rattle.sdv_registers.specs.declared.kind.Kind.{Kind}
 use Rattle.sdv_card.specs.Host.{host_after}
 use Rattle.sdv_graph.specs.Graph.{WhereverTo, Lasts}
