@@ -68,7 +68,7 @@ use Rattle.sdv_facts.specs.Closed.{PointsMatch, PointClosed, Closed, AddressKnow
 use Rattle.sdv_facts.specs.Edges.{with_flag_shown, EachOutcome, EachTest, EachCondition, EachEdge, event_of_phase, well_or}
 use Rattle.sdv_facts.specs.FactsHold.{VarHolds, NumbersHold, FactsHold, Carries}
 use Rattle.sdv_facts.specs.Keeps.{MayStandIn, IsHonest}
-use Rattle.sdv_facts.specs.Stands.{GuardsSuit, ForksSuit, NodeSuits, EachNodeSuits, Arrived, HaltsWell, MovesWell, StepsWell}
+use Rattle.sdv_facts.specs.Stands.{GuardsSuit, ForksSuit, NodeSuits, EachNodeSuits, Arrived, HaltsWell, MovesWell, PointsStepWell, StepsWell}
 use Rattle.sdv_facts.proofs.AddressLaws.{on_card}
 use Rattle.sdv_facts.proofs.EdgeLaws.{Reaches, edges}
 use Rattle.sdv_facts.proofs.FlagLaws.{pair_with_flag, flags_kept}
@@ -447,12 +447,16 @@ module _ (g : Flow) (ps : List PointFacts) (laws : Laws g.kind) (points : Points
   node_well (jumps t) most p ts c h closed suit at edge = plainly (record { node = jumps t; most = most }) p ts ts Same t c h at refl refl edge
   node_well (stops last) most p ts c h closed suit at edge = halts_well last (record { node = stops last; most = most }) p c h refl closed at.holds at.honest.pair
 
--- THE STEP: each move from where the facts of a closed certificate hold is as it should be
-pub steps_well : (g : Flow) (ps : List PointFacts) → Laws g.kind → Nested g → EachNodeSuits g → Closed g ps → StepsWell g ps
-steps_well g ps laws nested suits closed s c at =
-    let pc : PointClosed g.kind ps at.place at.facts = closed.each s.point at.place at.facts at.here at.known in
-    let variables = (closed.points.each s.point at.place at.facts at.here at.known).variables in
+-- THE STEP: each move from where the facts of a point hold is as it should be, if the point's clauses hold
+pub points_step_well : (g : Flow) (ps : List PointFacts) → Laws g.kind → Nested g → EachNodeSuits g → PointsMatch g ps → PointsStepWell g ps
+points_step_well g ps laws nested suits points s c at pc =
+    let variables = (points.each s.point at.place at.facts at.here at.known).variables in
     subst (λ o. MovesWell g ps (bound at.facts s.turns) (move g.kind o s.turns s.host) c) (sym at.here)
-    (node_well g ps laws closed.points at.place.node at.place.most at.facts s.turns c s.host pc (suits s.point at.place at.here)
+    (node_well g ps laws points at.place.node at.place.most at.facts s.turns c s.host pc (suits s.point at.place at.here)
     (record { box = at.box; holds = at.holds; honest = at.honest; on_card = at.on_card; variables = variables })
     (edges g.kind g.places ps at.place at.facts (record { 0 = pair_code c s.host }) pc (nested.lands s.point at.place at.here) at.holds.shape))
+
+-- so they do where the certificate is closed
+pub steps_well : (g : Flow) (ps : List PointFacts) → Laws g.kind → Nested g → EachNodeSuits g → Closed g ps → StepsWell g ps
+steps_well g ps laws nested suits closed s c at =
+    points_step_well g ps laws nested suits closed.points s c at (closed.each s.point at.place at.facts at.here at.known)
