@@ -134,7 +134,7 @@ moved_writing_to c p = record { place = p.0; may = p.1; card = refl }
 
 pub has_step : (k : Kind) → HasStep k
 unfolding at_place
-has_step k (SendCommand ask argument) c h pair l =
+has_step k (SendCommand ask position argument) c h pair l =
     let s : (answer : Answer) × (u : Card) × SettledAnswer (card_takes c l.order argument) l.order argument c answer u =
     settled_step (card_takes c l.order argument) l.order argument c (l.settled c (inl refl)) in
     record {

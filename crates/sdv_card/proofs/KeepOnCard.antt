@@ -35,13 +35,13 @@ begins_within true argument position count next announced capacity named room at
 begins_within false argument position count next announced capacity named room at counted = omega arith
 
 -- a card of the same size
-within_same : (c u : Card) (argument count : ℕ) → SameCard c u → 0 < count → Within c argument count → Begins argument count u → HasBlocks u
-within_same c u argument count same some w b = record {
+within_same : (c u : Card) (position argument count : ℕ) → SameCard c u → 0 < count → Within c position argument count → Begins argument count u → HasBlocks u
+within_same c u position argument count same some w b = record {
   some = subst (λ n. 0 < n) b.count_is some;
   room =
-      begins_within u.block_unit argument w.position count u.next_block u.announced u.capacity
-      (subst (λ v. argument ≡ (if v then w.position else 512 * w.position)) same.block_unit w.unit)
-      (subst (λ n. w.position + count ≤ n) same.capacity w.room) b.block b.count_is;
+      begins_within u.block_unit argument position count u.next_block u.announced u.capacity
+      (subst (λ v. argument ≡ (if v then position else 512 * position)) same.block_unit w.unit)
+      (subst (λ n. position + count ≤ n) same.capacity w.room) b.block b.count_is;
 }
 
 -- the same blocks of a card of the same size
@@ -58,36 +58,36 @@ stood t u same transfer blocks on due =
     }
 
 -- the blocks that a row announces are some, and on the card
-record Announced (c : Card) (row : Row) (argument : ℕ) : Type 0 where
+record Announced (c : Card) (row : Row) (position argument : ℕ) : Type 0 where
   some : (n : ℕ) → row_announces row ≡ Some n → 0 < n
-  within : (n : ℕ) → row_announces row ≡ Some n → Within c argument n
+  within : (n : ℕ) → row_announces row ≡ Some n → Within c position argument n
 
-taken_on_card : (row : Row) (argument : ℕ) (c t u : Card) → SameCard c t → SameCard c u → Taken row argument t u →
-    Announced c row argument → TransferOnCard t → TransferOnCard u
-taken_on_card Cmd17 argument c t u ct cu m within on due = within_same c u argument 1 cu (within.some 1 refl) (within.within 1 refl) m.blocks
-taken_on_card (Cmd18 n) argument c t u ct cu m within on due = within_same c u argument n cu (within.some n refl) (within.within n refl) m.blocks
-taken_on_card Cmd24 argument c t u ct cu m within on due = within_same c u argument 1 cu (within.some 1 refl) (within.within 1 refl) m.blocks
-taken_on_card (Cmd25 n) argument c t u ct cu m within on due = within_same c u argument n cu (within.some n refl) (within.within n refl) m.blocks
-taken_on_card Cmd0 argument c t u ct cu m within on due = absurd (no_due _ u.transfer refl m.transfer due)
-taken_on_card Cmd8Emmc argument c t u ct cu m within on due = absurd (no_due _ u.transfer refl m.transfer due)
-taken_on_card Cmd12 argument c t u ct cu m within on due = absurd (no_due _ u.transfer refl m.transfer due)
-taken_on_card Acmd13 argument c t u ct cu m within on due = absurd (no_due _ u.transfer refl m.transfer due)
-taken_on_card Acmd51 argument c t u ct cu m within on due = absurd (no_due _ u.transfer refl m.transfer due)
-taken_on_card row argument c t u ct cu m within on due = stood t u m.same m.transfer m.blocks on due
+taken_on_card : (row : Row) (position argument : ℕ) (c t u : Card) → SameCard c t → SameCard c u → Taken row argument t u →
+    Announced c row position argument → TransferOnCard t → TransferOnCard u
+taken_on_card Cmd17 position argument c t u ct cu m within on due = within_same c u position argument 1 cu (within.some 1 refl) (within.within 1 refl) m.blocks
+taken_on_card (Cmd18 n) position argument c t u ct cu m within on due = within_same c u position argument n cu (within.some n refl) (within.within n refl) m.blocks
+taken_on_card Cmd24 position argument c t u ct cu m within on due = within_same c u position argument 1 cu (within.some 1 refl) (within.within 1 refl) m.blocks
+taken_on_card (Cmd25 n) position argument c t u ct cu m within on due = within_same c u position argument n cu (within.some n refl) (within.within n refl) m.blocks
+taken_on_card Cmd0 position argument c t u ct cu m within on due = absurd (no_due _ u.transfer refl m.transfer due)
+taken_on_card Cmd8Emmc position argument c t u ct cu m within on due = absurd (no_due _ u.transfer refl m.transfer due)
+taken_on_card Cmd12 position argument c t u ct cu m within on due = absurd (no_due _ u.transfer refl m.transfer due)
+taken_on_card Acmd13 position argument c t u ct cu m within on due = absurd (no_due _ u.transfer refl m.transfer due)
+taken_on_card Acmd51 position argument c t u ct cu m within on due = absurd (no_due _ u.transfer refl m.transfer due)
+taken_on_card row position argument c t u ct cu m within on due = stood t u m.same m.transfer m.blocks on due
 
-became_on_card : (way : TakenAs) (argument : ℕ) (c t u : Card) → SameCard c t → SameCard c u →
-    ((row : Row) → way ≡ By row → Announced c row argument) → Became way argument t u → TransferOnCard t → TransferOnCard u
-became_on_card way argument c t u ct cu within (inl e) on = subst (λ v. TransferOnCard v) e on
-became_on_card way argument c t u ct cu within (inr (inl m)) on = taken_on_card m.row argument c t u ct cu m.taken (within m.row m.by) on
-became_on_card way argument c t u ct cu within (inr (inr m)) on = stood t u m.stayed.same m.stayed.transfer m.stayed.blocks on
+became_on_card : (way : TakenAs) (position argument : ℕ) (c t u : Card) → SameCard c t → SameCard c u →
+    ((row : Row) → way ≡ By row → Announced c row position argument) → Became way argument t u → TransferOnCard t → TransferOnCard u
+became_on_card way position argument c t u ct cu within (inl e) on = subst (λ v. TransferOnCard v) e on
+became_on_card way position argument c t u ct cu within (inr (inl m)) on = taken_on_card m.row position argument c t u ct cu m.taken (within m.row m.by) on
+became_on_card way position argument c t u ct cu within (inr (inr m)) on = stood t u m.stayed.same m.stayed.transfer m.stayed.blocks on
 
 settled_on_card : (c t : Card) → Settled c t → TransferOnCard c → TransferOnCard t
 settled_on_card c t (inl e) on = subst (λ v. TransferOnCard v) e on
 settled_on_card c t (inr x) on = λ due. absurd (no_due _ t.transfer refl (ap (λ v. v.transfer) x.2) due)
 
 -- the blocks that the ask addresses are on the card
-asked_within : (ask : Ask) (argument n : ℕ) (c : Card) → addressed_blocks ask ≡ Some n → BlocksWithin (addressed_blocks ask) c argument → Within c argument n
-asked_within ask argument n c e w = subst (λ o. BlocksWithin o c argument) e w
+asked_within : (ask : Ask) (position argument n : ℕ) (c : Card) → addressed_blocks ask ≡ Some n → BlocksWithin (addressed_blocks ask) c position argument → Within c position argument n
+asked_within ask position argument n c e w = subst (λ o. BlocksWithin o c position argument) e w
 
 moved_on_card : (end : DataEnd) (c u : Card) → Moved end c u → TransferOnCard u
 moved_on_card end c u m due = absurd (no_due m.place.transfer u.transfer (calm_place c.transfer end m.place m.may).no_blocks (ap (λ v. v.transfer) m.card) due)
@@ -101,17 +101,17 @@ waited_on_card c u end w on =
     subst (λ v. TransferOnCard v) w.card (λ due. let has : HasBlocks c = on due in record { some = has.some; room = has.room })
 
 pub steps_keep_on_card : (k : Kind) → StepsKeepOnCard k
-steps_keep_on_card k (SendCommand ask argument) c h (Answered answer) u pair legal bounds s on =
+steps_keep_on_card k (SendCommand ask position argument) c h (Answered answer) u pair legal bounds s on =
     let t : Card = s.exchange.settled_card in
     let way : TakenAs = card_takes t s.order argument in
     let came : Became way argument t u = became way s.order argument t u answer s.exchange.answered in
-    became_on_card way argument c t u (settled_same c t s.exchange.settled)
+    became_on_card way position argument c t u (settled_same c t s.exchange.settled)
     (same_both c t u (settled_same c t s.exchange.settled) (became_same way argument t u came))
     (λ row by.
     let same : order_announces s.order ≡ row_announces row = same_announces (says s.order t.app (matches t.rca (argument / 65536)) row by) in
     record {
       some = λ n e. (of_ask c.kind ask s.order s.asks.line).some n (same ∙ e);
-      within = λ n e. asked_within ask argument n c ((of_ask c.kind ask s.order s.asks.line).blocks n (same ∙ e)) bounds;
+      within = λ n e. asked_within ask position argument n c ((of_ask c.kind ask s.order s.asks.line).blocks n (same ∙ e)) bounds;
     })
     came (settled_on_card c t s.exchange.settled on)
 steps_keep_on_card k (ReceiveBlocks count) c h (BlocksIn end blocks) u pair legal bounds s on = moved_on_card end c u s.moved

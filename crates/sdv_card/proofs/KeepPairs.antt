@@ -190,7 +190,7 @@ exchange_pair k ask order argument c u h answer pair e x =
     (rca_after way order argument t u answer h.rca (ignored_rca order t.app m h.rca) (λ row by. (says order t.app m row by).rca answer h.rca) x.answered pair.rca)
 
 pub steps_keep_pairs : (k : Kind) → StepsKeepPairs k
-steps_keep_pairs k (SendCommand ask argument) c h (Answered answer) u pair made s =
+steps_keep_pairs k (SendCommand ask position argument) c h (Answered answer) u pair made s =
     let e : order_of k ask ≡ Some s.order = subst (λ v. order_of v ask ≡ Some s.order) (sym pair.kind) s.asks.line in
     subst (λ o. IsPair k u (host_after_order o answer h)) (sym e) (exchange_pair k ask s.order argument c u h answer pair e s.exchange)
 steps_keep_pairs k (ReceiveBlocks count) c h (BlocksIn end blocks) u pair made s =

@@ -278,7 +278,7 @@ emmc_register : (c : Card) → IsCard c → c.kind ≡ Emmc → IsRegister 512 c
 emmc_register c card emmc = subst (λ k. DataRegisters k c) emmc card.registers
 
 pub steps_keep_sound : (k : Kind) → StepsKeepSound k
-steps_keep_sound k (SendCommand ask argument) c h (Answered answer) u pair made legal s sound =
+steps_keep_sound k (SendCommand ask position argument) c h (Answered answer) u pair made legal s sound =
     let t : Card = s.exchange.settled_card in
     let way : TakenAs = card_takes t s.order argument in
     let same_order : legal.order ≡ s.order = some_same legal.order s.order (order_of c.kind ask) legal.asks.line s.asks.line in

@@ -17,7 +17,7 @@ use Rattle.sdv_card.specs.CommandTable.{order_of}
 use Rattle.sdv_card.specs.ScriptEvent.{ScriptEvent, SendCommand, ReceiveBlocks, ReceiveRegister, GiveBlocks, AwaitReady, event_of}
 use Rattle.sdv_card.specs.Card.{Card}
 use Rattle.sdv_card.specs.Host.{Host}
-use Rattle.sdv_card.specs.HostEvents.{Makes}
+use Rattle.sdv_card.specs.HostEvents.{Makes, ArgumentFits}
 use Rattle.sdv_card.specs.Settled.{Settled}
 use Rattle.sdv_card.specs.Exchange.{card_takes}
 use Rattle.sdv_card.specs.Legal.{RowLegal, SettledLegal, SendLegal, EventLegal}
@@ -104,13 +104,13 @@ order_legal_back order argument c h sent e t settles =
 
 -- AN ASK
 
-ask_legal_law : (ask : Ask) (argument : ℕ) (c : Card) (h : Host) → Makes c.kind (SendCommand ask argument) h → SendLegal ask argument c →
+ask_legal_law : (ask : Ask) (argument : ℕ) (c : Card) (h : Host) → ArgumentFits c.kind ask argument h → SendLegal ask argument c →
     ask_legal c.kind (order_of c.kind ask) (view c h) ≡ true
 ask_legal_law ask argument c h made l =
     subst (λ o. ask_legal c.kind o (view c h) ≡ true) (sym l.asks.line)
     (order_legal_law l.order argument c h (address_sent c.kind ask argument h l.order made l.asks.line) l.settled)
 
-ask_legal_back : (ask : Ask) (argument : ℕ) (c : Card) (h : Host) (o : Option Order) → Makes c.kind (SendCommand ask argument) h →
+ask_legal_back : (ask : Ask) (argument : ℕ) (c : Card) (h : Host) (o : Option Order) → ArgumentFits c.kind ask argument h →
     order_of c.kind ask ≡ o → ask_legal c.kind o (view c h) ≡ true → SendLegal ask argument c
 ask_legal_back ask argument c h None made e l = absurd (let f : false ≡ true = l in cc)
 ask_legal_back ask argument c h (Some order) made e l = record {
@@ -123,7 +123,7 @@ ask_legal_back ask argument c h (Some order) made e l = record {
 
 event_legal_law : (event : ScriptEvent) (c : Card) (h : Host) → Makes c.kind event h → EventLegal event c →
     event_legal c.kind (event_of event) (view c h) ≡ true
-event_legal_law (SendCommand ask argument) c h made l = ask_legal_law ask argument c h made l
+event_legal_law (SendCommand ask position argument) c h made l = ask_legal_law ask argument c h made l
 event_legal_law (ReceiveBlocks count) c h made l = l
 event_legal_law (ReceiveRegister count) c h made l = l
 event_legal_law (GiveBlocks blocks) c h made l = l
@@ -131,7 +131,7 @@ event_legal_law AwaitReady c h made l = l
 
 event_legal_back : (event : ScriptEvent) (c : Card) (h : Host) → Makes c.kind event h →
     event_legal c.kind (event_of event) (view c h) ≡ true → EventLegal event c
-event_legal_back (SendCommand ask argument) c h made l = ask_legal_back ask argument c h (order_of c.kind ask) made refl l
+event_legal_back (SendCommand ask position argument) c h made l = ask_legal_back ask argument c h (order_of c.kind ask) made refl l
 event_legal_back (ReceiveBlocks count) c h made l = l
 event_legal_back (ReceiveRegister count) c h made l = l
 event_legal_back (GiveBlocks blocks) c h made l = l

@@ -63,7 +63,7 @@ wait_same end c u w =
     (record { kind = refl; version = refl; block_unit = refl; capacity = refl; csd = refl; cid = refl; ext_csd = refl; scr = refl; sd_status = refl }) w.card
 
 pub steps_keep_same : (k : Kind) → StepsKeepSame k
-steps_keep_same k (SendCommand ask argument) c (Answered answer) u kind s =
+steps_keep_same k (SendCommand ask position argument) c (Answered answer) u kind s =
     let t : Card = s.exchange.settled_card in
     same_both c t u (settled_same c t s.exchange.settled)
     (became_same (card_takes t s.order argument) argument t u (became (card_takes t s.order argument) s.order argument t u answer s.exchange.answered))

@@ -96,13 +96,13 @@ either_wait Late c u h m = May-append_right (wait_ends Over (view c h)) m
 
 -- each settled card to which the event gives an address had none
 abbrev EventGivesAddress : ScriptEvent → Card → Host → Type 0
-EventGivesAddress (SendCommand ask argument) c h = (order : Order) → order_of c.kind ask ≡ Some order → GivesAddress order c h
+EventGivesAddress (SendCommand ask position argument) c h = (order : Order) → order_of c.kind ask ≡ Some order → GivesAddress order c h
 EventGivesAddress event c h = Unit {0}
 
 event_law : (event : ScriptEvent) (c : Card) (h : Host) (returned : Return) (u : Card) → IsCard c → Makes c.kind event h → EventGivesAddress event c h →
     Step event c returned u →
     May (event_branches c.kind (event_of event) (view c h)) (branch (view u (host_after c.kind event returned h)) (seen_of c.kind returned))
-event_law (SendCommand ask argument) c h (Answered answer) u card made given s =
+event_law (SendCommand ask position argument) c h (Answered answer) u card made given s =
     subst (λ o. May (ask_branches c.kind o (view c h)) (branch (view u (host_after_order o answer h)) (answer_seen c.kind answer))) (sym s.asks.line)
     (exchange_law s.order argument c u h answer card (address_sent c.kind ask argument h s.order made s.asks.line) (given s.order s.asks.line) s.exchange)
 event_law (ReceiveBlocks count) c h (BlocksIn end blocks) u card made given s = either_end end c u h (moved_law end c u h s.moved)
@@ -133,7 +133,7 @@ some_same : {A : Type 0} → (x y : A) (o : Option A) → o ≡ Some x → o ≡
 some_same x y o e f = cc
 
 legal_gives : (event : ScriptEvent) (c : Card) (h : Host) → IsCard c → Makes c.kind event h → EventLegal event c → EventGivesAddress event c h
-legal_gives (SendCommand ask argument) c h card made legal = λ order e t settles row by.
+legal_gives (SendCommand ask position argument) c h card made legal = λ order e t settles row by.
     let same : legal.order ≡ order = some_same legal.order order (order_of c.kind ask) legal.asks.line e in
     let at_t : SettledLegal (card_takes t order argument) t = subst (λ o. SettledLegal (card_takes t o argument) t) same (legal.settled t settles) in
     let sent : AddressSent order argument h = address_sent c.kind ask argument h order made e in

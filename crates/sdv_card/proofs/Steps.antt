@@ -31,8 +31,7 @@ use Rattle.sdv_card.specs.Exchange.{card_takes, SettledAnswer}
 use Rattle.sdv_card.specs.Legal.{SettledLegal, SendLegal, RowLegal}
 use Rattle.sdv_card.specs.Step.{Sends}
 use Rattle.sdv_card.specs.Host.{Host}
-use Rattle.sdv_card.specs.HostEvents.{Makes}
-use Rattle.sdv_card.specs.ScriptEvent.{SendCommand}
+use Rattle.sdv_card.specs.HostEvents.{ArgumentFits}
 use Rattle.sdv_card.specs.Profile.{IsAtStart, host_at_start}
 use Rattle.sdv_card.specs.BringUp.{Happens, example_csd, example_cid, example_scr, example_card, command, ask_conditions, BringUpHappens, LostAnswerHappens, ProgrammingEnds, DoubtStays, StopIsNotLegal, selected_card, example_host}
 
@@ -43,7 +42,7 @@ settled_as_is P c t e p (inr own) = absurd (let f : None ≡ Some own.0 = sym e 
 
 -- what happens at a card that has no step of its own
 pub happens : (ask : Ask) (argument : ℕ) (order : Order) (answer : Answer) (c u : Card) (h : Host) →
-    own_target c.state c.transfer ≡ None → order_of c.kind ask ≡ Some order → Makes c.kind (SendCommand ask argument) h →
+    own_target c.state c.transfer ≡ None → order_of c.kind ask ≡ Some order → ArgumentFits c.kind ask argument h →
     SettledLegal (card_takes c order argument) c → SettledAnswer (card_takes c order argument) order argument c answer u →
     SendLegal ask argument c × Sends ask argument c answer u
 happens ask argument order answer c u h own line made legal step = (
@@ -87,7 +86,7 @@ taken row argument contents s s' r r' a a' state reached app rca erase length pr
   contents = same;
 }
 
-pub made : {k : Kind} {ask : Ask} {argument : ℕ} {h : Host} → argument ≡ argument_of k ask h.rca 0 → Makes k (SendCommand ask argument) h
+pub made : {k : Kind} {ask : Ask} {argument : ℕ} {h : Host} → argument ≡ argument_of k ask h.rca 0 → ArgumentFits k ask argument h
 made same = record { address = 0; same = same }
 
 -- an error that is not pending is shown by no status

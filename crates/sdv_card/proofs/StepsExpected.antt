@@ -59,7 +59,7 @@ settled_waits Ignored order argument t u answer ignored by a = subst (λ v. Answ
 settled_waits (By row) order argument t u answer ignored by a = row_waits order row argument t u answer (by row refl).waits a
 
 pub steps_are_expected : (k : Kind) → StepsAreExpected k
-steps_are_expected k (SendCommand ask argument) c (Answered answer) u kind s =
+steps_are_expected k (SendCommand ask position argument) c (Answered answer) u kind s =
     let t : Card = s.exchange.settled_card in
     let m : Bool = matches t.rca (argument / 65536) in
     let e : order_of k ask ≡ Some s.order = subst (λ v. order_of v ask ≡ Some s.order) (sym kind) s.asks.line in

@@ -130,7 +130,7 @@ phase_holds : (k : Kind) (event : ScriptEvent) (returned : Return) → Agree (pa
 phase_holds k event returned agree guard e = subst (λ g. VerdictHolds k g returned) (sym e) (went_well k event returned _ agree refl)
 
 pub verdicts_hold : (k : Kind) → VerdictsHold k
-verdicts_hold k guard (SendCommand ask argument) c h (Answered answer) u pair fit s =
+verdicts_hold k guard (SendCommand ask position argument) c h (Answered answer) u pair fit s =
     let e : order_of k ask ≡ Some s.order = subst (λ v. order_of v ask ≡ Some s.order) (sym pair.kind) s.asks.line in
     answer_holds k guard s.order answer (subst (λ o. fits_order guard o ≡ true) e fit)
     (answer_fits (card_takes s.exchange.settled_card s.order argument) s.order argument s.exchange.settled_card u answer

@@ -76,14 +76,14 @@ selected_card contents = record (example_card contents) { state = Tran; rca = So
 
 abbrev pub command : ℕ → Aim → ℕ → Answer → Happening
 command index aim argument answer = record {
-  event = SendCommand (record { index = index; aim = aim; argument = 0; count = 0 }) argument;
+  event = SendCommand (record { index = index; aim = aim; argument = 0; count = 0 }) 0 argument;
   returned = Answered answer;
 }
 
 -- the host asks for the operating conditions, and can work with block addresses
 abbrev pub ask_conditions : Answer → Happening
 ask_conditions answer = record {
-  event = SendCommand (record { index = 41; aim = Plain; argument = 0x40ff8000; count = 0 }) 0x40ff8000;
+  event = SendCommand (record { index = 41; aim = Plain; argument = 0x40ff8000; count = 0 }) 0 0x40ff8000;
   returned = Answered answer;
 }
 
@@ -135,13 +135,19 @@ DoubtStays = (contents : List Block) →
 -- a read of one block is over, and the card may have gone to transfer state, where CMD12 is not legal
 abbrev pub StopIsNotLegal : Type 0
 StopIsNotLegal = (contents : List Block) →
-    EventLegal (SendCommand (record { index = 12; aim = Plain; argument = 0; count = 0 }) 0) (record (selected_card contents) { state = Data; transfer = ReadOver }) → ⊥
+    EventLegal (SendCommand (record { index = 12; aim = Plain; argument = 0; count = 0 }) 0 0) (record (selected_card contents) { state = Data; transfer = ReadOver }) → ⊥
 
--- a read of one block
-abbrev pub read_at : ℕ → ScriptEvent
-read_at argument = SendCommand (record { index = 17; aim = Plain; argument = 0; count = 1 }) argument
+-- a read of the block at this position, with this argument
+abbrev pub read_at : (position argument : ℕ) → ScriptEvent
+read_at position argument = SendCommand (record { index = 17; aim = Plain; argument = 0; count = 1 }) position argument
 
 -- the last block of the card is in bounds, and the one after it is not
 pub record LastBlockIsBound : Type 0 where
-  pub last : (contents : List Block) → InBounds (read_at 1023) (selected_card contents)
-  pub next : (contents : List Block) → InBounds (read_at 1024) (selected_card contents) → ⊥
+  pub last : (contents : List Block) → InBounds (read_at 1023 1023) (selected_card contents)
+  pub next : (contents : List Block) → InBounds (read_at 1024 1024) (selected_card contents) → ⊥
+
+-- on a card with block addresses, block 1 sent by its number is in bounds; sent in bytes it is not, though the card has
+-- a block 512
+pub record UnitIsTheCards : Type 0 where
+  pub in_blocks : (contents : List Block) → InBounds (read_at 1 1) (selected_card contents)
+  pub in_bytes : (contents : List Block) → InBounds (read_at 1 512) (selected_card contents) → ⊥

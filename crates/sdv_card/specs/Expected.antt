@@ -18,5 +18,5 @@ AnswerExpected expect answer = ⊥
 
 -- what an event returned is what the host waits for
 abbrev pub Expected : Kind → ScriptEvent → Return → Type 0
-Expected k (SendCommand ask argument) (Answered answer) = AnswerExpected (expect_of k ask) answer
+Expected k (SendCommand ask position argument) (Answered answer) = AnswerExpected (expect_of k ask) answer
 Expected k event returned = MayReturn event returned

@@ -14,7 +14,7 @@ pub record ArgumentFits (k : Kind) (ask : Ask) (argument : ℕ) (h : Host) : Typ
 
 -- a phase is as long as was announced, or asked for, last
 abbrev pub Makes : Kind → ScriptEvent → Host → Type 0
-Makes k (SendCommand ask argument) h = ArgumentFits k ask argument h
+Makes k (SendCommand ask position argument) h = ArgumentFits k ask argument h
 Makes k (ReceiveBlocks count) h = count ≡ h.announced
 Makes k (ReceiveRegister count) h = count ≡ h.register_length
 Makes k (GiveBlocks blocks) h = length blocks ≡ h.announced

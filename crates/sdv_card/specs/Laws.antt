@@ -125,7 +125,7 @@ fits_order guard (Some order) = guard_fits guard order
 
 -- the guard may stand in a case of the event
 abbrev pub FitsEvent : Kind → Guard → ScriptEvent → Type 0
-FitsEvent k guard (SendCommand ask argument) = IsTrue (fits_order guard (order_of k ask))
+FitsEvent k guard (SendCommand ask position argument) = IsTrue (fits_order guard (order_of k ask))
 FitsEvent k guard event = guard ≡ WentWell
 
 -- a guard that holds of an answer may hold of what is seen there, and one that fails may fail

@@ -61,7 +61,7 @@ wait_legal state = false
 
 -- an event is legal at a card
 abbrev pub EventLegal : ScriptEvent → Card → Type 0
-EventLegal (SendCommand ask argument) c = SendLegal ask argument c
+EventLegal (SendCommand ask position argument) c = SendLegal ask argument c
 EventLegal (ReceiveBlocks count) c = IsTrue (recv_legal c.state c.transfer)
 EventLegal (ReceiveRegister count) c = IsTrue (recv_reg_legal c.state c.transfer)
 EventLegal (GiveBlocks blocks) c = IsTrue (give_legal c.state c.transfer)
@@ -69,19 +69,19 @@ EventLegal AwaitReady c = IsTrue (wait_legal c.state)
 
 -- IN BOUNDS
 
--- the argument is the address of a block in the card's own unit, and the card has so many blocks from there on
-pub record Within (c : Card) (argument count : ℕ) : Type 0 where
-  pub position : ℕ
+-- the argument is the address of the block at this position, in the card's own unit, and the card has so many blocks from
+-- there on
+pub record Within (c : Card) (position argument count : ℕ) : Type 0 where
   pub unit : argument ≡ (if c.block_unit then position else 512 * position)
   pub room : position + count ≤ c.capacity
 
-abbrev pub BlocksWithin : Option ℕ → Card → ℕ → Type 0
-BlocksWithin None c argument = Unit {0}
-BlocksWithin (Some count) c argument = Within c argument count
+abbrev pub BlocksWithin : Option ℕ → Card → (position argument : ℕ) → Type 0
+BlocksWithin None c position argument = Unit {0}
+BlocksWithin (Some count) c position argument = Within c position argument count
 
 -- an event is in bounds: its address, or the length of its phase
 abbrev pub InBounds : ScriptEvent → Card → Type 0
-InBounds (SendCommand ask argument) c = BlocksWithin (addressed_blocks ask) c argument
+InBounds (SendCommand ask position argument) c = BlocksWithin (addressed_blocks ask) c position argument
 InBounds (ReceiveBlocks count) c = count ≡ c.announced
 InBounds (ReceiveRegister count) c = 0 < count
 InBounds (GiveBlocks blocks) c = length blocks ≡ c.announced

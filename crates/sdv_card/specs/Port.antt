@@ -1,8 +1,11 @@
 -- The calls of a port, and what it means that a port which shows a card keeps the tables.
-use Rattle.std.specs.Prelude.{◌≡◌, ℕ, List, Option, Some}
+use Rattle.std.specs.Prelude.{◌≡◌, Bool, true, false, IsTrue, ℕ, List, Option, Some}
 use Rattle.sdv_registers.specs.declared.kind.Kind.{Kind}
 use Rattle.sdv_frames.specs.declared.command.Command.{Command}
 use Rattle.sdv_frames.specs.declared.reply.Expect.{Expect}
+use Rattle.sdv_card.specs.declared.state.Transfer.{Transfer}
+use Rattle.sdv_card.specs.declared.state.Transfer.TheVariants.{ReadDue, WriteDue}
+use Rattle.sdv_card.specs.declared.event.Ask.{Ask}
 use Rattle.sdv_card.specs.CommandTable.{expect_of}
 use Rattle.sdv_card.specs.Card.{Card, Block}
 use Rattle.sdv_card.specs.Host.{Host}
@@ -21,20 +24,31 @@ pub data Call : Type 0 where
   DataOut : (blocks : List Block) → Call
   WaitWhileBusy : Call
 
--- the call that an event becomes
+-- the command of an ask
+abbrev pub command_of : Ask → (argument : ℕ) → Command
+command_of ask argument = record { index = ask.index; argument = argument }
+
+-- the call that an event becomes: of a command's position the port sees the argument alone
 abbrev pub call_of : Kind → ScriptEvent → Call
-call_of k (SendCommand ask argument) = Exchange (record { index = ask.index; argument = argument }) (expect_of k ask)
+call_of k (SendCommand ask position argument) = Exchange (command_of ask argument) (expect_of k ask)
 call_of k (ReceiveBlocks count) = DataIn count
 call_of k (ReceiveRegister count) = DataInRegister count
 call_of k (GiveBlocks blocks) = DataOut blocks
 call_of k AwaitReady = WaitWhileBusy
 
--- The card that a port shows, but for the announced count, which no frame carries: that of the card is the count of the
--- script's events.
+-- a phase of blocks is due whose count the card was told: it is one block, or the count was preset
+abbrev pub count_known : Transfer → Bool
+count_known ReadDue = true
+count_known WriteDue = true
+count_known transfer = false
+
+-- The card that a port shows, but for the announced count of an open transfer, which no frame carries: that is the count of
+-- the script's events.
 pub record Shows {S : Type 0} (card : S → Option Card) (s : S) (c : Card) : Type 0 where
   pub shown : Card
   pub shows : card s ≡ Some shown
   pub same : record shown { announced = c.announced } ≡ c
+  pub count : IsTrue (count_known c.transfer) → shown.announced ≡ c.announced
 
 -- a legal event in bounds of a host beside a card
 pub record IsFine (k : Kind) (event : ScriptEvent) (c : Card) (h : Host) : Type 0 where

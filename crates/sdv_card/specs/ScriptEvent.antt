@@ -10,8 +10,9 @@ use Rattle.sdv_card.specs.declared.answer.WaitEnd.{WaitEnd}
 use Rattle.sdv_card.specs.Card.{Block}
 
 pub data ScriptEvent : Type 0 where
-  -- a command with the blocks that it announces, and the argument that is sent: a whole number without a bound
-  SendCommand : (ask : Ask) (argument : ℕ) → ScriptEvent
+  -- A command with the blocks that it announces, the position that the script gives, in blocks, and the argument that is
+  -- sent: whole numbers without a bound. The position of a command without an address is 0.
+  SendCommand : (ask : Ask) (position argument : ℕ) → ScriptEvent
   -- a phase of so many blocks from the card
   ReceiveBlocks : (count : ℕ) → ScriptEvent
   -- a phase of so many bytes of a register
@@ -23,7 +24,7 @@ pub data ScriptEvent : Type 0 where
 
 -- the event without its argument, lengths and blocks
 abbrev pub event_of : ScriptEvent → Event
-event_of (SendCommand ask argument) = Send ask
+event_of (SendCommand ask position argument) = Send ask
 event_of (ReceiveBlocks count) = RecvBlocks
 event_of (ReceiveRegister count) = RecvReg
 event_of (GiveBlocks blocks) = Give
@@ -40,7 +41,7 @@ pub data Return : Type 0 where
 
 -- what an event may return, whatever stands behind the port
 abbrev pub MayReturn : ScriptEvent → Return → Type 0
-MayReturn (SendCommand ask argument) (Answered answer) = Unit {0}
+MayReturn (SendCommand ask position argument) (Answered answer) = Unit {0}
 MayReturn (ReceiveBlocks count) (BlocksIn end blocks) = length blocks ≡ count
 MayReturn (ReceiveRegister count) (RegisterIn end bytes) = length bytes ≡ count
 MayReturn (GiveBlocks blocks) (BlocksOut end) = Unit {0}

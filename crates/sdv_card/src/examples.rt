@@ -1,6 +1,6 @@
 ghost use Rattle.std.specs.Prelude.{◌≡◌, map};
 ghost use Rattle.sdv_card.specs.Shapes.{start_codes};
-ghost use Rattle.sdv_card.specs.BringUp.{BringUpHappens, LostAnswerHappens, ProgrammingEnds, DoubtStays, StopIsNotLegal, LastBlockIsBound};
+ghost use Rattle.sdv_card.specs.BringUp.{BringUpHappens, LostAnswerHappens, ProgrammingEnds, DoubtStays, StopIsNotLegal, LastBlockIsBound, UnitIsTheCards};
 ghost use Rattle.sdv_card.specs.EmmcBringUp.{DeviceBringUpHappens};
 
 use crate::shape::START_SHAPES;
@@ -43,4 +43,9 @@ pub fn stop_is_not_legal()
 /// A read of the last block is in bounds, and a read of the block after it is not.
 pub fn last_block_is_bound()
     ensures { LastBlockIsBound }
+{}
+
+/// On a card with block addresses, a read of block 1 that is addressed in bytes is not in bounds.
+pub fn unit_is_the_cards()
+    ensures { UnitIsTheCards }
 {}

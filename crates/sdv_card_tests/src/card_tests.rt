@@ -79,4 +79,5 @@ fn examples_are_called() {
     examples::doubt_stays();
     examples::stop_is_not_legal();
     examples::last_block_is_bound();
+    examples::unit_is_the_cards();
 }

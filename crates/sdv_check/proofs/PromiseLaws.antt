@@ -7,6 +7,7 @@ use Rattle.sdv_script.specs.Path.{Path}
 use Rattle.sdv_facts.specs.declared.certificate.PointFacts.{PointFacts}
 use Rattle.sdv_facts.specs.Beside.{RunsWell}
 use Rattle.sdv_facts.proofs.Headline.{each_step, each_path}
+use Rattle.sdv_facts.proofs.RunLaws.{runs_end}
 use Rattle.sdv_facts.proofs.StepLaws.{Laws}
 use Rattle.sdv_check.specs.declared.fault.CheckFault.{CheckFault}
 use Rattle.sdv_check.specs.Checked.{Checked}
@@ -16,5 +17,6 @@ pub promised : (g : Flow) (ps : List PointFacts) → Laws g.kind → IsSound g �
 promised g ps laws sound (Ok b) checked = record {
   steps = each_step g ps laws sound checked.0;
   runs = subst (λ n. RunsWell g.kind (λ e es. Path g.kind g.places e (begin g) es) n) (sym checked.1) (each_path g ps laws sound checked.0);
+  ends = runs_end g sound.ends;
 }
 promised g ps laws sound (Err fault) checked = tt

@@ -3,7 +3,7 @@ use Rattle.std.specs.Prelude.{ℕ, List}
 use Rattle.sdv_script.specs.Graph.{Flow, begin}
 use Rattle.sdv_script.specs.Path.{Path}
 use Rattle.sdv_facts.specs.declared.certificate.PointFacts.{PointFacts}
-use Rattle.sdv_facts.specs.Beside.{RunsWell}
+use Rattle.sdv_facts.specs.Beside.{RunsEnd, RunsWell}
 use Rattle.sdv_facts.specs.Stands.{StepsWell}
 
 pub record Promised (g : Flow) (ps : List PointFacts) (most : ℕ) : Type 0 where
@@ -12,3 +12,5 @@ pub record Promised (g : Flow) (ps : List PointFacts) (most : ℕ) : Type 0 wher
   pub steps : StepsWell g ps
   -- so every run over the graph, beside any card of the kind, is as it should be
   pub runs : RunsWell g.kind (λ e es. Path g.kind g.places e (begin g) es) most
+  -- and ends
+  pub ends : RunsEnd (λ e es. Path g.kind g.places e (begin g) es) g.steps

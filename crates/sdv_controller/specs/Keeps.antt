@@ -15,11 +15,11 @@ use Rattle.sdv_card.specs.declared.answer.Answer.{Answer}
 use Rattle.sdv_card.specs.declared.answer.Answer.TheVariants as answers
 use Rattle.sdv_card.specs.declared.event.Ask.{Ask}
 use Rattle.sdv_card.specs.Card.{Card}
-use Rattle.sdv_card.specs.Port.{Shows, Kept, KeepsTables, call_of}
+use Rattle.sdv_card.specs.Port.{Shows, Kept, KeepsTables, command_of, call_of}
 use Rattle.sdv_card.specs.ScriptEvent.{ScriptEvent, SendCommand, ReceiveBlocks, ReceiveRegister, GiveBlocks, AwaitReady, Return, Answered, BlocksIn, RegisterIn, BlocksOut, Waited}
 use Rattle.sdv_controller.specs.declared.wire.WireEnd.{WireEnd}
 use Rattle.sdv_controller.specs.declared.wire.WireEnd.TheVariants as ends
-use Rattle.sdv_controller.specs.Wire.{WireCall, WireReturn, WireKeepsTables, KeepsAt, ShowsAnswer, Carries, command_of}
+use Rattle.sdv_controller.specs.Wire.{WireCall, WireReturn, WireKeepsTables, KeepsAt, ShowsAnswer, Carries}
 use Rattle.sdv_controller.specs.Controlled.{ControllerSteps, Exchanged}
 use Rattle.sdv_controller.specs.Answers.{AnswerIs, DecodesAs}
 
@@ -53,19 +53,19 @@ one_answer expects.R7 ends.Silent response told shown a s = s ∙ sym a
 one_answer expects.R7 (ends.Bytes count) response told shown a s = carried expects.R7 count response told shown a s
 
 -- an exchange that keeps the tables
-exchange_keeps : {S : Type 0} (steps : S → WireCall → WireReturn → S → Type 0) (card : S → Option Card) (s s' : S) (k : Kind) (ask : Ask) (argument : ℕ) (c : Card) (answer : Answer) →
-    KeepsAt steps card s s' k (SendCommand ask argument) c → Exchanged steps (command_of ask argument) (expect_of k ask) s answer s' → Kept card (SendCommand ask argument) c (Answered answer) s'
-exchange_keeps steps card s s' k ask argument c answer keeps x =
+exchange_keeps : {S : Type 0} (steps : S → WireCall → WireReturn → S → Type 0) (card : S → Option Card) (s s' : S) (k : Kind) (ask : Ask) (position argument : ℕ) (c : Card) (answer : Answer) →
+    KeepsAt steps card s s' k (SendCommand ask position argument) c → Exchanged steps (command_of ask argument) (expect_of k ask) s answer s' → Kept card (SendCommand ask position argument) c (Answered answer) s'
+exchange_keeps steps card s s' k ask position argument c answer keeps x =
     let heard = keeps x.frame x.response x.end x.is_command x.framed x.step in
-    subst (λ a. Kept card (SendCommand ask argument) c (Answered a) s') (one_answer (expect_of k ask) x.end x.response answer heard.answer x.answer_is heard.shown) heard.kept
+    subst (λ a. Kept card (SendCommand ask position argument) c (Answered a) s') (one_answer (expect_of k ask) x.end x.response answer heard.answer x.answer_is heard.shown) heard.kept
 
 by_event : {S : Type 0} (steps : S → WireCall → WireReturn → S → Type 0) (card : S → Option Card) (s s' : S) (k : Kind) (event : ScriptEvent) (c : Card) (returned : Return) →
     KeepsAt steps card s s' k event c → ControllerSteps steps s (call_of k event) returned s' → Kept card event c returned s'
-by_event steps card s s' k (SendCommand ask argument) c (Answered answer) keeps x = exchange_keeps steps card s s' k ask argument c answer keeps x
-by_event steps card s s' k (SendCommand ask argument) c (BlocksIn end blocks) keeps x = absurd x
-by_event steps card s s' k (SendCommand ask argument) c (RegisterIn end bytes) keeps x = absurd x
-by_event steps card s s' k (SendCommand ask argument) c (BlocksOut end) keeps x = absurd x
-by_event steps card s s' k (SendCommand ask argument) c (Waited end) keeps x = absurd x
+by_event steps card s s' k (SendCommand ask position argument) c (Answered answer) keeps x = exchange_keeps steps card s s' k ask position argument c answer keeps x
+by_event steps card s s' k (SendCommand ask position argument) c (BlocksIn end blocks) keeps x = absurd x
+by_event steps card s s' k (SendCommand ask position argument) c (RegisterIn end bytes) keeps x = absurd x
+by_event steps card s s' k (SendCommand ask position argument) c (BlocksOut end) keeps x = absurd x
+by_event steps card s s' k (SendCommand ask position argument) c (Waited end) keeps x = absurd x
 by_event steps card s s' k (ReceiveBlocks count) c returned keeps x = keeps returned x
 by_event steps card s s' k (ReceiveRegister count) c returned keeps x = keeps returned x
 by_event steps card s s' k (GiveBlocks blocks) c returned keeps x = keeps returned x
@@ -73,13 +73,13 @@ by_event steps card s s' k AwaitReady c returned keeps x = keeps returned x
 
 -- a wire's card is shown by what holds the wire
 behind : {C S : Type 0} (wire : C → S) (card : S → Option Card) (s : C) (c : Card) → Shows (λ x. card (wire x)) s c → Shows card (wire s) c
-behind wire card s c shown = record { shown = shown.shown; shows = shown.shows; same = shown.same }
+behind wire card s c shown = record { shown = shown.shown; shows = shown.shows; same = shown.same; count = shown.count }
 
 before : {C S : Type 0} (wire : C → S) (card : S → Option Card) (s' : C) (event : ScriptEvent) (c : Card) (returned : Return) → Kept card event c returned (wire s') → Kept (λ x. card (wire x)) event c returned s'
 before wire card s' event c returned kept = record {
   after = kept.after;
   step = kept.step;
-  shown = record { shown = kept.shown.shown; shows = kept.shown.shows; same = kept.shown.same };
+  shown = record { shown = kept.shown.shown; shows = kept.shown.shows; same = kept.shown.same; count = kept.shown.count };
 }
 
 -- what holds a wire that keeps the tables keeps them

@@ -4,7 +4,6 @@ use Rattle.sdv_registers.specs.declared.kind.Kind.{Kind}
 use Rattle.sdv_frames.specs.declared.reply.Expect.{Expect}
 use Rattle.sdv_frames.specs.declared.reply.Expect.TheVariants.{Nothing}
 use Rattle.sdv_frames.specs.declared.reply.Reply.{Reply}
-use Rattle.sdv_frames.specs.declared.command.Command.{Command}
 use Rattle.sdv_frames.specs.Frame.{IsCommand, IsCommandFrame, IsReply, IsReplyFrame, Answers}
 use Rattle.sdv_card.specs.declared.answer.Answer.{Answer}
 use Rattle.sdv_card.specs.declared.answer.Answer.TheVariants as answers
@@ -12,7 +11,7 @@ use Rattle.sdv_card.specs.declared.event.Ask.{Ask}
 use Rattle.sdv_card.specs.Card.{Card}
 use Rattle.sdv_card.specs.Host.{Host}
 use Rattle.sdv_card.specs.CommandTable.{expect_of}
-use Rattle.sdv_card.specs.Port.{Call, Shows, IsFine, Kept, call_of}
+use Rattle.sdv_card.specs.Port.{Call, Shows, IsFine, Kept, command_of, call_of}
 use Rattle.sdv_card.specs.ScriptEvent.{ScriptEvent, SendCommand, Return, Answered}
 use Rattle.sdv_controller.specs.declared.wire.WireEnd.{WireEnd}
 use Rattle.sdv_controller.specs.declared.wire.WireEnd.TheVariants.{Silent, Bytes}
@@ -44,20 +43,16 @@ ShowsAnswer expect Silent response answer = answer ≡ answers.TimeOut
 ShowsAnswer expect (Bytes count) response answer = (reply : Reply) × (answer ≡ answers.Reply reply) × Carries expect count response reply
 
 -- what was transferred is an answer of the card, and the wire shows the card after it
-pub record Heard {S : Type 0} (card : S → Option Card) (k : Kind) (ask : Ask) (argument : ℕ) (c : Card) (end : WireEnd) (response : List ℕ) (s' : S) : Type 0 where
+pub record Heard {S : Type 0} (card : S → Option Card) (k : Kind) (ask : Ask) (position argument : ℕ) (c : Card) (end : WireEnd) (response : List ℕ) (s' : S) : Type 0 where
   pub answer : Answer
-  pub kept : Kept card (SendCommand ask argument) c (Answered answer) s'
+  pub kept : Kept card (SendCommand ask position argument) c (Answered answer) s'
   pub shown : ShowsAnswer (expect_of k ask) end response answer
-
--- the command of an ask
-abbrev pub command_of : Ask → ℕ → Command
-command_of ask argument = record { index = ask.index; argument = argument }
 
 -- what a wire keeps at an event, by its kind
 abbrev pub KeepsAt : {S : Type 0} → (S → WireCall → WireReturn → S → Type 0) → (S → Option Card) → S → S → Kind → ScriptEvent → Card → Type 0
-KeepsAt steps card s s' k (SendCommand ask argument) c =
+KeepsAt steps card s s' k (SendCommand ask position argument) c =
     (frame response : List ℕ) (end : WireEnd) → IsCommand (command_of ask argument) → IsCommandFrame (command_of ask argument) frame →
-    steps s (Transfer frame) (Transferred end response) s' → Heard card k ask argument c end response s'
+    steps s (Transfer frame) (Transferred end response) s' → Heard card k ask position argument c end response s'
 KeepsAt steps card s s' k event c = (returned : Return) → steps s (OtherCall (call_of k event)) (OtherReturn returned) s' → Kept card event c returned s'
 
 -- Where a wire shows a card, each legal event in bounds is a step of that card. Of other events nothing is known.

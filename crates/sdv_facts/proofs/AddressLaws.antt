@@ -63,7 +63,6 @@ pub on_card : (known : Known) (a : Address) (n : ℕ) → address_fits known a n
 on_card known a n e k c h pair holds =
     let each = both (unit_fits known.shapes a.unit) (position_fits known.numbers a.position n) e in
     record {
-      position = position_of h a.position;
       unit = ap (λ b. if b then position_of h a.position else 512 * position_of h a.position) (unit_is k c h known.shapes a.unit pair holds.shape each.0);
       room = room known.numbers c h a.position n holds.numbers each.1;
     }

@@ -96,8 +96,8 @@ by_capacity Sd false argument position n capacity some is room most = omega arit
 by_capacity Emmc true argument position n capacity some is room most = omega arith
 by_capacity Emmc false argument position n capacity some is room most = omega arith
 
-at_address : (c : Card) (argument n : ℕ) → IsOfProfile c → 0 < n → Within c argument n → argument < 2 ^ 32
-at_address c argument n of some w = by_capacity c.kind c.block_unit argument w.position n c.capacity some w.unit w.room of.most
+at_address : (c : Card) (position argument n : ℕ) → IsOfProfile c → 0 < n → Within c position argument n → argument < 2 ^ 32
+at_address c position argument n of some w = by_capacity c.kind c.block_unit argument position n c.capacity some w.unit w.room of.most
 
 times : (rca : ℕ) → rca < 65536 → 65536 * rca < 2 ^ 32
 times rca small = omega arith
@@ -106,9 +106,9 @@ below : (n : ℕ) → n < 65536 → n < 2 ^ 32
 below n small = omega arith
 
 -- ORDER BY ORDER
-module _ (k : Kind) (ask : Ask) (argument : ℕ) (c : Card) (h : Host) (laws : AsksAddress k) (fine : IsFine k (SendCommand ask argument) c h) (of : IsOfProfile c) (order : Order) (asked : order_of k ask ≡ Some order) where
+module _ (k : Kind) (ask : Ask) (position argument : ℕ) (c : Card) (h : Host) (laws : AsksAddress k) (fine : IsFine k (SendCommand ask position argument) c h) (of : IsOfProfile c) (order : Order) (asked : order_of k ask ≡ Some order) where
   blocks : (n : ℕ) → order_blocks order ≡ Some n → 0 < n → argument < 2 ^ 32
-  blocks n is some = at_address c argument n of some (subst (λ o. BlocksWithin o c argument) (sym (laws ask order asked) ∙ is) fine.bounds)
+  blocks n is some = at_address c position argument n of some (subst (λ o. BlocksWithin o c position argument) (sym (laws ask order asked) ∙ is) fine.bounds)
 
   small_order : (o : Order) → order ≡ o → order_argument o ask.argument h.rca fine.made.address < 2 ^ 32 ⊎ (argument < 2 ^ 32)
   small_order GoIdleState e = inl (omega arith)
@@ -143,7 +143,7 @@ module _ (k : Kind) (ask : Ask) (argument : ℕ) (c : Card) (h : Host) (laws : A
   settles (inl small) = subst (λ n. n < 2 ^ 32) (sym (fine.made.same ∙ ap (λ o. argument_or_none o ask.argument h.rca fine.made.address) asked)) small
   settles (inr small) = small
 
-pub narrow : (k : Kind) (ask : Ask) (argument : ℕ) (c : Card) (h : Host) → AsksAddress k → IsFine k (SendCommand ask argument) c h → IsOfProfile c → argument < 2 ^ 32
-narrow k ask argument c h laws fine of =
+pub narrow : (k : Kind) (ask : Ask) (position argument : ℕ) (c : Card) (h : Host) → AsksAddress k → IsFine k (SendCommand ask position argument) c h → IsOfProfile c → argument < 2 ^ 32
+narrow k ask position argument c h laws fine of =
     let asked : order_of k ask ≡ Some fine.legal.order = subst (λ v. order_of v ask ≡ Some fine.legal.order) (sym fine.pair.kind) fine.legal.asks.line in
-    settles k ask argument c h laws fine of fine.legal.order asked (small_order k ask argument c h laws fine of fine.legal.order asked fine.legal.order refl)
+    settles k ask position argument c h laws fine of fine.legal.order asked (small_order k ask position argument c h laws fine of fine.legal.order asked fine.legal.order refl)

@@ -10,11 +10,15 @@ use Rattle.sdv_facts.specs.declared.certificate.PointFacts.{PointFacts}
 use Rattle.std.specs.Prelude.{◌≡◌, List}
 use Rattle.sdv_facts.specs.Beside.{RunsWell}
 use Rattle.sdv_facts.specs.Bounds.{bound_of}
-use Rattle.sdv_facts.specs.Closed.{Closed}
-use Rattle.sdv_facts.specs.Stands.{EachIsMade, StepsWell}
+use Rattle.sdv_facts.specs.Closed.{PointsMatch, Closed}
+use Rattle.sdv_facts.specs.Stands.{EachIsMade, PointsStepWell, StepsWell}
 use Rattle.sdv_facts.proofs.RunLaws.{runs_well, each_is_made, text_runs_well}
-use Rattle.sdv_facts.proofs.StepLaws.{Laws, steps_well}
+use Rattle.sdv_facts.proofs.StepLaws.{Laws, laws_of, points_step_well, steps_well}
 use Rattle.sdv_facts.proofs.SuitLaws.{each_node_suits}
+
+-- from wherever the facts of a point hold, and its clauses, its event is legal and in bounds, and the facts hold after it
+pub each_point : (g : Flow) (ps : List PointFacts) → IsSound g → PointsMatch g ps → PointsStepWell g ps
+each_point g ps sound points = points_step_well g ps (laws_of g.kind) sound.nested (each_node_suits g sound) points
 
 module _ (g : Flow) (ps : List PointFacts) (laws : Laws g.kind) (sound : IsSound g) (closed : Closed g ps) where
   -- from wherever the facts hold, each event is legal and in bounds, and the facts hold after it

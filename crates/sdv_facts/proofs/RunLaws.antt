@@ -16,13 +16,14 @@ use Rattle.sdv_card.specs.Step.{Step}
 use Rattle.sdv_graph.specs.Graph.{Flow, begin, WhereverTo, Lasts, EachRunEnds, HasWalks}
 use Rattle.sdv_graph.specs.Nested.{Nested}
 use Rattle.sdv_graph.specs.declared.graph.Target.{Target}
-use Rattle.sdv_graph.specs.AddressSent.{address_of_command}
+use Rattle.sdv_graph.specs.AddressSent.{position_of_command}
 use Rattle.sdv_graph.specs.ValueOfLet.{value_of_let, with_number}
 use Rattle.sdv_graph.specs.Path.{Node, sends, phases, lets, tests, flags, heads, jumps, stops, Stand, arrive, turns_at, way_of, Move, Goes, Does, Halts, move_with, move_at_head, node_move, move, move_from, Follows, PathWithin, Path}
 use Rattle.sdv_graph.specs.Tree.{Statements, Declared}
 use Rattle.sdv_graph.specs.Walk.{Pair, Ending, Fell, Broke, Finished, Failed, Open, Stops, Deed, exactly, giving, IsDeed, command_deed, Walk}
+use Rattle.sdv_graph.proofs.FewEvents.{few_events}
 use Rattle.sdv_facts.specs.declared.certificate.PointFacts.{PointFacts}
-use Rattle.sdv_facts.specs.Beside.{StepsOf, commands_in, commands, Walks, IsOver, EndsWell, IsGood, RunsWell}
+use Rattle.sdv_facts.specs.Beside.{StepsOf, commands_in, commands, Walks, IsOver, EndsWell, IsGood, RunsEnd, RunsWell}
 use Rattle.sdv_facts.specs.Bounds.{bound, bound_at, bound_of}
 use Rattle.sdv_facts.specs.Closed.{StartsAt, Closed}
 use Rattle.sdv_facts.specs.Keeps.{IsHonest}
@@ -85,11 +86,11 @@ is_over Broke P w = absurd w
 is_over Open P w = absurd w
 
 may_return : (k : Kind) (event : ScriptEvent) (returned : Return) → Expected k event returned → MayReturn event returned
-may_return k (SendCommand ask argument) (Answered answer) e = tt
-may_return k (SendCommand ask argument) (BlocksIn end blocks) e = absurd e
-may_return k (SendCommand ask argument) (RegisterIn end bytes) e = absurd e
-may_return k (SendCommand ask argument) (BlocksOut end) e = absurd e
-may_return k (SendCommand ask argument) (Waited end) e = absurd e
+may_return k (SendCommand ask position argument) (Answered answer) e = tt
+may_return k (SendCommand ask position argument) (BlocksIn end blocks) e = absurd e
+may_return k (SendCommand ask position argument) (RegisterIn end bytes) e = absurd e
+may_return k (SendCommand ask position argument) (BlocksOut end) e = absurd e
+may_return k (SendCommand ask position argument) (Waited end) e = absurd e
 may_return k (ReceiveBlocks count) returned e = e
 may_return k (ReceiveRegister count) returned e = e
 may_return k (GiveBlocks blocks) returned e = e
@@ -141,7 +142,7 @@ module _ (g : Flow) (ps : List PointFacts) (laws : Laws g.kind) (well : StepsWel
   honest_head (suc t ∷ ts) body other h c = tt
 
   honest_node : (node : Node) (ts : List ℕ) (h : Host) (c : Card) → IsHonest g.kind c h → HonestMove (node_move g.kind node ts h) c
-  honest_node (sends command ways other) ts h c hon = honest_with (address_of_command h command.address) (λ address. Does (command_deed g.kind command h address) h (λ returned h'. arrive (way_of g.kind ways other returned) ts h')) c (λ n. hon)
+  honest_node (sends command ways other) ts h c hon = honest_with (position_of_command h command.address) (λ position. Does (command_deed g.kind command h position) h (λ returned h'. arrive (way_of g.kind ways other returned) ts h')) c (λ n. hon)
   honest_node (phases p well other) ts h c hon = hon
   honest_node (lets l t) ts h c hon = honest_with (value_of_let g.kind h l) (λ n. Goes (arrive t ts (with_number h l.target n))) c (λ n. tt)
   honest_node (tests x met unmet) ts h c hon = tt
@@ -362,6 +363,14 @@ pub each_is_made : (g : Flow) (ps : List PointFacts) → Laws g.kind → EachRun
 each_is_made g ps laws ends nested suits closed c kind start e es path =
     let b = begins g ps laws nested closed c kind start in
     (each_run g ps laws (steps_well g ps laws nested suits closed) path.0 g.steps e (begin g) es c b.stands path.1 ends).made
+
+-- every path is over within the moves of the graph
+pub runs_end : (g : Flow) → EachRunEnds g → RunsEnd (λ e es. Path g.kind g.places e (begin g) es) g.steps
+runs_end g ends e es path = few_events g.kind g.places e path.0 g.steps (begin g) es path.1 ends
+
+-- and every walk of the script, where they are the paths
+pub walks_end : (g : Flow) (names : Declared) (script : Statements) → EachRunEnds g → HasWalks names script g → RunsEnd (Walk g.kind names script) g.steps
+walks_end g names script ends walks e es walk = runs_end g ends e es ((walks e es).0 walk)
 
 -- the same of other lists, where they are the paths
 pub same_runs : (k : Kind) (v w : Walks) (most : ℕ) → ((e : Ending) (es : List Pair) → v e es ↔ w e es) → RunsWell k w most → RunsWell k v most

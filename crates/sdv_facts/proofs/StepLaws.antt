@@ -47,7 +47,7 @@ use Rattle.sdv_graph.specs.declared.tree.Condition.TheVariants as conditions
 use Rattle.sdv_graph.specs.declared.tree.Let.{Let}
 use Rattle.sdv_graph.specs.declared.tree.Phase.{Phase}
 use Rattle.sdv_graph.specs.declared.tree.Phase.TheVariants as kinds
-use Rattle.sdv_graph.specs.AddressSent.{address_of_command, address_sent, position_of, is_flag_set}
+use Rattle.sdv_graph.specs.AddressSent.{position_of_command, address_of_command, address_sent, position_of, is_flag_set}
 use Rattle.sdv_graph.specs.Conditions.{condition_holds, with_flag}
 use Rattle.sdv_graph.specs.Graph.{Flow}
 use Rattle.sdv_graph.specs.Nested.{Pass, Same, Again, Over, InBox, Turned, Nested}
@@ -68,7 +68,7 @@ use Rattle.sdv_facts.specs.Closed.{PointsMatch, PointClosed, Closed, AddressKnow
 use Rattle.sdv_facts.specs.Edges.{with_flag_shown, EachOutcome, EachTest, EachCondition, EachEdge, event_of_phase, well_or}
 use Rattle.sdv_facts.specs.FactsHold.{VarHolds, NumbersHold, FactsHold, Carries}
 use Rattle.sdv_facts.specs.Keeps.{MayStandIn, IsHonest}
-use Rattle.sdv_facts.specs.Stands.{GuardsSuit, ForksSuit, NodeSuits, EachNodeSuits, Arrived, HaltsWell, MovesWell, StepsWell}
+use Rattle.sdv_facts.specs.Stands.{GuardsSuit, ForksSuit, NodeSuits, EachNodeSuits, Arrived, HaltsWell, MovesWell, PointsStepWell, StepsWell}
 use Rattle.sdv_facts.proofs.AddressLaws.{on_card}
 use Rattle.sdv_facts.proofs.EdgeLaws.{Reaches, edges}
 use Rattle.sdv_facts.proofs.FlagLaws.{pair_with_flag, flags_kept}
@@ -120,11 +120,11 @@ order_numbers None answer h = refl
 order_numbers (Some order) answer h = refl
 
 pub numbers_same : (k : Kind) (event : ScriptEvent) (returned : Return) (h : Host) → (host_after k event returned h).numbers ≡ h.numbers
-numbers_same k (SendCommand ask argument) (Answered answer) h = order_numbers (order_of k ask) answer h
-numbers_same k (SendCommand ask argument) (BlocksIn end blocks) h = refl
-numbers_same k (SendCommand ask argument) (RegisterIn end bytes) h = refl
-numbers_same k (SendCommand ask argument) (BlocksOut end) h = refl
-numbers_same k (SendCommand ask argument) (Waited end) h = refl
+numbers_same k (SendCommand ask position argument) (Answered answer) h = order_numbers (order_of k ask) answer h
+numbers_same k (SendCommand ask position argument) (BlocksIn end blocks) h = refl
+numbers_same k (SendCommand ask position argument) (RegisterIn end bytes) h = refl
+numbers_same k (SendCommand ask position argument) (BlocksOut end) h = refl
+numbers_same k (SendCommand ask position argument) (Waited end) h = refl
 numbers_same k (ReceiveRegister count) (RegisterIn end bytes) h = refl
 numbers_same k (ReceiveRegister count) (Answered answer) h = refl
 numbers_same k (ReceiveRegister count) (BlocksIn end blocks) h = refl
@@ -177,9 +177,9 @@ argument_is EraseGroupStart n argument rca address e = refl
 argument_is EraseGroupEnd n argument rca address e = refl
 argument_is order n argument rca address e = absurd (cc)
 
-sent_at : (b : Bool) (h : Host) (a : Address) (address : ℕ) → (if b then Some (address_sent h a) else None) ≡ Some address → address_sent h a ≡ address
-sent_at true h a address e = cc
-sent_at false h a address e = absurd (cc)
+position_at : (b : Bool) (position given : ℕ) → (if b then Some position else None) ≡ Some given → position ≡ given
+position_at true position given e = cc
+position_at false position given e = absurd (cc)
 
 -- PHASES
 
@@ -293,40 +293,43 @@ module _ (g : Flow) (ps : List PointFacts) (laws : Laws g.kind) (points : Points
 
   -- COMMANDS
 
-  forks_hold : (e : ScriptEvent) (c : Card) (h : Host) (returned : Return) (u : Card) (ask : Ask) (argument : ℕ) (ways : List Fork) → e ≡ SendCommand ask argument → IsPair g.kind c h → Step e c returned u → ForksSuit g.kind ask ways → ForksHold g.kind returned ways
-  forks_hold e c h returned u ask argument [] is pair step suit = tt
-  forks_hold e c h returned u ask argument (w ∷ ws) is pair step suit = (guards w.guards suit.0, forks_hold e c h returned u ask argument ws is pair step suit.1)
+  forks_hold : (e : ScriptEvent) (c : Card) (h : Host) (returned : Return) (u : Card) (ask : Ask) (position argument : ℕ) (ways : List Fork) → e ≡ SendCommand ask position argument → IsPair g.kind c h → Step e c returned u → ForksSuit g.kind ask ways → ForksHold g.kind returned ways
+  forks_hold e c h returned u ask position argument [] is pair step suit = tt
+  forks_hold e c h returned u ask position argument (w ∷ ws) is pair step suit = (guards w.guards suit.0, forks_hold e c h returned u ask position argument ws is pair step suit.1)
     where
       guards : (gs : List Guard) → GuardsSuit g.kind ask gs → AllHold g.kind returned gs
       guards [] s = tt
       guards (x ∷ xs) s = (laws.verdicts_hold x e c h returned u pair (subst (λ e. FitsEvent g.kind x e) (sym is) s.0) step, guards xs s.1)
 
   -- a legal command has a line in the command table
-  command_in_bounds : (p : PointFacts) (command : Command) (c : Card) (h : Host) (address argument : ℕ) → FactsHold p.facts c h → IsPair g.kind c h → argument ≡ argument_of g.kind command.ask h.rca address →
-      (o : Option ℕ) → addressed_blocks command.ask ≡ o → (a : Option Address) → command.address ≡ a → address_of_command h a ≡ Some address → IfSome o (λ blocks. AddressKnown p.facts a blocks) →
-      EventLegal (SendCommand command.ask argument) c → BlocksWithin o c argument
-  command_in_bounds p command c h address argument holds pair made None is a at sent known legal = tt
-  command_in_bounds p command c h address argument holds pair made (Some n) is None at sent known legal = absurd known
-  command_in_bounds p command c h address argument holds pair made (Some n) is (Some a) at sent known legal =
+  command_in_bounds : (p : PointFacts) (command : Command) (c : Card) (h : Host) (position argument : ℕ) (a : Option Address) → FactsHold p.facts c h → IsPair g.kind c h →
+      argument ≡ argument_of g.kind command.ask h.rca (address_of_command h a position) →
+      (o : Option ℕ) → addressed_blocks command.ask ≡ o → position_of_command h a ≡ Some position → IfSome o (λ blocks. AddressKnown p.facts a blocks) →
+      EventLegal (SendCommand command.ask position argument) c → BlocksWithin o c position argument
+  command_in_bounds p command c h position argument a holds pair made None is at known legal = tt
+  command_in_bounds p command c h position argument None holds pair made (Some n) is at known legal = absurd known
+  command_in_bounds p command c h position argument (Some a) holds pair made (Some n) is at known legal =
       let line : order_of g.kind command.ask ≡ Some legal.order = subst (λ k. order_of k command.ask ≡ Some legal.order) (sym pair.kind) legal.asks.line in
       let blocks : order_blocks legal.order ≡ Some n = laws.asks_address command.ask legal.order line ∙ is in
+      let address = address_sent h a.unit position in
       let same : argument ≡ address = made ∙ ap (λ o. argument_or_none o command.ask.argument h.rca address) line ∙ argument_is legal.order n command.ask.argument h.rca address blocks in
-      let address_same : address_sent h a ≡ address = sent_at (nat_le (position_of h a.position) max_number) h a address sent in
-      subst (λ v. Within c v n) (address_same ∙ sym same) (on_card p.facts a n known g.kind c h pair holds)
+      let here : position_of h a.position ≡ position = position_at (nat_le (position_of h a.position) max_number) (position_of h a.position) position at in
+      subst (λ v. Within c position v n) (sym same) (subst (λ v. Within c v (address_sent h a.unit v) n) here (on_card p.facts a n known g.kind c h pair holds))
 
   sends_well : (place : Place) (p : PointFacts) (ts : List ℕ) (command : Command) (ways : List Fork) (other : Target) (c : Card) (h : Host) → Here place p ts c h → commands_of place.node ≡ 1 → ForksSuit g.kind command.ask ways →
       legal_code g.kind (pair_code c h) (Send command.ask) ≡ true → IfSome (addressed_blocks command.ask) (λ blocks. AddressKnown p.facts command.address blocks) →
       EachOutcome g.kind (Send command.ask) ways other p.facts.numbers (shape c h) (Reaches g.places ps place p) →
-      (o : Option ℕ) → address_of_command h command.address ≡ o →
-      MovesWell g ps (bound p ts) (move_with o (λ address. Does (command_deed g.kind command h address) h (λ returned h'. arrive (way_of g.kind ways other returned) ts h'))) c
+      (o : Option ℕ) → position_of_command h command.address ≡ o →
+      MovesWell g ps (bound p ts) (move_with o (λ position. Does (command_deed g.kind command h position) h (λ returned h'. arrive (way_of g.kind ways other returned) ts h'))) c
   sends_well place p ts command ways other c h at cost suit legal known edge None is = tt
-  sends_well place p ts command ways other c h at cost suit legal known edge (Some address) is =
+  sends_well place p ts command ways other c h at cost suit legal known edge (Some position) is =
+      let address = address_of_command h command.address position in
       let argument = argument_of g.kind command.ask h.rca address in
-      let e = SendCommand command.ask argument in
+      let e = SendCommand command.ask position argument in
       λ event deed. subst (λ e. Goes-well p ts ways other e c h) (sym deed)
       (does place p ts e ways other c h at cost (record { address = address; same = refl }) legal
-      (command_in_bounds p command c h address argument at.holds at.honest.pair refl (addressed_blocks command.ask) refl command.address refl is known)
-      (λ returned u step. forks_hold e c h returned u command.ask argument ways refl at.honest.pair step suit) edge)
+      (command_in_bounds p command c h position argument command.address at.holds at.honest.pair refl (addressed_blocks command.ask) refl is known)
+      (λ returned u step. forks_hold e c h returned u command.ask position argument ways refl at.honest.pair step suit) edge)
 
   -- PHASES
 
@@ -423,7 +426,7 @@ module _ (g : Flow) (ps : List PointFacts) (laws : Laws g.kind) (points : Points
   node_well : (node : Node) (most : List ℕ) (p : PointFacts) (ts : List ℕ) (c : Card) (h : Host) → PointClosed g.kind ps (record { node = node; most = most }) p → NodeSuits g.kind node → Here (record { node = node; most = most }) p ts c h →
       EachEdge g.kind p.facts node (shape c h) (Reaches g.places ps (record { node = node; most = most }) p) → MovesWell g ps (bound p ts) (node_move g.kind node ts h) c
   node_well (sends command ways other) most p ts c h closed suit at edge =
-      sends_well (record { node = sends command ways other; most = most }) p ts command ways other c h at refl suit (closed.legal (shape c h) at.holds.shape) (closed.address (shape c h) at.holds.shape) edge (address_of_command h command.address) refl
+      sends_well (record { node = sends command ways other; most = most }) p ts command ways other c h at refl suit (closed.legal (shape c h) at.holds.shape) (closed.address (shape c h) at.holds.shape) edge (position_of_command h command.address) refl
   node_well (phases phase well other) most p ts c h closed suit at edge =
       phases_well phase (record { node = phases phase well other; most = most }) p ts well other c h at refl (closed.legal (shape c h) at.holds.shape) edge
   node_well (lets l t) most p ts c h closed suit at edge = lets_well (record { node = lets l t; most = most }) p ts l t c h at refl suit edge (value_of_let g.kind h l) refl
@@ -444,12 +447,16 @@ module _ (g : Flow) (ps : List PointFacts) (laws : Laws g.kind) (points : Points
   node_well (jumps t) most p ts c h closed suit at edge = plainly (record { node = jumps t; most = most }) p ts ts Same t c h at refl refl edge
   node_well (stops last) most p ts c h closed suit at edge = halts_well last (record { node = stops last; most = most }) p c h refl closed at.holds at.honest.pair
 
--- THE STEP: each move from where the facts of a closed certificate hold is as it should be
-pub steps_well : (g : Flow) (ps : List PointFacts) → Laws g.kind → Nested g → EachNodeSuits g → Closed g ps → StepsWell g ps
-steps_well g ps laws nested suits closed s c at =
-    let pc : PointClosed g.kind ps at.place at.facts = closed.each s.point at.place at.facts at.here at.known in
-    let variables = (closed.points.each s.point at.place at.facts at.here at.known).variables in
+-- THE STEP: each move from where the facts of a point hold is as it should be, if the point's clauses hold
+pub points_step_well : (g : Flow) (ps : List PointFacts) → Laws g.kind → Nested g → EachNodeSuits g → PointsMatch g ps → PointsStepWell g ps
+points_step_well g ps laws nested suits points s c at pc =
+    let variables = (points.each s.point at.place at.facts at.here at.known).variables in
     subst (λ o. MovesWell g ps (bound at.facts s.turns) (move g.kind o s.turns s.host) c) (sym at.here)
-    (node_well g ps laws closed.points at.place.node at.place.most at.facts s.turns c s.host pc (suits s.point at.place at.here)
+    (node_well g ps laws points at.place.node at.place.most at.facts s.turns c s.host pc (suits s.point at.place at.here)
     (record { box = at.box; holds = at.holds; honest = at.honest; on_card = at.on_card; variables = variables })
     (edges g.kind g.places ps at.place at.facts (record { 0 = pair_code c s.host }) pc (nested.lands s.point at.place at.here) at.holds.shape))
+
+-- so they do where the certificate is closed
+pub steps_well : (g : Flow) (ps : List PointFacts) → Laws g.kind → Nested g → EachNodeSuits g → Closed g ps → StepsWell g ps
+steps_well g ps laws nested suits closed s c at =
+    points_step_well g ps laws nested suits closed.points s c at (closed.each s.point at.place at.facts at.here at.known)

@@ -1,8 +1,9 @@
 -- The points of a script's graph keep the rules of scripts.
-use Rattle.std.proofs.Common.{◌≡◌, ℕ, zero, suc, sym, subst, List, [], ◌∷◌, true, Option, Some, None}
-use Rattle.std.specs.Prelude.{slice_get, IsTrue}
+use Rattle.std.proofs.Common.{◌≡◌, ℕ, zero, suc, subst, List, [], ◌∷◌, true, Option, Some, None}
+use Rattle.std.specs.Prelude.{slice_get}
 use Rattle.std.proofs.lemmas.Bool.{ltb-true}
-use Rattle.sdv_registers.specs.declared.kind.Kind.TheVariants.{Sd}
+use Rattle.sdv_registers.specs.declared.kind.Kind.{Kind}
+use Rattle.sdv_registers.specs.declared.kind.Kind.TheVariants.{Sd, Emmc}
 use Rattle.sdv_card.specs.declared.command.Order.{Order}
 use Rattle.sdv_card.specs.declared.event.Ask.{Ask}
 use Rattle.sdv_card.specs.declared.guard.Guard.{Guard}
@@ -10,7 +11,6 @@ use Rattle.sdv_card.specs.CommandTable.{order_of}
 use Rattle.sdv_card.specs.Laws.{fits_order}
 use Rattle.sdv_graph.specs.declared.tree.Atom.{Atom}
 use Rattle.sdv_graph.specs.declared.tree.Atom.TheVariants as atoms
-use Rattle.sdv_graph.specs.GuardSuits.{guard_suits}
 use Rattle.sdv_graph.specs.GuardSuits as commands
 use Rattle.sdv_graph.specs.Graph.{Flow}
 use Rattle.sdv_graph.specs.GraphOf.{IsSound}
@@ -26,43 +26,43 @@ same_test : (g : Guard) (o : Option Order) → commands.fits_order g o ≡ true 
 same_test g None e = e
 same_test g (Some order) e = e
 
-guard_at : (g : Guard) (ask : Ask) → guard_suits g ask ≡ true → IsTrue (fits_order g (order_of Sd ask))
-unfolding guard_suits
-guard_at g ask e = same_test g (order_of Sd ask) e
+module _ (k : Kind) where
+  guards_at : (ask : Ask) (gs : List Guard) → guards_suit k ask gs ≡ true → GuardsSuit k ask gs
+  guards_at ask [] e = tt
+  guards_at ask (g ∷ gs) e =
+      let p = both (commands.fits_order g (order_of k ask)) (guards_suit k ask gs) e in
+      (same_test g (order_of k ask) p.0, guards_at ask gs p.1)
 
-guards_at : (ask : Ask) (gs : List Guard) → guards_suit ask gs ≡ true → GuardsSuit Sd ask gs
-guards_at ask [] e = tt
-guards_at ask (g ∷ gs) e = let p = both (guard_suits g ask) (guards_suit ask gs) e in (guard_at g ask p.0, guards_at ask gs p.1)
+  forks_at : (ask : Ask) (ws : List Fork) → forks_suit k ask ws ≡ true → ForksSuit k ask ws
+  forks_at ask [] e = tt
+  forks_at ask (w ∷ ws) e = let p = both (guards_suit k ask w.guards) (forks_suit k ask ws) e in (guards_at ask w.guards p.0, forks_at ask ws p.1)
 
-forks_at : (ask : Ask) (ws : List Fork) → forks_suit ask ws ≡ true → ForksSuit Sd ask ws
-forks_at ask [] e = tt
-forks_at ask (w ∷ ws) e = let p = both (guards_suit ask w.guards) (forks_suit ask ws) e in (guards_at ask w.guards p.0, forks_at ask ws p.1)
+atom_at : (k : Kind) (a : Atom) → atom_suits k a ≡ true → MayStandIn k a
+atom_at Sd (atoms.Number n) e = tt
+atom_at Sd (atoms.Variable x) e = tt
+atom_at Sd atoms.CsdBlocks e = tt
+atom_at Sd atoms.ExtBlocks e = absurd (cc)
+atom_at Emmc a e = tt
 
-atom_at : (a : Atom) → atom_suits a ≡ true → MayStandIn Sd a
-atom_at (atoms.Number n) e = tt
-atom_at (atoms.Variable x) e = tt
-atom_at atoms.CsdBlocks e = tt
-atom_at atoms.ExtBlocks e = absurd (cc)
+node_at : (k : Kind) (node : Node) → node_suits k node ≡ true → node_keeps_limits node ≡ true → NodeSuits k node
+node_at k (sends c ways other) e l = forks_at k c.ask ways e
+node_at k (phases p well other) e l = tt
+node_at k (lets x t) e l = atom_at k x.atom e
+node_at k (tests c met unmet) e l = tt
+node_at k (flags flag on t) e l = ltb-true flag max_flags l
+node_at k (heads n body other) e l = tt
+node_at k (jumps t) e l = tt
+node_at k (stops last) e l = tt
 
-node_at : (node : Node) → node_suits node ≡ true → node_keeps_limits node ≡ true → NodeSuits Sd node
-node_at (sends c ways other) e l = forks_at c.ask ways e
-node_at (phases p well other) e l = tt
-node_at (lets x t) e l = atom_at x.atom e
-node_at (tests c met unmet) e l = tt
-node_at (flags flag on t) e l = ltb-true flag max_flags l
-node_at (heads n body other) e l = tt
-node_at (jumps t) e l = tt
-node_at (stops last) e l = tt
-
-nodes_at : (ps : List Place) → all_suit ps ≡ true → all_keep_limits ps ≡ true → (i : ℕ) (p : Place) → slice_get ps i ≡ Some p → NodeSuits Sd p.node
-nodes_at [] e l i p is = absurd (cc)
-nodes_at (q ∷ ps) e l zero p is =
+nodes_at : (k : Kind) (ps : List Place) → all_suit k ps ≡ true → all_keep_limits ps ≡ true → (i : ℕ) (p : Place) → slice_get ps i ≡ Some p → NodeSuits k p.node
+nodes_at k [] e l i p is = absurd (cc)
+nodes_at k (q ∷ ps) e l zero p is =
     let same : q ≡ p = cc in
-    let a = both (node_suits q.node) (all_suit ps) e in
+    let a = both (node_suits k q.node) (all_suit k ps) e in
     let b = both (keeps_limits q) (all_keep_limits ps) l in
-    subst (λ p. NodeSuits Sd p.node) same (node_at q.node a.0 (both (node_keeps_limits q.node) _ b.0).0)
-nodes_at (q ∷ ps) e l (suc i) p is =
-    nodes_at ps (both (node_suits q.node) (all_suit ps) e).1 (both (keeps_limits q) (all_keep_limits ps) l).1 i p is
+    subst (λ p. NodeSuits k p.node) same (node_at k q.node a.0 (both (node_keeps_limits q.node) _ b.0).0)
+nodes_at k (q ∷ ps) e l (suc i) p is =
+    nodes_at k ps (both (node_suits k q.node) (all_suit k ps) e).1 (both (keeps_limits q) (all_keep_limits ps) l).1 i p is
 
 pub each_node_suits : (g : Flow) → IsSound g → EachNodeSuits g
-each_node_suits g sound i p is = subst (λ k. NodeSuits k p.node) (sym sound.kind) (nodes_at g.places sound.suits sound.limits i p is)
+each_node_suits g sound i p is = nodes_at g.kind g.places sound.suits sound.limits i p is

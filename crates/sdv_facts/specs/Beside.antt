@@ -1,6 +1,6 @@
 -- A RUN: a walk of a script whose events are steps of one card. What is asked of every run of an accepted script.
 -- A card is one of the profile, before its first command; which steps it takes is open.
-use Rattle.std.specs.Prelude.{◌≡◌, ◌+◌, ◌≤◌, ℕ, List, [], ◌∷◌, ◌++◌}
+use Rattle.std.specs.Prelude.{◌≡◌, ◌+◌, ◌≤◌, ℕ, List, [], ◌∷◌, ◌++◌, length}
 use Rattle.sdv_registers.specs.declared.kind.Kind.{Kind}
 use Rattle.sdv_card.specs.declared.state.State.TheVariants.{Tran}
 use Rattle.sdv_card.specs.Card.{Card}
@@ -17,7 +17,7 @@ StepsOf c (p ∷ es) last = (u : Card) × Step p.0 c p.1 u × StepsOf u es last
 
 -- each command counts, whether it arrives or not; phases and waits do not
 abbrev pub commands_in : ScriptEvent → ℕ
-commands_in (SendCommand ask argument) = 1
+commands_in (SendCommand ask position argument) = 1
 commands_in event = 0
 
 abbrev pub commands : List Pair → ℕ
@@ -63,6 +63,10 @@ pub record GoesOn (walks : Walks) (es : List Pair) (c : Card) : Type 0 where
   pub last : Card
   pub steps : StepsOf c more last
   pub walk : walks end (es ++ more)
+
+-- Every run ends: none has more events than this, whatever they return.
+abbrev pub RunsEnd : Walks → (events : ℕ) → Type 0
+RunsEnd walks events = (e : Ending) (es : List Pair) → walks e es → length es ≤ events
 
 -- Every run beside any card of the kind is as it should be.
 pub record RunsWell (k : Kind) (walks : Walks) (most : ℕ) : Type 0 where

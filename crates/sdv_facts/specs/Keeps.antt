@@ -19,7 +19,7 @@ use Rattle.sdv_facts.specs.declared.test.Test.{Test}
 use Rattle.sdv_facts.specs.Known.{Known}
 use Rattle.sdv_facts.specs.FactsHold.{NumbersHold, FactsHold, Carries}
 use Rattle.sdv_graph.specs.ValueOfLet.{value_of_let, with_number}
-use Rattle.sdv_graph.specs.AddressSent.{address_sent}
+use Rattle.sdv_graph.specs.AddressSent.{position_of, address_sent}
 use Rattle.sdv_facts.specs.AfterTest.{TestHolds}
 
 -- a script for an SD card has no `ext.blocks`
@@ -46,6 +46,8 @@ KeptByTest known test carried = (c : Card) (h : Host) → FactsHold known c h �
 abbrev pub HoldsAtTarget : (target carried : Numbers) → Type 0
 HoldsAtTarget target carried = (c : Card) (h : Host) → NumbersHold carried c h → NumbersHold target c h
 
--- the address that is sent is that of a block of the card in its unit, and the card has n blocks from there on
+-- the address that is sent is that of the block at the script's position, in the card's unit, and the card has n blocks from
+-- there on
 abbrev pub IsOnCard : Known → Address → ℕ → Type 0
-IsOnCard known a n = (k : Kind) (c : Card) (h : Host) → IsPair k c h → FactsHold known c h → Within c (address_sent h a) n
+IsOnCard known a n = (k : Kind) (c : Card) (h : Host) → IsPair k c h → FactsHold known c h →
+    Within c (position_of h a.position) (address_sent h a.unit (position_of h a.position)) n

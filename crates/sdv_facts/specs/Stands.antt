@@ -19,6 +19,7 @@ use Rattle.sdv_graph.specs.Walk.{Pair, Ending, Finished, IsDeed}
 use Rattle.sdv_facts.specs.declared.certificate.PointFacts.{PointFacts}
 use Rattle.sdv_facts.specs.Beside.{StepsOf, commands_in}
 use Rattle.sdv_facts.specs.Bounds.{bound}
+use Rattle.sdv_facts.specs.Closed.{PointClosed}
 use Rattle.sdv_facts.specs.FactsHold.{FactsHold}
 use Rattle.sdv_facts.specs.Keeps.{MayStandIn, IsHonest}
 
@@ -87,6 +88,11 @@ EachIsMade k es c =
     (front : List Pair) (event : ScriptEvent) (returned : Return) (back : List Pair) (u : Card) →
     es ≡ front ++ (event, returned) ∷ back → StepsOf c front u → IsMade k event u
 
--- so it is at each point of a graph for which the certificate is closed
+-- so it is at each point whose own clauses hold, whatever the certificate says of the others
+abbrev pub PointsStepWell : Flow → List PointFacts → Type 0
+PointsStepWell g ps = (s : Stand) (c : Card) (at : Stands g ps s c) → PointClosed g.kind ps at.place at.facts →
+    MovesWell g ps (bound at.facts s.turns) (move_from g.kind g.places s) c
+
+-- and so at each point of a graph for which the certificate is closed
 abbrev pub StepsWell : Flow → List PointFacts → Type 0
 StepsWell g ps = (s : Stand) (c : Card) (at : Stands g ps s c) → MovesWell g ps (bound at.facts s.turns) (move_from g.kind g.places s) c

@@ -15,6 +15,7 @@ mod facts;
 mod gap;
 mod guards;
 mod joining;
+pub mod laws;
 mod numbers;
 mod search;
 mod setting;

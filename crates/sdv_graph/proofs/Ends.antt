@@ -9,7 +9,7 @@ use Rattle.sdv_card.specs.ScriptEvent.{Return}
 use Rattle.sdv_graph.specs.declared.graph.Target.{Target}
 use Rattle.sdv_graph.specs.Tree.{Statements, nothing, first, Ways, otherwise, way, Statement, send, phase, setting, choice, set, clear, turns, break, done, fault}
 use Rattle.sdv_graph.specs.Counts.{statements_count, statement_count, statements_break, ways_break, statement_breaks, statements_fall, ways_fall, statement_falls}
-use Rattle.sdv_graph.specs.AddressSent.{address_of_command}
+use Rattle.sdv_graph.specs.AddressSent.{position_of_command}
 use Rattle.sdv_graph.specs.Conditions.{condition_holds, with_flag}
 use Rattle.sdv_graph.specs.ValueOfLet.{value_of_let, with_number}
 use Rattle.sdv_graph.specs.Walk.{Fell, Broke, Open, Finished, Failed, command_deed, all_pass}
@@ -101,8 +101,8 @@ module _ (k : Kind) (g : List Place) where
         let other = other_of ways (at + 1) next in
         let j = ways_moves ways + n in
         at_point (place (sends c there other) most) at j (1 + ways_moves ways + n) ts h (omega arith) has.0
-        (in_range_lasts (address_of_command h c.address) (λ address. Does (command_deed k c h address) h (λ returned h'. arrive (way_of k there other returned) ts h')) j
-        (λ address returned after. ways_last ways (at + 1) next brk most ts n has.1 nx br returned after))
+        (in_range_lasts (position_of_command h c.address) (λ position. Does (command_deed k c h position) h (λ returned h'. arrive (way_of k there other returned) ts h')) j
+        (λ position returned after. ways_last ways (at + 1) next brk most ts n has.1 nx br returned after))
     statement_lasts (phase p a b) at next brk most ts n has nx br h =
         let mid = at + 1 + statements_count a in
         let ta = entry a (at + 1) next in

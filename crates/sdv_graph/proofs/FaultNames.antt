@@ -9,7 +9,7 @@ use Rattle.sdv_card.specs.Lists.{IsOneOf}
 use Rattle.sdv_card.specs.Profile.{host_at_start}
 use Rattle.sdv_card.specs.ScriptEvent.{Return}
 use Rattle.sdv_graph.specs.Tree.{Statements, nothing, first, Ways, otherwise, way, Statement, send, phase, setting, choice, set, clear, turns, break, done, fault, Declared}
-use Rattle.sdv_graph.specs.AddressSent.{address_of_command}
+use Rattle.sdv_graph.specs.AddressSent.{position_of_command}
 use Rattle.sdv_graph.specs.Conditions.{condition_holds, with_flag}
 use Rattle.sdv_graph.specs.NamedFaults.{statements_faults, ways_faults, statement_faults, IsFaultOf, NamesFault}
 use Rattle.sdv_graph.specs.ValueOfLet.{value_of_let, with_number}
@@ -77,8 +77,8 @@ module _ (k : Kind) (e : Ending) (all : List (List ℕ)) (has_number : IsOneOf a
 
     statement_good : (s : Statement) (fell broke : Rest) → Within (statement_faults s) all → Good fell → Good broke → Good (walk_statement k e s fell broke)
     statement_good (send c ways) fell broke w f g h es x =
-        here _ es (in_range (address_of_command h c.address) (λ address. Acts k (command_deed k c h address) h (λ returned. walk_ways k e ways returned fell broke) es) es
-        (λ address. acts (command_deed k c h address) h (λ returned. walk_ways k e ways returned fell broke) es (λ returned. ways_good ways returned fell broke w f g))) x
+        here _ es (in_range (position_of_command h c.address) (λ position. Acts k (command_deed k c h position) h (λ returned. walk_ways k e ways returned fell broke) es) es
+        (λ position. acts (command_deed k c h position) h (λ returned. walk_ways k e ways returned fell broke) es (λ returned. ways_good ways returned fell broke w f g))) x
     statement_good (phase p a b) fell broke w f g h es x =
         here _ es (acts (phase_deed p h) h (λ returned h' rest. Either (passes k WentWell returned) (walk_statements k e a fell broke h' rest) (walk_statements k e b fell broke h' rest)) es
         (λ returned h' rest. either (passes k WentWell returned) (walk_statements k e a fell broke h' rest) (walk_statements k e b fell broke h' rest)

@@ -1,12 +1,11 @@
 -- The graph of statements that can be run.
-use Rattle.std.proofs.Common.{◌≡◌, ℕ, List, length, refl, ap, ◌∙◌, arith, Bool, true, false}
-use Rattle.std.specs.Prelude.{◌||◌}
+use Rattle.std.proofs.Common.{◌≡◌, ℕ, List, length, refl, ap, ◌∙◌}
 use Rattle.sdv_registers.specs.declared.kind.Kind.{Kind}
 use Rattle.sdv_registers.specs.declared.kind.Kind.TheVariants.{Sd}
 use Rattle.sdv_card.specs.Profile.{host_at_start}
 use Rattle.sdv_graph.specs.declared.graph.Target.{Target}
 use Rattle.sdv_graph.specs.Path.{Place}
-use Rattle.sdv_graph.specs.Tree.{Statements, nothing, first, Ways, otherwise, way, Statement, send, phase, setting, choice, set, clear, turns, break, done, fault, Declared}
+use Rattle.sdv_graph.specs.Tree.{Statements, Declared}
 use Rattle.sdv_graph.specs.Points.{points_of, first_of}
 use Rattle.sdv_graph.specs.Graph.{Flow}
 use Rattle.sdv_graph.specs.GraphOf.{CanRun, IsSound, IsGraphOf}

@@ -1,5 +1,6 @@
 pub mod Ends
 pub mod FaultNames
+pub mod FewEvents
 pub mod GraphOf
 pub mod Nesting
 pub mod Paths

@@ -11,7 +11,7 @@ use Rattle.sdv_card.specs.ScriptEvent.{Return}
 use Rattle.sdv_graph.specs.declared.graph.Target.{Target}
 use Rattle.sdv_graph.specs.Tree.{Statements, nothing, first, Ways, otherwise, way, Statement, send, phase, setting, choice, set, clear, turns, break, done, fault, Declared}
 use Rattle.sdv_graph.specs.Counts.{statements_count, statement_count, statements_break, ways_break, statement_breaks}
-use Rattle.sdv_graph.specs.AddressSent.{address_of_command}
+use Rattle.sdv_graph.specs.AddressSent.{position_of_command}
 use Rattle.sdv_graph.specs.Conditions.{condition_holds, with_flag}
 use Rattle.sdv_graph.specs.ValueOfLet.{value_of_let, with_number}
 use Rattle.sdv_graph.specs.Walk.{Pair, Ending, Fell, Broke, Finished, Failed, Rest, Here, Either, InRange, Deed, Acts, command_deed, phase_deed, all_pass, rounds, walk_statements, walk_ways, walk_statement, after_all, Walk}
@@ -115,8 +115,8 @@ module _ (k : Kind) (g : List Place) (e : Ending) where
         let there = forks ways (at + 1) next in
         let other = other_of ways (at + 1) next in
         at_point (place (sends c there other) most) at ts h es _ has.0
-        (range_is (address_of_command h c.address) _ (λ address. Does (command_deed k c h address) h (λ returned h'. arrive (way_of k there other returned) ts h')) es
-        (λ address. acts_are (command_deed k c h address) h (λ returned. walk_ways k e ways returned fell broke) (λ returned h'. arrive (way_of k there other returned) ts h') es (ways_are ways (at + 1) next brk most ts fell broke has.1 nx br)))
+        (range_is (position_of_command h c.address) _ (λ position. Does (command_deed k c h position) h (λ returned h'. arrive (way_of k there other returned) ts h')) es
+        (λ position. acts_are (command_deed k c h position) h (λ returned. walk_ways k e ways returned fell broke) (λ returned h'. arrive (way_of k there other returned) ts h') es (ways_are ways (at + 1) next brk most ts fell broke has.1 nx br)))
     statement_is (phase p a b) at next brk most ts fell broke has nx br h es =
         let mid = at + 1 + statements_count a in
         let ta = entry a (at + 1) next in

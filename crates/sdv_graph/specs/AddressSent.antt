@@ -26,11 +26,17 @@ sends_block h Block = true
 sends_block h Byte = false
 sends_block h (By flag) = is_flag_set h.flags flag
 
-abbrev pub address_sent : Host → Address → ℕ
-address_sent h a = if sends_block h a.unit then position_of h a.position else 512 * position_of h a.position
+-- the address of the block at a position, in this unit
+abbrev pub address_sent : Host → AddressUnit → (position : ℕ) → ℕ
+address_sent h unit position = if sends_block h unit then position else 512 * position
 
--- the address that goes with a command: none where the block is above 2^40, and the run ends in the fault `number`; a
--- command without an address goes with 0, which no argument shows
-abbrev pub address_of_command : Host → Option Address → Option ℕ
-address_of_command h None = Some 0
-address_of_command h (Some a) = if nat_le (position_of h a.position) max_number then Some (address_sent h a) else None
+-- the position that goes with a command: none where it is above 2^40, and the run ends in the fault `number`; a command
+-- without an address goes with 0
+abbrev pub position_of_command : Host → Option Address → Option ℕ
+position_of_command h None = Some 0
+position_of_command h (Some a) = if nat_le (position_of h a.position) max_number then Some (position_of h a.position) else None
+
+-- the address that goes with a command at its position; one without an address goes with 0, which no argument shows
+abbrev pub address_of_command : Host → Option Address → (position : ℕ) → ℕ
+address_of_command h None position = 0
+address_of_command h (Some a) position = address_sent h a.unit position

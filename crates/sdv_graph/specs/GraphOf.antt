@@ -21,7 +21,7 @@ pub record CanRun (script : Statements) : Type 0 where
   pub few : statements_count script ≤ max_statements
   pub moves : statements_moves script < 2 ^ 128
   pub limits : all_keep_limits (points_of script) ≡ true
-  pub suits : all_suit (points_of script) ≡ true
+  pub suits : all_suit Sd (points_of script) ≡ true
 
 -- what is true of every graph: it is that of a script for SD cards, the one kind that scripts name
 pub record IsSound (g : Flow) : Type 0 where
@@ -29,7 +29,7 @@ pub record IsSound (g : Flow) : Type 0 where
   pub ends : EachRunEnds g
   pub nested : Nested g
   pub limits : all_keep_limits g.places ≡ true
-  pub suits : all_suit g.places ≡ true
+  pub suits : all_suit g.kind g.places ≡ true
 
 pub record IsGraphOf (kind : Kind) (names : Declared) (script : Statements) (g : Flow) : Type 0 where
   pub kind_same : g.kind ≡ kind

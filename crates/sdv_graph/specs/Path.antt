@@ -11,7 +11,7 @@ use Rattle.sdv_graph.specs.declared.tree.Phase.{Phase}
 use Rattle.sdv_graph.specs.declared.tree.Let.{Let}
 use Rattle.sdv_graph.specs.declared.tree.Condition.{Condition}
 use Rattle.sdv_graph.specs.declared.graph.Target.{Target}
-use Rattle.sdv_graph.specs.AddressSent.{address_of_command}
+use Rattle.sdv_graph.specs.AddressSent.{position_of_command}
 use Rattle.sdv_graph.specs.Conditions.{condition_holds, with_flag}
 use Rattle.sdv_graph.specs.ValueOfLet.{value_of_let, with_number}
 use Rattle.sdv_graph.specs.Walk.{Pair, Ending, Fell, number_fault, Stops, Here, Deed, Acts, command_deed, phase_deed, all_pass}
@@ -91,7 +91,7 @@ move_at_head (suc t ∷ ts) body other h = Goes (arrive body (t ∷ ts) h)
 
 abbrev pub node_move : Kind → Node → List ℕ → Host → Move
 node_move k (sends c ways other) ts h =
-    move_with (address_of_command h c.address) (λ address. Does (command_deed k c h address) h (λ returned h'. arrive (way_of k ways other returned) ts h'))
+    move_with (position_of_command h c.address) (λ position. Does (command_deed k c h position) h (λ returned h'. arrive (way_of k ways other returned) ts h'))
 node_move k (phases p well other) ts h =
     Does (phase_deed p h) h (λ returned h'. arrive (if passes k WentWell returned then well else other) ts h')
 node_move k (lets l t) ts h = move_with (value_of_let k h l) (λ n. Goes (arrive t ts (with_number h l.target n)))

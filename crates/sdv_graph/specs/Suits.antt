@@ -1,30 +1,33 @@
--- What the rules of scripts say of the events and registers of a graph's points: each guard says something of the answers
--- to its command, and a script for an SD card names no EXT_CSD.
+-- What the rules of scripts say of the events and registers of a graph's points, by the kind of the card: each guard says
+-- something of the answers to its command, and a script for an SD card names no EXT_CSD.
 use Rattle.std.specs.Prelude.{List, [], ◌∷◌, Bool, true, false, ◌&&◌}
+use Rattle.sdv_registers.specs.declared.kind.Kind.{Kind}
+use Rattle.sdv_registers.specs.declared.kind.Kind.TheVariants.{Sd}
 use Rattle.sdv_card.specs.declared.event.Ask.{Ask}
 use Rattle.sdv_card.specs.declared.guard.Guard.{Guard}
+use Rattle.sdv_card.specs.CommandTable.{order_of}
 use Rattle.sdv_graph.specs.declared.tree.Atom.{Atom}
 use Rattle.sdv_graph.specs.declared.tree.Atom.TheVariants.{ExtBlocks}
-use Rattle.sdv_graph.specs.GuardSuits.{guard_suits}
+use Rattle.sdv_graph.specs.GuardSuits.{fits_order}
 use Rattle.sdv_graph.specs.Path.{Fork, Node, Place, sends, lets}
 
-abbrev pub guards_suit : Ask → List Guard → Bool
-guards_suit ask [] = true
-guards_suit ask (g ∷ gs) = guard_suits g ask && guards_suit ask gs
+abbrev pub guards_suit : Kind → Ask → List Guard → Bool
+guards_suit k ask [] = true
+guards_suit k ask (g ∷ gs) = fits_order g (order_of k ask) && guards_suit k ask gs
 
-abbrev pub forks_suit : Ask → List Fork → Bool
-forks_suit ask [] = true
-forks_suit ask (w ∷ ws) = guards_suit ask w.guards && forks_suit ask ws
+abbrev pub forks_suit : Kind → Ask → List Fork → Bool
+forks_suit k ask [] = true
+forks_suit k ask (w ∷ ws) = guards_suit k ask w.guards && forks_suit k ask ws
 
-abbrev pub atom_suits : Atom → Bool
-atom_suits ExtBlocks = false
-atom_suits atom = true
+abbrev pub atom_suits : Kind → Atom → Bool
+atom_suits Sd ExtBlocks = false
+atom_suits k atom = true
 
-abbrev pub node_suits : Node → Bool
-node_suits (sends c ways other) = forks_suit c.ask ways
-node_suits (lets l t) = atom_suits l.atom
-node_suits node = true
+abbrev pub node_suits : Kind → Node → Bool
+node_suits k (sends c ways other) = forks_suit k c.ask ways
+node_suits k (lets l t) = atom_suits k l.atom
+node_suits k node = true
 
-abbrev pub all_suit : List Place → Bool
-all_suit [] = true
-all_suit (p ∷ ps) = node_suits p.node && all_suit ps
+abbrev pub all_suit : Kind → List Place → Bool
+all_suit k [] = true
+all_suit k (p ∷ ps) = node_suits k p.node && all_suit k ps

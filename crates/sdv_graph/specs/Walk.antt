@@ -17,7 +17,7 @@ use Rattle.sdv_graph.specs.declared.tree.Command.{Command}
 use Rattle.sdv_graph.specs.declared.tree.Phase.{Phase}
 use Rattle.sdv_graph.specs.declared.tree.Phase.TheVariants as phases
 use Rattle.sdv_graph.specs.Tree.{Statements, nothing, first, Ways, otherwise, way, Statement, send, phase, setting, choice, set, clear, turns, break, done, fault, Declared}
-use Rattle.sdv_graph.specs.AddressSent.{address_of_command}
+use Rattle.sdv_graph.specs.AddressSent.{position_of_command, address_of_command}
 use Rattle.sdv_graph.specs.Conditions.{condition_holds, with_flag}
 use Rattle.sdv_graph.specs.ValueOfLet.{value_of_let, with_number}
 
@@ -74,9 +74,10 @@ abbrev pub IsDeed : Deed → ScriptEvent → Type 0
 IsDeed (exactly wanted) event = event ≡ wanted
 IsDeed (giving count) event = (blocks : List Block) × (length blocks ≡ count) × (event ≡ GiveBlocks blocks)
 
--- a command, with its argument by the address of a block in the unit that it is sent in
-abbrev pub command_deed : Kind → Command → Host → ℕ → Deed
-command_deed k c h address = exactly (SendCommand c.ask (argument_of k c.ask h.rca address))
+-- a command with its position, and its argument by the address of the block there, in the unit that the script sends
+abbrev pub command_deed : Kind → Command → Host → (position : ℕ) → Deed
+command_deed k c h position =
+    exactly (SendCommand c.ask position (argument_of k c.ask h.rca (address_of_command h c.address position)))
 
 -- a phase is as long as was announced, or asked for, last
 abbrev pub phase_deed : Phase → Host → Deed
@@ -115,7 +116,7 @@ abbrev mutual
 
   pub walk_statement : Kind → Ending → Statement → (fell broke : Rest) → Rest
   walk_statement k e (send c ways) fell broke = λ h es.
-      Here e (InRange e (address_of_command h c.address) (λ address. Acts k (command_deed k c h address) h (λ returned. walk_ways k e ways returned fell broke) es) es) es
+      Here e (InRange e (position_of_command h c.address) (λ position. Acts k (command_deed k c h position) h (λ returned. walk_ways k e ways returned fell broke) es) es) es
   walk_statement k e (phase p a b) fell broke = λ h es.
       Here e (Acts k (phase_deed p h) h (λ returned h' rest. Either (passes k WentWell returned) (walk_statements k e a fell broke h' rest) (walk_statements k e b fell broke h' rest)) es) es
   walk_statement k e (setting l) fell broke = λ h es.

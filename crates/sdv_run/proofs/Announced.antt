@@ -15,7 +15,7 @@ use Rattle.sdv_card.specs.Host.{Host, host_after_order, host_after}
 use Rattle.sdv_card.specs.ScriptEvent.{ScriptEvent, SendCommand, ReceiveBlocks, ReceiveRegister, GiveBlocks, AwaitReady, Return, Answered, BlocksIn, RegisterIn, BlocksOut, Waited}
 use Rattle.sdv_script.specs.declared.graph.Target.{Target}
 use Rattle.sdv_script.specs.declared.tree.Phase.TheVariants as kinds
-use Rattle.sdv_script.specs.AddressSent.{address_of_command}
+use Rattle.sdv_script.specs.AddressSent.{position_of_command, address_of_command}
 use Rattle.sdv_script.specs.Conditions.{condition_holds, with_flag}
 use Rattle.sdv_script.specs.ValueOfLet.{value_of_let, with_number}
 use Rattle.sdv_script.specs.Walk.{exactly, giving, command_deed}
@@ -98,15 +98,15 @@ Within room h = h.announced ≤ room
 
 -- a command of this event announces at most so many blocks
 abbrev EventWithin : ℕ → ScriptEvent → Type 0
-EventWithin room (SendCommand ask argument) = ask.count ≤ room
+EventWithin room (SendCommand ask position argument) = ask.count ≤ room
 EventWithin room event = Unit {0}
 
 after_event : (k : Kind) (room : ℕ) (event : ScriptEvent) (returned : Return) (h : Host) → EventWithin room event → Within room h → Within room (host_after k event returned h)
-after_event k room (SendCommand ask argument) (Answered answer) h few in_room = order_announces k ask room few answer h in_room
-after_event k room (SendCommand ask argument) (BlocksIn end blocks) h few in_room = in_room
-after_event k room (SendCommand ask argument) (RegisterIn end bytes) h few in_room = in_room
-after_event k room (SendCommand ask argument) (BlocksOut end) h few in_room = in_room
-after_event k room (SendCommand ask argument) (Waited end) h few in_room = in_room
+after_event k room (SendCommand ask position argument) (Answered answer) h few in_room = order_announces k ask room few answer h in_room
+after_event k room (SendCommand ask position argument) (BlocksIn end blocks) h few in_room = in_room
+after_event k room (SendCommand ask position argument) (RegisterIn end bytes) h few in_room = in_room
+after_event k room (SendCommand ask position argument) (BlocksOut end) h few in_room = in_room
+after_event k room (SendCommand ask position argument) (Waited end) h few in_room = in_room
 after_event k room (ReceiveRegister count) (RegisterIn end bytes) h few in_room = in_room
 after_event k room (ReceiveRegister count) (Answered answer) h few in_room = in_room
 after_event k room (ReceiveRegister count) (BlocksIn end blocks) h few in_room = in_room
@@ -141,7 +141,7 @@ module _ {S : Type 0} (k : Kind) (steps : Steps S) (room : ℕ) where
 
   pub announced_after : (node : Node) (ts : List ℕ) (h : Host) → announced_at node ≤ room → Within room h → Kept (node_move k node ts h)
   announced_after (sends c ways other) ts h few in_room =
-      with_within (address_of_command h c.address) (λ address. Does (command_deed k c h address) h (λ returned h'. arrive (way_of k ways other returned) ts h')) (λ address. does_within (SendCommand c.ask (argument_of k c.ask h.rca address)) h (way_of k ways other) ts few in_room)
+      with_within (position_of_command h c.address) (λ position. Does (command_deed k c h position) h (λ returned h'. arrive (way_of k ways other returned) ts h')) (λ position. does_within (SendCommand c.ask position (argument_of k c.ask h.rca (address_of_command h c.address position))) h (way_of k ways other) ts few in_room)
   announced_after (phases kinds.ReceiveBlocks well other) ts h few in_room = does_within (ReceiveBlocks h.announced) h (λ returned. if passes k WentWell returned then well else other) ts tt in_room
   announced_after (phases kinds.ReceiveRegister well other) ts h few in_room = does_within (ReceiveRegister h.register_length) h (λ returned. if passes k WentWell returned then well else other) ts tt in_room
   announced_after (phases kinds.GiveBlocks well other) ts h few in_room = gives_within h.announced h (λ returned. if passes k WentWell returned then well else other) ts in_room

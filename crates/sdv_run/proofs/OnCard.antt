@@ -84,9 +84,9 @@ both : (a b : Bool) → a ≡ true → b ≡ true → a && b ≡ true
 both true b e f = f
 both false b e f = absurd (cc)
 
-taken : (k : Kind) → Laws k → (ask : Ask) (argument : ℕ) (c : Card) (answer : Answer) (u : Card) → IsMade k (SendCommand ask argument) c → Step (SendCommand ask argument) c (Answered answer) u → is_taken k ask answer ≡ true
-taken k laws ask argument c answer u made step =
-    let e = SendCommand ask argument in
+taken : (k : Kind) → Laws k → (ask : Ask) (position argument : ℕ) (c : Card) (answer : Answer) (u : Card) → IsMade k (SendCommand ask position argument) c → Step (SendCommand ask position argument) c (Answered answer) u → is_taken k ask answer ≡ true
+taken k laws ask position argument c answer u made step =
+    let e = SendCommand ask position argument in
     let after = honest_after k laws e c made.host (Answered answer) u made.fine made.honest step in
     both (is_of_kind (expect_of k ask) answer) (has_readable_csd k (order_of k ask) answer)
     (of_kind (expect_of k ask) answer (laws.steps_are_expected e c (Answered answer) u made.fine.pair.kind step))
@@ -131,14 +131,14 @@ module _ {S : Type 0} (steps : Steps S) (card : S → Option Card) (keeps : Keep
   -- a card's answers are taken, and the arguments of an accepted script have 32 bits
   no_reply : (es : List Pair) (w w' : World S) (c : Card) → ShowsStart card g.kind w.port c → Path g.kind g.places Open (begin g) es → OnCard card (bound_of g ps) Open es c w'.port → Because faults.Reply g es w w' → ⊥
   no_reply es w w' c start path on (inl refused) =
-      let l = last_step refused.earlier (SendCommand refused.ask refused.argument, Answered refused.answer) c on.last (subst (λ es. StepsOf c es on.last) refused.last on.steps) in
-      let made = each_event g ps laws sound closed c start.kind start.start Open es path refused.earlier (SendCommand refused.ask refused.argument) (Answered refused.answer) [] l.before refused.last l.steps in
-      let t : is_taken g.kind refused.ask refused.answer ≡ true = taken g.kind laws refused.ask refused.argument l.before refused.answer on.last made l.step in
+      let l = last_step refused.earlier (SendCommand refused.ask refused.position refused.argument, Answered refused.answer) c on.last (subst (λ es. StepsOf c es on.last) refused.last on.steps) in
+      let made = each_event g ps laws sound closed c start.kind start.start Open es path refused.earlier (SendCommand refused.ask refused.position refused.argument) (Answered refused.answer) [] l.before refused.last l.steps in
+      let t : is_taken g.kind refused.ask refused.answer ≡ true = taken g.kind laws refused.ask refused.position refused.argument l.before refused.answer on.last made l.step in
       let clash : true ≡ false = sym t ∙ refused.refused in
       absurd (cc)
   no_reply es w w' c start path on (inr wide) =
-      let made = each_event g ps laws sound closed c start.kind start.start Open (es ++ (SendCommand wide.ask wide.argument, Answered answers.Sent) ∷ []) (wide.next answers.Sent) es (SendCommand wide.ask wide.argument) (Answered answers.Sent) [] on.last refl on.steps in
-      let small : wide.argument < 2 ^ 32 = narrow g.kind wide.ask wide.argument on.last made.host laws.asks_address made.fine made.honest.profile in
+      let made = each_event g ps laws sound closed c start.kind start.start Open (es ++ (SendCommand wide.ask wide.position wide.argument, Answered answers.Sent) ∷ []) (wide.next answers.Sent) es (SendCommand wide.ask wide.position wide.argument) (Answered answers.Sent) [] on.last refl on.steps in
+      let small : wide.argument < 2 ^ 32 = narrow g.kind wide.ask wide.position wide.argument on.last made.host laws.asks_address made.fine made.honest.profile in
       let big = wide.wide in
       absurd (omega (arith, small, big))
 

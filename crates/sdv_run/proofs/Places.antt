@@ -8,7 +8,7 @@ use Rattle.sdv_card.specs.Host.{Host}
 use Rattle.sdv_card.specs.ScriptEvent.{Return}
 use Rattle.sdv_script.specs.declared.graph.Target.{Target}
 use Rattle.sdv_script.specs.Rules.{max_flags, max_loops, max_name}
-use Rattle.sdv_script.specs.AddressSent.{address_of_command}
+use Rattle.sdv_script.specs.AddressSent.{position_of_command}
 use Rattle.sdv_script.specs.Conditions.{condition_holds, with_flag}
 use Rattle.sdv_script.specs.ValueOfLet.{value_of_let, with_number}
 use Rattle.sdv_script.specs.Walk.{Fell, Broke, Finished, Failed, Open, command_deed, all_pass}
@@ -88,7 +88,7 @@ module _ (k : Kind) (g : List Place) where
 
     sits_on : (node : Node) (ts : List ℕ) (h : Host) → InBox ts most → EachTarget node (Lands g most) → Onward Sits (node_move k node ts h)
     sits_on (sends c ways other) ts h box each =
-        with_onward Sits (address_of_command h c.address) (λ address. Does (command_deed k c h address) h (λ returned h'. arrive (way_of k ways other returned) ts h')) (λ n returned after. lands (way_of k ways other returned) ts after (way_lands ways other returned each.0 each.1) box)
+        with_onward Sits (position_of_command h c.address) (λ position. Does (command_deed k c h position) h (λ returned h'. arrive (way_of k ways other returned) ts h')) (λ n returned after. lands (way_of k ways other returned) ts after (way_lands ways other returned each.0 each.1) box)
     sits_on (phases p well other) ts h box each = λ returned after.
         lands (if passes k WentWell returned then well else other) ts after (either_lands (passes k WentWell returned) well other each.0 each.1) box
     sits_on (lets l t) ts h box each =
@@ -121,7 +121,7 @@ with_end_fits (Some n) on f = f n
 
 end_fits : (k : Kind) (node : Node) (ts : List ℕ) (h : Host) → node_keeps_limits node ≡ true → EndFits (node_move k node ts h)
 end_fits k (sends c ways other) ts h keeps =
-    with_end_fits (address_of_command h c.address) (λ address. Does (command_deed k c h address) h (λ returned h'. arrive (way_of k ways other returned) ts h')) (λ n. tt)
+    with_end_fits (position_of_command h c.address) (λ position. Does (command_deed k c h position) h (λ returned h'. arrive (way_of k ways other returned) ts h')) (λ n. tt)
 end_fits k (phases p well other) ts h keeps = tt
 end_fits k (lets l t) ts h keeps = with_end_fits (value_of_let k h l) (λ n. Goes (arrive t ts (with_number h l.target n))) (λ n. tt)
 end_fits k (tests c holds other) ts h keeps = tt

@@ -139,28 +139,30 @@ module _ {S : Type 0} (steps : Steps S) (f : Flow) (room : ℕ) (start : World S
     one_more event returned step input =
         happened_more f.kind steps so.events ((event, returned) ∷ []) start w w' so.happened (record { port = (w'.port, step, refl); input = input ∙ ap (λ l. l ++ w'.input) (sym (append-nil (given_by event))) })
 
-    too_wide : (ask : Ask) (argument : ℕ) → IsDeed deed (SendCommand ask argument) → (2 ^ 32 ≤ argument) × (w' ≡ w) → Stopped steps f Reply start w'
-    too_wide ask argument is p = record {
+    too_wide : (ask : Ask) (position argument : ℕ) → IsDeed deed (SendCommand ask position argument) → (2 ^ 32 ≤ argument) × (w' ≡ w) → Stopped steps f Reply start w'
+    too_wide ask position argument is p = record {
       events = so.events;
       happened = subst (λ w. Happened f.kind steps so.events start w) (sym p.1) so.happened;
       walk = stopped_here n s w so;
       because = inr (record {
         ask = ask;
+        position = position;
         argument = argument;
         wide = p.0;
-        next = λ answer. comes_next (SendCommand ask argument) (Answered answer) is tt;
+        next = λ answer. comes_next (SendCommand ask position argument) (Answered answer) is tt;
         written = subst (λ w. Written so.events start w) (sym p.1) so.written;
       });
     }
 
-    is_refused : (ask : Ask) (argument : ℕ) → IsDeed deed (SendCommand ask argument) → (answer : Answer) × steps w.port (call_of f.kind (SendCommand ask argument)) (Answered answer) w'.port × (is_taken f.kind ask answer ≡ false) × (w' ≡ record w { port = w'.port }) → Stopped steps f Reply start w'
-    is_refused ask argument is p = record {
-      events = so.events ++ (SendCommand ask argument, Answered p.0) ∷ [];
-      happened = one_more (SendCommand ask argument) (Answered p.0) p.1 (sym (ap (λ w. w.input) p.3));
-      walk = came (SendCommand ask argument) (Answered p.0) is tt;
+    is_refused : (ask : Ask) (position argument : ℕ) → IsDeed deed (SendCommand ask position argument) → (answer : Answer) × steps w.port (call_of f.kind (SendCommand ask position argument)) (Answered answer) w'.port × (is_taken f.kind ask answer ≡ false) × (w' ≡ record w { port = w'.port }) → Stopped steps f Reply start w'
+    is_refused ask position argument is p = record {
+      events = so.events ++ (SendCommand ask position argument, Answered p.0) ∷ [];
+      happened = one_more (SendCommand ask position argument) (Answered p.0) p.1 (sym (ap (λ w. w.input) p.3));
+      walk = came (SendCommand ask position argument) (Answered p.0) is tt;
       because = inl (record {
         earlier = so.events;
         ask = ask;
+        position = position;
         argument = argument;
         answer = p.0;
         last = refl;
@@ -222,15 +224,15 @@ module _ {S : Type 0} (steps : Steps S) (f : Flow) (room : ℕ) (start : World S
           });
         }
 
-  either_reply : (n : ℕ) (s : Stand) (w w' : World S) (so : SoFar n s w) (ask : Ask) (argument : ℕ) (before : Host) (next : Return → Host → Stand) (at : move_from f.kind f.places s ≡ Does (exactly (SendCommand ask argument)) before next) → CutDeed Reply f.kind steps (exactly (SendCommand ask argument)) w w' → Stopped steps f Reply start w'
-  either_reply n s w w' so ask argument before next at (inl p) = too_wide n s w w' so (exactly (SendCommand ask argument)) before next at ask argument refl p
-  either_reply n s w w' so ask argument before next at (inr p) = is_refused n s w w' so (exactly (SendCommand ask argument)) before next at ask argument refl p
+  either_reply : (n : ℕ) (s : Stand) (w w' : World S) (so : SoFar n s w) (ask : Ask) (position argument : ℕ) (before : Host) (next : Return → Host → Stand) (at : move_from f.kind f.places s ≡ Does (exactly (SendCommand ask position argument)) before next) → CutDeed Reply f.kind steps (exactly (SendCommand ask position argument)) w w' → Stopped steps f Reply start w'
+  either_reply n s w w' so ask position argument before next at (inl p) = too_wide n s w w' so (exactly (SendCommand ask position argument)) before next at ask position argument refl p
+  either_reply n s w w' so ask position argument before next at (inr p) = is_refused n s w w' so (exactly (SendCommand ask position argument)) before next at ask position argument refl p
 
   -- a move that was cut short
   pub stops : (fault : RunFault) (n : ℕ) (s : Stand) (w w' : World S) (so : SoFar n s w) (m : Move) → move_from f.kind f.places s ≡ m → CutShort fault f.kind steps m w w' → Stopped steps f fault start w'
   stops fault n s w w' so (Goes next) at p = absurd p
   stops fault n s w w' so (Halts last) at p = absurd p
-  stops Reply n s w w' so (Does (exactly (SendCommand ask argument)) before next) at p = either_reply n s w w' so ask argument before next at p
+  stops Reply n s w w' so (Does (exactly (SendCommand ask position argument)) before next) at p = either_reply n s w w' so ask position argument before next at p
   stops Reply n s w w' so (Does (exactly (ReceiveBlocks count)) before next) at p = absurd p
   stops Reply n s w w' so (Does (exactly (ReceiveRegister count)) before next) at p = absurd p
   stops Reply n s w w' so (Does (exactly (GiveBlocks blocks)) before next) at p = absurd p
@@ -239,7 +241,7 @@ module _ {S : Type 0} (steps : Steps S) (f : Flow) (room : ℕ) (start : World S
   stops Input n s w w' so (Does (exactly event) before next) at p = absurd p
   stops Input n s w w' so (Does (giving count) before next) at p = too_short n s w w' so (giving count) before next at count (λ blocks len. (blocks, len, refl)) p
   stops Output n s w w' so (Does (exactly (ReceiveBlocks count)) before next) at p = output_fails n s w w' so (exactly (ReceiveBlocks count)) before next at count refl p
-  stops Output n s w w' so (Does (exactly (SendCommand ask argument)) before next) at p = absurd p
+  stops Output n s w w' so (Does (exactly (SendCommand ask position argument)) before next) at p = absurd p
   stops Output n s w w' so (Does (exactly (ReceiveRegister count)) before next) at p = absurd p
   stops Output n s w w' so (Does (exactly (GiveBlocks blocks)) before next) at p = absurd p
   stops Output n s w w' so (Does (exactly AwaitReady) before next) at p = absurd p

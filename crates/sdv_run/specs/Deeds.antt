@@ -9,40 +9,40 @@ use Rattle.sdv_card.specs.declared.answer.DataEnd.{DataEnd}
 use Rattle.sdv_card.specs.declared.answer.DataEnd.TheVariants as ends
 use Rattle.sdv_card.specs.declared.answer.WaitEnd.{WaitEnd}
 use Rattle.sdv_card.specs.Card.{Block}
-use Rattle.sdv_card.specs.Host.{Host, host_after}
-use Rattle.sdv_card.specs.Port.{call_of, DataIn, DataInRegister, DataOut, WaitWhileBusy}
-use Rattle.sdv_card.specs.ScriptEvent.{ScriptEvent, MayReturn, SendCommand, ReceiveBlocks, ReceiveRegister, GiveBlocks, AwaitReady, Return, Answered, BlocksIn, RegisterIn, BlocksOut, Waited}
+use Rattle.sdv_card.specs.Host.{Host, host_after, host_after_order}
+use Rattle.sdv_card.specs.Port.{command_of, call_of, Exchange, DataIn, DataInRegister, DataOut, WaitWhileBusy}
+use Rattle.sdv_card.specs.ScriptEvent.{ScriptEvent, MayReturn, ReceiveBlocks, ReceiveRegister, GiveBlocks, AwaitReady, Return, Answered, BlocksIn, RegisterIn, BlocksOut, Waited}
 use Rattle.sdv_card.specs.declared.guard.Guard.TheVariants.{Ok as WentWell}
 use Rattle.sdv_card.specs.Guards.{passes}
-use Rattle.sdv_card.specs.CommandTable.{argument_of}
+use Rattle.sdv_card.specs.CommandTable.{order_of, expect_of, argument_of}
 use Rattle.sdv_script.specs.declared.tree.Command.{Command}
 use Rattle.sdv_script.specs.declared.graph.Target.{Target}
-use Rattle.sdv_script.specs.AddressSent.{address_of_command}
+use Rattle.sdv_script.specs.AddressSent.{position_of_command, address_of_command}
 use Rattle.sdv_script.specs.Path.{Stand, arrive}
 use Rattle.sdv_run.specs.declared.fault.RunFault.{RunFault}
 use Rattle.sdv_run.specs.declared.fault.RunFault.TheVariants.{Reply, Output, Trace}
 use Rattle.sdv_text.specs.Written.{AppendsPart}
-use Rattle.sdv_run.specs.Trace.{line_of}
+use Rattle.sdv_run.specs.Trace.{command_line, line_of}
 use Rattle.sdv_run.specs.Run.{Steps, received_by}
 use Rattle.sdv_run.specs.Answers.{is_taken}
 
 -- A COMMAND: a run goes on with an answer that is taken, and prints it
 pub record Heard (k : Kind) (ask : Ask) (argument : ℕ) (answer : Answer) (h h' : Host) (t t' : Option (List ℕ)) : Type 0 where
   pub taken : is_taken k ask answer ≡ true
-  pub host : h' ≡ host_after k (SendCommand ask argument) (Answered answer) h
-  pub printed : Appends t t' (line_of (SendCommand ask argument) (Answered answer))
+  pub host : h' ≡ host_after_order (order_of k ask) answer h
+  pub printed : Appends t t' (command_line (command_of ask argument) answer)
 
 -- it stops at an answer that is not taken, which is not printed, or where the trace fails
 abbrev pub Unheard : RunFault → Kind → Ask → ℕ → Answer → (t t' : Option (List ℕ)) → Type 0
 Unheard Reply k ask argument answer t t' = (is_taken k ask answer ≡ false) × (t' ≡ t)
 Unheard Trace k ask argument answer t t' =
-    (is_taken k ask answer ≡ true) × AppendsPart t t' (line_of (SendCommand ask argument) (Answered answer))
+    (is_taken k ask answer ≡ true) × AppendsPart t t' (command_line (command_of ask argument) answer)
 Unheard fault k ask argument answer t t' = ⊥
 
 -- a command is sent once
 abbrev pub Sends : {S : Type 0} → Kind → Steps S → Ask → ℕ → (s s' : S) → (h h' : Host) → (t t' : Option (List ℕ)) → Result Answer RunFault → Type 0
 Sends k steps ask argument s s' h h' t t' result =
-    (answer : Answer) × steps s (call_of k (SendCommand ask argument)) (Answered answer) s'
+    (answer : Answer) × steps s (Exchange (command_of ask argument) (expect_of k ask)) (Answered answer) s'
     × MatchResult result (λ a. (a ≡ answer) × Heard k ask argument answer h h' t t') (λ fault. Unheard fault k ask argument answer t t')
 
 -- PHASES AND WAITS: a run stops where the trace fails
@@ -90,21 +90,25 @@ Awaits steps s s' t t' result =
     (λ e. (e ≡ end) × Appends t t' (line_of AwaitReady (Waited end)))
     (λ fault. Unprinted fault t t' (line_of AwaitReady (Waited end)))
 
--- THE ARGUMENT OF A COMMAND: none where its block is out of range; a run stops where it has more than 32 bits
+-- THE ARGUMENT OF A COMMAND at its position
+abbrev pub argument_at : Kind → Command → Host → (position : ℕ) → ℕ
+argument_at k c h position = argument_of k c.ask h.rca (address_of_command h c.address position)
+
+-- none where its block is out of range; a run stops where it has more than 32 bits
 abbrev pub ArgumentIs : Kind → Command → Host → Result (Option ℕ) RunFault → Type 0
-ArgumentIs k c h (Ok argument) = argument ≡ option_map (λ address. argument_of k c.ask h.rca address) (address_of_command h c.address)
+ArgumentIs k c h (Ok argument) = argument ≡ option_map (argument_at k c h) (position_of_command h c.address)
 ArgumentIs k c h (Err Reply) =
-    (address : ℕ) × (address_of_command h c.address ≡ Some address) × (2 ^ 32 ≤ argument_of k c.ask h.rca address)
+    (position : ℕ) × (position_of_command h c.address ≡ Some position) × (2 ^ 32 ≤ argument_at k c h position)
 ArgumentIs k c h (Err fault) = ⊥
 
 -- a command is sent once, and leads where its answer does
 abbrev pub SendsOn : {S : Type 0} → Kind → Steps S → Ask → ℕ → (Return → Target) → (s s' : S) → (turns : List ℕ) → (h : Host) → Stand → (t t' : Option (List ℕ)) → Result (Unit {0}) RunFault → Type 0
 SendsOn k steps ask argument target s s' turns h stand t t' result =
-    (answer : Answer) × steps s (call_of k (SendCommand ask argument)) (Answered answer) s'
+    (answer : Answer) × steps s (Exchange (command_of ask argument) (expect_of k ask)) (Answered answer) s'
     × MatchResult result
     (λ _. (is_taken k ask answer ≡ true)
-    × (stand ≡ arrive (target (Answered answer)) turns (host_after k (SendCommand ask argument) (Answered answer) h))
-    × Appends t t' (line_of (SendCommand ask argument) (Answered answer)))
+    × (stand ≡ arrive (target (Answered answer)) turns (host_after_order (order_of k ask) answer h))
+    × Appends t t' (command_line (command_of ask argument) answer))
     (λ fault. Unheard fault k ask argument answer t t')
 
 -- A PHASE OR A WAIT happens once, and leads where its end does

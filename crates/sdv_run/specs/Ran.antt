@@ -54,18 +54,20 @@ pub record Ended {S : Type 0} (steps : Steps S) (g : Flow) (end : End) (w w' : W
 pub record AnswerIsRefused {S : Type 0} (k : Kind) (es : List Pair) (w w' : World S) : Type 0 where
   pub earlier : List Pair
   pub ask : Ask
+  pub position : ℕ
   pub argument : ℕ
   pub answer : Answer
-  pub last : es ≡ earlier ++ (SendCommand ask argument, Answered answer) ∷ []
+  pub last : es ≡ earlier ++ (SendCommand ask position argument, Answered answer) ∷ []
   pub refused : is_taken k ask answer ≡ false
   pub written : Written earlier w w'
 
 -- or the next event is a command whose argument has more than 32 bits, and it was not sent
 pub record ArgumentIsTooWide {S : Type 0} (g : Flow) (es : List Pair) (w w' : World S) : Type 0 where
   pub ask : Ask
+  pub position : ℕ
   pub argument : ℕ
   pub wide : 2 ^ 32 ≤ argument
-  pub next : (answer : Answer) → Path g.kind g.places Open (begin g) (es ++ (SendCommand ask argument, Answered answer) ∷ [])
+  pub next : (answer : Answer) → Path g.kind g.places Open (begin g) (es ++ (SendCommand ask position argument, Answered answer) ∷ [])
   pub written : Written es w w'
 
 -- INPUT: the next event gives more blocks than are left of the input, and none was given.

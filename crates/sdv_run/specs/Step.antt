@@ -45,9 +45,9 @@ Leads k steps (Halts last) w w' stand = ⊥
 -- An event was cut short.
 -- A command needs more than 32 bits and is not sent, or its answer is not taken.
 abbrev pub CutDeed : {S : Type 0} → RunFault → Kind → Steps S → Deed → (w w' : World S) → Type 0
-CutDeed Reply k steps (exactly (SendCommand ask argument)) w w' =
+CutDeed Reply k steps (exactly (SendCommand ask position argument)) w w' =
     ((2 ^ 32 ≤ argument) × (w' ≡ w))
-    ⊎ ((answer : Answer) × steps w.port (call_of k (SendCommand ask argument)) (Answered answer) w'.port
+    ⊎ ((answer : Answer) × steps w.port (call_of k (SendCommand ask position argument)) (Answered answer) w'.port
     × (is_taken k ask answer ≡ false) × (w' ≡ record w { port = w'.port }))
 -- the input has not as many blocks, and none is given
 CutDeed Input k steps (giving count) w w' = (length w.input < count) × (w' ≡ w)

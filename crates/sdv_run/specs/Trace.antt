@@ -15,6 +15,7 @@ use Rattle.sdv_card.specs.declared.answer.WaitEnd.{WaitEnd}
 use Rattle.sdv_card.specs.declared.answer.WaitEnd.TheVariants as waits
 use Rattle.sdv_run.specs.declared.end.End.{End}
 use Rattle.sdv_run.specs.declared.end.End.TheVariants.{Done, Fault}
+use Rattle.sdv_card.specs.Port.{command_of}
 use Rattle.sdv_card.specs.ScriptEvent.{ScriptEvent, SendCommand, ReceiveBlocks, ReceiveRegister, GiveBlocks, AwaitReady, Return, Answered, BlocksIn, RegisterIn, BlocksOut, Waited}
 
 -- the end of a line
@@ -64,7 +65,7 @@ wait_line end = codes "WAIT" ++ (wait_text end ++ line_feed)
 
 -- the line of an event and of what it returned
 abbrev pub line_of : ScriptEvent → Return → List ℕ
-line_of (SendCommand ask argument) (Answered answer) = command_line (record { index = ask.index; argument = argument }) answer
+line_of (SendCommand ask position argument) (Answered answer) = command_line (command_of ask argument) answer
 line_of (ReceiveBlocks count) (BlocksIn end blocks) = phase_line (codes "IN") count end
 line_of (ReceiveRegister count) (RegisterIn end register) = phase_line (codes "REG") count end
 line_of (GiveBlocks blocks) (BlocksOut end) = phase_line (codes "OUT") (length blocks) end

@@ -43,9 +43,9 @@ script =
 -- no answer in the first turn, and one in the second
 abbrev pairs : List Pair
 pairs =
-    (SendCommand reset 0, Answered Sent)
-    ∷ (SendCommand interface_condition 0x1aa, Answered TimeOut)
-    ∷ (SendCommand interface_condition 0x1aa, Answered (Reply (R7 0x1aa)))
+    (SendCommand reset 0 0, Answered Sent)
+    ∷ (SendCommand interface_condition 0 0x1aa, Answered TimeOut)
+    ∷ (SendCommand interface_condition 0 0x1aa, Answered (Reply (R7 0x1aa)))
     ∷ []
 
 -- 8 - 9 is below 0
@@ -79,6 +79,6 @@ example_walk =
     )
 
 -- the walk is open before its second event
-pub example_open : Walk Sd names script Open ((SendCommand reset 0, Answered Sent) ∷ [])
+pub example_open : Walk Sd names script Open ((SendCommand reset 0 0, Answered Sent) ∷ [])
 unfolding order_of
 example_open = inr (_, _, _, refl, tt, refl, inl (refl, refl))

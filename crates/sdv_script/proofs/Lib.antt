@@ -6,6 +6,7 @@ pub mod CaseLaws
 pub mod GuardLaws
 pub mod LevelLaws
 pub mod NameLaws
+mod OneGraph
 pub mod PieceLaws
 pub mod PrintedLaws
 pub mod WhereRead

@@ -1,13 +1,15 @@
 -- The guards and registers of a script that fits the rules suit its points.
 use Rattle.std.proofs.Common.{◌≡◌, ℕ, ◌+◌, ◌-◌, List, [], ◌∷◌, ◌++◌, Bool, true, false, refl}
 use Rattle.std.specs.Prelude.{◌&&◌}
+use Rattle.sdv_registers.specs.declared.kind.Kind.TheVariants.{Sd}
 use Rattle.sdv_card.specs.declared.event.Ask.{Ask}
 use Rattle.sdv_card.specs.declared.guard.Guard.{Guard}
+use Rattle.sdv_card.specs.CommandTable.{order_of}
 use Rattle.sdv_script.specs.declared.depth.Depth.{Depth}
 use Rattle.sdv_graph.specs.declared.graph.Target.{Target}
 use Rattle.sdv_graph.specs.declared.tree.Atom.{Atom}
 use Rattle.sdv_graph.specs.declared.tree.Atom.TheVariants as atoms
-use Rattle.sdv_script.specs.Commands.{guard_suits}
+use Rattle.sdv_graph.specs.GuardSuits.{fits_order, guard_suits}
 use Rattle.sdv_graph.specs.Tree.{Statements, nothing, first, Ways, otherwise, way, Statement, send, phase, setting, choice, set, clear, turns, break, done, fault, Declared}
 use Rattle.sdv_script.specs.Rules.{GuardsFit, AtomFits, StatementsFit, WaysFit, StatementFits, ScriptFits, statements_count, statement_count, deeper, in_loop}
 use Rattle.sdv_graph.specs.Path.{Place}
@@ -22,23 +24,28 @@ one_of : (a b : Bool) → a && b ≡ true → (a ≡ true) × (b ≡ true)
 one_of true b p = (refl, p)
 one_of false b p = absurd (cc)
 
-all_append : (ps qs : List Place) → all_suit ps ≡ true → all_suit qs ≡ true → all_suit (ps ++ qs) ≡ true
+all_append : (ps qs : List Place) → all_suit Sd ps ≡ true → all_suit Sd qs ≡ true → all_suit Sd (ps ++ qs) ≡ true
 all_append [] qs a b = b
 all_append (p ∷ ps) qs a b =
-    let parts = one_of (node_suits p.node) (all_suit ps) a in
-    both (node_suits p.node) (all_suit (ps ++ qs)) parts.0 (all_append ps qs parts.1 b)
+    let parts = one_of (node_suits Sd p.node) (all_suit Sd ps) a in
+    both (node_suits Sd p.node) (all_suit Sd (ps ++ qs)) parts.0 (all_append ps qs parts.1 b)
 
-guards_of : (ask : Ask) (gs : List Guard) → GuardsFit ask gs → guards_suit ask gs ≡ true
+-- a guard suits an SD command
+guard_of : (g : Guard) (ask : Ask) → guard_suits g ask ≡ true → fits_order g (order_of Sd ask) ≡ true
+unfolding guard_suits
+guard_of g ask e = e
+
+guards_of : (ask : Ask) (gs : List Guard) → GuardsFit ask gs → guards_suit Sd ask gs ≡ true
 guards_of ask [] fit = absurd fit
-guards_of ask (g ∷ []) fit = both (guard_suits g ask) true fit refl
-guards_of ask (g ∷ h ∷ gs) fit = both (guard_suits g ask) (guards_suit ask (h ∷ gs)) fit.0 (guards_of ask (h ∷ gs) fit.1)
+guards_of ask (g ∷ []) fit = both (fits_order g (order_of Sd ask)) true (guard_of g ask fit) refl
+guards_of ask (g ∷ h ∷ gs) fit = both (fits_order g (order_of Sd ask)) (guards_suit Sd ask (h ∷ gs)) (guard_of g ask fit.0) (guards_of ask (h ∷ gs) fit.1)
 
-forks_of : (names : Declared) (d : Depth) (ask : Ask) (c : Ways) (at : ℕ) (next : Target) → WaysFit names d ask c → forks_suit ask (forks c at next) ≡ true
+forks_of : (names : Declared) (d : Depth) (ask : Ask) (c : Ways) (at : ℕ) (next : Target) → WaysFit names d ask c → forks_suit Sd ask (forks c at next) ≡ true
 forks_of names d ask (otherwise b) at next fit = refl
 forks_of names d ask (way guards b rest) at next fit =
-    both (guards_suit ask guards) (forks_suit ask (forks rest (at + statements_count b) next)) (guards_of ask guards fit.0) (forks_of names d ask rest (at + statements_count b) next fit.3)
+    both (guards_suit Sd ask guards) (forks_suit Sd ask (forks rest (at + statements_count b) next)) (guards_of ask guards fit.0) (forks_of names d ask rest (at + statements_count b) next fit.3)
 
-atom_of : (names : Declared) (a : Atom) → AtomFits names a → atom_suits a ≡ true
+atom_of : (names : Declared) (a : Atom) → AtomFits names a → atom_suits Sd a ≡ true
 atom_of names (atoms.Number n) fit = refl
 atom_of names (atoms.Variable x) fit = refl
 atom_of names atoms.CsdBlocks fit = refl
@@ -46,26 +53,26 @@ atom_of names atoms.ExtBlocks fit = absurd fit
 
 module _ (names : Declared) where
   mutual
-    statements_suit : (d : Depth) (b : Statements) (at : ℕ) (next brk : Target) (most : List ℕ) → StatementsFit names d b → all_suit (points_of_statements b at next brk most) ≡ true
+    statements_suit : (d : Depth) (b : Statements) (at : ℕ) (next brk : Target) (most : List ℕ) → StatementsFit names d b → all_suit Sd (points_of_statements b at next brk most) ≡ true
     statements_suit d nothing at next brk most fit = refl
     statements_suit d (first s rest) at next brk most fit =
         let mid = at + statement_count s in
         let to = entry rest mid next in
         all_append (points_of_statement s at to brk most) (points_of_statements rest mid next brk most) (statement_suits d s at to brk most fit.0) (statements_suit d rest mid next brk most fit.1)
 
-    ways_suit : (d : Depth) (ask : Ask) (c : Ways) (at : ℕ) (next brk : Target) (most : List ℕ) → WaysFit names d ask c → all_suit (points_of_ways c at next brk most) ≡ true
+    ways_suit : (d : Depth) (ask : Ask) (c : Ways) (at : ℕ) (next brk : Target) (most : List ℕ) → WaysFit names d ask c → all_suit Sd (points_of_ways c at next brk most) ≡ true
     ways_suit d ask (otherwise b) at next brk most fit = statements_suit (deeper d) b at next brk most fit.1
     ways_suit d ask (way guards b rest) at next brk most fit =
         let mid = at + statements_count b in
         all_append (points_of_statements b at next brk most) (points_of_ways rest mid next brk most) (statements_suit (deeper d) b at next brk most fit.2) (ways_suit d ask rest mid next brk most fit.3)
 
-    statement_suits : (d : Depth) (s : Statement) (at : ℕ) (next brk : Target) (most : List ℕ) → StatementFits names d s → all_suit (points_of_statement s at next brk most) ≡ true
+    statement_suits : (d : Depth) (s : Statement) (at : ℕ) (next brk : Target) (most : List ℕ) → StatementFits names d s → all_suit Sd (points_of_statement s at next brk most) ≡ true
     statement_suits d (send c ways) at next brk most fit =
-        both (forks_suit c.ask (forks ways (at + 1) next)) (all_suit (points_of_ways ways (at + 1) next brk most)) (forks_of names (deeper d) c.ask ways (at + 1) next fit.2) (ways_suit (deeper d) c.ask ways (at + 1) next brk most fit.2)
+        both (forks_suit Sd c.ask (forks ways (at + 1) next)) (all_suit Sd (points_of_ways ways (at + 1) next brk most)) (forks_of names (deeper d) c.ask ways (at + 1) next fit.2) (ways_suit (deeper d) c.ask ways (at + 1) next brk most fit.2)
     statement_suits d (phase p a b) at next brk most fit =
         let mid = at + 1 + statements_count a in
         all_append (points_of_statements a (at + 1) next brk most) (points_of_statements b mid next brk most) (statements_suit (deeper (deeper d)) a (at + 1) next brk most fit.2) (statements_suit (deeper (deeper d)) b mid next brk most fit.3)
-    statement_suits d (setting l) at next brk most fit = both (atom_suits l.atom) true (atom_of names l.atom fit.1) refl
+    statement_suits d (setting l) at next brk most fit = both (atom_suits Sd l.atom) true (atom_of names l.atom fit.1) refl
     statement_suits d (choice c a b) at next brk most fit =
         let mid = at + 1 + statements_count a in
         all_append (points_of_statements a (at + 1) next brk most) (points_of_statements b mid next brk most) (statements_suit (deeper d) a (at + 1) next brk most fit.2) (statements_suit (deeper d) b mid next brk most fit.3)
@@ -78,5 +85,5 @@ module _ (names : Declared) where
     statement_suits d done at next brk most fit = refl
     statement_suits d (fault name) at next brk most fit = refl
 
-pub points_suit : (names : Declared) (b : Statements) → ScriptFits names b → all_suit (points_of b) ≡ true
+pub points_suit : (names : Declared) (b : Statements) → ScriptFits names b → all_suit Sd (points_of b) ≡ true
 points_suit names b fits = statements_suit names (record { braces = 0; loops = 0 }) b 0 (past b) (past b) [] fits.statements_fit

@@ -5,6 +5,7 @@ pub mod Grammar
 pub mod GuardedOf
 pub mod Refusal
 pub mod Keywords
+pub mod OneGraph
 pub mod Place
 pub mod Printed
 pub mod Reading

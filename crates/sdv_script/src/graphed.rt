@@ -3,7 +3,9 @@
 ghost use Rattle.std.specs.Prelude.{◌≡◌, MatchResult};
 ghost use Rattle.sdv_registers.specs.declared.kind.Kind.TheVariants.{Sd};
 ghost use Rattle.sdv_graph.specs.GraphOf.{IsGraphOf};
+ghost use Rattle.sdv_script.specs.OneGraph.{HasOneGraph};
 ghost use Rattle.sdv_script.specs.Refusal.{memory_fault};
+ghost use Rattle.sdv_script.specs.Script.{Parsed, IsScript};
 ghost use Rattle.sdv_script.specs.Shown.{shown};
 
 use crate::fault::{FaultKind, ScriptFault};
@@ -26,3 +28,8 @@ impl<'a> Script<'a> {
         }
     }
 }
+
+/// Each script has a graph, and no other one.
+pub fn one_graph()
+    ensures { (s : Parsed) → IsScript s → HasOneGraph s }
+{}

@@ -28,6 +28,7 @@ mod values;
 
 pub use fault::{FaultKind, ScriptFault};
 pub use graph::{Action, Graph, Point, Target, Way};
+pub use graphed::one_graph;
 pub use printing::{print, printed_tree};
 pub use reading::{asks_by_table, one_tree, parse};
 pub use script::Script;

@@ -23,7 +23,7 @@ use Rattle.sdv_card.specs.ScriptEvent.{ScriptEvent, SendCommand, Answered}
 use Rattle.sdv_card.specs.Step.{Step}
 use Rattle.sdv_script.specs.declared.tree.Phase.{Phase}
 use Rattle.sdv_script.specs.declared.tree.Phase.TheVariants as kinds
-use Rattle.sdv_script.specs.AddressSent.{address_of_command}
+use Rattle.sdv_script.specs.AddressSent.{position_of_command, address_of_command}
 use Rattle.sdv_script.specs.ValueOfLet.{value_of_let}
 use Rattle.sdv_script.specs.Asks.{IsAsked, NodeAsks, PlaceAsks}
 use Rattle.sdv_script.specs.Graph.{Flow, begin}
@@ -54,11 +54,11 @@ use Rattle.sdv_words.specs.PlainRun.{IsWalkOf, IsAnswered, IsBeside, WholeRun, P
 -- WHAT A PATH SENDS is asked and sent by the command table
 
 abbrev IsSent : ScriptEvent → Type 0
-IsSent (SendCommand ask argument) = IsAsked Sd ask × SentByTable (SendCommand ask argument)
+IsSent (SendCommand ask position argument) = IsAsked Sd ask × SentByTable (SendCommand ask position argument)
 IsSent event = Unit {0}
 
 sent_by : (event : ScriptEvent) → IsSent event → SentByTable event
-sent_by (SendCommand ask argument) sent = sent.1
+sent_by (SendCommand ask position argument) sent = sent.1
 sent_by event sent = tt
 
 abbrev AllSent : List Pair → Type 0
@@ -81,7 +81,7 @@ with_sends (Some n) on all = all n
 
 node_sends : (node : Node) (ts : List ℕ) (h : Host) → NodeAsks Sd node → Sends (node_move Sd node ts h)
 node_sends (sends c ways other) ts h asked =
-    with_sends (address_of_command h c.address) _ (λ address event is. subst IsSent (sym is) (asked, (h.rca, address, refl)))
+    with_sends (position_of_command h c.address) _ (λ position event is. subst IsSent (sym is) (asked, (h.rca, address_of_command h c.address position, refl)))
 node_sends (phases p well other) ts h asked = phase_sent p h
 node_sends (lets l t) ts h asked = with_sends (value_of_let Sd h l) _ (λ n. tt)
 node_sends (tests c holds other) ts h asked = tt
@@ -160,9 +160,9 @@ fits ask AppCommand Idle app checked argument own = refl
 fits ask AppCommand Stby app checked argument own = application_fits (0x1234 == argument / 65536) app checked
 fits ask order stage app checked argument own = refl
 
-is_taken_there : (ask : Ask) (argument : ℕ) (told : Answer) (u v : PlainPort) → IsAsked Sd ask → PortSteps u (call_of Sd (SendCommand ask argument)) (Answered told) v → is_taken Sd ask told ≡ true
+is_taken_there : (ask : Ask) (position argument : ℕ) (told : Answer) (u v : PlainPort) → IsAsked Sd ask → PortSteps u (call_of Sd (SendCommand ask position argument)) (Answered told) v → is_taken Sd ask told ≡ true
 unfolding order_of
-is_taken_there ask argument told u v asked step =
+is_taken_there ask position argument told u v asked step =
     let o : Order = asked.0 in
     let e : order_of Sd ask ≡ Some o = asked.1.line in
     let index : ask.index ≡ order_index o = (of_ask Sd ask o e).index in
@@ -248,11 +248,11 @@ module _ (s : Parsed) (g : Flow) (text : List ℕ) (is : IsScript s) (same : s.t
   -- no answer is of another kind than asked, and no phase ends well
   no_other_answer : (es : List Pair) (w w' : World PlainPort) → at_start ≡ w.port → Happened g.kind PortSteps es w w' → IsWalk g Open es → AnswerIsRefused g.kind es w w' → ⊥
   no_other_answer es w w' start happened walk b =
-      let x : Pair = (SendCommand b.ask b.argument, Answered b.answer) in
+      let x : Pair = (SendCommand b.ask b.position b.argument, Answered b.answer) in
       let all = answered es w w' start happened in
       let step = moved_last b.earlier x at_start all.0 (subst (λ l. Moved Sd PortSteps at_start l all.0) b.last all.1) in
       let asked = sent_last b.earlier x (subst AllSent b.last (sent Open es walk)) in
-      let yes : is_taken Sd b.ask b.answer ≡ true = is_taken_there b.ask b.argument b.answer step.0 step.1 asked.0 step.2 in
+      let yes : is_taken Sd b.ask b.answer ≡ true = is_taken_there b.ask b.position b.argument b.answer step.0 step.1 asked.0 step.2 in
       let no : is_taken Sd b.ask b.answer ≡ false = subst (λ k. is_taken k b.ask b.answer ≡ false) graph.kind_same b.refused in
       let both : true ≡ false = sym yes ∙ no in cc
 
@@ -283,7 +283,7 @@ module _ (s : Parsed) (g : Flow) (text : List ℕ) (is : IsScript s) (same : s.t
   }
 
   too_wide : (es : List Pair) (w w' : World PlainPort) → ArgumentIsTooWide g es w w' → NextIsTooWide text es
-  too_wide es w w' b = record { ask = b.ask; argument = b.argument; wide = b.wide; next = λ answer. path_walk _ (b.next answer) }
+  too_wide es w w' b = record { ask = b.ask; position = b.position; argument = b.argument; wide = b.wide; next = λ answer. path_walk _ (b.next answer) }
 
   gives : (es : List Pair) (w w' : World PlainPort) → InputIsShort g es w w' → NextGives text es
   gives es w w' b = record { count = b.count; some = (let short = b.short in omega (arith, short)); next = λ blocks long end. path_walk _ (b.next blocks long end) }

@@ -328,10 +328,10 @@ module _ (cs : List Block) (n : ℕ) where
   no_wait Stby l = cc
 
   -- an exchange of the port is one of the card
-  exchange_at : (s s' : PlainPort) (ask : Ask) (argument : ℕ) (answer : Answer) → SentByTable (SendCommand ask argument) → SendLegal ask argument (at s) →
-      PortSteps s (call_of Sd (SendCommand ask argument)) (Answered answer) s' → Sends ask argument (at s) answer (at s')
+  exchange_at : (s s' : PlainPort) (ask : Ask) (position argument : ℕ) (answer : Answer) → SentByTable (SendCommand ask position argument) → SendLegal ask argument (at s) →
+      PortSteps s (call_of Sd (SendCommand ask position argument)) (Answered answer) s' → Sends ask argument (at s) answer (at s')
   unfolding order_of
-  exchange_at s s' ask argument answer sent legal step =
+  exchange_at s s' ask position argument answer sent legal step =
       let o : Order = legal.order in
       let e : order_of Sd ask ≡ Some o = legal.asks.line in
       let same : argument ≡ order_argument o ask.argument sent.0 sent.1 = subst (λ v. argument ≡ argument_or_none v ask.argument sent.0 sent.1) e sent.2 in
@@ -348,16 +348,16 @@ module _ (cs : List Block) (n : ℕ) where
   -- each step of the port at a legal event is one of the card
   pub step_at : (s s' : PlainPort) (event : ScriptEvent) (returned : Return) → SentByTable event → EventLegal event (at s) → PortSteps s (call_of Sd event) returned s' →
       Step event (at s) returned (at s')
-  step_at s s' (SendCommand ask argument) (Answered answer) sent legal step = exchange_at s s' ask argument answer sent legal step
+  step_at s s' (SendCommand ask position argument) (Answered answer) sent legal step = exchange_at s s' ask position argument answer sent legal step
   step_at s s' (ReceiveBlocks count) returned sent legal step = absurd (no_receive s.stage legal)
   step_at s s' (ReceiveRegister count) returned sent legal step = absurd (no_register s.stage legal)
   step_at s s' (GiveBlocks blocks) returned sent legal step = absurd (no_give s.stage legal)
   step_at s s' AwaitReady returned sent legal step = absurd (no_wait s.stage legal)
-  step_at s s' (SendCommand ask argument) returned sent legal step = absurd step
+  step_at s s' (SendCommand ask position argument) returned sent legal step = absurd step
 
 -- what a host makes is sent by the table
 sent_by_table : (event : ScriptEvent) (h : Host) → Makes Sd event h → SentByTable event
-sent_by_table (SendCommand ask argument) h made = (h.rca, made.address, made.same)
+sent_by_table (SendCommand ask position argument) h made = (h.rca, made.address, made.same)
 sent_by_table event h made = tt
 
 pub port_keeps : KeepsTables PortSteps (λ port. Some (card_at port))
@@ -372,5 +372,5 @@ port_keeps s s' k event c h returned shows fine step =
     record {
       after = at zeros c.announced s';
       step = subst (λ v. Step event v returned (at zeros c.announced s')) same here;
-      shown = record { shown = card_at s'; shows = refl; same = refl };
+      shown = record { shown = card_at s'; shows = refl; same = refl; count = λ due. absurd (let no : false ≡ true = due in cc) };
     }

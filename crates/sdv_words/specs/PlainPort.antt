@@ -113,5 +113,5 @@ PortSteps s call returned s' = ⊥
 
 -- a command's argument is the one that the command table gives it, for some relative card address and some block
 abbrev pub SentByTable : ScriptEvent → Type 0
-SentByTable (SendCommand ask argument) = (rca address : ℕ) × (argument ≡ argument_of Sd ask rca address)
+SentByTable (SendCommand ask position argument) = (rca address : ℕ) × (argument ≡ argument_of Sd ask rca address)
 SentByTable event = Unit {0}

@@ -96,9 +96,10 @@ pub record PartOfRun (text left : List ℕ) (old new : Option (List ℕ)) : Type
 -- the next event is a command whose argument has more than 32 bits
 pub record NextIsTooWide (text : List ℕ) (es : List Pair) : Type 0 where
   pub ask : Ask
+  pub position : ℕ
   pub argument : ℕ
   pub wide : 2 ^ 32 ≤ argument
-  pub next : (answer : Answer) → IsWalkOf text Open (es ++ (SendCommand ask argument, Answered answer) ∷ [])
+  pub next : (answer : Answer) → IsWalkOf text Open (es ++ (SendCommand ask position argument, Answered answer) ∷ [])
 
 -- the next event gives blocks, and there are none
 pub record NextGives (text : List ℕ) (es : List Pair) : Type 0 where

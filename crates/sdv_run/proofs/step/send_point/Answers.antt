@@ -1,9 +1,9 @@
 use Rattle.std.proofs.Common.{map}
-use Rattle.sdv_card.specs.CommandTable.{argument_of}
-use Rattle.sdv_script.specs.AddressSent.{address_of_command}
+use Rattle.sdv_script.specs.AddressSent.{position_of_command}
 use Rattle.sdv_script.specs.Graph.{fork_of}
 use Rattle.sdv_script.specs.Path.{arrive, way_of}
 use Rattle.sdv_script.specs.Walk.{command_deed}
+use Rattle.sdv_run.specs.Deeds.{argument_at}
 use Rattle.sdv_run.specs.Standing.{host_of}
 use Rattle.sdv_run.proofs.Steps.{sent_narrow}
 use Rattle.sdv_run.proofs.step.send_point.Goals as goal
@@ -16,4 +16,4 @@ send_and_go-requires-clause-narrow g c =
     let command = c.args.command.now in
     let ways = map fork_of c.args.ways.now in
     λ returned.
-    sent_narrow (address_of_command h command.address) c.in-Ok-Some.argument (λ address. argument_of k command.ask h.rca address) (λ address. command_deed k command h address) h (λ returned h'. arrive (way_of k ways c.args.other returned) standing.turns.items h') (rw c.in-Ok-Some.field-0-is at c.in-Ok-Some.ensures) c.requires.narrow returned h
+    sent_narrow (position_of_command h command.address) c.in-Ok-Some.argument (argument_at k command h) (λ position. command_deed k command h position) h (λ returned h'. arrive (way_of k ways c.args.other returned) standing.turns.items h') (rw c.in-Ok-Some.field-0-is at c.in-Ok-Some.ensures) c.requires.narrow returned h
