@@ -44,7 +44,7 @@ p 3 b 0 m 1 v 0 1099511627776 - v 3 3 - s 0000000000002000 0000000000002800 0000
 ];
 
 // Scripts with the bound of each point, and behind it what each turn left adds, the outermost loop first.
-static BOUNDS: [(&str, &[&str]); 2] = [
+static BOUNDS: [(&str, &[&str]); 3] = [
     // three turns of 28, and then 2
     (
         "card sd flags f loop 3 { loop 10 { send 0 { else { } } if f { break } else { } send 0 { else { } } send 0 { else { } } } else { fault x } } else { fault y }",
@@ -64,6 +64,11 @@ static BOUNDS: [(&str, &[&str]); 2] = [
     (
         "card sd loop 3 { loop 5 { break } else { send 0 { else { } } } } else { fault y }",
         &["p 0 b 0 1"],
+    ),
+    // a command past which nothing stands, behind the end of the run
+    (
+        "card sd fault stop send 0 { else { } }",
+        &["p 0 b 0", "p 1 b 1"],
     ),
 ];
 

@@ -1,0 +1,65 @@
+//! Texts and a writer that tests share.
+
+use std::io::{self, Error, ErrorKind, Write};
+
+/// A script that brings a card up to the transfer state.
+pub const BRING_UP: &str = "card sd
+flags hc
+nums cap
+send 0 { else { } }
+send 8 { else { } }
+loop 1000 { send 55 { app { send 41 0x40ff8000 { ocr.ready & ocr.block { set hc break } ocr.ready { break } answer { } else { fault lost41 } } } else { fault lost55 } } } else { fault busy }
+send 2 { answer { } else { fault cid } }
+send 3 { clean { } else { fault rca } }
+send 9 { answer { } else { fault csd } }
+send 7 { clean { } else { fault select } }
+send 16 { clean { } else { fault blen } }
+let cap = csd.blocks
+done
+";
+
+/// The smallest script that sends a command.
+pub const SMALLEST: &str = "card sd\nsend 0 { else { } }\nfault stop\n";
+
+/// Its certificate.
+pub const CERTIFICATE: &str = "sdv-cert 1
+points 2
+p 0 b 1 m 1 s 0000000000002000 0000000000002800 0000000000002c00
+p 1 b 0 m 1 s 0000000000002000 0000000000002800 0000000000002c00
+";
+
+/// The text of a certificate with a point in four loops, with two variables and no shape, and one with the greatest
+/// numbers.
+pub const WIDE: &str = "sdv-cert 1
+points 2
+p 0 b 10 0 12 7 65535 m 0 v 0 1099511627776 - v 3 5 40 s
+p 1 b 1099511627776 1099511627776 m 1099511627776 v 0 0 0 v 0 0 - s 0000000000000000 ffffffffffffffff
+";
+
+/// A writer with room for so many bytes, which takes one at a time.
+#[derive(Drop)]
+pub struct Room {
+    /// The bytes that it took.
+    pub taken: Vec<u8>,
+    /// How many it takes.
+    pub room: usize,
+}
+
+impl Write for Room {
+    fn write(&mut self, buf: &[u8]) -> io::Result<usize> {
+        if self.taken.len() == self.room {
+            return Err(Error::from(ErrorKind::StorageFull));
+        }
+        match buf {
+            [] => Ok(0),
+            [byte, ..] => {
+                self.taken.push(*byte)?;
+                Ok(1)
+            }
+        }
+    }
+
+    fn flush(&mut self) -> io::Result<()> {
+        Ok(())
+    }
+}
