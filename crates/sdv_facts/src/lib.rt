@@ -23,6 +23,7 @@ mod statement;
 mod test;
 mod units;
 
+pub use address::address_ok;
 pub use certificate::{Certificate, PointFacts};
 pub use clause::Clause;
 pub use comparison::after_test;

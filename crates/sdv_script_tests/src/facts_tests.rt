@@ -5,8 +5,8 @@ ghost use Rattle.std.specs.Prelude.{◌≡◌, length, IfOk};
 use arrayvec::ArrayVec;
 use sdv_card::{Aim, Ask, Event, Guard, Kind, Seen, Shape, State};
 use sdv_facts::{
-    Facts, Numbers, Test, VarFacts, address_holds, after_let, after_test, all_may_hold, covers,
-    ends_at, event_of_phase, holds_shape, one_may_fail,
+    Facts, Numbers, Test, VarFacts, address_holds, address_ok, after_let, after_test, all_may_hold,
+    covers, ends_at, event_of_phase, holds_shape, one_may_fail,
 };
 use sdv_graph::{Action, Address, Atom, Change, Command, Let, Phase, Position, Target, Unit};
 use std::alloc::{AllocError, Global};
@@ -381,9 +381,24 @@ fn addresses(rt: HostRuntime) -> Result<(), Fail> {
     let facts = facts_of(alloc, &[BYTE], numbers(10, x, y))?;
     for &(index, count, position, known) in POSITIONS.iter() {
         let unit = Unit::Byte;
-        let action = send(alloc, index, count, Some(Address { unit, position }));
+        let address = Address { unit, position };
+        let blocks = if index == 32 { 1 } else { u64::from(count) };
+        assert_eq!(&rt;
+            address_ok(&facts, &address, blocks),
+            known,
+            "{index} {count}"
+        );
+        let action = send(alloc, index, count, Some(address));
         assert_eq!(&rt; address_holds(&facts, &action), known, "{index} {count}");
     }
+    // eight blocks before the capacity of the CSD
+    let less = facts_of(alloc, &[BLOCK], numbers(1, (0, 4_294_967_288, Some(8)), y))?;
+    let address = Address {
+        unit: Unit::Block,
+        position: Position::Variable(0, None),
+    };
+    assert!(&rt; address_ok(&less, &address, 8));
+    assert!(&rt; !address_ok(&less, &address, 9));
     for &(codes, unit, known) in UNITS.iter() {
         let facts = facts_of(alloc, &codes, numbers(10, x, y))?;
         let position = Position::Number(0);
