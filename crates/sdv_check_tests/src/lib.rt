@@ -15,8 +15,6 @@ mod check_tests;
 #[cfg(test)]
 mod common;
 #[cfg(test)]
-mod long_tests;
-#[cfg(test)]
 mod port;
 #[cfg(test)]
 mod run_tests;
