@@ -33,6 +33,7 @@ fn name_of(outcome: &Result<End, PlainFault>) -> &str {
         Ok(End::Done) => "DONE",
         Ok(End::Fault(name)) => name.as_str(),
         Err(PlainFault::Script(_)) => "SCRIPT",
+        Err(PlainFault::OtherKind) => "KIND",
         Err(PlainFault::Trace) => "TRACE",
         Err(PlainFault::Memory) => "MEMORY",
         Err(PlainFault::Run(RunFault::Reply)) => "REPLY",
@@ -150,6 +151,7 @@ fn texts_that_are_no_scripts(rt: HostRuntime) -> Result<(), Fail> {
         ),
         (long.as_str(), FaultKind::Limit, 1),
     ];
+    compare(&rt, alloc, "card emmc\nfault stop\n", "KIND", "");
     for (text, kind, line) in rows {
         let fault = PlainFault::Script(ScriptFault { kind, line });
         let mut trace = Vec::new(alloc);

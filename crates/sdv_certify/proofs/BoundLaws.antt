@@ -1,8 +1,8 @@
 -- What the forms of a part's parts give for the part.
 use Rattle.std.proofs.Common.{◌≡◌, ℕ, ◌+◌, ◌*◌, ◌^◌, ◌<◌, ◌≤◌, max, List, [], ◌∷◌, ◌++◌, map, reverse, Option, Some, None, refl, sym, ap, ◌∙◌, arith, append_assoc}
 use Rattle.std.proofs.lemmas.List.{map-append, reverse-append}
-use Rattle.sdv_script.specs.Tree.{Statements, first, Ways, Statement, turns}
-use Rattle.sdv_script.specs.Moves.{statements_moves, ways_moves, statement_moves}
+use Rattle.sdv_graph.specs.Tree.{Statements, first, Ways, Statement, turns}
+use Rattle.sdv_graph.specs.Moves.{statements_moves, ways_moves, statement_moves}
 use Rattle.sdv_certify.specs.declared.form.Form.{Form}
 use Rattle.sdv_certify.specs.declared.spans.Spans.{Spans}
 use Rattle.sdv_certify.specs.Spans.{or_zero, longest, spans_statements}

@@ -1,6 +1,6 @@
 -- The form before a part is at most what its spans say.
 use Rattle.std.proofs.Common.{◌≡◌, ℕ, ◌-◌, ◌*◌, [], true, ◌||◌, Option, Some, None, is_some, refl, arith}
-use Rattle.sdv_script.specs.Tree.{Statements, nothing, first, Ways, otherwise, way, Statement, send, phase, setting, choice, set, clear, turns, break, done, fault}
+use Rattle.sdv_graph.specs.Tree.{Statements, nothing, first, Ways, otherwise, way, Statement, send, phase, setting, choice, set, clear, turns, break, done, fault}
 use Rattle.sdv_certify.specs.declared.spans.Spans.{Spans}
 use Rattle.sdv_certify.specs.declared.form.Form.{Form}
 use Rattle.sdv_certify.specs.Spans.{plus, most, or_zero, spans, either, later, way_out, all_turns, spans_statements, spans_ways, spans_statement}

@@ -1,22 +1,22 @@
 -- The graph of a script keeps the limits of scripts.
-use Rattle.std.proofs.Common.{◌≡◌, ℕ, zero, suc, ◌+◌, ◌-◌, ◌≤◌, List, [], ◌∷◌, ◌++◌, Some, length, slice_get, sym, ap, ◌∙◌, subst, arith}
+use Rattle.std.proofs.Common.{◌≡◌, ℕ, zero, suc, ◌+◌, ◌-◌, ◌≤◌, List, [], ◌∷◌, ◌++◌, Some, length, slice_get, sym, ap, ◌∙◌, subst, arith, Option}
 use Rattle.std.proofs.Props.{props}
 use Rattle.std.proofs.Math.Logic.{∥∥₁_elim}
-use Rattle.sdv_registers.specs.declared.kind.Kind.TheVariants.{Sd}
 use Rattle.sdv_script.specs.declared.depth.Depth.{Depth}
-use Rattle.sdv_script.specs.declared.graph.Target.{Target}
+use Rattle.sdv_graph.specs.declared.graph.Target.{Target}
 use Rattle.sdv_script.specs.declared.script.Script.{Script}
-use Rattle.sdv_script.specs.declared.tree.Atom.{Atom}
-use Rattle.sdv_script.specs.declared.tree.Atom.TheVariants as atoms
-use Rattle.sdv_card.specs.declared.event.Ask.{Ask}
-use Rattle.sdv_script.specs.Graph.{Flow}
-use Rattle.sdv_script.specs.GraphOf.{IsGraphOf}
-use Rattle.sdv_script.specs.Path.{Node, Place, sends, phases, lets, tests, flags, heads, jumps, stops}
-use Rattle.sdv_script.specs.Points.{points_of, points_of_statements, points_of_ways, points_of_statement, entry, again, outside, past}
+use Rattle.sdv_graph.specs.declared.tree.Atom.{Atom}
+use Rattle.sdv_graph.specs.declared.tree.Atom.TheVariants as atoms
+use Rattle.sdv_card.specs.declared.command.Order.{Order}
+use Rattle.sdv_card.specs.CommandTable.{order_of}
+use Rattle.sdv_graph.specs.Graph.{Flow}
+use Rattle.sdv_graph.specs.GraphOf.{IsGraphOf}
+use Rattle.sdv_graph.specs.Path.{Node, Place, sends, phases, lets, tests, flags, heads, jumps, stops}
+use Rattle.sdv_graph.specs.Points.{points_of, points_of_statements, points_of_ways, points_of_statement, entry, again, outside, past}
 use Rattle.sdv_script.specs.Rules.{AtomFits, StatementsFit, WaysFit, StatementFits, deeper, in_loop, statements_count, statement_count}
 use Rattle.sdv_script.specs.Script.{IsScript, Parsed}
 use Rattle.sdv_script.specs.Shown.{shown}
-use Rattle.sdv_script.specs.Tree.{Statements, nothing, first, Ways, otherwise, way, Statement, send, phase, setting, choice, set, clear, turns, break, done, fault, Declared}
+use Rattle.sdv_graph.specs.Tree.{Statements, nothing, first, Ways, otherwise, way, Statement, send, phase, setting, choice, set, clear, turns, break, done, fault, Declared}
 use Rattle.sdv_facts.specs.Limits.{AtomInLimits}
 use Rattle.sdv_registers.specs.declared.kind.Kind.{Kind}
 use Rattle.sdv_certify.specs.declared.fault.CertifyFault.{CertifyFault}
@@ -51,14 +51,14 @@ module _ (names : Declared) (few : length names.flags ≤ 4) where
         both (points_of_statement s at (entry rest (at + statement_count s) next) brk most) (points_of_statements rest (at + statement_count s) next brk most)
         (statement_fits depth s at (entry rest (at + statement_count s) next) brk most f.0) (statements_fit depth rest (at + statement_count s) next brk most f.1)
 
-    ways_fit : (depth : Depth) (ask : Ask) (w : Ways) (at : ℕ) (next brk : Target) (most : List ℕ) → WaysFit names depth ask w → EachNode (points_of_ways w at next brk most)
-    ways_fit depth ask (otherwise b) at next brk most f = statements_fit (deeper depth) b at next brk most f.1
-    ways_fit depth ask (way gs b rest) at next brk most f =
+    ways_fit : (depth : Depth) (order : Option Order) (w : Ways) (at : ℕ) (next brk : Target) (most : List ℕ) → WaysFit names depth order w → EachNode (points_of_ways w at next brk most)
+    ways_fit depth order (otherwise b) at next brk most f = statements_fit (deeper depth) b at next brk most f.1
+    ways_fit depth order (way gs b rest) at next brk most f =
         both (points_of_statements b at next brk most) (points_of_ways rest (at + statements_count b) next brk most)
-        (statements_fit (deeper depth) b at next brk most f.2) (ways_fit depth ask rest (at + statements_count b) next brk most f.3)
+        (statements_fit (deeper depth) b at next brk most f.2) (ways_fit depth order rest (at + statements_count b) next brk most f.3)
 
     statement_fits : (depth : Depth) (s : Statement) (at : ℕ) (next brk : Target) (most : List ℕ) → StatementFits names depth s → EachNode (points_of_statement s at next brk most)
-    statement_fits depth (send c ways) at next brk most f = (tt, ways_fit (deeper depth) c.ask ways (at + 1) next brk most f.2)
+    statement_fits depth (send c ways) at next brk most f = (tt, ways_fit (deeper depth) (order_of names.kind c.ask) ways (at + 1) next brk most f.2)
     statement_fits depth (phase p a b) at next brk most f = (
       tt,
       both (points_of_statements a (at + 1) next brk most) (points_of_statements b (at + 1 + statements_count a) next brk most)
@@ -81,7 +81,7 @@ module _ (names : Declared) (few : length names.flags ≤ 4) where
     statement_fits depth done at next brk most f = (tt, tt)
     statement_fits depth (fault name) at next brk most f = (tt, tt)
 
-graph_fits : (p : Parsed) (g : Flow) → IsGraphOf Sd p.names p.body g → IsScript p → GraphFits g
+graph_fits : (p : Parsed) (g : Flow) → IsGraphOf p.names p.body g → IsScript p → GraphFits g
 graph_fits p g is s = record {
   few = (let n = s.fits.names_fit.few_numbers in let e = is.numbers_same in omega (arith, n, e));
   nodes = λ i place here. each_at (points_of p.body) i place
@@ -108,7 +108,7 @@ node_prop (stops last) = hlevel props
 fits_prop : (g : Flow) → IsProp (GraphFits g)
 fits_prop g = hlevel (props, node_prop)
 
-pub script_fits : (s : Script) (g : Flow) → IsGraphOf Sd (shown s).names (shown s).body g → GraphFits g
+pub script_fits : (s : Script) (g : Flow) → IsGraphOf (shown s).names (shown s).body g → GraphFits g
 script_fits s g is = ∥∥₁_elim s.is_script (fits_prop g) (graph_fits (shown s) g is)
 
 -- ONE GRAPH
@@ -120,10 +120,10 @@ flow_same : (k l : Kind) (m n f h : ℕ) (ps qs : List Place) (t u : Target) (x 
     → Same_flow (record { kind = k; numbers = m; flags = f; places = ps; first = t; steps = x }) (record { kind = l; numbers = n; flags = h; places = qs; first = u; steps = y })
 flow_same k l m n f h ps qs t u x y a b c d e g = cc
 
-pub one_graph : (p : Parsed) (g h : Flow) → IsGraphOf Sd p.names p.body g → IsGraphOf Sd p.names p.body h → g ≡ h
+pub one_graph : (p : Parsed) (g h : Flow) → IsGraphOf p.names p.body g → IsGraphOf p.names p.body h → g ≡ h
 one_graph p g h a b =
     flow_same g.kind h.kind g.numbers h.numbers g.flags h.flags g.places h.places g.first h.first g.steps h.steps (a.kind_same ∙ sym b.kind_same) (a.numbers_same ∙ sym b.numbers_same)
     (a.flags_same ∙ sym b.flags_same) (a.places_same ∙ sym b.places_same) (a.first_same ∙ sym b.first_same) (a.steps_same ∙ sym b.steps_same)
 
-pub refused_of : (s : Script) (g : Flow) (why : CertifyFault) → IsGraphOf Sd (shown s).names (shown s).body g → RefusedAs g why → IsRefused s why
+pub refused_of : (s : Script) (g : Flow) (why : CertifyFault) → IsGraphOf (shown s).names (shown s).body g → RefusedAs g why → IsRefused s why
 refused_of s g why is r h other = subst (λ (x : Flow). RefusedAs x why) (one_graph (shown s) g h is other) r

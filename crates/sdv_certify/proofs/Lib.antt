@@ -29,3 +29,7 @@ pub mod TextLength
 pub mod CodeLaws
 pub mod LimitLaws
 pub mod PointLaws
+pub mod NumberLaws
+pub mod IntoLaws
+pub mod StandLaws
+pub mod FewestLaws

@@ -3,14 +3,14 @@ use Rattle.std.proofs.Common.{◌≡◌, ℕ, zero, suc, ◌+◌, ◌-◌, ◌<�
 use Rattle.std.specs.Prelude.{slice_get}
 use Rattle.std.proofs.Math.Seq.{get_or-append_seam}
 use Rattle.std.proofs.lemmas.Option.{slice_get-get_or}
-use Rattle.sdv_script.specs.declared.graph.Target.{Target}
-use Rattle.sdv_script.specs.Tree.{Statements, nothing, first, Ways, otherwise, way, Statement, send, phase, setting, choice, set, clear, turns, break, done, fault}
+use Rattle.sdv_graph.specs.declared.graph.Target.{Target}
+use Rattle.sdv_graph.specs.Tree.{Statements, nothing, first, Ways, otherwise, way, Statement, send, phase, setting, choice, set, clear, turns, break, done, fault}
 use Rattle.sdv_script.specs.Rules.{statements_count, ways_count, statement_count, statements_break, ways_break, statement_breaks, statements_fall, ways_fall, statement_falls}
-use Rattle.sdv_script.specs.GraphOf.{CanRun}
-use Rattle.sdv_script.specs.Path.{Place}
-use Rattle.sdv_script.specs.Points.{start_of, entry, outside, again, forks, other_of, points_of_statements, points_of_ways, points_of_statement, past, points_of}
-use Rattle.sdv_script.specs.Nested.{EachFork, EachTarget}
-use Rattle.sdv_script.proofs.Standing.{or_left, or_right, and_both, not_both}
+use Rattle.sdv_graph.specs.GraphOf.{CanRun}
+use Rattle.sdv_graph.specs.Path.{Place}
+use Rattle.sdv_graph.specs.Points.{start_of, entry, outside, again, forks, other_of, points_of_statements, points_of_ways, points_of_statement, past, points_of}
+use Rattle.sdv_graph.specs.Nested.{EachFork, EachTarget}
+use Rattle.sdv_graph.proofs.Standing.{or_left, or_right, and_both, not_both}
 use Rattle.sdv_certify.specs.Lives.{lives_of_statements, lives_of_ways, lives_of_statement, lives_of, IsLive}
 
 -- TESTS

@@ -3,12 +3,12 @@ use Rattle.std.proofs.Common.{◌≡◌, ℕ, zero, suc, ◌+◌, ◌-◌, ◌<�
 use Rattle.std.specs.Prelude.{slice_get}
 use Rattle.std.proofs.Math.Seq.{get_or-append_seam}
 use Rattle.std.proofs.lemmas.Option.{slice_get_past, slice_get-get_or}
-use Rattle.sdv_script.specs.declared.graph.Target.{Target}
-use Rattle.sdv_script.specs.Tree.{Statements, nothing, first, Ways, otherwise, way, Statement, send, phase, setting, choice, set, clear, turns, break, done, fault}
+use Rattle.sdv_graph.specs.declared.graph.Target.{Target}
+use Rattle.sdv_graph.specs.Tree.{Statements, nothing, first, Ways, otherwise, way, Statement, send, phase, setting, choice, set, clear, turns, break, done, fault}
 use Rattle.sdv_script.specs.Rules.{statements_count, ways_count, statement_count}
-use Rattle.sdv_script.specs.Path.{Fork, Node, Place, sends, phases, lets, tests, flags, heads, jumps, stops, left, entered, turns_at}
-use Rattle.sdv_script.specs.Points.{start_of, entry, outside, again, forks, other_of, points_of_statements, points_of_ways, points_of_statement, past, points_of}
-use Rattle.sdv_script.specs.Nested.{InBox, Pass, Same, Again, Over, EachFork, EachTarget}
+use Rattle.sdv_graph.specs.Path.{Fork, Node, Place, sends, phases, lets, tests, flags, heads, jumps, stops, left, entered, turns_at}
+use Rattle.sdv_graph.specs.Points.{start_of, entry, outside, again, forks, other_of, points_of_statements, points_of_ways, points_of_statement, past, points_of}
+use Rattle.sdv_graph.specs.Nested.{InBox, Pass, Same, Again, Over, EachFork, EachTarget}
 use Rattle.sdv_facts.specs.Bounds.{turns_cost, bound, commands_of, BoundFalls}
 use Rattle.sdv_facts.specs.declared.certificate.PointFacts.{PointFacts}
 use Rattle.sdv_certify.specs.declared.form.Form.{Form}

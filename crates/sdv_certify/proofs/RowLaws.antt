@@ -1,8 +1,8 @@
 -- The forms of the cases of a command, one block after the other from the last one on.
 use Rattle.std.proofs.Common.{◌≡◌, ℕ, ◌+◌, ◌<◌, ◌≤◌, ◌^◌, max, List, [], ◌∷◌, ◌++◌, map, reverse, Option, Some, None, refl, sym, ap, ◌∙◌, subst, arith, append_assoc, append-nil}
 use Rattle.std.proofs.lemmas.List.{map-append, reverse-append}
-use Rattle.sdv_script.specs.Tree.{Statements, Ways, otherwise, way}
-use Rattle.sdv_script.specs.Moves.{statements_moves, ways_moves}
+use Rattle.sdv_graph.specs.Tree.{Statements, Ways, otherwise, way}
+use Rattle.sdv_graph.specs.Moves.{statements_moves, ways_moves}
 use Rattle.sdv_certify.specs.declared.form.Form.{Form}
 use Rattle.sdv_certify.specs.Blocks.{blocks_of}
 use Rattle.sdv_certify.specs.Forms.{greatest, greater, either_form, form_statements, form_ways, forms_of_statements, forms_of_ways, full_form, in_full}

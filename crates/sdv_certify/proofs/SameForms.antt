@@ -1,7 +1,7 @@
 -- The forms of a part with a coefficient for each loop come from such forms at its end and behind a `break`.
 use Rattle.std.proofs.Common.{◌≡◌, List, [], ◌∷◌, ◌++◌, map, Option, Some, refl, sym, ap, ◌∙◌}
 use Rattle.std.proofs.lemmas.List.{map-append}
-use Rattle.sdv_script.specs.Tree.{Statements, nothing, first, Ways, otherwise, way, Statement, send, phase, setting, choice, set, clear, turns, break, done, fault}
+use Rattle.sdv_graph.specs.Tree.{Statements, nothing, first, Ways, otherwise, way, Statement, send, phase, setting, choice, set, clear, turns, break, done, fault}
 use Rattle.sdv_certify.specs.declared.form.Form.{Form}
 use Rattle.sdv_certify.specs.Spans.{spans_statements}
 use Rattle.sdv_certify.specs.Forms.{either_form, leads_to, last_turn, inside_too, form_statements, form_ways, form_before, form_of_loop, forms_of_statements, forms_of_ways, forms_of_statement, full_form, in_full}

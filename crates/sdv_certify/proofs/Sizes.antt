@@ -1,6 +1,6 @@
 -- The size of a part of a script: more than that of each part in it.
 use Rattle.std.proofs.Common.{ℕ, ◌+◌}
-use Rattle.sdv_script.specs.Tree.{Statements, nothing, first, Ways, otherwise, way, Statement, send, phase, setting, choice, set, clear, turns, break, done, fault}
+use Rattle.sdv_graph.specs.Tree.{Statements, nothing, first, Ways, otherwise, way, Statement, send, phase, setting, choice, set, clear, turns, break, done, fault}
 
 abbrev mutual
   pub statements_size : Statements → ℕ

@@ -1,12 +1,13 @@
 -- Each loop of a script has a turn, and its moves can be counted.
-use Rattle.std.proofs.Common.{zero, suc, ◌<◌, length, get_or, All, arith, ◌≡◌, ℕ, ◌^◌, List, [], ◌∷◌, ◌++◌, map, reverse, refl, sym, ap, ◌∙◌}
+use Rattle.std.proofs.Common.{zero, suc, ◌<◌, length, get_or, All, arith, ◌≡◌, ℕ, ◌^◌, List, [], ◌∷◌, ◌++◌, map, reverse, refl, sym, ap, ◌∙◌, Option}
 use Rattle.std.proofs.lemmas.List.{map-append, reverse-append, reverse-reverse}
 use Rattle.std.proofs.Props.{props}
 use Rattle.std.proofs.Math.Logic.{∥∥₁_elim}
-use Rattle.sdv_card.specs.declared.event.Ask.{Ask}
+use Rattle.sdv_card.specs.declared.command.Order.{Order}
+use Rattle.sdv_card.specs.CommandTable.{order_of}
 use Rattle.sdv_script.specs.declared.depth.Depth.{Depth}
-use Rattle.sdv_script.specs.Tree.{Statements, nothing, first, Ways, otherwise, way, Statement, send, phase, setting, choice, set, clear, turns, break, done, fault, Declared}
-use Rattle.sdv_script.specs.Moves.{statements_moves}
+use Rattle.sdv_graph.specs.Tree.{Statements, nothing, first, Ways, otherwise, way, Statement, send, phase, setting, choice, set, clear, turns, break, done, fault, Declared}
+use Rattle.sdv_graph.specs.Moves.{statements_moves}
 use Rattle.sdv_script.specs.Rules.{StatementsFit, WaysFit, StatementFits, deeper, in_loop}
 use Rattle.sdv_script.specs.Script.{Parsed, IsScript}
 use Rattle.sdv_script.proofs.MovesBound.{few_moves}
@@ -19,12 +20,12 @@ mutual
   statements_turn names d nothing f = tt
   statements_turn names d (first s rest) f = (statement_turns names d s f.0, statements_turn names d rest f.1)
 
-  ways_turn : (names : Declared) (d : Depth) (ask : Ask) (c : Ways) → WaysFit names d ask c → WaysTurn c
-  ways_turn names d ask (otherwise b) f = statements_turn names (deeper d) b f.1
-  ways_turn names d ask (way guards b rest) f = (statements_turn names (deeper d) b f.2, ways_turn names d ask rest f.3)
+  ways_turn : (names : Declared) (d : Depth) (order : Option Order) (c : Ways) → WaysFit names d order c → WaysTurn c
+  ways_turn names d order (otherwise b) f = statements_turn names (deeper d) b f.1
+  ways_turn names d order (way guards b rest) f = (statements_turn names (deeper d) b f.2, ways_turn names d order rest f.3)
 
   statement_turns : (names : Declared) (d : Depth) (s : Statement) → StatementFits names d s → StatementTurns s
-  statement_turns names d (send c ways) f = ways_turn names (deeper d) c.ask ways f.2
+  statement_turns names d (send c ways) f = ways_turn names (deeper d) (order_of names.kind c.ask) ways f.2
   statement_turns names d (phase p a b) f = (statements_turn names (deeper (deeper d)) a f.2, statements_turn names (deeper (deeper d)) b f.3)
   statement_turns names d (setting l) f = tt
   statement_turns names d (choice c a b) f = (statements_turn names (deeper d) a f.2, statements_turn names (deeper d) b f.3)

@@ -1,6 +1,6 @@
 -- The blocks of the cases of a command, in their order.
 use Rattle.std.specs.Prelude.{List, [], ◌∷◌}
-use Rattle.sdv_script.specs.Tree.{Statements, Ways, otherwise, way}
+use Rattle.sdv_graph.specs.Tree.{Statements, Ways, otherwise, way}
 
 abbrev pub blocks_of : Ways → List Statements
 blocks_of (otherwise b) = b ∷ []

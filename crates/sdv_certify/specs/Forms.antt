@@ -4,7 +4,7 @@
 -- part the greatest is taken. Coefficients go from the innermost loop outwards; those that a list lacks are 0.
 -- Bounds are this project's own.
 use Rattle.std.specs.Prelude.{ℕ, zero, suc, ◌+◌, ◌-◌, ◌*◌, ◌≤◌, max, List, [], ◌∷◌, ◌++◌, All, Option, Some, None}
-use Rattle.sdv_script.specs.Tree.{Statements, nothing, first, Ways, otherwise, way, Statement, send, phase, setting, choice, set, clear, turns, break, done, fault}
+use Rattle.sdv_graph.specs.Tree.{Statements, nothing, first, Ways, otherwise, way, Statement, send, phase, setting, choice, set, clear, turns, break, done, fault}
 use Rattle.sdv_script.specs.Rules.{max_number, max_loops}
 use Rattle.sdv_certify.specs.declared.spans.Spans.{Spans}
 use Rattle.sdv_certify.specs.declared.form.Form.{Form}

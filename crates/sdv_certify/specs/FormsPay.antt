@@ -1,10 +1,10 @@
 -- The bound forms PAY FOR EACH EDGE: along it the bound falls by the commands sent, for all turns left.
 use Rattle.std.specs.Prelude.{◌≡◌, ℕ, ◌+◌, ◌≤◌, List, length, reverse, slice_get, Some}
-use Rattle.sdv_script.specs.declared.graph.Target.{Target}
-use Rattle.sdv_script.specs.Tree.{Statements}
-use Rattle.sdv_script.specs.Nested.{Pass, Turned, EachTarget}
-use Rattle.sdv_script.specs.Path.{Place, turns_at}
-use Rattle.sdv_script.specs.Points.{points_of}
+use Rattle.sdv_graph.specs.declared.graph.Target.{Target}
+use Rattle.sdv_graph.specs.Tree.{Statements}
+use Rattle.sdv_graph.specs.Nested.{Pass, Turned, EachTarget}
+use Rattle.sdv_graph.specs.Path.{Place, turns_at}
+use Rattle.sdv_graph.specs.Points.{points_of}
 use Rattle.sdv_facts.specs.declared.certificate.PointFacts.{PointFacts}
 use Rattle.sdv_facts.specs.Bounds.{turns_cost, commands_of, BoundFalls}
 use Rattle.sdv_certify.specs.declared.form.Form.{Form}

@@ -15,3 +15,6 @@ pub mod Kept
 pub mod Lives
 pub mod Assembled
 pub mod Points
+pub mod NumberTests
+pub mod ShapeSets
+pub mod Fewest

@@ -1,6 +1,6 @@
 -- Each loop of a part of a script has a turn.
 use Rattle.std.specs.Prelude.{◌≤◌}
-use Rattle.sdv_script.specs.Tree.{Statements, nothing, first, Ways, otherwise, way, Statement, send, phase, setting, choice, set, clear, turns, break, done, fault}
+use Rattle.sdv_graph.specs.Tree.{Statements, nothing, first, Ways, otherwise, way, Statement, send, phase, setting, choice, set, clear, turns, break, done, fault}
 
 abbrev mutual
   pub StatementsTurn : Statements → Type 0

@@ -1,9 +1,9 @@
 //! The bound form of each point of a script.
 
 ghost use Rattle.std.specs.Prelude.{◌≡◌, ◌≢◌, ◌+◌, ◌<◌, ◌^◌, ◌++◌, ◌∷◌, [], map, max, reverse, All, IfOk, IfErr, OnOk, IsTrue, ◌↔◌, ◌≤◌};
-ghost use Rattle.sdv_script.specs.Moves.{statements_moves, ways_moves, statement_moves};
+ghost use Rattle.sdv_graph.specs.Moves.{statements_moves, ways_moves, statement_moves};
 ghost use Rattle.sdv_script.specs.Shown.{shown};
-ghost use Rattle.sdv_script.specs.Tree.{statements_of, ways_of, statement_of};
+ghost use Rattle.sdv_graph.specs.Tree.{statements_of, ways_of, statement_of};
 ghost use Rattle.sdv_certify.specs.Forms.{leads_to, form_statements, form_ways, form_before, forms_of_statements, forms_of_ways, forms_of_statement, forms_of, full_form, in_full, FormInLimits};
 ghost use Rattle.sdv_script.specs.Rules.{max_number};
 ghost use Rattle.sdv_certify.specs.Blocks.{blocks_of};
@@ -15,7 +15,8 @@ use crate::parts::{
     END, before_loop, either_form, head_form, inside_too, last_turn, leads_to, sends_then,
 };
 use crate::spans::block_spans;
-use sdv_script::{Block, Cases, Script, Stmt};
+use sdv_graph::{Block, Cases, Stmt};
+use sdv_script::Script;
 use std::alloc::{AllocError, Global};
 
 /// The greatest number of a certificate.

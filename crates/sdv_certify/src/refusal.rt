@@ -2,13 +2,13 @@
 
 ghost use Rattle.std.specs.Prelude.{◌≡◌, ◌↔◌, length, IsTrue, IfSome, IfNone};
 ghost use Rattle.sdv_facts.specs.Known.{AreRising};
-ghost use Rattle.sdv_script.specs.Graph.{node_of, place_of};
+ghost use Rattle.sdv_graph.specs.Graph.{node_of, place_of};
 ghost use Rattle.sdv_certify.specs.Refusal.{AllLegal, AddressHolds, AllEnd, IsFine, IsLeastIllegal, FailsAs, FailsIfReached, IsFineIfReached, FailsFirst, AllFine};
 
 use crate::fault::CertifyFault;
 use sdv_card::{CardTable, Shape};
 use sdv_facts::{Facts, address_holds, ends_at, legal_at};
-use sdv_script::{Action, Graph, Point};
+use sdv_graph::{Action, Graph, Point};
 
 /// The least shape where the event of a statement is not legal.
 fn least_illegal<T: CardTable>(action: &Action<'_>, shapes: &[Shape]) -> Option<Shape>

@@ -1,11 +1,11 @@
 //! The greatest numbers of commands on the ways through a part of a script.
 
 ghost use Rattle.std.specs.Prelude.{◌≡◌, ◌<◌, ◌^◌, ◌*◌, ◌+◌};
-ghost use Rattle.sdv_script.specs.Tree.{statements_of, ways_of, statement_of};
-ghost use Rattle.sdv_script.specs.Moves.{statements_moves, ways_moves, statement_moves};
+ghost use Rattle.sdv_graph.specs.Tree.{statements_of, ways_of, statement_of};
+ghost use Rattle.sdv_graph.specs.Moves.{statements_moves, ways_moves, statement_moves};
 ghost use Rattle.sdv_certify.specs.Spans.{plus, most, seq, either, later, all_turns, or_zero, longest, spans_statements, spans_ways, spans_statement};
 
-use sdv_script::{Block, Cases, Stmt};
+use sdv_graph::{Block, Cases, Stmt};
 use std::cmp::max;
 
 /// The greatest numbers of commands on the ways through a part of a script; none where there is no such way.

@@ -3,9 +3,9 @@ use Rattle.std.proofs.Common.{◌≡◌, ℕ, zero, suc, ltb-true, ◌+◌, ◌<
 use Rattle.std.specs.Prelude.{slice_get, ◌&&◌}
 use Rattle.std.proofs.lemmas.Bool.{cases_eq}
 use Rattle.std.proofs.lemmas.Option.{slice_get-get_or, slice_get_within}
-use Rattle.sdv_script.specs.Graph.{Flow}
-use Rattle.sdv_script.specs.Limits.{node_keeps_limits, keeps_limits, all_keep_limits}
-use Rattle.sdv_script.specs.Path.{Node, Place, sends, phases, lets, tests, flags, heads, jumps, stops}
+use Rattle.sdv_graph.specs.Graph.{Flow}
+use Rattle.sdv_graph.specs.Limits.{node_keeps_limits, keeps_limits, all_keep_limits}
+use Rattle.sdv_graph.specs.Path.{Node, Place, sends, phases, lets, tests, flags, heads, jumps, stops}
 use Rattle.sdv_facts.specs.declared.certificate.PointFacts.{PointFacts}
 use Rattle.sdv_facts.specs.declared.clause.Clause.{Clause}
 use Rattle.sdv_facts.specs.declared.clause.Clause.TheVariants as clauses

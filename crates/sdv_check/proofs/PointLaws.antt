@@ -3,8 +3,8 @@ use Rattle.std.proofs.Common.{◌≡◌, ℕ, ◌+◌, ◌<◌, List, length, ta
 use Rattle.std.specs.Prelude.{slice_get, map}
 use Rattle.std.specs.Borrow.{Bor}
 use Rattle.sdv_card.specs.declared.event.Seen.{Seen}
-use Rattle.sdv_script.specs.declared.graph.Way.{Way}
-use Rattle.sdv_script.specs.Graph.{fork_of}
+use Rattle.sdv_graph.specs.declared.graph.Way.{Way}
+use Rattle.sdv_graph.specs.Graph.{fork_of}
 use Rattle.sdv_check.specs.declared.cases.Cases.{Cases}
 use Rattle.sdv_check.specs.declared.cases.Cases.TheVariants.{Ways}
 use Rattle.sdv_check.specs.Cases.{forks_of}
@@ -13,9 +13,9 @@ use Rattle.sdv_registers.specs.declared.kind.Kind.{Kind}
 use Rattle.sdv_card.specs.declared.shape.Shape.{Shape}
 use Rattle.sdv_card.specs.Lists.{May}
 use Rattle.sdv_card.proofs.Distinct.{May-push_cases, May-at}
-use Rattle.sdv_script.specs.declared.graph.Target.{Target}
-use Rattle.sdv_script.specs.Nested.{Pass}
-use Rattle.sdv_script.specs.Path.{Place}
+use Rattle.sdv_graph.specs.declared.graph.Target.{Target}
+use Rattle.sdv_graph.specs.Nested.{Pass}
+use Rattle.sdv_graph.specs.Path.{Place}
 use Rattle.sdv_facts.specs.declared.certificate.PointFacts.{PointFacts}
 use Rattle.sdv_facts.specs.declared.clause.Clause.TheVariants.{Address as AddressOff}
 use Rattle.sdv_facts.specs.declared.numbers.Numbers.{Numbers}

@@ -1,9 +1,9 @@
 -- A certificate that is closed for a graph keeps what the checker promises.
 use Rattle.std.proofs.Common.{ℕ, List, sym, subst}
 use Rattle.std.specs.Prelude.{Result, Ok, Err, IfOk}
-use Rattle.sdv_script.specs.Graph.{Flow, begin}
-use Rattle.sdv_script.specs.GraphOf.{IsSound}
-use Rattle.sdv_script.specs.Path.{Path}
+use Rattle.sdv_graph.specs.Graph.{Flow, begin}
+use Rattle.sdv_graph.specs.GraphOf.{IsSound}
+use Rattle.sdv_graph.specs.Path.{Path}
 use Rattle.sdv_facts.specs.declared.certificate.PointFacts.{PointFacts}
 use Rattle.sdv_facts.specs.Beside.{RunsWell}
 use Rattle.sdv_facts.proofs.Headline.{each_step, each_path}

@@ -1,14 +1,13 @@
 -- What is promised of the paths of a graph holds of the runs of its script's text.
 use Rattle.std.proofs.Common.{◌≡◌, ℕ, List, sym, subst, ◌∙◌}
 use Rattle.sdv_registers.specs.declared.kind.Kind.{Kind}
-use Rattle.sdv_registers.specs.declared.kind.Kind.TheVariants.{Sd}
-use Rattle.sdv_script.specs.Graph.{Flow, begin}
-use Rattle.sdv_script.specs.Moves.{statements_moves}
-use Rattle.sdv_script.specs.Path.{Path}
+use Rattle.sdv_graph.specs.Graph.{Flow, begin}
+use Rattle.sdv_graph.specs.Moves.{statements_moves}
+use Rattle.sdv_graph.specs.Path.{Path}
 use Rattle.sdv_script.specs.Script.{Parsed}
-use Rattle.sdv_script.specs.Tree.{Statements, Declared}
-use Rattle.sdv_script.specs.Walk.{Walk}
-use Rattle.sdv_script.proofs.FaultNames.{names_fault}
+use Rattle.sdv_graph.specs.Tree.{Statements, Declared}
+use Rattle.sdv_graph.specs.Walk.{Walk}
+use Rattle.sdv_graph.proofs.FaultNames.{names_fault}
 use Rattle.sdv_script.proofs.ScriptLaws.{one_tree_lem}
 use Rattle.sdv_facts.specs.declared.certificate.PointFacts.{PointFacts}
 use Rattle.sdv_facts.specs.Beside.{RunsEnd, RunsWell}
@@ -17,24 +16,29 @@ use Rattle.sdv_check.specs.Headline.{EachRunOf}
 use Rattle.sdv_check.specs.Promised.{Promised}
 use Rattle.sdv_check.specs.Verified.{IsGraphOfText}
 
-of_kind : (k : Kind) (names : Declared) (body : Statements) (most : ℕ) → k ≡ Sd → RunsWell k (Walk k names body) most → RunsWell Sd (Walk Sd names body) most
-of_kind k names body most is runs = subst (λ k. RunsWell k (Walk k names body) most) is runs
+of_kind : (k l : Kind) (names : Declared) (body : Statements) (most : ℕ) → k ≡ l → RunsWell k (Walk k names body) most → RunsWell l (Walk l names body) most
+of_kind k l names body most is runs = subst (λ k. RunsWell k (Walk k names body) most) is runs
 
-ends_of_kind : (k : Kind) (names : Declared) (body : Statements) (n m : ℕ) → k ≡ Sd → n ≡ m → RunsEnd (Walk k names body) n → RunsEnd (Walk Sd names body) m
-ends_of_kind k names body n m is same ends = subst (λ m. RunsEnd (Walk Sd names body) m) same (subst (λ k. RunsEnd (Walk k names body) n) is ends)
+ends_of_kind : (k l : Kind) (names : Declared) (body : Statements) (n m : ℕ) → k ≡ l → n ≡ m → RunsEnd (Walk k names body) n → RunsEnd (Walk l names body) m
+ends_of_kind k l names body n m is same ends = subst (λ m. RunsEnd (Walk l names body) m) same (subst (λ k. RunsEnd (Walk k names body) n) is ends)
 
 pub runs_of_text : (text : List ℕ) (g : Flow) (ps : List PointFacts) (most : ℕ) → IsGraphOfText text g → Promised g ps most → EachRunOf text most
 runs_of_text text g ps most of promised s same is_script =
     let t : Parsed = of.script in
+    let k : Kind = t.names.kind in
     let tree = one_tree_lem t s of.is_script is_script (of.same ∙ sym same) in
     let walks : RunsWell g.kind (Walk g.kind t.names t.body) most =
     same_runs g.kind (Walk g.kind t.names t.body) (λ e es. Path g.kind g.places e (begin g) es) most of.graph.walks promised.runs in
-    let own : RunsWell Sd (Walk Sd t.names t.body) most = of_kind g.kind t.names t.body most of.graph.kind_same walks in
-    let over : RunsEnd (Walk Sd t.names t.body) (statements_moves t.body) =
-    ends_of_kind g.kind t.names t.body g.steps (statements_moves t.body) of.graph.kind_same of.graph.steps_same
+    let own : RunsWell k (Walk k t.names t.body) most = of_kind g.kind k t.names t.body most of.graph.kind_same walks in
+    let over : RunsEnd (Walk k t.names t.body) (statements_moves t.body) =
+    ends_of_kind g.kind k t.names t.body g.steps (statements_moves t.body) of.graph.kind_same of.graph.steps_same
     (walks_end g t.names t.body of.graph.sound.ends of.graph.walks) in
     record {
-      runs = subst (λ b. RunsWell Sd (Walk Sd s.names b) most) tree.1 (subst (λ n. RunsWell Sd (Walk Sd n t.body) most) tree.0 own);
-      ends = subst (λ b. RunsEnd (Walk Sd s.names b) (statements_moves b)) tree.1 (subst (λ n. RunsEnd (Walk Sd n t.body) (statements_moves t.body)) tree.0 over);
-      faults = λ e es walk. names_fault Sd s.names s.body e es walk;
+      runs =
+          subst (λ b. RunsWell s.names.kind (Walk s.names.kind s.names b) most) tree.1
+          (subst (λ (n : Declared). RunsWell n.kind (Walk n.kind n t.body) most) tree.0 own);
+      ends =
+          subst (λ b. RunsEnd (Walk s.names.kind s.names b) (statements_moves b)) tree.1
+          (subst (λ (n : Declared). RunsEnd (Walk n.kind n t.body) (statements_moves t.body)) tree.0 over);
+      faults = λ e es walk. names_fault s.names.kind s.names s.body e es walk;
     }

@@ -3,9 +3,9 @@ use Rattle.std.specs.Prelude.{◌≡◌, ◌<◌, ℕ, List, slice_get, Option, 
 use Rattle.sdv_registers.specs.declared.kind.Kind.{Kind}
 use Rattle.sdv_card.specs.declared.shape.Shape.{Shape}
 use Rattle.sdv_card.specs.Lists.{May}
-use Rattle.sdv_script.specs.Graph.{place_of}
+use Rattle.sdv_graph.specs.Graph.{place_of}
 use Rattle.sdv_script.specs.Nested as nested
-use Rattle.sdv_script.specs.Path.{Node, Place, lets, flags}
+use Rattle.sdv_graph.specs.Path.{Node, Place, lets, flags}
 use Rattle.sdv_facts.specs.declared.numbers.Numbers.{Numbers}
 use Rattle.sdv_facts.specs.declared.certificate.PointFacts.{PointFacts}
 use Rattle.sdv_facts.specs.AfterLet.{after_let}

@@ -1,6 +1,6 @@
 -- What the checker answers: the bound of a certificate that is closed, or the first clause that fails.
 use Rattle.std.specs.Prelude.{◌≡◌, ℕ, List, Result, Ok, Err}
-use Rattle.sdv_script.specs.Graph.{Flow}
+use Rattle.sdv_graph.specs.Graph.{Flow}
 use Rattle.sdv_facts.specs.declared.certificate.PointFacts.{PointFacts}
 use Rattle.sdv_facts.specs.declared.clause.Clause.TheVariants as clauses
 use Rattle.sdv_facts.specs.Bounds.{bound_of}

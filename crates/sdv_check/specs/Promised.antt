@@ -1,7 +1,7 @@
 -- What the checker's yes PROMISES of a graph.
 use Rattle.std.specs.Prelude.{ℕ, List}
-use Rattle.sdv_script.specs.Graph.{Flow, begin}
-use Rattle.sdv_script.specs.Path.{Path}
+use Rattle.sdv_graph.specs.Graph.{Flow, begin}
+use Rattle.sdv_graph.specs.Path.{Path}
 use Rattle.sdv_facts.specs.declared.certificate.PointFacts.{PointFacts}
 use Rattle.sdv_facts.specs.Beside.{RunsEnd, RunsWell}
 use Rattle.sdv_facts.specs.Stands.{StepsWell}

@@ -1,9 +1,9 @@
 -- The bound clause along an edge, decided at the worst turns alone.
 -- Bounds are this project's own.
 use Rattle.std.specs.Prelude.{ℕ, zero, suc, ◌+◌, ◌*◌, ◌-◌, ◌≤◌, List, [], ◌∷◌, reverse, Option, Some, None, IfSome}
-use Rattle.sdv_script.specs.declared.graph.Target.{Target}
-use Rattle.sdv_script.specs.Nested.{Pass, Same, Again, Over}
-use Rattle.sdv_script.specs.Path.{left}
+use Rattle.sdv_graph.specs.declared.graph.Target.{Target}
+use Rattle.sdv_graph.specs.Nested.{Pass, Same, Again, Over}
+use Rattle.sdv_graph.specs.Path.{left}
 use Rattle.sdv_facts.specs.declared.certificate.PointFacts.{PointFacts}
 
 -- the most by which a target's bound exceeds a source's over the loops that they share: all turns left where a turn costs

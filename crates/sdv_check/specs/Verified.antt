@@ -1,12 +1,11 @@
 -- What is answered of the texts of a script and a certificate.
 use Rattle.std.specs.Prelude.{◌≡◌, ℕ, List, Result, Ok, Err}
-use Rattle.sdv_registers.specs.declared.kind.Kind.TheVariants.{Sd}
 use Rattle.sdv_script.specs.declared.fault.ScriptFault.{ScriptFault}
 use Rattle.sdv_script.specs.declared.fault.FaultKind.{FaultKind}
 use Rattle.sdv_script.specs.declared.fault.FaultKind.TheVariants.{Memory as NoMemory}
 use Rattle.sdv_script.specs.Script.{Parsed, IsScript}
-use Rattle.sdv_script.specs.Graph.{Flow}
-use Rattle.sdv_script.specs.GraphOf.{IsGraphOf}
+use Rattle.sdv_graph.specs.Graph.{Flow}
+use Rattle.sdv_graph.specs.GraphOf.{IsGraphOf}
 use Rattle.sdv_facts.specs.declared.certificate.PointFacts.{PointFacts}
 use Rattle.sdv_facts.specs.Bounds.{bound_of}
 use Rattle.sdv_facts.specs.CertificateText.{text_of, WithinLimits}
@@ -21,7 +20,7 @@ pub record IsGraphOfText (text : List ℕ) (g : Flow) : Type 0 where
   pub script : Parsed
   pub same : script.text ≡ text
   pub is_script : IsScript script
-  pub graph : IsGraphOf Sd script.names script.body g
+  pub graph : IsGraphOf script.names script.body g
 
 -- the text is that of this certificate, which is within the limits
 pub record IsTextOf (text : List ℕ) (ps : List PointFacts) : Type 0 where

@@ -1,4 +1,4 @@
-use sdv_script::Graph;
+use sdv_graph::Graph;
 use std::marker::Model;
 
 /// A script that was verified: its graph, for which a certificate is closed, and the bound of that certificate.

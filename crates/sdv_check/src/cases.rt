@@ -1,4 +1,4 @@
-use sdv_script::{Target, Way};
+use sdv_graph::{Target, Way};
 
 /// The ways on after an event, but for the last.
 #[derive(Clone, Copy)]

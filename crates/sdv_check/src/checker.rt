@@ -1,9 +1,9 @@
 //! The checker.
 
 ghost use Rattle.std.specs.Prelude.{◌≡◌, ◌<◌, ◌↔◌, ◌^◌, [], true, IsTrue, IfOk, MatchOption, All, length, slice_get};
-ghost use Rattle.sdv_script.specs.Graph.{place_of};
-ghost use Rattle.sdv_script.specs.Limits.{all_keep_limits};
-ghost use Rattle.sdv_script.specs.Path.{turns_at};
+ghost use Rattle.sdv_graph.specs.Graph.{place_of};
+ghost use Rattle.sdv_graph.specs.Limits.{all_keep_limits};
+ghost use Rattle.sdv_graph.specs.Path.{turns_at};
 ghost use Rattle.sdv_facts.specs.Bounds.{bound_at};
 ghost use Rattle.sdv_facts.specs.Closed.{PointMatches, PointsMatch, StartsAt, StartCovers, PointClosed, FailsAt};
 ghost use Rattle.sdv_facts.specs.Limits.{IsInLimits, PointInLimits};
@@ -18,8 +18,9 @@ use crate::fault::CheckFault;
 use crate::source::Source;
 use crate::turns::costs;
 use sdv_card::{CardTable, Kind, START_SHAPES};
+use sdv_emmc::EmmcTable;
 use sdv_facts::{Certificate, Clause, Numbers, PointFacts, covers, holds_shape};
-use sdv_script::{Graph, Point, Target};
+use sdv_graph::{Graph, Point, Target};
 use sdv_sd::SdTable;
 
 /// The bound of a certificate that is closed for a graph: the commands that it allows from point 0 on, with all turns left
@@ -37,7 +38,7 @@ pub fn check(graph: &Graph<'_>, certificate: &Certificate) -> Result<u64, CheckF
 {
     match graph.kind() {
         Kind::Sd => accept_by::<SdTable>(graph, certificate),
-        Kind::Emmc => unreachable!(),
+        Kind::Emmc => accept_by::<EmmcTable>(graph, certificate),
     }
 }
 

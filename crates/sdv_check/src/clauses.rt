@@ -10,7 +10,7 @@ use crate::edges::edges_hold;
 use crate::source::{Asked, Rules, Source};
 use sdv_card::{CardTable, Shape};
 use sdv_facts::{Clause, Numbers, address_holds, after_let, ends_at, legal_at};
-use sdv_script::Action;
+use sdv_graph::Action;
 
 /// The numbers after a `let`, of a point that is one.
 fn numbers_set(at: Source<'_, '_>) -> Option<Numbers>

@@ -3,7 +3,7 @@ ghost use Rattle.sdv_facts.specs.declared.certificate.PointFacts.{PointFacts};
 
 use sdv_card::Kind;
 use sdv_facts::PointFacts;
-use sdv_script::Point;
+use sdv_graph::Point;
 
 /// What becomes of the turns left before an edge is taken.
 #[derive(Clone, Copy)]

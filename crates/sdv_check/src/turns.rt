@@ -4,8 +4,8 @@
 //! left of each loop whose turns cost more at the target, and with none of the others. Sums are made of 128 bits.
 
 ghost use Rattle.std.specs.Prelude.{◌≡◌, ◌+◌, ◌^◌, ◌<◌, ◌≤◌, ◌↔◌, ◌∷◌, IsTrue, MatchOption, reverse};
-ghost use Rattle.sdv_script.specs.Graph.{node_of};
-ghost use Rattle.sdv_script.specs.Path.{left};
+ghost use Rattle.sdv_graph.specs.Graph.{node_of};
+ghost use Rattle.sdv_graph.specs.Path.{left};
 ghost use Rattle.sdv_facts.specs.Bounds.{BoundFalls, commands_of};
 ghost use Rattle.sdv_check.specs.Asked.{place_at, pass_of};
 ghost use Rattle.sdv_check.specs.Turns.{excess, entering, inside, turn_taken, costs, FallsAtWorst};
@@ -13,7 +13,7 @@ ghost use Rattle.sdv_check.specs.Turns.{excess, entering, inside, turn_taken, co
 use crate::source::{Pass, Source};
 use arrayvec::ArrayVec;
 use sdv_facts::PointFacts;
-use sdv_script::{Action, Target};
+use sdv_graph::{Action, Target};
 
 /// The costs of the loops, the innermost first; a certificate names the outermost first.
 fn reversed(turns: &ArrayVec<u64, 4>) -> ArrayVec<u64, 4>

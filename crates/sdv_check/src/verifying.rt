@@ -6,7 +6,8 @@ use crate::accepted::Accepted;
 use crate::checker::check;
 use crate::fault::VerifyFault;
 use crate::text::{CertFault, read};
-use sdv_script::{FaultKind, Graph, ScriptFault, parse};
+use sdv_graph::Graph;
+use sdv_script::{FaultKind, ScriptFault, parse};
 use std::alloc::Global;
 
 /// The graph of the script that a text is.

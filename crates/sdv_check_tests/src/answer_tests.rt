@@ -58,6 +58,115 @@ fn answer(rt: &impl Abort, alloc: Global, text: &str) -> Answer {
     Ok(check(&graph, &certificate).ok().expect(rt, "accepted"))
 }
 
+// An e.MMC device is brought up with 1007 commands at most.
+const DEVICE_POWER_UP: &str =
+    "loop 1000 { send 1 { ocr.ready & ocr.block { set hc break } ocr.ready { break } answer { } else { fault lost1 } } } else { fault busy }";
+
+const CAPACITY: &str =
+    "if hc { send 8 { clean { recv reg { ok { let cap = ext.blocks } else { fault ext } } } else { fault ext } } } else { let cap = csd.blocks }";
+
+// A script for an e.MMC device, with a part for CMD3, and what follows CMD16. That begins with point 18.
+fn device_text(alloc: Global, naming: &str, rest: &[&str]) -> Result<String, AllocError> {
+    let mut text = String::new(alloc);
+    text.push_str("card emmc flags hc nums cap pos\nsend 0 { else { } }\n")?;
+    for part in [DEVICE_POWER_UP, IDENTIFY, naming, CSD, SELECT, LENGTH] {
+        text.push_str(part)?;
+        text.push_str("\n")?;
+    }
+    for part in rest {
+        text.push_str(part)?;
+        text.push_str("\n")?;
+    }
+    Ok(text)
+}
+
+// The part for CMD3, what follows CMD16, and the answer.
+static DEVICES: [(&str, &[&str], Answer); 9] = [
+    (NAMING, &[CAPACITY, "done"], Ok(1007)),
+    // the CSD of a device with block addresses does not tell its capacity
+    (
+        NAMING,
+        &["let cap = csd.blocks let pos = cap - 1 send 17 at by hc pos { else { fault stop } }"],
+        Err(Address { point: 20 }),
+    ),
+    // a device that took CMD3 is in stand-by state, where it takes no other one
+    (
+        "send 3 { clean { } else { send 3 { clean { } else { fault rca } } } }",
+        &[CAPACITY, "done"],
+        Err(Illegal {
+            point: 11,
+            shape: Shape(0x2003),
+        }),
+    ),
+    // the last block by SEC_COUNT, and one more
+    (
+        NAMING,
+        &[
+            CAPACITY,
+            "let pos = cap - 1 send 17 at by hc pos { else { fault stop } }",
+        ],
+        Ok(1008),
+    ),
+    (
+        NAMING,
+        &[
+            CAPACITY,
+            "let pos = cap send 17 at by hc pos { else { fault stop } }",
+        ],
+        Err(Address { point: 26 }),
+    ),
+    // a counted read, and one of another count than was set
+    (
+        NAMING,
+        &[
+            CAPACITY,
+            "if cap >= 8 { } else { fault small } send 23 count 8 { clean { } else { fault st } } send 18 at by hc 0 count 8 { clean { recv { ok { } else { fault rd } } } else { fault rd } } done",
+        ],
+        Ok(1009),
+    ),
+    (
+        NAMING,
+        &[
+            CAPACITY,
+            "send 23 count 8 { clean { } else { fault st } } send 18 at by hc 0 count 4 { else { fault stop } }",
+        ],
+        Err(Illegal {
+            point: 27,
+            shape: Shape(0x8_0000_2804),
+        }),
+    ),
+    // a trim, and one whose end stands first
+    (
+        NAMING,
+        &[
+            CAPACITY,
+            "if cap >= 16 { } else { fault small } send 35 at by hc 8 { clean { } else { fault st } } send 36 at by hc 15 { clean { } else { fault st } } send 38 1 { clean { } else { fault st } } loop 9 { wait { ok { break } else { } } } else { fault busy } done",
+        ],
+        Ok(1010),
+    ),
+    (
+        NAMING,
+        &[
+            CAPACITY,
+            "if cap >= 16 { } else { fault small } send 36 at by hc 8 { else { fault stop } }",
+        ],
+        Err(Illegal {
+            point: 27,
+            shape: Shape(0x2804),
+        }),
+    ),
+];
+
+#[test]
+fn devices(rt: HostRuntime) -> Result<(), Fail> {
+    let alloc = rt.alloc();
+    for &(naming, rest, wanted) in DEVICES.iter() {
+        let text = device_text(alloc, naming, rest)?;
+        assert_eq!(&rt; answer(&rt, alloc, &text), wanted, "{text}");
+    }
+    Ok(())
+}
+
 // A part of the script that brings a card up, another one in its place, and what follows.
 static BRING_UPS: [(&str, &str, &str, Answer); 17] = [
     // nothing is asked of the card

@@ -1,6 +1,6 @@
 //! Runs over a port that plays a list, with their traces.
 
-use crate::common::{BRING_UP, CERTIFICATE, Room, SMALLEST};
+use crate::common::{BRING_UP, CERTIFICATE, DEVICE_BRING_UP, Room, SMALLEST};
 use crate::port::{Play, PlayPort};
 use sdv_card::{Answer, DataEnd, WaitEnd};
 use sdv_check::verify;
@@ -62,6 +62,23 @@ const CARD: [Play; 9] = [
     Play::R1(16, 0x900),
 ];
 
+// The answers of an e.MMC device with block addresses.
+const DEVICE: [Play; 9] = [
+    Play::Answer(Answer::Sent),
+    Play::Reply(Reply::R3(0xc0ff_8080)),
+    Play::Reply(Reply::R2([
+        0x00, 0x01, 0x58, 0x53, 0x44, 0x56, 0x45, 0x52, 0x49, 0x10, 0x00, 0x00, 0x00, 0x01, 0x17,
+    ])),
+    Play::R1(3, 0x500),
+    Play::Reply(Reply::R2([
+        0x00, 0x00, 0x00, 0x00, 0x00, 0x09, 0x03, 0xff, 0xc0, 0x03, 0x80, 0x00, 0x00, 0x00, 0x00,
+    ])),
+    Play::R1(7, 0x700),
+    Play::R1(16, 0x900),
+    Play::R1(8, 0x900),
+    Play::Data(DataEnd::Ok, 0),
+];
+
 // The same of a card with a CSD of another structure.
 const CARD_OF_LATER: [Play; 7] = [
     Play::Answer(Answer::Sent),
@@ -74,7 +91,7 @@ const CARD_OF_LATER: [Play; 7] = [
 ];
 
 // Scripts, what is played to them, their ends, their calls, their traces, and how many bytes are put out.
-static RUNS: [(&str, &[Play], &str, usize, &str, usize); 19] = [
+static RUNS: [(&str, &[Play], &str, usize, &str, usize); 21] = [
     (
         BRING_UP,
         &CARD,
@@ -92,6 +109,38 @@ CMD16 00000200 R1 00000900
 done
 ",
         0,
+    ),
+    (
+        DEVICE_BRING_UP,
+        &DEVICE,
+        "DONE",
+        9,
+        "CMD0 00000000 -
+CMD1 40ff8080 R3 c0ff8080
+CMD2 00000000 R2 000158534456455249100000000117
+CMD3 00010000 R1 00000500
+CMD9 00010000 R2 00000000000903ffc0038000000000
+CMD7 00010000 R1 00000700
+CMD16 00000200 R1 00000900
+CMD8 00000000 R1 00000900
+REG 512 ok
+done
+",
+        0,
+    ),
+    // a counted read, and a trim
+    (
+        "card emmc send 23 count 8 { else { } } send 18 at block 7 count 8 { else { } } recv { ok { } else { fault rd } } send 38 1 { else { } } done",
+        &[
+            Play::R1(23, 0x900),
+            Play::R1(18, 0x900),
+            Play::Data(DataEnd::Ok, 7),
+            Play::R1(38, 0x900),
+        ],
+        "DONE",
+        4,
+        "CMD23 00000008 R1 00000900\nCMD18 00000007 R1 00000900\nIN 8 ok\nCMD38 00000001 R1 00000900\ndone\n",
+        4096,
     ),
     // no answer to CMD0, which has none
     (

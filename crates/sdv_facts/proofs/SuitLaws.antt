@@ -26,16 +26,17 @@ same_test : (g : Guard) (o : Option Order) → commands.fits_order g o ≡ true 
 same_test g None e = e
 same_test g (Some order) e = e
 
-module _ (k : Kind) where
-  guards_at : (ask : Ask) (gs : List Guard) → guards_suit k ask gs ≡ true → GuardsSuit k ask gs
-  guards_at ask [] e = tt
-  guards_at ask (g ∷ gs) e =
-      let p = both (commands.fits_order g (order_of k ask)) (guards_suit k ask gs) e in
-      (same_test g (order_of k ask) p.0, guards_at ask gs p.1)
+guards_at : (k : Kind) (ask : Ask) (gs : List Guard) → guards_suit (order_of k ask) gs ≡ true → GuardsSuit k ask gs
+guards_at k ask [] e = tt
+guards_at k ask (g ∷ gs) e =
+    let p = both (commands.fits_order g (order_of k ask)) (guards_suit (order_of k ask) gs) e in
+    (same_test g (order_of k ask) p.0, guards_at k ask gs p.1)
 
-  forks_at : (ask : Ask) (ws : List Fork) → forks_suit k ask ws ≡ true → ForksSuit k ask ws
-  forks_at ask [] e = tt
-  forks_at ask (w ∷ ws) e = let p = both (guards_suit k ask w.guards) (forks_suit k ask ws) e in (guards_at ask w.guards p.0, forks_at ask ws p.1)
+forks_at : (k : Kind) (ask : Ask) (ws : List Fork) → forks_suit (order_of k ask) ws ≡ true → ForksSuit k ask ws
+forks_at k ask [] e = tt
+forks_at k ask (w ∷ ws) e =
+    let p = both (guards_suit (order_of k ask) w.guards) (forks_suit (order_of k ask) ws) e in
+    (guards_at k ask w.guards p.0, forks_at k ask ws p.1)
 
 atom_at : (k : Kind) (a : Atom) → atom_suits k a ≡ true → MayStandIn k a
 atom_at Sd (atoms.Number n) e = tt

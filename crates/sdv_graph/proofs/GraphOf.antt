@@ -1,14 +1,13 @@
 -- The graph of statements that can be run.
 use Rattle.std.proofs.Common.{◌≡◌, ℕ, List, length, refl, ap, ◌∙◌}
 use Rattle.sdv_registers.specs.declared.kind.Kind.{Kind}
-use Rattle.sdv_registers.specs.declared.kind.Kind.TheVariants.{Sd}
 use Rattle.sdv_card.specs.Profile.{host_at_start}
 use Rattle.sdv_graph.specs.declared.graph.Target.{Target}
 use Rattle.sdv_graph.specs.Path.{Place}
 use Rattle.sdv_graph.specs.Tree.{Statements, Declared}
 use Rattle.sdv_graph.specs.Points.{points_of, first_of}
 use Rattle.sdv_graph.specs.Graph.{Flow}
-use Rattle.sdv_graph.specs.GraphOf.{CanRun, IsSound, IsGraphOf}
+use Rattle.sdv_graph.specs.GraphOf.{CanRun, SuitsKind, IsSound, IsGraphOf}
 use Rattle.sdv_graph.specs.Moves.{statements_moves}
 use Rattle.sdv_graph.proofs.Ends.{each_run_ends}
 use Rattle.sdv_graph.proofs.Nesting.{nested}
@@ -26,23 +25,23 @@ flow_is k names b {ps} {t} {n} {f} {m} p q x y z =
     ap (λ ps. parts k n f ps t m) p ∙ ap (λ t. parts k n f (points_of b) t m) q ∙ ap (λ n. parts k n f (points_of b) (first_of b) m) x
     ∙ ap (λ f. parts k (length names.numbers) f (points_of b) (first_of b) m) y ∙ ap (λ m. parts k (length names.numbers) (length names.flags) (points_of b) (first_of b) m) z
 
-pub sound : (n f : ℕ) (names : Declared) (b : Statements) → CanRun b → IsSound (flow_of Sd n f b)
-sound n f names b can = record {
-  kind = refl;
-  ends = each_run_ends Sd b (host_at_start n) can.ends can.inside;
-  nested = nested Sd n f (statements_moves b) b;
+pub sound : (k : Kind) (n f : ℕ) (b : Statements) → CanRun b → SuitsKind k b → IsSound (flow_of k n f b)
+sound k n f b can suits = record {
+  ends = each_run_ends k b (host_at_start n) can.ends can.inside;
+  nested = nested k n f (statements_moves b) b;
   limits = can.limits;
-  suits = can.suits;
+  suits = suits;
 }
 
-pub is_graph_of : (names : Declared) (b : Statements) → CanRun b → IsGraphOf Sd names b (flow_of Sd (length names.numbers) (length names.flags) b)
-is_graph_of names b can = record {
+pub is_graph_of : (names : Declared) (b : Statements) → CanRun b → SuitsKind names.kind b
+    → IsGraphOf names b (flow_of names.kind (length names.numbers) (length names.flags) b)
+is_graph_of names b can suits = record {
   kind_same = refl;
   numbers_same = refl;
   flags_same = refl;
   places_same = refl;
   first_same = refl;
   steps_same = refl;
-  walks = λ e es. walks_are_paths Sd names b e es can.inside;
-  sound = sound (length names.numbers) (length names.flags) names b can;
+  walks = λ e es. walks_are_paths names.kind names b e es can.inside;
+  sound = sound names.kind (length names.numbers) (length names.flags) b can suits;
 }

@@ -78,6 +78,6 @@ EachRunEnds g = Lasts g.kind g.places g.steps (begin g)
 abbrev pub texts : List (Bor (List ℕ)) → List (List ℕ)
 texts names = map (λ n. n.now) names
 
--- the names that a script declares
+-- what a script declares
 abbrev pub declared_names : Names → Declared
-declared_names names = record { flags = texts names.flags.items; numbers = texts names.numbers.items }
+declared_names names = record { kind = names.kind; flags = texts names.flags.items; numbers = texts names.numbers.items }

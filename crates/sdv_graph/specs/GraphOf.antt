@@ -2,7 +2,6 @@
 -- nested as its targets say.
 use Rattle.std.specs.Prelude.{◌≡◌, ◌<◌, ◌≤◌, ◌^◌, true, false, length}
 use Rattle.sdv_registers.specs.declared.kind.Kind.{Kind}
-use Rattle.sdv_registers.specs.declared.kind.Kind.TheVariants.{Sd}
 use Rattle.sdv_graph.specs.Tree.{Statements, Declared}
 use Rattle.sdv_graph.specs.Counts.{statements_break, statements_fall, statements_count, max_statements}
 use Rattle.sdv_graph.specs.Points.{points_of, first_of}
@@ -13,26 +12,27 @@ use Rattle.sdv_graph.specs.Limits.{all_keep_limits}
 use Rattle.sdv_graph.specs.Suits.{all_suit}
 
 -- what the rules of scripts say of statements, as far as their graph needs it: no `break` stands outside a loop, no run
--- falls off the end, statements and moves are few enough to be counted, each point keeps the limits, and its guards and
--- registers suit it
+-- falls off the end, statements and moves are few enough to be counted, and each point keeps the limits
 pub record CanRun (script : Statements) : Type 0 where
   pub inside : statements_break script ≡ false
   pub ends : statements_fall script ≡ false
   pub few : statements_count script ≤ max_statements
   pub moves : statements_moves script < 2 ^ 128
   pub limits : all_keep_limits (points_of script) ≡ true
-  pub suits : all_suit Sd (points_of script) ≡ true
 
--- what is true of every graph: it is that of a script for SD cards, the one kind that scripts name
+-- and of the statements of a script for cards of a kind: at each point guards and registers suit the kind
+abbrev pub SuitsKind : Kind → Statements → Type 0
+SuitsKind k script = all_suit k (points_of script) ≡ true
+
+-- what is true of every graph
 pub record IsSound (g : Flow) : Type 0 where
-  pub kind : g.kind ≡ Sd
   pub ends : EachRunEnds g
   pub nested : Nested g
   pub limits : all_keep_limits g.places ≡ true
   pub suits : all_suit g.kind g.places ≡ true
 
-pub record IsGraphOf (kind : Kind) (names : Declared) (script : Statements) (g : Flow) : Type 0 where
-  pub kind_same : g.kind ≡ kind
+pub record IsGraphOf (names : Declared) (script : Statements) (g : Flow) : Type 0 where
+  pub kind_same : g.kind ≡ names.kind
   pub numbers_same : g.numbers ≡ length names.numbers
   pub flags_same : g.flags ≡ length names.flags
   -- one point for each statement, in the order of their first tokens

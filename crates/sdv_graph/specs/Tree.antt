@@ -1,5 +1,6 @@
 -- The syntax tree of a script without where it lies in memory, and the tree of the code as such a tree.
 use Rattle.std.specs.Prelude.{ℕ, List, [], ◌∷◌}
+use Rattle.sdv_registers.specs.declared.kind.Kind.{Kind}
 use Rattle.sdv_card.specs.declared.guard.Guard.{Guard}
 use Rattle.sdv_graph.specs.declared.tree.Block.{Block, Empty, Then'}
 use Rattle.sdv_graph.specs.declared.tree.Cases.{Cases, Else', Case'}
@@ -62,7 +63,9 @@ abbrev pub before : List Guarded → Ways → Ways
 before [] others = others
 before (c ∷ cs) others = way c.0 c.1 (before cs others)
 
--- the names of a script: of its flags and of its number variables, in declared order
+-- what a script declares: the kind of card that it is for, and the names of its flags and of its number variables in
+-- their order
 pub record Declared : Type 0 where
+  pub kind : Kind
   pub flags : List (List ℕ)
   pub numbers : List (List ℕ)

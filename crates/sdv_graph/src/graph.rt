@@ -109,10 +109,9 @@ impl<'a> Graph<'a> {
         }
     }
 
-    /// The kind of card that the script is for: SD, the one kind that scripts name.
+    /// The kind of card that the script is for.
     pub fn kind(&self) -> Kind
-        ensures kind { result ≡ self.now.kind }
-        ensures sd { result ≡ Kind.Sd }
+        ensures { result ≡ self.now.kind }
     {
         self.kind
     }

@@ -6,24 +6,22 @@ ghost use Rattle.sdv_graph.specs.Counts.{statements_count, ways_count, statement
 ghost use Rattle.sdv_graph.specs.Moves.{statements_moves};
 ghost use Rattle.sdv_graph.specs.Points.{start_of, entry, outside, again, forks, other_of, points_of_statements, points_of_ways, points_of_statement};
 ghost use Rattle.sdv_graph.specs.Graph.{fork_of, node_of, place_of, places_of, declared_names};
-ghost use Rattle.sdv_registers.specs.declared.kind.Kind.TheVariants.{Sd};
-ghost use Rattle.sdv_graph.specs.GraphOf.{CanRun, IsGraphOf};
+ghost use Rattle.sdv_graph.specs.GraphOf.{CanRun, SuitsKind, IsGraphOf};
 
 use crate::graph::{Action, Graph, Point, Target, Way};
 use crate::moves::moves;
 use crate::tree::{Block, Cases, Names, Stmt};
-use sdv_card::Kind;
 use std::alloc::{AllocError, Global};
 
-/// The graph of a script for SD cards, by the names that it declares and its statements. It is refused only for
-/// want of memory.
+/// The graph of a script, by what it declares and its statements. It is refused only for want of memory.
 pub fn graph_of<'a>(
     alloc: Global,
     names: &Names<'a>,
     block: &Block<'a>,
 ) -> Result<Graph<'a>, AllocError>
-    requires { CanRun (statements_of block.now) }
-    ensures { IfOk result (λ g. IsGraphOf Sd (declared_names names.now) (statements_of block.now) g) }
+    requires runs { CanRun (statements_of block.now) }
+    requires suits { SuitsKind names.now.kind (statements_of block.now) }
+    ensures { IfOk result (λ g. IsGraphOf (declared_names names.now) (statements_of block.now) g) }
 {
     let end = head_of(count(block));
     let mut points = Vec::new(alloc);
@@ -31,7 +29,7 @@ pub fn graph_of<'a>(
     let first = entry_of(block, 0, end);
     let steps = moves(block);
     let (numbers, flags) = (names.numbers.len(), names.flags.len());
-    Ok(Graph::from_points(Kind::Sd, numbers, flags, points, first, steps))
+    Ok(Graph::from_points(names.kind, numbers, flags, points, first, steps))
 }
 
 // How many statements a list of statements has, those of its blocks included.

@@ -3,7 +3,7 @@
 //! Flags and number variables are named by their places in declared order, from 0. The texts of tokens that a tree keeps
 //! are slices of the script's text.
 
-use sdv_card::{Ask, Guard};
+use sdv_card::{Ask, Guard, Kind};
 
 /// A list of statements: none, or a first one and the rest.
 #[derive(Drop)]
@@ -148,9 +148,11 @@ pub enum Condition {
     Below(usize, u64),
 }
 
-/// The names of a script, in declared order.
+/// What a script declares: the kind of card that it is for, and its names in their order.
 #[derive(Drop)]
 pub struct Names<'a> {
+    /// The kind of card.
+    pub kind: Kind,
     /// The flags, at most 4.
     pub flags: Vec<&'a str>,
     /// The number variables, at most 8.

@@ -13,13 +13,13 @@ use Rattle.sdv_card.specs.Guards.{passes}
 use Rattle.sdv_card.specs.CommandTable.{aim_number, is_line, is_counted, order_if, order_of, argument_of}
 use Rattle.sdv_card.specs.Host.{Host, host_after_order, host_after}
 use Rattle.sdv_card.specs.ScriptEvent.{ScriptEvent, SendCommand, ReceiveBlocks, ReceiveRegister, GiveBlocks, AwaitReady, Return, Answered, BlocksIn, RegisterIn, BlocksOut, Waited}
-use Rattle.sdv_script.specs.declared.graph.Target.{Target}
-use Rattle.sdv_script.specs.declared.tree.Phase.TheVariants as kinds
-use Rattle.sdv_script.specs.AddressSent.{position_of_command, address_of_command}
-use Rattle.sdv_script.specs.Conditions.{condition_holds, with_flag}
-use Rattle.sdv_script.specs.ValueOfLet.{value_of_let, with_number}
-use Rattle.sdv_script.specs.Walk.{exactly, giving, command_deed}
-use Rattle.sdv_script.specs.Path.{Node, sends, phases, lets, tests, flags, heads, jumps, stops, Stand, arrive, Move, Goes, Does, way_of, move_with, node_move}
+use Rattle.sdv_graph.specs.declared.graph.Target.{Target}
+use Rattle.sdv_graph.specs.declared.tree.Phase.TheVariants as kinds
+use Rattle.sdv_graph.specs.AddressSent.{position_of_command, address_of_command}
+use Rattle.sdv_graph.specs.Conditions.{condition_holds, with_flag}
+use Rattle.sdv_graph.specs.ValueOfLet.{value_of_let, with_number}
+use Rattle.sdv_graph.specs.Walk.{exactly, giving, command_deed}
+use Rattle.sdv_graph.specs.Path.{Node, sends, phases, lets, tests, flags, heads, jumps, stops, Stand, arrive, Move, Goes, Does, way_of, move_with, node_move}
 use Rattle.sdv_run.specs.Announced.{announced_at}
 use Rattle.sdv_run.specs.Run.{Steps}
 use Rattle.sdv_run.specs.Step.{World, Leads}

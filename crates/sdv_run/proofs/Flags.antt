@@ -2,7 +2,7 @@
 use Rattle.std.proofs.Common.{◌≡◌, ◌≤◌, ◌<◌, ◌+◌, ◌^◌, ◌/◌, ◌%◌, ℕ, zero, suc, false, ap, arith}
 use Rattle.std.specs.Prelude.{◌==◌}
 use Rattle.std.proofs.Math.Nat.{pow-le-pow_right, div-eq_of_lt}
-use Rattle.sdv_script.specs.AddressSent.{is_flag_set}
+use Rattle.sdv_graph.specs.AddressSent.{is_flag_set}
 
 -- a bit that is clear has room
 pub clear_has_room : (n flag : ℕ) → flag < 8 → n < 256 → is_flag_set n flag ≡ false → n + 2 ^ flag < 256

@@ -5,7 +5,7 @@ use Rattle.sdv_registers.specs.declared.kind.Kind.{Kind}
 use Rattle.sdv_card.specs.Card.{Block}
 use Rattle.sdv_card.specs.Port.{DataOut}
 use Rattle.sdv_card.specs.ScriptEvent.{GiveBlocks, Return, Answered, BlocksIn, RegisterIn, BlocksOut, Waited, MayReturn}
-use Rattle.sdv_script.specs.Walk.{giving}
+use Rattle.sdv_graph.specs.Walk.{giving}
 use Rattle.sdv_run.specs.declared.fault.RunFault.{RunFault}
 use Rattle.sdv_run.specs.declared.fault.RunFault.TheVariants.{Reply, Input, Output, Trace, Memory}
 use Rattle.sdv_run.specs.Trace.{line_of}

@@ -5,9 +5,9 @@ use Rattle.std.specs.Io.KnownBytes.{Appends}
 use Rattle.sdv_registers.specs.declared.kind.Kind.{Kind}
 use Rattle.sdv_card.specs.Host.{host_after}
 use Rattle.sdv_card.specs.ScriptEvent.{ScriptEvent, Return}
-use Rattle.sdv_script.specs.Walk.{Pair, Ending, given_by, given}
-use Rattle.sdv_script.specs.Path.{Place, Stand, Move, Goes, Does, Halts, Follows, Path}
-use Rattle.sdv_script.specs.Graph.{WhereverTo}
+use Rattle.sdv_graph.specs.Walk.{Pair, Ending, given_by, given}
+use Rattle.sdv_graph.specs.Path.{Place, Stand, Move, Goes, Does, Halts, Follows, Path}
+use Rattle.sdv_graph.specs.Graph.{WhereverTo}
 use Rattle.sdv_run.specs.Trace.{line_of}
 use Rattle.sdv_run.specs.Run.{Steps, Moved, lines, received_by, received}
 use Rattle.sdv_run.specs.Ran.{Happened, Written}

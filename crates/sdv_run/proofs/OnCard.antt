@@ -22,10 +22,10 @@ use Rattle.sdv_card.specs.Host.{Host, host_after_order}
 use Rattle.sdv_card.specs.Port.{Shows, Kept, KeepsTables}
 use Rattle.sdv_card.specs.ScriptEvent.{SendCommand, Answered}
 use Rattle.sdv_card.specs.Step.{Step}
-use Rattle.sdv_script.specs.Graph.{Flow, begin}
-use Rattle.sdv_script.specs.GraphOf.{IsSound}
-use Rattle.sdv_script.specs.Path.{Path}
-use Rattle.sdv_script.specs.Walk.{Pair, Ending, Open}
+use Rattle.sdv_graph.specs.Graph.{Flow, begin}
+use Rattle.sdv_graph.specs.GraphOf.{IsSound}
+use Rattle.sdv_graph.specs.Path.{Path}
+use Rattle.sdv_graph.specs.Walk.{Pair, Ending, Open}
 use Rattle.sdv_facts.specs.declared.certificate.PointFacts.{PointFacts}
 use Rattle.sdv_facts.specs.Beside.{StepsOf, IsGood}
 use Rattle.sdv_facts.specs.Bounds.{bound_of}

@@ -6,19 +6,19 @@ use Rattle.sdv_card.specs.declared.guard.Guard.TheVariants.{Ok as WentWell}
 use Rattle.sdv_card.specs.Guards.{passes}
 use Rattle.sdv_card.specs.Host.{Host}
 use Rattle.sdv_card.specs.ScriptEvent.{Return}
-use Rattle.sdv_script.specs.declared.graph.Target.{Target}
+use Rattle.sdv_graph.specs.declared.graph.Target.{Target}
 use Rattle.sdv_script.specs.Rules.{max_flags, max_loops, max_name}
-use Rattle.sdv_script.specs.AddressSent.{position_of_command}
-use Rattle.sdv_script.specs.Conditions.{condition_holds, with_flag}
-use Rattle.sdv_script.specs.ValueOfLet.{value_of_let, with_number}
-use Rattle.sdv_script.specs.Walk.{Fell, Broke, Finished, Failed, Open, command_deed, all_pass}
-use Rattle.sdv_script.specs.Path.{Fork, Node, Place, sends, phases, lets, tests, flags, heads, jumps, stops, Stand, arrive, Move, Goes, Does, Halts, way_of, move_with, node_move, move}
-use Rattle.sdv_script.specs.declared.graph.Action.{Action}
-use Rattle.sdv_script.specs.declared.graph.Action.TheVariants as actions
-use Rattle.sdv_script.specs.Graph.{Flow, WhereverTo, Lasts, begin, node_of}
-use Rattle.sdv_script.specs.Nested.{InBox, Same, EachFork, EachTarget, Lands}
-use Rattle.sdv_script.specs.Limits.{node_keeps_limits, keeps_limits, all_keep_limits}
-use Rattle.sdv_script.specs.GraphOf.{IsSound}
+use Rattle.sdv_graph.specs.AddressSent.{position_of_command}
+use Rattle.sdv_graph.specs.Conditions.{condition_holds, with_flag}
+use Rattle.sdv_graph.specs.ValueOfLet.{value_of_let, with_number}
+use Rattle.sdv_graph.specs.Walk.{Fell, Broke, Finished, Failed, Open, command_deed, all_pass}
+use Rattle.sdv_graph.specs.Path.{Fork, Node, Place, sends, phases, lets, tests, flags, heads, jumps, stops, Stand, arrive, Move, Goes, Does, Halts, way_of, move_with, node_move, move}
+use Rattle.sdv_graph.specs.declared.graph.Action.{Action}
+use Rattle.sdv_graph.specs.declared.graph.Action.TheVariants as actions
+use Rattle.sdv_graph.specs.Graph.{Flow, WhereverTo, Lasts, begin, node_of}
+use Rattle.sdv_graph.specs.Nested.{InBox, Same, EachFork, EachTarget, Lands}
+use Rattle.sdv_graph.specs.Limits.{node_keeps_limits, keeps_limits, all_keep_limits}
+use Rattle.sdv_graph.specs.GraphOf.{IsSound}
 use Rattle.sdv_run.specs.Moves.{IsNarrow, IsInRange}
 
 -- wherever a move leads, if it leads anywhere

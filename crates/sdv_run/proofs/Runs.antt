@@ -12,11 +12,11 @@ use Rattle.sdv_card.specs.Card.{Block}
 use Rattle.sdv_card.specs.Host.{Host, host_after}
 use Rattle.sdv_card.specs.Port.{DataIn, call_of}
 use Rattle.sdv_card.specs.ScriptEvent.{ScriptEvent, SendCommand, ReceiveBlocks, ReceiveRegister, GiveBlocks, AwaitReady, Return, Answered, BlocksIn, BlocksOut, MayReturn}
-use Rattle.sdv_script.specs.Walk.{Pair, Ending, Open, Walk, Deed, exactly, giving, IsDeed, given_by}
-use Rattle.sdv_script.specs.Path.{Place, Stand, Move, Goes, Does, Halts, Follows, Path, node_move, move, move_from}
-use Rattle.sdv_script.specs.Graph.{Flow, Lasts, begin}
-use Rattle.sdv_script.specs.GraphOf.{IsSound}
-use Rattle.sdv_script.proofs.Paths.{roll}
+use Rattle.sdv_graph.specs.Walk.{Pair, Ending, Open, Walk, Deed, exactly, giving, IsDeed, given_by}
+use Rattle.sdv_graph.specs.Path.{Place, Stand, Move, Goes, Does, Halts, Follows, Path, node_move, move, move_from}
+use Rattle.sdv_graph.specs.Graph.{Flow, Lasts, begin}
+use Rattle.sdv_graph.specs.GraphOf.{IsSound}
+use Rattle.sdv_graph.proofs.Paths.{roll}
 use Rattle.sdv_run.specs.declared.end.End.{End}
 use Rattle.sdv_run.specs.declared.fault.RunFault.{RunFault}
 use Rattle.sdv_run.specs.declared.fault.RunFault.TheVariants.{Reply, Input, Output, Trace, Memory}
@@ -34,7 +34,7 @@ use Rattle.sdv_run.proofs.Announced.{announced_after}
 use Rattle.sdv_run.proofs.Made.{received_more, happened_more, written_more, none_happened, none_written, moves, led_to, led_onward}
 
 is_walk : (f : Flow) (e : Ending) (es : List Pair) → Path f.kind f.places e (begin f) es → IsWalk f e es
-is_walk f e es path = record { path = path; walk = λ k names script is. subst (λ k. Walk k names script e es) is.kind_same ((is.walks e es).1 path) }
+is_walk f e es path = record { path = path; walk = λ names script is. subst (λ k. Walk k names script e es) is.kind_same ((is.walks e es).1 path) }
 
 -- a path may stop anywhere
 open_here : (k : Kind) (g : List Place) (s : Stand) → Path k g Open s []

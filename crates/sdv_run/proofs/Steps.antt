@@ -3,8 +3,8 @@ use Rattle.std.proofs.Common.{◌≡◌, ◌≤◌, ℕ, length, Option, Some, N
 use Rattle.std.specs.Prelude.{option_map}
 use Rattle.sdv_card.specs.Host.{Host}
 use Rattle.sdv_card.specs.ScriptEvent.{Return}
-use Rattle.sdv_script.specs.Walk.{Deed}
-use Rattle.sdv_script.specs.Path.{Stand, Does, move_with}
+use Rattle.sdv_graph.specs.Walk.{Deed}
+use Rattle.sdv_graph.specs.Path.{Stand, Does, move_with}
 use Rattle.sdv_run.specs.Moves.{IsNarrow}
 
 -- where a command has an argument, its move leads into few loops

@@ -1,6 +1,6 @@
 -- How many blocks a graph's phases have at most: as many as one of its commands announces.
 use Rattle.std.specs.Prelude.{◌≡◌, ◌≤◌, ℕ, List, slice_get, Some}
-use Rattle.sdv_script.specs.Path.{Node, Place, sends}
+use Rattle.sdv_graph.specs.Path.{Node, Place, sends}
 
 -- how many blocks a statement announces
 abbrev pub announced_at : Node → ℕ

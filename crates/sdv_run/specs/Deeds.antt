@@ -15,10 +15,10 @@ use Rattle.sdv_card.specs.ScriptEvent.{ScriptEvent, MayReturn, ReceiveBlocks, Re
 use Rattle.sdv_card.specs.declared.guard.Guard.TheVariants.{Ok as WentWell}
 use Rattle.sdv_card.specs.Guards.{passes}
 use Rattle.sdv_card.specs.CommandTable.{order_of, expect_of, argument_of}
-use Rattle.sdv_script.specs.declared.tree.Command.{Command}
-use Rattle.sdv_script.specs.declared.graph.Target.{Target}
-use Rattle.sdv_script.specs.AddressSent.{position_of_command, address_of_command}
-use Rattle.sdv_script.specs.Path.{Stand, arrive}
+use Rattle.sdv_graph.specs.declared.tree.Command.{Command}
+use Rattle.sdv_graph.specs.declared.graph.Target.{Target}
+use Rattle.sdv_graph.specs.AddressSent.{position_of_command, address_of_command}
+use Rattle.sdv_graph.specs.Path.{Stand, arrive}
 use Rattle.sdv_run.specs.declared.fault.RunFault.{RunFault}
 use Rattle.sdv_run.specs.declared.fault.RunFault.TheVariants.{Reply, Output, Trace}
 use Rattle.sdv_text.specs.Written.{AppendsPart}

@@ -2,10 +2,10 @@
 use Rattle.std.specs.Prelude.{◌≡◌, ◌≤◌, ◌<◌, length, Option, Some, None}
 use Rattle.sdv_card.specs.Host.{Host}
 use Rattle.sdv_card.specs.ScriptEvent.{Return}
-use Rattle.sdv_script.specs.declared.graph.Action.{Action}
-use Rattle.sdv_script.specs.declared.graph.Action.TheVariants as actions
-use Rattle.sdv_script.specs.Walk.{Finished, Failed}
-use Rattle.sdv_script.specs.Path.{Stand, Move, Goes, Does, Halts}
+use Rattle.sdv_graph.specs.declared.graph.Action.{Action}
+use Rattle.sdv_graph.specs.declared.graph.Action.TheVariants as actions
+use Rattle.sdv_graph.specs.Walk.{Finished, Failed}
+use Rattle.sdv_graph.specs.Path.{Stand, Move, Goes, Does, Halts}
 use Rattle.sdv_run.specs.declared.end.End.{End}
 use Rattle.sdv_run.specs.Run.{ending_of}
 

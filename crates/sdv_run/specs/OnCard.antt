@@ -5,8 +5,8 @@ use Rattle.sdv_registers.specs.declared.kind.Kind.{Kind}
 use Rattle.sdv_card.specs.Card.{Card}
 use Rattle.sdv_card.specs.Port.{Shows}
 use Rattle.sdv_card.specs.Profile.{IsAtStart}
-use Rattle.sdv_script.specs.Graph.{Flow}
-use Rattle.sdv_script.specs.Walk.{Pair, Ending, Open}
+use Rattle.sdv_graph.specs.Graph.{Flow}
+use Rattle.sdv_graph.specs.Walk.{Pair, Ending, Open}
 use Rattle.sdv_facts.specs.Beside.{StepsOf, commands, EndsWell, IsGood}
 use Rattle.sdv_run.specs.declared.end.End.{End}
 use Rattle.sdv_run.specs.declared.fault.RunFault.{RunFault}

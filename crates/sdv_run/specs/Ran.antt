@@ -10,11 +10,11 @@ use Rattle.sdv_card.specs.declared.answer.DataEnd.{DataEnd}
 use Rattle.sdv_card.specs.declared.answer.DataEnd.TheVariants as ends
 use Rattle.sdv_card.specs.Card.{Block}
 use Rattle.sdv_card.specs.ScriptEvent.{ScriptEvent, SendCommand, ReceiveBlocks, GiveBlocks, Return, Answered, BlocksIn, BlocksOut}
-use Rattle.sdv_script.specs.Tree.{Statements, Declared}
-use Rattle.sdv_script.specs.Walk.{Pair, Ending, Open, Walk, given}
-use Rattle.sdv_script.specs.Path.{Path}
-use Rattle.sdv_script.specs.Graph.{Flow, begin}
-use Rattle.sdv_script.specs.GraphOf.{IsGraphOf}
+use Rattle.sdv_graph.specs.Tree.{Statements, Declared}
+use Rattle.sdv_graph.specs.Walk.{Pair, Ending, Open, Walk, given}
+use Rattle.sdv_graph.specs.Path.{Path}
+use Rattle.sdv_graph.specs.Graph.{Flow, begin}
+use Rattle.sdv_graph.specs.GraphOf.{IsGraphOf}
 use Rattle.sdv_run.specs.declared.end.End.{End}
 use Rattle.sdv_run.specs.declared.fault.RunFault.{RunFault}
 use Rattle.sdv_run.specs.declared.fault.RunFault.TheVariants.{Reply, Input, Output, Trace, Memory}
@@ -33,7 +33,7 @@ pub record Happened {S : Type 0} (k : Kind) (steps : Steps S) (es : List Pair) (
 -- They are a path of the graph, and so a walk of its script, which ends so.
 pub record IsWalk (g : Flow) (last : Ending) (es : List Pair) : Type 0 where
   pub path : Path g.kind g.places last (begin g) es
-  pub walk : (k : Kind) (names : Declared) (script : Statements) → IsGraphOf k names script g → Walk k names script last es
+  pub walk : (names : Declared) (script : Statements) → IsGraphOf names script g → Walk names.kind names script last es
 
 -- Their blocks were written, and their lines were printed.
 pub record Written {S : Type 0} (es : List Pair) (w w' : World S) : Type 0 where

@@ -5,7 +5,7 @@ use Rattle.sdv_registers.specs.declared.kind.Kind.{Kind}
 use Rattle.sdv_card.specs.declared.answer.DataEnd.TheVariants as ends
 use Rattle.sdv_card.specs.Port.{Call, call_of}
 use Rattle.sdv_card.specs.ScriptEvent.{Return, BlocksIn}
-use Rattle.sdv_script.specs.Walk.{Pair, Ending, Finished, Failed}
+use Rattle.sdv_graph.specs.Walk.{Pair, Ending, Finished, Failed}
 use Rattle.sdv_run.specs.declared.end.End.{End}
 use Rattle.sdv_run.specs.declared.end.End.TheVariants.{Done, Fault}
 use Rattle.sdv_run.specs.Trace.{line_of}

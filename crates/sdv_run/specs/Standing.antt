@@ -1,7 +1,7 @@
 -- Where a runner stands, as a place of a graph, and what it knows, as a host beside a card.
 use Rattle.std.specs.Prelude.{option_map}
 use Rattle.sdv_card.specs.Host.{Host}
-use Rattle.sdv_script.specs.Path.{Stand}
+use Rattle.sdv_graph.specs.Path.{Stand}
 use Rattle.sdv_run.specs.declared.host.HostState.{HostState}
 use Rattle.sdv_run.specs.declared.standing.Standing.{Standing}
 

@@ -9,8 +9,8 @@ use Rattle.sdv_card.specs.Card.{Block}
 use Rattle.sdv_card.specs.Host.{host_after}
 use Rattle.sdv_card.specs.Port.{call_of}
 use Rattle.sdv_card.specs.ScriptEvent.{ScriptEvent, SendCommand, ReceiveBlocks, Return, Answered, BlocksIn, MayReturn}
-use Rattle.sdv_script.specs.Walk.{Deed, exactly, giving, IsDeed, given_by}
-use Rattle.sdv_script.specs.Path.{Stand, Move, Goes, Does, Halts}
+use Rattle.sdv_graph.specs.Walk.{Deed, exactly, giving, IsDeed, given_by}
+use Rattle.sdv_graph.specs.Path.{Stand, Move, Goes, Does, Halts}
 use Rattle.sdv_run.specs.declared.end.End.{End}
 use Rattle.sdv_run.specs.declared.fault.RunFault.{RunFault}
 use Rattle.sdv_run.specs.declared.fault.RunFault.TheVariants.{Reply, Input, Output, Trace}

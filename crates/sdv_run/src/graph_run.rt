@@ -2,7 +2,7 @@
 
 ghost use Rattle.std.specs.Prelude.{◌≡◌, ◌≤◌, ℕ, List, IfOk, length};
 ghost use Rattle.sdv_card.specs.Card.{Block};
-ghost use Rattle.sdv_script.specs.Graph.{begin};
+ghost use Rattle.sdv_graph.specs.Graph.{begin};
 ghost use Rattle.sdv_run.specs.Standing.{stand_of};
 ghost use Rattle.sdv_run.specs.Announced.{AnnounceAtMost};
 ghost use Rattle.sdv_run.specs.Ran.{Ran};
@@ -15,7 +15,7 @@ use crate::step::step;
 use crate::trace::write_end;
 use arrayvec::ArrayVec;
 use sdv_card::CardPort;
-use sdv_script::{Action, Graph};
+use sdv_graph::{Action, Graph};
 use std::alloc::{AllocError, Global};
 use std::io::Write;
 

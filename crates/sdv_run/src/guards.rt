@@ -5,14 +5,14 @@ ghost use Rattle.sdv_card.specs.Status.{is_clean};
 ghost use Rattle.sdv_card.specs.States.{state_number};
 ghost use Rattle.sdv_card.specs.Guards.{reply_passes, answer_passes, passes};
 ghost use Rattle.sdv_card.specs.ScriptEvent.{Answered};
-ghost use Rattle.sdv_script.specs.Walk.{all_pass};
-ghost use Rattle.sdv_script.specs.Path.{way_of};
-ghost use Rattle.sdv_script.specs.Graph.{fork_of};
+ghost use Rattle.sdv_graph.specs.Walk.{all_pass};
+ghost use Rattle.sdv_graph.specs.Path.{way_of};
+ghost use Rattle.sdv_graph.specs.Graph.{fork_of};
 
 use sdv_card::{Answer, Guard, Kind};
 use sdv_frames::Reply;
+use sdv_graph::{Target, Way};
 use sdv_registers::{Ocr, PublishedRca, Status};
-use sdv_script::{Target, Way};
 
 /// The response is a status without an error.
 fn is_clean(kind: Kind, reply: &Reply) -> bool

@@ -2,8 +2,8 @@
 
 ghost use Rattle.std.specs.Prelude.{◌≡◌, ◌<◌, ◌≤◌, length, map};
 ghost use Rattle.sdv_card.specs.ScriptEvent.{Return, ReceiveRegister, GiveBlocks, AwaitReady};
-ghost use Rattle.sdv_script.specs.Graph.{fork_of};
-ghost use Rattle.sdv_script.specs.Path.{turns_at, way_of};
+ghost use Rattle.sdv_graph.specs.Graph.{fork_of};
+ghost use Rattle.sdv_graph.specs.Path.{turns_at, way_of};
 ghost use Rattle.sdv_run.specs.Standing.{host_of, stand_of};
 ghost use Rattle.sdv_run.specs.Deeds.{ArgumentIs, SendsOn, target_by_end, PhaseGoesOn, BlocksGoOn};
 
@@ -15,7 +15,7 @@ use crate::host::HostState;
 use crate::standing::Standing;
 use sdv_card::laws::order;
 use sdv_card::{Ask, CardPort, DataEnd, WaitEnd};
-use sdv_script::{Command, Target, Way};
+use sdv_graph::{Command, Target, Way};
 use std::io::Write;
 
 /// The argument that a command is sent with; none where its block leaves the range of numbers.

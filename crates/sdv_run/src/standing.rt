@@ -1,12 +1,12 @@
 //! Where a run stands.
 
 ghost use Rattle.std.specs.Prelude.{◌≡◌, ◌≤◌, ◌-◌, ◌<◌, length};
-ghost use Rattle.sdv_script.specs.Path.{left, entered, turns_at, arrive};
+ghost use Rattle.sdv_graph.specs.Path.{left, entered, turns_at, arrive};
 ghost use Rattle.sdv_run.specs.Standing.{host_of, stand_of};
 
 use crate::host::HostState;
 use arrayvec::ArrayVec;
-use sdv_script::Target;
+use sdv_graph::Target;
 
 /// A point of a graph, with the turns left of the loops round it.
 #[derive(Drop)]

@@ -2,10 +2,10 @@
 
 ghost use Rattle.std.specs.Prelude.{◌≡◌, List, ◌<◌, ◌≤◌, [], length, drop, map};
 ghost use Rattle.sdv_card.specs.Card.{Block};
-ghost use Rattle.sdv_script.specs.Graph.{node_of, fork_of};
-ghost use Rattle.sdv_script.specs.Path.{node_move, sends, phases};
+ghost use Rattle.sdv_graph.specs.Graph.{node_of, fork_of};
+ghost use Rattle.sdv_graph.specs.Path.{node_move, sends, phases};
 ghost use Rattle.sdv_run.specs.Standing.{host_of, stand_of};
-ghost use Rattle.sdv_script.specs.declared.tree.Phase.TheVariants as kinds;
+ghost use Rattle.sdv_graph.specs.declared.tree.Phase.TheVariants as kinds;
 ghost use Rattle.sdv_run.specs.Moves.{IsNarrow, IsInRange};
 ghost use Rattle.sdv_run.specs.Step.{Stepped};
 
@@ -17,7 +17,7 @@ use crate::points::{
 };
 use crate::standing::Standing;
 use sdv_card::CardPort;
-use sdv_script::{Action, Command, Phase, Target, Way};
+use sdv_graph::{Action, Command, Phase, Target, Way};
 use std::io::Write;
 
 /// A point that sends a command.

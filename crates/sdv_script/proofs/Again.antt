@@ -4,7 +4,6 @@ use Rattle.std.specs.Prelude.{◌&&◌}
 use Rattle.std.specs.Str.{bytes_eq}
 use Rattle.std.proofs.lemmas.Slice.Eq.{bytes_eq-Decides}
 use Rattle.std.proofs.lemmas.Bool.{lt-ltb, le-leb}
-use Rattle.sdv_registers.specs.declared.kind.Kind.TheVariants.{Sd}
 use Rattle.sdv_card.specs.declared.event.Aim.{Aim}
 use Rattle.sdv_card.specs.declared.event.Aim.TheVariants.{Rca, Plain}
 use Rattle.sdv_card.specs.declared.event.Ask.{Ask}
@@ -13,11 +12,10 @@ use Rattle.sdv_card.specs.declared.guard.Guard.{Guard}
 use Rattle.sdv_card.specs.declared.guard.Guard.TheVariants as guards
 use Rattle.sdv_card.specs.declared.state.State.{State}
 use Rattle.sdv_card.specs.declared.state.State.TheVariants as states
-use Rattle.sdv_card.specs.CommandTable.{order_of}
 use Rattle.sdv_script.specs.declared.token.Sign.TheVariants as sign
 use Rattle.sdv_script.specs.declared.keyword.Keyword.TheVariants as word
 use Rattle.sdv_script.specs.declared.form.Form.{Form}
-use Rattle.sdv_script.specs.declared.form.Form.TheVariants.{Bare, Select, Conditions, Addressed, Counted}
+use Rattle.sdv_script.specs.declared.form.Form.TheVariants.{Bare, Select, Conditions, Addressed, Counted, Preset, Erase}
 use Rattle.sdv_graph.specs.declared.tree.Command.{Command}
 use Rattle.sdv_graph.specs.declared.tree.Address.{Address}
 use Rattle.sdv_graph.specs.declared.tree.Unit.{Unit as AddressUnit}
@@ -32,7 +30,7 @@ use Rattle.sdv_graph.specs.declared.tree.Change.TheVariants as changes
 use Rattle.sdv_graph.specs.declared.tree.Condition.{Condition}
 use Rattle.sdv_graph.specs.declared.tree.Condition.TheVariants as conditions
 use Rattle.sdv_script.specs.Tokens.{Token, Key, Name, Number, Mark}
-use Rattle.sdv_script.specs.Commands.{sd_form, guard_suits, fits_order}
+use Rattle.sdv_script.specs.Commands.{form_of, fits_order}
 use Rattle.sdv_graph.specs.Tree.{Declared}
 use Rattle.sdv_script.specs.Grammar.{flag_name, number_name, unit_written, position_written, address_written, address_if_any, select_written, form_written, form_if_any, command_written, state_word, guard_written, guards_written, atom_written, change_written, condition_written}
 use Rattle.sdv_script.specs.Rules.{max_number, max_name, place_from, place_of, AreNew, NamesFit, UnitFits, PositionFits, AddressFits, ask_with, FormFits, CommandFits, GuardsFit, AtomFits, ChangeFits, LetFits, ConditionFits}
@@ -165,6 +163,9 @@ form-again names Select c r fit ok = select-again c c.ask.aim r ok.0 ok.1
 form-again names Conditions c r fit ok = test_is _ _ _ ok.1 (made c (ask_with c.ask.index Plain c.ask.argument 0) None _ ok.0 ok.2)
 form-again names (Addressed count) c r fit ok = addressed-again names c c.address count r fit ok.0 refl ok.1
 form-again names Counted c r fit ok = counted-again names c c.address r fit ok.0 refl ok.3 ok.1 ok.2
+form-again names Preset c r fit ok =
+    bind_is _ _ _ _ (count-again c.ask.count (Mark sign.OpenBrace ∷ r) ok.1 ok.2) (made c (ask_with c.ask.index Plain 0 c.ask.count) None _ ok.0 ok.3)
+form-again names Erase c r fit ok = test_is _ _ _ ok.1 (made c (ask_with c.ask.index Plain c.ask.argument 0) None _ ok.0 ok.2)
 
 any_form-again : (names : Declared) (o : Option Form) (c : Command) (r : List Token) → NamesFit names → FormFits names o c
     → (o >>= λ form. read_form names c.ask.index form (form_if_any o names c (Mark sign.OpenBrace ∷ r))) ≡ Some (c, Mark sign.OpenBrace ∷ r)
@@ -172,7 +173,7 @@ any_form-again names None c r fit ok = absurd ok
 any_form-again names (Some form) c r fit ok = form-again names form c r fit ok
 
 pub command-again : (names : Declared) (c : Command) (r : List Token) → NamesFit names → CommandFits names c → read_command names (command_written names c (Mark sign.OpenBrace ∷ r)) ≡ Some (c, Mark sign.OpenBrace ∷ r)
-command-again names c r fit ok = any_form-again names (sd_form c.ask.index) c r fit ok
+command-again names c r fit ok = any_form-again names (form_of names.kind c.ask.index) c r fit ok
 
 -- GUARDS
 
@@ -180,17 +181,15 @@ suits_alike : (s : State) (o : Option Order) → fits_order (guards.State states
 suits_alike s None = refl
 suits_alike s (Some order) = refl
 
-idle_suits : (s : State) (ask : Ask) → guard_suits (guards.State s) ask ≡ true → guard_suits (guards.State states.Idle) ask ≡ true
-unfolding guard_suits
-idle_suits s ask e = suits_alike s (order_of Sd ask) ∙ e
+idle_suits : (s : State) (order : Option Order) → fits_order (guards.State s) order ≡ true → fits_order (guards.State states.Idle) order ≡ true
+idle_suits s order e = suits_alike s order ∙ e
 
 ok_never : (o : Option Order) → fits_order guards.Ok o ≡ false
 ok_never None = refl
 ok_never (Some order) = refl
 
-ok_suits_not : (ask : Ask) → guard_suits guards.Ok ask ≡ true → ⊥
-unfolding guard_suits
-ok_suits_not ask e = let f = ok_never (order_of Sd ask) in absurd cc
+ok_suits_not : (order : Option Order) → fits_order guards.Ok order ≡ true → ⊥
+ok_suits_not order e = let f = ok_never order in absurd cc
 
 state-again : (s : State) → state_of (state_word s) ≡ Some s
 state-again states.Idle = refl
@@ -203,29 +202,29 @@ state-again states.Rcv = refl
 state-again states.Prg = refl
 state-again states.Dis = refl
 
-guard-again : (ask : Ask) (g : Guard) (others : List Token) → guard_suits g ask ≡ true → read_guard ask (guard_written g others) ≡ Some (g, others)
-guard-again ask guards.Timeout others e = test_is _ _ _ e refl
-guard-again ask guards.Answer others e = test_is _ _ _ e refl
-guard-again ask guards.Clean others e = test_is _ _ _ e refl
-guard-again ask guards.Ready others e = test_is _ _ _ e refl
-guard-again ask guards.App others e = test_is _ _ _ e refl
-guard-again ask guards.Echo others e = test_is _ _ _ e refl
-guard-again ask guards.OcrReady others e = test_is _ _ _ e refl
-guard-again ask guards.OcrBlock others e = test_is _ _ _ e refl
-guard-again ask (guards.State s) others e =
-    test_is _ _ _ (idle_suits s ask e) (bind_is _ _ _ _ (bind_is _ _ _ _ (state-again s) refl) refl)
-guard-again ask guards.Ok others e = absurd (ok_suits_not ask e)
+guard-again : (order : Option Order) (g : Guard) (others : List Token) → fits_order g order ≡ true → read_guard order (guard_written g others) ≡ Some (g, others)
+guard-again order guards.Timeout others e = test_is _ _ _ e refl
+guard-again order guards.Answer others e = test_is _ _ _ e refl
+guard-again order guards.Clean others e = test_is _ _ _ e refl
+guard-again order guards.Ready others e = test_is _ _ _ e refl
+guard-again order guards.App others e = test_is _ _ _ e refl
+guard-again order guards.Echo others e = test_is _ _ _ e refl
+guard-again order guards.OcrReady others e = test_is _ _ _ e refl
+guard-again order guards.OcrBlock others e = test_is _ _ _ e refl
+guard-again order (guards.State s) others e =
+    test_is _ _ _ (idle_suits s order e) (bind_is _ _ _ _ (bind_is _ _ _ _ (state-again s) refl) refl)
+guard-again order guards.Ok others e = absurd (ok_suits_not order e)
 
-guards_from : (gs : List Guard) (ask : Ask) (before : List Guard) (r : List Token) → GuardsFit ask gs → read_guards ask before (guards_written gs (Mark sign.OpenBrace ∷ r)) ≡ Some (before ++ gs, Mark sign.OpenBrace ∷ r)
-guards_from [] ask before r ok = absurd ok
-guards_from (g ∷ []) ask before r ok = read_guards-is ask before _ ∙ bind_is _ _ _ _ (guard-again ask g (Mark sign.OpenBrace ∷ r) ok) refl
-guards_from (g ∷ h ∷ gs) ask before r ok =
-    read_guards-is ask before _
-    ∙ bind_is _ _ _ _ (guard-again ask g (Mark sign.And ∷ guards_written (h ∷ gs) (Mark sign.OpenBrace ∷ r)) ok.0)
-    (guards_from (h ∷ gs) ask (before ++ g ∷ []) r ok.1 ∙ ap (λ (all : List Guard). Some (all, Mark sign.OpenBrace ∷ r)) (append_assoc before (g ∷ []) (h ∷ gs)))
+guards_from : (gs : List Guard) (order : Option Order) (before : List Guard) (r : List Token) → GuardsFit order gs → read_guards order before (guards_written gs (Mark sign.OpenBrace ∷ r)) ≡ Some (before ++ gs, Mark sign.OpenBrace ∷ r)
+guards_from [] order before r ok = absurd ok
+guards_from (g ∷ []) order before r ok = read_guards-is order before _ ∙ bind_is _ _ _ _ (guard-again order g (Mark sign.OpenBrace ∷ r) ok) refl
+guards_from (g ∷ h ∷ gs) order before r ok =
+    read_guards-is order before _
+    ∙ bind_is _ _ _ _ (guard-again order g (Mark sign.And ∷ guards_written (h ∷ gs) (Mark sign.OpenBrace ∷ r)) ok.0)
+    (guards_from (h ∷ gs) order (before ++ g ∷ []) r ok.1 ∙ ap (λ (all : List Guard). Some (all, Mark sign.OpenBrace ∷ r)) (append_assoc before (g ∷ []) (h ∷ gs)))
 
-pub guards-again : (ask : Ask) (gs : List Guard) (r : List Token) → GuardsFit ask gs → read_guards ask [] (guards_written gs (Mark sign.OpenBrace ∷ r)) ≡ Some (gs, Mark sign.OpenBrace ∷ r)
-guards-again ask gs r ok = guards_from gs ask [] r ok
+pub guards-again : (order : Option Order) (gs : List Guard) (r : List Token) → GuardsFit order gs → read_guards order [] (guards_written gs (Mark sign.OpenBrace ∷ r)) ≡ Some (gs, Mark sign.OpenBrace ∷ r)
+guards-again order gs r ok = guards_from gs order [] r ok
 
 -- VALUES AND CONDITIONS
 
@@ -243,7 +242,7 @@ atom-again : (names : Declared) (a : Atom) (others : List Token) → NamesFit na
 atom-again names (atoms.Number n) others fit ok = bind_is _ _ _ _ (figure-again n others ok) refl
 atom-again names (atoms.Variable x) others fit ok = bind_is _ _ _ _ (number_name-again names x others fit ok) refl
 atom-again names atoms.CsdBlocks others fit ok = refl
-atom-again names atoms.ExtBlocks others fit ok = absurd ok
+atom-again names atoms.ExtBlocks others fit ok = test_is _ _ _ ok refl
 
 -- after its first word
 abbrev pub let_rest : Declared → Let → List Token → List Token

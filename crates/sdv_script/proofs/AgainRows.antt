@@ -1,8 +1,9 @@
 -- What is written of statements is read again.
-use Rattle.std.proofs.Common.{◌≡◌, ℕ, zero, suc, ◌+◌, ◌<◌, ◌≤◌, true, false, List, [], ◌∷◌, refl, ap, ◌∙◌, arith, cond, Some, None}
+use Rattle.std.proofs.Common.{◌≡◌, ℕ, zero, suc, ◌+◌, ◌<◌, ◌≤◌, true, false, List, [], ◌∷◌, refl, ap, ◌∙◌, arith, cond, Some, None, Option}
 use Rattle.std.specs.Prelude.{nat_lt}
 use Rattle.std.proofs.lemmas.Bool.{lt-ltb}
-use Rattle.sdv_card.specs.declared.event.Ask.{Ask}
+use Rattle.sdv_card.specs.declared.command.Order.{Order}
+use Rattle.sdv_card.specs.CommandTable.{order_of}
 use Rattle.sdv_card.specs.declared.guard.Guard.{Guard}
 use Rattle.sdv_card.specs.declared.guard.Guard.TheVariants as guards
 use Rattle.sdv_script.specs.declared.depth.Depth.{Depth}
@@ -135,29 +136,29 @@ phase-again names blocks ways depth phases.GiveBlocks a b room inner one two oth
 phase-again names blocks ways depth phases.Wait a b room inner one two others begun calm le =
     begin_again blocks ways names depth begun _ _ (omega arith) (ends-again names blocks depth phases.Wait a b others begun room inner one two (omega arith))
 
-abbrev WaysAgain : Declared → WaysOf → Depth → Ask → Ways → Type 0
-WaysAgain names ways depth ask w = (others : List Token) (begun : ℕ) → begun + ways_count w ≤ max_statements
-    → ways depth ask (progress_to (ways_written names w others) begun) ≡ Some (w, progress_to others (begun + ways_count w))
+abbrev WaysAgain : Declared → WaysOf → Depth → Option Order → Ways → Type 0
+WaysAgain names ways depth order w = (others : List Token) (begun : ℕ) → begun + ways_count w ≤ max_statements
+    → ways depth order (progress_to (ways_written names w others) begun) ≡ Some (w, progress_to others (begun + ways_count w))
 
 -- a guard begins with a word that is not `else`
-guard_not_else : (blocks : Blocks) (ways : WaysOf) (depth : Depth) (ask : Ask) (begun : ℕ) (g : Guard) (others : List Token)
-    → more_ways blocks ways depth ask (guard_written g others) begun ≡ next_way blocks ways depth ask (progress_to (guard_written g others) begun)
-guard_not_else blocks ways depth ask begun guards.Timeout others = refl
-guard_not_else blocks ways depth ask begun guards.Answer others = refl
-guard_not_else blocks ways depth ask begun guards.Clean others = refl
-guard_not_else blocks ways depth ask begun guards.Ready others = refl
-guard_not_else blocks ways depth ask begun guards.App others = refl
-guard_not_else blocks ways depth ask begun guards.Echo others = refl
-guard_not_else blocks ways depth ask begun guards.OcrReady others = refl
-guard_not_else blocks ways depth ask begun guards.OcrBlock others = refl
-guard_not_else blocks ways depth ask begun (guards.State s) others = refl
-guard_not_else blocks ways depth ask begun guards.Ok others = refl
+guard_not_else : (blocks : Blocks) (ways : WaysOf) (depth : Depth) (order : Option Order) (begun : ℕ) (g : Guard) (others : List Token)
+    → more_ways blocks ways depth order (guard_written g others) begun ≡ next_way blocks ways depth order (progress_to (guard_written g others) begun)
+guard_not_else blocks ways depth order begun guards.Timeout others = refl
+guard_not_else blocks ways depth order begun guards.Answer others = refl
+guard_not_else blocks ways depth order begun guards.Clean others = refl
+guard_not_else blocks ways depth order begun guards.Ready others = refl
+guard_not_else blocks ways depth order begun guards.App others = refl
+guard_not_else blocks ways depth order begun guards.Echo others = refl
+guard_not_else blocks ways depth order begun guards.OcrReady others = refl
+guard_not_else blocks ways depth order begun guards.OcrBlock others = refl
+guard_not_else blocks ways depth order begun (guards.State s) others = refl
+guard_not_else blocks ways depth order begun guards.Ok others = refl
 
-not_else : (blocks : Blocks) (ways : WaysOf) (depth : Depth) (ask : Ask) (gs : List Guard) (others : List Token) (begun : ℕ) → GuardsFit ask gs
-    → more_ways blocks ways depth ask (guards_written gs others) begun ≡ next_way blocks ways depth ask (progress_to (guards_written gs others) begun)
-not_else blocks ways depth ask [] others begun ok = absurd ok
-not_else blocks ways depth ask (g ∷ []) others begun ok = guard_not_else blocks ways depth ask begun g others
-not_else blocks ways depth ask (g ∷ h ∷ gs) others begun ok = guard_not_else blocks ways depth ask begun g (Mark sign.And ∷ guards_written (h ∷ gs) others)
+not_else : (blocks : Blocks) (ways : WaysOf) (depth : Depth) (order : Option Order) (gs : List Guard) (others : List Token) (begun : ℕ) → GuardsFit order gs
+    → more_ways blocks ways depth order (guards_written gs others) begun ≡ next_way blocks ways depth order (progress_to (guards_written gs others) begun)
+not_else blocks ways depth order [] others begun ok = absurd ok
+not_else blocks ways depth order (g ∷ []) others begun ok = guard_not_else blocks ways depth order begun g others
+not_else blocks ways depth order (g ∷ h ∷ gs) others begun ok = guard_not_else blocks ways depth order begun g (Mark sign.And ∷ guards_written (h ∷ gs) others)
 
 mutual
   unfolding read_statements
@@ -173,16 +174,16 @@ mutual
       (bind_is _ _ _ _ (statements-again rest left names depth fit ok.1 (omega arith) others (begun + statement_count s) c (omega arith))
       (ap (λ (k : ℕ). Some (first s rest, progress_to others k)) (omega arith))))
 
-  pub ways-again : (w : Ways) (left : ℕ) (names : Declared) (depth : Depth) (ask : Ask) → NamesFit names → WaysFit names depth ask w → ways_rank w ≤ left → WaysAgain names (read_ways left names) depth ask w
-  ways-again (otherwise b) zero names depth ask fit ok rank others begun le = absurd (omega arith)
-  ways-again (otherwise b) (suc left) names depth ask fit ok rank others begun le =
+  pub ways-again : (w : Ways) (left : ℕ) (names : Declared) (depth : Depth) (order : Option Order) → NamesFit names → WaysFit names depth order w → ways_rank w ≤ left → WaysAgain names (read_ways left names) depth order w
+  ways-again (otherwise b) zero names depth order fit ok rank others begun le = absurd (omega arith)
+  ways-again (otherwise b) (suc left) names depth order fit ok rank others begun le =
       bind_is _ _ _ _ (block-again names (read_statements left names) depth b others begun ok.0 (statements-again b left names (deeper depth) fit ok.1 (omega arith)) le) refl
-  ways-again (way gs b rest) zero names depth ask fit ok rank others begun le = absurd (omega arith)
-  ways-again (way gs b rest) (suc left) names depth ask fit ok rank others begun le =
-      not_else (read_statements left names) (read_ways left names) depth ask gs _ begun ok.0
-      ∙ bind_is _ _ _ _ (bind_is _ _ _ _ (guards-again ask gs _ ok.0)
+  ways-again (way gs b rest) zero names depth order fit ok rank others begun le = absurd (omega arith)
+  ways-again (way gs b rest) (suc left) names depth order fit ok rank others begun le =
+      not_else (read_statements left names) (read_ways left names) depth order gs _ begun ok.0
+      ∙ bind_is _ _ _ _ (bind_is _ _ _ _ (guards-again order gs _ ok.0)
       (bind_is _ _ _ _ (block-again names (read_statements left names) depth b (ways_written names rest others) begun ok.1 (statements-again b left names (deeper depth) fit ok.2 (omega arith)) (omega arith)) refl))
-      (bind_is _ _ _ _ (ways-again rest left names depth ask fit ok.3 (omega arith) others (begun + statements_count b) (omega arith))
+      (bind_is _ _ _ _ (ways-again rest left names depth order fit ok.3 (omega arith) others (begun + statements_count b) (omega arith))
       (ap (λ (k : ℕ). Some (way gs b rest, progress_to others k)) (omega arith)))
 
   pub statement-again : (s : Statement) (left : ℕ) (names : Declared) (depth : Depth) → NamesFit names → StatementFits names depth s → statement_rank s ≤ left → StatementAgain names (read_statements left names) (read_ways left names) depth s
@@ -190,7 +191,7 @@ mutual
       begin_again (read_statements left names) (read_ways left names) names depth begun _ _ (omega arith)
       (bind_is _ _ _ _ (command-again names c _ fit ok.0)
       (bind_is _ _ _ _ (open_again depth _ ok.1)
-      (bind_is _ _ _ _ (ways-again w left names (deeper depth) c.ask fit ok.2 rank (Mark sign.CloseBrace ∷ others) (begun + 1) (omega arith))
+      (bind_is _ _ _ _ (ways-again w left names (deeper depth) (order_of names.kind c.ask) fit ok.2 rank (Mark sign.CloseBrace ∷ others) (begun + 1) (omega arith))
       (at_end (send c w) others _ _ (omega arith)))))
   statement-again (phase p a b) left names depth fit ok rank others begun calm le =
       phase-again names (read_statements left names) (read_ways left names) depth p a b ok.0 ok.1

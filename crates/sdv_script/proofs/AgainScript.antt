@@ -6,10 +6,12 @@ use Rattle.std.proofs.lemmas.Bool.{lt-ltb, le-leb}
 use Rattle.std.proofs.lemmas.List.{append-nil, length-append}
 use Rattle.sdv_card.specs.declared.guard.Guard.{Guard}
 use Rattle.sdv_card.specs.declared.guard.Guard.TheVariants as guards
+use Rattle.sdv_registers.specs.declared.kind.Kind.{Kind}
+use Rattle.sdv_registers.specs.declared.kind.Kind.TheVariants.{Sd, Emmc}
 use Rattle.sdv_card.specs.declared.event.Aim.{Aim}
 use Rattle.sdv_card.specs.declared.event.Aim.TheVariants.{Rca, Plain}
 use Rattle.sdv_script.specs.declared.form.Form.{Form}
-use Rattle.sdv_script.specs.declared.form.Form.TheVariants.{Bare, Select, Conditions, Addressed, Counted}
+use Rattle.sdv_script.specs.declared.form.Form.TheVariants.{Bare, Select, Conditions, Addressed, Counted, Preset, Erase}
 use Rattle.sdv_script.specs.declared.token.Sign.TheVariants as sign
 use Rattle.sdv_script.specs.declared.keyword.Keyword.{Keyword}
 use Rattle.sdv_script.specs.declared.keyword.Keyword.TheVariants as word
@@ -28,11 +30,11 @@ use Rattle.sdv_graph.specs.declared.tree.Change.TheVariants as changes
 use Rattle.sdv_graph.specs.declared.tree.Condition.{Condition}
 use Rattle.sdv_graph.specs.declared.tree.Condition.TheVariants as conditions
 use Rattle.sdv_script.specs.Tokens.{Token, Key, Number, Mark}
-use Rattle.sdv_script.specs.Commands.{sd_form}
+use Rattle.sdv_script.specs.Commands.{form_of}
 use Rattle.sdv_graph.specs.Tree.{Declared, Statements, nothing, first, Ways, otherwise, way, Statement, send, phase, setting, choice, set, clear, turns, break, done, fault}
-use Rattle.sdv_script.specs.Grammar.{unit_written, position_written, address_if_any, select_written, form_if_any, guard_written, guards_written, atom_written, change_written, condition_written, phase_written, names_written, list_written, statements_written, ways_written, statement_written, script_written}
+use Rattle.sdv_script.specs.Grammar.{kind_word, unit_written, position_written, address_if_any, select_written, form_if_any, guard_written, guards_written, atom_written, change_written, condition_written, phase_written, names_written, list_written, statements_written, ways_written, statement_written, script_written}
 use Rattle.sdv_script.specs.Rules.{max_name, max_flags, max_numbers, max_bytes, place_from, place_of, AreNew, NamesFit, ScriptFits}
-use Rattle.sdv_script.specs.Reading.{may_follow, name_is_new, read_names, read_flags, read_nums, read_declared, start, read_body, read_script}
+use Rattle.sdv_script.specs.Reading.{may_follow, name_is_new, read_names, read_flags, read_nums, read_kind, read_declared, start, read_body, read_script}
 use Rattle.sdv_script.proofs.Again.{bind_is, test_is, both_true}
 use Rattle.sdv_script.proofs.TakenScript.{none_from}
 use Rattle.sdv_script.proofs.AgainRows.{statements_rank, ways_rank, statement_rank, statements-again}
@@ -87,6 +89,8 @@ form_longer (Some Select) names c ts = select_longer c.ask.aim ts
 form_longer (Some Conditions) names c ts = omega arith
 form_longer (Some (Addressed count)) names c ts = address_longer names c.address ts
 form_longer (Some Counted) names c ts = let one = address_longer names c.address (Key word.Count ∷ Number c.ask.count ∷ ts) in omega arith
+form_longer (Some Preset) names c ts = omega arith
+form_longer (Some Erase) names c ts = omega arith
 
 condition_longer : (names : Declared) (c : Condition) (ts : List Token) → length ts ≤ length (condition_written names c ts)
 condition_longer names (conditions.Flag f) ts = omega arith
@@ -130,7 +134,7 @@ mutual
 
   statement_deep : (s : Statement) (names : Declared) (others : List Token) → length others + statement_rank s < length (statement_written names s others)
   statement_deep (send c w) names others =
-      let one = form_longer (sd_form c.ask.index) names c (Mark sign.OpenBrace ∷ ways_written names w (Mark sign.CloseBrace ∷ others)) in
+      let one = form_longer (form_of names.kind c.ask.index) names c (Mark sign.OpenBrace ∷ ways_written names w (Mark sign.CloseBrace ∷ others)) in
       let two = ways_deep w names (Mark sign.CloseBrace ∷ others) in
       omega arith
   statement_deep (phase p a b) names others =
@@ -246,10 +250,18 @@ flags-again : (flags : List (List ℕ)) (ts : List Token) → Follows true ts ×
 flags-again [] ts opens new few = opens.1
 flags-again (n ∷ ns) ts opens new few = names-again (n ∷ ns) true [] [] max_flags ts new (omega arith) (omega arith) opens.0
 
-declared-again : (names : Declared) (ts : List Token) → Opens ts → NamesFit names → read_declared (list_written word.Flags names.flags (list_written word.Nums names.numbers ts)) ≡ Some (names, ts)
+kind-again : (k : Kind) (ts : List Token) → read_kind (Key (kind_word k) ∷ ts) ≡ Some (k, ts)
+kind-again Sd ts = refl
+kind-again Emmc ts = refl
+
+abbrev declared_written : Declared → List Token → List Token
+declared_written names ts = Key (kind_word names.kind) ∷ list_written word.Flags names.flags (list_written word.Nums names.numbers ts)
+
+declared-again : (names : Declared) (ts : List Token) → Opens ts → NamesFit names → read_declared (declared_written names ts) ≡ Some (names, ts)
 declared-again names ts opens fit =
-    bind_is _ _ _ _ (flags-again names.flags _ (nums_follow names.numbers ts opens) fit.flags_new fit.few_flags)
-    (bind_is _ _ _ _ (nums-again names.numbers names.flags ts opens fit.numbers_new fit.few_numbers) refl)
+    bind_is _ _ _ _ (kind-again names.kind _)
+    (bind_is _ _ _ _ (flags-again names.flags _ (nums_follow names.numbers ts opens) fit.flags_new fit.few_flags)
+    (bind_is _ _ _ _ (nums-again names.numbers names.flags ts opens fit.numbers_new fit.few_numbers) refl))
 
 -- SCRIPTS
 

@@ -30,7 +30,7 @@ abbrev interface_condition : Ask
 interface_condition = ask_with 8 Plain 0 0
 
 abbrev names : Declared
-names = record { flags = []; numbers = codes "x" ∷ [] }
+names = record { kind = Sd; flags = []; numbers = codes "x" ∷ [] }
 
 abbrev script : Statements
 script =

@@ -1,6 +1,6 @@
 -- One level of a tree more.
-use Rattle.std.proofs.Common.{◌≡◌, ℕ, zero, suc, ◌≤◌, refl, arith, None}
-use Rattle.sdv_card.specs.declared.event.Ask.{Ask}
+use Rattle.std.proofs.Common.{◌≡◌, ℕ, zero, suc, ◌≤◌, refl, arith, None, Option}
+use Rattle.sdv_card.specs.declared.command.Order.{Order}
 use Rattle.sdv_script.specs.declared.depth.Depth.{Depth}
 use Rattle.sdv_graph.specs.Tree.{Declared}
 use Rattle.sdv_script.specs.Reading.{Progress, read_statements, read_ways, more_statements, more_ways}
@@ -13,13 +13,13 @@ pub statements_none : (n : ℕ) (names : Declared) (depth : Depth) (at : Progres
 unfolding read_statements
 statements_none n names depth at e = rw e refl
 
-pub ways_more : (n m : ℕ) (names : Declared) (depth : Depth) (ask : Ask) (at : Progress) → n ≡ suc m → read_ways n names depth ask at ≡ more_ways (read_statements m names) (read_ways m names) depth ask at.tokens at.begun
+pub ways_more : (n m : ℕ) (names : Declared) (depth : Depth) (order : Option Order) (at : Progress) → n ≡ suc m → read_ways n names depth order at ≡ more_ways (read_statements m names) (read_ways m names) depth order at.tokens at.begun
 unfolding read_ways
-ways_more n m names depth ask at e = rw e refl
+ways_more n m names depth order at e = rw e refl
 
-pub ways_none : (n : ℕ) (names : Declared) (depth : Depth) (ask : Ask) (at : Progress) → n ≡ 0 → read_ways n names depth ask at ≡ None
+pub ways_none : (n : ℕ) (names : Declared) (depth : Depth) (order : Option Order) (at : Progress) → n ≡ 0 → read_ways n names depth order at ≡ None
 unfolding read_ways
-ways_none n names depth ask at e = rw e refl
+ways_none n names depth order at e = rw e refl
 
 pub no_level : (n : ℕ) → (1 ≤ n → ⊥) → n ≡ 0
 no_level zero none = refl

@@ -3,6 +3,7 @@ pub mod AgainRows
 pub mod AgainScript
 pub mod AskLaws
 pub mod CaseLaws
+pub mod CommandAsks
 pub mod GuardLaws
 pub mod LevelLaws
 pub mod NameLaws

@@ -1,7 +1,8 @@
 -- A run of a script within the limits has less than 2^128 moves.
-use Rattle.std.proofs.Common.{◌≡◌, ℕ, zero, suc, ◌+◌, ◌*◌, ◌<◌, ◌≤◌, ◌^◌, refl, arith, add-mul, one-mul, mul_comm, lit≤}
+use Rattle.std.proofs.Common.{◌≡◌, ℕ, zero, suc, ◌+◌, ◌*◌, ◌<◌, ◌≤◌, ◌^◌, refl, arith, add-mul, one-mul, mul_comm, lit≤, Option}
 use Rattle.std.proofs.lemmas.Nat.{mul-le}
-use Rattle.sdv_card.specs.declared.event.Ask.{Ask}
+use Rattle.sdv_card.specs.declared.command.Order.{Order}
+use Rattle.sdv_card.specs.CommandTable.{order_of}
 use Rattle.sdv_graph.specs.Tree.{Statements, nothing, first, Ways, otherwise, way, Statement, send, phase, setting, choice, set, clear, turns, break, done, fault, Declared}
 use Rattle.sdv_script.specs.declared.depth.Depth.{Depth}
 use Rattle.sdv_script.specs.Rules.{StatementsFit, WaysFit, StatementFits, ScriptFits, statements_count, ways_count, statement_count, deeper, in_loop}
@@ -47,12 +48,12 @@ mutual
   statements_bound names d r nothing z fit = omega arith
   statements_bound names d r (first s rest) z fit = both (statement_moves s) (statements_moves rest) (statement_count s) (statements_count rest) (power r) (statement_bound names d r s z fit.0) (statements_bound names d r rest z fit.1)
 
-  ways_bound : (names : Declared) (d : Depth) (r : ℕ) (ask : Ask) (c : Ways) → d.loops + r ≡ 4 → WaysFit names d ask c → ways_moves c ≤ ways_count c * power r
-  ways_bound names d r ask (otherwise b) z fit = statements_bound names (deeper d) r b z fit.1
-  ways_bound names d r ask (way guards b rest) z fit = both (statements_moves b) (ways_moves rest) (statements_count b) (ways_count rest) (power r) (statements_bound names (deeper d) r b z fit.2) (ways_bound names d r ask rest z fit.3)
+  ways_bound : (names : Declared) (d : Depth) (r : ℕ) (order : Option Order) (c : Ways) → d.loops + r ≡ 4 → WaysFit names d order c → ways_moves c ≤ ways_count c * power r
+  ways_bound names d r order (otherwise b) z fit = statements_bound names (deeper d) r b z fit.1
+  ways_bound names d r order (way guards b rest) z fit = both (statements_moves b) (ways_moves rest) (statements_count b) (ways_count rest) (power r) (statements_bound names (deeper d) r b z fit.2) (ways_bound names d r order rest z fit.3)
 
   statement_bound : (names : Declared) (d : Depth) (r : ℕ) (s : Statement) → d.loops + r ≡ 4 → StatementFits names d s → statement_moves s ≤ statement_count s * power r
-  statement_bound names d r (send c ways) z fit = with_one (ways_moves ways) (ways_count ways) (power r) (power_pos r) (ways_bound names (deeper d) r c.ask ways z fit.2)
+  statement_bound names d r (send c ways) z fit = with_one (ways_moves ways) (ways_count ways) (power r) (power_pos r) (ways_bound names (deeper d) r (order_of names.kind c.ask) ways z fit.2)
   statement_bound names d r (phase p a b) z fit = with_one (statements_moves a + statements_moves b) (statements_count a + statements_count b) (power r) (power_pos r) (both (statements_moves a) (statements_moves b) (statements_count a) (statements_count b) (power r) (statements_bound names (deeper (deeper d)) r a z fit.2) (statements_bound names (deeper (deeper d)) r b z fit.3))
   statement_bound names d r (setting l) z fit = alone (power r) (power_pos r)
   statement_bound names d r (choice c a b) z fit = with_one (statements_moves a + statements_moves b) (statements_count a + statements_count b) (power r) (power_pos r) (both (statements_moves a) (statements_moves b) (statements_count a) (statements_count b) (power r) (statements_bound names (deeper d) r a z fit.2) (statements_bound names (deeper d) r b z fit.3))

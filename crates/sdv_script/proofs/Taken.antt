@@ -8,16 +8,16 @@ use Rattle.sdv_script.specs.declared.depth.Depth.{Depth}
 use Rattle.sdv_script.specs.declared.token.Sign.TheVariants as sign
 use Rattle.sdv_script.specs.declared.keyword.Keyword.TheVariants as word
 use Rattle.sdv_script.specs.declared.form.Form.{Form}
-use Rattle.sdv_script.specs.declared.form.Form.TheVariants.{Bare, Select, Conditions, Addressed, Counted}
+use Rattle.sdv_script.specs.declared.form.Form.TheVariants.{Bare, Select, Conditions, Addressed, Counted, Preset, Erase}
 use Rattle.sdv_graph.specs.declared.tree.Command.{Command}
 use Rattle.sdv_graph.specs.declared.tree.Atom.{Atom}
 use Rattle.sdv_graph.specs.declared.tree.Atom.TheVariants as atoms
 use Rattle.sdv_script.specs.Tokens.{Token, Key, Name, Number, Mark}
-use Rattle.sdv_script.specs.Commands.{sd_form, is_conditions}
+use Rattle.sdv_script.specs.Commands.{form_of, is_conditions, is_erase, has_ext_csd}
 use Rattle.sdv_graph.specs.Tree.{Declared}
-use Rattle.sdv_script.specs.Grammar.{flag_name, number_name, unit_written, position_written, address_written, form_written, form_if_any, command_written, atom_written, change_written, let_written, condition_written, phase_written}
+use Rattle.sdv_script.specs.Grammar.{kind_word, flag_name, number_name, unit_written, position_written, address_written, form_written, form_if_any, command_written, atom_written, change_written, let_written, condition_written, phase_written}
 use Rattle.sdv_script.specs.Rules.{max_number, max_name, max_braces, place_from, place_of, UnitFits, PositionFits, AddressFits, FormFits, CommandFits, AtomFits, ChangeFits, LetFits, ConditionFits, deeper, HasRoom}
-use Rattle.sdv_script.specs.Reading.{◌>>=◌, after_open, after_close, after_equals, after_else, after_ok, after_at, after_count, after_card, after_sd, read_figure, read_count, read_flag, read_number_name, read_unit, read_sum, read_position, read_address, read_select, read_conditions, read_counted, read_form, read_command, read_atom, read_change, read_let, read_test, condition_by, read_condition, read_receive, read_fault}
+use Rattle.sdv_script.specs.Reading.{◌>>=◌, after_open, after_close, after_equals, after_else, after_ok, after_at, after_count, after_card, read_kind, read_figure, read_count, read_flag, read_number_name, read_unit, read_sum, read_position, read_address, read_select, read_conditions, read_counted, read_preset, read_erase, read_form, read_command, read_atom, read_change, read_let, read_test, condition_by, read_condition, read_receive, read_fault}
 use Rattle.sdv_script.proofs.WhereRead.{IfSome-bind, IfSome-given, IfSome-known, IfSome-map, both}
 
 -- SINGLE TOKENS
@@ -57,9 +57,10 @@ pub after_card-took : (ts : List Token) → IfSome (after_card ts) (λ r. ts ≡
 after_card-took (Key word.Card ∷ ts) = refl
 after_card-took ts = tt
 
-pub after_sd-took : (ts : List Token) → IfSome (after_sd ts) (λ r. ts ≡ Key word.Sd ∷ r)
-after_sd-took (Key word.Sd ∷ ts) = refl
-after_sd-took ts = tt
+pub kind-took : (ts : List Token) → IfSome (read_kind ts) (λ x. ts ≡ Key (kind_word x.0) ∷ x.1)
+kind-took (Key word.Sd ∷ ts) = refl
+kind-took (Key word.Emmc ∷ ts) = refl
+kind-took ts = tt
 
 figure-took : (ts : List Token) → IfSome (read_figure ts) (λ x. (ts ≡ Number x.0 ∷ x.1) × (x.0 ≤ max_number))
 figure-took (Number n ∷ ts) = IfSome-given (nat_le n max_number) _ _ (λ e. (refl, leb-true n max_number e))
@@ -148,12 +149,24 @@ counted-took names index ts =
     IfSome-bind (read_count r) _ _ _ (count-took r) (λ n q.
     (rw (p.0, e, q.0) refl, (refl, q.1, q.2, p.1), refl))))
 
+preset-took : (names : Declared) (index : ℕ) (ts : List Token) → IfSome (read_preset index ts) (Commanded names Preset index ts)
+preset-took names index ts =
+    IfSome-bind (after_count ts) _ _ _ (after_count-took ts) (λ r e.
+    IfSome-bind (read_count r) _ _ _ (count-took r) (λ n q.
+    (rw (e, q.0) refl, (refl, q.1, q.2, refl), refl)))
+
+erase-took : (names : Declared) (index : ℕ) (ts : List Token) → IfSome (read_erase index ts) (Commanded names Erase index ts)
+erase-took names index (Number n ∷ ts) = IfSome-given (is_erase n) _ _ (λ e. (refl, (refl, e, refl), refl))
+erase-took names index ts = tt
+
 form-took : (names : Declared) (index : ℕ) (form : Form) (ts : List Token) → IfSome (read_form names index form ts) (Commanded names form index ts)
 form-took names index (Bare aim) ts = (refl, (refl, refl), refl)
 form-took names index Select ts = select-took names index ts
 form-took names index Conditions ts = conditions-took names index ts
 form-took names index (Addressed count) ts = IfSome-bind (read_address names ts) _ _ _ (address-took names ts) (λ a p. (p.0, (refl, p.1), refl))
 form-took names index Counted ts = counted-took names index ts
+form-took names index Preset ts = preset-took names index ts
+form-took names index Erase ts = erase-took names index ts
 
 joined : (names : Declared) (n i : ℕ) (o : Option Form) (form : Form) (ts rest : List Token) (c : Command) → i ≡ n → o ≡ Some form → ts ≡ form_written form names c rest → Number n ∷ ts ≡ Number i ∷ form_if_any o names c rest
 joined names n i o form ts rest c p q e = rw (p, q, e) refl
@@ -161,14 +174,14 @@ joined names n i o form ts rest c p q e = rw (p, q, e) refl
 fits_as : (names : Declared) (o : Option Form) (form : Form) (c : Command) → o ≡ Some form → FormFits names (Some form) c → FormFits names o c
 fits_as names o form c e p = rw e p
 
-written_as : (names : Declared) (n : ℕ) (form : Form) (ts : List Token) (c : Command × List Token) → sd_form n ≡ Some form → Commanded names form n ts c → (Number n ∷ ts ≡ command_written names c.0 c.1) × CommandFits names c.0
+written_as : (names : Declared) (n : ℕ) (form : Form) (ts : List Token) (c : Command × List Token) → form_of names.kind n ≡ Some form → Commanded names form n ts c → (Number n ∷ ts ≡ command_written names c.0 c.1) × CommandFits names c.0
 written_as names n form ts c e p =
-    let same : sd_form c.0.ask.index ≡ Some form = ap (λ (k : ℕ). sd_form k) p.2 ∙ e in
-    (joined names n c.0.ask.index (sd_form c.0.ask.index) form ts c.1 c.0 p.2 same p.0, fits_as names (sd_form c.0.ask.index) form c.0 same p.1)
+    let same : form_of names.kind c.0.ask.index ≡ Some form = ap (λ (k : ℕ). form_of names.kind k) p.2 ∙ e in
+    (joined names n c.0.ask.index (form_of names.kind c.0.ask.index) form ts c.1 c.0 p.2 same p.0, fits_as names (form_of names.kind c.0.ask.index) form c.0 same p.1)
 
 pub command-took : (names : Declared) (ts : List Token) → IfSome (read_command names ts) (λ c. (ts ≡ command_written names c.0 c.1) × CommandFits names c.0)
 command-took names (Number n ∷ ts) =
-    IfSome-known (sd_form n) _ _ (λ form e.
+    IfSome-known (form_of names.kind n) _ _ (λ form e.
     IfSome-map (read_form names n form ts) _ _ (form-took names n form ts) (λ c p. written_as names n form ts c e p))
 command-took names ts = tt
 
@@ -180,6 +193,7 @@ named_atom-took names ts = IfSome-bind (read_number_name names ts) _ _ _ (number
 atom-took : (names : Declared) (ts : List Token) → IfSome (read_atom names ts) (λ a. (ts ≡ atom_written names a.0 a.1) × AtomFits names a.0)
 atom-took names (Number n ∷ ts) = IfSome-bind (read_figure (Number n ∷ ts)) _ _ _ (figure-took (Number n ∷ ts)) (λ k p. (p.0, p.1))
 atom-took names (Key word.CsdBlocks ∷ ts) = (refl, tt)
+atom-took names (Key word.ExtBlocks ∷ ts) = IfSome-given (has_ext_csd names.kind) _ _ (λ e. (refl, e))
 atom-took names ts = named_atom-took names ts
 
 change-took : (ts : List Token) → IfSome (read_change ts) (λ c. (ts ≡ change_written c.0 c.1) × ChangeFits c.0)

@@ -1,8 +1,9 @@
 -- What is read of statements and blocks is written so.
-use Rattle.std.proofs.Common.{◌≡◌, ℕ, zero, suc, ◌+◌, ◌<◌, ◌≤◌, Bool, true, false, List, [], ◌∷◌, length, get_or, refl, sym, subst, ap, ◌∙◌, arith, cond, Some}
+use Rattle.std.proofs.Common.{◌≡◌, ℕ, zero, suc, ◌+◌, ◌<◌, ◌≤◌, Bool, true, false, List, [], ◌∷◌, length, get_or, refl, sym, subst, ap, ◌∙◌, arith, cond, Some, Option}
 use Rattle.std.specs.Prelude.{IfSome, ◌&&◌, nat_lt}
 use Rattle.std.proofs.lemmas.Bool.{ltb-true}
-use Rattle.sdv_card.specs.declared.event.Ask.{Ask}
+use Rattle.sdv_card.specs.declared.command.Order.{Order}
+use Rattle.sdv_card.specs.CommandTable.{order_of}
 use Rattle.sdv_script.specs.declared.depth.Depth.{Depth}
 use Rattle.sdv_script.specs.declared.token.Sign.TheVariants as sign
 use Rattle.sdv_script.specs.declared.keyword.Keyword.{Keyword}
@@ -31,9 +32,9 @@ pub record RowTook (names : Declared) (depth : Depth) (at : Progress) (x : State
   pub fits : StatementsFit names depth x.0
   pub began : Began at.begun x.1.begun (statements_count x.0)
 
-pub record WaysTook (names : Declared) (depth : Depth) (ask : Ask) (at : Progress) (x : Ways × Progress) : Type 0 where
+pub record WaysTook (names : Declared) (depth : Depth) (order : Option Order) (at : Progress) (x : Ways × Progress) : Type 0 where
   pub parts : at.tokens ≡ ways_written names x.0 x.1.tokens
-  pub fits : WaysFit names depth ask x.0
+  pub fits : WaysFit names depth order x.0
   pub began : Began at.begun x.1.begun (ways_count x.0)
 
 record BlockTook (names : Declared) (depth : Depth) (at : Progress) (x : Statements × Progress) : Type 0 where
@@ -61,7 +62,7 @@ abbrev RowsTake : Declared → Blocks → Type 0
 RowsTake names blocks = (depth : Depth) (at : Progress) → IfSome (blocks depth at) (RowTook names depth at)
 
 abbrev WaysTake : Declared → WaysOf → Type 0
-WaysTake names ways = (depth : Depth) (ask : Ask) (at : Progress) → IfSome (ways depth ask at) (WaysTook names depth ask at)
+WaysTake names ways = (depth : Depth) (order : Option Order) (at : Progress) → IfSome (ways depth order at) (WaysTook names depth order at)
 
 block-took : (names : Declared) (blocks : Blocks) → RowsTake names blocks → (depth : Depth) (at : Progress) → IfSome (read_block blocks depth at) (BlockTook names depth at)
 block-took names blocks take depth at =
@@ -128,11 +129,11 @@ send-took : (names : Declared) (ways : WaysOf) → WaysTake names ways → (dept
 send-took names ways take depth at =
     IfSome-bind (read_command names at.tokens) _ _ _ (command-took names at.tokens) (λ c p.
     IfSome-bind (after_open depth c.1) _ _ _ (after_open-took depth c.1) (λ o q.
-    IfSome-bind (ways o.0 c.0.ask (progress_to o.1 at.begun)) _ _ _ (take o.0 c.0.ask (progress_to o.1 at.begun)) (λ w r.
+    IfSome-bind (ways o.0 (order_of names.kind c.0.ask) (progress_to o.1 at.begun)) _ _ _ (take o.0 (order_of names.kind c.0.ask) (progress_to o.1 at.begun)) (λ w r.
     IfSome-bind (after_close w.1.tokens) _ _ _ (after_close-took w.1.tokens) (λ s e.
     record {
       parts = rw (p.0, q.0, r.parts, e) refl;
-      fits = (p.1, q.2, subst (λ (d : Depth). WaysFit names d c.0.ask w.0) q.1 r.fits);
+      fits = (p.1, q.2, subst (λ (d : Depth). WaysFit names d (order_of names.kind c.0.ask) w.0) q.1 r.fits);
       counted = omega (arith, r.began.counted);
       few = r.began.few;
     }))))
@@ -232,35 +233,35 @@ more_rows-took names blocks ways rows take depth at false =
 
 -- WAYS
 
-last_way-took : (names : Declared) (blocks : Blocks) → RowsTake names blocks → (depth : Depth) (ask : Ask) (ts : List Token) (begun : ℕ) → IfSome (last_way blocks depth (progress_to ts begun)) (WaysTook names depth ask (progress_to (Key word.Else ∷ ts) begun))
-last_way-took names blocks rows depth ask ts begun =
+last_way-took : (names : Declared) (blocks : Blocks) → RowsTake names blocks → (depth : Depth) (order : Option Order) (ts : List Token) (begun : ℕ) → IfSome (last_way blocks depth (progress_to ts begun)) (WaysTook names depth order (progress_to (Key word.Else ∷ ts) begun))
+last_way-took names blocks rows depth order ts begun =
     IfSome-bind (read_block blocks depth (progress_to ts begun)) _ _ _ (block-took names blocks rows depth (progress_to ts begun)) (λ b p.
     record { parts = rw p.parts refl; fits = (p.room, p.fits); began = p.began })
 
-record CaseTook (names : Declared) (depth : Depth) (ask : Ask) (at : Progress) (x : Guarded × Progress) : Type 0 where
+record CaseTook (names : Declared) (depth : Depth) (order : Option Order) (at : Progress) (x : Guarded × Progress) : Type 0 where
   parts : at.tokens ≡ guards_written x.0.0 (Mark sign.OpenBrace ∷ statements_written names x.0.1 (Mark sign.CloseBrace ∷ x.1.tokens))
-  fits : GuardsFit ask x.0.0 × HasRoom depth × StatementsFit names (deeper depth) x.0.1
+  fits : GuardsFit order x.0.0 × HasRoom depth × StatementsFit names (deeper depth) x.0.1
   began : Began at.begun x.1.begun (statements_count x.0.1)
 
-case-took : (names : Declared) (blocks : Blocks) → RowsTake names blocks → (depth : Depth) (ask : Ask) (at : Progress) → IfSome (read_case blocks depth ask at) (CaseTook names depth ask at)
-case-took names blocks rows depth ask at =
-    IfSome-bind (read_guards ask [] at.tokens) _ _ _ (read_guards-took ask at.tokens) (λ gs p.
+case-took : (names : Declared) (blocks : Blocks) → RowsTake names blocks → (depth : Depth) (order : Option Order) (at : Progress) → IfSome (read_case blocks depth order at) (CaseTook names depth order at)
+case-took names blocks rows depth order at =
+    IfSome-bind (read_guards order [] at.tokens) _ _ _ (read_guards-took order at.tokens) (λ gs p.
     IfSome-bind (read_block blocks depth (progress_to gs.1 at.begun)) _ _ _ (block-took names blocks rows depth (progress_to gs.1 at.begun)) (λ b q.
     record { parts = rw (p.0, q.parts) refl; fits = (p.1, q.room, q.fits); began = q.began }))
 
-next_way-took : (names : Declared) (blocks : Blocks) (ways : WaysOf) → RowsTake names blocks → WaysTake names ways → (depth : Depth) (ask : Ask) (at : Progress) → IfSome (next_way blocks ways depth ask at) (WaysTook names depth ask at)
-next_way-took names blocks ways rows take depth ask at =
-    IfSome-bind (read_case blocks depth ask at) _ _ _ (case-took names blocks rows depth ask at) (λ c p.
-    IfSome-bind (ways depth ask c.1) _ _ _ (take depth ask c.1) (λ w r.
+next_way-took : (names : Declared) (blocks : Blocks) (ways : WaysOf) → RowsTake names blocks → WaysTake names ways → (depth : Depth) (order : Option Order) (at : Progress) → IfSome (next_way blocks ways depth order at) (WaysTook names depth order at)
+next_way-took names blocks ways rows take depth order at =
+    IfSome-bind (read_case blocks depth order at) _ _ _ (case-took names blocks rows depth order at) (λ c p.
+    IfSome-bind (ways depth order c.1) _ _ _ (take depth order c.1) (λ w r.
     record {
       parts = rw (p.parts, r.parts) refl;
       fits = (p.fits.0, p.fits.1, p.fits.2, r.fits);
       began = Began-then _ _ _ _ _ p.began r.began;
     }))
 
-more_ways-took : (names : Declared) (blocks : Blocks) (ways : WaysOf) → RowsTake names blocks → WaysTake names ways → (depth : Depth) (ask : Ask) (ts : List Token) (begun : ℕ) → IfSome (more_ways blocks ways depth ask ts begun) (WaysTook names depth ask (progress_to ts begun))
-more_ways-took names blocks ways rows take depth ask (Key word.Else ∷ ts) begun = last_way-took names blocks rows depth ask ts begun
-more_ways-took names blocks ways rows take depth ask ts begun = next_way-took names blocks ways rows take depth ask (progress_to ts begun)
+more_ways-took : (names : Declared) (blocks : Blocks) (ways : WaysOf) → RowsTake names blocks → WaysTake names ways → (depth : Depth) (order : Option Order) (ts : List Token) (begun : ℕ) → IfSome (more_ways blocks ways depth order ts begun) (WaysTook names depth order (progress_to ts begun))
+more_ways-took names blocks ways rows take depth order (Key word.Else ∷ ts) begun = last_way-took names blocks rows depth order ts begun
+more_ways-took names blocks ways rows take depth order ts begun = next_way-took names blocks ways rows take depth order (progress_to ts begun)
 
 mutual
   unfolding read_statements
@@ -270,5 +271,5 @@ mutual
   statements-took (suc left) names depth at = more_rows-took names (read_statements left names) (read_ways left names) (statements-took left names) (ways-took left names) depth at (closes at.tokens)
 
   pub ways-took : (left : ℕ) (names : Declared) → WaysTake names (read_ways left names)
-  ways-took zero names depth ask at = tt
-  ways-took (suc left) names depth ask at = more_ways-took names (read_statements left names) (read_ways left names) (statements-took left names) (ways-took left names) depth ask at.tokens at.begun
+  ways-took zero names depth order at = tt
+  ways-took (suc left) names depth order at = more_ways-took names (read_statements left names) (read_ways left names) (statements-took left names) (ways-took left names) depth order at.tokens at.begun

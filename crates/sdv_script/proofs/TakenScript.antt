@@ -7,11 +7,11 @@ use Rattle.std.proofs.lemmas.List.{append-nil, length-append}
 use Rattle.sdv_script.specs.declared.keyword.Keyword.TheVariants as word
 use Rattle.sdv_script.specs.Tokens.{Token, Key, Name}
 use Rattle.sdv_graph.specs.Tree.{Declared, Statements}
-use Rattle.sdv_script.specs.Grammar.{names_written, list_written, statements_written, script_written}
+use Rattle.sdv_script.specs.Grammar.{kind_word, names_written, list_written, statements_written, script_written}
 use Rattle.sdv_script.specs.Rules.{max_name, max_flags, max_numbers, max_bytes, max_statements, place_from, place_of, AreNew, NamesFit, StatementsFit, statements_count, statements_fall, ScriptFits}
-use Rattle.sdv_script.specs.Reading.{progress_to, after_card, after_sd, may_follow, name_is_new, read_names, read_flags, read_nums, read_declared, Whole, whole_if, start, read_statements, read_body, read_script}
+use Rattle.sdv_script.specs.Reading.{progress_to, after_card, read_kind, may_follow, name_is_new, read_names, read_flags, read_nums, read_declared, Whole, whole_if, start, read_statements, read_body, read_script}
 use Rattle.sdv_script.proofs.WhereRead.{IfSome-bind, IfSome-given, IfSome-test, IfSome-map, both}
-use Rattle.sdv_script.proofs.Taken.{after_card-took, after_sd-took}
+use Rattle.sdv_script.proofs.Taken.{after_card-took, kind-took}
 use Rattle.sdv_script.proofs.TakenRows.{statements-took}
 
 -- NEW NAMES
@@ -106,11 +106,14 @@ nums-took : (flags : List (List ℕ)) (ts : List Token) → IfSome (read_nums fl
 nums-took flags (Key word.Nums ∷ ts) = IfSome-map (read_names false flags [] max_numbers ts) _ _ (names-took ts false flags [] max_numbers) (nums_listed flags ts)
 nums-took flags ts = (refl, tt, omega arith)
 
-declared-took : (ts : List Token) → IfSome (read_declared ts) (λ d. (ts ≡ list_written word.Flags d.0.flags (list_written word.Nums d.0.numbers d.1)) × NamesFit d.0)
+declared-took : (ts : List Token) → IfSome (read_declared ts) (λ d. (ts ≡ Key (kind_word d.0.kind) ∷ list_written word.Flags d.0.flags (list_written word.Nums d.0.numbers d.1)) × NamesFit d.0)
 declared-took ts =
-    IfSome-bind (read_flags ts) _ _ _ (flags-took ts) (λ f p.
-    IfSome-bind (read_nums f.0 f.1) _ _ _ (nums-took f.0 f.1) (λ n q.
-    (p.0 ∙ ap (λ (r : List Token). list_written word.Flags f.0 r) q.0, record { flags_new = p.1; numbers_new = q.1; few_flags = p.2; few_numbers = q.2 })))
+    IfSome-bind (read_kind ts) _ _ _ (kind-took ts) (λ k e.
+    IfSome-bind (read_flags k.1) _ _ _ (flags-took k.1) (λ f p.
+    IfSome-bind (read_nums f.0 f.1) _ _ _ (nums-took f.0 f.1) (λ n q. (
+      e ∙ ap (λ (r : List Token). Key (kind_word k.0) ∷ r) (p.0 ∙ ap (λ (r : List Token). list_written word.Flags f.0 r) q.0),
+      record { flags_new = p.1; numbers_new = q.1; few_flags = p.2; few_numbers = q.2 },
+    ))))
 
 -- SCRIPTS
 
@@ -136,11 +139,12 @@ body-took names ts =
     IfSome-bind (read_statements max_bytes names start (progress_to ts 0)) _ _ _ (statements-took max_bytes names start (progress_to ts 0)) (λ b p.
     whole-took names b.0 ts b.1.tokens p.parts p.fits (omega (arith, p.began.counted, p.began.few (omega arith))))
 
-fits_whole : (names : Declared) (ts ts1 ts2 ts3 : List Token) (w : Whole) → ts ≡ Key word.Card ∷ ts1 → ts1 ≡ Key word.Sd ∷ ts2 → ts2 ≡ list_written word.Flags names.flags (list_written word.Nums names.numbers ts3) → NamesFit names → BodyTook names ts3 w
+fits_whole : (names : Declared) (ts ts1 ts3 : List Token) (w : Whole) → ts ≡ Key word.Card ∷ ts1
+    → ts1 ≡ Key (kind_word names.kind) ∷ list_written word.Flags names.flags (list_written word.Nums names.numbers ts3) → NamesFit names → BodyTook names ts3 w
     → (ts ≡ script_written w.0 w.1) × ScriptFits w.0 w.1
-fits_whole names ts ts1 ts2 ts3 w e f g fit took =
+fits_whole names ts ts1 ts3 w e f fit took =
     subst (λ (n : Declared). (ts ≡ script_written n w.1) × ScriptFits n w.1) (sym took.same) (
-      e ∙ ap (λ (r : List Token). Key word.Card ∷ r) (f ∙ ap (λ (r : List Token). Key word.Sd ∷ r) (g ∙ ap (λ (r : List Token). list_written word.Flags names.flags (list_written word.Nums names.numbers r)) took.parts)),
+      e ∙ ap (λ (r : List Token). Key word.Card ∷ r) (f ∙ ap (λ (r : List Token). Key (kind_word names.kind) ∷ list_written word.Flags names.flags (list_written word.Nums names.numbers r)) took.parts),
       record { names_fit = fit; statements_fit = took.fits; few = took.few; ends = took.ends },
     )
 
@@ -149,6 +153,5 @@ pub script-took : (ts : List Token) → IfSome (read_script ts) (λ w. (ts ≡ s
 unfolding read_script
 script-took ts =
     IfSome-bind (after_card ts) _ _ _ (after_card-took ts) (λ ts1 e.
-    IfSome-bind (after_sd ts1) _ _ _ (after_sd-took ts1) (λ ts2 f.
-    IfSome-bind (read_declared ts2) _ _ _ (declared-took ts2) (λ d p.
-    IfSome-map (read_body d.0 d.1) _ _ (body-took d.0 d.1) (λ w q. fits_whole d.0 ts ts1 ts2 d.1 w e f p.0 p.1 q))))
+    IfSome-bind (read_declared ts1) _ _ _ (declared-took ts1) (λ d p.
+    IfSome-map (read_body d.0 d.1) _ _ (body-took d.0 d.1) (λ w q. fits_whole d.0 ts ts1 d.1 w e p.0 p.1 q)))

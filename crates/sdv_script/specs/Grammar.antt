@@ -1,5 +1,7 @@
 -- The grammar of scripts: for each part of a syntax tree the tokens that it is written as, followed by others.
 use Rattle.std.specs.Prelude.{ℕ, List, [], ◌∷◌, Option, Some, None, get_or}
+use Rattle.sdv_registers.specs.declared.kind.Kind.{Kind}
+use Rattle.sdv_registers.specs.declared.kind.Kind.TheVariants.{Sd, Emmc}
 use Rattle.sdv_card.specs.declared.event.Aim.{Aim}
 use Rattle.sdv_card.specs.declared.event.Aim.TheVariants.{Rca, Plain}
 use Rattle.sdv_card.specs.declared.guard.Guard.{Guard}
@@ -10,7 +12,7 @@ use Rattle.sdv_script.specs.declared.token.Sign.TheVariants as sign
 use Rattle.sdv_script.specs.declared.keyword.Keyword.{Keyword}
 use Rattle.sdv_script.specs.declared.keyword.Keyword.TheVariants as word
 use Rattle.sdv_script.specs.declared.form.Form.{Form}
-use Rattle.sdv_script.specs.declared.form.Form.TheVariants.{Bare, Select, Conditions, Addressed, Counted}
+use Rattle.sdv_script.specs.declared.form.Form.TheVariants.{Bare, Select, Conditions, Addressed, Counted, Preset, Erase}
 use Rattle.sdv_graph.specs.declared.tree.Command.{Command}
 use Rattle.sdv_graph.specs.declared.tree.Address.{Address}
 use Rattle.sdv_graph.specs.declared.tree.Unit.{Unit as AddressUnit}
@@ -27,7 +29,7 @@ use Rattle.sdv_graph.specs.declared.tree.Change.TheVariants as changes
 use Rattle.sdv_graph.specs.declared.tree.Condition.{Condition}
 use Rattle.sdv_graph.specs.declared.tree.Condition.TheVariants as conditions
 use Rattle.sdv_script.specs.Tokens.{Token, Key, Name, Number, Mark}
-use Rattle.sdv_script.specs.Commands.{sd_form}
+use Rattle.sdv_script.specs.Commands.{form_of}
 use Rattle.sdv_graph.specs.Tree.{Statements, nothing, first, Ways, otherwise, way, Statement, send, phase, setting, choice, set, clear, turns, break, done, fault, Declared}
 
 -- NAMES, by their places in declared order
@@ -71,6 +73,8 @@ form_written Select names c others = select_written c.ask.aim others
 form_written Conditions names c others = Number c.ask.argument ∷ others
 form_written (Addressed count) names c others = address_if_any names c.address others
 form_written Counted names c others = address_if_any names c.address (Key word.Count ∷ Number c.ask.count ∷ others)
+form_written Preset names c others = Key word.Count ∷ Number c.ask.count ∷ others
+form_written Erase names c others = Number c.ask.argument ∷ others
 
 abbrev pub form_if_any : Option Form → Declared → Command → List Token → List Token
 form_if_any None names c others = others
@@ -78,7 +82,7 @@ form_if_any (Some form) names c others = form_written form names c others
 
 -- cmd = number [argument]
 abbrev pub command_written : Declared → Command → List Token → List Token
-command_written names c others = Number c.ask.index ∷ form_if_any (sd_form c.ask.index) names c others
+command_written names c others = Number c.ask.index ∷ form_if_any (form_of names.kind c.ask.index) names c others
 
 -- GUARDS
 
@@ -192,7 +196,11 @@ abbrev pub list_written : Keyword → List (List ℕ) → List Token → List To
 list_written keyword [] others = others
 list_written keyword (n ∷ ns) others = Key keyword ∷ names_written (n ∷ ns) others
 
--- script = "card" "sd" ["flags" name {name}] ["nums" name {name}] {stmt}
+abbrev pub kind_word : Kind → Keyword
+kind_word Sd = word.Sd
+kind_word Emmc = word.Emmc
+
+-- script = "card" ("sd" | "emmc") ["flags" name {name}] ["nums" name {name}] {stmt}
 abbrev pub script_written : Declared → Statements → List Token
 script_written names body =
-    Key word.Card ∷ Key word.Sd ∷ list_written word.Flags names.flags (list_written word.Nums names.numbers (statements_written names body []))
+    Key word.Card ∷ Key (kind_word names.kind) ∷ list_written word.Flags names.flags (list_written word.Nums names.numbers (statements_written names body []))

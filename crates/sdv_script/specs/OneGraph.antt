@@ -1,6 +1,5 @@
 -- What it means that a script has one graph.
 use Rattle.std.specs.Prelude.{◌≡◌}
-use Rattle.sdv_registers.specs.declared.kind.Kind.TheVariants.{Sd}
 use Rattle.sdv_graph.specs.Graph.{Flow}
 use Rattle.sdv_graph.specs.GraphOf.{IsGraphOf}
 use Rattle.sdv_script.specs.Script.{Parsed}
@@ -8,5 +7,5 @@ use Rattle.sdv_script.specs.Script.{Parsed}
 -- it has a graph, and no other one
 pub record HasOneGraph (s : Parsed) : Type 0 where
   pub graph : Flow
-  pub is_graph : IsGraphOf Sd s.names s.body graph
-  pub only : (g : Flow) → IsGraphOf Sd s.names s.body g → g ≡ graph
+  pub is_graph : IsGraphOf s.names s.body graph
+  pub only : (g : Flow) → IsGraphOf s.names s.body g → g ≡ graph

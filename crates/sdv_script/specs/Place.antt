@@ -21,7 +21,7 @@ abbrev pub texts : List (Bor (List ℕ)) → List (List ℕ)
 texts names = map (λ n. n.now) names
 
 abbrev pub names_of : Names → Declared
-names_of names = record { flags = texts names.flags.items; numbers = texts names.numbers.items }
+names_of names = record { kind = names.kind; flags = texts names.flags.items; numbers = texts names.numbers.items }
 
 abbrev pub parsed_of : List ℕ → Names → Block → Parsed
 parsed_of text names body = record { text = text; names = names_of names; body = statements_of body }

@@ -1,8 +1,12 @@
 -- Reading a script's tokens from left to right: the part of a tree that they begin with, and the tokens after it; none
 -- where they begin with no such part. The laws of reading say that this is the grammar.
 use Rattle.std.specs.Prelude.{◌≡◌, ℕ, zero, suc, ◌+◌, List, [], ◌∷◌, ◌++◌, length, Bool, true, false, ◌&&◌, nat_lt, nat_le, Option, Some, None, is_none, Result, Ok, Err, if◌then◌else◌}
+use Rattle.sdv_registers.specs.declared.kind.Kind.{Kind}
+use Rattle.sdv_registers.specs.declared.kind.Kind.TheVariants.{Sd, Emmc}
 use Rattle.sdv_card.specs.declared.event.Aim.TheVariants.{Rca, Plain}
 use Rattle.sdv_card.specs.declared.event.Ask.{Ask}
+use Rattle.sdv_card.specs.declared.command.Order.{Order}
+use Rattle.sdv_card.specs.CommandTable.{order_of}
 use Rattle.sdv_card.specs.declared.guard.Guard.{Guard}
 use Rattle.sdv_card.specs.declared.guard.Guard.TheVariants as guards
 use Rattle.sdv_card.specs.declared.state.State.{State}
@@ -14,7 +18,7 @@ use Rattle.sdv_script.specs.declared.keyword.Keyword.{Keyword}
 use Rattle.sdv_script.specs.declared.keyword.Keyword.TheVariants as word
 use Rattle.sdv_script.specs.declared.depth.Depth.{Depth}
 use Rattle.sdv_script.specs.declared.form.Form.{Form}
-use Rattle.sdv_script.specs.declared.form.Form.TheVariants.{Bare, Select, Conditions, Addressed, Counted}
+use Rattle.sdv_script.specs.declared.form.Form.TheVariants.{Bare, Select, Conditions, Addressed, Counted, Preset, Erase}
 use Rattle.sdv_graph.specs.declared.tree.Command.{Command}
 use Rattle.sdv_graph.specs.declared.tree.Address.{Address}
 use Rattle.sdv_graph.specs.declared.tree.Unit.{Unit as AddressUnit}
@@ -31,7 +35,7 @@ use Rattle.sdv_graph.specs.declared.tree.Change.TheVariants as changes
 use Rattle.sdv_graph.specs.declared.tree.Condition.{Condition}
 use Rattle.sdv_graph.specs.declared.tree.Condition.TheVariants as conditions
 use Rattle.sdv_script.specs.Tokens.{Token, Key, Name, Number, Mark}
-use Rattle.sdv_script.specs.Commands.{sd_form, is_conditions, guard_suits}
+use Rattle.sdv_script.specs.Commands.{form_of, is_conditions, is_erase, has_ext_csd, fits_order}
 use Rattle.sdv_script.specs.Rules.{place_of, ask_with, deeper, in_loop, max_number, max_braces, max_loops, max_statements, max_name, max_flags, max_numbers, max_bytes, statements_fall}
 use Rattle.sdv_graph.specs.Tree.{Statements, nothing, first, Ways, otherwise, way, Statement, send, phase, setting, choice, set, clear, turns, break, done, fault, Declared, Guarded}
 
@@ -91,9 +95,10 @@ abbrev pub after_card : List Token → Option (List Token)
 after_card (Key word.Card ∷ ts) = Some ts
 after_card ts = None
 
-abbrev pub after_sd : List Token → Option (List Token)
-after_sd (Key word.Sd ∷ ts) = Some ts
-after_sd ts = None
+abbrev pub read_kind : List Token → Read Kind
+read_kind (Key word.Sd ∷ ts) = Some (Sd, ts)
+read_kind (Key word.Emmc ∷ ts) = Some (Emmc, ts)
+read_kind ts = None
 
 abbrev pub read_figure : List Token → Read ℕ
 read_figure (Number n ∷ ts) = if nat_le n max_number then Some (n, ts) else None
@@ -154,15 +159,25 @@ read_counted names index ts =
     read_address names ts >>= λ a. after_count a.1 >>= λ ts1. read_count ts1 >>= λ n.
     Some (addressed_command (ask_with index Plain 0 n.0) a.0, n.1)
 
+abbrev pub read_preset : ℕ → List Token → Read Command
+read_preset index ts =
+    after_count ts >>= λ ts1. read_count ts1 >>= λ n. Some (bare_command (ask_with index Plain 0 n.0), n.1)
+
+abbrev pub read_erase : ℕ → List Token → Read Command
+read_erase index (Number n ∷ ts) = if is_erase n then Some (bare_command (ask_with index Plain n 0), ts) else None
+read_erase index ts = None
+
 abbrev pub read_form : Declared → ℕ → Form → List Token → Read Command
 read_form names index (Bare aim) ts = Some (bare_command (ask_with index aim 0 0), ts)
 read_form names index Select ts = read_select index ts
 read_form names index Conditions ts = read_conditions index ts
 read_form names index (Addressed count) ts = read_address names ts >>= λ a. Some (addressed_command (ask_with index Plain 0 count) a.0, a.1)
 read_form names index Counted ts = read_counted names index ts
+read_form names index Preset ts = read_preset index ts
+read_form names index Erase ts = read_erase index ts
 
 abbrev pub read_command : Declared → List Token → Read Command
-read_command names (Number n ∷ ts) = sd_form n >>= λ form. read_form names n form ts
+read_command names (Number n ∷ ts) = form_of names.kind n >>= λ form. read_form names n form ts
 read_command names ts = None
 
 -- GUARDS
@@ -195,18 +210,18 @@ guard_of word.OcrReady = Some guards.OcrReady
 guard_of word.OcrBlock = Some guards.OcrBlock
 guard_of keyword = None
 
-abbrev pub read_state_guard : Ask → List Token → Read Guard
-read_state_guard ask ts =
-    if guard_suits (guards.State states.Idle) ask
+abbrev pub read_state_guard : Option Order → List Token → Read Guard
+read_state_guard order ts =
+    if fits_order (guards.State states.Idle) order
     then (after_equals ts >>= λ ts1. read_state ts1 >>= λ s. Some (guards.State s.0, s.1)) else None
 
-abbrev pub read_word_guard : Ask → Keyword → List Token → Read Guard
-read_word_guard ask k ts = guard_of k >>= λ g. if guard_suits g ask then Some (g, ts) else None
+abbrev pub read_word_guard : Option Order → Keyword → List Token → Read Guard
+read_word_guard order k ts = guard_of k >>= λ g. if fits_order g order then Some (g, ts) else None
 
-abbrev pub read_guard : Ask → List Token → Read Guard
-read_guard ask (Key word.State ∷ ts) = read_state_guard ask ts
-read_guard ask (Key k ∷ ts) = read_word_guard ask k ts
-read_guard ask ts = None
+abbrev pub read_guard : Option Order → List Token → Read Guard
+read_guard order (Key word.State ∷ ts) = read_state_guard order ts
+read_guard order (Key k ∷ ts) = read_word_guard order k ts
+read_guard order ts = None
 
 abbrev pub more_if : (List Token → Read (List Guard)) → List Guard → List Token → Option (List Token) → Read (List Guard)
 more_if further gs ts None = Some (gs, ts)
@@ -216,20 +231,21 @@ abbrev pub more_guards : (List Token → Read (List Guard)) → List Guard → L
 more_guards further gs ts = more_if further gs ts (after_and ts)
 
 -- at most n guards, after those that were read
-unfoldable pub guards_within : ℕ → Ask → List Guard → List Token → Read (List Guard)
-guards_within zero ask before ts = None
-guards_within (suc n) ask before ts =
-    read_guard ask ts >>= λ g. more_guards (guards_within n ask (before ++ g.0 ∷ [])) (before ++ g.0 ∷ []) g.1
+unfoldable pub guards_within : ℕ → Option Order → List Guard → List Token → Read (List Guard)
+guards_within zero order before ts = None
+guards_within (suc n) order before ts =
+    read_guard order ts >>= λ g. more_guards (guards_within n order (before ++ g.0 ∷ [])) (before ++ g.0 ∷ []) g.1
 
 -- there are no more guards than tokens
-unfoldable pub read_guards : Ask → List Guard → List Token → Read (List Guard)
-read_guards ask before ts = guards_within (length ts) ask before ts
+unfoldable pub read_guards : Option Order → List Guard → List Token → Read (List Guard)
+read_guards order before ts = guards_within (length ts) order before ts
 
 -- STATEMENTS WITHOUT BLOCKS
 
 abbrev pub read_atom : Declared → List Token → Read Atom
 read_atom names (Number n ∷ ts) = read_figure (Number n ∷ ts) >>= λ k. Some (atoms.Number k.0, k.1)
 read_atom names (Key word.CsdBlocks ∷ ts) = Some (atoms.CsdBlocks, ts)
+read_atom names (Key word.ExtBlocks ∷ ts) = if has_ext_csd names.kind then Some (atoms.ExtBlocks, ts) else None
 read_atom names ts = read_number_name names ts >>= λ x. Some (atoms.Variable x.0, x.1)
 
 abbrev pub read_change : List Token → Read Change
@@ -285,7 +301,7 @@ abbrev pub Blocks : Type 0
 Blocks = Depth → Progress → Reading Statements
 
 abbrev pub WaysOf : Type 0
-WaysOf = Depth → Ask → Progress → Reading Ways
+WaysOf = Depth → Option Order → Progress → Reading Ways
 
 -- "{" {stmt} "}"
 abbrev pub read_block : Blocks → Depth → Progress → Reading Statements
@@ -315,7 +331,7 @@ read_phase blocks depth p at = read_ends blocks depth at >>= λ ab. Some (phase 
 abbrev pub read_send : WaysOf → Declared → Depth → Progress → Reading Statement
 read_send ways names depth at =
     read_command names at.tokens >>= λ c. after_open depth c.1 >>= λ o.
-    ways o.0 c.0.ask (progress_to o.1 at.begun) >>= λ w.
+    ways o.0 (order_of names.kind c.0.ask) (progress_to o.1 at.begun) >>= λ w.
     after_close w.1.tokens >>= λ ts1. Some (send c.0 w.0, progress_to ts1 w.1.begun)
 
 abbrev pub read_if : Blocks → Declared → Depth → Progress → Reading Statement
@@ -390,17 +406,17 @@ abbrev pub last_way : Blocks → Depth → Progress → Reading Ways
 last_way blocks depth at = read_block blocks depth at >>= λ b. Some (otherwise b.0, b.1)
 
 -- guard {"&" guard} block
-abbrev pub read_case : Blocks → Depth → Ask → Progress → Reading Guarded
-read_case blocks depth ask at =
-    read_guards ask [] at.tokens >>= λ gs. read_block blocks depth (progress_to gs.1 at.begun) >>= λ b. Some ((gs.0, b.0), b.1)
+abbrev pub read_case : Blocks → Depth → Option Order → Progress → Reading Guarded
+read_case blocks depth order at =
+    read_guards order [] at.tokens >>= λ gs. read_block blocks depth (progress_to gs.1 at.begun) >>= λ b. Some ((gs.0, b.0), b.1)
 
-abbrev pub next_way : Blocks → WaysOf → Depth → Ask → Progress → Reading Ways
-next_way blocks ways depth ask at =
-    read_case blocks depth ask at >>= λ c. ways depth ask c.1 >>= λ w. Some (way c.0.0 c.0.1 w.0, w.1)
+abbrev pub next_way : Blocks → WaysOf → Depth → Option Order → Progress → Reading Ways
+next_way blocks ways depth order at =
+    read_case blocks depth order at >>= λ c. ways depth order c.1 >>= λ w. Some (way c.0.0 c.0.1 w.0, w.1)
 
-abbrev pub more_ways : Blocks → WaysOf → Depth → Ask → List Token → ℕ → Reading Ways
-more_ways blocks ways depth ask (Key word.Else ∷ ts) begun = last_way blocks depth (progress_to ts begun)
-more_ways blocks ways depth ask ts begun = next_way blocks ways depth ask (progress_to ts begun)
+abbrev pub more_ways : Blocks → WaysOf → Depth → Option Order → List Token → ℕ → Reading Ways
+more_ways blocks ways depth order (Key word.Else ∷ ts) begun = last_way blocks depth (progress_to ts begun)
+more_ways blocks ways depth order ts begun = next_way blocks ways depth order (progress_to ts begun)
 
 -- with so many levels of the tree left
 unfoldable mutual
@@ -408,9 +424,9 @@ unfoldable mutual
   read_statements zero names depth at = None
   read_statements (suc left) names depth at = more_statements (read_statements left names) (read_ways left names) names depth at
 
-  pub read_ways : ℕ → Declared → Depth → Ask → Progress → Reading Ways
-  read_ways zero names depth ask at = None
-  read_ways (suc left) names depth ask at = more_ways (read_statements left names) (read_ways left names) depth ask at.tokens at.begun
+  pub read_ways : ℕ → Declared → Depth → Option Order → Progress → Reading Ways
+  read_ways zero names depth order at = None
+  read_ways (suc left) names depth order at = more_ways (read_statements left names) (read_ways left names) depth order at.tokens at.begun
 
 -- SCRIPTS
 
@@ -453,7 +469,9 @@ abbrev pub read_body : Declared → List Token → Option Whole
 read_body names ts = read_statements max_bytes names start (progress_to ts 0) >>= λ b. whole_if names b.0 b.1.tokens
 
 abbrev pub read_declared : List Token → Read Declared
-read_declared ts = read_flags ts >>= λ flags. read_nums flags.0 flags.1 >>= λ numbers. Some (record { flags = flags.0; numbers = numbers.0 }, numbers.1)
+read_declared ts =
+    read_kind ts >>= λ kind. read_flags kind.1 >>= λ flags. read_nums flags.0 flags.1 >>= λ numbers.
+    Some (record { kind = kind.0; flags = flags.0; numbers = numbers.0 }, numbers.1)
 
 unfoldable pub read_script : List Token → Option Whole
-read_script ts = after_card ts >>= λ ts1. after_sd ts1 >>= λ ts2. read_declared ts2 >>= λ names. read_body names.0 names.1
+read_script ts = after_card ts >>= λ ts1. read_declared ts1 >>= λ names. read_body names.0 names.1

@@ -5,10 +5,12 @@ use Rattle.std.specs.Str.{bytes_eq}
 use Rattle.sdv_card.specs.declared.event.Aim.{Aim}
 use Rattle.sdv_card.specs.declared.event.Aim.TheVariants.{Plain}
 use Rattle.sdv_card.specs.declared.event.Ask.{Ask}
+use Rattle.sdv_card.specs.declared.command.Order.{Order}
+use Rattle.sdv_card.specs.CommandTable.{order_of}
 use Rattle.sdv_card.specs.declared.guard.Guard.{Guard}
 use Rattle.sdv_script.specs.declared.depth.Depth.{Depth}
 use Rattle.sdv_script.specs.declared.form.Form.{Form}
-use Rattle.sdv_script.specs.declared.form.Form.TheVariants.{Bare, Select, Conditions, Addressed, Counted}
+use Rattle.sdv_script.specs.declared.form.Form.TheVariants.{Bare, Select, Conditions, Addressed, Counted, Preset, Erase}
 use Rattle.sdv_graph.specs.declared.tree.Command.{Command}
 use Rattle.sdv_graph.specs.declared.tree.Address.{Address}
 use Rattle.sdv_graph.specs.declared.tree.Unit.{Unit as AddressUnit}
@@ -22,7 +24,7 @@ use Rattle.sdv_graph.specs.declared.tree.Change.{Change}
 use Rattle.sdv_graph.specs.declared.tree.Change.TheVariants as changes
 use Rattle.sdv_graph.specs.declared.tree.Condition.{Condition}
 use Rattle.sdv_graph.specs.declared.tree.Condition.TheVariants as conditions
-use Rattle.sdv_script.specs.Commands.{sd_form, is_conditions, guard_suits}
+use Rattle.sdv_script.specs.Commands.{form_of, is_conditions, is_erase, has_ext_csd, fits_order}
 use Rattle.sdv_graph.specs.Tree.{Statements, nothing, first, Ways, otherwise, way, Statement, send, phase, setting, choice, set, clear, turns, break, done, fault, Declared}
 pub use Rattle.sdv_graph.specs.Counts.{max_number, max_statements, max_name, max_flags, max_loops, statements_count, ways_count, statement_count, statements_break, ways_break, statement_breaks, statements_fall, ways_fall, statement_falls}
 
@@ -87,15 +89,17 @@ FormFits names (Some Select) c = (c.ask ≡ ask_with c.ask.index c.ask.aim 0 0) 
 FormFits names (Some Conditions) c = (c.ask ≡ ask_with c.ask.index Plain c.ask.argument 0) × IsTrue (is_conditions c.ask.argument) × (c.address ≡ None)
 FormFits names (Some (Addressed count)) c = (c.ask ≡ ask_with c.ask.index Plain 0 count) × AddressFits names c.address
 FormFits names (Some Counted) c = (c.ask ≡ ask_with c.ask.index Plain 0 c.ask.count) × (1 ≤ c.ask.count) × (c.ask.count ≤ 65535) × AddressFits names c.address
+FormFits names (Some Preset) c = (c.ask ≡ ask_with c.ask.index Plain 0 c.ask.count) × (1 ≤ c.ask.count) × (c.ask.count ≤ 65535) × (c.address ≡ None)
+FormFits names (Some Erase) c = (c.ask ≡ ask_with c.ask.index Plain c.ask.argument 0) × IsTrue (is_erase c.ask.argument) × (c.address ≡ None)
 
 abbrev pub CommandFits : Declared → Command → Type 0
-CommandFits names c = FormFits names (sd_form c.ask.index) c
+CommandFits names c = FormFits names (form_of names.kind c.ask.index) c
 
--- one guard or more, and each says something of the answers to the command
-abbrev pub GuardsFit : Ask → List Guard → Type 0
-GuardsFit ask [] = ⊥
-GuardsFit ask (g ∷ []) = IsTrue (guard_suits g ask)
-GuardsFit ask (g ∷ h ∷ gs) = IsTrue (guard_suits g ask) × GuardsFit ask (h ∷ gs)
+-- one guard or more, and each says something of the answers to a command
+abbrev pub GuardsFit : Option Order → List Guard → Type 0
+GuardsFit order [] = ⊥
+GuardsFit order (g ∷ []) = IsTrue (fits_order g order)
+GuardsFit order (g ∷ h ∷ gs) = IsTrue (fits_order g order) × GuardsFit order (h ∷ gs)
 
 -- STATEMENTS
 
@@ -103,8 +107,7 @@ abbrev pub AtomFits : Declared → Atom → Type 0
 AtomFits names (atoms.Number n) = n ≤ max_number
 AtomFits names (atoms.Variable x) = x < length names.numbers
 AtomFits names atoms.CsdBlocks = Unit {0}
--- an SD card has no EXT_CSD
-AtomFits names atoms.ExtBlocks = ⊥
+AtomFits names atoms.ExtBlocks = IsTrue (has_ext_csd names.kind)
 
 abbrev pub ChangeFits : Change → Type 0
 ChangeFits changes.Same = Unit {0}
@@ -134,13 +137,14 @@ abbrev mutual
   StatementsFit names depth nothing = Unit {0}
   StatementsFit names depth (first s rest) = StatementFits names depth s × StatementsFit names depth rest
 
-  pub WaysFit : Declared → Depth → Ask → Ways → Type 0
-  WaysFit names depth ask (otherwise b) = HasRoom depth × StatementsFit names (deeper depth) b
-  WaysFit names depth ask (way gs b rest) =
-      GuardsFit ask gs × HasRoom depth × StatementsFit names (deeper depth) b × WaysFit names depth ask rest
+  pub WaysFit : Declared → Depth → Option Order → Ways → Type 0
+  WaysFit names depth order (otherwise b) = HasRoom depth × StatementsFit names (deeper depth) b
+  WaysFit names depth order (way gs b rest) =
+      GuardsFit order gs × HasRoom depth × StatementsFit names (deeper depth) b × WaysFit names depth order rest
 
   pub StatementFits : Declared → Depth → Statement → Type 0
-  StatementFits names depth (send c ways) = CommandFits names c × HasRoom depth × WaysFit names (deeper depth) c.ask ways
+  StatementFits names depth (send c ways) =
+      CommandFits names c × HasRoom depth × WaysFit names (deeper depth) (order_of names.kind c.ask) ways
   StatementFits names depth (phase p a b) =
       HasRoom depth × HasRoom (deeper depth) × StatementsFit names (deeper (deeper depth)) a × StatementsFit names (deeper (deeper depth)) b
   StatementFits names depth (setting l) = LetFits names l

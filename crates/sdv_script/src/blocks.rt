@@ -18,7 +18,8 @@ use crate::keyword::Keyword;
 use crate::progress::Progress;
 use crate::token::{Sign, Token};
 use crate::values::{condition, fault_name, receive, setting};
-use sdv_card::{Ask, Guard};
+use sdv_card::laws::order;
+use sdv_card::{Guard, Order};
 use sdv_graph::{Block, Cases, Names, Phase, Stmt};
 use std::alloc::{AllocError, Global};
 
@@ -196,8 +197,9 @@ fn send<'a>(
         (read_send (read_ways left names) names depth (progress_of from.entry)) }
 {
     let (command, at) = command(names, from.at)?;
+    let answered = order(names.kind, &command.ask);
     let (inside, at) = open_brace(at, depth, FaultKind::Argument)?;
-    let (cases, from) = ways(alloc, names, left, inside, &command.ask, from.to(at))?;
+    let (cases, from) = ways(alloc, names, left, inside, answered, from.to(at))?;
     let at = close_brace(from.at)?;
     Ok((Stmt::Send(command, cases), from.to(at)))
 }
@@ -304,11 +306,11 @@ fn ways<'a>(
     names: &Names<'a>,
     left: usize,
     depth: Depth,
-    ask: &Ask,
+    order: Option<Order>,
     from: Progress<'a>,
 ) -> Result<(Cases<'a>, Progress<'a>), Stop>
     ensures { Gives (λ x. (ways_of x.0, progress_of x.1)) result
-        (read_ways left (names_of names.now) depth ask.now (progress_of from.entry)) }
+        (read_ways left (names_of names.now) depth order (progress_of from.entry)) }
 {
     let mut read = Vec::new(alloc);
     let mut from = from;
@@ -317,7 +319,7 @@ fn ways<'a>(
             let (last, from) = last_case(alloc, names, left, depth, from.to(at))?;
             return Ok((before(alloc, read, last)?, from));
         }
-        let (next, after) = case(alloc, names, left, depth, ask, from)?;
+        let (next, after) = case(alloc, names, left, depth, order, from)?;
         read.push(next)?;
         from = after;
     }
@@ -363,13 +365,13 @@ fn case<'a>(
     names: &Names<'a>,
     left: usize,
     depth: Depth,
-    ask: &Ask,
+    order: Option<Order>,
     from: Progress<'a>,
 ) -> Result<(Guarded<'a>, Progress<'a>), Stop>
     ensures { Gives (λ x. (guarded_of x.0, progress_of x.1)) result
-        (read_case (read_statements left (names_of names.now)) depth ask.now (progress_of from.entry)) }
+        (read_case (read_statements left (names_of names.now)) depth order (progress_of from.entry)) }
 {
-    let (guards, at) = guard_list(alloc, ask, from.at)?;
+    let (guards, at) = guard_list(alloc, order, from.at)?;
     let (block, from) = block(alloc, names, left, depth, from.to(at))?;
     let block = Box::new(alloc, block)?;
     Ok((Guarded { guards, block }, from))

@@ -3,7 +3,7 @@
 ghost use Rattle.std.specs.Prelude.{◌≡◌};
 ghost use Rattle.sdv_script.specs.Place.{tokens_at, names_of};
 ghost use Rattle.sdv_script.specs.Rules.{ask_with};
-ghost use Rattle.sdv_script.specs.Reading.{Gives, bare_command, addressed_command, read_unit, read_sum, read_position, read_address, read_select, read_conditions, read_counted, read_form, read_command};
+ghost use Rattle.sdv_script.specs.Reading.{Gives, bare_command, addressed_command, read_unit, read_sum, read_position, read_address, read_select, read_conditions, read_counted, read_preset, read_erase, read_form, read_command};
 
 use crate::cursor::Cursor;
 use crate::expect::{at_word, count, count_word, figure, flag, number_name};
@@ -25,7 +25,7 @@ pub fn command<'a>(names: &Names<'_>, at: Cursor<'a>) -> Result<(Command, Cursor
     let Ok(index) = u8::try_from(number) else {
         return Err(Stop::Fault(at.fault(FaultKind::Command)));
     };
-    match form_of(index) {
+    match form_of(names.kind, index) {
         Some(form) => written(names, index, form, at.next()),
         None => Err(Stop::Fault(at.fault(FaultKind::Command))),
     }
@@ -49,6 +49,8 @@ fn written<'a>(
             Ok((addressed(ask(index, Aim::Plain, 0, blocks), address), at))
         }
         Form::Counted => counted(names, index, at),
+        Form::Preset => preset(index, at),
+        Form::Erase => erase(index, at),
     }
 }
 
@@ -94,6 +96,27 @@ fn conditions(index: u8, at: Cursor<'_>) -> Result<(Command, Cursor<'_>), Stop>
 {
     match at.token {
         Token::Number(n) if n == 0x00ff_8000 || n == 0x40ff_8000 => {
+            Ok((bare(ask(index, Aim::Plain, n as u32, 0)), at.next()))
+        }
+        _ => Err(Stop::Fault(at.fault(FaultKind::Argument))),
+    }
+}
+
+// `count` and a number of blocks.
+fn preset(index: u8, at: Cursor<'_>) -> Result<(Command, Cursor<'_>), Stop>
+    ensures { Gives (λ x. (x.0, tokens_at x.1)) result (read_preset index (tokens_at at.entry)) }
+{
+    let at = count_word(at)?;
+    let (count, at) = count(at, FaultKind::Argument, FaultKind::Argument)?;
+    Ok((bare(ask(index, Aim::Plain, 0, count)), at))
+}
+
+// An erase, a trim or a discard.
+fn erase(index: u8, at: Cursor<'_>) -> Result<(Command, Cursor<'_>), Stop>
+    ensures { Gives (λ x. (x.0, tokens_at x.1)) result (read_erase index (tokens_at at.entry)) }
+{
+    match at.token {
+        Token::Number(n) if n == 0 || n == 1 || n == 3 => {
             Ok((bare(ask(index, Aim::Plain, n as u32, 0)), at.next()))
         }
         _ => Err(Stop::Fault(at.fault(FaultKind::Argument))),

@@ -1,4 +1,4 @@
-//! The names that a script declares.
+//! What a script declares: the kind of card, and its names.
 
 ghost use Rattle.std.specs.Prelude.{◌≡◌, [], is_none};
 ghost use Rattle.sdv_script.specs.Place.{tokens_at, texts, names_of};
@@ -7,7 +7,7 @@ ghost use Rattle.sdv_script.specs.Reading.{Gives, may_follow, name_is_new, read_
 
 use crate::blocks::is_first_word;
 use crate::cursor::Cursor;
-use crate::expect::place_of;
+use crate::expect::{kind_word, place_of};
 use crate::fault::{FaultKind, ScriptFault, Stop};
 use crate::keyword::Keyword;
 use crate::token::Token;
@@ -21,13 +21,21 @@ pub const MAX_FLAGS: usize = 4;
 /// A script declares at most so many number variables.
 pub const MAX_NUMBERS: usize = 8;
 
-/// The flags and the number variables.
+/// The kind of card, the flags and the number variables.
 pub fn declared<'a>(alloc: Global, at: Cursor<'a>) -> Result<(Names<'a>, Cursor<'a>), Stop>
     ensures { Gives (λ x. (names_of x.0, tokens_at x.1)) result (read_declared (tokens_at at.entry)) }
 {
+    let (kind, at) = kind_word(at)?;
     let (flags, at) = flags(alloc, at)?;
     let (numbers, at) = numbers(alloc, &flags, at)?;
-    Ok((Names { flags, numbers }, at))
+    Ok((
+        Names {
+            kind,
+            flags,
+            numbers,
+        },
+        at,
+    ))
 }
 
 fn flags<'a>(alloc: Global, at: Cursor<'a>) -> Result<(Vec<&'a str>, Cursor<'a>), Stop>

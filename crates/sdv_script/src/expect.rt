@@ -4,13 +4,14 @@ ghost use Rattle.std.specs.Prelude.{◌≡◌, ℕ, ◌+◌, option_map, drop};
 ghost use Rattle.sdv_script.specs.Place.{tokens_at, texts, names_of};
 ghost use Rattle.sdv_script.specs.Faults.{no_name_kind};
 ghost use Rattle.sdv_script.specs.Rules.{place_of};
-ghost use Rattle.sdv_script.specs.Reading.{Gives, after_open, after_close, after_equals, after_else, after_ok, after_at, after_count, after_card, after_sd, read_figure, read_count, read_flag, read_number_name};
+ghost use Rattle.sdv_script.specs.Reading.{Gives, after_open, after_close, after_equals, after_else, after_ok, after_at, after_count, after_card, read_kind, read_figure, read_count, read_flag, read_number_name};
 
 use crate::cursor::Cursor;
 use crate::depth::Depth;
 use crate::fault::{FaultKind, ScriptFault, Stop};
 use crate::keyword::Keyword;
 use crate::token::{MAX_NUMBER, Sign, Token};
+use sdv_card::Kind;
 use sdv_graph::Names;
 
 /// Braces may be nested so deep.
@@ -117,12 +118,13 @@ pub fn card_word(at: Cursor<'_>) -> Result<Cursor<'_>, Stop>
     }
 }
 
-/// What follows `sd`.
-pub fn sd_word(at: Cursor<'_>) -> Result<Cursor<'_>, Stop>
-    ensures { Gives tokens_at result (after_sd (tokens_at at.entry)) }
+/// `sd` or `emmc`, and what follows it.
+pub fn kind_word(at: Cursor<'_>) -> Result<(Kind, Cursor<'_>), Stop>
+    ensures { Gives (λ x. (x.0, tokens_at x.1)) result (read_kind (tokens_at at.entry)) }
 {
     match at.token {
-        Token::Key(Keyword::Sd) => Ok(at.next()),
+        Token::Key(Keyword::Sd) => Ok((Kind::Sd, at.next())),
+        Token::Key(Keyword::Emmc) => Ok((Kind::Emmc, at.next())),
         _ => Err(Stop::Fault(at.fault(FaultKind::Syntax))),
     }
 }

@@ -1,7 +1,6 @@
 //! The graph of a script.
 
 ghost use Rattle.std.specs.Prelude.{◌≡◌, MatchResult};
-ghost use Rattle.sdv_registers.specs.declared.kind.Kind.TheVariants.{Sd};
 ghost use Rattle.sdv_graph.specs.GraphOf.{IsGraphOf};
 ghost use Rattle.sdv_script.specs.OneGraph.{HasOneGraph};
 ghost use Rattle.sdv_script.specs.Refusal.{memory_fault};
@@ -17,7 +16,7 @@ impl<'a> Script<'a> {
     /// The graph of the script: its paths are the script's walks, each run over it ends, and its loops are nested. It is
     /// refused only for want of memory.
     pub fn graph(&self, alloc: Global) -> Result<Graph<'a>, ScriptFault>
-        ensures { MatchResult result (λ g. IsGraphOf Sd (shown self.now).names (shown self.now).body g) (λ f. f ≡ memory_fault) }
+        ensures { MatchResult result (λ g. IsGraphOf (shown self.now).names (shown self.now).body g) (λ f. f ≡ memory_fault) }
     {
         match graph_of(alloc, &self.names, &self.body) {
             Ok(graph) => Ok(graph),

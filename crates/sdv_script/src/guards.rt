@@ -2,7 +2,7 @@
 
 ghost use Rattle.std.specs.Prelude.{◌≡◌, [], option_map};
 ghost use Rattle.sdv_card.specs.Guards.{guard_fits, has_status, has_ocr};
-ghost use Rattle.sdv_script.specs.Commands.{guard_suits};
+ghost use Rattle.sdv_script.specs.Commands.{fits_order};
 ghost use Rattle.sdv_script.specs.Place.{tokens_at};
 ghost use Rattle.sdv_script.specs.Tokens.{tokens};
 ghost use Rattle.sdv_script.specs.Reading.{Gives, after_and, state_of, guard_of, read_state, read_state_guard, read_word_guard, read_guard, read_guards};
@@ -12,22 +12,21 @@ use crate::expect::equals;
 use crate::fault::{FaultKind, Stop};
 use crate::keyword::Keyword;
 use crate::token::{Sign, Token};
-use sdv_card::laws::order;
-use sdv_card::{Ask, Guard, Kind, Order, State};
+use sdv_card::{Guard, Order, State};
 use std::alloc::Global;
 
-/// The guards of a case, which say something of the answers to a command.
+/// The guards of a case, which say something of the answers to a command by its order.
 pub fn guard_list<'a>(
     alloc: Global,
-    ask: &Ask,
+    order: Option<Order>,
     at: Cursor<'a>,
 ) -> Result<(Vec<Guard>, Cursor<'a>), Stop>
-    ensures { Gives (λ x. (x.0.items, tokens_at x.1)) result (read_guards ask.now [] (tokens_at at.entry)) }
+    ensures { Gives (λ x. (x.0.items, tokens_at x.1)) result (read_guards order [] (tokens_at at.entry)) }
 {
     let mut guards = Vec::new(alloc);
     let mut at = at;
     loop {
-        let (first, after) = guard(ask, at)?;
+        let (first, after) = guard(order, at)?;
         guards.push(first)?;
         match and_sign(after) {
             Some(next) => at = next,
@@ -46,32 +45,36 @@ fn and_sign(at: Cursor<'_>) -> Option<Cursor<'_>>
     }
 }
 
-fn guard<'a>(ask: &Ask, at: Cursor<'a>) -> Result<(Guard, Cursor<'a>), Stop>
-    ensures { Gives (λ x. (x.0, tokens_at x.1)) result (read_guard ask.now (tokens_at at.entry)) }
+fn guard<'a>(order: Option<Order>, at: Cursor<'a>) -> Result<(Guard, Cursor<'a>), Stop>
+    ensures { Gives (λ x. (x.0, tokens_at x.1)) result (read_guard order (tokens_at at.entry)) }
 {
     match at.token {
-        Token::Key(Keyword::State) => state_guard(ask, at),
-        Token::Key(keyword) => word_guard(ask, keyword, at),
+        Token::Key(Keyword::State) => state_guard(order, at),
+        Token::Key(keyword) => word_guard(order, keyword, at),
         _ => Err(Stop::Fault(at.fault(FaultKind::Syntax))),
     }
 }
 
 // A guard of one word, at a place that has the word.
-fn word_guard<'a>(ask: &Ask, keyword: Keyword, at: Cursor<'a>) -> Result<(Guard, Cursor<'a>), Stop>
-    ensures { Gives (λ x. (x.0, tokens_at x.1)) result (read_word_guard ask.now keyword (tokens at.entry.rest.now)) }
+fn word_guard<'a>(
+    order: Option<Order>,
+    keyword: Keyword,
+    at: Cursor<'a>,
+) -> Result<(Guard, Cursor<'a>), Stop>
+    ensures { Gives (λ x. (x.0, tokens_at x.1)) result (read_word_guard order keyword (tokens at.entry.rest.now)) }
 {
     match guard_of(keyword) {
-        Some(guard) if suits(guard, ask) => Ok((guard, at.next())),
+        Some(guard) if suits(guard, order) => Ok((guard, at.next())),
         Some(_) => Err(Stop::Fault(at.fault(FaultKind::Guard))),
         None => Err(Stop::Fault(at.fault(FaultKind::Syntax))),
     }
 }
 
 // `state`, `=` and a state, at the place of `state`.
-fn state_guard<'a>(ask: &Ask, at: Cursor<'a>) -> Result<(Guard, Cursor<'a>), Stop>
-    ensures { Gives (λ x. (x.0, tokens_at x.1)) result (read_state_guard ask.now (tokens at.entry.rest.now)) }
+fn state_guard<'a>(order: Option<Order>, at: Cursor<'a>) -> Result<(Guard, Cursor<'a>), Stop>
+    ensures { Gives (λ x. (x.0, tokens_at x.1)) result (read_state_guard order (tokens at.entry.rest.now)) }
 {
-    if !suits(Guard::State(State::Idle), ask) {
+    if !suits(Guard::State(State::Idle), order) {
         return Err(Stop::Fault(at.fault(FaultKind::Guard)));
     }
     let at = equals(at.next())?;
@@ -126,11 +129,10 @@ fn state_of(keyword: Keyword) -> Option<State>
 }
 
 // Whether a guard says something of the answers to a command.
-#[tactic(auto, unfolding(crate::specs::Commands::guard_suits))]
-fn suits(guard: Guard, ask: &Ask) -> bool
-    ensures { result ≡ guard_suits guard ask.now }
+fn suits(guard: Guard, order: Option<Order>) -> bool
+    ensures { result ≡ fits_order guard order }
 {
-    match order(Kind::Sd, ask) {
+    match order {
         Some(order) => fits(guard, order),
         None => false,
     }

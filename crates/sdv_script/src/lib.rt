@@ -1,4 +1,4 @@
-//! Scripts for a host of an SD card: their text, their syntax tree, and what can be said of both.
+//! Scripts for a host of an SD card or of an e.MMC device: their text, their syntax tree, and what can be said of both.
 //!
 //! Begin at `specs/Tokens.antt` and `specs/Grammar.antt`, which say what a script's text is, and at `specs/Rules.antt`,
 //! which says what its syntax tree must meet beside the grammar.

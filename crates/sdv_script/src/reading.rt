@@ -1,7 +1,6 @@
 //! Reading a script.
 
 ghost use Rattle.std.specs.Prelude.{◌≡◌, ◌≢◌, IfOk, IfErr};
-ghost use Rattle.sdv_registers.specs.declared.kind.Kind.TheVariants.{Sd};
 ghost use Rattle.sdv_script.specs.Asks.{AsksByTable};
 ghost use Rattle.sdv_graph.specs.Graph.{Flow};
 ghost use Rattle.sdv_graph.specs.GraphOf.{IsGraphOf};
@@ -16,7 +15,7 @@ use crate::blocks::statements;
 use crate::cursor::Cursor;
 use crate::declared::declared;
 use crate::depth::Depth;
-use crate::expect::{card_word, sd_word};
+use crate::expect::card_word;
 use crate::fault::{FaultKind, ScriptFault, Stop};
 use crate::flow::block_falls;
 use crate::progress::Progress;
@@ -64,7 +63,7 @@ pub fn one_tree()
 
 /// Each command of a script's graph asks by a line of the command table.
 pub fn asks_by_table()
-    ensures { (s : Parsed) → (g : Flow) → IsScript s → IsGraphOf Sd s.names s.body g → AsksByTable g }
+    ensures { (s : Parsed) → (g : Flow) → IsScript s → IsGraphOf s.names s.body g → AsksByTable g }
 {}
 
 #[tactic(auto, unfolding(crate::specs::Reading::read_script))]
@@ -73,7 +72,6 @@ fn whole(alloc: Global, text: &str) -> Result<(Names<'_>, Block<'_>), Stop>
 {
     let at = Cursor::new(text);
     let at = card_word(at)?;
-    let at = sd_word(at)?;
     let (names, at) = declared(alloc, at)?;
     let body = body(alloc, &names, at)?;
     Ok((names, body))

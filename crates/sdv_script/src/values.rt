@@ -1,6 +1,7 @@
 //! Statements without blocks, and the conditions of `if`.
 
 ghost use Rattle.std.specs.Prelude.{◌≡◌, Some};
+ghost use Rattle.sdv_script.specs.Commands.{has_ext_csd};
 ghost use Rattle.sdv_script.specs.Place.{tokens_at, names_of};
 ghost use Rattle.sdv_script.specs.Reading.{Gives, read_atom, read_change, read_let, read_test, condition_by, read_condition, read_receive, read_fault};
 
@@ -9,6 +10,7 @@ use crate::expect::{equals, figure, number_name, place_of};
 use crate::fault::{FaultKind, Stop};
 use crate::keyword::Keyword;
 use crate::token::{Sign, Token};
+use sdv_card::Kind;
 use sdv_graph::{Atom, Change, Condition, Let, Names, Phase};
 
 /// A name has at most so many characters.
@@ -41,11 +43,21 @@ fn atom<'a>(names: &Names<'_>, at: Cursor<'a>) -> Result<(Atom, Cursor<'a>), Sto
             Ok((Atom::Number(n), at))
         }
         Token::Key(Keyword::CsdBlocks) => Ok((Atom::CsdBlocks, at.next())),
+        Token::Key(Keyword::ExtBlocks) if has_ext_csd(names.kind) => {
+            Ok((Atom::ExtBlocks, at.next()))
+        }
         _ => {
             let (x, at) = number_name(names, at, FaultKind::Syntax)?;
             Ok((Atom::Variable(x), at))
         }
     }
+}
+
+// The kind has an EXT_CSD.
+fn has_ext_csd(kind: Kind) -> bool
+    ensures { result ≡ has_ext_csd kind }
+{
+    matches!(kind, Kind::Emmc)
 }
 
 fn change(at: Cursor<'_>) -> Result<(Change, Cursor<'_>), Stop>

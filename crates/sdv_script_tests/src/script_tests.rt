@@ -1,6 +1,6 @@
 //! Texts of scripts, beside what is read and printed of them.
 
-use crate::common::BRING_UP;
+use crate::common::{BRING_UP, DEVICE_BRING_UP};
 use sdv_card::Kind;
 use sdv_script::{FaultKind, ScriptFault, parse, print};
 use std::alloc::{AllocError, Global};
@@ -21,7 +21,7 @@ fn refused(rt: &impl Abort, alloc: Global, text: &str, kind: FaultKind, line: u3
     );
 }
 
-// Scripts, with how many statements each has.
+// Scripts for SD cards, with how many statements each has.
 static SCRIPTS: [(&str, usize); 13] = [
     (BRING_UP, 23),
     ("card sd done", 1),
@@ -59,12 +59,30 @@ static SCRIPTS: [(&str, usize); 13] = [
     ("card sd nums x let x = 1099511627776 done", 2),
 ];
 
+// Scripts for e.MMC devices.
+static DEVICE_SCRIPTS: [(&str, usize); 3] = [
+    (DEVICE_BRING_UP, 26),
+    (
+        "card emmc nums x let x = ext.blocks send 23 count 0x10 { else { } } send 38 03 { else { } } done",
+        4,
+    ),
+    (
+        "card emmc flags f send 1 { ocr.ready & ocr.block { } else { } } send 8 { clean { } else { } } send 35 at by f 0 { else { } } send 36 at block 7 { else { } } send 38 1 { else { } } send 3 { clean & state=ident { } else { } } done",
+        7,
+    ),
+];
+
 #[test]
 fn scripts(rt: HostRuntime) -> Result<(), Fail> {
     let alloc = rt.alloc();
-    for &(text, count) in SCRIPTS.iter() {
-        assert_eq!(rt; statements(alloc, text), Ok(count), "{text:?}");
-        assert_eq!(rt; parse(alloc, text)?.kind(), Kind::Sd);
+    for (kind, rows) in [
+        (Kind::Sd, SCRIPTS.as_slice()),
+        (Kind::Emmc, DEVICE_SCRIPTS.as_slice()),
+    ] {
+        for &(text, count) in rows.iter() {
+            assert_eq!(rt; statements(alloc, text), Ok(count), "{text:?}");
+            assert_eq!(rt; parse(alloc, text)?.kind(), kind);
+        }
     }
     Ok(())
 }
@@ -209,15 +227,44 @@ static WRONG: [(&str, FaultKind); 114] = [
     ),
 ];
 
+// What is wrong so in a script for an e.MMC device.
+static WRONG_ON_DEVICE: [(&str, FaultKind); 18] = [
+    ("send 41 0x40ff8000 { else { } }", FaultKind::Command),
+    ("send 55 { else { } }", FaultKind::Command),
+    ("send 51 { else { } }", FaultKind::Command),
+    ("send 32 at block 0 { else { } }", FaultKind::Command),
+    ("send 33 at block 0 { else { } }", FaultKind::Command),
+    ("send 6 { else { } }", FaultKind::Command),
+    ("send 23 { else { } }", FaultKind::Argument),
+    ("send 23 3 { else { } }", FaultKind::Argument),
+    ("send 23 count 0 { else { } }", FaultKind::Argument),
+    ("send 23 count 65536 { else { } }", FaultKind::Argument),
+    ("send 38 { else { } }", FaultKind::Argument),
+    ("send 38 2 { else { } }", FaultKind::Argument),
+    ("send 38 1099511627777", FaultKind::Argument),
+    ("send 1 0x40ff8080 { else { } }", FaultKind::Argument),
+    ("send 8 { echo { } else { } }", FaultKind::Guard),
+    ("send 1 { clean { } else { } }", FaultKind::Guard),
+    ("send 3 { app { } else { } }", FaultKind::Guard),
+    ("let x = sec.count", FaultKind::Name),
+];
+
 // A wrong statement is refused after some others, whatever comes after it.
 #[test]
 fn wrong_statements(rt: HostRuntime) -> Result<(), Fail> {
     let alloc = rt.alloc();
     for (before, line) in [("", 2), ("send 0 { else { } }\n\n", 4)] {
-        for &(statement, kind) in WRONG.iter() {
-            for after in ["", "\ndone\n"] {
-                let text = format!(in alloc; "card sd flags f nums x\n{before}{statement}{after}")?;
-                refused(&rt, alloc, &text, kind, line);
+        for (card, rows) in [
+            ("sd", WRONG.as_slice()),
+            ("emmc", WRONG_ON_DEVICE.as_slice()),
+        ] {
+            for &(statement, kind) in rows.iter() {
+                for after in ["", "\ndone\n"] {
+                    let text = format!(in alloc;
+                        "card {card} flags f nums x\n{before}{statement}{after}"
+                    )?;
+                    refused(&rt, alloc, &text, kind, line);
+                }
             }
         }
     }
@@ -238,7 +285,7 @@ static REFUSED: [(&str, FaultKind, u32); 42] = [
     ("", FaultKind::Syntax, 1),
     ("sd", FaultKind::Syntax, 1),
     ("card", FaultKind::Syntax, 1),
-    ("card emmc", FaultKind::Syntax, 1),
+    ("card mmc", FaultKind::Syntax, 1),
     ("card sd sd", FaultKind::Syntax, 1),
     ("card sd\nsend", FaultKind::Syntax, 2),
     ("card sd\nflags", FaultKind::Syntax, 2),

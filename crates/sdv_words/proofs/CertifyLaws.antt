@@ -25,11 +25,11 @@ use Rattle.sdv_words.specs.declared.fault.Fault.TheVariants.{Output}
 use Rattle.sdv_words.proofs.OutputLaws.{whole, in_part, if_err}
 
 -- a graph of the text is one of the script, since a text has one tree
-graph_of_script : (text : Text) (s : Tree) (g : Flow) → IsTextOfScript text s → IsGraphOfText text g → IsGraphOf Sd (shown s).names (shown s).body g
+graph_of_script : (text : Text) (s : Tree) (g : Flow) → IsTextOfScript text s → IsGraphOfText text g → IsGraphOf (shown s).names (shown s).body g
 graph_of_script text s g is of =
     let p : Parsed = of.script in
     let tree = one_tree_lem p (shown s) of.is_script is.is_script (of.same ∙ sym is.same) in
-    subst (λ b. IsGraphOf Sd (shown s).names b g) tree.1 (subst (λ n. IsGraphOf Sd n p.body g) tree.0 of.graph)
+    subst (λ b. IsGraphOf (shown s).names b g) tree.1 (subst (λ n. IsGraphOf n p.body g) tree.0 of.graph)
 
 pub certificate_of_text : (text : Text) (s : Tree) (points : List PointFacts) → (shown s).text ≡ text → IsScript (shown s) → CertificateOf s points → ClosedFor s points
     → WithinLimits points → IsCertificateOfText text points

@@ -189,23 +189,24 @@ prints_last (Fault name) es printed h = (Fault name, refl, h)
 
 -- THE RUN OF A SCRIPT
 
-module _ (s : Parsed) (g : Flow) (text : List ℕ) (is : IsScript s) (same : s.text ≡ text) (graph : IsGraphOf Sd s.names s.body g) where
+module _ (s : Parsed) (g : Flow) (text : List ℕ) (is : IsScript s) (same : s.text ≡ text) (graph : IsGraphOf s.names s.body g) (sd : s.names.kind ≡ Sd) where
   walk_of : (last : Ending) (es : List Pair) → IsWalk g last es → IsWalkOf text last es
   walk_of last es w = record {
     script = s;
     same = same;
     is_script = is;
-    walk = w.walk Sd s.names s.body graph;
+    kind = sd;
+    walk = subst (λ k. Walk k s.names s.body last es) sd (w.walk s.names s.body graph);
   }
 
   asks : (i : ℕ) (p : Place) → slice_get g.places i ≡ Some p → NodeAsks Sd p.node
-  asks i p at = subst (λ k. NodeAsks k p.node) graph.kind_same (all_at (PlaceAsks g.kind) g.places (asks_by_table s g is graph) i p at)
+  asks i p at = subst (λ k. NodeAsks k p.node) (graph.kind_same ∙ sd) (all_at (PlaceAsks g.kind) g.places (asks_by_table s g is graph) i p at)
 
   sent : (last : Ending) (es : List Pair) → IsWalk g last es → AllSent es
-  sent last es w = let path = subst (λ k. Path k g.places last (begin g) es) graph.kind_same w.path in path_sent g.places asks last path.0 (begin g) es path.1
+  sent last es w = let path = subst (λ k. Path k g.places last (begin g) es) (graph.kind_same ∙ sd) w.path in path_sent g.places asks last path.0 (begin g) es path.1
 
   answered : (es : List Pair) (w w' : World PlainPort) → at_start ≡ w.port → Happened g.kind PortSteps es w w' → IsAnswered es
-  answered es w w' start happened = (w'.port, subst (λ k. Moved k PortSteps at_start es w'.port) graph.kind_same (subst (λ v. Moved g.kind PortSteps v es w'.port) (sym start) happened.port))
+  answered es w w' start happened = (w'.port, subst (λ k. Moved k PortSteps at_start es w'.port) (graph.kind_same ∙ sd) (subst (λ v. Moved g.kind PortSteps v es w'.port) (sym start) happened.port))
 
   beside : (last : Ending) (es : List Pair) (w w' : World PlainPort) → at_start ≡ w.port → Happened g.kind PortSteps es w w' → IsWalk g last es → IsBeside plain_card es
   beside last es w w' start happened walk = let all = answered es w w' start happened in moved_beside es at_start all.0 all.1 (sent last es walk)
@@ -253,7 +254,7 @@ module _ (s : Parsed) (g : Flow) (text : List ℕ) (is : IsScript s) (same : s.t
       let step = moved_last b.earlier x at_start all.0 (subst (λ l. Moved Sd PortSteps at_start l all.0) b.last all.1) in
       let asked = sent_last b.earlier x (subst AllSent b.last (sent Open es walk)) in
       let yes : is_taken Sd b.ask b.answer ≡ true = is_taken_there b.ask b.position b.argument b.answer step.0 step.1 asked.0 step.2 in
-      let no : is_taken Sd b.ask b.answer ≡ false = subst (λ k. is_taken k b.ask b.answer ≡ false) graph.kind_same b.refused in
+      let no : is_taken Sd b.ask b.answer ≡ false = subst (λ k. is_taken k b.ask b.answer ≡ false) (graph.kind_same ∙ sd) b.refused in
       let both : true ≡ false = sym yes ∙ no in cc
 
   no_blocks_in : (es : List Pair) (w w' : World PlainPort) → at_start ≡ w.port → Happened g.kind PortSteps es w w' → OutputBrokeOff es w w' → ⊥
@@ -268,7 +269,8 @@ module _ (s : Parsed) (g : Flow) (text : List ℕ) (is : IsScript s) (same : s.t
     script = s;
     same = same;
     is_script = is;
-    walk = subst (λ k. Walk k s.names s.body Open es) graph.kind_same ((graph.walks Open es).1 path);
+    kind = sd;
+    walk = subst (λ k. Walk k s.names s.body Open es) (graph.kind_same ∙ sd) ((graph.walks Open es).1 path);
   }
 
   -- all events were printed

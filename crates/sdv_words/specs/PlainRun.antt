@@ -1,7 +1,7 @@
 -- What a run of a script's text on the plain port prints, and how it stands beside the port's card.
 use Rattle.std.specs.Prelude.{◌≡◌, ◌<◌, ◌≤◌, ◌^◌, ℕ, length, [], List, ◌∷◌, ◌++◌, Option}
 use Rattle.std.specs.Io.KnownBytes.{Appends}
-use Rattle.sdv_registers.specs.declared.kind.Kind.TheVariants.{Sd}
+use Rattle.sdv_registers.specs.declared.kind.Kind.TheVariants.{Sd, Emmc}
 use Rattle.sdv_card.specs.declared.event.Ask.{Ask}
 use Rattle.sdv_card.specs.declared.answer.Answer.{Answer}
 use Rattle.sdv_card.specs.declared.answer.DataEnd.{DataEnd}
@@ -22,7 +22,7 @@ use Rattle.sdv_run.specs.Trace.{end_line}
 use Rattle.sdv_words.specs.PlainPort.{plain_card, at_start, PortSteps}
 use Rattle.sdv_words.specs.declared.plain.port.PlainPort.{PlainPort}
 use Rattle.sdv_words.specs.declared.plain.PlainFault.{PlainFault}
-use Rattle.sdv_words.specs.declared.plain.PlainFault.TheVariants.{Script, Trace, Memory, Run}
+use Rattle.sdv_words.specs.declared.plain.PlainFault.TheVariants.{Script, OtherKind, Trace, Memory, Run}
 
 -- FAULTS
 
@@ -42,6 +42,20 @@ fault_of_run fault = Run fault
 abbrev pub IsNoScript : List ℕ → Type 0
 IsNoScript text = (s : Parsed) → s.text ≡ text → IsScript s → ⊥
 
+-- the text is a script for an e.MMC device
+pub record IsForEmmc (text : List ℕ) : Type 0 where
+  pub script : Parsed
+  pub same : script.text ≡ text
+  pub is_script : IsScript script
+  pub kind : script.names.kind ≡ Emmc
+
+-- why a text has no script for the port's card; want of memory says nothing
+abbrev pub RefusesText : List ℕ → PlainFault → Type 0
+RefusesText text (Script fault) = IsNoScript text
+RefusesText text OtherKind = IsForEmmc text
+RefusesText text Memory = Unit {0}
+RefusesText text fault = ⊥
+
 -- WALKS OF A TEXT
 
 -- the text is a script, these are the events of one of its walks, and the walk ends so
@@ -49,6 +63,7 @@ pub record IsWalkOf (text : List ℕ) (last : Ending) (es : List Pair) : Type 0 
   pub script : Parsed
   pub same : script.text ≡ text
   pub is_script : IsScript script
+  pub kind : script.names.kind ≡ Sd
   pub walk : Walk Sd script.names script.body last es
 
 -- each event returned what the port's table says

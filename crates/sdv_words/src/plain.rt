@@ -1,14 +1,18 @@
 //! A script on a card in memory, as far as the card's identification.
 
-ghost use Rattle.std.specs.Prelude.{◌≡◌, ◌≢◌, IfOk, Err, List, ℕ, ◌<◌, length};
+ghost use Rattle.std.specs.Prelude.{◌≡◌, ◌≢◌, IfOk, IfErr, Err, List, ℕ, ◌<◌, length};
 ghost use Rattle.std.specs.Io.KnownBytes.{Keeps};
-ghost use Rattle.sdv_words.specs.PlainRun.{WholeRun, PartOfRun, StoppedRun, IsNoScript};
+ghost use Rattle.sdv_words.specs.PlainRun.{WholeRun, PartOfRun, StoppedRun, IsNoScript, IsForEmmc, RefusesText};
+ghost use Rattle.sdv_registers.specs.declared.kind.Kind.TheVariants.{Sd};
+ghost use Rattle.sdv_script.specs.Script.{IsScript};
+ghost use Rattle.sdv_script.specs.Shown.{shown};
 
 mod port;
 
 use port::PlainPort;
+use sdv_card::Kind;
 use sdv_run::{End, RunFault, run_graph};
-use sdv_script::{FaultKind, ScriptFault, parse};
+use sdv_script::{FaultKind, Script, ScriptFault, parse};
 use std::alloc::Global;
 use std::io::{self, Write};
 use thiserror::Error;
@@ -19,6 +23,9 @@ pub enum PlainFault {
     /// The text is no script.
     #[error("{0}")]
     Script(ScriptFault),
+    /// The script is for an e.MMC device, and the card is an SD card.
+    #[error("the script is for another kind of card")]
+    OtherKind,
     /// The trace did not take all that was printed.
     #[error("the trace failed")]
     Trace,
@@ -66,6 +73,7 @@ impl From<RunFault> for PlainFault {
 /// # Errors
 ///
 /// - [`PlainFault::Script`]: the text is no script. Nothing was printed.
+/// - [`PlainFault::OtherKind`]: the script is for an e.MMC device. Nothing was printed.
 /// - [`PlainFault::Trace`]: the trace failed, and holds a front of what was to be printed.
 /// - [`PlainFault::Memory`]: there is not enough memory. Nothing was printed.
 /// - [`PlainFault::Run`]: with [`RunFault::Reply`] the next command's argument has more than 32 bits, with
@@ -75,6 +83,8 @@ pub fn plain_run<T: Write>(alloc: Global, text: &str, trace: &mut T) -> Result<E
         WholeRun text.now end (T.contents trace.old) (T.contents trace.new)) }
     ensures script { (fault : ScriptFault) → result ≡ Err (PlainFault.Script fault)
         → IsNoScript text.now × Keeps (T.contents trace.old) (T.contents trace.new) }
+    ensures kind { result ≡ Err PlainFault.OtherKind
+        → IsForEmmc text.now × Keeps (T.contents trace.old) (T.contents trace.new) }
     ensures trace { result ≡ Err PlainFault.Trace → (left : List ℕ) × (0 < length left)
         × PartOfRun text.now left (T.contents trace.old) (T.contents trace.new) }
     ensures memory { result ≡ Err PlainFault.Memory
@@ -82,9 +92,23 @@ pub fn plain_run<T: Write>(alloc: Global, text: &str, trace: &mut T) -> Result<E
     ensures run { (fault : RunFault) → result ≡ Err (PlainFault.Run fault)
         → StoppedRun text.now fault (T.contents trace.old) (T.contents trace.new) }
 {
-    let script = parse(alloc, text)?;
+    let script = sd_script(alloc, text)?;
     let graph = script.graph(alloc)?;
     let mut port = PlainPort::new();
     let end = run_graph(alloc, &graph, &mut port, &[], &mut io::sink(), trace)?;
     Ok(end)
+}
+
+// The script of a text, for an SD card.
+fn sd_script(alloc: Global, text: &str) -> Result<Script<'_>, PlainFault>
+    ensures script { IfOk result (λ s. IsScript (shown s)) }
+    ensures text { IfOk result (λ s. (shown s).text ≡ text.entry.now) }
+    ensures kind { IfOk result (λ s. (shown s).names.kind ≡ Sd) }
+    ensures refused { IfErr result (RefusesText text.entry.now) }
+{
+    let script = parse(alloc, text)?;
+    match script.kind() {
+        Kind::Sd => Ok(script),
+        Kind::Emmc => Err(PlainFault::OtherKind),
+    }
 }

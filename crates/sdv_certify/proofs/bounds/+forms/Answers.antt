@@ -1,7 +1,7 @@
 -- The forms of a part come from those of its parts, and are few enough to be counted.
 use Rattle.std.proofs.Common.{rules, ◌≡◌, ◌+◌, ◌<◌, ◌^◌, [], ◌∷◌, ◌++◌, map, reverse, max, Some, refl, ap, ◌∙◌, subst, arith}
-use Rattle.sdv_script.specs.Moves.{statements_moves, statement_moves}
-use Rattle.sdv_script.specs.Tree.{statements_of, ways_of, statement_of}
+use Rattle.sdv_graph.specs.Moves.{statements_moves, statement_moves}
+use Rattle.sdv_graph.specs.Tree.{statements_of, ways_of, statement_of}
 use Rattle.sdv_certify.specs.Spans.{spans_statements}
 use Rattle.sdv_certify.specs.Forms.{leads_to, either_form, form_statements, forms_of_statements, full_form, in_full}
 use Rattle.sdv_certify.specs.Turns.{StatementsTurn, StatementTurns}

@@ -1,4 +1,4 @@
-use Rattle.sdv_script.specs.Tree.{statements_of, ways_of, statement_of}
+use Rattle.sdv_graph.specs.Tree.{statements_of, ways_of, statement_of}
 use Rattle.std.proofs.Common.{map, vec_len}
 use Rattle.sdv_certify.proofs.RowLaws.{RowLeft}
 use Rattle.sdv_certify.proofs.Sizes.{statements_size, ways_size, statement_size}

@@ -1,5 +1,5 @@
 use Rattle.std.proofs.Common.{◌≡◌, ◌++◌, map}
-use Rattle.sdv_script.specs.Tree.{statements_of, ways_of}
+use Rattle.sdv_graph.specs.Tree.{statements_of, ways_of}
 use Rattle.sdv_certify.specs.Blocks.{blocks_of}
 use Rattle.sdv_certify.proofs.bounds.blocks_of.Given as goal
 

@@ -1,5 +1,5 @@
 use Rattle.std.proofs.Common.{◌↔◌, drop}
-use Rattle.sdv_script.specs.Graph.{node_of}
+use Rattle.sdv_graph.specs.Graph.{node_of}
 use Rattle.sdv_certify.specs.Refusal.{AllEnd}
 use Rattle.sdv_certify.proofs.refusal.all_end.Given as goal
 

@@ -1,5 +1,5 @@
 use Rattle.std.proofs.Common.{◌∙◌, sym, arith}
-use Rattle.sdv_script.specs.Graph.{place_of}
+use Rattle.sdv_graph.specs.Graph.{place_of}
 use Rattle.sdv_certify.proofs.PassLaws.{at_place}
 use Rattle.sdv_certify.proofs.RefusalLaws.{fails_first, next_fine, fine_here, all_fine}
 use Rattle.sdv_certify.proofs.refusal.first_fault.Goals as goal

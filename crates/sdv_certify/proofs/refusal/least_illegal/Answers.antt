@@ -1,5 +1,5 @@
 use Rattle.std.proofs.Common.{◌≡◌, false, rules, arith, refl, get_or}
-use Rattle.sdv_script.specs.Graph.{node_of}
+use Rattle.sdv_graph.specs.Graph.{node_of}
 use Rattle.sdv_facts.specs.Closed.{LegalAt}
 use Rattle.sdv_facts.proofs.SetLaws.{no_shape}
 use Rattle.sdv_certify.proofs.RefusalLaws.{is_least, next_legal, all_legal, refuted}

@@ -1,4 +1,4 @@
-use Rattle.sdv_script.specs.Graph.{node_of}
+use Rattle.sdv_graph.specs.Graph.{node_of}
 use Rattle.sdv_certify.proofs.RefusalLaws.{LegalBefore}
 use Rattle.sdv_certify.proofs.refusal.least_illegal.Given as goal
 

@@ -1,8 +1,8 @@
 -- What is sent is counted within the moves.
 use Rattle.std.proofs.Common.{rules, ◌≡◌, ◌<◌, ◌^◌, ◌*◌, ◌+◌, ◌≤◌, ap, ◌∙◌, subst, arith}
 use Rattle.std.proofs.Math.Nat.{mul-le-mul_left}
-use Rattle.sdv_script.specs.Tree.{statements_of, ways_of, statement_of}
-use Rattle.sdv_script.specs.Moves.{statements_moves, ways_moves, statement_moves}
+use Rattle.sdv_graph.specs.Tree.{statements_of, ways_of, statement_of}
+use Rattle.sdv_graph.specs.Moves.{statements_moves, ways_moves, statement_moves}
 use Rattle.sdv_certify.specs.Spans.{either, longest, spans_statements, spans_ways, spans_statement}
 use Rattle.sdv_certify.proofs.Sizes.{ways_size}
 use Rattle.sdv_certify.proofs.SpanRows.{spans_assoc}

@@ -1,6 +1,6 @@
 use Rattle.std.proofs.Common.{[], sym, ap, ◌∙◌, subst}
 use Rattle.std.specs.Prelude.{slice_get}
-use Rattle.sdv_script.specs.Path.{turns_at}
+use Rattle.sdv_graph.specs.Path.{turns_at}
 use Rattle.sdv_facts.specs.Bounds.{bound_at}
 use Rattle.sdv_facts.specs.Closed.{Closed}
 use Rattle.sdv_check.specs.Checked.{Fails}

@@ -1,5 +1,5 @@
 use Rattle.std.proofs.Common.{◌<◌, length, subst, arith}
-use Rattle.sdv_script.specs.Graph.{place_of}
+use Rattle.sdv_graph.specs.Graph.{place_of}
 use Rattle.sdv_facts.specs.Closed.{PointClosed, FirstFails}
 use Rattle.sdv_check.proofs.CheckLaws.{Here, facts_there, below_next, fails_here, same_variables, flags_fit}
 use Rattle.sdv_check.proofs.checker.first_fault.Goals as goal

@@ -1,5 +1,5 @@
 use Rattle.std.proofs.Common.{◌<◌, length, ◌∙◌, arith}
-use Rattle.sdv_script.specs.Graph.{place_of}
+use Rattle.sdv_graph.specs.Graph.{place_of}
 use Rattle.sdv_facts.specs.Closed.{PointMatches}
 use Rattle.sdv_check.proofs.CheckLaws.{Here, facts_there, below_next, match_all, match_not}
 use Rattle.sdv_check.proofs.checker.points_match.Goals as goal

@@ -1,4 +1,4 @@
-use Rattle.sdv_script.specs.Nested.{Same}
+use Rattle.sdv_graph.specs.Nested.{Same}
 use Rattle.sdv_check.specs.Asked.{RuleFrom}
 use Rattle.sdv_check.proofs.PointLaws.{cases_of_command}
 use Rattle.sdv_check.proofs.edges.outcome_holds.Goals as goal

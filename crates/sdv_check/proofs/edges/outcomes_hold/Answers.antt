@@ -1,5 +1,5 @@
 use Rattle.sdv_card.specs.declared.event.Outcome.{Outcome}
-use Rattle.sdv_script.specs.Nested.{Same}
+use Rattle.sdv_graph.specs.Nested.{Same}
 use Rattle.sdv_facts.specs.Edges.{EachWay}
 use Rattle.sdv_check.specs.Asked.{RuleFrom}
 use Rattle.sdv_check.specs.Cases.{forks_of}

@@ -1,7 +1,6 @@
 -- The points are those of the script, whose walks are the paths over them.
 use Rattle.std.proofs.Common.{rules, ◌≡◌, ◌++◌, [], length, sym, ap, subst, ◌∙◌}
 use Rattle.std.proofs.lemmas.List.{length-map}
-use Rattle.sdv_registers.specs.declared.kind.Kind.TheVariants.{Sd}
 use Rattle.sdv_graph.specs.Tree.{statements_of}
 use Rattle.sdv_graph.specs.Points.{again, entry, past, points_of, points_of_statements, first_of}
 use Rattle.sdv_graph.specs.Graph.{places_of, declared_names}
@@ -21,8 +20,8 @@ from_points-requires c =
     let start : c.entry_of-first.result ≡ first_of b = c.entry_of-first.ensures ∙ ap (entry b 0) end in
     let numbers : c.len-numbers.result ≡ length names.numbers = search (rules, length-map) in
     let flags : c.len-flags.result ≡ length names.flags = search (rules, length-map) in
-    let same = flow_is Sd names b places start numbers flags c.moves-steps.ensures in
-    subst (λ g. IsSound g) (sym same) (sound (length names.numbers) (length names.flags) names b c.requires)
+    let same = flow_is names.kind names b places start numbers flags c.moves-steps.ensures in
+    subst (λ g. IsSound g) (sym same) (sound names.kind (length names.numbers) (length names.flags) b c.requires.runs c.requires.suits)
 
 pub returns : goal.returns
 returns c =
@@ -36,5 +35,5 @@ returns c =
     let start : c.entry_of-first.result ≡ first_of b = c.entry_of-first.ensures ∙ ap (entry b 0) end in
     let numbers : c.len-numbers.result ≡ length names.numbers = search (rules, length-map) in
     let flags : c.len-flags.result ≡ length names.flags = search (rules, length-map) in
-    let same = flow_is Sd names b places start numbers flags c.moves-steps.ensures in
-    subst (λ g. IsGraphOf Sd names b g) (sym (c.from_points.ensures ∙ same)) (is_graph_of names b c.requires)
+    let same = flow_is names.kind names b places start numbers flags c.moves-steps.ensures in
+    subst (λ g. IsGraphOf names b g) (sym (c.from_points.ensures ∙ same)) (is_graph_of names b c.requires.runs c.requires.suits)

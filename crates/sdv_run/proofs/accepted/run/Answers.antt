@@ -1,7 +1,7 @@
 -- The certificate of an accepted script is known to be there, and so its run is beside the card that the port shows.
 use Rattle.std.proofs.Common.{subst}
 use Rattle.std.proofs.Math.Logic.{∥∥₁_map}
-use Rattle.sdv_script.specs.GraphOf.{IsSound}
+use Rattle.sdv_graph.specs.GraphOf.{IsSound}
 use Rattle.sdv_run.specs.Ran.{Ran}
 use Rattle.sdv_run.specs.Step.{World}
 use Rattle.sdv_run.proofs.OnCard.{HasCertificate, ran_beside}

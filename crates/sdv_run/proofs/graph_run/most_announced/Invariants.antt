@@ -1,6 +1,6 @@
 use Rattle.std.proofs.Common.{◌≡◌, ℕ, ◌<◌, ◌≤◌, Some}
 use Rattle.std.specs.Prelude.{slice_get}
-use Rattle.sdv_script.specs.Path.{Place}
+use Rattle.sdv_graph.specs.Path.{Place}
 use Rattle.sdv_run.specs.Announced.{announced_at}
 use Rattle.sdv_run.proofs.graph_run.most_announced.Given as goal
 

@@ -1,6 +1,6 @@
 use Rattle.std.proofs.Common.{◌≡◌, ℕ, ◌+◌, ◌-◌, length, subst, sym, ◌∙◌, arith}
 use Rattle.sdv_run.specs.Standing.{stand_of}
-use Rattle.sdv_script.specs.Graph.{place_of}
+use Rattle.sdv_graph.specs.Graph.{place_of}
 use Rattle.sdv_run.proofs.Places.{is_point, in_range}
 use Rattle.sdv_run.specs.Announced.{AnnounceAtMost}
 use Rattle.sdv_run.specs.Step.{World}

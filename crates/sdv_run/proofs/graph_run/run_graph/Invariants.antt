@@ -1,5 +1,5 @@
 use Rattle.std.proofs.Common.{◌≡◌, ◌-◌, length}
-use Rattle.sdv_script.specs.GraphOf.{IsSound}
+use Rattle.sdv_graph.specs.GraphOf.{IsSound}
 use Rattle.sdv_run.specs.Announced.{AnnounceAtMost}
 use Rattle.sdv_run.specs.Standing.{stand_of}
 use Rattle.sdv_run.proofs.Runs.{SoFar}

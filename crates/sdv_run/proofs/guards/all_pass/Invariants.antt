@@ -1,6 +1,6 @@
 use Rattle.std.proofs.Common.{◌≡◌, drop}
 use Rattle.sdv_card.specs.ScriptEvent.{Answered}
-use Rattle.sdv_script.specs.Walk.{all_pass}
+use Rattle.sdv_graph.specs.Walk.{all_pass}
 use Rattle.sdv_run.proofs.guards.all_pass.Given as goal
 
 -- the guards so far hold

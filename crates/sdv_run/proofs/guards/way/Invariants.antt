@@ -1,7 +1,7 @@
 use Rattle.std.proofs.Common.{◌≡◌, drop, map}
 use Rattle.sdv_card.specs.ScriptEvent.{Answered}
-use Rattle.sdv_script.specs.Graph.{fork_of}
-use Rattle.sdv_script.specs.Path.{way_of}
+use Rattle.sdv_graph.specs.Graph.{fork_of}
+use Rattle.sdv_graph.specs.Path.{way_of}
 use Rattle.sdv_run.proofs.guards.way.Given as goal
 
 -- the cases so far do not hold

@@ -1,8 +1,8 @@
 use Rattle.std.proofs.Common.{map}
-use Rattle.sdv_script.specs.AddressSent.{position_of_command}
-use Rattle.sdv_script.specs.Graph.{fork_of}
-use Rattle.sdv_script.specs.Path.{arrive, way_of}
-use Rattle.sdv_script.specs.Walk.{command_deed}
+use Rattle.sdv_graph.specs.AddressSent.{position_of_command}
+use Rattle.sdv_graph.specs.Graph.{fork_of}
+use Rattle.sdv_graph.specs.Path.{arrive, way_of}
+use Rattle.sdv_graph.specs.Walk.{command_deed}
 use Rattle.sdv_run.specs.Deeds.{argument_at}
 use Rattle.sdv_run.specs.Standing.{host_of}
 use Rattle.sdv_run.proofs.Steps.{sent_narrow}

@@ -20,25 +20,25 @@ pub ways-returns-in_err-last : goal.ways-returns-in_err-last
 ways-returns-in_err-last t c =
     let p = err_from_is_err_and c.from_residual.result c.from_residual.ensures.1 in
     rw (p.1, p.2, ← c.loop-left.invariant)
-    (last_fails c.in_err-last.field-0.0 (map guarded_of c.loop-left.read.items) c.loop-left.left (c.loop-left.left - 1) (names_of c.args.names.now) c.args.depth c.args.ask.now (progress_of c.loop-left.from) (progress_of c.to.result) (omega arith) (rw c.to.ensures.at (sym c.in-Some.ensures)) c.to.ensures.begun c.in_err-last.ensures)
+    (last_fails c.in_err-last.field-0.0 (map guarded_of c.loop-left.read.items) c.loop-left.left (c.loop-left.left - 1) (names_of c.args.names.now) c.args.depth c.args.order (progress_of c.loop-left.from) (progress_of c.to.result) (omega arith) (rw c.to.ensures.at (sym c.in-Some.ensures)) c.to.ensures.begun c.in_err-last.ensures)
 
 pub ways-returns-in-Some : goal.ways-returns-in-Some
 ways-returns-in-Some t c =
     sym c.loop-left.invariant
-    ∙ ahead_ends (map guarded_of c.loop-left.read.items) c.loop-left.left (c.loop-left.left - 1) (names_of c.args.names.now) c.args.depth c.args.ask.now (progress_of c.loop-left.from) (progress_of c.to.result) (progress_of c.in_ok-last.from) (ways_of c.in_ok-last.last) (ways_of c.in_ok-before.field-0) (omega arith) (rw c.to.ensures.at (sym c.in-Some.ensures)) c.to.ensures.begun c.in_ok-last.ensures c.in_ok-before.ensures
+    ∙ ahead_ends (map guarded_of c.loop-left.read.items) c.loop-left.left (c.loop-left.left - 1) (names_of c.args.names.now) c.args.depth c.args.order (progress_of c.loop-left.from) (progress_of c.to.result) (progress_of c.in_ok-last.from) (ways_of c.in_ok-last.last) (ways_of c.in_ok-before.field-0) (omega arith) (rw c.to.ensures.at (sym c.in-Some.ensures)) c.to.ensures.begun c.in_ok-last.ensures c.in_ok-before.ensures
 
 pub ways-returns-in_err-next : goal.ways-returns-in_err-next
 ways-returns-in_err-next t c =
     let p = err_from_is_err_and c.from_residual-in_err-next.result c.from_residual-in_err-next.ensures.1 in
     rw (p.1, p.2, ← c.loop-left.invariant)
-    (case_fails c.in_err-next.field-0.0 (map guarded_of c.loop-left.read.items) c.loop-left.left (c.loop-left.left - 1) (names_of c.args.names.now) c.args.depth c.args.ask.now (progress_of c.loop-left.from) (omega arith) (sym c.in_default.ensures) c.in_err-next.ensures)
+    (case_fails c.in_err-next.field-0.0 (map guarded_of c.loop-left.read.items) c.loop-left.left (c.loop-left.left - 1) (names_of c.args.names.now) c.args.depth c.args.order (progress_of c.loop-left.from) (omega arith) (sym c.in_default.ensures) c.in_err-next.ensures)
 
 pub ways-loop-left-preserved : goal.ways-loop-left-preserved
 ways-loop-left-preserved t c =
     rw (c.in_ok-push.ensures.items, map-append)
-    (ahead_goes_on (map guarded_of c.loop-left.read.items) (guarded_of c.in_ok-next.next) c.loop-left.left (c.loop-left.left - 1) (names_of c.args.names.now) c.args.depth c.args.ask.now (progress_of c.loop-left.from) (progress_of c.in_ok-next.after) (omega arith) (sym c.in_default.ensures) c.in_ok-next.ensures
+    (ahead_goes_on (map guarded_of c.loop-left.read.items) (guarded_of c.in_ok-next.next) c.loop-left.left (c.loop-left.left - 1) (names_of c.args.names.now) c.args.depth c.args.order (progress_of c.loop-left.from) (progress_of c.in_ok-next.after) (omega arith) (sym c.in_default.ensures) c.in_ok-next.ensures
     ∙ c.loop-left.invariant)
 
 pub ways-returns : goal.ways-returns
 ways-returns t c =
-    sym c.loop-left.invariant ∙ no_level_left (map guarded_of c.loop-left.read.items) c.loop-left.left (names_of c.args.names.now) c.args.depth c.args.ask.now (progress_of c.loop-left.from) (omega arith)
+    sym c.loop-left.invariant ∙ no_level_left (map guarded_of c.loop-left.read.items) c.loop-left.left (names_of c.args.names.now) c.args.depth c.args.order (progress_of c.loop-left.from) (omega arith)

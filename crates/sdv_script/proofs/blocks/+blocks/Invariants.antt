@@ -44,5 +44,5 @@ decreases-case l = 10 * l.left + 3
 -- the cases that were read, before those that are still to be read, are all
 abbrev pub invariant-ways-loop-left : goal.invariant-ways-loop-left
 invariant-ways-loop-left l =
-    ahead (map guarded_of l.read.items) (read_ways l.left (names_of l.names) l.depth l.ask (progress_of l.from))
-    ≡ read_ways l.fn.left (names_of l.names) l.depth l.ask (progress_of l.fn.from)
+    ahead (map guarded_of l.read.items) (read_ways l.left (names_of l.names) l.depth l.order (progress_of l.from))
+    ≡ read_ways l.fn.left (names_of l.names) l.depth l.order (progress_of l.fn.from)

@@ -1,12 +1,15 @@
 use Rattle.sdv_script.specs.Place.{names_of}
 use Rattle.sdv_graph.specs.Tree.{statements_of}
-use Rattle.sdv_script.proofs.GraphOf.{can_run}
+use Rattle.sdv_script.proofs.GraphOf.{can_run, suits_kind}
 use Rattle.sdv_script.proofs.ScriptLaws.{is_script, no_script}
 use Rattle.sdv_script.proofs.reading.parse.Goals as goal
 
 pub invariant_of-result : goal.invariant_of-result
 invariant_of-result c =
-    record { can_run = can_run (names_of c.in-Ok.names) (statements_of c.in-Ok.body) (is_script c.args.text.now (names_of c.in-Ok.names) (statements_of c.in-Ok.body) c.if-text-gt-MAX_BYTES.false c.in-Ok.ensures).fits; is_script = ∣ is_script c.args.text.now (names_of c.in-Ok.names) (statements_of c.in-Ok.body) c.if-text-gt-MAX_BYTES.false c.in-Ok.ensures ∣₁ }
+    let names = names_of c.in-Ok.names in
+    let body = statements_of c.in-Ok.body in
+    let is = is_script c.args.text.now names body c.if-text-gt-MAX_BYTES.false c.in-Ok.ensures in
+    record { can_run = can_run names body is.fits; suits = suits_kind names body is.fits; is_script = ∣ is ∣₁ }
 
 pub returns-in-Ok-clause-script : goal.returns-in-Ok-clause-script
 returns-in-Ok-clause-script c =
