@@ -1,6 +1,6 @@
 -- What is printed of a script: the tokens of its text as they are written there, with one space after each, and then a
 -- line feed.
-use Rattle.std.specs.Prelude.{◌≡◌, ℕ, zero, suc, List, [], ◌∷◌, ◌++◌, length, take, drop, false}
+use Rattle.std.specs.Prelude.{ℕ, zero, suc, List, [], ◌∷◌, ◌++◌, length, take, drop, false}
 use Rattle.sdv_script.specs.declared.token.Token.{Token as Read}
 use Rattle.sdv_script.specs.declared.token.Token.TheVariants as read
 use Rattle.sdv_script.specs.declared.cursor.Cursor.{Cursor}

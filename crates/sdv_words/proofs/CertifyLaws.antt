@@ -5,7 +5,6 @@ use Rattle.clap.specs.Words.{Text}
 use Rattle.std.specs.Io.KnownBytes.{Appends}
 use Rattle.sdv_text.specs.Written.{AppendsPart, Writes}
 use Rattle.std.proofs.lemmas.Result.{on_ok_weaker}
-use Rattle.sdv_registers.specs.declared.kind.Kind.TheVariants.{Sd}
 use Rattle.sdv_script.specs.declared.script.Script.{Script as Tree}
 use Rattle.sdv_script.specs.Graph.{Flow}
 use Rattle.sdv_script.specs.GraphOf.{IsGraphOf}
