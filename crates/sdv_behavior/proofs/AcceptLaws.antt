@@ -1,5 +1,5 @@
 -- A command that a host sends legally and in bounds is accepted, as the card reads it.
-use Rattle.std.proofs.Common.{◌≡◌, ℕ, ◌<◌, ◌≤◌, ◌+◌, ◌*◌, ◌/◌, ◌%◌, ◌==◌, ◌&&◌, ◌||◌, nat_le, inl, inr, refl, sym, ap, subst, ◌∙◌, Bool, true, false, List, Option, Some, None, if◌then◌else◌, eq-eqb, eqb-true, le-leb, arith}
+use Rattle.std.proofs.Common.{◌≡◌, ℕ, ◌<◌, ◌≤◌, ◌+◌, ◌*◌, ◌/◌, ◌%◌, ◌==◌, ◌&&◌, ◌||◌, nat_le, inl, inr, refl, sym, ap, subst, ◌∙◌, Bool, true, false, List, Option, Some, None, if◌then◌else◌, eq-eqb, eqb-true, le-leb, leb-true, arith}
 use Rattle.sdv_registers.specs.declared.kind.Kind.{Kind}
 use Rattle.sdv_registers.specs.declared.kind.Kind.TheVariants.{Sd, Emmc}
 use Rattle.sdv_card.specs.declared.state.State.{State}
@@ -12,6 +12,7 @@ use Rattle.sdv_card.specs.Card.{Card, Block, IsCard, AddressFits}
 use Rattle.sdv_card.specs.Exchange.{card_takes}
 use Rattle.sdv_card.specs.Host.{Host}
 use Rattle.sdv_card.specs.Laws.{order_blocks}
+use Rattle.sdv_card.specs.LegalShapes.{order_legal}
 use Rattle.sdv_card.specs.Legal.{RowLegal, SettledLegal, Within, BlocksWithin}
 use Rattle.sdv_card.specs.Lists.{May}
 use Rattle.sdv_card.specs.Profile.{host_at_start}
@@ -19,15 +20,16 @@ use Rattle.sdv_card.specs.Settled.{Settled}
 use Rattle.sdv_card.specs.StateTable.{rows, targets}
 use Rattle.sdv_card.specs.Taken.{block_of}
 use Rattle.sdv_card.specs.Takes.{taken_as_of, matches}
-use Rattle.sdv_card.proofs.LegalExact.{OrderLegal, order_legal_law}
-use Rattle.sdv_card.proofs.Members.{May-targets, both_true}
+use Rattle.sdv_card.proofs.LegalExact.{OrderLegal, order_legal_law, order_legal_back}
+use Rattle.sdv_card.proofs.Members.{May-targets, both_true, and_left, and_right}
 use Rattle.sdv_card.proofs.SettledCard.{settled_is_card}
 use Rattle.sdv_behavior.specs.declared.behavior.Behavior.{Behavior}
 use Rattle.sdv_behavior.specs.declared.behavior.Behavior.TheVariants.{IsSlow}
 use Rattle.sdv_description.specs.declared.card_desc.CardDesc.{CardDesc}
 use Rattle.sdv_behavior.specs.declared.card_state.CardState.{CardState}
-use Rattle.sdv_behavior.specs.Accepts.{has_blocks, accepts}
-use Rattle.sdv_behavior.specs.CardOf.{card_with}
+use Rattle.sdv_behavior.specs.Accepts.{fields_at, has_blocks, accepts}
+use Rattle.sdv_behavior.specs.Accepted.{AcceptsExactly}
+use Rattle.sdv_behavior.specs.CardOf.{card_with, card_of}
 use Rattle.sdv_behavior.specs.declared.heard.Deed.{Deed}
 use Rattle.sdv_behavior.specs.declared.heard.Deed.TheVariants.{Loses, TakesUnheard, Takes, Stays}
 use Rattle.sdv_behavior.specs.Heard.{deed_of, is_ready, does, done_as, hear_at}
@@ -192,27 +194,27 @@ CountFits preset (ReadMultipleBlock n) = count_of preset ≤ n
 CountFits preset (WriteMultipleBlock n) = count_of preset ≤ n
 CountFits preset order = Unit {0}
 
-in_unit : (d : CardDesc) (argument n m : ℕ) (c : Card) → d.block_unit ≡ c.block_unit → d.capacity ≡ c.capacity → m ≤ n → Within c argument n → has_blocks d argument (Some m) ≡ true
-in_unit d argument n m c unit capacity few w = go d.block_unit (w.unit ∙ ap (λ b. if b then w.position else 512 * w.position) (sym unit))
+in_unit : (d : CardDesc) (position argument n m : ℕ) (c : Card) → d.block_unit ≡ c.block_unit → d.capacity ≡ c.capacity → m ≤ n → Within c position argument n → has_blocks d argument (Some m) ≡ true
+in_unit d position argument n m c unit capacity few w = go d.block_unit (w.unit ∙ ap (λ b. if b then position else 512 * position) (sym unit))
   where
-    room : w.position + m ≤ d.capacity
+    room : position + m ≤ d.capacity
     room = let r = w.room in omega (arith, few, r, capacity)
 
-    go : (b : Bool) → argument ≡ (if b then w.position else 512 * w.position) → ((b || (argument % 512 == 0)) && nat_le (block_of b argument + m) d.capacity) ≡ true
+    go : (b : Bool) → argument ≡ (if b then position else 512 * position) → ((b || (argument % 512 == 0)) && nat_le (block_of b argument + m) d.capacity) ≡ true
     go true e = le-leb (argument + m) d.capacity (let r = room in omega (arith, r, e))
     go false e = both_true _ _ (eq-eqb (argument % 512) 0 (omega (arith, e))) (le-leb (argument / 512 + m) d.capacity (let r = room in omega (arith, r, e)))
 
-reads_blocks : (d : CardDesc) (order : Order) (preset argument : ℕ) (c : Card) → d.block_unit ≡ c.block_unit → d.capacity ≡ c.capacity → CountFits preset order →
-    BlocksWithin (order_blocks order) c argument → has_blocks d argument (order_blocks (read_as preset order)) ≡ true
-reads_blocks d (ReadMultipleBlock n) preset argument c unit capacity few w = in_unit d argument n (count_of preset) c unit capacity few w
-reads_blocks d (WriteMultipleBlock n) preset argument c unit capacity few w = in_unit d argument n (count_of preset) c unit capacity few w
-reads_blocks d ReadSingleBlock preset argument c unit capacity few w = in_unit d argument 1 1 c unit capacity (omega arith) w
-reads_blocks d WriteBlock preset argument c unit capacity few w = in_unit d argument 1 1 c unit capacity (omega arith) w
-reads_blocks d EraseBlockStart preset argument c unit capacity few w = in_unit d argument 1 1 c unit capacity (omega arith) w
-reads_blocks d EraseBlockEnd preset argument c unit capacity few w = in_unit d argument 1 1 c unit capacity (omega arith) w
-reads_blocks d EraseGroupStart preset argument c unit capacity few w = in_unit d argument 1 1 c unit capacity (omega arith) w
-reads_blocks d EraseGroupEnd preset argument c unit capacity few w = in_unit d argument 1 1 c unit capacity (omega arith) w
-reads_blocks d order preset argument c unit capacity few w = refl
+reads_blocks : (d : CardDesc) (order : Order) (preset position argument : ℕ) (c : Card) → d.block_unit ≡ c.block_unit → d.capacity ≡ c.capacity → CountFits preset order →
+    BlocksWithin (order_blocks order) c position argument → has_blocks d argument (order_blocks (read_as preset order)) ≡ true
+reads_blocks d (ReadMultipleBlock n) preset position argument c unit capacity few w = in_unit d position argument n (count_of preset) c unit capacity few w
+reads_blocks d (WriteMultipleBlock n) preset position argument c unit capacity few w = in_unit d position argument n (count_of preset) c unit capacity few w
+reads_blocks d ReadSingleBlock preset position argument c unit capacity few w = in_unit d position argument 1 1 c unit capacity (omega arith) w
+reads_blocks d WriteBlock preset position argument c unit capacity few w = in_unit d position argument 1 1 c unit capacity (omega arith) w
+reads_blocks d EraseBlockStart preset position argument c unit capacity few w = in_unit d position argument 1 1 c unit capacity (omega arith) w
+reads_blocks d EraseBlockEnd preset position argument c unit capacity few w = in_unit d position argument 1 1 c unit capacity (omega arith) w
+reads_blocks d EraseGroupStart preset position argument c unit capacity few w = in_unit d position argument 1 1 c unit capacity (omega arith) w
+reads_blocks d EraseGroupEnd preset position argument c unit capacity few w = in_unit d position argument 1 1 c unit capacity (omega arith) w
+reads_blocks d order preset position argument c unit capacity few w = refl
 
 -- ACCEPTED
 
@@ -220,11 +222,54 @@ reads_blocks d order preset argument c unit capacity few w = refl
 abbrev host_of : ℕ → Host
 host_of argument = record (host_at_start 0) { rca = argument / 65536 }
 
-pub accepts_law : (d : CardDesc) (order : Order) (argument announced : ℕ) (s : CardState) (contents : List Block) → SentTo order argument → CountFits s.preset order →
-    IsCard (card_with d s announced contents) → OrderLegal order argument (card_with d s announced contents) → BlocksWithin (order_blocks order) (card_with d s announced contents) argument →
+pub accepts_law : (d : CardDesc) (order : Order) (position argument announced : ℕ) (s : CardState) (contents : List Block) → SentTo order argument → CountFits s.preset order →
+    IsCard (card_with d s announced contents) → OrderLegal order argument (card_with d s announced contents) → BlocksWithin (order_blocks order) (card_with d s announced contents) position argument →
     accepts d (read_as s.preset order) argument s ≡ true
-accepts_law d order argument announced s contents sent few card legal within =
+accepts_law d order position argument announced s contents sent few card legal within =
     let c : Card = card_with d s announced contents in
     both_true _ _
     (order_legal_law (read_as s.preset order) argument c (host_of argument) (record { way = λ app rca. refl }) (reads_legal order argument c sent card legal))
-    (reads_blocks d order s.preset argument c refl refl few within)
+    (reads_blocks d order s.preset position argument c refl refl few within)
+
+-- WHAT IS ACCEPTED is legal and in bounds, and what is so is accepted
+
+legal_fields : (d : CardDesc) (order : Order) (argument : ℕ) (s : CardState) (contents : List Block) → order_legal d.kind order (fields_at d argument s) ≡ true → OrderLegal order argument (card_of d s contents)
+legal_fields d order argument s contents e = order_legal_back order argument (card_of d s contents) (host_of argument) (record { way = λ app rca. refl }) e
+
+-- some position of a command in bounds
+record Positioned (blocks : Option ℕ) (c : Card) (argument : ℕ) : Type 0 where
+  position : ℕ
+  bounds : BlocksWithin blocks c position argument
+
+positioned : (d : CardDesc) (s : CardState) (contents : List Block) (argument : ℕ) (blocks : Option ℕ) → has_blocks d argument blocks ≡ true → Positioned blocks (card_of d s contents) argument
+positioned d s contents argument None e = record { position = 0; bounds = tt }
+positioned d s contents argument (Some count) e = go d.block_unit refl e
+  where
+    go : (unit : Bool) → d.block_unit ≡ unit → ((unit || (argument % 512 == 0)) && nat_le (block_of unit argument + count) d.capacity) ≡ true → Positioned (Some count) (card_of d s contents) argument
+    go true u e =
+        let room : argument + count ≤ d.capacity = leb-true _ _ (and_right true _ e) in
+        record { position = argument; bounds = record { unit = rw u refl; room = room } }
+    go false u e =
+        let whole : argument % 512 ≡ 0 = eqb-true _ _ (and_left (argument % 512 == 0) _ e) in
+        let room : argument / 512 + count ≤ d.capacity = leb-true _ _ (and_right (argument % 512 == 0) _ e) in
+        let unit : argument ≡ 512 * (argument / 512) = omega (arith, whole) in
+        record { position = argument / 512; bounds = record { unit = rw u unit; room = room } }
+
+has_them : (d : CardDesc) (s : CardState) (contents : List Block) (position argument : ℕ) (blocks : Option ℕ) → BlocksWithin blocks (card_of d s contents) position argument → has_blocks d argument blocks ≡ true
+has_them d s contents position argument None w = refl
+has_them d s contents position argument (Some count) w = in_unit d position argument count count (card_of d s contents) refl refl (omega arith) w
+
+pub accepts_exactly : AcceptsExactly
+accepts_exactly d order argument s contents = (
+  (λ e.
+      let at = positioned d s contents argument (order_blocks order) (and_right (order_legal d.kind order (fields_at d argument s)) _ e) in
+      record {
+        legal = legal_fields d order argument s contents (and_left (order_legal d.kind order (fields_at d argument s)) _ e);
+        position = at.position;
+        bounds = at.bounds;
+      }),
+  (λ a.
+      both_true _ _
+      (order_legal_law order argument (card_of d s contents) (host_of argument) (record { way = λ app rca. refl }) a.legal)
+      (has_them d s contents a.position argument (order_blocks order) a.bounds)),
+)

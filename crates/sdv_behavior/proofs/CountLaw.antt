@@ -11,7 +11,7 @@ use Rattle.sdv_card.specs.declared.command.TakenAs.{TakenAs}
 use Rattle.sdv_card.specs.declared.command.TakenAs.TheVariants.{Forbidden, Ignored, By}
 use Rattle.sdv_card.specs.Card.{Card, Block}
 use Rattle.sdv_card.specs.Legal.{SettledLegal}
-use Rattle.sdv_card.specs.Port.{knows_count}
+use Rattle.sdv_card.specs.Port.{count_known}
 use Rattle.sdv_card.specs.RowRules.{transfer_after, preset_allows}
 use Rattle.sdv_card.specs.States.{own_target}
 use Rattle.sdv_card.specs.Takes.{taken_as_of}
@@ -31,18 +31,18 @@ use Rattle.sdv_behavior.proofs.AcceptLaws.{CountFits}
 
 -- where a card knows the count, it is this one
 abbrev pub Knows : CardState → ℕ → Type 0
-Knows s announced = knows_count s.transfer ≡ true → s.announced ≡ announced
+Knows s announced = count_known s.transfer ≡ true → s.announced ≡ announced
 
 no : {A : Type 0} → false ≡ true → A
 no e = absurd (cc)
 
-counted : (preset n announced : ℕ) (due wide : Transfer) (none : Bool) → (preset == 0) ≡ none → (none || (preset == n)) ≡ true → knows_count wide ≡ false →
-    knows_count (if none then wide else due) ≡ true → (if none then 1 else preset) ≡ n
+counted : (preset n announced : ℕ) (due wide : Transfer) (none : Bool) → (preset == 0) ≡ none → (none || (preset == n)) ≡ true → count_known wide ≡ false →
+    count_known (if none then wide else due) ≡ true → (if none then 1 else preset) ≡ n
 counted preset n announced due wide true e allowed unknown k = no (sym unknown ∙ k)
 counted preset n announced due wide false e allowed unknown k = eqb-true preset n allowed
 
 row_count : (row : Row) (t : CardState) (announced : ℕ) → preset_allows row t.preset ≡ true → Knows t announced →
-    knows_count (transfer_after row t.preset t.transfer) ≡ true → announced_next row t.preset t.announced ≡ announced_with row announced
+    count_known (transfer_after row t.preset t.transfer) ≡ true → announced_next row t.preset t.announced ≡ announced_with row announced
 row_count Cmd17 t announced allowed knows k = refl
 row_count (Cmd18 n) t announced allowed knows k = counted t.preset n announced ReadDue OpenReadDue (t.preset == 0) refl allowed refl k
 row_count Cmd24 t announced allowed knows k = refl

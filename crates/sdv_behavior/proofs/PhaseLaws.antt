@@ -13,7 +13,7 @@ use Rattle.sdv_card.specs.Card.{Card, Block, AreBlocks}
 use Rattle.sdv_card.specs.Legal.{recv_legal, recv_reg_legal, give_legal, wait_legal, TransferOnCard}
 use Rattle.sdv_card.specs.Lists.{May}
 use Rattle.sdv_card.specs.Phases.{after_phase, after_wait, read_due, register_due, write_due, blocks_due, due_register, BlocksTrue, RegisterTrue, StoredOrNot}
-use Rattle.sdv_card.specs.Port.{knows_count, Kept}
+use Rattle.sdv_card.specs.Port.{count_known, Kept}
 use Rattle.sdv_card.specs.ScriptEvent.{ReceiveBlocks, ReceiveRegister, GiveBlocks, AwaitReady, BlocksIn, RegisterIn, BlocksOut, Waited}
 use Rattle.sdv_card.specs.States.{is_open}
 use Rattle.sdv_card.proofs.Members.{here, both_true}
@@ -53,7 +53,7 @@ write_blocks_due OpenWriteDue e = refl
 write_blocks_due x e = no e
 
 -- a block phase that is due has the length that the host announced
-counts : (x : Transfer) (count known announced : ℕ) → blocks_due x ≡ true → (knows_count x ≡ true → known ≡ announced) → count ≡ announced → (is_open x || (count == known)) ≡ true
+counts : (x : Transfer) (count known announced : ℕ) → blocks_due x ≡ true → (count_known x ≡ true → known ≡ announced) → count ≡ announced → (is_open x || (count == known)) ≡ true
 counts ReadDue count known announced e knows same = eq-eqb count known (same ∙ sym (knows refl))
 counts OpenReadDue count known announced e knows same = refl
 counts WriteDue count known announced e knows same = eq-eqb count known (same ∙ sym (knows refl))
@@ -75,9 +75,9 @@ record AfterPhase (x : Transfer) (end : DataEnd) : Type 0 where
   place : Place
   rest : List Place
   places : after_phase x end ≡ place ∷ rest
-  unknown : knows_count place.transfer ≡ false
+  unknown : count_known place.transfer ≡ false
 
-first : {x : Transfer} {end : DataEnd} (place : Place) (rest : List Place) → after_phase x end ≡ place ∷ rest → knows_count place.transfer ≡ false → AfterPhase x end
+first : {x : Transfer} {end : DataEnd} (place : Place) (rest : List Place) → after_phase x end ≡ place ∷ rest → count_known place.transfer ≡ false → AfterPhase x end
 first place rest e u = record { place = place; rest = rest; places = e; unknown = u }
 
 read_after : (x : Transfer) (end : DataEnd) → read_due x ≡ true → AfterPhase x end

@@ -9,7 +9,7 @@ use Rattle.sdv_card.specs.CommandTable.{order_argument, argument_or_none, expect
 use Rattle.sdv_card.specs.Host.{Host}
 use Rattle.sdv_card.specs.Laws.{order_blocks}
 use Rattle.sdv_card.specs.Legal.{SendLegal, BlocksWithin}
-use Rattle.sdv_card.specs.Port.{IsFine}
+use Rattle.sdv_card.specs.Port.{IsFine, command_of}
 use Rattle.sdv_card.specs.ScriptEvent.{SendCommand, Answered}
 use Rattle.sdv_card.specs.Settled.{Settled}
 use Rattle.sdv_card.specs.Step.{Sends}
@@ -17,7 +17,7 @@ use Rattle.sdv_card.proofs.OrdersOfAsks.{of_ask, OfAsk}
 use Rattle.sdv_card.proofs.SettledCard.{settled_is_card}
 use Rattle.sdv_card.proofs.TableLaws.{asks_address, steps_are_expected}
 use Rattle.sdv_controller.specs.declared.wire.WireEnd.{WireEnd}
-use Rattle.sdv_controller.specs.Wire.{Heard as HeardBy, command_of}
+use Rattle.sdv_controller.specs.Wire.{Heard as HeardBy}
 use Rattle.sdv_behavior.specs.declared.behavior.Behavior.{Behavior}
 use Rattle.sdv_behavior.specs.declared.heard.Heard.{Heard}
 use Rattle.sdv_behavior.specs.Accepts.{accepts}
@@ -72,7 +72,7 @@ module _ (s s' : SimState) (is : IsDescribed s.desc) (contents : List Block) (sh
   abbrev before : Card
   before = card_with s.desc s.card announced contents
 
-  module _ (ask : Ask) (argument : ℕ) (h : Host) (fine : IsFine s.desc.kind (SendCommand ask argument) before h) where
+  module _ (ask : Ask) (position argument : ℕ) (h : Host) (fine : IsFine s.desc.kind (SendCommand ask position argument) before h) where
     abbrev legal : SendLegal ask argument before
     legal = fine.legal
 
@@ -88,11 +88,11 @@ module _ (s s' : SimState) (is : IsDescribed s.desc) (contents : List Block) (sh
     read : order_read s.desc.kind s.card.preset ask.index argument ≡ Some (read_as s.card.preset order)
     read = ap (λ a. order_read s.desc.kind s.card.preset ask.index a) argument_is ∙ read_law s.desc.kind ask order s.card.preset h.rca fine.made.address fine.legal.asks.line
 
-    within : BlocksWithin (order_blocks order) before argument
-    within = subst (λ o. BlocksWithin o before argument) (sym (asks_address s.desc.kind ask order fine.legal.asks.line)) fine.bounds
+    within : BlocksWithin (order_blocks order) before position argument
+    within = subst (λ o. BlocksWithin o before position argument) (sym (asks_address s.desc.kind ask order fine.legal.asks.line)) fine.bounds
 
     accepted : accepts s.desc (read_as s.card.preset order) argument s.card ≡ true
-    accepted = accepts_law s.desc order argument announced s.card contents sent
+    accepted = accepts_law s.desc order position argument announced s.card contents sent
         (count_fits order s.card.app _ before (some_count s.desc.kind ask order (of_ask s.desc.kind ask order fine.legal.asks.line)) (fine.legal.settled before (inl refl)))
         fine.pair.card fine.legal.settled within
 
@@ -128,7 +128,7 @@ module _ (s s' : SimState) (is : IsDescribed s.desc) (contents : List Block) (sh
     shown_after contents' e desc card =
         ap (λ b. shown_card s.desc outcome.after b) e ∙ (ap (λ d. shown_card d outcome.after s'.blocks) desc ∙ ap (λ c. shown_card s'.desc c s'.blocks) card)
 
-    transferred : (end : WireEnd) (response : List ℕ) → Transfers outcome end response s s' → HeardBy card_shown s.desc.kind ask argument before end response s'
+    transferred : (end : WireEnd) (response : List ℕ) → Transfers outcome end response s s' → HeardBy card_shown s.desc.kind ask position argument before end response s'
     transferred end response t =
         let left = left_of outcome.erases s s' contents shows fine.pair.card.contents t.blocks in
         let told = hear_law s.desc is fine.pair.card.csd behavior order argument announced s.card contents left.contents' fine.legal.settled left.leaves in
@@ -146,9 +146,9 @@ module _ (s s' : SimState) (is : IsDescribed s.desc) (contents : List Block) (sh
             };
           };
           shown = shows_law (expect_of s.desc.kind ask) outcome.reply end response told.answer
-              (steps_are_expected s.desc.kind (SendCommand ask argument) before (Answered told.answer) (after left.contents') refl step)
+              (steps_are_expected s.desc.kind (SendCommand ask position argument) before (Answered told.answer) (after left.contents') refl step)
               told.told told.is_reply t.gives;
         }
 
-    pub send_law : (end : WireEnd) (response : List ℕ) → Transfers (heard_of s (command_of ask argument)) end response s s' → HeardBy card_shown s.desc.kind ask argument before end response s'
+    pub send_law : (end : WireEnd) (response : List ℕ) → Transfers (heard_of s (command_of ask argument)) end response s s' → HeardBy card_shown s.desc.kind ask position argument before end response s'
     send_law end response t = transferred end response (subst (λ v. Transfers v end response s s') heard_is t)

@@ -3,9 +3,9 @@ use Rattle.std.proofs.Common.{◌≡◌, ℕ, refl, sym, ap, subst, ◌∙◌, B
 use Rattle.std.specs.Prelude.{MatchBool}
 use Rattle.sdv_card.specs.Card.{Card, Block}
 use Rattle.sdv_card.specs.Host.{Host}
-use Rattle.sdv_card.specs.Port.{IsFine, Kept, DataIn, DataInRegister, DataOut, WaitWhileBusy, knows_count}
+use Rattle.sdv_card.specs.Port.{IsFine, Kept, command_of, DataIn, DataInRegister, DataOut, WaitWhileBusy, count_known}
 use Rattle.sdv_card.specs.ScriptEvent.{ScriptEvent, SendCommand, ReceiveBlocks, ReceiveRegister, GiveBlocks, AwaitReady, Return, Answered, BlocksIn, RegisterIn, BlocksOut, Waited}
-use Rattle.sdv_controller.specs.Wire.{WireCall, WireReturn, OtherCall, OtherReturn, WireKeepsTables, KeepsAt, command_of}
+use Rattle.sdv_controller.specs.Wire.{WireCall, WireReturn, OtherCall, OtherReturn, WireKeepsTables, KeepsAt}
 use Rattle.sdv_description.specs.declared.card_desc.CardDesc.{CardDesc}
 use Rattle.sdv_behavior.specs.declared.card_state.CardState.{CardState}
 use Rattle.sdv_behavior.specs.CardOf.{card_of, card_with}
@@ -26,7 +26,7 @@ chosen false P Q e m = absurd (let f : false ≡ true = e in cc)
 
 -- where a card knows the count, it is this one
 abbrev Known : Card → ℕ → Type 0
-Known c announced = IsTrue (knows_count c.transfer) → c.announced ≡ announced
+Known c announced = IsTrue (count_known c.transfer) → c.announced ≡ announced
 
 -- what holds of a state of the simulator holds of what has that state
 kept_by : {S : Type 0} (state : S → SimState) (s' : S) (event : ScriptEvent) (c : Card) (returned : Return) → Kept card_shown event c returned (state s') → Kept (λ s. card_shown (state s)) event c returned s'
@@ -71,11 +71,11 @@ module _ {S : Type 0} (state : S → SimState) (is : (s : S) → IsDescribed (st
     wait_at fine returned step = absurd step
 
     keeps_at : (event : ScriptEvent) → IsFine (state s).desc.kind event before h → KeepsAt steps shown s s' (state s).desc.kind event before
-    keeps_at (SendCommand ask argument) fine = λ frame response end is_command framed step.
-        let heard = send_law (state s) (state s') (is s) contents blocks announced knows ask argument h fine end response (step.0 (command_of ask argument) is_command framed) in
+    keeps_at (SendCommand ask position argument) fine = λ frame response end is_command framed step.
+        let heard = send_law (state s) (state s') (is s) contents blocks announced knows ask position argument h fine end response (step.0 (command_of ask argument) is_command framed) in
         record {
           answer = heard.answer;
-          kept = kept_by state s' (SendCommand ask argument) before (Answered heard.answer) heard.kept;
+          kept = kept_by state s' (SendCommand ask position argument) before (Answered heard.answer) heard.kept;
           shown = heard.shown;
         }
     keeps_at (ReceiveBlocks count) fine = receive_at count fine
@@ -88,7 +88,9 @@ module _ {S : Type 0} (state : S → SimState) (is : (s : S) → IsDescribed (st
       let b = blocks_of (state s).desc (state s).card (state s).blocks shows.shown shows.shows in
       let same : card_with (state s).desc (state s).card c.announced b.0 ≡ c = ap (λ (v : Card). record v { announced = c.announced }) b.2 ∙ shows.same in
       let kind : k ≡ (state s).desc.kind = fine.pair.kind ∙ sym (ap (λ v. v.kind) same) in
-      let knows : Knows (state s).card c.announced = subst (λ v. Known v c.announced) (sym b.2) shows.count in
+      let moves : shows.shown.transfer ≡ c.transfer = ap (λ v. v.transfer) shows.same in
+      let known : Known shows.shown c.announced = λ k. shows.count (subst (λ t. IsTrue (count_known t)) moves k) in
+      let knows : Knows (state s).card c.announced = subst (λ v. Known v c.announced) (sym b.2) known in
       let here : IsFine (state s).desc.kind event (card_with (state s).desc (state s).card c.announced b.0) h = subst (λ v. IsFine v event (card_with (state s).desc (state s).card c.announced b.0) h) kind (subst (λ v. IsFine k event v h) (sym same) fine) in
       subst (λ v. KeepsAt steps shown s s' k event v) same
       (subst (λ v. KeepsAt steps shown s s' v event (card_with (state s).desc (state s).card c.announced b.0)) (sym kind) (keeps_at s s' b.0 c.announced h b.1 knows event here))

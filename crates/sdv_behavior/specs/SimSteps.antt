@@ -31,7 +31,7 @@ use Rattle.sdv_behavior.specs.Accepts.{accepts}
 use Rattle.sdv_behavior.specs.CardOf.{card_of}
 use Rattle.sdv_behavior.specs.Commands.{order_read}
 use Rattle.sdv_behavior.specs.Heard.{hear, unheard}
-use Rattle.sdv_image.specs.Images.{HasFailed, Shown, OnlyAt, AreSized}
+use Rattle.sdv_image.specs.Images.{HasFailed, Shown, OnlyAt, AreSized, zeros}
 use Rattle.sdv_description.specs.Registers.{scr, sd_status, ext_csd_of}
 use Rattle.sdv_behavior.specs.RowTaken.{first_of}
 use Rattle.sdv_behavior.specs.Schedules.{first_behavior, later_behaviors}
@@ -79,9 +79,6 @@ heard_of s command = heard_order s.desc (behavior_of s) (order_read s.desc.kind 
 abbrev pub Gives : Option Reply → WireEnd → (response : List ℕ) → Type 0
 Gives None end response = Silent ≡ end
 Gives (Some reply) end response = (count : ℕ) × (Bytes count ≡ end) × (count ≤ 17) × IsReplyFrame reply (take count response)
-
-unfoldable pub zeros : ℕ → List Block
-zeros count = replicate count (replicate 512 0)
 
 -- an erase writes zeros from the first to the last block that the card has; a failure ends it
 pub record Erased (first count size : ℕ) (s s' : SimState) : Type 0 where

@@ -2,14 +2,17 @@
 
 ghost use Rattle.std.specs.Prelude.{◌≡◌};
 ghost use Rattle.sdv_card.specs.Laws.{order_blocks};
+ghost use Rattle.sdv_card.specs.LegalShapes.{order_legal};
 ghost use Rattle.sdv_behavior.specs.Accepts.{fields_at, has_blocks, accepts};
 
 use crate::card_state::CardState;
-use crate::description::CardDesc;
 use crate::heard::matches;
 use crate::rows::block_of;
 use sdv_card::laws::order_legal;
-use sdv_card::{Fields, Order};
+use sdv_card::{Fields, Kind, Order};
+use sdv_description::CardDesc;
+use sdv_emmc::EmmcTable;
+use sdv_sd::SdTable;
 
 /// The card beside a host whose relative address is in the argument.
 fn fields_at(desc: &CardDesc, argument: u32, s: &CardState) -> Fields
@@ -25,6 +28,16 @@ fn fields_at(desc: &CardDesc, argument: u32, s: &CardState) -> Fields
         matched: matches(s.rca, argument),
         flags: 0,
         preset: s.preset,
+    }
+}
+
+/// The order is legal at the fields, by the state table of the kind.
+fn is_legal(kind: Kind, order: Order, fields: &Fields) -> bool
+    ensures { result ≡ order_legal kind order fields.now }
+{
+    match kind {
+        Kind::Sd => order_legal::<SdTable>(order, fields),
+        Kind::Emmc => order_legal::<EmmcTable>(order, fields),
     }
 }
 
@@ -61,6 +74,6 @@ fn has_blocks(desc: &CardDesc, argument: u32, count: Option<u16>) -> bool
 pub fn accepts(desc: &CardDesc, order: Order, argument: u32, s: &CardState) -> bool
     ensures { result ≡ accepts desc.now order argument s.now }
 {
-    order_legal(desc.kind, order, &fields_at(desc, argument, s))
+    is_legal(desc.kind, order, &fields_at(desc, argument, s))
         && has_blocks(desc, argument, order_blocks(order))
 }

@@ -6,9 +6,9 @@ ghost use Rattle.sdv_behavior.specs.SimSteps.{cuts, phase_over, length_fits, wai
 
 use crate::behavior::Behavior;
 use crate::card_state::CardState;
-use crate::description::CardDesc;
 use sdv_card::laws::{after_phase, after_wait};
 use sdv_card::{DataEnd, WaitEnd};
+use sdv_description::CardDesc;
 
 /// The behavior cuts a data phase.
 pub fn cuts(behavior: Behavior) -> bool

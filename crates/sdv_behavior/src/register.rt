@@ -4,8 +4,8 @@ ghost use Rattle.std.specs.Prelude.{◌≡◌, ◌^◌, length};
 ghost use Rattle.sdv_description.specs.Registers.{ext_csd_of};
 ghost use Rattle.sdv_behavior.specs.SimSteps.{register_of, padded};
 
-use crate::description::CardDesc;
 use sdv_card::Transfer;
+use sdv_description::CardDesc;
 
 /// Writes the front of a register, and zeros after it.
 fn copy_padded(register: &[u8], bytes: &mut [u8])
@@ -17,7 +17,7 @@ fn copy_padded(register: &[u8], bytes: &mut [u8])
 }
 
 /// The EXT_CSD: all zeros but SEC_COUNT.
-#[tactic(auto, unfolding(crate::specs::Registers::ext_csd_of))]
+#[tactic(auto, unfolding(sdv_description::specs::Registers::ext_csd_of))]
 fn ext_csd_of(sectors: u32) -> [u8; 512]
     ensures { result ≡ ext_csd_of sectors }
 {
@@ -30,7 +30,7 @@ fn ext_csd_of(sectors: u32) -> [u8; 512]
 }
 
 /// Writes the register that is due, and zeros after it.
-#[tactic(auto, unfolding(crate::specs::Registers::sd_status))]
+#[tactic(auto, unfolding(sdv_description::specs::Registers::sd_status))]
 pub fn copy_register(desc: &CardDesc, transfer: Transfer, bytes: &mut [u8])
     ensures { bytes.new ≡ padded (register_of transfer desc.now) (length bytes.old) }
 {

@@ -6,9 +6,9 @@ ghost use Rattle.sdv_card.specs.Responses.{row_index};
 ghost use Rattle.sdv_description.specs.Registers.{cid_of};
 ghost use Rattle.sdv_behavior.specs.Replies.{shows_app, reply_of};
 
-use crate::description::CardDesc;
 use crate::words::{address_word, conditions_word, status_word};
 use sdv_card::{Kind, Row, State};
+use sdv_description::CardDesc;
 use sdv_frames::Reply;
 
 /// Bits 127..8 of the CID.

@@ -1,13 +1,27 @@
 //! What a simulated card is after a row that it takes.
 
 ghost use Rattle.std.specs.Prelude.{◌≡◌};
+ghost use Rattle.sdv_card.specs.StateTable.{rows, targets};
+ghost use Rattle.sdv_card.specs.NextStates.{next_states};
 ghost use Rattle.sdv_behavior.specs.RowTaken.{state_next, rca_next, app_next, length_next, preset_next, block_next, count_of, announced_next, checked_next, first_next, last_next, taken_by, stays};
 ghost use Rattle.sdv_card.specs.Taken.{block_of};
 
 use crate::card_state::CardState;
-use crate::description::CardDesc;
-use sdv_card::laws::{erase_after, rows, targets, transfer_after};
+use sdv_card::laws::{Rows, erase_after, transfer_after};
 use sdv_card::{Kind, Row, State};
+use sdv_description::CardDesc;
+use sdv_emmc::EmmcTable;
+use sdv_sd::SdTable;
+
+/// The state after a row, by the state table of the kind, if cards have the row in the state.
+fn next(kind: Kind, row: Row, from: State) -> Option<State>
+    ensures { targets (rows kind row) from ≡ next_states row result }
+{
+    match kind {
+        Kind::Sd => SdTable::next(row, from),
+        Kind::Emmc => EmmcTable::next(row, from),
+    }
+}
 
 /// The state after a row; after CMD1 and ACMD41 the card is ready, or still idle.
 fn state_next(kind: Kind, row: Row, ready: bool, state: State) -> State
@@ -15,9 +29,9 @@ fn state_next(kind: Kind, row: Row, ready: bool, state: State) -> State
 {
     match row {
         Row::Cmd1 | Row::Acmd41 { .. } if !ready => state,
-        _ => match targets(rows(kind, row), state).as_slice() {
-            [] => state,
-            [first, ..] => *first,
+        _ => match next(kind, row, state) {
+            Some(next) => next,
+            None => state,
         },
     }
 }
