@@ -71,7 +71,7 @@ way_legal_back (By row) t h e = row_legal_back row t h e
 -- AN ORDER
 
 -- an order is legal at each settled card
-abbrev OrderLegal : Order → ℕ → Card → Type 0
+abbrev pub OrderLegal : Order → ℕ → Card → Type 0
 OrderLegal order argument c = (t : Card) → Settled c t → SettledLegal (card_takes t order argument) t
 
 settled_order : (order : Order) (argument : ℕ) (t : Card) (h : Host) → AddressSent order argument h → SettledLegal (card_takes t order argument) t →
@@ -87,13 +87,13 @@ own_legal order argument c h (Some s) sent e legal =
     let t : Card = record c { state = s; transfer = Nothing } in
     both_true _ _ (settled_order order argument t h sent (legal t (inr (s, e, refl)))) refl
 
-order_legal_law : (order : Order) (argument : ℕ) (c : Card) (h : Host) → AddressSent order argument h → OrderLegal order argument c →
+pub order_legal_law : (order : Order) (argument : ℕ) (c : Card) (h : Host) → AddressSent order argument h → OrderLegal order argument c →
     order_legal c.kind order (view c h) ≡ true
 order_legal_law order argument c h sent legal =
     both_true _ _ (settled_order order argument c h sent (legal c (inl refl)))
     (own_legal order argument c h (own_target c.state c.transfer) sent refl legal)
 
-order_legal_back : (order : Order) (argument : ℕ) (c : Card) (h : Host) → AddressSent order argument h →
+pub order_legal_back : (order : Order) (argument : ℕ) (c : Card) (h : Host) → AddressSent order argument h →
     order_legal c.kind order (view c h) ≡ true → OrderLegal order argument c
 order_legal_back order argument c h sent e t settles =
     let at_t : settled_legal t.kind (view t h) (taken_as_of order t.app (matches t.rca h.rca)) ≡ true =

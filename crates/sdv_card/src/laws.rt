@@ -13,7 +13,10 @@ mod rules;
 mod shapes;
 mod takes;
 
-pub use by_rows::{legal_by_rows, outcomes_by_rows};
+pub use by_rows::{legal_by_rows, order_legal, outcomes_by_rows};
 pub use commands::order;
+pub use phases::{after_phase, after_wait, give_legal, recv_legal, recv_reg_legal, wait_legal};
 pub use rows::Rows;
+pub use rules::{erase_after, own_target, response, transfer_after};
 pub use shapes::is_shape;
+pub use takes::taken_as;

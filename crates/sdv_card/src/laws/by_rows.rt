@@ -59,7 +59,8 @@ fn ask_legal<T: Rows>(ask: &Ask, fields: &Fields) -> bool
     }
 }
 
-fn order_legal<T: Rows>(order: Order, fields: &Fields) -> bool
+/// The order is legal at the fields.
+pub fn order_legal<T: Rows>(order: Order, fields: &Fields) -> bool
     ensures { result ≡ order_legal T.kind order fields.now }
 {
     if !settled_legal::<T>(order, fields) {

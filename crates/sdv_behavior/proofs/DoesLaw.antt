@@ -1,0 +1,284 @@
+-- What comes of a row at a simulated card is what the tables allow.
+use Rattle.std.proofs.Common.{◌≡◌, ℕ, ◌<◌, ◌==◌, ◌^◌, inl, inr, refl, sym, ap, subst, ◌∙◌, Bool, true, false, not, ◌&&◌, List, Option, Some, None, if◌then◌else◌, lit<, eqb-true}
+use Rattle.std.specs.Prelude.{IfSome}
+use Rattle.std.proofs.lemmas.List.Elements.{recursion_from_All}
+use Rattle.sdv_registers.specs.declared.kind.Kind.{Kind}
+use Rattle.sdv_registers.specs.declared.kind.Kind.TheVariants.{Sd, Emmc}
+use Rattle.sdv_registers.specs.Ocr.{ccs, access_mode}
+use Rattle.sdv_frames.specs.Frame.{IsReply}
+use Rattle.sdv_frames.specs.declared.reply.Reply.{Reply}
+use Rattle.sdv_frames.specs.declared.reply.Reply.TheVariants.{R1, R2, R3, R6, R7}
+use Rattle.sdv_card.specs.declared.answer.Answer.{Answer}
+use Rattle.sdv_card.specs.declared.answer.Answer.TheVariants.{Sent, TimeOut, Reply as Replied}
+use Rattle.sdv_card.specs.declared.state.State.{State}
+use Rattle.sdv_card.specs.declared.state.State.TheVariants.{Idle}
+use Rattle.sdv_card.specs.declared.command.Order.{Order}
+use Rattle.sdv_card.specs.declared.command.Order.TheVariants.{DeselectCards}
+use Rattle.sdv_card.specs.declared.command.Row.{Row}
+use Rattle.sdv_card.specs.declared.command.Row.TheVariants.{Cmd0, Cmd1, Cmd2, Cmd3Sd, Cmd7NotAddressed, Cmd8Sd, Cmd9, Cmd10, Cmd38, Cmd55, Acmd41}
+use Rattle.sdv_card.specs.Agrees.{ErrorShown}
+use Rattle.sdv_card.specs.Card.{Card, Block, IsRegister}
+use Rattle.sdv_card.specs.Exchange.{RowAnswer, unaddressed_answer}
+use Rattle.sdv_card.specs.Legal.{RowLegal}
+use Rattle.sdv_card.specs.Lists.{May}
+use Rattle.sdv_card.specs.Responses.{response_of, row_index}
+use Rattle.sdv_card.specs.States.{is_ready as is_ready_state}
+use Rattle.sdv_card.specs.StateTable.{rows, targets}
+use Rattle.sdv_card.specs.Taken.{Taken, ContentsAfter}
+use Rattle.sdv_card.proofs.Members.{May-targets}
+use Rattle.sdv_behavior.specs.declared.behavior.Behavior.{Behavior}
+use Rattle.sdv_behavior.specs.declared.behavior.Behavior.TheVariants.{Prompt, LosesCommand, LosesAnswer, IsSlow, ReportsError, Refuses, CutsPhase}
+use Rattle.sdv_description.specs.declared.card_desc.CardDesc.{CardDesc}
+use Rattle.sdv_behavior.specs.declared.card_state.CardState.{CardState}
+use Rattle.sdv_behavior.specs.declared.heard.Deed.{Deed}
+use Rattle.sdv_behavior.specs.declared.heard.Deed.TheVariants.{Loses, TakesUnheard, Takes, Stays}
+use Rattle.sdv_behavior.specs.CardOf.{card_with}
+use Rattle.sdv_description.proofs.Described.{IsDescribed}
+use Rattle.sdv_behavior.specs.Heard.{reports, row_deed, does, is_erase}
+use Rattle.sdv_description.specs.Registers.{cid_of}
+use Rattle.sdv_behavior.specs.Replies.{reply_of, shows_app}
+use Rattle.sdv_behavior.specs.RowTaken.{state_next, taken_by, stays}
+use Rattle.sdv_behavior.proofs.Told.{Tells, LeavesBlocks}
+use Rattle.sdv_behavior.specs.Words.{status_word, address_word, conditions_word}
+use Rattle.sdv_behavior.proofs.TakenLaw.{announced_with, is_refused, taken_law, stayed_law}
+use Rattle.sdv_behavior.proofs.WordLaws.{status_shows, conditions_show, sd_unit, emmc_unit, address_shows}
+
+-- an answer of the tables at t, which leaves u, as the reply tells it
+pub record RowTold (order : Order) (row : Row) (argument : ℕ) (t u : Card) (reply : Option Reply) : Type 0 where
+  pub answer : Answer
+  pub told : Tells reply answer
+  pub is_reply : IfSome reply IsReply
+  pub answered : RowAnswer (response_of row) order row argument t answer u
+
+-- DEEDS
+
+-- CMD0 is taken, and an error is reported only in a status
+abbrev pub DeedFits : Deed → Row → Type 0
+DeedFits Loses Cmd0 = ⊥
+DeedFits Loses row = Unit {0}
+DeedFits TakesUnheard Cmd0 = ⊥
+DeedFits TakesUnheard row = Unit {0}
+DeedFits (Takes error) row = Unit {0}
+DeedFits Stays row = reports (response_of row) ≡ true
+
+deed_fits : (behavior : Behavior) (row : Row) → DeedFits (row_deed behavior row) row
+deed_fits LosesCommand Cmd0 = tt
+deed_fits LosesCommand row = tt
+deed_fits LosesAnswer Cmd0 = tt
+deed_fits LosesAnswer row = tt
+deed_fits ReportsError Cmd0 = tt
+deed_fits ReportsError row = tt
+deed_fits Refuses Cmd0 = tt
+deed_fits Refuses Cmd1 = tt
+deed_fits Refuses Cmd2 = tt
+deed_fits Refuses Cmd7NotAddressed = tt
+deed_fits Refuses Cmd8Sd = tt
+deed_fits Refuses Cmd9 = tt
+deed_fits Refuses Cmd10 = tt
+deed_fits Refuses (Acmd41 high) = tt
+deed_fits Refuses row = refl
+deed_fits Prompt Cmd0 = tt
+deed_fits Prompt row = tt
+deed_fits IsSlow Cmd0 = tt
+deed_fits IsSlow row = tt
+deed_fits CutsPhase Cmd0 = tt
+deed_fits CutsPhase row = tt
+
+-- the blocks that the host announced last, as the deed leaves them
+abbrev pub announced_by : Deed → Row → ℕ → ℕ
+announced_by Loses row before = before
+announced_by Stays row before = before
+announced_by deed row before = announced_with row before
+
+-- WHERE NO CARD IS ADDRESSED the host hears nothing
+unheard_answer : (order : Order) → Tells None (unaddressed_answer order)
+unheard_answer DeselectCards = inl refl
+unheard_answer order = inr refl
+
+-- an error that is not pending is shown by no status
+no_error : (t u : Card) (shown : Bool) → t.doubt ≡ false → u.doubt ≡ false → ErrorShown t shown u
+no_error t u shown before after = record {
+  ends = after ∙ sym (ap (λ v. v && not shown) before);
+  must = λ tran pending. absurd (let f : true ≡ false = sym pending ∙ before in cc);
+}
+
+-- a card that is asked for its conditions is ready, or idle
+conditions_state : (k : Kind) (high ready : Bool) (state : State) {target : State} → May (targets (rows k (Acmd41 high)) state) target → is_ready_state (state_next k (Acmd41 high) ready state) ≡ ready
+conditions_state Emmc high ready state m = absurd m.one
+conditions_state Sd high true Idle m = refl
+conditions_state Sd high false Idle m = refl
+conditions_state Sd high ready state m = absurd m.one
+
+op_cond_state : (k : Kind) (ready : Bool) (state : State) {target : State} → May (targets (rows k Cmd1) state) target → is_ready_state (state_next k Cmd1 ready state) ≡ ready
+op_cond_state Sd ready state m = absurd m.one
+op_cond_state Emmc true Idle m = refl
+op_cond_state Emmc false Idle m = refl
+op_cond_state Emmc ready state m = absurd m.one
+
+left_after : (row : Row) (capacity : ℕ) (contents after : List Block) → LeavesBlocks (is_erase row) capacity contents after → ContentsAfter row capacity contents after
+left_after Cmd38 capacity contents after l = l
+left_after row capacity contents after l = l
+
+register_reply : (bytes : List ℕ) → IsRegister 15 bytes → IsReply (R2 bytes)
+register_reply bytes r = (r.size, recursion_from_All _ bytes r.bytes_fit)
+
+cid_reply : (k : Kind) → IsReply (R2 (cid_of k))
+cid_reply Sd = (refl, (lit< tt, (lit< tt, (lit< tt, (lit< tt, (lit< tt, (lit< tt, (lit< tt, (lit< tt, (lit< tt, (lit< tt, (lit< tt, (lit< tt, (lit< tt, (lit< tt, (lit< tt, tt))))))))))))))))
+cid_reply Emmc = (refl, (lit< tt, (lit< tt, (lit< tt, (lit< tt, (lit< tt, (lit< tt, (lit< tt, (lit< tt, (lit< tt, (lit< tt, (lit< tt, (lit< tt, (lit< tt, (lit< tt, (lit< tt, tt))))))))))))))))
+
+index_small : (row : Row) → row_index row < 2 ^ 6
+index_small Cmd0 = lit< tt
+index_small row = lit< tt
+
+-- THE ROWS
+
+module _ (d : CardDesc) (is : IsDescribed d) (csd : IsRegister 15 d.csd) (order : Order) (argument : ℕ) (t : CardState) (announced : ℕ) (contents : List Block) where
+  abbrev before : Card
+  before = card_with d t announced contents
+
+  -- the card after a row that it takes
+  abbrev taken : Row → Bool → List Block → Card
+  taken row ready contents' = card_with d (taken_by d row argument ready t) (announced_with row announced) contents'
+
+  -- the command did not reach it
+  lost : (row : Row) → DeedFits Loses row → RowTold order row argument before before None
+  lost Cmd0 f = absurd f
+  lost Cmd7NotAddressed f = record { answer = unaddressed_answer order; told = unheard_answer order; is_reply = tt; answered = (refl, inl refl) }
+  lost row f = record { answer = TimeOut; told = inr refl; is_reply = tt; answered = inl refl }
+
+  -- the answer did not reach the host
+  unheard_row : (row : Row) (u : Card) → DeedFits TakesUnheard row → Taken row argument before u → false ≡ u.doubt → RowTold order row argument before u None
+  unheard_row Cmd0 u f taken error = absurd f
+  unheard_row Cmd7NotAddressed u f taken error = record { answer = unaddressed_answer order; told = unheard_answer order; is_reply = tt; answered = (refl, inr (record { card = taken; error = error })) }
+  unheard_row row u f taken error = record { answer = TimeOut; told = inr refl; is_reply = tt; answered = inr (inl (record { card = taken; error = error })) }
+
+  -- CMD8 of an SD card, by its version
+  interface : (contents' : List Block) (ready is_2 : Bool) → (d.version == 2) ≡ is_2 → Taken Cmd8Sd argument before (taken Cmd8Sd ready contents') →
+      RowTold order Cmd8Sd argument before (taken Cmd8Sd ready contents') (if is_2 then Some (R7 0x1aa) else None)
+  interface contents' ready true e card = record {
+    answer = Replied (R7 0x1aa);
+    told = refl;
+    is_reply = lit< tt;
+    answered = record { shown = record { is_word = lit< tt; echo = refl; version = eqb-true d.version 2 e }; card = card; error = refl };
+  }
+  interface contents' ready false e card = record { answer = TimeOut; told = inr refl; is_reply = tt; answered = inr (inl (record { card = card; error = refl })) }
+
+  -- it takes the row and answers
+  answered_row : (row : Row) (error ready : Bool) (contents' : List Block) → RowLegal row before → Taken row argument before (taken row ready contents') →
+      RowTold order row argument before (taken row ready contents') (reply_of d row t.state true error ready)
+  answered_row Cmd0 error ready contents' legal card = record { answer = Sent; told = inl refl; is_reply = tt; answered = record { card = card; error = refl } }
+  answered_row Cmd1 error ready contents' legal card =
+      let s = conditions_show Emmc d.block_unit ready in
+      let e = op_cond_state d.kind ready t.state (May-targets legal.has_row) in
+      record {
+        answer = Replied (R3 (conditions_word Emmc d.block_unit ready));
+        told = refl;
+        is_reply = s.is_word;
+        answered = record {
+          is_word = s.is_word;
+          windows = s.windows;
+          ready = s.ready ∙ sym e;
+          unit = λ r. let is : ready ≡ true = sym e ∙ r in subst (λ v. access_mode (conditions_word Emmc d.block_unit v) ≡ (if d.block_unit then 2 else 0)) (sym is) (emmc_unit d.block_unit);
+          card = card;
+          error = refl;
+        };
+      }
+  answered_row Cmd2 error ready contents' legal card = record { answer = Replied (R2 (cid_of d.kind)); told = refl; is_reply = cid_reply d.kind; answered = record { shown = refl; card = card; error = refl } }
+  answered_row Cmd3Sd error ready contents' legal card =
+      let s = address_shows d.rca error t.state is.address_fits in
+      record {
+        answer = Replied (R6 (address_word d.rca t.state error));
+        told = refl;
+        is_reply = s.is_word;
+        answered = record { is_word = s.is_word; state = s.state; card = inl (record { card = card; rca = ap Some s.rca }); error = refl };
+      }
+  answered_row Cmd7NotAddressed error ready contents' legal card = unheard_row Cmd7NotAddressed _ tt card refl
+  answered_row Cmd8Sd error ready contents' legal card = interface contents' ready (d.version == 2) refl card
+  answered_row Cmd9 error ready contents' legal card = record { answer = Replied (R2 d.csd); told = refl; is_reply = register_reply d.csd csd; answered = record { shown = refl; card = card; error = refl } }
+  answered_row Cmd10 error ready contents' legal card = record { answer = Replied (R2 (cid_of d.kind)); told = refl; is_reply = cid_reply d.kind; answered = record { shown = refl; card = card; error = refl } }
+  answered_row (Acmd41 high) error ready contents' legal card =
+      let s = conditions_show Sd d.block_unit ready in
+      let e = conditions_state d.kind high ready t.state (May-targets legal.has_row) in
+      record {
+        answer = Replied (R3 (conditions_word Sd d.block_unit ready));
+        told = refl;
+        is_reply = s.is_word;
+        answered = record {
+          is_word = s.is_word;
+          windows = s.windows;
+          ready = s.ready ∙ sym e;
+          unit = λ r. let is : ready ≡ true = sym e ∙ r in subst (λ v. ccs (conditions_word Sd d.block_unit v) ≡ d.block_unit) (sym is) (sd_unit d.block_unit);
+          card = card;
+          error = refl;
+        };
+      }
+  answered_row Cmd55 error ready contents' legal card =
+      let s = status_shows true error t.state in
+      record {
+        answer = Replied (R1 55 (status_word t.state true error));
+        told = refl;
+        is_reply = (lit< tt, s.is_word);
+        answered = record { is_word = s.is_word; same_index = refl; state = s.state; card = inl card; app = s.app; error = no_error _ _ _ refl refl };
+      }
+  answered_row row error ready contents' legal card =
+      let s = status_shows (shows_app row) error t.state in
+      record {
+        answer = Replied (R1 (row_index row) (status_word t.state (shows_app row) error));
+        told = refl;
+        is_reply = (index_small row, s.is_word);
+        answered = record { is_word = s.is_word; same_index = refl; state = s.state; card = inl card; app = tt; error = no_error _ _ _ refl refl };
+      }
+
+  -- it did not take the row, and answers with an error
+  stayed_row : (row : Row) (ready : Bool) → reports (response_of row) ≡ true →
+      RowTold order row argument before (card_with d (stays t) announced contents) (reply_of d row t.state false true ready)
+  stayed_row Cmd0 ready f = absurd (let f : false ≡ true = f in cc)
+  stayed_row Cmd1 ready f = absurd (let f : false ≡ true = f in cc)
+  stayed_row Cmd2 ready f = absurd (let f : false ≡ true = f in cc)
+  stayed_row Cmd7NotAddressed ready f = absurd (let f : false ≡ true = f in cc)
+  stayed_row Cmd8Sd ready f = absurd (let f : false ≡ true = f in cc)
+  stayed_row Cmd9 ready f = absurd (let f : false ≡ true = f in cc)
+  stayed_row Cmd10 ready f = absurd (let f : false ≡ true = f in cc)
+  stayed_row (Acmd41 high) ready f = absurd (let f : false ≡ true = f in cc)
+  stayed_row Cmd3Sd ready f =
+      let s = address_shows d.rca true t.state is.address_fits in
+      record {
+        answer = Replied (R6 (address_word d.rca t.state true));
+        told = refl;
+        is_reply = s.is_word;
+        answered = record { is_word = s.is_word; state = s.state; card = inr (s.error, stayed_law d is Cmd3Sd argument t announced contents); error = refl };
+      }
+  stayed_row Cmd55 ready f =
+      let s = status_shows false true t.state in
+      record {
+        answer = Replied (R1 55 (status_word t.state false true));
+        told = refl;
+        is_reply = (lit< tt, s.is_word);
+        answered = record { is_word = s.is_word; same_index = refl; state = s.state; card = inr (s.error, stayed_law d is Cmd55 argument t announced contents); app = s.app; error = no_error _ _ _ refl refl };
+      }
+  stayed_row row ready f =
+      let s = status_shows false true t.state in
+      record {
+        answer = Replied (R1 (row_index row) (status_word t.state false true));
+        told = refl;
+        is_reply = (index_small row, s.is_word);
+        answered = record { is_word = s.is_word; same_index = refl; state = s.state; card = inr (s.error, stayed_law d is row argument t announced contents); app = tt; error = no_error _ _ _ refl refl };
+      }
+
+  -- a row, by the deed
+  does_law : (deed : Deed) (row : Row) (ready : Bool) (contents' : List Block) → DeedFits deed row → (is_refused row d.block_unit ≡ true → ready ≡ false) → RowLegal row before →
+      LeavesBlocks (does d deed row argument ready t).erases d.capacity contents contents' →
+      RowTold order row argument before (card_with d (does d deed row argument ready t).after (announced_by deed row announced) contents') (does d deed row argument ready t).reply
+  does_law Loses row ready contents' f only legal left = subst (λ cs. RowTold order row argument before (card_with d t announced cs) None) left (lost row f)
+  does_law TakesUnheard row ready contents' f only legal left =
+      unheard_row row _ f (taken_law d is row argument t announced contents ready contents' only legal (left_after row d.capacity contents contents' left)) refl
+  does_law (Takes error) row ready contents' f only legal left =
+      answered_row row error ready contents' legal (taken_law d is row argument t announced contents ready contents' only legal (left_after row d.capacity contents contents' left))
+  does_law Stays row ready contents' f only legal left =
+      subst (λ cs. RowTold order row argument before (card_with d (stays t) announced cs) (reply_of d row t.state false true ready)) left (stayed_row row ready f)
+
+  -- a row, by the behavior
+  pub behaves_law : (behavior : Behavior) (row : Row) (ready : Bool) (contents' : List Block) → (is_refused row d.block_unit ≡ true → ready ≡ false) → RowLegal row before →
+      LeavesBlocks (does d (row_deed behavior row) row argument ready t).erases d.capacity contents contents' →
+      RowTold order row argument before (card_with d (does d (row_deed behavior row) row argument ready t).after (announced_by (row_deed behavior row) row announced) contents') (does d (row_deed behavior row) row argument ready t).reply
+  behaves_law behavior row ready contents' only legal left = does_law (row_deed behavior row) row ready contents' (deed_fits behavior row) only legal left

@@ -1,0 +1,13 @@
+pub mod Told
+pub mod TakenLaw
+pub mod WordLaws
+pub mod DoesLaw
+pub mod HearLaw
+pub mod CommandLaws
+pub mod AcceptLaws
+pub mod CountLaw
+pub mod AnswerShown
+pub mod SendLaw
+pub mod PhaseLaws
+pub mod SimKeeps
+pub mod StartLaw

@@ -1,0 +1,159 @@
+-- What a simulator leaves of a card that takes a row is what the tables say of that row, part by part.
+use Rattle.std.proofs.Common.{◌≡◌, ℕ, ◌<◌, inl, refl, Bool, true, false, List, [], ◌∷◌, Option}
+use Rattle.sdv_registers.specs.declared.kind.Kind.{Kind}
+use Rattle.sdv_registers.specs.declared.kind.Kind.TheVariants.{Sd, Emmc}
+use Rattle.sdv_card.specs.declared.state.State.{State}
+use Rattle.sdv_card.specs.declared.state.State.TheVariants.{Idle, Ready}
+use Rattle.sdv_card.specs.declared.command.Row.{Row}
+use Rattle.sdv_card.specs.declared.command.Row.TheVariants.{Cmd0, Cmd1, Cmd3Sd, Cmd13, Cmd16, Cmd17, Cmd18, Cmd24, Cmd25, Cmd55, Acmd13, Acmd41}
+use Rattle.sdv_card.specs.Lists.{May, IsOneOf}
+use Rattle.sdv_card.specs.StateTable.{◌to◌, rows, targets}
+use Rattle.sdv_card.specs.RowRules.{may_reach, app_after, erase_stayed, preset_after, preset_kept}
+use Rattle.sdv_card.specs.Card.{Block}
+use Rattle.sdv_card.specs.Legal.{RowLegal}
+use Rattle.sdv_card.specs.Taken.{Taken, Stayed, SameCard, LengthAfter, RcaAfter, BlocksAfter, ContentsAfter}
+use Rattle.sdv_card.proofs.Members.{here, there, May-targets, May-from_targets}
+use Rattle.sdv_behavior.specs.declared.behavior.Behavior.{Behavior}
+use Rattle.sdv_behavior.specs.declared.behavior.Behavior.TheVariants.{IsSlow}
+use Rattle.sdv_description.specs.declared.card_desc.CardDesc.{CardDesc}
+use Rattle.sdv_behavior.specs.declared.card_state.CardState.{CardState}
+use Rattle.sdv_behavior.specs.CardOf.{card_with}
+use Rattle.sdv_description.proofs.Described.{IsDescribed}
+use Rattle.sdv_behavior.specs.Heard.{is_ready}
+use Rattle.sdv_behavior.specs.RowTaken.{first_of, state_next, rca_next, app_next, length_next, preset_next, taken_by, stays}
+
+-- STATE
+
+first_is_one : (ss : List State) (s : State) (x : State) → IsOneOf ss x → IsOneOf ss (first_of ss s)
+first_is_one [] s x m = absurd m
+first_is_one (y ∷ ss) s x m = inl refl
+
+first_target : (k : Kind) (row : Row) (state : State) {target : State} → May (targets (rows k row) state) target → May (rows k row) (state to first_of (targets (rows k row) state) state)
+first_target k row state m = May-from_targets (record { one = first_is_one (targets (rows k row) state) state _ m.one })
+
+-- a card that is asked for its conditions is idle, and may stay so
+idle_still : (k : Kind) (state : State) {target : State} → May (targets (rows k Cmd1) state) target → May (rows k Cmd1) (state to state)
+idle_still Sd state m = absurd m.one
+idle_still Emmc Idle m = there (here refl)
+idle_still Emmc state m = absurd m.one
+
+sd_idle_still : (k : Kind) (high : Bool) (state : State) {target : State} → May (targets (rows k (Acmd41 high)) state) target → May (rows k (Acmd41 high)) (state to state)
+sd_idle_still Emmc high state m = absurd m.one
+sd_idle_still Sd high Idle m = there (here refl)
+sd_idle_still Sd high state m = absurd m.one
+
+state_law : (k : Kind) (row : Row) (ready : Bool) (state : State) {target : State} → May (targets (rows k row) state) target → May (rows k row) (state to state_next k row ready state)
+state_law k Cmd1 false state m = idle_still k state m
+state_law k Cmd1 true state m = first_target k Cmd1 state m
+state_law k (Acmd41 high) false state m = sd_idle_still k high state m
+state_law k (Acmd41 high) true state m = first_target k (Acmd41 high) state m
+state_law k row ready state m = first_target k row state m
+
+-- a card with block addresses whose host cannot work with them
+abbrev pub is_refused : Row → Bool → Bool
+is_refused (Acmd41 false) true = true
+is_refused row block_unit = false
+
+pub not_ready : (behavior : Behavior) (row : Row) (block_unit checked : Bool) → is_refused row block_unit ≡ true → is_ready behavior row block_unit checked ≡ false
+not_ready IsSlow row block_unit checked e = refl
+not_ready behavior (Acmd41 false) true checked e = refl
+not_ready behavior (Acmd41 false) false checked e = absurd (let f : false ≡ true = e in cc)
+not_ready behavior (Acmd41 true) block_unit checked e = absurd (let f : false ≡ true = e in cc)
+not_ready behavior row block_unit checked e = absurd (let f : false ≡ true = e in cc)
+
+reached_still : (k : Kind) (state : State) {target : State} → May (targets (rows k (Acmd41 false)) state) target → may_reach (Acmd41 false) true state ≡ true
+reached_still Emmc state m = absurd m.one
+reached_still Sd Ready m = absurd m.one
+reached_still Sd state m = refl
+
+reached_law : (k : Kind) (row : Row) (block_unit ready : Bool) (state : State) {target : State} → (is_refused row block_unit ≡ true → ready ≡ false) →
+    May (targets (rows k row) state) target → may_reach row block_unit (state_next k row ready state) ≡ true
+reached_law k (Acmd41 false) true true state only m = absurd (let f : true ≡ false = only refl in cc)
+reached_law k (Acmd41 false) true false state only m = reached_still k state m
+reached_law k row block_unit ready state only m = refl
+
+-- THE OTHER PARTS
+
+app_law : (row : Row) → May (app_after row) (app_next row)
+app_law Cmd55 = there (here refl)
+app_law row = here refl
+
+preset_law : (k : Kind) (row : Row) (preset : ℕ) → May (preset_after k row preset) (preset_next row preset)
+preset_law Sd Cmd0 preset = here refl
+preset_law Sd row preset = here refl
+preset_law Emmc Cmd0 preset = here refl
+preset_law Emmc row preset = here refl
+
+preset_stays : (k : Kind) (preset : ℕ) → May (preset_kept k preset) preset
+preset_stays Sd preset = here refl
+preset_stays Emmc preset = here refl
+
+rca_law : (described : ℕ) (row : Row) (rca : Option ℕ) → 0 < described → described < 65536 → RcaAfter row rca (rca_next described row rca)
+rca_law described Cmd0 rca some fits = refl
+rca_law described Cmd3Sd rca some fits = (described, refl, some, fits)
+rca_law described row rca some fits = refl
+
+length_law : (described : ℕ) (row : Row) (block_unit : Bool) (length : ℕ) → (block_unit ≡ true → described ≡ 512) → LengthAfter row block_unit length (length_next described row length)
+length_law described Cmd0 true length whole = whole refl
+length_law described Cmd0 false length whole = tt
+length_law described Cmd16 block_unit length whole = refl
+length_law described row block_unit length whole = refl
+
+erase_stays : (row : Row) (t : CardState) → May (erase_stayed row t.erase) t.erase
+erase_stays Cmd13 t = here refl
+erase_stays Acmd13 t = here refl
+erase_stays row t = here refl
+
+-- the blocks that the host announced last, by what it announces with a row
+abbrev pub announced_with : Row → ℕ → ℕ
+announced_with Cmd17 before = 1
+announced_with (Cmd18 n) before = n
+announced_with Cmd24 before = 1
+announced_with (Cmd25 n) before = n
+announced_with row before = before
+
+blocks_law : (d : CardDesc) (row : Row) (argument : ℕ) (ready : Bool) (t : CardState) (announced : ℕ) (contents contents' : List Block) →
+    BlocksAfter row argument (card_with d t announced contents) (card_with d (taken_by d row argument ready t) (announced_with row announced) contents')
+blocks_law d Cmd17 argument ready t announced contents contents' = record { block = refl; count_is = refl }
+blocks_law d (Cmd18 n) argument ready t announced contents contents' = record { block = refl; count_is = refl }
+blocks_law d Cmd24 argument ready t announced contents contents' = record { block = refl; count_is = refl }
+blocks_law d (Cmd25 n) argument ready t announced contents contents' = record { block = refl; count_is = refl }
+blocks_law d row argument ready t announced contents contents' = record { block = refl; count_is = refl }
+
+same_card : (d : CardDesc) (t u : CardState) (n m : ℕ) (contents contents' : List Block) → SameCard (card_with d t n contents) (card_with d u m contents')
+same_card d t u n m contents contents' = record { kind = refl; version = refl; block_unit = refl; capacity = refl; csd = refl; cid = refl; ext_csd = refl; scr = refl; sd_status = refl }
+
+-- THE ROW
+
+module _ (d : CardDesc) (is : IsDescribed d) (row : Row) (argument : ℕ) (t : CardState) (announced : ℕ) (contents : List Block) where
+  pub taken_law : (ready : Bool) (contents' : List Block) → (is_refused row d.block_unit ≡ true → ready ≡ false) → RowLegal row (card_with d t announced contents) →
+      ContentsAfter row d.capacity contents contents' → Taken row argument (card_with d t announced contents) (card_with d (taken_by d row argument ready t) (announced_with row announced) contents')
+  taken_law ready contents' only legal left =
+      let m = May-targets legal.has_row in
+      record {
+        same = same_card d t (taken_by d row argument ready t) announced (announced_with row announced) contents contents';
+        state = state_law d.kind row ready t.state m;
+        reached = reached_law d.kind row d.block_unit ready t.state only m;
+        app = app_law row;
+        erase = refl;
+        block_length = length_law d.block_length row d.block_unit t.block_length is.length;
+        preset = preset_law d.kind row t.preset;
+        rca = rca_law d.rca row t.rca is.some_address is.address_fits;
+        transfer = refl;
+        blocks = blocks_law d row argument ready t announced contents contents';
+        contents = left;
+      }
+
+  pub stayed_law : Stayed row (card_with d t announced contents) (card_with d (stays t) announced contents)
+  stayed_law = record {
+    same = same_card d t (stays t) announced announced contents contents;
+    state = refl;
+    app = refl;
+    erase = erase_stays row t;
+    block_length = refl;
+    preset = preset_stays d.kind t.preset;
+    rca = refl;
+    transfer = refl;
+    blocks = record { block = refl; count_is = refl };
+    contents = refl;
+  }

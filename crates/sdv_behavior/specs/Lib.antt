@@ -1,0 +1,10 @@
+pub mod Schedules
+pub mod CardOf
+pub mod RowTaken
+pub mod Words
+pub mod Replies
+pub mod Heard
+pub mod Commands
+pub mod Accepts
+pub mod Accepted
+pub mod SimSteps

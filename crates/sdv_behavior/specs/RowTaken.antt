@@ -1,0 +1,107 @@
+-- What a simulated card is after a row that it takes, part by part.
+-- SD Physical Layer Simplified Specification, sections 4.2, 4.3 and 4.8; JESD84-B51, sections 6.4, 6.6 and 6.11.
+-- Where the tables leave a choice, the one that is made here is this project's own.
+use Rattle.std.specs.Prelude.{Bool, true, false, ℕ, ◌==◌, List, [], ◌∷◌, Option, Some, None, if◌then◌else◌}
+use Rattle.sdv_registers.specs.declared.kind.Kind.{Kind}
+use Rattle.sdv_card.specs.declared.state.State.{State}
+use Rattle.sdv_card.specs.declared.command.Row.{Row}
+use Rattle.sdv_card.specs.declared.command.Row.TheVariants.{Cmd0, Cmd1, Cmd3Sd, Cmd3Emmc, Cmd8Sd, Cmd16, Cmd17, Cmd18, Cmd23, Cmd24, Cmd25, Cmd32, Cmd33, Cmd35, Cmd36, Cmd55, Acmd41}
+use Rattle.sdv_card.specs.StateTable.{rows, targets}
+use Rattle.sdv_card.specs.RowRules.{erase_after, transfer_after}
+use Rattle.sdv_card.specs.Taken.{block_of}
+use Rattle.sdv_description.specs.declared.card_desc.CardDesc.{CardDesc}
+use Rattle.sdv_behavior.specs.declared.card_state.CardState.{CardState}
+
+-- the first of some states
+abbrev pub first_of : List State → State → State
+first_of [] state = state
+first_of (s ∷ rest) state = s
+
+-- STATE: the one to which the state table leads; after CMD1 and ACMD41 the card is ready, or still idle
+abbrev pub state_next : Kind → Row → (ready : Bool) → State → State
+state_next k Cmd1 false state = state
+state_next k (Acmd41 high) false state = state
+state_next k row ready state = first_of (targets (rows k row) state) state
+
+-- RELATIVE ADDRESS: an SD card has the described one, an e.MMC device the one that it is given
+abbrev pub rca_next : (described : ℕ) → Row → Option ℕ → Option ℕ
+rca_next described Cmd0 rca = None
+rca_next described Cmd3Sd rca = Some described
+rca_next described Cmd3Emmc rca = Some 1
+rca_next described row rca = rca
+
+-- APPLICATION FLAG
+abbrev pub app_next : Row → Bool
+app_next Cmd55 = true
+app_next row = false
+
+-- BLOCK LENGTH
+abbrev pub length_next : (described : ℕ) → Row → ℕ → ℕ
+length_next described Cmd0 length = described
+length_next described Cmd16 length = 512
+length_next described row length = length
+
+-- PRESET COUNT: it is kept
+abbrev pub preset_next : Row → ℕ → ℕ
+preset_next Cmd0 preset = 0
+preset_next (Cmd18 n) preset = 0
+preset_next (Cmd23 n) preset = n
+preset_next (Cmd25 n) preset = 0
+preset_next row preset = preset
+
+-- BLOCKS OF A TRANSFER: the block that the argument names; where no count was preset the transfer is open, with one block
+abbrev pub block_next : Row → (block_unit : Bool) → (argument : ℕ) → ℕ → ℕ
+block_next Cmd17 block_unit argument block = block_of block_unit argument
+block_next (Cmd18 n) block_unit argument block = block_of block_unit argument
+block_next Cmd24 block_unit argument block = block_of block_unit argument
+block_next (Cmd25 n) block_unit argument block = block_of block_unit argument
+block_next row block_unit argument block = block
+
+-- the preset count, or one block
+abbrev pub count_of : ℕ → ℕ
+count_of preset = if preset == 0 then 1 else preset
+
+abbrev pub announced_next : Row → (preset : ℕ) → ℕ → ℕ
+announced_next Cmd17 preset announced = 1
+announced_next (Cmd18 n) preset announced = count_of preset
+announced_next Cmd24 preset announced = 1
+announced_next (Cmd25 n) preset announced = count_of preset
+announced_next row preset announced = announced
+
+-- CMD8 of an SD card
+abbrev pub checked_next : Row → Bool → Bool
+checked_next Cmd0 checked = false
+checked_next Cmd8Sd checked = true
+checked_next row checked = checked
+
+-- BLOCKS OF AN ERASE
+abbrev pub first_next : Row → (block_unit : Bool) → (argument : ℕ) → ℕ → ℕ
+first_next Cmd32 block_unit argument block = block_of block_unit argument
+first_next Cmd35 block_unit argument block = block_of block_unit argument
+first_next row block_unit argument block = block
+
+abbrev pub last_next : Row → (block_unit : Bool) → (argument : ℕ) → ℕ → ℕ
+last_next Cmd33 block_unit argument block = block_of block_unit argument
+last_next Cmd36 block_unit argument block = block_of block_unit argument
+last_next row block_unit argument block = block
+
+-- the state after a row that the card takes
+abbrev pub taken_by : CardDesc → Row → (argument : ℕ) → (ready : Bool) → CardState → CardState
+taken_by d row argument ready t = record {
+  state = state_next d.kind row ready t.state;
+  rca = rca_next d.rca row t.rca;
+  app = app_next row;
+  block_length = length_next d.block_length row t.block_length;
+  erase = erase_after row t.erase;
+  preset = preset_next row t.preset;
+  transfer = transfer_after row t.preset t.transfer;
+  next_block = block_next row d.block_unit argument t.next_block;
+  announced = announced_next row t.preset t.announced;
+  checked = checked_next row t.checked;
+  erase_first = first_next row d.block_unit argument t.erase_first;
+  erase_last = last_next row d.block_unit argument t.erase_last;
+}
+
+-- the state of a card that did not take a command which reached it: the application flag is lost, all else is kept
+abbrev pub stays : CardState → CardState
+stays t = record t { app = false }

@@ -1,0 +1,198 @@
+-- What a simulator does at each call: an exact table, by the behavior that its schedule has for the event.
+-- The behaviors are this project's own. An event that is not legal at the card, or not in bounds, changes nothing.
+use Rattle.std.specs.Prelude.{◌≡◌, ◌≤◌, ◌⊎◌, ◌==◌, ◌&&◌, ◌||◌, ◌+◌, ◌-◌, nat_le, min, Bool, true, false, ℕ, List, [], ◌∷◌, ◌++◌, length, take, replicate, Option, Some, None, MatchBool, if◌then◌else◌}
+use Rattle.sdv_frames.specs.Frame.{IsCommand, IsCommandFrame, IsReplyFrame}
+use Rattle.sdv_frames.specs.declared.command.Command.{Command}
+use Rattle.sdv_frames.specs.declared.reply.Reply.{Reply}
+use Rattle.sdv_card.specs.declared.answer.DataEnd.{DataEnd}
+use Rattle.sdv_card.specs.declared.answer.DataEnd.TheVariants.{Ok, Cut}
+use Rattle.sdv_card.specs.declared.answer.WaitEnd.{WaitEnd}
+use Rattle.sdv_card.specs.declared.answer.WaitEnd.TheVariants.{Ok as Over, Late}
+use Rattle.sdv_card.specs.declared.command.Order.{Order}
+use Rattle.sdv_card.specs.declared.state.Place.{Place}
+use Rattle.sdv_card.specs.declared.state.State.{State}
+use Rattle.sdv_card.specs.declared.state.Transfer.{Transfer}
+use Rattle.sdv_card.specs.declared.state.Transfer.TheVariants.{ScrDue, SdStatusDue}
+use Rattle.sdv_card.specs.Card.{Card, Block}
+use Rattle.sdv_card.specs.Legal.{recv_legal, recv_reg_legal, give_legal, wait_legal}
+use Rattle.sdv_card.specs.Phases.{after_phase, after_wait}
+use Rattle.sdv_card.specs.Port.{DataIn, DataInRegister, DataOut, WaitWhileBusy}
+use Rattle.sdv_card.specs.ScriptEvent.{BlocksIn, RegisterIn, BlocksOut, Waited}
+use Rattle.sdv_card.specs.States.{is_open}
+use Rattle.sdv_controller.specs.declared.wire.WireEnd.{WireEnd}
+use Rattle.sdv_controller.specs.declared.wire.WireEnd.TheVariants.{Silent, Bytes}
+use Rattle.sdv_controller.specs.Wire.{WireCall, WireReturn, Transfer as TransferFrame, OtherCall, Transferred, OtherReturn}
+use Rattle.sdv_behavior.specs.declared.behavior.Behavior.{Behavior}
+use Rattle.sdv_behavior.specs.declared.behavior.Behavior.TheVariants.{IsSlow, CutsPhase}
+use Rattle.sdv_description.specs.declared.card_desc.CardDesc.{CardDesc}
+use Rattle.sdv_behavior.specs.declared.card_state.CardState.{CardState}
+use Rattle.sdv_behavior.specs.declared.heard.Heard.{Heard}
+use Rattle.sdv_behavior.specs.Accepts.{accepts}
+use Rattle.sdv_behavior.specs.CardOf.{card_of}
+use Rattle.sdv_behavior.specs.Commands.{order_read}
+use Rattle.sdv_behavior.specs.Heard.{hear, unheard}
+use Rattle.sdv_image.specs.Images.{HasFailed, Shown, OnlyAt, AreSized, zeros}
+use Rattle.sdv_description.specs.Registers.{scr, sd_status, ext_csd_of}
+use Rattle.sdv_behavior.specs.RowTaken.{first_of}
+use Rattle.sdv_behavior.specs.Schedules.{first_behavior, later_behaviors}
+
+-- a simulator, as its steps see it
+pub record SimState : Type 0 where
+  pub desc : CardDesc
+  pub card : CardState
+  -- the behaviors that are left
+  pub behaviors : List Behavior
+  -- of the image: its blocks, if it shows them, and how many of its calls failed
+  pub blocks : Option (List Block)
+  pub failed : ℕ
+
+abbrev pub state_with : CardDesc → CardState → List Behavior → Option (List Block) → (failed : ℕ) → SimState
+state_with desc card behaviors blocks failed = record { desc = desc; card = card; behaviors = behaviors; blocks = blocks; failed = failed }
+
+abbrev pub behavior_of : SimState → Behavior
+behavior_of s = first_behavior s.behaviors
+
+-- the card that a simulator shows, where its image shows its blocks
+abbrev pub shown_card : CardDesc → CardState → Option (List Block) → Option Card
+shown_card d s None = None
+shown_card d s (Some blocks) = Some (card_of d s blocks)
+
+abbrev pub card_shown : SimState → Option Card
+card_shown s = shown_card s.desc s.card s.blocks
+
+-- after a call: the description stays, the behavior is used up, and the card is in this state
+pub record Goes (card : CardState) (s s' : SimState) : Type 0 where
+  pub desc : s.desc ≡ s'.desc
+  pub behaviors : later_behaviors s.behaviors ≡ s'.behaviors
+  pub state : card ≡ s'.card
+
+-- COMMANDS
+
+abbrev pub heard_order : CardDesc → Behavior → Option Order → (argument : ℕ) → CardState → Heard
+heard_order d behavior None argument s = unheard s
+heard_order d behavior (Some order) argument s = if accepts d order argument s then hear d behavior order argument s else unheard s
+
+abbrev pub heard_of : SimState → Command → Heard
+heard_of s command = heard_order s.desc (behavior_of s) (order_read s.desc.kind s.card.preset command.index command.argument) command.argument s.card
+
+-- what a wire gives for an answer: its frame, or silence
+abbrev pub Gives : Option Reply → WireEnd → (response : List ℕ) → Type 0
+Gives None end response = Silent ≡ end
+Gives (Some reply) end response = (count : ℕ) × (Bytes count ≡ end) × (count ≤ 17) × IsReplyFrame reply (take count response)
+
+-- an erase writes zeros from the first to the last block that the card has; a failure ends it
+pub record Erased (first count size : ℕ) (s s' : SimState) : Type 0 where
+  pub others : OnlyAt first count s.blocks s'.blocks
+  pub fit : AreSized size s.blocks → AreSized size s'.blocks
+  pub erased : Shown first (zeros count) s'.blocks ⊎ HasFailed s.failed s'.failed
+
+abbrev pub BlocksLeft : (erases : Bool) → SimState → SimState → Type 0
+BlocksLeft false s s' = s.blocks ≡ s'.blocks
+BlocksLeft true s s' = Erased s.card.erase_first (min (s.card.erase_last + 1) s.desc.capacity - s.card.erase_first) s.desc.capacity s s'
+
+pub record Transfers (heard : Heard) (end : WireEnd) (response : List ℕ) (s s' : SimState) : Type 0 where
+  pub goes : Goes heard.after s s'
+  pub gives : Gives heard.reply end response
+  pub blocks : BlocksLeft heard.erases s s'
+
+-- DATA PHASES
+
+abbrev pub cuts : Behavior → Bool
+cuts CutsPhase = true
+cuts behavior = false
+
+-- a phase ends well, unless the behavior or a failure of the image cuts it
+abbrev pub EndFits : Behavior → (failed failed' : ℕ) → DataEnd → Type 0
+EndFits behavior failed failed' Ok = cuts behavior ≡ false
+EndFits behavior failed failed' Cut = (cuts behavior ≡ true) ⊎ HasFailed failed failed'
+
+-- where the card is after a phase: of more than one place the first, in which a phase that was cut is over
+abbrev pub first_place : List Place → CardState → CardState
+first_place [] s = s
+first_place (place ∷ rest) s = record s { state = place.state; transfer = place.transfer }
+
+abbrev pub phase_over : DataEnd → CardState → CardState
+phase_over end s = first_place (after_phase s.transfer end) s
+
+-- a block phase has blocks, the card has them, and a transfer that is not open has as many
+abbrev pub length_fits : CardDesc → CardState → ℕ → Bool
+length_fits d s count = nat_le 1 count && nat_le (s.next_block + count) d.capacity && (is_open s.transfer || (count == s.announced))
+
+abbrev pub receives : SimState → ℕ → Bool
+receives s count = recv_legal s.card.state s.card.transfer && length_fits s.desc s.card count
+
+abbrev pub takes_blocks : SimState → ℕ → Bool
+takes_blocks s count = give_legal s.card.state s.card.transfer && length_fits s.desc s.card count
+
+-- a phase that the card has not: it is cut, and nothing changes
+pub record Refused (end : DataEnd) (s s' : SimState) : Type 0 where
+  pub goes : Goes s.card s s'
+  pub end_is : Cut ≡ end
+  pub same : s.blocks ≡ s'.blocks
+
+-- a phase that ended well moved the true blocks
+abbrev pub IfEndedWell : DataEnd → Type 0 → Type 0
+IfEndedWell Ok fact = fact
+IfEndedWell Cut fact = Unit {0}
+
+pub record Receives (end : DataEnd) (blocks : List Block) (s s' : SimState) : Type 0 where
+  pub goes : Goes (phase_over end s.card) s s'
+  pub end_fits : EndFits (behavior_of s) s.failed s'.failed end
+  pub truth : IfEndedWell end (Shown s.card.next_block blocks s.blocks)
+  pub same : s.blocks ≡ s'.blocks
+
+-- the register that is due, and zeros after it
+abbrev pub register_of : Transfer → CardDesc → List ℕ
+register_of ScrDue d = scr
+register_of SdStatusDue d = sd_status
+register_of transfer d = ext_csd_of d.sectors
+
+abbrev pub padded : List ℕ → (count : ℕ) → List ℕ
+padded register count = take count (register ++ replicate count 0)
+
+abbrev pub receives_register : SimState → ℕ → Bool
+receives_register s count = recv_reg_legal s.card.state s.card.transfer && nat_le 1 count
+
+pub record ReceivesRegister (end : DataEnd) (bytes : List ℕ) (s s' : SimState) : Type 0 where
+  pub goes : Goes (phase_over end s.card) s s'
+  pub end_fits : EndFits (behavior_of s) s.failed s'.failed end
+  pub truth : IfEndedWell end (bytes ≡ padded (register_of s.card.transfer s.desc) (length bytes))
+  pub same : s.blocks ≡ s'.blocks
+
+pub record TakesBlocks (end : DataEnd) (blocks : List Block) (s s' : SimState) : Type 0 where
+  pub goes : Goes (phase_over end s.card) s s'
+  pub end_fits : EndFits (behavior_of s) s.failed s'.failed end
+  pub stored : IfEndedWell end (Shown s.card.next_block blocks s'.blocks)
+  pub others : OnlyAt s.card.next_block (length blocks) s.blocks s'.blocks
+  -- the behavior that cuts the phase stores nothing
+  pub nothing : cuts (behavior_of s) ≡ true → s.blocks ≡ s'.blocks
+  pub fit : AreSized s.desc.capacity s.blocks → AreSized s.desc.capacity s'.blocks
+
+-- WAITS
+
+abbrev pub wait_end : Behavior → WaitEnd
+wait_end IsSlow = Late
+wait_end behavior = Over
+
+abbrev pub wait_state : State → WaitEnd → CardState → CardState
+wait_state state end s = record s { state = first_of (after_wait state end) state }
+
+pub record Waits (end : WaitEnd) (s s' : SimState) : Type 0 where
+  pub goes : Goes (wait_state s.card.state end s.card) s s'
+  pub end_is : (if wait_legal s.card.state then wait_end (behavior_of s) else Over) ≡ end
+  pub same : s.blocks ≡ s'.blocks
+
+-- ALL CALLS
+
+abbrev pub SimSteps : SimState → WireCall → WireReturn → SimState → Type 0
+SimSteps s (TransferFrame frame) (Transferred end response) s' =
+    ((command : Command) → IsCommand command → IsCommandFrame command frame → Transfers (heard_of s command) end response s s')
+    × (((command : Command) → IsCommand command → IsCommandFrame command frame → ⊥) → Transfers (unheard s.card) end response s s')
+SimSteps s (OtherCall (DataIn count)) (OtherReturn (BlocksIn end blocks)) s' =
+    (length blocks ≡ count) × MatchBool (receives s count) (Receives end blocks s s') (Refused end s s')
+SimSteps s (OtherCall (DataInRegister count)) (OtherReturn (RegisterIn end bytes)) s' =
+    (length bytes ≡ count) × MatchBool (receives_register s count) (ReceivesRegister end bytes s s') (Refused end s s')
+SimSteps s (OtherCall (DataOut blocks)) (OtherReturn (BlocksOut end)) s' =
+    MatchBool (takes_blocks s (length blocks)) (TakesBlocks end blocks s s') (Refused end s s')
+SimSteps s (OtherCall WaitWhileBusy) (OtherReturn (Waited end)) s' = Waits end s s'
+SimSteps s call returned s' = ⊥

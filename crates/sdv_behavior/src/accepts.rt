@@ -1,0 +1,79 @@
+//! Which commands a simulated card accepts.
+
+ghost use Rattle.std.specs.Prelude.{◌≡◌};
+ghost use Rattle.sdv_card.specs.Laws.{order_blocks};
+ghost use Rattle.sdv_card.specs.LegalShapes.{order_legal};
+ghost use Rattle.sdv_behavior.specs.Accepts.{fields_at, has_blocks, accepts};
+
+use crate::card_state::CardState;
+use crate::heard::matches;
+use crate::rows::block_of;
+use sdv_card::laws::order_legal;
+use sdv_card::{Fields, Kind, Order};
+use sdv_description::CardDesc;
+use sdv_emmc::EmmcTable;
+use sdv_sd::SdTable;
+
+/// The card beside a host whose relative address is in the argument.
+fn fields_at(desc: &CardDesc, argument: u32, s: &CardState) -> Fields
+    ensures { result ≡ fields_at desc.now argument s.now }
+{
+    Fields {
+        state: s.state,
+        transfer: s.transfer,
+        erase: s.erase,
+        block_unit: desc.block_unit,
+        length_512: s.block_length == 512,
+        app: s.app,
+        matched: matches(s.rca, argument),
+        flags: 0,
+        preset: s.preset,
+    }
+}
+
+/// The order is legal at the fields, by the state table of the kind.
+fn is_legal(kind: Kind, order: Order, fields: &Fields) -> bool
+    ensures { result ≡ order_legal kind order fields.now }
+{
+    match kind {
+        Kind::Sd => order_legal::<SdTable>(order, fields),
+        Kind::Emmc => order_legal::<EmmcTable>(order, fields),
+    }
+}
+
+/// The blocks that a command addresses.
+fn order_blocks(order: Order) -> Option<u16>
+    ensures { result ≡ order_blocks order }
+{
+    match order {
+        Order::ReadMultipleBlock { count } | Order::WriteMultipleBlock { count } => Some(count),
+        Order::ReadSingleBlock
+        | Order::WriteBlock
+        | Order::EraseBlockStart
+        | Order::EraseBlockEnd
+        | Order::EraseGroupStart
+        | Order::EraseGroupEnd => Some(1),
+        _ => None,
+    }
+}
+
+/// The argument is the address of a block in the card's unit, and the card has so many blocks from there on.
+fn has_blocks(desc: &CardDesc, argument: u32, count: Option<u16>) -> bool
+    ensures { result ≡ has_blocks desc.now argument count }
+{
+    match count {
+        None => true,
+        Some(count) => {
+            (desc.block_unit || argument % 512 == 0)
+                && block_of(desc.block_unit, argument) + u64::from(count) <= desc.capacity
+        }
+    }
+}
+
+/// The command is legal in the card's state, and the card has its blocks.
+pub fn accepts(desc: &CardDesc, order: Order, argument: u32, s: &CardState) -> bool
+    ensures { result ≡ accepts desc.now order argument s.now }
+{
+    is_legal(desc.kind, order, &fields_at(desc, argument, s))
+        && has_blocks(desc, argument, order_blocks(order))
+}

@@ -1,0 +1,9 @@
+//! What holds of simulated cards, whatever they are asked.
+
+ghost use Rattle.sdv_behavior.specs.Accepted.{AcceptsExactly};
+
+/// A simulated card accepts a command exactly where it is legal at the card and in bounds, from some position that the
+/// argument names. The counts of CMD18 and CMD25 are those that the card reads: the preset one, or one block.
+pub fn accepts_exactly()
+    ensures { AcceptsExactly }
+{}

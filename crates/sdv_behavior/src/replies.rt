@@ -1,0 +1,100 @@
+//! How a simulated card answers a row.
+
+ghost use Rattle.std.specs.Prelude.{◌≡◌, ◌<◌, ◌^◌, IfSome};
+ghost use Rattle.sdv_frames.specs.Frame.{HasIndex};
+ghost use Rattle.sdv_card.specs.Responses.{row_index};
+ghost use Rattle.sdv_description.specs.Registers.{cid_of};
+ghost use Rattle.sdv_behavior.specs.Replies.{shows_app, reply_of};
+
+use crate::words::{address_word, conditions_word, status_word};
+use sdv_card::{Kind, Row, State};
+use sdv_description::CardDesc;
+use sdv_frames::Reply;
+
+/// Bits 127..8 of the CID.
+fn cid_of(kind: Kind) -> [u8; 15]
+    ensures { result ≡ cid_of kind }
+{
+    match kind {
+        Kind::Sd => [
+            0x00, 0x58, 0x58, 0x53, 0x44, 0x56, 0x20, 0x20, 0x10, 0x00, 0x00, 0x00, 0x01, 0x01,
+            0x81,
+        ],
+        Kind::Emmc => [
+            0x00, 0x01, 0x58, 0x53, 0x44, 0x56, 0x45, 0x52, 0x49, 0x10, 0x00, 0x00, 0x00, 0x01,
+            0x17,
+        ],
+    }
+}
+
+/// The index of the command in a row that is answered with an R1, and of others.
+fn row_index(row: Row) -> u8
+    ensures index { result ≡ row_index row }
+    ensures small { result < 64 }
+{
+    match row {
+        Row::Cmd0 => 0,
+        Row::Cmd1 => 1,
+        Row::Cmd2 => 2,
+        Row::Cmd3Sd | Row::Cmd3Emmc => 3,
+        Row::Cmd7Addressed | Row::Cmd7NotAddressed => 7,
+        Row::Cmd8Sd | Row::Cmd8Emmc => 8,
+        Row::Cmd9 => 9,
+        Row::Cmd10 => 10,
+        Row::Cmd12 => 12,
+        Row::Cmd13 | Row::Acmd13 => 13,
+        Row::Cmd16 => 16,
+        Row::Cmd17 => 17,
+        Row::Cmd18 { .. } => 18,
+        Row::Cmd23 { .. } => 23,
+        Row::Cmd24 => 24,
+        Row::Cmd25 { .. } => 25,
+        Row::Cmd32 => 32,
+        Row::Cmd33 => 33,
+        Row::Cmd35 => 35,
+        Row::Cmd36 => 36,
+        Row::Cmd38 => 38,
+        Row::Acmd41 { .. } => 41,
+        Row::Acmd51 => 51,
+        Row::Cmd55 => 55,
+    }
+}
+
+/// The answer shows bit 5.
+fn shows_app(row: Row) -> bool
+    ensures { result ≡ shows_app row }
+{
+    match row {
+        Row::Cmd55 | Row::Acmd13 | Row::Acmd51 => true,
+        _ => false,
+    }
+}
+
+/// The answer of a card that took the row, or stayed, in a state.
+pub fn reply_of(
+    desc: &CardDesc,
+    row: Row,
+    state: State,
+    took: bool,
+    error: bool,
+    ready: bool,
+) -> Option<Reply>
+    ensures reply { result ≡ reply_of desc.now row state took error ready }
+    ensures index { IfSome result HasIndex }
+{
+    let reply = match row {
+        Row::Cmd0 | Row::Cmd7NotAddressed => return None,
+        Row::Cmd8Sd if desc.version != 2 => return None,
+        Row::Cmd8Sd => Reply::R7(0x1aa),
+        Row::Cmd1 => Reply::R3(conditions_word(Kind::Emmc, desc.block_unit, ready)),
+        Row::Acmd41 { .. } => Reply::R3(conditions_word(Kind::Sd, desc.block_unit, ready)),
+        Row::Cmd2 | Row::Cmd10 => Reply::R2(cid_of(desc.kind)),
+        Row::Cmd3Sd => Reply::R6(address_word(desc.rca, state, error)),
+        Row::Cmd9 => Reply::R2(desc.csd),
+        _ => Reply::R1 {
+            index: row_index(row),
+            status: status_word(state, took && shows_app(row), error),
+        },
+    };
+    Some(reply)
+}

@@ -1,0 +1,180 @@
+//! What a simulated card is after a row that it takes.
+
+ghost use Rattle.std.specs.Prelude.{◌≡◌};
+ghost use Rattle.sdv_card.specs.StateTable.{rows, targets};
+ghost use Rattle.sdv_card.specs.NextStates.{next_states};
+ghost use Rattle.sdv_behavior.specs.RowTaken.{state_next, rca_next, app_next, length_next, preset_next, block_next, count_of, announced_next, checked_next, first_next, last_next, taken_by, stays};
+ghost use Rattle.sdv_card.specs.Taken.{block_of};
+
+use crate::card_state::CardState;
+use sdv_card::laws::{Rows, erase_after, transfer_after};
+use sdv_card::{Kind, Row, State};
+use sdv_description::CardDesc;
+use sdv_emmc::EmmcTable;
+use sdv_sd::SdTable;
+
+/// The state after a row, by the state table of the kind, if cards have the row in the state.
+fn next(kind: Kind, row: Row, from: State) -> Option<State>
+    ensures { targets (rows kind row) from ≡ next_states row result }
+{
+    match kind {
+        Kind::Sd => SdTable::next(row, from),
+        Kind::Emmc => EmmcTable::next(row, from),
+    }
+}
+
+/// The state after a row; after CMD1 and ACMD41 the card is ready, or still idle.
+fn state_next(kind: Kind, row: Row, ready: bool, state: State) -> State
+    ensures { result ≡ state_next kind row ready state }
+{
+    match row {
+        Row::Cmd1 | Row::Acmd41 { .. } if !ready => state,
+        _ => match next(kind, row, state) {
+            Some(next) => next,
+            None => state,
+        },
+    }
+}
+
+/// The relative address: an SD card has the described one, an e.MMC device the one that it is given.
+fn rca_next(described: u16, row: Row, rca: Option<u16>) -> Option<u16>
+    ensures { result ≡ rca_next described row rca }
+{
+    match row {
+        Row::Cmd0 => None,
+        Row::Cmd3Sd => Some(described),
+        Row::Cmd3Emmc => Some(1),
+        _ => rca,
+    }
+}
+
+/// The application flag.
+fn app_next(row: Row) -> bool
+    ensures { result ≡ app_next row }
+{
+    match row {
+        Row::Cmd55 => true,
+        _ => false,
+    }
+}
+
+/// The block length.
+fn length_next(described: u16, row: Row, length: u16) -> u16
+    ensures { result ≡ length_next described row length }
+{
+    match row {
+        Row::Cmd0 => described,
+        Row::Cmd16 => 512,
+        _ => length,
+    }
+}
+
+/// The preset count.
+fn preset_next(row: Row, preset: u16) -> u16
+    ensures { result ≡ preset_next row preset }
+{
+    match row {
+        Row::Cmd0 | Row::Cmd18 { .. } | Row::Cmd25 { .. } => 0,
+        Row::Cmd23 { count } => count,
+        _ => preset,
+    }
+}
+
+/// The block that an argument names.
+pub fn block_of(block_unit: bool, argument: u32) -> u64
+    ensures { result ≡ block_of block_unit argument }
+{
+    if block_unit {
+        u64::from(argument)
+    } else {
+        u64::from(argument / 512)
+    }
+}
+
+/// The next block of a transfer.
+fn block_next(row: Row, block_unit: bool, argument: u32, block: u64) -> u64
+    ensures { result ≡ block_next row block_unit argument block }
+{
+    match row {
+        Row::Cmd17 | Row::Cmd18 { .. } | Row::Cmd24 | Row::Cmd25 { .. } => {
+            block_of(block_unit, argument)
+        }
+        _ => block,
+    }
+}
+
+/// The preset count, or one block.
+pub fn count_of(preset: u16) -> u16
+    ensures { result ≡ count_of preset }
+{
+    if preset == 0 { 1 } else { preset }
+}
+
+/// The blocks of a transfer that is not open.
+fn announced_next(row: Row, preset: u16, announced: u16) -> u16
+    ensures { result ≡ announced_next row preset announced }
+{
+    match row {
+        Row::Cmd17 | Row::Cmd24 => 1,
+        Row::Cmd18 { .. } | Row::Cmd25 { .. } => count_of(preset),
+        _ => announced,
+    }
+}
+
+/// Whether it took a CMD8.
+fn checked_next(row: Row, checked: bool) -> bool
+    ensures { result ≡ checked_next row checked }
+{
+    match row {
+        Row::Cmd0 => false,
+        Row::Cmd8Sd => true,
+        _ => checked,
+    }
+}
+
+/// The first block of an erase sequence.
+fn first_next(row: Row, block_unit: bool, argument: u32, block: u64) -> u64
+    ensures { result ≡ first_next row block_unit argument block }
+{
+    match row {
+        Row::Cmd32 | Row::Cmd35 => block_of(block_unit, argument),
+        _ => block,
+    }
+}
+
+/// The last block of an erase sequence.
+fn last_next(row: Row, block_unit: bool, argument: u32, block: u64) -> u64
+    ensures { result ≡ last_next row block_unit argument block }
+{
+    match row {
+        Row::Cmd33 | Row::Cmd36 => block_of(block_unit, argument),
+        _ => block,
+    }
+}
+
+/// The card after a row that it takes.
+pub fn taken_by(desc: &CardDesc, row: Row, argument: u32, ready: bool, t: &CardState) -> CardState
+    ensures { result ≡ taken_by desc.now row argument ready t.now }
+{
+    CardState {
+        state: state_next(desc.kind, row, ready, t.state),
+        rca: rca_next(desc.rca, row, t.rca),
+        app: app_next(row),
+        block_length: length_next(desc.block_length, row, t.block_length),
+        erase: erase_after(row, t.erase),
+        preset: preset_next(row, t.preset),
+        transfer: transfer_after(row, t.preset, t.transfer),
+        next_block: block_next(row, desc.block_unit, argument, t.next_block),
+        announced: announced_next(row, t.preset, t.announced),
+        checked: checked_next(row, t.checked),
+        erase_first: first_next(row, desc.block_unit, argument, t.erase_first),
+        erase_last: last_next(row, desc.block_unit, argument, t.erase_last),
+    }
+}
+
+/// The card after a command that reached it and that it did not take.
+pub fn stays(t: &CardState) -> CardState
+    ensures { result ≡ stays t.now }
+{
+    CardState { app: false, ..*t }
+}

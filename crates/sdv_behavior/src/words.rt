@@ -1,0 +1,49 @@
+//! The words that a simulated card answers with.
+
+ghost use Rattle.std.specs.Prelude.{◌≡◌, ◌<◌, ◌^◌};
+ghost use Rattle.sdv_behavior.specs.Words.{ready_bit, bit_if, status_word, address_word, windows, conditions_word};
+
+use sdv_card::{Kind, State};
+
+/// Ready for data.
+fn ready_bit(state: State) -> u32
+    ensures word { result ≡ ready_bit state }
+    ensures small { result < 512 }
+{
+    match state {
+        State::Prg | State::Dis => 0,
+        _ => 0x100,
+    }
+}
+
+fn bit_if(set: bool, bit: u32) -> u32
+    ensures { result ≡ bit_if set bit }
+{
+    if set { bit } else { 0 }
+}
+
+/// The card status: the state, ready for data, and two bits.
+pub fn status_word(state: State, app: bool, error: bool) -> u32
+    ensures { result ≡ status_word state app error }
+{
+    bit_if(error, 0x80000) + 512 * u32::from(state.number()) + ready_bit(state) + bit_if(app, 0x20)
+}
+
+/// The word of an R6.
+pub fn address_word(rca: u16, state: State, error: bool) -> u32
+    ensures { result ≡ address_word rca state error }
+{
+    let low = bit_if(error, 0x2000) + 512 * u32::from(state.number()) + ready_bit(state);
+    65536 * u32::from(rca) + low
+}
+
+/// The OCR.
+pub fn conditions_word(kind: Kind, block_unit: bool, ready: bool) -> u32
+    ensures { result ≡ conditions_word kind block_unit ready }
+{
+    let windows = match kind {
+        Kind::Sd => 0x00ff_8000,
+        Kind::Emmc => 0x00ff_8080,
+    };
+    bit_if(ready, 0x8000_0000 + bit_if(block_unit, 0x4000_0000)) + windows
+}

@@ -1,0 +1,6 @@
+pub mod Words
+pub mod Numbers
+pub mod ReadLaws
+pub mod CsdLaws
+pub mod DescribedLaws
+pub mod Described

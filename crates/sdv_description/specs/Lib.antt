@@ -1,0 +1,5 @@
+pub mod Grammar
+pub mod Registers
+pub mod Described
+pub mod Gives
+pub mod Reading

@@ -1,0 +1,14 @@
+//! Descriptions of simulated cards: the text, and the card with its registers that the text gives.
+//!
+//! Begin at `specs/Grammar.antt`, which says what a description is, line by line, and at `specs/Described.antt`, which says
+//! what card it gives. `docs/CARDS.md` has the page for a user.
+#![tactic(auto)]
+
+mod card_desc;
+mod csd;
+mod describing;
+mod description;
+mod reading;
+
+pub use card_desc::CardDesc;
+pub use description::{Description, Size};

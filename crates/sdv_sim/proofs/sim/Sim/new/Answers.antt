@@ -1,0 +1,22 @@
+use Rattle.std.proofs.Common.{refl, sym, ◌∙◌, arith}
+use Rattle.sdv_description.proofs.Described.{described_law}
+use Rattle.sdv_sim.proofs.MadeLaws.{starts}
+use Rattle.sdv_sim.proofs.sim.Sim.new.Goals as goal
+
+pub read_block-requires : goal.read_block-requires
+read_block-requires g c =
+    let least = (described_law c.args.desc).least in
+    let size = c.len.ensures.size in
+    let same = c.if-len-desc.false in
+    omega (arith, least, size, same)
+
+pub returns-in-Ok : goal.returns-in-Ok
+returns-in-Ok g c =
+    let fit = c.registers_fit-fit.ensures in
+    record {
+      desc = refl;
+      card = c.at_start.ensures;
+      behaviors = c.in-Ok.ensures;
+      blocks = c.read_block.ensures.same;
+      start = starts c.args.desc (g.I.Image.size c.args.image) (g.I.Image.blocks c.args.image) fit.csd fit.sectors c.len.ensures.blocks (sym c.len.ensures.size ∙ c.if-len-desc.false);
+    }

@@ -1,0 +1,2 @@
+pub mod SimOf
+pub mod Made

@@ -1,0 +1,36 @@
+-- What a new simulated card is, and why there may be none.
+use Rattle.std.specs.Prelude.{◌≡◌, ◌≢◌, ℕ, List, Option, Some, map, true, false}
+use Rattle.sdv_image.specs.declared.fault.SimFault.{SimFault}
+use Rattle.sdv_image.specs.declared.fault.SimFault.TheVariants as faults
+use Rattle.sdv_card.specs.Card.{Block}
+use Rattle.sdv_card.specs.Profile.{IsAtStart}
+use Rattle.sdv_description.specs.declared.card_desc.CardDesc.{CardDesc}
+use Rattle.sdv_behavior.specs.CardOf.{card_of, at_start}
+use Rattle.sdv_behavior.specs.Schedules.{are_codes, behavior_of_code}
+use Rattle.sdv_behavior.specs.SimSteps.{SimState}
+
+-- the card of the description before its first command, which holds the image's blocks, with the schedule's behaviors
+pub record IsMade (given : CardDesc) (codes : List ℕ) (shown : Option (List Block)) (s : SimState) : Type 0 where
+  pub desc : s.desc ≡ given
+  pub card : s.card ≡ at_start given
+  pub behaviors : map behavior_of_code codes ≡ map Some s.behaviors
+  pub blocks : s.blocks ≡ shown
+  -- where the image shows its blocks, it is a card of the profile before its first command
+  pub start : (contents : List Block) → shown ≡ Some contents → IsAtStart (card_of given (at_start given) contents)
+
+-- a schedule of values that exist, and an image of as many blocks as the card has
+pub record IsWhole (codes : List ℕ) (size capacity : ℕ) : Type 0 where
+  pub known : are_codes codes ≡ true
+  pub fits : size ≡ capacity
+
+pub record IsOtherSize (codes : List ℕ) (size capacity : ℕ) : Type 0 where
+  pub known : are_codes codes ≡ true
+  pub other : size ≢ capacity
+
+-- each refusal comes where none before it is due
+abbrev pub IsRefused : (codes : List ℕ) → (size capacity : ℕ) → SimFault → Type 0
+IsRefused codes size capacity faults.Description = are_codes codes ≡ false
+IsRefused codes size capacity faults.ImageLength = IsOtherSize codes size capacity
+IsRefused codes size capacity faults.ImageRead = IsWhole codes size capacity
+IsRefused codes size capacity faults.Memory = IsWhole codes size capacity
+IsRefused codes size capacity faults.Capacity = ⊥

@@ -1,0 +1,87 @@
+ghost use Rattle.std.specs.Prelude.{◌≡◌, ◌<◌, ◌^◌, length, All, MatchResult};
+ghost use Rattle.sdv_card.specs.Card.{IsByte, IsRegister};
+ghost use Rattle.sdv_behavior.specs.Schedules.{are_codes};
+ghost use Rattle.sdv_sim.specs.SimOf.{image_of, state_of};
+ghost use Rattle.sdv_sim.specs.Made.{IsMade, IsRefused};
+
+use crate::schedule::Schedule;
+use crate::sim::Sim;
+use sdv_behavior::{Behavior, CardState};
+use sdv_description::CardDesc;
+use sdv_image::{Image, SimFault};
+use std::alloc::Global;
+
+/// Each value is one of a schedule, 0 to 6.
+fn are_codes(codes: &[u8]) -> bool
+    ensures { result ≡ are_codes codes.now }
+{
+    codes.iter().all(|code| Behavior::of_code(*code).is_some())
+}
+
+// The elements of a slice of bytes are bytes.
+fn are_bytes(bytes: &[u8]) -> usize
+    ensures count { result ≡ length bytes.now }
+    ensures fit { All IsByte bytes.now }
+{
+    bytes.len()
+}
+
+// The CSD is a register of 15 bytes, and SEC_COUNT a word of 32 bits.
+fn registers_fit(csd: &[u8; 15], sectors: u32) -> usize
+    ensures csd { IsRegister 15 csd.now }
+    ensures sectors { sectors < 2 ^ 32 }
+{
+    are_bytes(csd)
+}
+
+impl<I: Image + Drop> Sim<I> {
+    /// A card of a description before its first command, over an image of its blocks, with the values of a schedule, one
+    /// for each event. Later calls take no memory.
+    ///
+    /// # Errors
+    ///
+    /// [`SimFault::Description`] where a value of the schedule is above 6, [`SimFault::ImageLength`] where the image has
+    /// not as many blocks as the card, [`SimFault::ImageRead`] where its first block cannot be read, and
+    /// [`SimFault::Memory`]: the first of them. The image is dropped then, its blocks unchanged.
+    pub fn new(alloc: Global, desc: CardDesc, image: I, schedule: &[u8]) -> Result<Sim<I>, SimFault>
+        ensures { MatchResult result
+            (λ sim. IsMade desc schedule.now (I.blocks image) (state_of sim))
+            (IsRefused schedule.now (I.size image) desc.capacity) }
+    {
+        if !are_codes(schedule) {
+            return Err(SimFault::Description);
+        }
+        if image.len() != desc.capacity {
+            return Err(SimFault::ImageLength);
+        }
+        let mut image = image;
+        if image.read_block(0, &mut [0; 512]).is_err() {
+            return Err(SimFault::ImageRead);
+        }
+        let _fit = registers_fit(&desc.csd, desc.sectors);
+        match Schedule::of_codes(alloc, schedule) {
+            Ok(schedule) => Ok(Sim {
+                card: CardState::at_start(&desc),
+                desc,
+                schedule,
+                image,
+            }),
+            Err(_) => Err(SimFault::Memory),
+        }
+    }
+}
+
+impl<I: Image> Sim<I> {
+    /// Gives the image back.
+    pub fn into_image(self) -> I
+        ensures { result ≡ image_of self }
+    {
+        let Sim {
+            desc: _,
+            card: _,
+            schedule: _,
+            image,
+        } = self;
+        image
+    }
+}

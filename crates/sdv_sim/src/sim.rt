@@ -1,0 +1,16 @@
+ghost use Rattle.std.specs.Prelude.{◌≡◌};
+
+use crate::schedule::Schedule;
+use sdv_behavior::CardState;
+use sdv_description::CardDesc;
+use sdv_image::Image;
+
+/// A simulated card over an image.
+#[derive(Drop)]
+pub struct Sim<I: Image> {
+    pub(crate) desc: CardDesc,
+    pub(crate) card: CardState,
+    pub(crate) schedule: Schedule,
+    pub(crate) image: I,
+    ghost sized: { I.size image ≡ desc.capacity },
+}
