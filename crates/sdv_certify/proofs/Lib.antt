@@ -29,3 +29,6 @@ pub mod TextLength
 pub mod CodeLaws
 pub mod LimitLaws
 pub mod PointLaws
+pub mod JoinLaws
+pub mod MergeLaws
+pub mod SortLaws
