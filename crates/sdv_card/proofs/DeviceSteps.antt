@@ -25,7 +25,8 @@ use Rattle.sdv_card.specs.Host.{Host}
 use Rattle.sdv_card.specs.Profile.{IsAtStart, host_at_start}
 use Rattle.sdv_card.specs.BringUp.{Happens, command}
 use Rattle.sdv_card.specs.EmmcBringUp.{device_csd, device_cid, device_ext_csd, example_device, read_ext_csd, DeviceBringUpHappens}
-use Rattle.sdv_card.proofs.Steps.{happens, first, made, no_error, no_blocks, bytes_fit}
+use Rattle.sdv_card.proofs.Steps.{happens, first, made, bytes_fit}
+use Rattle.sdv_card.proofs.ExampleAnswers.{no_error, no_blocks}
 
 -- THE DEVICE AND THE HOST between the commands
 

@@ -111,15 +111,6 @@ abbrev pub is_row_8 : Row → Bool
 is_row_8 Cmd8Sd = true
 is_row_8 row = false
 
--- the command gives the card its relative address
-abbrev pub gives_address : Order → Bool
-gives_address SetRelativeAddress = true
-gives_address order = false
-
-abbrev pub row_gives_address : Row → Bool
-row_gives_address Cmd3Emmc = true
-row_gives_address row = false
-
 -- the parts of what an order says that do not depend on an answer
 pub record Parts : Type 0 where
   pub announces : Option ℕ
@@ -127,7 +118,6 @@ pub record Parts : Type 0 where
   pub register : ℕ → ℕ
   pub app : Bool
   pub if_cond : Bool
-  pub gives : Bool
 
 abbrev pub order_parts : Order → Parts
 order_parts order = record {
@@ -136,7 +126,6 @@ order_parts order = record {
   register = λ before. register_length_by order before;
   app = is_app_command order;
   if_cond = is_if_cond order;
-  gives = gives_address order;
 }
 
 abbrev pub row_parts : Row → Parts
@@ -146,7 +135,6 @@ row_parts row = record {
   register = λ before. row_register row before;
   app = is_row_55 row;
   if_cond = is_row_8 row;
-  gives = row_gives_address row;
 }
 
 -- the response to a row
@@ -187,9 +175,6 @@ same_app s = ap (λ p. p.app) s.parts
 
 pub same_if_cond : {order : Order} {row : Row} → Says order row → is_if_cond order ≡ is_row_8 row
 same_if_cond s = ap (λ p. p.if_cond) s.parts
-
-pub same_gives : {order : Order} {row : Row} → Says order row → gives_address order ≡ row_gives_address row
-same_gives s = ap (λ p. p.gives) s.parts
 
 published : (answer : Answer) (n : ℕ) → rca_known SendRelativeAddress answer n ≡ row_rca Cmd3Sd answer n
 published Sent n = refl

@@ -1,5 +1,5 @@
 -- The example: a card is brought up, and an answer is lost.
-use Rattle.std.proofs.Common.{◌≡◌, inl, inr, refl, subst, sym, ◌∙◌, ap, Bool, true, false, IsTrue, ℕ, List, ◌∷◌, length, replicate, All, Option, Some, None, ◌&&◌, not, lit<, lit≤}
+use Rattle.std.proofs.Common.{◌≡◌, inl, inr, refl, subst, sym, ◌∙◌, ap, Bool, true, false, ℕ, List, ◌∷◌, length, replicate, All, Option, Some, None, lit<, lit≤}
 use Rattle.std.specs.List.{AllByRecursion}
 use Rattle.std.proofs.lemmas.List.Elements.{All-from_recursion, All-replicate}
 use Rattle.sdv_registers.specs.declared.kind.Kind.{Kind}
@@ -8,17 +8,13 @@ use Rattle.sdv_frames.specs.Bits.{bits, bits_of, number_of}
 use Rattle.sdv_frames.specs.declared.reply.Reply.TheVariants.{R1, R2, R3, R6, R7}
 use Rattle.sdv_card.specs.declared.state.State.{State}
 use Rattle.sdv_card.specs.declared.state.State.TheVariants.{Idle, Ready, Ident, Stby, Tran, Data, Rcv, Prg}
-use Rattle.sdv_card.specs.declared.state.Transfer.TheVariants.{Nothing, ReadOver}
+use Rattle.sdv_card.specs.declared.state.Transfer.TheVariants.{ReadOver}
 use Rattle.sdv_card.specs.declared.event.Aim.TheVariants.{Rca, Plain}
 use Rattle.sdv_card.specs.declared.event.Ask.{Ask}
 use Rattle.sdv_card.specs.declared.command.Order.{Order}
 use Rattle.sdv_card.specs.declared.command.Order.TheVariants.{GoIdleState, SendIfCond, AppCommand, SdSendOpCond, AllSendCid, SendRelativeAddress, SendCsd, SelectCard, SetBlockLength, SendStatus, StopTransmission}
-use Rattle.sdv_card.specs.declared.command.Row.{Row}
-use Rattle.sdv_card.specs.declared.command.Row.TheVariants.{Cmd0, Cmd2, Cmd3Sd, Cmd7Addressed, Cmd8Sd, Cmd9, Cmd12, Cmd13, Cmd16, Cmd55, Acmd41}
-use Rattle.sdv_card.specs.declared.state.EraseStage.TheVariants.{Outside}
+use Rattle.sdv_card.specs.declared.command.Row.TheVariants.{Cmd7Addressed, Cmd9, Cmd12, Cmd13, Cmd16}
 use Rattle.sdv_card.specs.StateTable.{rows, ◌to◌}
-use Rattle.sdv_card.specs.RowRules.{may_reach, app_after, erase_after, preset_after, transfer_after}
-use Rattle.sdv_card.specs.Agrees.{ErrorShown}
 use Rattle.sdv_card.specs.declared.answer.Answer.{Answer}
 use Rattle.sdv_card.specs.declared.answer.Answer.TheVariants.{Sent, TimeOut, Reply as Replied}
 use Rattle.sdv_card.specs.Lists.{May, IsOneOf}
@@ -26,13 +22,14 @@ use Rattle.sdv_card.specs.States.{own_target}
 use Rattle.sdv_card.specs.CommandTable.{order_of, argument_of}
 use Rattle.sdv_card.specs.Card.{Card, IsRegister, AreBlocks, IsByte, Block}
 use Rattle.sdv_card.specs.Settled.{Settled}
-use Rattle.sdv_card.specs.Taken.{Taken, RcaAfter, LengthAfter, BlocksAfter, ContentsAfter, SameBlocks}
 use Rattle.sdv_card.specs.Exchange.{card_takes, SettledAnswer}
 use Rattle.sdv_card.specs.Legal.{SettledLegal, SendLegal, RowLegal}
 use Rattle.sdv_card.specs.Step.{Sends}
 use Rattle.sdv_card.specs.Host.{Host}
 use Rattle.sdv_card.specs.HostEvents.{ArgumentFits}
 use Rattle.sdv_card.specs.Profile.{IsAtStart, host_at_start}
+use Rattle.sdv_card.proofs.ExampleAnswers as example
+use Rattle.sdv_card.proofs.ExampleAnswers.{no_error, no_blocks}
 use Rattle.sdv_card.specs.BringUp.{Happens, example_csd, example_cid, example_scr, example_card, command, ask_conditions, BringUpHappens, LostAnswerHappens, ProgrammingEnds, DoubtStays, StopIsNotLegal, selected_card, example_host}
 
 -- a card that has no step of its own is settled as it is
@@ -60,44 +57,14 @@ second = record { one = inr (inl refl) }
 
 -- the card in a state, with a relative card address and the application flag
 abbrev card : List Block → State → Option ℕ → Bool → Card
-card contents state rca app = record (example_card contents) { state = state; rca = rca; app = app }
+card contents state rca app = example.card contents 0 state rca app
 
 -- the host with a relative card address and a CSD
 abbrev host : ℕ → Option (List ℕ) → Host
 host rca csd = record (host_at_start 0) { rca = rca; csd = csd }
 
--- a row that changes state, address and flag alone
-taken : (row : Row) (argument : ℕ) (contents : List Block) (s s' : State) (r r' : Option ℕ) (a a' : Bool) →
-    May (rows Sd row) (s to s') → IsTrue (may_reach row true s') → May (app_after row) a' → RcaAfter row r r' →
-    erase_after row Outside ≡ Outside → LengthAfter row true 512 512 → May (preset_after Sd row 0) 0 → transfer_after row 0 Nothing ≡ Nothing →
-    BlocksAfter row argument (card contents s r a) (card contents s' r' a') → ContentsAfter row 1024 contents contents →
-    Taken row argument (card contents s r a) (card contents s' r' a')
-taken row argument contents s s' r r' a a' state reached app rca erase length preset transfer blocks same = record {
-  same = record { kind = refl; version = refl; block_unit = refl; capacity = refl; csd = refl; cid = refl; ext_csd = refl; scr = refl; sd_status = refl };
-  state = state;
-  reached = reached;
-  app = app;
-  erase = erase;
-  block_length = length;
-  preset = preset;
-  rca = rca;
-  transfer = transfer;
-  blocks = blocks;
-  contents = same;
-}
-
 pub made : {k : Kind} {ask : Ask} {argument : ℕ} {h : Host} → argument ≡ argument_of k ask h.rca 0 → ArgumentFits k ask argument h
 made same = record { address = 0; same = same }
-
--- an error that is not pending is shown by no status
-pub no_error : (t u : Card) (shown : Bool) → t.doubt ≡ false → u.doubt ≡ false → ErrorShown t shown u
-no_error t u shown before after = record {
-  ends = after ∙ sym (ap (λ v. v && not shown) before);
-  must = λ tran pending. absurd (let f : true ≡ false = sym pending ∙ before in cc);
-}
-
-pub no_blocks : (c u : Card) → c.next_block ≡ u.next_block → c.announced ≡ u.announced → SameBlocks c u
-no_blocks c u block count = record { block = block; count_is = count }
 
 -- EACH COMMAND
 
@@ -106,7 +73,7 @@ unfolding order_of
 reset cs =
     let both = happens _ 0 GoIdleState Sent (card cs Idle None false) (card cs Idle None false) (host 0 None) refl refl (made refl)
     (record { target = Idle; has_row = first; length = refl; erase = refl; preset = refl })
-    (record { card = taken Cmd0 0 cs Idle Idle None None false false first refl first refl refl refl first refl (no_blocks _ _ refl refl) refl; error = refl }) in
+    (example.reset cs 0 Idle None false 0 first) in
     record { made = made refl; legal = both.0; bounds = tt; step = both.1 }
 
 interface : (cs : List Block) → Happens (command 8 Plain 0x1aa (Replied (R7 0x1aa))) (card cs Idle None false) (host 0 None) (card cs Idle None false)
@@ -114,11 +81,7 @@ unfolding order_of
 interface cs =
     let both = happens _ 0x1aa SendIfCond (Replied (R7 0x1aa)) (card cs Idle None false) (card cs Idle None false) (host 0 None) refl refl (made refl)
     (record { target = Idle; has_row = first; length = refl; erase = refl; preset = refl })
-    (record {
-      shown = record { is_word = lit< tt; echo = refl; version = refl };
-      error = refl;
-      card = taken Cmd8Sd 0x1aa cs Idle Idle None None false false first refl first refl refl refl first refl (no_blocks _ _ refl refl) refl;
-    }) in
+    (example.interface cs 0 0x1aa) in
     record { made = made refl; legal = both.0; bounds = tt; step = both.1 }
 
 application : (cs : List Block) → Happens (command 55 Rca 0 (Replied (R1 55 0x120))) (card cs Idle None false) (host 0 None) (card cs Idle None true)
@@ -126,25 +89,15 @@ unfolding order_of bits number_of
 application cs =
     let both = happens _ 0 AppCommand (Replied (R1 55 0x120)) (card cs Idle None false) (card cs Idle None true) (host 0 None) refl refl (made refl)
     (record { target = Idle; has_row = first; length = refl; erase = refl; preset = refl })
-    (record {
-      is_word = lit< tt;
-      same_index = refl;
-      state = refl;
-      app = refl;
-      error = no_error _ _ _ refl refl;
-      card = inl (taken Cmd55 0 cs Idle Idle None None false true first refl second refl refl refl first refl (no_blocks _ _ refl refl) refl);
-    }) in
+    (example.application_idle cs 0 false 0) in
     record { made = made refl; legal = both.0; bounds = tt; step = both.1 }
-
-goes_ready : (cs : List Block) → Taken (Acmd41 true) 0x40ff8000 (card cs Idle None true) (card cs Ready None false)
-goes_ready cs = taken (Acmd41 true) 0x40ff8000 cs Idle Ready None None true false first refl first refl refl refl first refl (no_blocks _ _ refl refl) refl
 
 conditions : (cs : List Block) → Happens (ask_conditions (Replied (R3 0xc0ff8000))) (card cs Idle None true) (host 0 None) (card cs Ready None false)
 unfolding order_of bits number_of
 conditions cs =
     let both = happens _ 0x40ff8000 (SdSendOpCond true) (Replied (R3 0xc0ff8000)) (card cs Idle None true) (card cs Ready None false) (host 0 None) refl refl (made refl)
     (record { target = Ready; has_row = first; length = refl; erase = refl; preset = refl })
-    (record { is_word = lit< tt; windows = refl; ready = refl; unit = λ r. refl; card = goes_ready cs; error = refl }) in
+    (example.is_ready cs 0 true 0x40ff8000 refl) in
     record { made = made refl; legal = both.0; bounds = tt; step = both.1 }
 
 conditions_lost : (cs : List Block) → Happens (ask_conditions TimeOut) (card cs Idle None true) (host 0 None) (card cs Ready None false)
@@ -152,7 +105,7 @@ unfolding order_of
 conditions_lost cs =
     let both = happens _ 0x40ff8000 (SdSendOpCond true) TimeOut (card cs Idle None true) (card cs Ready None false) (host 0 None) refl refl (made refl)
     (record { target = Ready; has_row = first; length = refl; erase = refl; preset = refl })
-    (inr (inl (record { card = goes_ready cs; error = refl }))) in
+    (inr (inl (record { card = example.goes_ready cs 0 true 0x40ff8000 refl; error = refl }))) in
     record { made = made refl; legal = both.0; bounds = tt; step = both.1 }
 
 identification : (cs : List Block) → Happens (command 2 Plain 0 (Replied (R2 example_cid))) (card cs Ready None false) (host 0 None) (card cs Ident None false)
@@ -160,11 +113,7 @@ unfolding order_of
 identification cs =
     let both = happens _ 0 AllSendCid (Replied (R2 example_cid)) (card cs Ready None false) (card cs Ident None false) (host 0 None) refl refl (made refl)
     (record { target = Ident; has_row = first; length = refl; erase = refl; preset = refl })
-    (record {
-      shown = refl;
-      error = refl;
-      card = taken Cmd2 0 cs Ready Ident None None false false first refl first refl refl refl first refl (no_blocks _ _ refl refl) refl;
-    }) in
+    (example.identified cs 0 0) in
     record { made = made refl; legal = both.0; bounds = tt; step = both.1 }
 
 address : (cs : List Block) → Happens (command 3 Plain 0 (Replied (R6 0x12340500))) (card cs Ident None false) (host 0 None) (card cs Stby (Some 0x1234) false)
@@ -172,12 +121,7 @@ unfolding order_of bits number_of
 address cs =
     let both = happens _ 0 SendRelativeAddress (Replied (R6 0x12340500)) (card cs Ident None false) (card cs Stby (Some 0x1234) false) (host 0 None) refl refl (made refl)
     (record { target = Stby; has_row = first; length = refl; erase = refl; preset = refl })
-    (record {
-      is_word = lit< tt;
-      state = refl;
-      error = refl;
-      card = inl (record { rca = refl; card = taken Cmd3Sd 0 cs Ident Stby None (Some 0x1234) false false first refl first (0x1234, refl, lit< tt, lit< tt) refl refl first refl (no_blocks _ _ refl refl) refl });
-    }) in
+    (example.addressed cs 0 0) in
     record { made = made refl; legal = both.0; bounds = tt; step = both.1 }
 
 specific_data : (cs : List Block) → Happens (command 9 Rca 0x12340000 (Replied (R2 example_csd))) (card cs Stby (Some 0x1234) false) (host 0x1234 None) (card cs Stby (Some 0x1234) false)
@@ -188,7 +132,7 @@ specific_data cs =
     (record {
       shown = refl;
       error = refl;
-      card = taken Cmd9 0x12340000 cs Stby Stby (Some 0x1234) (Some 0x1234) false false first refl first refl refl refl first refl (no_blocks _ _ refl refl) refl;
+      card = example.taken cs 0 Cmd9 0x12340000 Stby Stby (Some 0x1234) (Some 0x1234) false false first refl first refl refl refl first refl (no_blocks _ _ refl refl) refl;
     }) in
     record { made = made refl; legal = both.0; bounds = tt; step = both.1 }
 
@@ -203,7 +147,7 @@ selection cs =
       state = refl;
       app = tt;
       error = no_error _ _ _ refl refl;
-      card = inl (taken Cmd7Addressed 0x12340000 cs Stby Tran (Some 0x1234) (Some 0x1234) false false first refl first refl refl refl first refl (no_blocks _ _ refl refl) refl);
+      card = inl (example.taken cs 0 Cmd7Addressed 0x12340000 Stby Tran (Some 0x1234) (Some 0x1234) false false first refl first refl refl refl first refl (no_blocks _ _ refl refl) refl);
     }) in
     record { made = made refl; legal = both.0; bounds = tt; step = both.1 }
 
@@ -218,7 +162,7 @@ block_length cs =
       state = refl;
       app = tt;
       error = no_error _ _ _ refl refl;
-      card = inl (taken Cmd16 512 cs Tran Tran (Some 0x1234) (Some 0x1234) false false first refl first refl refl refl first refl (no_blocks _ _ refl refl) refl);
+      card = inl (example.taken cs 0 Cmd16 512 Tran Tran (Some 0x1234) (Some 0x1234) false false first refl first refl refl refl first refl (no_blocks _ _ refl refl) refl);
     }) in
     record { made = made refl; legal = both.0; bounds = tt; step = both.1 }
 
@@ -361,7 +305,7 @@ programming_ends cs =
             state = refl;
             app = tt;
             error = no_error _ _ _ refl refl;
-            card = inl (taken Cmd13 0x12340000 cs Tran Tran (Some 0x1234) (Some 0x1234) false false second refl first refl refl refl first refl (no_blocks _ _ refl refl) refl);
+            card = inl (example.taken cs 0 Cmd13 0x12340000 Tran Tran (Some 0x1234) (Some 0x1234) false false second refl first refl refl refl first refl (no_blocks _ _ refl refl) refl);
           };
         };
       };

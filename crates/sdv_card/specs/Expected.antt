@@ -16,6 +16,11 @@ AnswerExpected expect TimeOut = Unit {0}
 AnswerExpected expect (Replied reply) = Answers expect reply
 AnswerExpected expect answer = ⊥
 
+-- what a host hears where no response comes
+abbrev pub unanswered : Expect → Answer
+unanswered Nothing = Sent
+unanswered expect = TimeOut
+
 -- what an event returned is what the host waits for
 abbrev pub Expected : Kind → ScriptEvent → Return → Type 0
 Expected k (SendCommand ask position argument) (Answered answer) = AnswerExpected (expect_of k ask) answer

@@ -1,7 +1,7 @@
 //! The trait of ports at a type of its own, and the examples.
 
-ghost use Rattle.std.specs.Prelude.{None, MatchOption};
-ghost use Rattle.std.proofs.Common.{subst};
+ghost use Rattle.std.specs.Prelude.{None};
+ghost use Rattle.sdv_card.proofs.PortLaws.{shows_none_keeps};
 
 use sdv_card::{Answer, CardPort, DataEnd, WaitEnd, examples};
 use sdv_frames::{Command, Expect};
@@ -35,8 +35,7 @@ impl CardPort for NoCard {
         WaitEnd::Late
     }
 
-    ghost keeps_tables = { λ s s' k event c h returned shows fine step.
-        absurd (subst (λ shown. MatchOption shown (Unit {0}) (λ _. ⊥)) shows.shows tt) };
+    ghost keeps_tables = { shows_none_keeps (λ port call returned after. Unit {0}) };
 }
 
 /// Each call of a port, once.

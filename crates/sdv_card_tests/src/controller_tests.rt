@@ -1,7 +1,7 @@
 //! The controller over a wire that plays one response.
 
 ghost use Rattle.std.specs.Prelude.{None};
-ghost use Rattle.sdv_controller.specs.Silent.{shows_nothing};
+ghost use Rattle.sdv_controller.proofs.Silent.{shows_nothing};
 
 use crate::shared::{frame_of, replies};
 use sdv_card::{Answer, CardPort, DataEnd, WaitEnd};

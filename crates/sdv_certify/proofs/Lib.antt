@@ -33,3 +33,6 @@ pub mod NumberLaws
 pub mod IntoLaws
 pub mod StandLaws
 pub mod FewestLaws
+pub mod JoinLaws
+pub mod MergeLaws
+pub mod SortLaws

@@ -6,21 +6,25 @@
 //! and `specs/Refusal.antt` what script is refused. `specs/Forms.antt` defines the bounds of points, by the syntax alone,
 //! and `specs/FormsPay.antt` says that they fall along each edge as a certificate's should; `bound_forms` computes them.
 //! `write` writes the text of a certificate, which stands in `sdv_facts/specs/CertificateText.antt`.
+//! `facts_of_shapes` and `join_facts` compute the sets and joins of `sdv_facts/specs/Joins.antt`.
 #![tactic(auto)]
 
 mod assembling;
 mod bounds;
 mod fault;
 mod form;
+mod joining;
 mod known;
 pub mod laws;
 mod parts;
 mod passes;
 mod refusal;
+mod sets;
 mod spans;
 mod ways;
 mod writing;
 
 pub use assembling::certify;
 pub use fault::CertifyFault;
+pub use sets::{facts_of_shapes, join_facts};
 pub use writing::write;

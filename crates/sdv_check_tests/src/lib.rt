@@ -15,6 +15,10 @@ mod check_tests;
 #[cfg(test)]
 mod common;
 #[cfg(test)]
+mod joining_tests;
+#[cfg(test)]
+mod long_tests;
+#[cfg(test)]
 mod port;
 #[cfg(test)]
 mod run_tests;

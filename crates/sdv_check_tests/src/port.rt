@@ -1,7 +1,7 @@
 //! A port that plays a list.
 
-ghost use Rattle.std.specs.Prelude.{None, MatchOption};
-ghost use Rattle.std.proofs.Common.{subst};
+ghost use Rattle.std.specs.Prelude.{None};
+ghost use Rattle.sdv_card.proofs.PortLaws.{shows_none_keeps};
 
 use sdv_card::{Answer, CardPort, DataEnd, WaitEnd};
 use sdv_frames::{Command, Expect, Reply};
@@ -94,6 +94,5 @@ impl<'a> CardPort for PlayPort<'a> {
         }
     }
 
-    ghost keeps_tables = { λ s s' k event c h returned shows fine step.
-        absurd (subst (λ shown. MatchOption shown (Unit {0}) (λ _. ⊥)) shows.shows tt) };
+    ghost keeps_tables = { shows_none_keeps (λ port call returned after. Unit {0}) };
 }

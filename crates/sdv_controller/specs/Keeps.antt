@@ -15,8 +15,9 @@ use Rattle.sdv_card.specs.declared.answer.Answer.{Answer}
 use Rattle.sdv_card.specs.declared.answer.Answer.TheVariants as answers
 use Rattle.sdv_card.specs.declared.event.Ask.{Ask}
 use Rattle.sdv_card.specs.Card.{Card}
-use Rattle.sdv_card.specs.Port.{Shows, Kept, KeepsTables, command_of, call_of}
-use Rattle.sdv_card.specs.ScriptEvent.{ScriptEvent, SendCommand, ReceiveBlocks, ReceiveRegister, GiveBlocks, AwaitReady, Return, Answered, BlocksIn, RegisterIn, BlocksOut, Waited}
+use Rattle.sdv_card.specs.Port.{Kept, KeepsTables, command_of}
+use Rattle.sdv_card.proofs.PortLaws.{keeps_by_part}
+use Rattle.sdv_card.specs.ScriptEvent.{SendCommand, ReceiveBlocks, ReceiveRegister, GiveBlocks, AwaitReady, Answered, BlocksIn, RegisterIn, BlocksOut, Waited}
 use Rattle.sdv_controller.specs.declared.wire.WireEnd.{WireEnd}
 use Rattle.sdv_controller.specs.declared.wire.WireEnd.TheVariants as ends
 use Rattle.sdv_controller.specs.Wire.{WireCall, WireReturn, WireKeepsTables, KeepsAt, ShowsAnswer, Carries}
@@ -59,32 +60,19 @@ exchange_keeps steps card s s' k ask position argument c answer keeps x =
     let heard = keeps x.frame x.response x.end x.is_command x.framed x.step in
     subst (λ a. Kept card (SendCommand ask position argument) c (Answered a) s') (one_answer (expect_of k ask) x.end x.response answer heard.answer x.answer_is heard.shown) heard.kept
 
-by_event : {S : Type 0} (steps : S → WireCall → WireReturn → S → Type 0) (card : S → Option Card) (s s' : S) (k : Kind) (event : ScriptEvent) (c : Card) (returned : Return) →
-    KeepsAt steps card s s' k event c → ControllerSteps steps s (call_of k event) returned s' → Kept card event c returned s'
-by_event steps card s s' k (SendCommand ask position argument) c (Answered answer) keeps x = exchange_keeps steps card s s' k ask position argument c answer keeps x
-by_event steps card s s' k (SendCommand ask position argument) c (BlocksIn end blocks) keeps x = absurd x
-by_event steps card s s' k (SendCommand ask position argument) c (RegisterIn end bytes) keeps x = absurd x
-by_event steps card s s' k (SendCommand ask position argument) c (BlocksOut end) keeps x = absurd x
-by_event steps card s s' k (SendCommand ask position argument) c (Waited end) keeps x = absurd x
-by_event steps card s s' k (ReceiveBlocks count) c returned keeps x = keeps returned x
-by_event steps card s s' k (ReceiveRegister count) c returned keeps x = keeps returned x
-by_event steps card s s' k (GiveBlocks blocks) c returned keeps x = keeps returned x
-by_event steps card s s' k AwaitReady c returned keeps x = keeps returned x
-
--- a wire's card is shown by what holds the wire
-behind : {C S : Type 0} (wire : C → S) (card : S → Option Card) (s : C) (c : Card) → Shows (λ x. card (wire x)) s c → Shows card (wire s) c
-behind wire card s c shown = record { shown = shown.shown; shows = shown.shows; same = shown.same; count = shown.count }
-
-before : {C S : Type 0} (wire : C → S) (card : S → Option Card) (s' : C) (event : ScriptEvent) (c : Card) (returned : Return) → Kept card event c returned (wire s') → Kept (λ x. card (wire x)) event c returned s'
-before wire card s' event c returned kept = record {
-  after = kept.after;
-  step = kept.step;
-  shown = record { shown = kept.shown.shown; shows = kept.shown.shows; same = kept.shown.same; count = kept.shown.count };
-}
+-- the steps of a controller over a wire that keeps the tables
+steps_keep : {S : Type 0} (steps : S → WireCall → WireReturn → S → Type 0) (card : S → Option Card) → WireKeepsTables steps card → KeepsTables (ControllerSteps steps) card
+steps_keep steps card keeps s s' k (SendCommand ask position argument) c h (Answered answer) shown fine x = exchange_keeps steps card s s' k ask position argument c answer (keeps s s' k (SendCommand ask position argument) c h shown fine) x
+steps_keep steps card keeps s s' k (SendCommand ask position argument) c h (BlocksIn end blocks) shown fine x = absurd x
+steps_keep steps card keeps s s' k (SendCommand ask position argument) c h (RegisterIn end bytes) shown fine x = absurd x
+steps_keep steps card keeps s s' k (SendCommand ask position argument) c h (BlocksOut end) shown fine x = absurd x
+steps_keep steps card keeps s s' k (SendCommand ask position argument) c h (Waited end) shown fine x = absurd x
+steps_keep steps card keeps s s' k (ReceiveBlocks count) c h returned shown fine x = keeps s s' k (ReceiveBlocks count) c h shown fine returned x
+steps_keep steps card keeps s s' k (ReceiveRegister count) c h returned shown fine x = keeps s s' k (ReceiveRegister count) c h shown fine returned x
+steps_keep steps card keeps s s' k (GiveBlocks blocks) c h returned shown fine x = keeps s s' k (GiveBlocks blocks) c h shown fine returned x
+steps_keep steps card keeps s s' k AwaitReady c h returned shown fine x = keeps s s' k AwaitReady c h shown fine returned x
 
 -- what holds a wire that keeps the tables keeps them
 pub controller_keeps : {C S : Type 0} (wire : C → S) (steps : S → WireCall → WireReturn → S → Type 0) (card : S → Option Card) → WireKeepsTables steps card →
     KeepsTables (λ s call returned s'. ControllerSteps steps (wire s) call returned (wire s')) (λ s. card (wire s))
-controller_keeps wire steps card keeps s s' k event c h returned shown fine step =
-    before wire card s' event c returned
-    (by_event steps card (wire s) (wire s') k event c returned (keeps (wire s) (wire s') k event c h (behind wire card s c shown) fine) step)
+controller_keeps wire steps card keeps = keeps_by_part wire (ControllerSteps steps) card (steps_keep steps card keeps)

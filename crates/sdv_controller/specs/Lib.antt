@@ -1,5 +1,4 @@
 pub mod Answers
 pub mod Controlled
 pub mod Keeps
-pub mod Silent
 pub mod Wire

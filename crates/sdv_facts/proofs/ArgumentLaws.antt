@@ -1,92 +1,19 @@
 -- The argument of a command that a host makes, legal and in bounds on a card of the profile, has 32 bits.
-use Rattle.std.proofs.Common.{◌≡◌, ℕ, ◌<◌, ◌≤◌, ◌+◌, ◌*◌, ◌^◌, ◌⊎◌, inl, inr, refl, sym, ap, subst, ◌∙◌, Bool, true, false, Option, Some, if◌then◌else◌, eqb-true, arith}
+use Rattle.std.proofs.Common.{◌≡◌, ℕ, ◌<◌, ◌≤◌, ◌+◌, ◌*◌, ◌^◌, ◌⊎◌, inl, inr, refl, sym, ap, subst, ◌∙◌, Bool, true, false, Some, if◌then◌else◌, arith}
 use Rattle.sdv_registers.specs.declared.kind.Kind.{Kind}
 use Rattle.sdv_registers.specs.declared.kind.Kind.TheVariants.{Sd, Emmc}
-use Rattle.sdv_card.specs.declared.event.Aim.{Aim}
-use Rattle.sdv_card.specs.declared.event.Aim.TheVariants.{Rca, Plain}
 use Rattle.sdv_card.specs.declared.event.Ask.{Ask}
 use Rattle.sdv_card.specs.declared.command.Order.{Order}
 use Rattle.sdv_card.specs.declared.command.Order.TheVariants.{GoIdleState, SendOpCond, AllSendCid, SendRelativeAddress, SetRelativeAddress, SelectCard, DeselectCards, SendIfCond, SendExtCsd, SendCsd, SendCid, StopTransmission, SendStatus, SetBlockLength, ReadSingleBlock, ReadMultipleBlock, SetBlockCount, WriteBlock, WriteMultipleBlock, EraseBlockStart, EraseBlockEnd, EraseGroupStart, EraseGroupEnd, Erase, SdSendOpCond, SendScr, AppCommand}
 use Rattle.sdv_card.specs.Card.{Card}
-use Rattle.sdv_card.specs.CommandTable.{is_line, is_counted, order_if, sd_order, emmc_order, order_of, argument_or_none, order_argument}
+use Rattle.sdv_card.specs.CommandTable.{order_of, argument_or_none, order_argument}
 use Rattle.sdv_card.specs.Host.{Host}
 use Rattle.sdv_card.specs.Laws.{AsksAddress, order_blocks}
 use Rattle.sdv_card.specs.Legal.{Within, BlocksWithin}
 use Rattle.sdv_card.specs.Port.{IsFine}
 use Rattle.sdv_card.specs.Profile.{IsOfProfile, most_blocks}
 use Rattle.sdv_card.specs.ScriptEvent.{SendCommand}
-use Rattle.sdv_card.proofs.Members.{and_left, and_right}
-use Rattle.sdv_card.proofs.OrdersOfAsks.{of_ask}
-
--- ARGUMENTS THAT A SCRIPT WRITES are those of the command table
-abbrev OwnIsSmall : Ask → Order → Type 0
-OwnIsSmall ask Erase = ask.argument < 2 ^ 32
-OwnIsSmall ask (SdSendOpCond high) = ask.argument < 2 ^ 32
-OwnIsSmall ask order = Unit {0}
-
-line : (ask : Ask) (order : Order) (is : Bool) (o : Order) (rest : Option Order) → (is ≡ true → OwnIsSmall ask o) → order_if is o rest ≡ Some order → (rest ≡ Some order → OwnIsSmall ask order) → OwnIsSmall ask order
-line ask order true o rest here e later = let f : o ≡ order = cc in subst (λ v. OwnIsSmall ask v) f (here refl)
-line ask order false o rest here e later = later e
-
-small_line : (ask : Ask) (index : ℕ) (aim : Aim) (argument count : ℕ) → argument < 2 ^ 32 → is_line ask index aim argument count ≡ true → ask.argument < 2 ^ 32
-small_line ask index aim argument count small i = subst (λ n. n < 2 ^ 32) (sym (eqb-true ask.argument argument (and_right _ _ (and_left _ _ i)))) small
-
-sd_own : (ask : Ask) (order : Order) → sd_order ask ≡ Some order → OwnIsSmall ask order
-sd_own ask order e =
-    line ask order (is_line ask 0 Plain 0 0) GoIdleState _ (λ i. tt) e (λ e.
-    line ask order (is_line ask 2 Plain 0 0) AllSendCid _ (λ i. tt) e (λ e.
-    line ask order (is_line ask 3 Plain 0 0) SendRelativeAddress _ (λ i. tt) e (λ e.
-    line ask order (is_line ask 7 Rca 0 0) SelectCard _ (λ i. tt) e (λ e.
-    line ask order (is_line ask 7 Plain 0 0) DeselectCards _ (λ i. tt) e (λ e.
-    line ask order (is_line ask 8 Plain 0 0) SendIfCond _ (λ i. tt) e (λ e.
-    line ask order (is_line ask 9 Rca 0 0) SendCsd _ (λ i. tt) e (λ e.
-    line ask order (is_line ask 10 Rca 0 0) SendCid _ (λ i. tt) e (λ e.
-    line ask order (is_line ask 12 Plain 0 0) StopTransmission _ (λ i. tt) e (λ e.
-    line ask order (is_line ask 13 Rca 0 0) SendStatus _ (λ i. tt) e (λ e.
-    line ask order (is_line ask 16 Plain 0 0) SetBlockLength _ (λ i. tt) e (λ e.
-    line ask order (is_line ask 17 Plain 0 1) ReadSingleBlock _ (λ i. tt) e (λ e.
-    line ask order (is_counted ask 18) (ReadMultipleBlock ask.count) _ (λ i. tt) e (λ e.
-    line ask order (is_line ask 24 Plain 0 1) WriteBlock _ (λ i. tt) e (λ e.
-    line ask order (is_counted ask 25) (WriteMultipleBlock ask.count) _ (λ i. tt) e (λ e.
-    line ask order (is_line ask 32 Plain 0 0) EraseBlockStart _ (λ i. tt) e (λ e.
-    line ask order (is_line ask 33 Plain 0 0) EraseBlockEnd _ (λ i. tt) e (λ e.
-    line ask order (is_line ask 38 Plain 0 0) Erase _ (λ i. small_line ask 38 Plain 0 0 (omega arith) i) e (λ e.
-    line ask order (is_line ask 41 Plain 0x00ff8000 0) (SdSendOpCond false) _ (λ i. small_line ask 41 Plain 0x00ff8000 0 (omega arith) i) e (λ e.
-    line ask order (is_line ask 41 Plain 0x40ff8000 0) (SdSendOpCond true) _ (λ i. small_line ask 41 Plain 0x40ff8000 0 (omega arith) i) e (λ e.
-    line ask order (is_line ask 51 Plain 0 0) SendScr _ (λ i. tt) e (λ e.
-    line ask order (is_line ask 55 Rca 0 0) AppCommand _ (λ i. tt) e (λ e.
-    absurd (cc)))))))))))))))))))))))
-
-emmc_own : (ask : Ask) (order : Order) → emmc_order ask ≡ Some order → OwnIsSmall ask order
-emmc_own ask order e =
-    line ask order (is_line ask 0 Plain 0 0) GoIdleState _ (λ i. tt) e (λ e.
-    line ask order (is_line ask 1 Plain 0 0) SendOpCond _ (λ i. tt) e (λ e.
-    line ask order (is_line ask 2 Plain 0 0) AllSendCid _ (λ i. tt) e (λ e.
-    line ask order (is_line ask 3 Plain 0 0) SetRelativeAddress _ (λ i. tt) e (λ e.
-    line ask order (is_line ask 7 Rca 0 0) SelectCard _ (λ i. tt) e (λ e.
-    line ask order (is_line ask 7 Plain 0 0) DeselectCards _ (λ i. tt) e (λ e.
-    line ask order (is_line ask 8 Plain 0 0) SendExtCsd _ (λ i. tt) e (λ e.
-    line ask order (is_line ask 9 Rca 0 0) SendCsd _ (λ i. tt) e (λ e.
-    line ask order (is_line ask 10 Rca 0 0) SendCid _ (λ i. tt) e (λ e.
-    line ask order (is_line ask 12 Plain 0 0) StopTransmission _ (λ i. tt) e (λ e.
-    line ask order (is_line ask 13 Rca 0 0) SendStatus _ (λ i. tt) e (λ e.
-    line ask order (is_line ask 16 Plain 0 0) SetBlockLength _ (λ i. tt) e (λ e.
-    line ask order (is_line ask 17 Plain 0 1) ReadSingleBlock _ (λ i. tt) e (λ e.
-    line ask order (is_counted ask 18) (ReadMultipleBlock ask.count) _ (λ i. tt) e (λ e.
-    line ask order (is_counted ask 23) (SetBlockCount ask.count) _ (λ i. tt) e (λ e.
-    line ask order (is_line ask 24 Plain 0 1) WriteBlock _ (λ i. tt) e (λ e.
-    line ask order (is_counted ask 25) (WriteMultipleBlock ask.count) _ (λ i. tt) e (λ e.
-    line ask order (is_line ask 35 Plain 0 0) EraseGroupStart _ (λ i. tt) e (λ e.
-    line ask order (is_line ask 36 Plain 0 0) EraseGroupEnd _ (λ i. tt) e (λ e.
-    line ask order (is_line ask 38 Plain 0 0) Erase _ (λ i. small_line ask 38 Plain 0 0 (omega arith) i) e (λ e.
-    line ask order (is_line ask 38 Plain 1 0) Erase _ (λ i. small_line ask 38 Plain 1 0 (omega arith) i) e (λ e.
-    line ask order (is_line ask 38 Plain 3 0) Erase _ (λ i. small_line ask 38 Plain 3 0 (omega arith) i) e (λ e.
-    absurd (cc)))))))))))))))))))))))
-
-own_small : (k : Kind) (ask : Ask) (order : Order) → order_of k ask ≡ Some order → OwnIsSmall ask order
-unfolding order_of
-own_small Sd ask order e = sd_own ask order e
-own_small Emmc ask order e = emmc_own ask order e
+use Rattle.sdv_card.proofs.OrdersOfAsks.{of_ask, argument_is_narrow}
 
 -- ADDRESSES
 
@@ -134,8 +61,8 @@ module _ (k : Kind) (ask : Ask) (position argument : ℕ) (c : Card) (h : Host) 
   small_order EraseBlockEnd e = inr (blocks 1 (ap order_blocks e) (omega arith))
   small_order EraseGroupStart e = inr (blocks 1 (ap order_blocks e) (omega arith))
   small_order EraseGroupEnd e = inr (blocks 1 (ap order_blocks e) (omega arith))
-  small_order Erase e = inl (own_small k ask Erase (asked ∙ ap Some e))
-  small_order (SdSendOpCond high) e = inl (own_small k ask (SdSendOpCond high) (asked ∙ ap Some e))
+  small_order Erase e = inl (argument_is_narrow k ask Erase (asked ∙ ap Some e))
+  small_order (SdSendOpCond high) e = inl (argument_is_narrow k ask (SdSendOpCond high) (asked ∙ ap Some e))
   small_order SendScr e = inl (omega arith)
   small_order AppCommand e = inl (times h.rca fine.pair.rca)
 

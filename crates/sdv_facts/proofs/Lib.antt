@@ -5,14 +5,11 @@ pub mod FlagLaws
 pub mod Flags
 mod GapLaws
 pub mod Headline
-pub mod JoinLaws
 pub mod LetLaws
-mod MergeLaws
 pub mod RegisterLaws
 mod Rising
 pub mod RunLaws
 pub mod SetLaws
-mod SortLaws
 pub mod SoundLaws
 pub mod StartLaws
 mod StatementLaws

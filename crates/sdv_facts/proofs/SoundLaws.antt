@@ -19,7 +19,17 @@ use Rattle.sdv_facts.specs.Joins.{IsSound}
 use Rattle.sdv_facts.specs.AfterLet.{csd_tells, ext_csd_tells, register_facts, atom_facts, changed_facts, after_let}
 use Rattle.sdv_facts.specs.AfterTest.{least_by, raised, lowered, after_test}
 use Rattle.sdv_facts.specs.Start.{start_var, start_numbers}
-use Rattle.sdv_facts.proofs.JoinLaws.{first_of, others_of, all_of}
+
+-- the first one, and the others
+pub first_of : (P : VarFacts → Type 0) (v : VarFacts) (vs : List VarFacts) → All P (v ∷ vs) → P v
+first_of P v vs s = s 0 v (omega arith)
+
+pub others_of : (P : VarFacts → Type 0) (v : VarFacts) (vs : List VarFacts) → All P (v ∷ vs) → All P vs
+others_of P v vs s k d h = s (suc k) d (omega arith)
+
+pub all_of : (P : VarFacts → Type 0) (v : VarFacts) (vs : List VarFacts) → P v → All P vs → All P (v ∷ vs)
+all_of P v vs p s zero d h = p
+all_of P v vs p s (suc k) d h = s k d (omega arith)
 
 weakest_small : VarInLimits weakest
 weakest_small = record { lo = omega arith; hi = omega arith; gap = tt }

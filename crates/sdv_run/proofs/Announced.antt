@@ -1,17 +1,16 @@
 -- No phase of blocks is longer than the most that a command of the graph announces.
-use Rattle.std.proofs.Common.{◌≡◌, ℕ, zero, suc, ◌≤◌, List, [], ◌∷◌, Bool, true, false, Option, Some, None, refl, sym, subst, arith}
-use Rattle.std.specs.Prelude.{◌==◌, ◌&&◌, if◌then◌else◌}
+use Rattle.std.proofs.Common.{◌≡◌, ℕ, zero, suc, ◌≤◌, List, [], ◌∷◌, Option, Some, None, refl, sym, subst}
+use Rattle.std.specs.Prelude.{if◌then◌else◌}
 use Rattle.sdv_registers.specs.declared.kind.Kind.{Kind}
-use Rattle.sdv_registers.specs.declared.kind.Kind.TheVariants.{Sd, Emmc}
 use Rattle.sdv_card.specs.declared.answer.Answer.{Answer}
 use Rattle.sdv_card.specs.declared.command.Order.{Order}
-use Rattle.sdv_card.specs.declared.command.Order.TheVariants.{GoIdleState, SendOpCond, AllSendCid, SendRelativeAddress, SetRelativeAddress, SelectCard, DeselectCards, SendIfCond, SendExtCsd, SendCsd, SendCid, StopTransmission, SendStatus, SetBlockLength, ReadSingleBlock, ReadMultipleBlock, SetBlockCount, WriteBlock, WriteMultipleBlock, EraseBlockStart, EraseBlockEnd, EraseGroupStart, EraseGroupEnd, Erase, SdSendOpCond, SendScr, AppCommand}
-use Rattle.sdv_card.specs.declared.event.Aim.TheVariants.{Rca, Plain}
+use Rattle.sdv_card.specs.declared.command.Order.TheVariants.{ReadSingleBlock, ReadMultipleBlock, WriteBlock, WriteMultipleBlock}
 use Rattle.sdv_card.specs.declared.event.Ask.{Ask}
 use Rattle.sdv_card.specs.declared.guard.Guard.TheVariants.{Ok as WentWell}
 use Rattle.sdv_card.specs.Guards.{passes}
-use Rattle.sdv_card.specs.CommandTable.{aim_number, is_line, is_counted, order_if, order_of, argument_of}
-use Rattle.sdv_card.specs.Host.{Host, host_after_order, host_after}
+use Rattle.sdv_card.specs.CommandTable.{order_of, argument_of}
+use Rattle.sdv_card.specs.Host.{Host, announced_by, host_after_order, host_after}
+use Rattle.sdv_card.proofs.OrdersOfAsks.{WritesCount, line_of}
 use Rattle.sdv_card.specs.ScriptEvent.{ScriptEvent, SendCommand, ReceiveBlocks, ReceiveRegister, GiveBlocks, AwaitReady, Return, Answered, BlocksIn, RegisterIn, BlocksOut, Waited}
 use Rattle.sdv_graph.specs.declared.graph.Target.{Target}
 use Rattle.sdv_graph.specs.declared.tree.Phase.TheVariants as kinds
@@ -24,72 +23,23 @@ use Rattle.sdv_run.specs.Announced.{announced_at}
 use Rattle.sdv_run.specs.Run.{Steps}
 use Rattle.sdv_run.specs.Step.{World, Leads}
 
--- an order announces at most so many blocks, or leaves what was announced
-abbrev AnnouncesAtMost : ℕ → Option Order → Type 0
-AnnouncesAtMost room order = (answer : Answer) (h : Host) → h.announced ≤ room → (host_after_order order answer h).announced ≤ room
+-- what is announced after an order, by the count that stands in its line
+announced_fits : (order : Order) (room before count : ℕ) → WritesCount order count → count ≤ room → before ≤ room → announced_by order before ≤ room
+announced_fits ReadSingleBlock room before count is fits few = subst (λ n. n ≤ room) is fits
+announced_fits WriteBlock room before count is fits few = subst (λ n. n ≤ room) is fits
+announced_fits (ReadMultipleBlock n) room before count is fits few = subst (λ n. n ≤ room) is.same fits
+announced_fits (WriteMultipleBlock n) room before count is fits few = subst (λ n. n ≤ room) is.same fits
+announced_fits order room before count is fits few = few
 
-by_line : (room : ℕ) (b : Bool) (order : Order) (rest : Option Order) → (b ≡ true → AnnouncesAtMost room (Some order)) → AnnouncesAtMost room rest → AnnouncesAtMost room (order_if b order rest)
-by_line room true order rest this others = this refl
-by_line room false order rest this others = others
+-- an ask announces at most so many blocks, or leaves what was announced
+announced_of : (k : Kind) (ask : Ask) (o : Option Order) (room : ℕ) → order_of k ask ≡ o → ask.count ≤ room → (answer : Answer) (h : Host) → h.announced ≤ room →
+    (host_after_order o answer h).announced ≤ room
+announced_of k ask None room e fits answer h few = few
+announced_of k ask (Some order) room e fits answer h few = announced_fits order room h.announced ask.count (line_of k ask order e).count fits few
 
-last_of : (a b : Bool) → a && b ≡ true → b ≡ true
-last_of true b e = e
-last_of false b e = absurd (cc)
-
--- the count of a line with one block is 1
-one_block : (ask : Ask) (index room : ℕ) → is_line ask index Plain 0 1 ≡ true → ask.count ≤ room → 1 ≤ room
-one_block ask index room line fits =
-    let same = last_of ((ask.index == index) && (aim_number ask.aim == aim_number Plain) && (ask.argument == 0)) (ask.count == 1) line in
-    grind (arith, same, fits)
-
-pub order_announces : (k : Kind) (ask : Ask) (room : ℕ) → ask.count ≤ room → AnnouncesAtMost room (order_of k ask)
-unfolding order_of
-order_announces Sd ask room fits =
-    by_line room (is_line ask 0 Plain 0 0) GoIdleState _ (λ e answer h x. x) (
-    by_line room (is_line ask 2 Plain 0 0) AllSendCid _ (λ e answer h x. x) (
-    by_line room (is_line ask 3 Plain 0 0) SendRelativeAddress _ (λ e answer h x. x) (
-    by_line room (is_line ask 7 Rca 0 0) SelectCard _ (λ e answer h x. x) (
-    by_line room (is_line ask 7 Plain 0 0) DeselectCards _ (λ e answer h x. x) (
-    by_line room (is_line ask 8 Plain 0 0) SendIfCond _ (λ e answer h x. x) (
-    by_line room (is_line ask 9 Rca 0 0) SendCsd _ (λ e answer h x. x) (
-    by_line room (is_line ask 10 Rca 0 0) SendCid _ (λ e answer h x. x) (
-    by_line room (is_line ask 12 Plain 0 0) StopTransmission _ (λ e answer h x. x) (
-    by_line room (is_line ask 13 Rca 0 0) SendStatus _ (λ e answer h x. x) (
-    by_line room (is_line ask 16 Plain 0 0) SetBlockLength _ (λ e answer h x. x) (
-    by_line room (is_line ask 17 Plain 0 1) ReadSingleBlock _ (λ e answer h x. one_block ask 17 room e fits) (
-    by_line room (is_counted ask 18) (ReadMultipleBlock ask.count) _ (λ e answer h x. fits) (
-    by_line room (is_line ask 24 Plain 0 1) WriteBlock _ (λ e answer h x. one_block ask 24 room e fits) (
-    by_line room (is_counted ask 25) (WriteMultipleBlock ask.count) _ (λ e answer h x. fits) (
-    by_line room (is_line ask 32 Plain 0 0) EraseBlockStart _ (λ e answer h x. x) (
-    by_line room (is_line ask 33 Plain 0 0) EraseBlockEnd _ (λ e answer h x. x) (
-    by_line room (is_line ask 38 Plain 0 0) Erase _ (λ e answer h x. x) (
-    by_line room (is_line ask 41 Plain 0x00ff8000 0) (SdSendOpCond false) _ (λ e answer h x. x) (
-    by_line room (is_line ask 41 Plain 0x40ff8000 0) (SdSendOpCond true) _ (λ e answer h x. x) (
-    by_line room (is_line ask 51 Plain 0 0) SendScr _ (λ e answer h x. x) (
-    by_line room (is_line ask 55 Rca 0 0) AppCommand None (λ e answer h x. x) (λ answer h x. x))))))))))))))))))))))
-order_announces Emmc ask room fits =
-    by_line room (is_line ask 0 Plain 0 0) GoIdleState _ (λ e answer h x. x) (
-    by_line room (is_line ask 1 Plain 0 0) SendOpCond _ (λ e answer h x. x) (
-    by_line room (is_line ask 2 Plain 0 0) AllSendCid _ (λ e answer h x. x) (
-    by_line room (is_line ask 3 Plain 0 0) SetRelativeAddress _ (λ e answer h x. x) (
-    by_line room (is_line ask 7 Rca 0 0) SelectCard _ (λ e answer h x. x) (
-    by_line room (is_line ask 7 Plain 0 0) DeselectCards _ (λ e answer h x. x) (
-    by_line room (is_line ask 8 Plain 0 0) SendExtCsd _ (λ e answer h x. x) (
-    by_line room (is_line ask 9 Rca 0 0) SendCsd _ (λ e answer h x. x) (
-    by_line room (is_line ask 10 Rca 0 0) SendCid _ (λ e answer h x. x) (
-    by_line room (is_line ask 12 Plain 0 0) StopTransmission _ (λ e answer h x. x) (
-    by_line room (is_line ask 13 Rca 0 0) SendStatus _ (λ e answer h x. x) (
-    by_line room (is_line ask 16 Plain 0 0) SetBlockLength _ (λ e answer h x. x) (
-    by_line room (is_line ask 17 Plain 0 1) ReadSingleBlock _ (λ e answer h x. one_block ask 17 room e fits) (
-    by_line room (is_counted ask 18) (ReadMultipleBlock ask.count) _ (λ e answer h x. fits) (
-    by_line room (is_counted ask 23) (SetBlockCount ask.count) _ (λ e answer h x. x) (
-    by_line room (is_line ask 24 Plain 0 1) WriteBlock _ (λ e answer h x. one_block ask 24 room e fits) (
-    by_line room (is_counted ask 25) (WriteMultipleBlock ask.count) _ (λ e answer h x. fits) (
-    by_line room (is_line ask 35 Plain 0 0) EraseGroupStart _ (λ e answer h x. x) (
-    by_line room (is_line ask 36 Plain 0 0) EraseGroupEnd _ (λ e answer h x. x) (
-    by_line room (is_line ask 38 Plain 0 0) Erase _ (λ e answer h x. x) (
-    by_line room (is_line ask 38 Plain 1 0) Erase _ (λ e answer h x. x) (
-    by_line room (is_line ask 38 Plain 3 0) Erase None (λ e answer h x. x) (λ answer h x. x))))))))))))))))))))))
+pub order_announces : (k : Kind) (ask : Ask) (room : ℕ) → ask.count ≤ room → (answer : Answer) (h : Host) → h.announced ≤ room →
+    (host_after_order (order_of k ask) answer h).announced ≤ room
+order_announces k ask room = announced_of k ask (order_of k ask) room refl
 
 -- AFTER A MOVE
 

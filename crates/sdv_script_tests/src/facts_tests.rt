@@ -6,7 +6,7 @@ use arrayvec::ArrayVec;
 use sdv_card::{Aim, Ask, Event, Guard, Kind, Seen, Shape, State};
 use sdv_facts::{
     Facts, Numbers, Test, VarFacts, address_holds, address_ok, after_let, after_test, all_may_hold,
-    covers, ends_at, event_of_phase, holds_shape, one_may_fail,
+    covers, ends_at, event_of_phase, one_may_fail,
 };
 use sdv_graph::{Action, Address, Atom, Change, Command, Let, Phase, Position, Target, Unit};
 use std::alloc::{AllocError, Global};
@@ -33,65 +33,23 @@ fn numbers(m: u64, x: Known, y: Known) -> Numbers
     Numbers { m, vars }
 }
 
-fn shapes_of(alloc: Global, codes: &[u64]) -> Result<Vec<Shape>, AllocError> {
-    let mut shapes = Vec::new(alloc);
-    for code in codes {
-        shapes.push(Shape(*code))?;
-    }
-    Ok(shapes)
-}
-
-// Facts with the shapes of these codes.
+// Facts with the shapes of these codes, of which there are two at most, and the lesser one comes first.
+#[tactic(auto, using(crate::proofs::FewShapes::one_rises, crate::proofs::FewShapes::two_rise))]
 fn facts_of(alloc: Global, codes: &[u64], numbers: Numbers) -> Result<Facts, AllocError>
     requires { length numbers.vars.items ≡ 2 }
     ensures { IfOk result (λ facts. length facts.numbers.vars.items ≡ 2) }
 {
-    Ok(Facts::of_shapes(shapes_of(alloc, codes)?, numbers))
-}
-
-// Codes with the set of them.
-static SETS: [(&[u64], &[u64]); 5] = [
-    (&[], &[]),
-    (&[7], &[7]),
-    (&[3, 1, 2], &[1, 2, 3]),
-    (&[2, 2, 2], &[2]),
-    (&[5, 1, 5, 3, 1], &[1, 3, 5]),
-];
-
-// The shapes that are known, those that are carried, and both.
-static JOINED: [(&[u64], &[u64], &[u64]); 9] = [
-    (&[], &[], &[]),
-    (&[], &[1, 2], &[1, 2]),
-    (&[1, 2], &[], &[1, 2]),
-    (&[1, 2], &[4, 5], &[1, 2, 4, 5]),
-    (&[4, 5], &[1, 2], &[1, 2, 4, 5]),
-    (&[1, 3, 5], &[2, 4, 6], &[1, 2, 3, 4, 5, 6]),
-    (&[1, 2, 3], &[1, 3], &[1, 2, 3]),
-    (&[1, 3, 4], &[2, 3], &[1, 2, 3, 4]),
-    (&[2], &[1, 2, 3, 4], &[1, 2, 3, 4]),
-];
-
-#[test]
-fn shapes(rt: HostRuntime) -> Result<(), Fail> {
-    let alloc = rt.alloc();
-    for &(codes, set) in SETS.iter() {
-        let facts = facts_of(alloc, codes, numbers(1, ZERO, ZERO))?;
-        assert_eq!(&rt; facts.shapes(), shapes_of(alloc, set)?.as_slice());
-        for code in 0..9 {
-            assert_eq!(&rt; holds_shape(&facts, Shape(code)), set.contains(&code));
+    match codes {
+        [code] => {
+            let shapes = vec![in alloc; Shape(*code)]?;
+            Ok(Facts::new(shapes, numbers))
         }
+        [code, next] if code < next => {
+            let shapes = vec![in alloc; Shape(*code), Shape(*next)]?;
+            Ok(Facts::new(shapes, numbers))
+        }
+        _ => Ok(Facts::new(Vec::new(alloc), numbers)),
     }
-    for &(known, carried, both) in JOINED.iter() {
-        let mut facts = facts_of(alloc, known, numbers(1, ZERO, ZERO))?;
-        let more = facts_of(alloc, carried, numbers(1, ZERO, ZERO))?;
-        assert_eq!(&rt; facts.join(false, &more)?, both.len() > known.len());
-        assert_eq!(&rt; facts.shapes(), shapes_of(alloc, both)?.as_slice());
-    }
-    let mut facts = facts_of(alloc, &[1], numbers(1, ZERO, ZERO))?;
-    let more = facts_of(alloc, &[1], numbers(1, (0, 4, None), ZERO))?;
-    assert!(&rt; facts.join(false, &more)?);
-    assert_eq!(&rt; facts.numbers(), more.numbers());
-    Ok(())
 }
 
 // A byte-addressed and a block-addressed card in transfer state; the second also with the first flag set.

@@ -1,0 +1,143 @@
+//! Sets of shapes, and what is known after one more edge, beside rows from outside.
+
+ghost use Rattle.std.specs.Prelude.{◌≡◌, length, IfOk};
+
+use arrayvec::ArrayVec;
+use sdv_card::Shape;
+use sdv_certify::{facts_of_shapes, join_facts};
+use sdv_facts::{Facts, Numbers, VarFacts, holds_shape};
+use std::alloc::{AllocError, Global};
+use std::test::Fail;
+
+fn shapes_of(alloc: Global, codes: &[u64]) -> Result<Vec<Shape>, AllocError> {
+    let mut shapes = Vec::new(alloc);
+    for code in codes {
+        shapes.push(Shape(*code))?;
+    }
+    Ok(shapes)
+}
+
+/// What is known of one variable: its least value, its greatest, and how far it stays from the capacity.
+type Known = (u64, u64, Option<u64>);
+
+/// Numbers with one variable.
+fn numbers(m: u64, known: Known) -> Numbers
+    ensures { length result.vars.items ≡ 1 }
+{
+    let (lo, hi, gap) = known;
+    let mut vars = ArrayVec::new();
+    vars.push(VarFacts { lo, hi, gap });
+    Numbers { m, vars }
+}
+
+/// Facts with the shapes of these codes.
+fn facts_of(alloc: Global, codes: &[u64], numbers: Numbers) -> Result<Facts, AllocError>
+    requires { length numbers.vars.items ≡ 1 }
+    ensures { IfOk result (λ facts. length facts.numbers.vars.items ≡ 1) }
+{
+    Ok(facts_of_shapes(shapes_of(alloc, codes)?, numbers))
+}
+
+const ZERO: Known = (0, 0, None);
+
+/// Codes with the set of them.
+static SETS: [(&[u64], &[u64]); 5] = [
+    (&[], &[]),
+    (&[7], &[7]),
+    (&[3, 1, 2], &[1, 2, 3]),
+    (&[2, 2, 2], &[2]),
+    (&[5, 1, 5, 3, 1], &[1, 3, 5]),
+];
+
+/// The shapes that are known, those that are carried, and both.
+static JOINED: [(&[u64], &[u64], &[u64]); 9] = [
+    (&[], &[], &[]),
+    (&[], &[1, 2], &[1, 2]),
+    (&[1, 2], &[], &[1, 2]),
+    (&[1, 2], &[4, 5], &[1, 2, 4, 5]),
+    (&[4, 5], &[1, 2], &[1, 2, 4, 5]),
+    (&[1, 3, 5], &[2, 4, 6], &[1, 2, 3, 4, 5, 6]),
+    (&[1, 2, 3], &[1, 3], &[1, 2, 3]),
+    (&[1, 3, 4], &[2, 3], &[1, 2, 3, 4]),
+    (&[2], &[1, 2, 3, 4], &[1, 2, 3, 4]),
+];
+
+#[test]
+fn shapes(rt: HostRuntime) -> Result<(), Fail> {
+    let alloc = rt.alloc();
+    for &(codes, set) in SETS.iter() {
+        let facts = facts_of(alloc, codes, numbers(1, ZERO))?;
+        assert_eq!(&rt; facts.shapes(), shapes_of(alloc, set)?.as_slice());
+        for code in 0..9 {
+            assert_eq!(&rt; holds_shape(&facts, Shape(code)), set.contains(&code));
+        }
+    }
+    for &(known, carried, both) in JOINED.iter() {
+        let mut facts = facts_of(alloc, known, numbers(1, ZERO))?;
+        let more = facts_of(alloc, carried, numbers(1, ZERO))?;
+        let changed = join_facts(alloc, &mut facts, false, &more)?;
+        assert_eq!(&rt; changed, both.len() > known.len());
+        assert_eq!(&rt; facts.shapes(), shapes_of(alloc, both)?.as_slice());
+    }
+    Ok(())
+}
+
+/// Whether the edge leads back to a loop's head, what is known of the capacity and a variable, what is carried, and what is
+/// known of both then.
+static NUMBERS: [(bool, (u64, Known), (u64, Known), (u64, Known)); 6] = [
+    (
+        false,
+        (9, (3, 5, Some(7))),
+        (9, (3, 5, Some(7))),
+        (9, (3, 5, Some(7))),
+    ),
+    (
+        false,
+        (9, (3, 5, Some(7))),
+        (4, (2, 6, Some(8))),
+        (4, (2, 6, Some(7))),
+    ),
+    (
+        false,
+        (9, (3, 5, Some(7))),
+        (10, (4, 4, None)),
+        (9, (3, 5, None)),
+    ),
+    (
+        true,
+        (9, (3, 5, Some(7))),
+        (10, (4, 4, Some(8))),
+        (9, (3, 5, Some(7))),
+    ),
+    (
+        true,
+        (9, (3, 5, Some(7))),
+        (8, (2, 6, Some(6))),
+        (1, (0, 1_099_511_627_776, None)),
+    ),
+    (
+        true,
+        (9, (3, 5, None)),
+        (9, (3, 5, Some(7))),
+        (9, (3, 5, None)),
+    ),
+];
+
+#[test]
+fn numbers_of_both(rt: HostRuntime) -> Result<(), Fail> {
+    let alloc = rt.alloc();
+    for &(back, known, carried, wanted) in NUMBERS.iter() {
+        let mut facts = facts_of(alloc, &[1], numbers(known.0, known.1))?;
+        let more = facts_of(alloc, &[1], numbers(carried.0, carried.1))?;
+        let changed = join_facts(alloc, &mut facts, back, &more)?;
+        assert_eq!(&rt;
+            facts.numbers(),
+            &numbers(wanted.0, wanted.1),
+            "{known:?} {carried:?}"
+        );
+        assert_eq!(&rt; changed, known != wanted, "{known:?} {carried:?}");
+        facts.set_numbers(numbers(carried.0, carried.1));
+        assert_eq!(&rt; facts.numbers(), more.numbers());
+    }
+    Ok(())
+}
