@@ -15,9 +15,8 @@ use Rattle.sdv_card.specs.declared.answer.DataEnd.TheVariants as ends
 use Rattle.sdv_card.specs.declared.command.Order.{Order}
 use Rattle.sdv_card.specs.declared.command.Order.TheVariants.{AllSendCid, SendRelativeAddress, SetRelativeAddress, SendIfCond, SendExtCsd, SdSendOpCond, AppCommand}
 use Rattle.sdv_card.specs.CommandTable.{order_of, order_expect, expect_or_nothing}
-use Rattle.sdv_card.specs.Expected.{unanswered}
 use Rattle.sdv_card.specs.Port.{call_of}
-use Rattle.sdv_card.proofs.OrdersOfAsks.{LineOf, has_order, line_of}
+use Rattle.sdv_card.proofs.OrdersOfAsks.{of_ask}
 use Rattle.sdv_card.proofs.RowsOfOrders.{order_index}
 use Rattle.sdv_card.specs.Host.{Host}
 use Rattle.sdv_card.specs.ScriptEvent.{ScriptEvent, SendCommand, Answered}
@@ -48,8 +47,8 @@ use Rattle.sdv_words.specs.declared.plain.port.Stage.TheVariants.{Idle, Ready, I
 use Rattle.sdv_words.specs.declared.plain.port.PlainPort.{PlainPort}
 use Rattle.sdv_words.specs.declared.plain.PlainFault.{PlainFault}
 use Rattle.sdv_words.specs.declared.plain.PlainFault.TheVariants.{Trace, Memory, Run}
-use Rattle.sdv_words.specs.PlainPort.{card_at, plain_card, zeros, at_start, port, replies, taken, SentByTable, PortSteps}
-use Rattle.sdv_words.specs.PlainKeeps.{step_at}
+use Rattle.sdv_words.specs.PlainPort.{card_at, plain_card, zeros, at_start, port, replies, taken, lost, SentByTable, PortSteps}
+use Rattle.sdv_words.specs.PlainKeeps.{step_at, OwnIs, own_is}
 use Rattle.sdv_words.specs.PlainRun.{IsWalkOf, IsAnswered, IsBeside, WholeRun, PartOfRun, StoppedRun, NextIsTooWide, NextGives, CannotGoOn, Prints, fault_of_run}
 
 -- WHAT A PATH SENDS is asked and sent by the command table
@@ -135,7 +134,7 @@ sent_last (y ∷ earlier) x sent = sent_last earlier x sent.1
 
 -- what the port answers to an order
 abbrev answer : Order → ℕ → PlainPort → Answer
-answer order argument s = (unwrap_or (taken s (order_index order) argument) (unanswered (order_expect order (order_index order)), s)).0
+answer order argument s = (unwrap_or (taken s (order_index order) argument) (lost (order_expect order (order_index order)), s)).0
 
 abbrev Fits : Order → Answer → Type 0
 Fits order answer = (is_of_kind (order_expect order (order_index order)) answer && has_readable_csd Sd (Some order) answer) ≡ true
@@ -149,28 +148,27 @@ application_fits true app checked = refl
 application_fits false app checked = refl
 
 -- it is of the kind that was asked for
-fits : (order : Order) (stage : Stage) (app checked : Bool) (argument : ℕ) → has_order Sd order ≡ true → Fits order (answer order argument (port stage app checked))
-fits SetRelativeAddress stage app checked argument has = absurd (let f : false ≡ true = has in cc)
-fits SendExtCsd stage app checked argument has = absurd (let f : false ≡ true = has in cc)
-fits AllSendCid Ready false checked argument has = refl
-fits SendRelativeAddress Ident false checked argument has = refl
-fits SendRelativeAddress Stby false checked argument has = refl
-fits SendIfCond Idle false checked argument has = refl
-fits (SdSendOpCond high) Idle true checked argument has = conditions_fit high (checked && (argument == 0x40ff8000)) checked
-fits AppCommand Idle app checked argument has = refl
-fits AppCommand Stby app checked argument has = application_fits (0x1234 == argument / 65536) app checked
-fits order stage app checked argument has = refl
+fits : (ask : Ask) (order : Order) (stage : Stage) (app checked : Bool) (argument : ℕ) → OwnIs ask order → Fits order (answer order argument (port stage app checked))
+fits ask SetRelativeAddress stage app checked argument own = absurd own
+fits ask SendExtCsd stage app checked argument own = absurd own
+fits ask AllSendCid Ready false checked argument own = refl
+fits ask SendRelativeAddress Ident false checked argument own = refl
+fits ask SendRelativeAddress Stby false checked argument own = refl
+fits ask SendIfCond Idle false checked argument own = refl
+fits ask (SdSendOpCond high) Idle true checked argument own = conditions_fit high (checked && (argument == 0x40ff8000)) checked
+fits ask AppCommand Idle app checked argument own = refl
+fits ask AppCommand Stby app checked argument own = application_fits (0x1234 == argument / 65536) app checked
+fits ask order stage app checked argument own = refl
 
 is_taken_there : (ask : Ask) (position argument : ℕ) (told : Answer) (u v : PlainPort) → IsAsked Sd ask → PortSteps u (call_of Sd (SendCommand ask position argument)) (Answered told) v → is_taken Sd ask told ≡ true
 unfolding order_of
 is_taken_there ask position argument told u v asked step =
     let o : Order = asked.0 in
     let e : order_of Sd ask ≡ Some o = asked.1.line in
-    let of : LineOf Sd ask o = line_of Sd ask o e in
-    let index : ask.index ≡ order_index o = of.index in
-    let by_order : (told, v) ≡ unwrap_or (taken u ask.index argument) (unanswered (order_expect o ask.index), u) = subst (λ w. (told, v) ≡ unwrap_or (taken u ask.index argument) (unanswered (expect_or_nothing w ask.index), u)) e step in
-    let is : (told, v) ≡ unwrap_or (taken u (order_index o) argument) (unanswered (order_expect o (order_index o)), u) = subst (λ i. (told, v) ≡ unwrap_or (taken u i argument) (unanswered (order_expect o i), u)) index by_order in
-    let fit : Fits o told = subst (λ a. Fits o a) (sym (ap (λ p. p.0) is)) (fits o u.stage u.app u.checked argument of.has) in
+    let index : ask.index ≡ order_index o = (of_ask Sd ask o e).index in
+    let by_order : (told, v) ≡ unwrap_or (taken u ask.index argument) (lost (order_expect o ask.index), u) = subst (λ w. (told, v) ≡ unwrap_or (taken u ask.index argument) (lost (expect_or_nothing w ask.index), u)) e step in
+    let is : (told, v) ≡ unwrap_or (taken u (order_index o) argument) (lost (order_expect o (order_index o)), u) = subst (λ i. (told, v) ≡ unwrap_or (taken u i argument) (lost (order_expect o i), u)) index by_order in
+    let fit : Fits o told = subst (λ a. Fits o a) (sym (ap (λ p. p.0) is)) (fits ask o u.stage u.app u.checked argument (own_is ask o e)) in
     subst (λ w. (is_of_kind (expect_or_nothing w ask.index) told && has_readable_csd Sd w told) ≡ true) (sym e)
     (subst (λ i. (is_of_kind (order_expect o i) told && has_readable_csd Sd (Some o) told) ≡ true) (sym index) fit)
 

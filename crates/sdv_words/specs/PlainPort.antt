@@ -2,18 +2,19 @@
 -- SD Physical Layer Simplified Specification, sections 4.2 (card identification mode) and 4.8 (card state transition table).
 use Rattle.std.specs.Prelude.{◌≡◌, ◌/◌, ◌==◌, ◌&&◌, Bool, true, false, ℕ, List, replicate, Option, Some, None, unwrap_or, if◌then◌else◌}
 use Rattle.sdv_registers.specs.declared.kind.Kind.TheVariants.{Sd}
+use Rattle.sdv_frames.specs.declared.reply.Expect.{Expect}
+use Rattle.sdv_frames.specs.declared.reply.Expect.TheVariants.{Nothing}
 use Rattle.sdv_frames.specs.declared.reply.Reply.{Reply}
 use Rattle.sdv_frames.specs.declared.reply.Reply.TheVariants.{R1, R2, R3, R6, R7}
 use Rattle.sdv_card.specs.declared.state.State.{State}
 use Rattle.sdv_card.specs.declared.state.State.TheVariants as states
 use Rattle.sdv_card.specs.declared.answer.Answer.{Answer}
-use Rattle.sdv_card.specs.declared.answer.Answer.TheVariants.{Sent}
+use Rattle.sdv_card.specs.declared.answer.Answer.TheVariants.{Sent, TimeOut}
 use Rattle.sdv_card.specs.declared.answer.Answer.TheVariants as answers
 use Rattle.sdv_card.specs.declared.answer.DataEnd.TheVariants.{Cut}
 use Rattle.sdv_card.specs.declared.answer.WaitEnd.TheVariants as waits
 use Rattle.sdv_card.specs.BringUp.{example_card, example_cid}
 use Rattle.sdv_card.specs.Card.{Card, Block}
-use Rattle.sdv_card.specs.Expected.{unanswered}
 use Rattle.sdv_card.specs.Port.{Call, Exchange, DataIn, DataInRegister, DataOut, WaitWhileBusy}
 use Rattle.sdv_card.specs.CommandTable.{argument_of}
 use Rattle.sdv_card.specs.ScriptEvent.{ScriptEvent, SendCommand, Return, Answered, BlocksIn, RegisterIn, BlocksOut, Waited}
@@ -98,8 +99,12 @@ taken s index argument =
 
 -- THE STEPS OF THE PORT: everything that the card does not take is lost.
 
+abbrev pub lost : Expect → Answer
+lost Nothing = Sent
+lost expect = TimeOut
+
 abbrev pub PortSteps : PlainPort → Call → Return → PlainPort → Type 0
-PortSteps s (Exchange command expect) (Answered answer) s' = (answer, s') ≡ unwrap_or (taken s command.index command.argument) (unanswered expect, s)
+PortSteps s (Exchange command expect) (Answered answer) s' = (answer, s') ≡ unwrap_or (taken s command.index command.argument) (lost expect, s)
 PortSteps s (DataIn count) (BlocksIn end blocks) s' = (end ≡ Cut) × (s' ≡ s)
 PortSteps s (DataInRegister count) (RegisterIn end bytes) s' = (end ≡ Cut) × (s' ≡ s)
 PortSteps s (DataOut blocks) (BlocksOut end) s' = (end ≡ Cut) × (s' ≡ s)
