@@ -1,0 +1,16 @@
+//! Tests of simulated cards: descriptions, how a `Sim` is made, bring-ups with their answers to the letter, what each value
+//! of a schedule does, and reads, writes and erases.
+//!
+//! The crate has no code of its own.
+#![tactic(auto)]
+
+#[cfg(test)]
+mod bring_up;
+#[cfg(test)]
+mod descriptions;
+#[cfg(test)]
+mod failing;
+#[cfg(test)]
+mod phases;
+#[cfg(test)]
+mod shared;

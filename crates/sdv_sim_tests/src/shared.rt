@@ -1,0 +1,108 @@
+//! What several tests call.
+
+use sdv_card::{Answer, CardPort};
+use sdv_controller::Controller;
+use sdv_frames::{Command, Expect, Reply};
+use sdv_sim::{CardDesc, MemImage, Sim};
+use std::alloc::Global;
+use std::process::Abort;
+use std::test::Fail;
+
+/// A controller with a simulated card behind it.
+pub type Port = Controller<Sim<MemImage>>;
+
+/// An SD card of version 2 with block addresses, of 1,024 blocks.
+pub const BLOCK_CARD: &str = "card sd\nversion 2\nunit block\ncsize 0\nrca 4660\n";
+
+/// An SD card of version 1, of 4 blocks.
+pub const BYTE_CARD: &str = "card sd\nversion 1\nunit byte\ncsize 0\ncmult 0\nrbl 9\nrca 1\n";
+
+/// An e.MMC device with block addresses, of 2,048 blocks.
+pub const DEVICE: &str = "card emmc\nunit block\nsectors 2048\n";
+
+/// The CID of an SD card.
+pub const SD_CID: [u8; 15] = [
+    0x00, 0x58, 0x58, 0x53, 0x44, 0x56, 0x20, 0x20, 0x10, 0x00, 0x00, 0x00, 0x01, 0x01, 0x81,
+];
+
+/// A command, what is waited for, and the answer.
+pub type Exchange = (u8, u32, Expect, Answer);
+
+/// An R1.
+pub fn r1(index: u8, argument: u32, status: u32) -> Exchange {
+    (
+        index,
+        argument,
+        Expect::R1(index),
+        Answer::Reply(Reply::R1 { index, status }),
+    )
+}
+
+/// The bring-up of an SD card, without a schedule.
+pub fn bring_up(rca: u32, ocr: u32, echo: Answer, csd: [u8; 15]) -> [Exchange; 9] {
+    [
+        (0, 0, Expect::Nothing, Answer::Sent),
+        (8, 0x1aa, Expect::R7, echo),
+        r1(55, 0, 0x120),
+        (41, 0x40ff_8000, Expect::R3, Answer::Reply(Reply::R3(ocr))),
+        (2, 0, Expect::R2, Answer::Reply(Reply::R2(SD_CID))),
+        (3, 0, Expect::R6, Answer::Reply(Reply::R6(rca | 0x500))),
+        (9, rca, Expect::R2, Answer::Reply(Reply::R2(csd))),
+        r1(7, rca, 0x700),
+        r1(16, 512, 0x900),
+    ]
+}
+
+/// The bring-up of the block card.
+pub fn block_bring_up() -> [Exchange; 9] {
+    bring_up(
+        0x1234_0000,
+        0xc0ff_8000,
+        Answer::Reply(Reply::R7(0x1aa)),
+        [0x40, 0, 0, 0, 0, 0x09, 0, 0, 0, 0, 0, 0, 0, 0, 0],
+    )
+}
+
+/// An image of zeros, but for one block of equal bytes.
+pub fn image(alloc: Global, blocks: u64, block: u64, byte: u8) -> Result<MemImage, Fail> {
+    let mut bytes = Vec::new(alloc);
+    for place in 0..blocks {
+        for _ in 0..512 {
+            bytes.push(if place == block { byte } else { 0 })?;
+        }
+    }
+    Ok(MemImage::from_bytes(bytes)?)
+}
+
+/// A card of a description over such an image.
+pub fn port(
+    alloc: Global,
+    desc: &str,
+    schedule: &[u8],
+    block: u64,
+    byte: u8,
+) -> Result<Port, Fail> {
+    let desc = CardDesc::parse(desc)?;
+    let image = image(alloc, desc.capacity, block, byte)?;
+    Ok(Controller::new(Sim::new(alloc, desc, image, schedule)?))
+}
+
+/// The answer to a command.
+pub fn ask<P: CardPort>(
+    rt: &impl Abort,
+    port: &mut P,
+    index: u8,
+    argument: u32,
+    expect: Expect,
+) -> Answer {
+    assert!(rt; index < 64);
+    port.exchange(Command { index, argument }, expect)
+}
+
+/// Each command has its answer.
+pub fn play<P: CardPort>(rt: &impl Abort, port: &mut P, rows: &[Exchange]) {
+    for (index, argument, expect, answer) in rows.iter() {
+        let found = ask(rt, port, *index, *argument, *expect);
+        assert!(rt; found == *answer, "CMD{index} {argument:08x}: {found:?}");
+    }
+}
