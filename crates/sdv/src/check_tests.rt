@@ -1,6 +1,6 @@
 //! Checks of scripts and certificates in files, and in memory.
 use crate::testing::{CERTIFICATE, Expected, SMALLEST, expect, expect_check, prints, says};
-use sdv_words::file::{Texts, bytes_within};
+use sdv_words::file::{Store, bytes_within};
 use sdv_words::program::{answer, program};
 use std::alloc::{AllocError, Global};
 use std::fs;
@@ -11,18 +11,40 @@ use std::test::Fail;
 #[derive(Drop)]
 struct Pair;
 
-impl Texts for Pair {
-    ghost use Rattle.sdv_words.specs.Check.{any_text};
+impl Store for Pair {
+    type Sink = Full;
 
-    ghost gives = { λ _. any_text };
+    ghost use Rattle.sdv_words.specs.Files.{any_bytes, any_sink};
 
-    fn text_of(&self, alloc: Global, file: &str) -> Result<Option<String>, AllocError> {
+    ghost gives = { λ _. any_bytes };
+
+    ghost opened = { λ _. any_sink };
+
+    ghost received = { λ _. any_bytes };
+
+    ghost stored = { λ _. any_bytes };
+
+    fn bytes_of(&self, alloc: Global, file: &str) -> Result<Option<Vec<u8>>, AllocError> {
         let text = if file == "script" {
             SMALLEST
         } else {
             CERTIFICATE
         };
-        Ok(Some(String::from_str(alloc, text)?))
+        let mut bytes = Vec::new(alloc);
+        bytes.extend_from_slice(text.as_bytes())?;
+        Ok(Some(bytes))
+    }
+
+    fn store(&self, _file: &str, _bytes: &[u8]) -> bool {
+        false
+    }
+
+    fn create(&self, _file: &str) -> Option<Full> {
+        None
+    }
+
+    fn finish(&self, _file: &str, _sink: Full) -> bool {
+        false
     }
 }
 

@@ -1,7 +1,5 @@
 //! Scripts of as many statements as one may have, in files: memory suffices for each answer.
-use crate::testing::{expect, expect_certify, prints, says};
-use sdv_run::End;
-use sdv_words::plain::plain_run;
+use crate::testing::{Expected, expect, expect_certify, prints, says};
 use sdv_words::program::program;
 use std::alloc::{AllocError, Global};
 use std::fs;
@@ -29,8 +27,21 @@ fn certifies_and_checks_long_scripts(rt: HostRuntime) -> Result<(), Fail> {
     fs::write(&rt, certificate, out.as_slice())?;
     let words = ["check", script, certificate];
     expect(&rt, &words, prints("accepted 1\n"));
-    let mut trace = Vec::new(alloc);
-    assert!(rt; matches!(plain_run(alloc, &text, &mut trace), Ok(End::Fault(_))));
+    fs::write(
+        &rt,
+        "long.card",
+        "card sd\nversion 2\nunit block\ncsize 0\nrca 4660\n",
+    )?;
+    let run = ["run", script, certificate, "long.card", "new:1024"];
+    expect(
+        &rt,
+        &run,
+        Expected {
+            status: 1,
+            printed: "CMD0 00000000 -\nfault stop\n",
+            said: "",
+        },
+    );
     for (last, said) in [
         ("send 2 { else { } } done", "refused Illegal point 4094\n"),
         ("send 0 @", "script fault Token line 4096\n"),

@@ -8,9 +8,9 @@ mod check_tests;
 #[cfg(test)]
 mod long_tests;
 #[cfg(test)]
-mod plain_scripts;
+mod progress_tests;
 #[cfg(test)]
-mod plain_tests;
+mod run_tests;
 #[cfg(test)]
 mod start_tests;
 #[cfg(test)]
@@ -18,14 +18,28 @@ mod testing;
 #[cfg(test)]
 mod tests;
 
+use sdv_words::progress::{Below, Counted, Progress};
 use sdv_words::start::start;
-use std::io;
+use std::io::{self, IsTerminal};
 use std::process::ExitCode;
 use std::rt::Env;
 
 fn main(rt: HostRuntime) -> ExitCode {
     let words = words_of(&rt);
-    ExitCode::from(start(&rt, words, &mut rt.stdout(), &mut rt.stderr()))
+    // a trace on the terminal shows by itself how far the run is
+    let is_shown = rt.stderr().is_terminal() && !rt.stdout().is_terminal();
+    let progress = Progress::new(is_shown.then_some(rt.stderr()), &rt);
+    let mut out = Counted {
+        inner: rt.stdout(),
+        progress: &progress,
+    };
+    let mut err = Below {
+        inner: rt.stderr(),
+        progress: &progress,
+    };
+    let status = start(&rt, words, &mut out, &mut err);
+    progress.hide();
+    ExitCode::from(status)
 }
 
 // The words of the process, of which no clause of the standard library says anything.

@@ -1,14 +1,12 @@
 //! The program on the words of a process.
 
-use crate::testing::{Expected, prints, says};
+use crate::testing::{Expected, USAGE, prints, says};
 use sdv_words::start::start;
 use std::io::{self, ErrorKind};
 use std::process::Abort;
 use std::rt::Files;
 use std::test::Fail;
 use std::{fs, str};
-
-const USAGE: &str = "usage: sdv frame INDEX ARG | sdv certify SCRIPT | sdv check SCRIPT CERT\n";
 
 fn expect_start<R: Files + AllocGlobal + Abort>(
     rt: &R,

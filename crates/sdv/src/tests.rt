@@ -1,5 +1,8 @@
 //! The program over writers in memory, and over one that takes nothing.
+use crate::testing::USAGE;
 use sdv_frames::Command;
+use sdv_run::RunFault;
+use sdv_sim::SimFault;
 use sdv_words::fault::Fault;
 use sdv_words::frame::{command_of, write_frame};
 use sdv_words::line::{Line, LineFault, line_of};
@@ -41,7 +44,7 @@ fn prints_frames(rt: HostRuntime) {
 
 #[test]
 fn refuses_other_words(rt: HostRuntime) {
-    let rows: [&[&str]; 21] = [
+    let rows: [&[&str]; 25] = [
         &[],
         &["frame"],
         &["frame", "0"],
@@ -60,6 +63,10 @@ fn refuses_other_words(rt: HostRuntime) {
         &["certify"],
         &["certify", "a", "b"],
         &["certifies", "a"],
+        &["run", "a", "b", "c"],
+        &["run", "a", "b", "c", "d", "e", "f"],
+        &["run", "a", "b", "c", "d", "--out"],
+        &["run", "a", "b", "c", "d", "--out", "e", "--out", "f"],
         &["help"],
         &["--help"],
         &["frame", "-h"],
@@ -70,11 +77,7 @@ fn refuses_other_words(rt: HostRuntime) {
         let status = program(&rt, words, &mut out, &mut err);
         assert_eq!(rt; status, 2, "at row {row}");
         assert!(rt; out.is_empty(), "at row {row}");
-        assert!(rt;
-            err.as_slice()
-                == b"usage: sdv frame INDEX ARG | sdv certify SCRIPT | sdv check SCRIPT CERT\n".as_slice(),
-            "at row {row}"
-        );
+        assert!(rt; err.as_slice() == USAGE.as_bytes(), "at row {row}");
     }
 }
 
@@ -115,15 +118,19 @@ fn reads_a_line(rt: HostRuntime) {
 #[test]
 fn names_faults(rt: HostRuntime) -> Result<(), Fail> {
     let alloc = rt.alloc();
-    let usage = "usage: sdv frame INDEX ARG | sdv certify SCRIPT | sdv check SCRIPT CERT";
-    assert!(rt; LineFault::Usage.to_string(alloc)?.as_str() == usage);
+    assert!(rt; LineFault::Usage.to_string(alloc)?.as_str() == USAGE.trim_end());
     assert!(rt; LineFault::Memory.to_string(alloc)?.as_str() == "out of memory");
     let rows = [
+        (Fault::Usage, 2, USAGE),
         (
-            Fault::Usage,
-            2,
-            "usage: sdv frame INDEX ARG | sdv certify SCRIPT | sdv check SCRIPT CERT\n",
+            Fault::Card(SimFault::ImageRead),
+            1,
+            "card fault ImageRead\n",
         ),
+        (Fault::Run(RunFault::Reply), 1, "run fault Reply\n"),
+        (Fault::Run(RunFault::Output), 1, "run fault Output\n"),
+        (Fault::Run(RunFault::Trace), 1, "run fault Trace\n"),
+        (Fault::Named, 1, ""),
         (Fault::Output, 2, ""),
         (Fault::Memory, 3, "out of memory\n"),
     ];

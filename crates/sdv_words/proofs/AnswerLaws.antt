@@ -1,17 +1,21 @@
 -- What words ask for, and the faults of the program by cases.
-use Rattle.std.proofs.Common.{◌≡◌, ◌≢◌, ◌∙◌, refl, sym, ap, inl, inr, ℕ, List, [], Option, Some, Result, Ok, Err, IsErrAnd, IfErr}
+use Rattle.std.proofs.Common.{◌≡◌, ◌≢◌, ◌∙◌, ◌⊎◌, refl, sym, ap, subst, inl, inr, ℕ, List, [], Option, Some, None, Result, Ok, Err, IsErrAnd, IfErr}
 use Rattle.clap.specs.Words.{Text, fault_of}
-use Rattle.sdv_words.specs.Answer.{Answers, AsksFrame, AsksNothing, IsFaultOf, RefusesFrame, RefusesScript}
-use Rattle.sdv_words.specs.Certify.{UncertifiesFile}
-use Rattle.sdv_words.specs.Check.{RefusesFiles}
-use Rattle.sdv_words.specs.CommandLine.{command_line, frame, certify, check, meaning_of}
+use Rattle.sdv_words.specs.Answer.{Answers, AsksFrame, AsksNoRun, AsksNothing, AnswersInPart, AsksRun, IsFaultOf, Leaves, Left, PrintsFrameInPart, RefusesFrame, RefusesScript}
+use Rattle.sdv_words.specs.Certify.{CertifiesFileInPart, UncertifiesFile}
+use Rattle.sdv_words.specs.Check.{AcceptsFilesInPart, RefusesFiles}
+use Rattle.sdv_words.specs.CommandLine.{Request, RunNames, command_line, frame, certify, check, run, meaning_of}
+use Rattle.sdv_words.specs.Files.{Files}
+use Rattle.sdv_words.specs.Run.{RunFails}
+use Rattle.std.specs.Io.KnownBytes.{Keeps}
 use Rattle.sdv_words.specs.Fault.{fault_of_line, status_of}
 use Rattle.sdv_words.specs.Number.{Writes}
 use Rattle.sdv_words.proofs.CommandLineLaws.{meaning-fault}
+use Rattle.sdv_words.proofs.StartLaws.{keeps_same}
 use Rattle.sdv_words.specs.declared.line.LineFault.{LineFault}
 use Rattle.sdv_words.specs.declared.line.LineFault.TheVariants as line_fault
 use Rattle.sdv_words.specs.declared.fault.Fault.{Fault}
-use Rattle.sdv_words.specs.declared.fault.Fault.TheVariants.{Usage, File, Script, Certificate, Refused, Uncertified, Output, Memory}
+use Rattle.sdv_words.specs.declared.fault.Fault.TheVariants.{Usage, File, Script, Certificate, Refused, Uncertified, Card, Run, Named, Output, Memory}
 use Rattle.sdv_frames.specs.declared.command.Command.{Command}
 
 -- ---- words
@@ -27,6 +31,16 @@ frame_is_no_check : (words : List Text) (index argument script certificate : Tex
 frame_is_no_check words index argument script certificate meaning other =
     let same : Some (frame index argument) ≡ Some (check script certificate) = sym meaning ∙ other in cc
 
+-- nor for a run
+frame_is_no_run : (words : List Text) (index argument : Text) → meaning_of words ≡ Some (frame index argument) → AsksNoRun words
+frame_is_no_run words index argument meaning names other = let same : Some (frame index argument) ≡ Some (run names) = sym meaning ∙ other in cc
+
+certify_is_no_run : (words : List Text) (script : Text) → meaning_of words ≡ Some (certify script) → AsksNoRun words
+certify_is_no_run words script meaning names other = let same : Some (certify script) ≡ Some (run names) = sym meaning ∙ other in cc
+
+check_is_no_run : (words : List Text) (script certificate : Text) → meaning_of words ≡ Some (check script certificate) → AsksNoRun words
+check_is_no_run words script certificate meaning names other = let same : Some (check script certificate) ≡ Some (run names) = sym meaning ∙ other in cc
+
 -- words whose texts write no command ask for nothing
 asks_nothing : (words : List Text) (index argument : Text) → meaning_of words ≡ Some (frame index argument)
     → ((c : Command) → ¬ Writes index argument c) → AsksNothing words
@@ -34,6 +48,7 @@ asks_nothing words index argument meaning none = record {
   no_frame = no_frame;
   no_certificate = λ script. frame_is_no_certify words index argument script meaning;
   no_check = λ script certificate. frame_is_no_check words index argument script certificate meaning;
+  no_run = frame_is_no_run words index argument meaning;
 }
   where
     no_frame : (c : Command) → ¬ AsksFrame words c
@@ -51,96 +66,249 @@ asks_nothing-fault words some =
       no_frame = λ c asked. cc (none, asked.meaning);
       no_certificate = λ script meaning. cc (none, meaning);
       no_check = λ script certificate meaning. cc (none, meaning);
+      no_run = λ names meaning. cc (none, meaning);
     }
 
 -- ---- the faults of an answer
 
-module _ (gives : (file text : Text) → Type 0) (words : List Text) where
+module _ (files : Files) (words : List Text) where
   -- a refused line
   pub faults_of_line : {T : Type 0} (fault : LineFault) (r : Result T Fault) → IsErrAnd r (λ f. f ≡ fault_of_line fault)
-      → (fault ≡ line_fault.Usage → fault_of command_line words ≢ []) → IfErr r (IsFaultOf gives words)
+      → (fault ≡ line_fault.Usage → fault_of command_line words ≢ []) → IfErr r (IsFaultOf files words)
   faults_of_line fault (Ok x) is usage = absurd is
   faults_of_line line_fault.Usage (Err f) is usage = rw is (asks_nothing-fault words (usage refl))
   faults_of_line line_fault.Memory (Err f) is usage = rw is tt
 
   -- the words of `frame`
   frame_fault : (index argument : Text) → meaning_of words ≡ Some (frame index argument) → (fault : Fault) → RefusesFrame index argument fault
-      → IsFaultOf gives words fault
+      → IsFaultOf files words fault
   frame_fault index argument meaning Usage none = asks_nothing words index argument meaning none
   frame_fault index argument meaning Output some = inl (some.0, record { index = index; argument = argument; meaning = meaning; writes = some.1 })
   frame_fault index argument meaning _ refused = absurd refused
 
   pub faults_of_frame : {T : Type 0} (index argument : Text) → meaning_of words ≡ Some (frame index argument) → (r : Result T Fault)
-      → IfErr r (RefusesFrame index argument) → IfErr r (IsFaultOf gives words)
+      → IfErr r (RefusesFrame index argument) → IfErr r (IsFaultOf files words)
   faults_of_frame index argument meaning (Ok x) refused = tt
   faults_of_frame index argument meaning (Err fault) refused = frame_fault index argument meaning fault refused
 
   -- the words of `certify`
-  certify_fault : (script : Text) → meaning_of words ≡ Some (certify script) → (fault : Fault) → UncertifiesFile gives script fault → IsFaultOf gives words fault
-  certify_fault script meaning (File file) refuses = inl (record { script_file = script; meaning = meaning; refuses = refuses })
-  certify_fault script meaning (Script fault) refuses = inl (record { script_file = script; meaning = meaning; refuses = refuses })
-  certify_fault script meaning (Uncertified fault) refuses = inl (record { script_file = script; meaning = meaning; refuses = refuses })
+  certify_fault : (script : Text) → meaning_of words ≡ Some (certify script) → (fault : Fault) → UncertifiesFile files.gives script fault → IsFaultOf files words fault
+  certify_fault script meaning (File file) refuses = inl (inl (record { script_file = script; meaning = meaning; refuses = refuses }))
+  certify_fault script meaning (Script fault) refuses = inl (inl (record { script_file = script; meaning = meaning; refuses = refuses }))
+  certify_fault script meaning (Uncertified fault) refuses = inl (inl (record { script_file = script; meaning = meaning; refuses = refuses }))
   certify_fault script meaning Output refuses = inr (inl (record { script_file = script; meaning = meaning; refuses = refuses }))
   certify_fault script meaning Memory refuses = tt
   certify_fault script meaning _ refuses = absurd refuses.refuses
 
   pub faults_of_certify : {T : Type 0} (script : Text) → meaning_of words ≡ Some (certify script) → (r : Result T Fault)
-      → IfErr r (UncertifiesFile gives script) → IfErr r (IsFaultOf gives words)
+      → IfErr r (UncertifiesFile files.gives script) → IfErr r (IsFaultOf files words)
   faults_of_certify script meaning (Ok x) refuses = tt
   faults_of_certify script meaning (Err fault) refuses = certify_fault script meaning fault refuses
 
   -- the words of `check`
   check_fault : (script certificate : Text) → meaning_of words ≡ Some (check script certificate) → (fault : Fault)
-      → RefusesFiles gives script certificate fault → IsFaultOf gives words fault
+      → RefusesFiles files.gives script certificate fault → IsFaultOf files words fault
   check_fault script certificate meaning (File file) refuses =
-      inr (record { script_file = script; certificate_file = certificate; meaning = meaning; refuses = refuses })
+      inl (inr (record { script_file = script; certificate_file = certificate; meaning = meaning; refuses = refuses }))
   check_fault script certificate meaning (Script fault) refuses =
-      inr (record { script_file = script; certificate_file = certificate; meaning = meaning; refuses = refuses })
+      inl (inr (record { script_file = script; certificate_file = certificate; meaning = meaning; refuses = refuses }))
   check_fault script certificate meaning (Certificate fault) refuses =
-      inr (record { script_file = script; certificate_file = certificate; meaning = meaning; refuses = refuses })
+      inl (inr (record { script_file = script; certificate_file = certificate; meaning = meaning; refuses = refuses }))
   check_fault script certificate meaning (Refused fault) refuses =
-      inr (record { script_file = script; certificate_file = certificate; meaning = meaning; refuses = refuses })
+      inl (inr (record { script_file = script; certificate_file = certificate; meaning = meaning; refuses = refuses }))
   check_fault script certificate meaning Output refuses =
       inr (inr (record { script_file = script; certificate_file = certificate; meaning = meaning; refuses = refuses }))
   check_fault script certificate meaning Memory refuses = tt
   check_fault script certificate meaning _ refuses = absurd refuses.refuses
 
   pub faults_of_check : {T : Type 0} (script certificate : Text) → meaning_of words ≡ Some (check script certificate) → (r : Result T Fault)
-      → IfErr r (RefusesFiles gives script certificate) → IfErr r (IsFaultOf gives words)
+      → IfErr r (RefusesFiles files.gives script certificate) → IfErr r (IsFaultOf files words)
   faults_of_check script certificate meaning (Ok x) refuses = tt
   faults_of_check script certificate meaning (Err fault) refuses = check_fault script certificate meaning fault refuses
 
   -- words that ask for nothing have no answer
-  pub no_answer : (before after : Option (List ℕ)) → AsksNothing words → Answers gives words before after → ⊥
+  pub no_answer : (before after : Option (List ℕ)) → AsksNothing words → Answers files words before after → ⊥
   no_answer before after nothing (inl framed) = nothing.no_frame framed.command framed.asked
   no_answer before after nothing (inr (inl certified)) = nothing.no_certificate certified.script_file certified.meaning
-  no_answer before after nothing (inr (inr checked)) = nothing.no_check checked.script_file checked.certificate_file checked.meaning
+  no_answer before after nothing (inr (inr (inl checked))) = nothing.no_check checked.script_file checked.certificate_file checked.meaning
+  no_answer before after nothing (inr (inr (inr ran))) = nothing.no_run ran.names ran.meaning
 
   -- nor do they have a failed output
-  pub no_output : (fault : Fault) → AsksNothing words → IsFaultOf gives words fault → fault ≢ Output
+  pub no_output : (fault : Fault) → AsksNothing words → IsFaultOf files words fault → fault ≢ Output
   no_output fault nothing faults is = go (rw is at faults)
     where
-      go : IsFaultOf gives words Output → ⊥
+      go : IsFaultOf files words Output → ⊥
       go (inl framed) = nothing.no_frame framed.0 framed.1
       go (inr (inl certified)) = nothing.no_certificate certified.script_file certified.meaning
       go (inr (inr checked)) = nothing.no_check checked.script_file checked.certificate_file checked.meaning
 
   -- where words ask for a frame, no fault is of another request
-  frame_alone : (c : Command) → AsksFrame words c → (fault : Fault) → RefusesScript gives words fault → ⊥
-  frame_alone c asked fault (inl certifies) = frame_is_no_certify words asked.index asked.argument certifies.script_file asked.meaning certifies.meaning
-  frame_alone c asked fault (inr checks) =
+  frame_alone : (c : Command) → AsksFrame words c → (fault : Fault) → RefusesScript files words fault ⊎ AsksRun words → ⊥
+  frame_alone c asked fault (inl (inl certifies)) =
+      frame_is_no_certify words asked.index asked.argument certifies.script_file asked.meaning certifies.meaning
+  frame_alone c asked fault (inl (inr checks)) =
       frame_is_no_check words asked.index asked.argument checks.script_file checks.certificate_file asked.meaning checks.meaning
+  frame_alone c asked fault (inr runs) = frame_is_no_run words asked.index asked.argument asked.meaning runs.names runs.meaning
 
   -- then status 2 is that of a failed output
-  pub frame_output : (c : Command) → AsksFrame words c → (fault : Fault) → status_of fault ≡ 2 → IsFaultOf gives words fault → fault ≡ Output
+  pub frame_output : (c : Command) → AsksFrame words c → (fault : Fault) → status_of fault ≡ 2 → IsFaultOf files words fault → fault ≡ Output
   frame_output c asked Usage status faults = absurd (faults.no_frame c asked)
   frame_output c asked (File file) status faults = absurd (frame_alone c asked (File file) faults)
   frame_output c asked (Script fault) status faults = cc
   frame_output c asked (Certificate fault) status faults = cc
   frame_output c asked (Refused fault) status faults = cc
   frame_output c asked (Uncertified fault) status faults = cc
+  frame_output c asked (Card fault) status faults = cc
+  frame_output c asked (Run fault) status faults = cc
+  frame_output c asked Named status faults = cc
   frame_output c asked Output status faults = refl
   frame_output c asked Memory status faults = cc
+
+  -- ---- what a fault leaves standard output as
+
+  -- where no run was asked for
+  left_without : (before after : Option (List ℕ)) → AsksNoRun words → (fault : Fault) → (fault ≢ Output → Keeps before after)
+      → (fault ≡ Output → AnswersInPart files words before after) → Leaves files words fault before after
+  left_without before after none Usage keeps part = record { kept = λ _. keeps (λ same. absurd (cc same)); of_run = λ names meaning. absurd (none names meaning) }
+  left_without before after none (File file) keeps part = record { kept = λ _. keeps (λ same. absurd (cc same)); of_run = λ names meaning. absurd (none names meaning) }
+  left_without before after none (Script fault) keeps part = record { kept = λ _. keeps (λ same. absurd (cc same)); of_run = λ names meaning. absurd (none names meaning) }
+  left_without before after none (Certificate fault) keeps part = record { kept = λ _. keeps (λ same. absurd (cc same)); of_run = λ names meaning. absurd (none names meaning) }
+  left_without before after none (Refused fault) keeps part = record { kept = λ _. keeps (λ same. absurd (cc same)); of_run = λ names meaning. absurd (none names meaning) }
+  left_without before after none (Uncertified fault) keeps part = record { kept = λ _. keeps (λ same. absurd (cc same)); of_run = λ names meaning. absurd (none names meaning) }
+  left_without before after none (Card fault) keeps part = record { kept = λ _. keeps (λ same. absurd (cc same)); of_run = λ names meaning. absurd (none names meaning) }
+  left_without before after none (Run fault) keeps part = record { kept = λ _. keeps (λ same. absurd (cc same)); of_run = λ names meaning. absurd (none names meaning) }
+  left_without before after none Named keeps part = record { kept = λ _. keeps (λ same. absurd (cc same)); of_run = λ names meaning. absurd (none names meaning) }
+  left_without before after none Output keeps part = part refl
+  left_without before after none Memory keeps part = record { kept = λ _. keeps (λ same. absurd (cc same)); of_run = λ names meaning. absurd (none names meaning) }
+
+  if_left : {T : Type 0} (before after : Option (List ℕ)) → AsksNoRun words → (r : Result T Fault) (P : Type 0)
+      → (P → AnswersInPart files words before after) → IfErr r (λ fault. fault ≢ Output → Keeps before after)
+      → IfErr r (λ fault. fault ≡ Output → P) → IfErr r (λ fault. Leaves files words fault before after)
+  if_left before after none (Ok x) P answers keeps part = tt
+  if_left before after none (Err fault) P answers keeps part = left_without before after none fault keeps (λ is. answers (part is))
+
+  pub left_of_line : {T : Type 0} (fault : LineFault) (r : Result T Fault) (before : Option (List ℕ)) → IsErrAnd r (λ f. f ≡ fault_of_line fault)
+      → (fault ≡ line_fault.Usage → fault_of command_line words ≢ []) → IfErr r (λ f. Leaves files words f before before)
+  left_of_line fault (Ok x) before is usage = absurd is
+  left_of_line line_fault.Usage (Err f) before is usage =
+      rw is (left_without before before (asks_nothing-fault words (usage refl)).no_run Usage (λ _. keeps_same before) (λ is. absurd (cc is)))
+  left_of_line line_fault.Memory (Err f) before is usage = rw is (record { kept = λ _. keeps_same before; of_run = λ names meaning. keeps_same before })
+
+  pub left_of_frame : {T : Type 0} (index argument : Text) → meaning_of words ≡ Some (frame index argument) → (r : Result T Fault)
+      (before after : Option (List ℕ)) → IfErr r (λ fault. fault ≢ Output → Keeps before after)
+      → IfErr r (λ fault. fault ≡ Output → (c : Command) × Writes index argument c × PrintsFrameInPart c before after)
+      → IfErr r (λ fault. Leaves files words fault before after)
+  left_of_frame index argument meaning r before after =
+      if_left before after (frame_is_no_run words index argument meaning) r _
+      (λ part. inl (record {
+        command = part.0;
+        asked = record { index = index; argument = argument; meaning = meaning; writes = part.1 };
+        answered = part.2;
+      }))
+
+  pub left_of_certify : {T : Type 0} (script : Text) → meaning_of words ≡ Some (certify script) → (r : Result T Fault) (before after : Option (List ℕ))
+      → IfErr r (λ fault. fault ≢ Output → Keeps before after)
+      → IfErr r (λ fault. fault ≡ Output → CertifiesFileInPart files.gives script before after)
+      → IfErr r (λ fault. Leaves files words fault before after)
+  left_of_certify script meaning r before after =
+      if_left before after (certify_is_no_run words script meaning) r _ (λ part. inr (inl (record { script_file = script; meaning = meaning; certifies = part })))
+
+  pub left_of_check : {T : Type 0} (script certificate : Text) → meaning_of words ≡ Some (check script certificate) → (r : Result T Fault)
+      (before after : Option (List ℕ)) → IfErr r (λ fault. fault ≢ Output → Keeps before after)
+      → IfErr r (λ fault. fault ≡ Output → AcceptsFilesInPart files.gives script certificate before after)
+      → IfErr r (λ fault. Leaves files words fault before after)
+  left_of_check script certificate meaning r before after =
+      if_left before after (check_is_no_run words script certificate meaning) r _
+      (λ part. inr (inr (record { script_file = script; certificate_file = certificate; meaning = meaning; accepts = part })))
+
+  -- ---- runs
+
+  module _ (names : RunNames) (meaning : meaning_of words ≡ Some (run names)) (before after : Option (List ℕ)) where
+    asks_run : AsksRun words
+    asks_run = record { names = names; meaning = meaning }
+
+    run_fault : (fault : Fault) → RunFails files names fault before after → IsFaultOf files words fault
+    run_fault Usage fails = absurd fails.refused
+    run_fault (File file) fails = inr asks_run
+    run_fault (Script fault) fails = inr asks_run
+    run_fault (Certificate fault) fails = inr asks_run
+    run_fault (Refused fault) fails = inr asks_run
+    run_fault (Uncertified fault) fails = inr asks_run
+    run_fault (Card fault) fails = inr asks_run
+    run_fault (Run fault) fails = inr asks_run
+    run_fault Named fails = inr asks_run
+    run_fault Output fails = absurd fails.refused
+    run_fault Memory fails = tt
+
+    pub faults_of_run : {T : Type 0} (r : Result T Fault) → IfErr r (λ fault. RunFails files names fault before after) → IfErr r (IsFaultOf files words)
+    faults_of_run (Ok x) fails = tt
+    faults_of_run (Err fault) fails = run_fault fault fails
+
+    left_by_run : (fault : Fault) → RunFails files names fault before after → Left files words fault before after
+    left_by_run fault fails = record {
+      kept = λ none. absurd (none names meaning);
+      of_run = λ others other.
+          let same : Some (run names) ≡ Some (run others) = sym meaning ∙ other in
+          let is : names ≡ others = cc in
+          subst (λ names. RunFails files names fault before after) is fails;
+    }
+
+    run_left : (fault : Fault) → RunFails files names fault before after → Leaves files words fault before after
+    run_left Output fails = absurd fails.refused
+    run_left Usage fails = left_by_run Usage fails
+    run_left (File file) fails = left_by_run (File file) fails
+    run_left (Script fault) fails = left_by_run (Script fault) fails
+    run_left (Certificate fault) fails = left_by_run (Certificate fault) fails
+    run_left (Refused fault) fails = left_by_run (Refused fault) fails
+    run_left (Uncertified fault) fails = left_by_run (Uncertified fault) fails
+    run_left (Card fault) fails = left_by_run (Card fault) fails
+    run_left (Run fault) fails = left_by_run (Run fault) fails
+    run_left Named fails = left_by_run Named fails
+    run_left Memory fails = left_by_run Memory fails
+
+    pub left_of_run : {T : Type 0} (r : Result T Fault) → IfErr r (λ fault. RunFails files names fault before after)
+        → IfErr r (λ fault. Leaves files words fault before after)
+    left_of_run (Ok x) fails = tt
+    left_of_run (Err fault) fails = run_left fault fails
+
+  -- ---- standard output as it was
+
+  pub left_kept : (fault : Fault) (before after : Option (List ℕ)) → AsksNoRun words → fault ≢ Output → Leaves files words fault before after → Keeps before after
+  left_kept Usage before after none other left = left.kept none
+  left_kept (File file) before after none other left = left.kept none
+  left_kept (Script fault) before after none other left = left.kept none
+  left_kept (Certificate fault) before after none other left = left.kept none
+  left_kept (Refused fault) before after none other left = left.kept none
+  left_kept (Uncertified fault) before after none other left = left.kept none
+  left_kept (Card fault) before after none other left = left.kept none
+  left_kept (Run fault) before after none other left = left.kept none
+  left_kept Named before after none other left = left.kept none
+  left_kept Output before after none other left = absurd (other refl)
+  left_kept Memory before after none other left = left.kept none
+
+  -- where memory was wanting
+  memory_left : (before after : Option (List ℕ)) → Left files words Memory before after → Keeps before after
+  memory_left before after left = go (meaning_of words) refl
+    where
+      go : (m : Option Request) → meaning_of words ≡ m → Keeps before after
+      go (Some (frame index argument)) is = left.kept (frame_is_no_run words index argument is)
+      go (Some (certify script)) is = left.kept (certify_is_no_run words script is)
+      go (Some (check script certificate)) is = left.kept (check_is_no_run words script certificate is)
+      go None is = left.kept (λ names meaning. cc (is, meaning))
+      go (Some (run names)) is = left.of_run names is
+
+  pub memory_kept : (fault : Fault) (before after : Option (List ℕ)) → status_of fault ≡ 3 → Leaves files words fault before after → Keeps before after
+  memory_kept Memory before after is left = memory_left before after left
+  memory_kept Usage before after is left = cc
+  memory_kept (File file) before after is left = cc
+  memory_kept (Script fault) before after is left = cc
+  memory_kept (Certificate fault) before after is left = cc
+  memory_kept (Refused fault) before after is left = cc
+  memory_kept (Uncertified fault) before after is left = cc
+  memory_kept (Card fault) before after is left = cc
+  memory_kept (Run fault) before after is left = cc
+  memory_kept Named before after is left = cc
+  memory_kept Output before after is left = cc
 
 -- a fault with another status than 2 is no failed output
 pub other_status : (fault : Fault) (status : ℕ) → status_of fault ≡ status → status ≢ 2 → fault ≢ Output

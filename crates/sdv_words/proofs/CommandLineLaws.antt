@@ -9,9 +9,13 @@ use Rattle.clap.specs.Takes.{is_given}
 use Rattle.clap.specs.Faults.{entered_fault, level_fault}
 use Rattle.sdv_words.proofs.WordsGiven.{HasNoDefaults, TakesOneWord, given_text, leaf_given, subcommand_given}
 use Rattle.clap.specs.Words.{App, Kinds, Row, Shape, Text, built, fault_of, first_of, is_simple, is_simple_and_free, matches_of, subcommand_of, takes}
-use Rattle.sdv_words.specs.CommandLine.{Request, certify, certify_request, check_of, check_request, command_line, frame_of, frame_request, meaning_of, request_in, request_of, request_without}
+use Rattle.sdv_words.specs.CommandLine.{Request, certify, certify_request, check_of, check_request, command_line, frame_of, frame_request, meaning_of, request_in, request_of, request_without, run_of, run_request}
 use Rattle.sdv_words.specs.declared.line.Line.{Line}
 use Rattle.sdv_words.specs.declared.line.LineFault.{LineFault}
+use Rattle.sdv_words.specs.declared.line.LineFault.TheVariants.{Usage, Memory}
+use Rattle.clap.specs.Words.{HasKind, kind_of}
+use Rattle.clap.specs.declared.error.Error.{Error}
+use Rattle.clap.specs.declared.error.kind.ErrorKind.TheVariants.{OutOfMemory}
 
 command_line_is_simple : is_simple command_line ≡ true
 command_line_is_simple = refl
@@ -26,6 +30,15 @@ meaning-no_fault words none = rw none refl
 -- a parse by the command line succeeds only where clap finds no fault
 pub no_fault-parsed : (app : App) (words : List Text) → app ≡ command_line → (is_simple_and_free app ≡ true → fault_of app words ≡ []) → fault_of command_line words ≡ []
 no_fault-parsed app words is faults = rw is at faults command_line_is_free
+
+-- a parse by the command line that does not fail for memory fails only where clap finds a fault
+pub usage-parsed : (app : App) (words : List Text) (error : Error) → app ≡ command_line
+    → (is_simple_and_free app ≡ true → HasKind (fault_of app words) error) → (kind_of error ≡ OutOfMemory → Usage ≡ Memory) → fault_of command_line words ≢ []
+usage-parsed app words error is fails becomes empty = go (rw is at fails command_line_is_free)
+  where
+    go : HasKind (fault_of command_line words) error → ⊥
+    go (inl memory) = let same = becomes memory in absurd (cc same)
+    go (inr among) = rw empty at among
 
 -- what a parse by the command line promises of words that clap takes
 pub taken-parsed : (app : App) (words : List Text) (P : Type 0) → app ≡ command_line → (takes app words ≡ true → P) → takes command_line words ≡ true → P
@@ -60,6 +73,9 @@ certify_shape = unwrap_or (slice_get (built command_line).subs 1) (built command
 abbrev check_shape : Shape
 check_shape = unwrap_or (slice_get (built command_line).subs 2) (built command_line).top
 
+abbrev run_shape : Shape
+run_shape = unwrap_or (slice_get (built command_line).subs 3) (built command_line).top
+
 frame_one_word : AllByRecursion TakesOneWord frame_shape.rules
 frame_one_word = (inl (refl, refl), (inl (refl, refl), (inr refl, tt)))
 
@@ -78,6 +94,12 @@ check_one_word = (inl (refl, refl), (inl (refl, refl), (inr refl, tt)))
 check_no_defaults : HasNoDefaults check_shape.rules
 check_no_defaults = (refl, (refl, (refl, tt)))
 
+run_one_word : AllByRecursion TakesOneWord run_shape.rules
+run_one_word = (inl (refl, refl), (inl (refl, refl), (inl (refl, refl), (inl (refl, refl), (inl (refl, refl), (inl (refl, refl), (inl (refl, refl), (inr refl, tt))))))))
+
+run_no_defaults : HasNoDefaults run_shape.rules
+run_no_defaults = (refl, (refl, (refl, (refl, (refl, (refl, (refl, (refl, tt))))))))
+
 one_given : (a : Bool) → (not a || false) ≡ false → a ≡ true
 one_given true none = refl
 one_given false none = cc
@@ -86,6 +108,21 @@ both_given : (a b : Bool) → (not a || (not b || false)) ≡ false → (a ≡ t
 both_given true true none = (refl, refl)
 both_given true false none = cc
 both_given false b none = cc
+
+four_given : (a b c d : Bool) → (not a || (not b || (not c || (not d || false)))) ≡ false → (a ≡ true) × (b ≡ true) × (c ≡ true) × (d ≡ true)
+four_given true true true true none = (refl, refl, refl, refl)
+four_given true true true false none = cc
+four_given true true false d none = cc
+four_given true false c d none = cc
+four_given false b c d none = cc
+
+four_files : (script certificate card image schedule input output : Option Text) → is_some script ≡ true → is_some certificate ≡ true → is_some card ≡ true
+    → is_some image ≡ true → is_some (run_of script certificate card image schedule input output) ≡ true
+four_files (Some script) (Some certificate) (Some card) (Some image) schedule input output s c d i = refl
+four_files (Some script) (Some certificate) (Some card) None schedule input output s c d i = cc
+four_files (Some script) (Some certificate) None image schedule input output s c d i = cc
+four_files (Some script) None card image schedule input output s c d i = cc
+four_files None certificate card image schedule input output s c d i = cc
 
 both_texts : (index argument : Option Text) → is_some index ≡ true → is_some argument ≡ true → is_some (frame_of index argument) ≡ true
 both_texts (Some index) (Some argument) i a = refl
@@ -121,22 +158,34 @@ check_given words none =
     let both = both_given (is_given (codes "SCRIPT") rows) (is_given (codes "CERT") rows) given.1 in
     both_files (first_of (codes "SCRIPT") rows) (first_of (codes "CERT") rows) (given_text (codes "SCRIPT") rows given.0 both.0) (given_text (codes "CERT") rows given.0 both.1)
 
+run_given : (words : List Text) → level_fault run_shape [] nothing_held words false [] ≡ [] → is_some (run_request (rows_after run_shape.rules [] words)) ≡ true
+run_given words none =
+    let rows = rows_after run_shape.rules [] words in
+    let given = leaf_given run_shape words run_one_word run_no_defaults none in
+    let four = four_given (is_given (codes "SCRIPT") rows) (is_given (codes "CERT") rows) (is_given (codes "CARD") rows) (is_given (codes "IMAGE") rows) given.1 in
+    four_files (first_of (codes "SCRIPT") rows) (first_of (codes "CERT") rows) (first_of (codes "CARD") rows) (first_of (codes "IMAGE") rows)
+    (first_of (codes "SCHEDULE") rows) (first_of (codes "in") rows) (first_of (codes "out") rows)
+    (given_text (codes "SCRIPT") rows given.0 four.0) (given_text (codes "CERT") rows given.0 four.1) (given_text (codes "CARD") rows given.0 four.2)
+    (given_text (codes "IMAGE") rows given.0 four.3)
+
 entered_given : (stop : Option (Text × List Text)) → is_some (entered (built command_line) stop) ≡ true → entered_fault (built command_line) stop ≡ []
     → is_some (option_and_then request_in (entered (built command_line) stop)) ≡ true
 entered_given None has none = cc
 entered_given (Some p) has none =
-    go (answers_to p.0 (label_of frame_shape)) (answers_to p.0 (label_of certify_shape)) (answers_to p.0 (label_of check_shape)) has none
+    go (answers_to p.0 (label_of frame_shape)) (answers_to p.0 (label_of certify_shape)) (answers_to p.0 (label_of check_shape)) (answers_to p.0 (label_of run_shape)) has none
   where
-    found : (is_frame is_certify is_check : Bool) → Option Shape
-    found is_frame is_certify is_check = cond is_frame (Some frame_shape) (cond is_certify (Some certify_shape) (cond is_check (Some check_shape) None))
+    found : (is_frame is_certify is_check is_run : Bool) → Option Shape
+    found is_frame is_certify is_check is_run =
+        cond is_frame (Some frame_shape) (cond is_certify (Some certify_shape) (cond is_check (Some check_shape) (cond is_run (Some run_shape) None)))
 
-    go : (is_frame is_certify is_check : Bool) → is_some (option_map (λ s. rows_at s p.1) (found is_frame is_certify is_check)) ≡ true
-        → option_map_or (λ s. level_fault s [] nothing_held p.1 false []) (found is_frame is_certify is_check) [] ≡ []
-        → is_some (option_and_then request_in (option_map (λ s. rows_at s p.1) (found is_frame is_certify is_check))) ≡ true
-    go true is_certify is_check has none = frame_given p.1 none
-    go false true is_check has none = certify_given p.1 none
-    go false false true has none = check_given p.1 none
-    go false false false has none = cc
+    go : (is_frame is_certify is_check is_run : Bool) → is_some (option_map (λ s. rows_at s p.1) (found is_frame is_certify is_check is_run)) ≡ true
+        → option_map_or (λ s. level_fault s [] nothing_held p.1 false []) (found is_frame is_certify is_check is_run) [] ≡ []
+        → is_some (option_and_then request_in (option_map (λ s. rows_at s p.1) (found is_frame is_certify is_check is_run))) ≡ true
+    go true is_certify is_check is_run has none = frame_given p.1 none
+    go false true is_check is_run has none = certify_given p.1 none
+    go false false true is_run has none = check_given p.1 none
+    go false false false true has none = run_given p.1 none
+    go false false false false has none = cc
 
 -- the words mean a request
 meaning_given : (words : List Text) → fault_of command_line words ≡ [] → is_some (meaning_of words) ≡ true

@@ -3,6 +3,8 @@ mod CertifyLaws
 mod CommandLineLaws
 mod FrameTextLaws
 mod WordsGiven
-mod PlainRuns
+mod RunMaps
+mod RunLaws
+mod GivenLaws
 pub mod OutputLaws
 pub mod StartLaws

@@ -1,13 +1,11 @@
 -- What was written, where the answer of a function is as good as the writing, and what stands after a fault.
-use Rattle.std.proofs.Common.{◌≡◌, ◌≢◌, ◌<◌, ◌∙◌, inl, inr, ℕ, List, [], ◌++◌, Option, Some, None, length, Result, Ok, Err, IfErr, OnOk, append-nil, length-append, ap, sym, arith}
+use Rattle.std.proofs.Common.{◌≡◌, ◌∙◌, inl, inr, ℕ, List, [], ◌++◌, Option, Some, None, length, Result, Ok, Err, IfErr, OnOk, append-nil, length-append, ap, sym, arith}
 use Rattle.std.specs.Prelude.{is_ok}
 use Rattle.std.specs.Io.KnownBytes.{Appends, Keeps}
-use Rattle.clap.specs.Words.{Text}
 use Rattle.sdv_text.specs.Written.{AppendsPart, Writes}
-use Rattle.sdv_words.specs.Answer.{Leaves}
 use Rattle.sdv_words.specs.Fault.{Says}
 use Rattle.sdv_words.specs.declared.fault.Fault.{Fault}
-use Rattle.sdv_words.specs.declared.fault.Fault.TheVariants.{Usage, File, Script, Certificate, Refused, Uncertified, Output, Memory}
+use Rattle.sdv_words.specs.declared.fault.Fault.TheVariants.{Output}
 
 module _ {E : Type 0} (before after : Option (List ℕ)) (text : List ℕ) where
   -- what was written, where the answer is as good as the writing
@@ -24,18 +22,6 @@ module _ {E : Type 0} (before after : Option (List ℕ)) (text : List ℕ) where
 pub if_err : {T : Type 0} (r : Result T Fault) (P Q : Fault → Type 0) → IfErr r P → ((fault : Fault) → P fault → Q fault) → IfErr r Q
 if_err (Ok x) P Q is step = tt
 if_err (Err fault) P Q is step = step fault is
-
--- where standard output did not fail, it is as it was
-pub left_kept : (gives : (file text : Text) → Type 0) (words : List Text) (fault : Fault) (before after : Option (List ℕ)) → fault ≢ Output
-    → Leaves gives words fault before after → Keeps before after
-left_kept gives words Usage before after other left = left
-left_kept gives words (File file) before after other left = left
-left_kept gives words (Script fault) before after other left = left
-left_kept gives words (Certificate fault) before after other left = left
-left_kept gives words (Refused fault) before after other left = left
-left_kept gives words (Uncertified fault) before after other left = left
-left_kept gives words Output before after other left = absurd (other cc)
-left_kept gives words Memory before after other left = left
 
 -- nothing is said of a failed output
 pub nothing_said : (before after : Option (List ℕ)) → Says Output before after → Keeps before after

@@ -9,8 +9,11 @@ use Rattle.sdv_words.specs.declared.fault.Fault.{Fault}
 use Rattle.sdv_words.specs.declared.fault.Fault.TheVariants.{Usage, Output, Memory}
 use Rattle.sdv_words.specs.Certify.{CertifiesFile, CertifiesFileInPart, UncertifiesFile}
 use Rattle.sdv_words.specs.Check.{AcceptsFiles, AcceptsFilesInPart, RefusesFiles}
-use Rattle.sdv_words.specs.CommandLine.{frame, certify, check, meaning_of}
+use Rattle.sdv_words.specs.CommandLine.{RunNames, frame, certify, check, run, meaning_of}
 use Rattle.sdv_words.specs.Fault.{Says, status_of}
+use Rattle.sdv_words.specs.Files.{Files}
+use Rattle.sdv_words.specs.Run.{EndsRun, RunFails}
+use Rattle.sdv_run.specs.declared.end.End.TheVariants.{Done}
 use Rattle.sdv_words.specs.FrameText.{frame_text}
 use Rattle.sdv_words.specs.Number.{Writes}
 
@@ -96,49 +99,73 @@ pub record RefusesCheck (gives : (file text : Text) → Type 0) (words : List Te
   pub meaning : meaning_of words ≡ Some (check script_file certificate_file)
   pub refuses : RefusesFiles gives script_file certificate_file fault
 
+-- RUNS
+
+-- the words ask for a run
+pub record AsksRun (words : List Text) : Type 0 where
+  pub names : RunNames
+  pub meaning : meaning_of words ≡ Some (run names)
+
+abbrev pub AsksNoRun : List Text → Type 0
+AsksNoRun words = (names : RunNames) → meaning_of words ≢ Some (run names)
+
+-- the words ask for a run, which ended in `done`, and its trace was printed
+pub record AnswersRun (files : Files) (words : List Text) (before after : Option (List ℕ)) : Type 0 where
+  pub names : RunNames
+  pub meaning : meaning_of words ≡ Some (run names)
+  pub ends : EndsRun files names Done before after
+
 -- ANSWERS
 
--- the words ask for no frame, for no certificate and for no check
+-- the words ask for no frame, for no certificate, for no check and for no run
 pub record AsksNothing (words : List Text) : Type 0 where
   pub no_frame : (c : Command) → ¬ AsksFrame words c
   pub no_certificate : (script : Text) → meaning_of words ≢ Some (certify script)
   pub no_check : (script certificate : Text) → meaning_of words ≢ Some (check script certificate)
+  pub no_run : AsksNoRun words
 
-abbrev pub Answers : (gives : (file text : Text) → Type 0) → List Text → (before after : Option (List ℕ)) → Type 0
-Answers gives words before after =
-    AnswersFrame words before after ⊎ AnswersCertify gives words before after ⊎ AnswersCheck gives words before after
+abbrev pub Answers : Files → List Text → (before after : Option (List ℕ)) → Type 0
+Answers files words before after =
+    AnswersFrame words before after ⊎ (AnswersCertify files.gives words before after ⊎ (AnswersCheck files.gives words before after
+    ⊎ AnswersRun files words before after))
 
 -- what was asked for was printed in part, and not all of it
-abbrev pub AnswersInPart : (gives : (file text : Text) → Type 0) → List Text → (before after : Option (List ℕ)) → Type 0
-AnswersInPart gives words before after =
-    AnswersFrameInPart words before after ⊎ AnswersCertifyInPart gives words before after ⊎ AnswersCheckInPart gives words before after
+abbrev pub AnswersInPart : Files → List Text → (before after : Option (List ℕ)) → Type 0
+AnswersInPart files words before after =
+    AnswersFrameInPart words before after ⊎ (AnswersCertifyInPart files.gives words before after ⊎ AnswersCheckInPart files.gives words before after)
 
 -- the words ask for a certificate or a check, and of the files is so what the fault says
-abbrev pub RefusesScript : (gives : (file text : Text) → Type 0) → List Text → Fault → Type 0
-RefusesScript gives words fault = RefusesCertify gives words fault ⊎ RefusesCheck gives words fault
+abbrev pub RefusesScript : Files → List Text → Fault → Type 0
+RefusesScript files words fault = RefusesCertify files.gives words fault ⊎ RefusesCheck files.gives words fault
 
--- what a fault says of the words
-abbrev pub IsFaultOf : (gives : (file text : Text) → Type 0) → List Text → Fault → Type 0
-IsFaultOf gives words Usage = AsksNothing words
-IsFaultOf gives words Output = ((c : Command) × AsksFrame words c) ⊎ RefusesScript gives words Output
-IsFaultOf gives words Memory = Unit {0}
-IsFaultOf gives words fault = RefusesScript gives words fault
+-- what a fault says of the words; of a run it is said below
+abbrev pub IsFaultOf : Files → List Text → Fault → Type 0
+IsFaultOf files words Usage = AsksNothing words
+IsFaultOf files words Output = ((c : Command) × AsksFrame words c) ⊎ RefusesScript files words Output
+IsFaultOf files words Memory = Unit {0}
+IsFaultOf files words fault = RefusesScript files words fault ⊎ AsksRun words
 
 -- REFUSALS
 
--- what is known of standard output after a fault: as it was, but where it failed
-abbrev pub Leaves : (gives : (file text : Text) → Type 0) → List Text → Fault → (before after : Option (List ℕ)) → Type 0
-Leaves gives words Output before after = AnswersInPart gives words before after
-Leaves gives words fault before after = Keeps before after
+-- what a fault leaves standard output as: as it was, but where a run was asked for
+pub record Left (files : Files) (words : List Text) (fault : Fault) (before after : Option (List ℕ)) : Type 0 where
+  pub kept : AsksNoRun words → Keeps before after
+  -- and of a run it is so what the fault says
+  pub of_run : (names : RunNames) → meaning_of words ≡ Some (run names) → RunFails files names fault before after
+
+-- what is known of standard output after a fault
+abbrev pub Leaves : Files → List Text → Fault → (before after : Option (List ℕ)) → Type 0
+Leaves files words Output before after = AnswersInPart files words before after
+Leaves files words fault before after = Left files words fault before after
 
 -- the program ended by this fault: it is so of the words and the files, and what standard output and standard error hold
-pub record EndsBy (gives : (file text : Text) → Type 0) (words : List Text) (fault : Fault) (out out' err err' : Option (List ℕ)) : Type 0 where
-  pub is_so : IsFaultOf gives words fault
-  pub left : Leaves gives words fault out out'
+pub record EndsBy (files : Files) (words : List Text) (fault : Fault) (out out' err err' : Option (List ℕ)) : Type 0 where
+  pub is_so : IsFaultOf files words fault
+  pub left : Leaves files words fault out out'
   pub said : Says fault err err'
 
 -- the program ended with this status: with 0 only after the answer, and else by a fault
-pub record Ends (gives : (file text : Text) → Type 0) (words : List Text) (status : ℕ) (out out' err err' : Option (List ℕ)) : Type 0 where
-  pub answered : status ≡ 0 → Answers gives words out out'
+pub record Ends (files : Files) (words : List Text) (status : ℕ) (out out' err err' : Option (List ℕ)) : Type 0 where
+  pub answered : status ≡ 0 → Answers files words out out'
   pub quiet : status ≡ 0 → Keeps err err'
-  pub refused : status ≢ 0 → (fault : Fault) × (status ≡ status_of fault) × EndsBy gives words fault out out' err err'
+  pub refused : status ≢ 0 → (fault : Fault) × (status ≡ status_of fault) × EndsBy files words fault out out' err err'

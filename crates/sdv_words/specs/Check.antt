@@ -39,10 +39,6 @@ Refuses script certificate fault = ⊥
 
 -- FILES, where a file of a name may give a text
 
--- nothing is claimed of what a file of the machine gives
-abbrev pub any_text : (file text : Text) → Type 0
-any_text file text = Unit {0}
-
 -- the files gave these texts
 pub record FilesGive (gives : (file text : Text) → Type 0) (script_file certificate_file script certificate : Text) : Type 0 where
   pub script_given : gives script_file script

@@ -5,7 +5,8 @@ use Rattle.std.specs.Str.{bytes_eq}
 use Rattle.clap.specs.Words.{App, Kinds, Row, Rule, Shape, Text, fault_of, first_of, new_app}
 use Rattle.clap.specs.Words.{new_rule, subcommand_of, with_rule, with_subcommand}
 use Rattle.sdv_words.specs.declared.line.Line.{Line}
-use Rattle.sdv_words.specs.declared.line.Line.TheVariants.{Frame, Certify, Check}
+use Rattle.sdv_words.specs.declared.line.Line.TheVariants.{Frame, Certify, Check, Run}
+use Rattle.sdv_words.specs.declared.line.RunFiles.{RunFiles}
 
 -- a word that stands by its place, and may not be left out
 abbrev pub required : Text → Rule
@@ -25,6 +26,21 @@ abbrev pub check_command : App
 check_command =
     with_rule (with_rule (new_app (codes "check")) (required (codes "SCRIPT"))) (required (codes "CERT"))
 
+-- a word behind another one, which names it
+abbrev pub option : (id long : Text) → Rule
+option id long = record (new_rule id) { long = Some long }
+
+-- `run SCRIPT CERT CARD IMAGE`
+abbrev pub run_files_command : App
+run_files_command =
+    with_rule (with_rule (with_rule (with_rule (new_app (codes "run")) (required (codes "SCRIPT"))) (required (codes "CERT"))) (required (codes "CARD")))
+    (required (codes "IMAGE"))
+
+-- and behind them `[SCHEDULE] [--in FILE] [--out FILE]`
+abbrev pub run_command : App
+run_command =
+    with_rule (with_rule (with_rule run_files_command (new_rule (codes "SCHEDULE"))) (option (codes "in") (codes "in"))) (option (codes "out") (codes "out"))
+
 -- the program's own settings: its words leave out its name, and name one of its commands; help is
 -- asked for by `-h` and `--help` alone
 abbrev pub program_shape : Shape
@@ -37,20 +53,43 @@ program_shape = record (new_app (codes "sdv")).top {
 -- `sdv`, and its commands
 abbrev pub command_line : App
 command_line =
-    with_subcommand (with_subcommand (with_subcommand (record { top = program_shape; subs = [] }) frame_command.top) certify_command.top)
-    check_command.top
+    with_subcommand (with_subcommand (with_subcommand (with_subcommand (record { top = program_shape; subs = [] }) frame_command.top) certify_command.top)
+    check_command.top) run_command.top
+
+-- the files of a run, by their names
+pub record RunNames : Type 0 where
+  pub script : Text
+  pub certificate : Text
+  pub card : Text
+  pub image : Text
+  pub schedule : Option Text
+  pub input : Option Text
+  pub output : Option Text
 
 -- a command of the program, with the texts of its words
 pub data Request : Type 0 where
   frame : Text → Text → Request
   certify : Text → Request
   check : Text → Text → Request
+  run : RunNames → Request
+
+abbrev pub names_of : RunFiles → RunNames
+names_of files = record {
+  script = files.script.now;
+  certificate = files.certificate.now;
+  card = files.card.now;
+  image = files.image.now;
+  schedule = option_map (λ file. file.now) files.schedule;
+  input = option_map (λ file. file.now) files.input;
+  output = option_map (λ file. file.now) files.output;
+}
 
 -- the request that a line holds
 abbrev pub request_of : Line → Request
 request_of (Frame index argument) = frame index.now argument.now
 request_of (Certify script) = certify script.now
 request_of (Check script certificate) = check script.now certificate.now
+request_of (Run files) = run (names_of files)
 
 abbrev pub frame_of : Option Text → Option Text → Option Request
 frame_of (Some index) (Some argument) = Some (frame index argument)
@@ -72,12 +111,24 @@ check_of _ _ = None
 abbrev pub check_request : List Row → Option Request
 check_request matched = check_of (first_of (codes "SCRIPT") matched) (first_of (codes "CERT") matched)
 
+abbrev pub run_of : (script certificate card image schedule input output : Option Text) → Option Request
+run_of (Some script) (Some certificate) (Some card) (Some image) schedule input output =
+    Some (run (record { script = script; certificate = certificate; card = card; image = image; schedule = schedule; input = input; output = output }))
+run_of _ _ _ _ _ _ _ = None
+
+-- the request in what clap matched for the words of `run`
+abbrev pub run_request : List Row → Option Request
+run_request matched =
+    run_of (first_of (codes "SCRIPT") matched) (first_of (codes "CERT") matched) (first_of (codes "CARD") matched) (first_of (codes "IMAGE") matched)
+    (first_of (codes "SCHEDULE") matched) (first_of (codes "in") matched) (first_of (codes "out") matched)
+
 -- the request in a command's name and what clap matched for its words
 abbrev pub request_in : Text × List Row → Option Request
 request_in used =
     if bytes_eq used.0 (codes "frame") then frame_request used.1
     else if bytes_eq used.0 (codes "certify") then certify_request used.1
     else if bytes_eq used.0 (codes "check") then check_request used.1
+    else if bytes_eq used.0 (codes "run") then run_request used.1
     else None
 
 -- the same, by the kinds of fault that clap finds in the words: there is no request where there are

@@ -19,10 +19,14 @@ use Rattle.sdv_check.specs.declared.fault.CheckFault.{CheckFault}
 use Rattle.sdv_check.specs.declared.fault.CheckFault.TheVariants as checks
 use Rattle.sdv_check.specs.declared.fault.VerifyFault.{VerifyFault}
 use Rattle.sdv_check.specs.declared.fault.VerifyFault.TheVariants as verifies
+use Rattle.sdv_image.specs.declared.fault.SimFault.{SimFault}
+use Rattle.sdv_image.specs.declared.fault.SimFault.TheVariants as cards
+use Rattle.sdv_run.specs.declared.fault.RunFault.{RunFault}
+use Rattle.sdv_run.specs.declared.fault.RunFault.TheVariants as runs
 use Rattle.sdv_words.specs.declared.line.LineFault.{LineFault}
 use Rattle.sdv_words.specs.declared.line.LineFault.TheVariants as lines
 use Rattle.sdv_words.specs.declared.fault.Fault.{Fault}
-use Rattle.sdv_words.specs.declared.fault.Fault.TheVariants.{Usage, File, Script, Certificate, Refused, Uncertified, Output, Memory}
+use Rattle.sdv_words.specs.declared.fault.Fault.TheVariants.{Usage, File, Script, Certificate, Refused, Uncertified, Card, Run, Named, Output, Memory}
 
 -- WHAT IS SAID
 
@@ -71,14 +75,37 @@ uncertified_line (certifies.EndState point) = numbered_line (codes "refused EndS
 uncertified_line certifies.TooMany = plain_line (codes "refused TooMany")
 uncertified_line certifies.Memory = plain_line (codes "refused Memory")
 
--- nothing of a failed output
+abbrev pub sim_fault_name : SimFault → Text
+sim_fault_name cards.Description = codes "Description"
+sim_fault_name cards.Capacity = codes "Capacity"
+sim_fault_name cards.ImageLength = codes "ImageLength"
+sim_fault_name cards.ImageRead = codes "ImageRead"
+sim_fault_name cards.Memory = codes "Memory"
+
+abbrev pub run_fault_name : RunFault → Text
+run_fault_name runs.Reply = codes "Reply"
+run_fault_name runs.Input = codes "Input"
+run_fault_name runs.Output = codes "Output"
+run_fault_name runs.Trace = codes "Trace"
+run_fault_name runs.Memory = codes "Memory"
+
+abbrev pub usage : Text
+usage = codes "usage: sdv frame INDEX ARG | sdv certify SCRIPT | sdv check SCRIPT CERT | sdv run SCRIPT CERT CARD IMAGE [SCHEDULE] [--in FILE] [--out FILE]"
+
+abbrev pub named_line : (words name : Text) → Text
+named_line words name = words ++ (name ++ 10 ∷ [])
+
+-- nothing of a failed output, nor of a run that ended in a fault of its script, whose trace says so
 abbrev pub fault_line : Fault → Text
-fault_line Usage = plain_line (codes "usage: sdv frame INDEX ARG | sdv certify SCRIPT | sdv check SCRIPT CERT")
+fault_line Usage = plain_line usage
 fault_line (File file) = codes "cannot use " ++ (file.now ++ 10 ∷ [])
 fault_line (Script fault) = codes "script fault " ++ (kind_name fault.kind ++ (codes " line " ++ (decimal fault.line ++ 10 ∷ [])))
 fault_line (Certificate fault) = certificate_line fault
 fault_line (Refused fault) = refusal_line fault
 fault_line (Uncertified fault) = uncertified_line fault
+fault_line (Card fault) = named_line (codes "card fault ") (sim_fault_name fault)
+fault_line (Run fault) = named_line (codes "run fault ") (run_fault_name fault)
+fault_line Named = []
 fault_line Output = []
 fault_line Memory = plain_line (codes "out of memory")
 
@@ -86,7 +113,7 @@ fault_line Memory = plain_line (codes "out of memory")
 abbrev pub Says : Fault → (before after : Option (List ℕ)) → Type 0
 Says fault before after = Appends before after (fault_line fault) ⊎ AppendsPart before after (fault_line fault)
 
--- THE STATUS: 1 for a refusal, 2 for words, files and output that cannot be used, 3 for want of memory
+-- THE STATUS: 1 for a refusal and for a run that did not end in `done`, 2 for words, files and output that cannot be used, 3 for want of memory
 
 abbrev pub status_of : Fault → ℕ
 status_of Usage = 2
@@ -95,6 +122,9 @@ status_of (Script fault) = 1
 status_of (Certificate fault) = 1
 status_of (Refused fault) = 1
 status_of (Uncertified fault) = 1
+status_of (Card fault) = 1
+status_of (Run fault) = 1
+status_of Named = 1
 status_of Output = 2
 status_of Memory = 3
 
@@ -126,3 +156,13 @@ fault_of_verify (verifies.Script fault) = Script fault
 fault_of_verify (verifies.Certificate fault) = Certificate fault
 fault_of_verify (verifies.Check fault) = Refused fault
 fault_of_verify verifies.Memory = Memory
+
+-- cards that there are not
+abbrev pub fault_of_card : SimFault → Fault
+fault_of_card cards.Memory = Memory
+fault_of_card fault = Card fault
+
+-- runs that stopped
+abbrev pub fault_of_run : RunFault → Fault
+fault_of_run runs.Memory = Memory
+fault_of_run fault = Run fault

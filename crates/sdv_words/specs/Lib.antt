@@ -4,7 +4,6 @@ pub mod FrameText
 pub mod Fault
 pub mod Check
 pub mod Certify
+pub mod Files
+pub mod Run
 pub mod Answer
-pub mod PlainPort
-pub mod PlainKeeps
-pub mod PlainRun

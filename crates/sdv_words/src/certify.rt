@@ -6,7 +6,7 @@ ghost use Rattle.sdv_words.specs.Certify.{UncertifiesFile};
 ghost use Rattle.sdv_words.specs.declared.fault.Fault.{Fault};
 
 use crate::fault::Fault;
-use crate::file::{Texts, text_in};
+use crate::file::{Store, text_in};
 use sdv_certify::{certify, write};
 use sdv_script::parse;
 use std::alloc::Global;
@@ -18,19 +18,19 @@ use std::io::Write;
 ///
 /// - [`Fault::File`]: the file cannot be used. Nothing was printed.
 /// - The faults of [`certify_text`].
-pub fn certify_file<'a, T: Texts, O: Write>(
+pub fn certify_file<'a, S: Store, O: Write>(
     alloc: Global,
-    files: &T,
+    files: &S,
     script: &'a str,
     out: &mut O,
 ) -> Result<(), Fault<'a>>
     ensures certified { OnOk result
-        (CertifiesFile (T.gives files.now) script.entry.now (O.contents out.old) (O.contents out.new)) }
-    ensures refused { IfErr result (UncertifiesFile (T.gives files.now) script.entry.now) }
+        (CertifiesFile (S.gives files.now) script.entry.now (O.contents out.old) (O.contents out.new)) }
+    ensures refused { IfErr result (UncertifiesFile (S.gives files.now) script.entry.now) }
     ensures quiet { IfErr result (λ fault. fault ≢ Fault.Output
         → Keeps (O.contents out.old) (O.contents out.new)) }
     ensures part { IfErr result (λ fault. fault ≡ Fault.Output
-        → CertifiesFileInPart (T.gives files.now) script.entry.now (O.contents out.old) (O.contents out.new)) }
+        → CertifiesFileInPart (S.gives files.now) script.entry.now (O.contents out.old) (O.contents out.new)) }
 {
     let script = text_in(alloc, files, script)?;
     certify_text(alloc, script.as_str(), out)

@@ -7,7 +7,7 @@ ghost use Rattle.sdv_words.specs.Check.{accepted_text};
 ghost use Rattle.sdv_words.specs.declared.fault.Fault.{Fault};
 
 use crate::fault::Fault;
-use crate::file::{Texts, text_in};
+use crate::file::{Store, text_in};
 use itoa::Buffer;
 use sdv_check::verify;
 use sdv_text::write_texts;
@@ -22,20 +22,20 @@ use std::io::{self, Write};
 /// - [`Fault::File`]: a file cannot be used; that of the certificate is read only where that of the script gave a text.
 ///   Nothing was printed.
 /// - The faults of [`check_texts`].
-pub fn check_files<'a, T: Texts, O: Write>(
+pub fn check_files<'a, S: Store, O: Write>(
     alloc: Global,
-    files: &T,
+    files: &S,
     script: &'a str,
     certificate: &'a str,
     out: &mut O,
 ) -> Result<(), Fault<'a>>
-    ensures accepted { OnOk result (AcceptsFiles (T.gives files.now) script.entry.now certificate.entry.now
+    ensures accepted { OnOk result (AcceptsFiles (S.gives files.now) script.entry.now certificate.entry.now
         (O.contents out.old) (O.contents out.new)) }
     ensures refused { IfErr result
-        (RefusesFiles (T.gives files.now) script.entry.now certificate.entry.now) }
+        (RefusesFiles (S.gives files.now) script.entry.now certificate.entry.now) }
     ensures quiet { IfErr result (λ fault. fault ≢ Fault.Output
         → Keeps (O.contents out.old) (O.contents out.new)) }
-    ensures part { IfErr result (λ fault. fault ≡ Fault.Output → AcceptsFilesInPart (T.gives files.now)
+    ensures part { IfErr result (λ fault. fault ≡ Fault.Output → AcceptsFilesInPart (S.gives files.now)
         script.entry.now certificate.entry.now (O.contents out.old) (O.contents out.new)) }
 {
     let script = text_in(alloc, files, script)?;

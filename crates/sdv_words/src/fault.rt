@@ -4,14 +4,16 @@ ghost use Rattle.std.specs.Int.{w64, to_be_bytes};
 ghost use Rattle.hex.specs.Hex.{encode_lower};
 ghost use Rattle.sdv_text.specs.Written.{Writes};
 ghost use Rattle.sdv_words.specs.Fault.{Says, certificate_line, fault_line, illegal_line, kind_name, numbered_line, plain_line};
-ghost use Rattle.sdv_words.specs.Fault.{refusal_line, status_of, uncertified_line};
+ghost use Rattle.sdv_words.specs.Fault.{named_line, refusal_line, run_fault_name, sim_fault_name, status_of, uncertified_line};
 
 use crate::line::{LineFault, USAGE};
 use itoa::Buffer;
 use sdv_card::Shape;
 use sdv_certify::CertifyFault;
 use sdv_check::{CertFault, CheckFault, VerifyFault};
+use sdv_run::RunFault;
 use sdv_script::{FaultKind, ScriptFault};
+use sdv_sim::SimFault;
 use sdv_text::write_texts;
 use std::alloc::AllocError;
 use std::io::{self, Write};
@@ -31,6 +33,12 @@ pub enum Fault<'a> {
     Refused(CheckFault),
     /// The script has no certificate.
     Uncertified(CertifyFault),
+    /// There is no simulated card by the description, the schedule and the image.
+    Card(SimFault),
+    /// The run of a script stopped before its end.
+    Run(RunFault),
+    /// The run of a script ended in a fault that the script names; its trace says so.
+    Named,
     /// Standard output took not all of the answer.
     Output,
     /// Memory ran out.
@@ -91,6 +99,32 @@ impl<'a> From<VerifyFault> for Fault<'a> {
     }
 }
 
+impl<'a> From<SimFault> for Fault<'a> {
+    ghost use Rattle.sdv_words.specs.Fault.{fault_of_card};
+
+    ghost from_gives = { λ fault f. f ≡ fault_of_card fault };
+
+    fn from(fault: SimFault) -> Fault<'a> {
+        match fault {
+            SimFault::Memory => Fault::Memory,
+            _ => Fault::Card(fault),
+        }
+    }
+}
+
+impl<'a> From<RunFault> for Fault<'a> {
+    ghost use Rattle.sdv_words.specs.Fault.{fault_of_run};
+
+    ghost from_gives = { λ fault f. f ≡ fault_of_run fault };
+
+    fn from(fault: RunFault) -> Fault<'a> {
+        match fault {
+            RunFault::Memory => Fault::Memory,
+            _ => Fault::Run(fault),
+        }
+    }
+}
+
 impl<'a> From<AllocError> for Fault<'a> {
     ghost use Rattle.sdv_words.specs.declared.fault.Fault.TheVariants.{Memory};
 
@@ -109,12 +143,13 @@ impl<'a> Fault<'a> {
         match self {
             Fault::Script(_) | Fault::Certificate(_) | Fault::Refused(_) | Fault::Uncertified(_) =>
                 1,
+            Fault::Card(_) | Fault::Run(_) | Fault::Named => 1,
             Fault::Usage | Fault::File(_) | Fault::Output => 2,
             Fault::Memory => 3,
         }
     }
 
-    /// Says on a line what is wrong, but nothing of a failed output.
+    /// Says on a line what is wrong, but nothing of a failed output, nor of a fault that the trace of a run says.
     ///
     /// # Errors
     ///
@@ -129,7 +164,9 @@ impl<'a> Fault<'a> {
             Fault::Certificate(fault) => say_certificate(fault, err),
             Fault::Refused(fault) => say_refusal(fault, err),
             Fault::Uncertified(fault) => say_uncertified(fault, err),
-            Fault::Output => Ok(()),
+            Fault::Card(fault) => say_named("card fault ", sim_fault_name(fault), err),
+            Fault::Run(fault) => say_named("run fault ", run_fault_name(fault), err),
+            Fault::Named | Fault::Output => Ok(()),
             Fault::Memory => say_plain("out of memory", err),
         }
     }
@@ -159,6 +196,36 @@ fn kind_name(kind: FaultKind) -> &'static str
         FaultKind::NoEnd => "NoEnd",
         FaultKind::Memory => "Memory",
     }
+}
+
+fn sim_fault_name(fault: SimFault) -> &'static str
+    ensures { result.now ≡ sim_fault_name fault }
+{
+    match fault {
+        SimFault::Description => "Description",
+        SimFault::Capacity => "Capacity",
+        SimFault::ImageLength => "ImageLength",
+        SimFault::ImageRead => "ImageRead",
+        SimFault::Memory => "Memory",
+    }
+}
+
+fn run_fault_name(fault: RunFault) -> &'static str
+    ensures { result.now ≡ run_fault_name fault }
+{
+    match fault {
+        RunFault::Reply => "Reply",
+        RunFault::Input => "Input",
+        RunFault::Output => "Output",
+        RunFault::Trace => "Trace",
+        RunFault::Memory => "Memory",
+    }
+}
+
+fn say_named<E: Write>(words: &str, name: &str, err: &mut E) -> io::Result<()>
+    ensures { Writes (E.contents err.old) (E.contents err.new) result (named_line words.now name.now) }
+{
+    write_texts(err, &[words.as_bytes(), name.as_bytes(), b"\n"])
 }
 
 fn say_plain<E: Write>(words: &str, err: &mut E) -> io::Result<()>

@@ -1,52 +1,112 @@
-//! Texts of files.
-ghost use Rattle.std.specs.Prelude.{◌≡◌, ◌^◌, ◌≤◌, ◌⊎◌, length, List, ℕ, Err, IfErr, IfOk, IfSome, string_bytes};
+//! Files by their names: their texts and bytes, and what is written to them.
+ghost use Rattle.std.specs.Prelude.{◌≡◌, ◌^◌, ◌≤◌, ◌⊎◌, length, List, ℕ, Err, IfErr, IfOk, IfSome, string_bytes, true};
+ghost use Rattle.std.specs.Io.KnownBytes.{Appends};
 
 use crate::fault::Fault;
 use std::alloc::{AllocError, Global};
-use std::fs;
-use std::io::{ErrorKind, Read};
+use std::fs::{self, OpenOptions};
+use std::io::{ErrorKind, Read, Write};
 use std::rt::Files;
 
-/// Files that are known by their names, and whose texts may be read whole.
-pub trait Texts {
-    /// The file of this name may give this text.
+/// Files that are known by their names.
+pub trait Store {
+    /// What takes the bytes of a file that was made or emptied.
+    type Sink: Write + Drop;
+
+    /// The file of this name may give these bytes.
     ghost gives: { Self → List ℕ → List ℕ → Type 0 };
 
-    /// The text of a file. None where the file cannot be opened or read, does not end, or is not UTF-8.
-    fn text_of(&self, alloc: Global, file: &str) -> Result<Option<String>, AllocError>
-        ensures { IfOk result (λ found. IfSome found (λ text. gives self.now file.now (string_bytes text))) };
+    /// The file of this name was made or emptied, and its bytes go here.
+    ghost opened: { Self → List ℕ → Self.Sink → Type 0 };
+
+    /// The file of this name was made or emptied, and took these bytes then.
+    ghost received: { Self → List ℕ → List ℕ → Type 0 };
+
+    /// The file of this name took these bytes, from its first byte on.
+    ghost stored: { Self → List ℕ → List ℕ → Type 0 };
+
+    /// The bytes of a file. None where the file cannot be opened or read, or does not end.
+    fn bytes_of(&self, alloc: Global, file: &str) -> Result<Option<Vec<u8>>, AllocError>
+        ensures { IfOk result (λ found. IfSome found (λ bytes. gives self.now file.now bytes.items)) };
+
+    /// Writes these bytes over those of a file, from its first byte on. False where it did not take all of them.
+    fn store(&self, file: &str, bytes: &[u8]) -> bool
+        ensures { result ≡ true → stored self.now file.now bytes.now };
+
+    /// Makes a file, or empties it. None where that cannot be done.
+    fn create(&self, file: &str) -> Option<Self::Sink>
+        ensures { IfSome result (opened self.now file.now) };
+
+    /// Ends what was written to a file. False where not all of it was taken.
+    fn finish(&self, file: &str, sink: Self::Sink) -> bool
+        ensures { result ≡ true → (made : Self.Sink) (bytes : List ℕ) → opened self.now file.now made
+            → Appends (Self.Sink.contents made) (Self.Sink.contents sink) bytes → received self.now file.now bytes };
+}
+
+/// The bytes of a file.
+///
+/// # Errors
+///
+/// [`Fault::File`]: it cannot be used. [`Fault::Memory`]: memory was refused.
+pub fn bytes_in<'a, S: Store>(alloc: Global, files: &S, file: &'a str) -> Result<Vec<u8>, Fault<'a>>
+    ensures given { IfOk result (λ bytes. S.gives files.now file.entry.now bytes.items) }
+    ensures refused { IfErr result
+        (λ fault. (fault ≡ Fault.File file.entry) ⊎ (fault ≡ Fault.Memory)) }
+{
+    files.bytes_of(alloc, file)?.ok_or(Fault::File(file))
 }
 
 /// The text of a file.
 ///
 /// # Errors
 ///
-/// [`Fault::File`]: it cannot be used. [`Fault::Memory`]: memory was refused.
-pub fn text_in<'a, T: Texts>(alloc: Global, files: &T, file: &'a str) -> Result<String, Fault<'a>>
-    ensures given { IfOk result (λ text. T.gives files.now file.entry.now (string_bytes text)) }
+/// [`Fault::File`]: it cannot be used, or is not UTF-8. [`Fault::Memory`]: memory was refused.
+pub fn text_in<'a, S: Store>(alloc: Global, files: &S, file: &'a str) -> Result<String, Fault<'a>>
+    ensures given { IfOk result (λ text. S.gives files.now file.entry.now (string_bytes text)) }
     ensures refused { IfErr result
         (λ fault. (fault ≡ Fault.File file.entry) ⊎ (fault ≡ Fault.Memory)) }
 {
-    files.text_of(alloc, file)?.ok_or(Fault::File(file))
+    let bytes = bytes_in(alloc, files, file)?;
+    String::from_utf8(bytes).map_err(|_| Fault::File(file))
 }
 
 /// The files of a machine, of which nothing is claimed.
 #[derive(Clone, Copy)]
 pub struct MachineFiles<'a, R: Files>(pub &'a R);
 
-impl<'a, R: Files> Texts for MachineFiles<'a, R> {
-    ghost use Rattle.sdv_words.specs.Check.{any_text};
+impl<'a, R: Files> Store for MachineFiles<'a, R> {
+    type Sink = R::File;
 
-    ghost gives = { λ _. any_text };
+    ghost use Rattle.sdv_words.specs.Files.{any_bytes, any_sink};
 
-    fn text_of(&self, alloc: Global, file: &str) -> Result<Option<String>, AllocError> {
-        let Ok(mut file) = fs::open(self.0, file) else {
-            return Ok(None);
-        };
-        match bytes_within(alloc, LIMIT, &mut file)? {
-            Some(bytes) => Ok(String::from_utf8(bytes).ok()),
-            None => Ok(None),
+    ghost gives = { λ _. any_bytes };
+
+    ghost opened = { λ _. any_sink };
+
+    ghost stored = { λ _. any_bytes };
+
+    ghost received = { λ _. any_bytes };
+
+    fn bytes_of(&self, alloc: Global, file: &str) -> Result<Option<Vec<u8>>, AllocError> {
+        match fs::open(self.0, file) {
+            Ok(mut file) => bytes_within(alloc, LIMIT, &mut file),
+            Err(_) => Ok(None),
         }
+    }
+
+    fn store(&self, file: &str, bytes: &[u8]) -> bool {
+        match OpenOptions::new().write(true).open(self.0, file) {
+            Ok(mut file) => file.write_all(bytes).is_ok(),
+            Err(_) => false,
+        }
+    }
+
+    fn create(&self, file: &str) -> Option<R::File> {
+        fs::create(self.0, file).ok()
+    }
+
+    fn finish(&self, _file: &str, mut sink: R::File) -> bool {
+        sink.flush().is_ok()
     }
 }
 

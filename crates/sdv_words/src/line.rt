@@ -8,6 +8,7 @@ ghost use Rattle.clap.specs.Walk.{texts};
 ghost use Rattle.clap.specs.declared.error.kind.ErrorKind.TheVariants.{OutOfMemory};
 ghost use Rattle.sdv_words.specs.CommandLine.{certify_command, certify_request, check_command, check_request, command_line};
 ghost use Rattle.sdv_words.specs.CommandLine.{frame_command, frame_request, meaning_of, request_in, request_of};
+ghost use Rattle.sdv_words.specs.CommandLine.{run_command, run_files_command, run_request};
 
 use clap::error::ErrorKind;
 use clap::{Arg, ArgMatches, Command};
@@ -15,7 +16,8 @@ use std::alloc::{AllocError, Global};
 use thiserror::Error;
 
 /// How the program is called.
-pub const USAGE: &str = "usage: sdv frame INDEX ARG | sdv certify SCRIPT | sdv check SCRIPT CERT";
+pub const USAGE: &str =
+    "usage: sdv frame INDEX ARG | sdv certify SCRIPT | sdv check SCRIPT CERT | sdv run SCRIPT CERT CARD IMAGE [SCHEDULE] [--in FILE] [--out FILE]";
 
 /// A command of the program, with the texts of its words.
 #[derive(Clone, Copy, Debug, PartialEq, Eq)]
@@ -34,6 +36,25 @@ pub enum Line<'a> {
         script: &'a str,
         certificate: &'a str,
     },
+    /// The run of the script in these files beside a simulated card.
+    Run(RunFiles<'a>),
+}
+
+/// The names of the files of a run.
+#[derive(Clone, Copy, Debug, PartialEq, Eq)]
+pub struct RunFiles<'a> {
+    pub script: &'a str,
+    pub certificate: &'a str,
+    /// The description of the card.
+    pub card: &'a str,
+    /// The image of the card, or `new:` and how many blocks of zeros it has.
+    pub image: &'a str,
+    /// The schedule of the card. Without one the card is prompt at each event.
+    pub schedule: Option<&'a str>,
+    /// The blocks that the script gives. Without it there are none.
+    pub input: Option<&'a str>,
+    /// Where the blocks go that the script receives. Without it they are dropped.
+    pub output: Option<&'a str>,
 }
 
 /// Why words are no line.
@@ -90,7 +111,8 @@ fn program_command<'a>(alloc: Global) -> Result<Command<'a>, AllocError>
         .disable_help_subcommand(true)
         .subcommand(frame_command(alloc)?)?
         .subcommand(certify_command(alloc)?)?
-        .subcommand(check_command(alloc)?)
+        .subcommand(check_command(alloc)?)?
+        .subcommand(run_command(alloc)?)
 }
 
 fn frame_command<'a>(alloc: Global) -> Result<Command<'a>, AllocError>
@@ -116,6 +138,31 @@ fn check_command<'a>(alloc: Global) -> Result<Command<'a>, AllocError>
     Command::new(alloc, "check").arg(script)?.arg(certificate)
 }
 
+fn run_command<'a>(alloc: Global) -> Result<Command<'a>, AllocError>
+    ensures { IfOk result (λ command. app_of command ≡ run_command) }
+{
+    let files = run_files_command(alloc)?;
+    let schedule = Arg::new(alloc, "SCHEDULE");
+    let input = Arg::new(alloc, "in").long("in");
+    let output = Arg::new(alloc, "out").long("out");
+    files.arg(schedule)?.arg(input)?.arg(output)
+}
+
+// The files that every run needs.
+fn run_files_command<'a>(alloc: Global) -> Result<Command<'a>, AllocError>
+    ensures { IfOk result (λ command. app_of command ≡ run_files_command) }
+{
+    let script = Arg::new(alloc, "SCRIPT").required(true);
+    let certificate = Arg::new(alloc, "CERT").required(true);
+    let card = Arg::new(alloc, "CARD").required(true);
+    let image = Arg::new(alloc, "IMAGE").required(true);
+    Command::new(alloc, "run")
+        .arg(script)?
+        .arg(certificate)?
+        .arg(card)?
+        .arg(image)
+}
+
 fn line_in<'a>(matches: &ArgMatches<'a>) -> Option<Line<'a>>
     ensures { option_map request_of result
         ≡ option_and_then request_in (subcommand_rows_of matches.now) }
@@ -124,6 +171,7 @@ fn line_in<'a>(matches: &ArgMatches<'a>) -> Option<Line<'a>>
         ("frame", matches) => frame_line(matches),
         ("certify", matches) => certify_line(matches),
         ("check", matches) => check_line(matches),
+        ("run", matches) => run_line(matches),
         _ => None,
     }
 }
@@ -152,4 +200,22 @@ fn check_line<'a>(matches: &ArgMatches<'a>) -> Option<Line<'a>>
         script,
         certificate,
     })
+}
+
+fn run_line<'a>(matches: &ArgMatches<'a>) -> Option<Line<'a>>
+    ensures { option_map request_of result ≡ run_request (rows_of (found_of matches.now)) }
+{
+    let script = matches.get_str("SCRIPT")?;
+    let certificate = matches.get_str("CERT")?;
+    let card = matches.get_str("CARD")?;
+    let image = matches.get_str("IMAGE")?;
+    Some(Line::Run(RunFiles {
+        script,
+        certificate,
+        card,
+        image,
+        schedule: matches.get_str("SCHEDULE"),
+        input: matches.get_str("in"),
+        output: matches.get_str("out"),
+    }))
 }

@@ -2,9 +2,9 @@
 ghost use Rattle.std.specs.Prelude.{◌≡◌, ◌≢◌, ◌⊎◌, IfErr, OnOk};
 ghost use Rattle.std.specs.Io.KnownBytes.{Keeps};
 ghost use Rattle.clap.specs.Walk.{texts};
-ghost use Rattle.sdv_words.specs.Answer.{Answers, AsksFrame, AsksNothing, EndsBy, IsFaultOf, Leaves, PrintsFrame};
+ghost use Rattle.sdv_words.specs.Answer.{Answers, AsksFrame, AsksNoRun, AsksNothing, EndsBy, IsFaultOf, Leaves, PrintsFrame};
 ghost use Rattle.sdv_words.specs.Answer.{PrintsFrameInPart, RefusesFrame};
-ghost use Rattle.sdv_words.specs.Check.{any_text};
+ghost use Rattle.sdv_words.specs.Files.{any_files, store_of};
 ghost use Rattle.sdv_words.specs.Fault.{status_of};
 ghost use Rattle.sdv_words.specs.Number.{Writes};
 ghost use Rattle.sdv_frames.specs.declared.command.Command.{Command};
@@ -12,15 +12,16 @@ ghost use Rattle.sdv_frames.specs.declared.command.Command.{Command};
 use crate::certify::certify_file;
 use crate::check::check_files;
 use crate::fault::Fault;
-use crate::file::{MachineFiles, Texts};
+use crate::file::{MachineFiles, Store};
 use crate::frame::{command_of, write_frame};
 use crate::line::{Line, line_of};
+use crate::run::run_files;
 use std::alloc::Global;
 use std::io::Write;
 use std::rt::Files;
 
 /// Runs the program on the words that it is called with, without its own name, and gives the exit status: 0 where the
-/// answer was printed, 1 where what was asked for is refused, 2 where the words are no line of the program, a file cannot
+/// answer was printed or the run ended in `done`, 1 where what was asked for is refused or the run did not end so, 2 where the words are no line of the program, a file cannot
 /// be used or standard output failed, 3 where memory ran out.
 pub fn program<R: Files + AllocGlobal, O: Write, E: Write>(
     rt: &R,
@@ -31,15 +32,15 @@ pub fn program<R: Files + AllocGlobal, O: Write, E: Write>(
     ensures statuses { (result ≡ 0) ⊎ (result ≡ 1) ⊎ (result ≡ 2) ⊎ (result ≡ 3) }
 
     ensures answered { result ≡ 0
-        → Answers any_text (texts words.now) (O.contents out.old) (O.contents out.new) }
+        → Answers any_files (texts words.now) (O.contents out.old) (O.contents out.new) }
     ensures quiet { result ≡ 0 → Keeps (E.contents err.old) (E.contents err.new) }
     ensures faults { result ≢ 0 → (fault : Fault) × (result ≡ status_of fault)
-        × EndsBy any_text (texts words.now) fault (O.contents out.old) (O.contents out.new)
+        × EndsBy any_files (texts words.now) fault (O.contents out.old) (O.contents out.new)
         (E.contents err.old) (E.contents err.new) }
 
     ensures nothing_asked { AsksNothing (texts words.now)
         → Keeps (O.contents out.old) (O.contents out.new) }
-    ensures refused { result ≡ 1 → Keeps (O.contents out.old) (O.contents out.new) }
+    ensures refused { AsksNoRun (texts words.now) → result ≡ 1 → Keeps (O.contents out.old) (O.contents out.new) }
     ensures output_failed { (c : Command) → AsksFrame (texts words.now) c → result ≡ 2
         → Keeps (E.contents err.old) (E.contents err.new) }
     ensures no_memory { result ≡ 3 → Keeps (O.contents out.old) (O.contents out.new) }
@@ -51,17 +52,17 @@ pub fn program<R: Files + AllocGlobal, O: Write, E: Write>(
 }
 
 /// Answers a line of the program from these files.
-pub fn answer<'a, T: Texts, O: Write>(
+pub fn answer<'a, S: Store, O: Write>(
     alloc: Global,
-    files: &T,
+    files: &S,
     words: &'a [&'a str],
     out: &mut O,
 ) -> Result<(), Fault<'a>>
     ensures ok { OnOk result
-        (Answers (T.gives files.now) (texts words.now) (O.contents out.old) (O.contents out.new)) }
-    ensures faults { IfErr result (IsFaultOf (T.gives files.now) (texts words.now)) }
+        (Answers (store_of S.gives S.stored S.received files.now) (texts words.now) (O.contents out.old) (O.contents out.new)) }
+    ensures faults { IfErr result (IsFaultOf (store_of S.gives S.stored S.received files.now) (texts words.now)) }
     ensures left { IfErr result (λ fault.
-        Leaves (T.gives files.now) (texts words.now) fault (O.contents out.old) (O.contents out.new)) }
+        Leaves (store_of S.gives S.stored S.received files.now) (texts words.now) fault (O.contents out.old) (O.contents out.new)) }
 {
     match line_of(alloc, words)? {
         Line::Frame { index, argument } => answer_frame(index, argument, out),
@@ -70,6 +71,7 @@ pub fn answer<'a, T: Texts, O: Write>(
             script,
             certificate,
         } => check_files(alloc, files, script, certificate, out),
+        Line::Run(names) => run_files(alloc, files, names, out),
     }
 }
 

@@ -4,7 +4,7 @@ ghost use Rattle.std.specs.IoError.{error_kind};
 ghost use Rattle.std.specs.Io.KnownBytes.{Keeps};
 ghost use Rattle.clap.specs.Walk.{texts};
 ghost use Rattle.sdv_words.specs.Answer.{Ends};
-ghost use Rattle.sdv_words.specs.Check.{any_text};
+ghost use Rattle.sdv_words.specs.Files.{any_files};
 ghost use Rattle.sdv_words.specs.Fault.{Says, fault_of_words, status_of};
 
 use crate::fault::Fault;
@@ -22,7 +22,7 @@ pub fn start<R: Files + AllocGlobal, O: Write, E: Write>(
     out: &mut O,
     err: &mut E,
 ) -> u8
-    ensures ended { IfOk words (λ given. Ends any_text (drop 1 (map string_bytes given.items)) result
+    ensures ended { IfOk words (λ given. Ends any_files (drop 1 (map string_bytes given.items)) result
         (O.contents out.old) (O.contents out.new) (E.contents err.old) (E.contents err.new)) }
     ensures unread { IfErr words (λ error. (result ≡ status_of (fault_of_words (error_kind error)))
         × Keeps (O.contents out.old) (O.contents out.new)
@@ -40,7 +40,7 @@ fn start_on<R: Files + AllocGlobal, O: Write, E: Write>(
     out: &mut O,
     err: &mut E,
 ) -> u8
-    ensures { Ends any_text (drop 1 (map string_bytes words.now)) result
+    ensures { Ends any_files (drop 1 (map string_bytes words.now)) result
         (O.contents out.old) (O.contents out.new) (E.contents err.old) (E.contents err.new) }
 {
     match texts_of(rt.alloc(), but_the_first(words)) {

@@ -1,5 +1,4 @@
-use Rattle.std.proofs.Common.{◌≡◌, ◌∙◌, ◌≤◌, ◌+◌, ◌*◌, ℕ, List, [], ◌∷◌, ◌++◌, ◌≢◌, get_or, take, take_all, length, refl, ap, sym, arith, rules}
-use Rattle.arrayvec.specs.ArrayVec.{array_vec_len}
+use Rattle.std.proofs.Common.{◌≡◌, ◌∙◌, ◌≤◌, ℕ, List, [], ◌∷◌, ◌++◌, ◌≢◌, get_or, take, take_all, length, refl, ap, sym, arith, rules}
 use Rattle.sdv_words.specs.FrameText.{two_digits}
 use Rattle.sdv_words.proofs.FrameTextLaws.{shown, shown_take}
 use Rattle.sdv_words.proofs.frame.line_of.Goals as goal

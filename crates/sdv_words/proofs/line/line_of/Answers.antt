@@ -5,8 +5,8 @@ use Rattle.clap.specs.declared.error.kind.ErrorKind.TheVariants.{OutOfMemory}
 use Rattle.sdv_words.specs.CommandLine.{command_line, meaning_of, request_of}
 use Rattle.sdv_words.specs.declared.line.Line.{Line}
 use Rattle.sdv_words.specs.declared.line.LineFault.{LineFault}
-use Rattle.sdv_words.specs.declared.line.LineFault.TheVariants.{Memory}
-use Rattle.sdv_words.proofs.CommandLineLaws.{line_given, line_of_meaning, meaning-parsed, no_fault-parsed, taken-parsed}
+use Rattle.sdv_words.specs.declared.line.LineFault.TheVariants.{Memory, Usage}
+use Rattle.sdv_words.proofs.CommandLineLaws.{line_given, line_of_meaning, meaning-parsed, no_fault-parsed, taken-parsed, usage-parsed}
 use Rattle.sdv_words.proofs.line.line_of.Goals as goal
 
 refused_as : (r : Result Line LineFault) (P Q : LineFault → Type 0) → IsErrAnd r P → ((fault : LineFault) → P fault → Q fault) → IfErr r Q
@@ -20,6 +20,13 @@ returns-in_err-matches-clause-taken c = λ taken.
     c.in_ok-program_command.ensures c.in_err-matches.ensures.passes taken in
     refused_as c.from_residual-in_err-matches.result (λ fault. kind_of error ≡ OutOfMemory → fault ≡ Memory) (λ fault. fault ≡ Memory)
     c.from_residual-in_err-matches.ensures.1 (λ fault becomes. becomes memory)
+
+pub returns-in_err-matches-clause-usage : goal.returns-in_err-matches-clause-usage
+returns-in_err-matches-clause-usage c = λ refused.
+    let error = c.in_err-matches.field-0.0 in
+    let becomes : IsErrAnd {T = Line} (Err Usage) (λ fault. kind_of error ≡ OutOfMemory → fault ≡ Memory) = rw refused at c.from_residual-in_err-matches.ensures.1 in
+    usage-parsed (app_of c.in_ok-program_command.field-0) (texts c.args.words.now) error c.in_ok-program_command.ensures
+    c.in_err-matches.ensures.kinds becomes
 
 -- clap finds no fault, and the line in the matches is what the words mean
 no_fault : (c : goal.Joined-matches) → fault_of command_line (texts c.args.words.now) ≡ []

@@ -4,20 +4,20 @@ use Rattle.clap.specs.Walk.{is_empty}
 use Rattle.clap.specs.Words.{App, app_of, with_subcommand}
 use Rattle.clap.specs.declared.builder.command.Command.{Command}
 use Rattle.clap.specs.declared.builder.command.Command.TheViews.{out-Command}
-use Rattle.sdv_words.specs.CommandLine.{certify_command, check_command, frame_command, program_shape}
+use Rattle.sdv_words.specs.CommandLine.{certify_command, check_command, frame_command, program_shape, run_command}
 use Rattle.sdv_words.proofs.line.program_command.Goals as goal
 
-third : (a b g rest : Bool) → (a && (not b && (not g && rest))) ≡ true → g ≡ false
-third false b g rest is = cc
-third true true g rest is = cc
-third true false true rest is = cc
-third true false false rest is = refl
+no_global : (a b g rest : Bool) → (a && (not b && (not g && rest))) ≡ true → g ≡ false
+no_global false b g rest is = cc
+no_global true true g rest is = cc
+no_global true false true rest is = cc
+no_global true false false rest is = refl
 
 -- a plain command has no global arguments
 no_globals : (c : Command) (a : App) → app_of c ≡ a → a.top.is_plain ≡ true → (out-Command c).has_globals ≡ false
 no_globals c a is plain =
     let fields = out-Command c in
-    third (is_empty fields.groups.items) fields.allow_external_subcommands fields.has_globals _ (ap (λ (a : App). a.top.is_plain) is ∙ plain)
+    no_global (is_empty fields.groups.items) fields.allow_external_subcommands fields.has_globals _ (ap (λ (a : App). a.top.is_plain) is ∙ plain)
 
 pub returns : goal.returns
 returns c =
@@ -27,5 +27,7 @@ returns c =
     let check : app_of c.in_ok-check_command.field-0 ≡ check_command = c.in_ok-check_command.ensures in
     let first = c.in_ok-subcommand.ensures.shape (no_globals _ _ frame refl) ∙ ap₂ with_subcommand top (ap (λ (a : App). a.top) frame) in
     let second = c.in_ok-subcommand-2.ensures.shape (no_globals _ _ certify refl) ∙ ap₂ with_subcommand first (ap (λ (a : App). a.top) certify) in
-    IfOk-weaker c.subcommand-3.result _ _
-    (λ command added. added.shape (no_globals _ _ check refl) ∙ ap₂ with_subcommand second (ap (λ (a : App). a.top) check)) c.subcommand-3.ensures
+    let run : app_of c.in_ok-run_command.field-0 ≡ run_command = c.in_ok-run_command.ensures in
+    let third = c.in_ok-subcommand-3.ensures.shape (no_globals _ _ check refl) ∙ ap₂ with_subcommand second (ap (λ (a : App). a.top) check) in
+    IfOk-weaker c.subcommand-4.result _ _
+    (λ command added. added.shape (no_globals _ _ run refl) ∙ ap₂ with_subcommand third (ap (λ (a : App). a.top) run)) c.subcommand-4.ensures

@@ -1,22 +1,33 @@
-use Rattle.std.proofs.Common.{◌≡◌, rules, subst}
+use Rattle.std.proofs.Common.{◌≡◌, arith, rules, subst}
 use Rattle.clap.specs.Walk.{texts}
-use Rattle.sdv_words.specs.Check.{any_text}
+use Rattle.sdv_words.specs.Files.{any_files}
 use Rattle.sdv_words.specs.Fault.{Says, status_of}
 use Rattle.sdv_words.specs.declared.fault.Fault.{Fault}
 use Rattle.sdv_words.specs.declared.fault.Fault.TheVariants.{Output}
-use Rattle.sdv_words.proofs.AnswerLaws.{frame_output, no_answer, no_output}
-use Rattle.sdv_words.proofs.OutputLaws.{left_kept, nothing_said}
+use Rattle.sdv_words.proofs.AnswerLaws.{frame_output, left_kept, memory_kept, no_answer, no_output, other_status}
+use Rattle.sdv_words.proofs.OutputLaws.{nothing_said}
 use Rattle.sdv_words.proofs.program.program.Goals as goal
 
 pub returns-in-Ok-clause-nothing_asked : goal.returns-in-Ok-clause-nothing_asked
-returns-in-Ok-clause-nothing_asked g c = λ nothing. absurd (no_answer any_text (texts c.args.words.now) _ _ nothing c.in-Ok.ensures.ok)
+returns-in-Ok-clause-nothing_asked g c = λ nothing. absurd (no_answer any_files (texts c.args.words.now) _ _ nothing c.in-Ok.ensures.ok)
 
 pub returns-in-Err-clause-nothing_asked : goal.returns-in-Err-clause-nothing_asked
 returns-in-Err-clause-nothing_asked g c = λ nothing.
-    left_kept any_text (texts c.args.words.now) c.in-Err.fault _ _ (no_output any_text (texts c.args.words.now) c.in-Err.fault nothing c.in-Err.ensures.faults) c.in-Err.ensures.left
+    left_kept any_files (texts c.args.words.now) c.in-Err.fault _ _ nothing.no_run
+    (no_output any_files (texts c.args.words.now) c.in-Err.fault nothing c.in-Err.ensures.faults) c.in-Err.ensures.left
 
 pub returns-in-Err-clause-output_failed : goal.returns-in-Err-clause-output_failed
 returns-in-Err-clause-output_failed g c = λ command asked status.
     let two : status_of c.in-Err.fault ≡ 2 = search rules in
-    let output : c.in-Err.fault ≡ Output = frame_output any_text (texts c.args.words.now) command asked c.in-Err.fault two c.in-Err.ensures.faults in
+    let output : c.in-Err.fault ≡ Output = frame_output any_files (texts c.args.words.now) command asked c.in-Err.fault two c.in-Err.ensures.faults in
     nothing_said _ _ (subst (λ (fault : Fault). Says fault (g.E.Write.contents c.args.err.now) (g.E.Write.contents c.report.new.err)) output c.report.ensures.said)
+
+pub returns-in-Err-clause-refused : goal.returns-in-Err-clause-refused
+returns-in-Err-clause-refused g c = λ none status.
+    let one : status_of c.in-Err.fault ≡ 1 = search rules in
+    left_kept any_files (texts c.args.words.now) c.in-Err.fault _ _ none (other_status c.in-Err.fault 1 one (λ same. absurd (omega (arith, same)))) c.in-Err.ensures.left
+
+pub returns-in-Err-clause-no_memory : goal.returns-in-Err-clause-no_memory
+returns-in-Err-clause-no_memory g c = λ status.
+    let three : status_of c.in-Err.fault ≡ 3 = search rules in
+    memory_kept any_files (texts c.args.words.now) c.in-Err.fault _ _ three c.in-Err.ensures.left

@@ -1,0 +1,46 @@
+use Rattle.std.proofs.Common.{◌≡◌, ◌∙◌, sym, refl, Option, Some, None, codes}
+use Rattle.clap.proofs.WalkLemmas.{first_value-rows}
+use Rattle.clap.specs.Words.{Text, first_of, first_value, found_of, rows_of}
+use Rattle.clap.specs.declared.parser.matches.Found.{Found}
+use Rattle.sdv_words.proofs.line.run_line.Goals as goal
+
+-- what the getter finds is what the rows have
+found_in : (f : Found) (id : Text) (found : Option Text) → found ≡ first_value f id → first_of id (rows_of f) ≡ found
+found_in f id found e = sym (first_value-rows f id) ∙ sym e
+
+pub returns-in_err-script : goal.returns-in_err-script
+returns-in_err-script c =
+    let script = found_in (found_of c.args.matches.now) (codes "SCRIPT") None c.in_err-script.ensures in
+    rw (script, c.from_residual.ensures) refl
+
+pub returns-in_err-certificate : goal.returns-in_err-certificate
+returns-in_err-certificate c =
+    let script = found_in (found_of c.args.matches.now) (codes "SCRIPT") (Some c.in_ok-script.script.now) c.in_ok-script.ensures in
+    let certificate = found_in (found_of c.args.matches.now) (codes "CERT") None c.in_err-certificate.ensures in
+    rw (script, certificate, c.from_residual-in_err-certificate.ensures) refl
+
+pub returns-in_err-card : goal.returns-in_err-card
+returns-in_err-card c =
+    let script = found_in (found_of c.args.matches.now) (codes "SCRIPT") (Some c.in_ok-script.script.now) c.in_ok-script.ensures in
+    let certificate = found_in (found_of c.args.matches.now) (codes "CERT") (Some c.in_ok-certificate.certificate.now) c.in_ok-certificate.ensures in
+    let card = found_in (found_of c.args.matches.now) (codes "CARD") None c.in_err-card.ensures in
+    rw (script, certificate, card, c.from_residual-in_err-card.ensures) refl
+
+pub returns-in_err-image : goal.returns-in_err-image
+returns-in_err-image c =
+    let script = found_in (found_of c.args.matches.now) (codes "SCRIPT") (Some c.in_ok-script.script.now) c.in_ok-script.ensures in
+    let certificate = found_in (found_of c.args.matches.now) (codes "CERT") (Some c.in_ok-certificate.certificate.now) c.in_ok-certificate.ensures in
+    let card = found_in (found_of c.args.matches.now) (codes "CARD") (Some c.in_ok-card.card.now) c.in_ok-card.ensures in
+    let image = found_in (found_of c.args.matches.now) (codes "IMAGE") None c.in_err-image.ensures in
+    rw (script, certificate, card, image, c.from_residual-in_err-image.ensures) refl
+
+pub returns : goal.returns
+returns c =
+    let script = found_in (found_of c.args.matches.now) (codes "SCRIPT") (Some c.in_ok-script.script.now) c.in_ok-script.ensures in
+    let certificate = found_in (found_of c.args.matches.now) (codes "CERT") (Some c.in_ok-certificate.certificate.now) c.in_ok-certificate.ensures in
+    let card = found_in (found_of c.args.matches.now) (codes "CARD") (Some c.in_ok-card.card.now) c.in_ok-card.ensures in
+    let image = found_in (found_of c.args.matches.now) (codes "IMAGE") (Some c.in_ok-image.image.now) c.in_ok-image.ensures in
+    let schedule = found_in (found_of c.args.matches.now) (codes "SCHEDULE") _ c.get_str-5.ensures in
+    let input = found_in (found_of c.args.matches.now) (codes "in") _ c.get_str-6.ensures in
+    let output = found_in (found_of c.args.matches.now) (codes "out") _ c.get_str-7.ensures in
+    rw (script, certificate, card, image, schedule, input, output) refl
