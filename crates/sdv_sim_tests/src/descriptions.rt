@@ -98,20 +98,21 @@ fn cards(rt: HostRuntime) -> Result<(), Fail> {
     Ok(())
 }
 
-/// Why there is no simulated card, by the bytes of the image and the schedule.
+/// Why there is no simulated card, by its description, the bytes of the image and the schedule.
 #[test]
 fn refusals(rt: HostRuntime) -> Result<(), Fail> {
     let alloc = rt.alloc();
     let rows = [
-        (2048, 6, None),
-        (2048, 7, Some(SimFault::Description)),
-        (2047, 6, None),
-        (1536, 9, Some(SimFault::Description)),
-        (1536, 0, Some(SimFault::ImageLength)),
-        (2560, 0, Some(SimFault::ImageLength)),
+        (BYTE_CARD, 2048, 6, None),
+        (BYTE_CARD, 2048, 7, Some(SimFault::Description)),
+        (BYTE_CARD, 2047, 6, None),
+        (BYTE_CARD, 1536, 9, Some(SimFault::Description)),
+        (BYTE_CARD, 1536, 0, Some(SimFault::ImageLength)),
+        (BYTE_CARD, 2560, 0, Some(SimFault::ImageLength)),
+        (BLOCK_CARD, 1023 * 512, 0, Some(SimFault::ImageLength)),
     ];
-    for (size, code, fault) in rows {
-        let desc = CardDesc::parse(BYTE_CARD)?;
+    for (desc, size, code, fault) in rows {
+        let desc = CardDesc::parse(desc)?;
         let mut bytes = Vec::new(alloc);
         for _ in 0..size {
             bytes.push(0)?;

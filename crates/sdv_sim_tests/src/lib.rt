@@ -1,5 +1,5 @@
 //! Tests of simulated cards: descriptions, how a `Sim` is made, bring-ups with their answers to the letter, what each value
-//! of a schedule does, and reads, writes and erases.
+//! of a schedule does, reads, writes and erases, and runs of scripts beside them with their traces.
 //!
 //! The crate has no code of its own.
 #![tactic(auto)]
@@ -12,5 +12,7 @@ mod descriptions;
 mod failing;
 #[cfg(test)]
 mod phases;
+#[cfg(test)]
+mod runs;
 #[cfg(test)]
 mod shared;

@@ -1,0 +1,262 @@
+//! Scripts that run beside simulated cards, with their traces to the letter.
+
+use crate::shared::{BLOCK_CARD, BYTE_CARD, DEVICE, Port, image, port};
+use sdv_certify::{certify, write};
+use sdv_check::{Accepted, verify};
+use sdv_controller::Controller;
+use sdv_run::{End, RunFault, run};
+use sdv_script::parse;
+use sdv_sim::{CardDesc, Sim};
+use std::alloc::{AllocError, Global};
+use std::process::Abort;
+use std::str;
+use std::test::Fail;
+
+/// A script that brings a card up to the transfer state.
+const BRING_UP: &str = "card sd
+flags hc
+nums cap
+send 0 { else { } }
+send 8 { else { } }
+loop 1000 { send 55 { app { send 41 0x40ff8000 { ocr.ready & ocr.block { set hc break } ocr.ready { break } answer { } else { fault lost41 } } } else { fault lost55 } } } else { fault busy }
+send 2 { answer { } else { fault cid } }
+send 3 { clean { } else { fault rca } }
+send 9 { answer { } else { fault csd } }
+send 7 { clean { } else { fault select } }
+send 16 { clean { } else { fault blen } }
+let cap = csd.blocks
+done
+";
+
+/// One that then reads the last block.
+const LAST_BLOCK: &str = "card sd
+flags hc
+nums cap x
+send 0 { else { } }
+send 8 { else { } }
+loop 1000 { send 55 { app { send 41 0x40ff8000 { ocr.ready & ocr.block { set hc break } ocr.ready { break } answer { } else { fault lost41 } } } else { fault lost55 } } } else { fault busy }
+send 2 { answer { } else { fault cid } }
+send 3 { clean { } else { fault rca } }
+send 9 { answer { } else { fault csd } }
+send 7 { clean { } else { fault select } }
+send 16 { clean { } else { fault blen } }
+let cap = csd.blocks
+let x = cap - 1
+send 17 at by hc x { clean { recv { ok { } else { fault rd } } } else { fault rd } }
+done
+";
+
+/// A script that brings an e.MMC device up to the transfer state.
+const DEVICE_BRING_UP: &str = "card emmc
+flags hc
+nums cap
+send 0 { else { } }
+loop 1000 { send 1 { ocr.ready & ocr.block { set hc break } ocr.ready { break } answer { } else { fault lost1 } } } else { fault busy }
+send 2 { answer { } else { fault cid } }
+send 3 { clean { } else { fault rca } }
+send 9 { answer { } else { fault csd } }
+send 7 { clean { } else { fault select } }
+send 16 { clean { } else { fault blen } }
+if hc { send 8 { clean { recv reg { ok { let cap = ext.blocks } else { fault ext } } } else { fault ext } } } else { let cap = csd.blocks }
+done
+";
+
+/// The script of a text, with the certificate that is written for it.
+fn accepted(alloc: Global, text: &str) -> Result<Accepted<'_>, Fail> {
+    let script = parse(alloc, text)?;
+    let mut certificate = Vec::new(alloc);
+    write(&certify(alloc, &script)?, &mut certificate)?;
+    Ok(verify(alloc, text, str::from_utf8(&certificate)?)?)
+}
+
+/// The fault that a run ended in, or "done".
+fn name_of(outcome: &Result<End, RunFault>) -> &str {
+    match outcome {
+        Ok(End::Done) => "done",
+        Ok(End::Fault(name)) => name.as_str(),
+        Err(_) => "refused",
+    }
+}
+
+/// Runs a script beside a card, and compares its end and its trace: what is put out.
+fn put_out(
+    rt: &impl Abort,
+    alloc: Global,
+    script: &Accepted<'_>,
+    card: &mut Port,
+    end: &str,
+    lines: &str,
+) -> Vec<u8> {
+    let (mut out, mut trace) = (Vec::new(alloc), Vec::new(alloc));
+    let outcome = run(alloc, script, card, &[], &mut out, &mut trace);
+    let trace = str::from_utf8(&trace).ok().expect(rt, "a text");
+    assert!(rt; trace == lines, "{trace}\nfor\n{lines}");
+    assert_eq!(rt; name_of(&outcome), end, "{trace}");
+    out
+}
+
+/// A bring-up that goes well, line by line.
+static LINES: [&str; 9] = [
+    "CMD0 00000000 -\n",
+    "CMD8 000001aa R7 000001aa\n",
+    "CMD55 00000000 R1 00000120\n",
+    "CMD41 40ff8000 R3 c0ff8000\n",
+    "CMD2 00000000 R2 005858534456202010000000010181\n",
+    "CMD3 00000000 R6 12340500\n",
+    "CMD9 12340000 R2 400000000009000000000000000000\n",
+    "CMD7 12340000 R1 00000700\n",
+    "CMD16 00000200 R1 00000900\n",
+];
+
+/// Scripts, descriptions, traces, and how many bytes are put out.
+static RUNS: [(&str, &str, &str, usize); 3] = [
+    (
+        BRING_UP,
+        BLOCK_CARD,
+        "CMD0 00000000 -
+CMD8 000001aa R7 000001aa
+CMD55 00000000 R1 00000120
+CMD41 40ff8000 R3 c0ff8000
+CMD2 00000000 R2 005858534456202010000000010181
+CMD3 00000000 R6 12340500
+CMD9 12340000 R2 400000000009000000000000000000
+CMD7 12340000 R1 00000700
+CMD16 00000200 R1 00000900
+done
+",
+        0,
+    ),
+    (
+        LAST_BLOCK,
+        BYTE_CARD,
+        "CMD0 00000000 -
+CMD8 000001aa timeout
+CMD55 00000000 R1 00000120
+CMD41 40ff8000 R3 80ff8000
+CMD2 00000000 R2 005858534456202010000000010181
+CMD3 00000000 R6 00010500
+CMD9 00010000 R2 000000000009000000000000000000
+CMD7 00010000 R1 00000700
+CMD16 00000200 R1 00000900
+CMD17 00000600 R1 00000900
+IN 1 ok
+done
+",
+        512,
+    ),
+    (
+        DEVICE_BRING_UP,
+        DEVICE,
+        "CMD0 00000000 -
+CMD1 40ff8080 R3 c0ff8080
+CMD2 00000000 R2 000158534456455249100000000117
+CMD3 00010000 R1 00000500
+CMD9 00010000 R2 00000000000903ffc0038000000000
+CMD7 00010000 R1 00000700
+CMD16 00000200 R1 00000900
+CMD8 00000000 R1 00000900
+REG 512 ok
+done
+",
+        0,
+    ),
+];
+
+/// Runs that end well, on cards whose block 3 is full of 5a.
+#[test]
+fn whole_runs(rt: HostRuntime) -> Result<(), Fail> {
+    let alloc = rt.alloc();
+    for &(text, desc, lines, bytes) in RUNS.iter() {
+        let mut card = port(alloc, desc, &[], 3, 0x5a)?;
+        let out = put_out(
+            &rt,
+            alloc,
+            &accepted(alloc, text)?,
+            &mut card,
+            "done",
+            lines,
+        );
+        assert!(rt; out.len() == bytes && out.iter().all(|byte| *byte == 0x5a));
+    }
+    Ok(())
+}
+
+/// Where an event of the bring-up meets one of these values of a schedule: its line and those of what is tried again, and the
+/// run's end. Any other value changes nothing.
+static LOST: [(usize, &[u8], &str, &str); 15] = [
+    (1, &[1], "CMD8 000001aa timeout\n", "busy"),
+    (1, &[2], "CMD8 000001aa timeout\n", "done"),
+    (2, &[1, 2], "CMD55 00000000 timeout\n", "lost55"),
+    (2, &[4], "CMD55 00000000 R1 00080120\n", "done"),
+    (2, &[5], "CMD55 00000000 R1 00080100\n", "lost55"),
+    (3, &[1, 2], "CMD41 40ff8000 timeout\n", "lost41"),
+    (
+        3,
+        &[3],
+        "CMD41 40ff8000 R3 00ff8000\nCMD55 00000000 R1 00000120\nCMD41 40ff8000 R3 c0ff8000\n",
+        "done",
+    ),
+    (4, &[1, 2], "CMD2 00000000 timeout\n", "cid"),
+    (5, &[1, 2], "CMD3 00000000 timeout\n", "rca"),
+    (5, &[4, 5], "CMD3 00000000 R6 12342500\n", "rca"),
+    (6, &[1, 2], "CMD9 12340000 timeout\n", "csd"),
+    (7, &[1, 2], "CMD7 12340000 timeout\n", "select"),
+    (7, &[4, 5], "CMD7 12340000 R1 00080700\n", "select"),
+    (8, &[1, 2], "CMD16 00000200 timeout\n", "blen"),
+    (8, &[4, 5], "CMD16 00000200 R1 00080900\n", "blen"),
+];
+
+/// The lines at an event that meets a value of a schedule, and the run's end.
+fn lost(place: usize, code: u8) -> Option<(&'static str, &'static str)> {
+    for &(row, codes, lines, end) in LOST.iter() {
+        if row == place && codes.contains(&code) {
+            return Some((lines, end));
+        }
+    }
+    None
+}
+
+/// The trace of a bring-up with these lines at an event, and with that end.
+fn trace_of(alloc: Global, place: usize, lines: &str, end: &str) -> Result<String, AllocError> {
+    let mut trace = String::new(alloc);
+    for (at, line) in LINES.iter().enumerate() {
+        if at == place {
+            trace.push_str(lines)?;
+        } else if at < place || end == "done" {
+            trace.push_str(line)?;
+        }
+    }
+    // a card with block addresses that took no CMD8 is never ready
+    if end == "busy" {
+        let turn = "CMD55 00000000 R1 00000120\nCMD41 40ff8000 R3 00ff8000\n";
+        trace.push_str(&turn.repeat(alloc, 1000)?)?;
+    }
+    if end != "done" {
+        trace.push_str("fault ")?;
+    }
+    trace.push_str(end)?;
+    trace.push_str("\n")?;
+    Ok(trace)
+}
+
+/// Each value of a schedule at each event of the bring-up.
+#[test]
+fn lost_events(rt: HostRuntime) -> Result<(), Fail> {
+    let alloc = rt.alloc();
+    let desc = CardDesc::parse(BLOCK_CARD)?;
+    let script = accepted(alloc, BRING_UP)?;
+    let mut blocks = image(alloc, 1024, 0, 0)?;
+    for code in 0..7 {
+        for place in 0..9 {
+            let (lines, end) = lost(place, code).unwrap_or((LINES[place], "done"));
+            let trace = trace_of(alloc, place, lines, end)?;
+            let mut schedule = [0; 9];
+            schedule[place] = code;
+            let mut card = Controller::new(Sim::new(alloc, desc, blocks, &schedule)?);
+            let out = put_out(&rt, alloc, &script, &mut card, end, &trace);
+            assert!(rt; out.is_empty());
+            blocks = card.into_wire().into_image();
+        }
+    }
+    Ok(())
+}
