@@ -2,6 +2,7 @@
 use sdv_words::progress::{Below, Counted, Progress};
 use std::cell::Cell;
 use std::io::{self, Write};
+use std::process::Abort;
 use std::test::Fail;
 use std::time::{Clock, Duration};
 
@@ -23,48 +24,44 @@ impl Clock for Ticking {
     }
 }
 
-/// Three lines go out, and then one to standard error: what the terminal shows, with a clock of this step.
+/// Three lines go out, and then one to standard error.
+fn write_lines<R: AllocGlobal + Abort, E: Write>(
+    rt: &R,
+    progress: &Progress<'_, E, Ticking>,
+) -> io::Result<()> {
+    let mut out = Counted {
+        inner: Vec::new(rt.alloc()),
+        progress,
+    };
+    for line in [b"CMD0 00000000 -\n".as_slice(), b"a\n", b"done\n"] {
+        out.write_all(line)?;
+    }
+    assert!(rt; out.inner.as_slice() == b"CMD0 00000000 -\na\ndone\n".as_slice());
+    let mut err = Below {
+        inner: Vec::new(rt.alloc()),
+        progress,
+    };
+    err.write_all(b"said\n")?;
+    assert!(rt; err.inner.as_slice() == b"said\n".as_slice());
+    Ok(())
+}
+
 #[test]
 fn shows_how_many_lines_went_out(rt: HostRuntime) -> Result<(), Fail> {
-    // at 100 milliseconds a look, at 40, and without a terminal
-    let rows: [(u64, bool, &[u8]); 3] = [
-        (100, true, b"\r2 lines\x1b[K\r3 lines\x1b[K\r\x1b[K"),
-        (40, true, b""),
-        (100, false, b""),
-    ];
-    for (step, is_terminal, wanted) in rows {
+    // at 100 milliseconds a look, and at 40
+    let rows: [(u64, &[u8]); 2] = [(100, b"\r2 lines\x1b[K\r3 lines\x1b[K\r\x1b[K"), (40, b"")];
+    for (step, wanted) in rows {
         let clock = Ticking {
             now: Cell::new(0),
             step,
         };
         let mut shown = Vec::new(rt.alloc());
-        let mut hidden = Vec::new(rt.alloc());
-        let terminal = if is_terminal { &mut shown } else { &mut hidden };
-        let progress = Progress::new(is_terminal.then_some(terminal), &clock);
-        let mut out = Counted {
-            inner: Vec::new(rt.alloc()),
-            progress: &progress,
-        };
-        for line in [b"CMD0 00000000 -\n".as_slice(), b"a\n", b"done\n"] {
-            out.write_all(line)?;
-        }
-        let mut err = Below {
-            inner: Vec::new(rt.alloc()),
-            progress: &progress,
-        };
-        err.write_all(b"said\n")?;
-        let Counted {
-            inner: printed,
-            progress: _,
-        } = out;
-        let Below {
-            inner: said,
-            progress: _,
-        } = err;
+        let progress = Progress::new(Some(&mut shown), &clock);
+        write_lines(&rt, &progress)?;
         drop(progress);
-        assert!(rt; printed.as_slice() == b"CMD0 00000000 -\na\ndone\n".as_slice());
-        assert!(rt; said.as_slice() == b"said\n".as_slice());
         assert!(rt; shown.as_slice() == wanted, "{step}");
+        let nowhere: Progress<'_, Vec<u8>, Ticking> = Progress::new(None, &clock);
+        write_lines(&rt, &nowhere)?;
     }
     Ok(())
 }
