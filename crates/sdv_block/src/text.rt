@@ -15,21 +15,58 @@ use std::alloc::AllocError;
 /// A script has at most so many bytes.
 const MAX_BYTES: usize = 65_536;
 
+/// The lines that bring an SD card up.
+const SD_BRING_UP: &str = "card sd
+flags hc
+nums cap
+send 0 { else { } }
+send 8 { else { } }
+loop 1000 { send 55 { app { send 41 0x40ff8000 { ocr.ready & ocr.block { set hc break } ocr.ready { break } answer { } else { fault lost41 } } } else { fault lost55 } } } else { fault busy }
+send 2 { answer { } else { fault cid } }
+send 3 { clean { } else { fault rca } }
+send 9 { answer { } else { fault csd } }
+send 7 { clean { } else { fault select } }
+send 16 { clean { } else { fault blen } }
+let cap = csd.blocks
+";
+
+/// The lines that bring an e.MMC device up.
+const EMMC_BRING_UP: &str = "card emmc
+flags hc
+nums cap
+send 0 { else { } }
+loop 1000 { send 1 { ocr.ready & ocr.block { set hc break } ocr.ready { break } answer { } else { fault lost1 } } } else { fault busy }
+send 2 { answer { } else { fault cid } }
+send 3 { clean { } else { fault rca } }
+send 9 { answer { } else { fault csd } }
+send 7 { clean { } else { fault select } }
+send 16 { clean { } else { fault blen } }
+if hc { send 8 { clean { recv reg { ok { let cap = ext.blocks } else { fault ext } } } else { fault ext } } } else { let cap = csd.blocks }
+";
+
+/// The lines after the block of a read.
+const READ_LINES: &str = " { clean { } else { fault read } }
+recv { ok { } else { fault read } }
+";
+
+/// The lines after the block of a write.
+const WRITE_LINES: &str = " { clean { } else { fault write } }
+give { ok { } else { fault write } }
+loop 1000 { wait { ok { break } else { } } } else { fault busy }
+send 13 { clean & state=tran { } else { fault write } }
+";
+
 /// The lines that bring a card of a kind up.
 pub(crate) fn bring_up(kind: Kind) -> &'static str
     ensures { (others : List ℕ) → result.now ++ others ≡ bring_up_text kind others }
 {
     match kind {
-        Kind::Sd => {
-            "card sd\nflags hc\nnums cap\nsend 0 { else { } }\nsend 8 { else { } }\nloop 1000 { send 55 { app { send 41 0x40ff8000 { ocr.ready & ocr.block { set hc break } ocr.ready { break } answer { } else { fault lost41 } } } else { fault lost55 } } } else { fault busy }\nsend 2 { answer { } else { fault cid } }\nsend 3 { clean { } else { fault rca } }\nsend 9 { answer { } else { fault csd } }\nsend 7 { clean { } else { fault select } }\nsend 16 { clean { } else { fault blen } }\nlet cap = csd.blocks\n"
-        }
-        Kind::Emmc => {
-            "card emmc\nflags hc\nnums cap\nsend 0 { else { } }\nloop 1000 { send 1 { ocr.ready & ocr.block { set hc break } ocr.ready { break } answer { } else { fault lost1 } } } else { fault busy }\nsend 2 { answer { } else { fault cid } }\nsend 3 { clean { } else { fault rca } }\nsend 9 { answer { } else { fault csd } }\nsend 7 { clean { } else { fault select } }\nsend 16 { clean { } else { fault blen } }\nif hc { send 8 { clean { recv reg { ok { let cap = ext.blocks } else { fault ext } } } else { fault ext } } } else { let cap = csd.blocks }\n"
-        }
+        Kind::Sd => SD_BRING_UP,
+        Kind::Emmc => EMMC_BRING_UP,
     }
 }
 
-/// Adds the line that ends the script in a fault where the disk has less blocks.
+/// Adds the line that ends the script in the fault `beyond` where the card has fewer blocks.
 pub(crate) fn push_test(text: &mut String, least: u64) -> Result<(), AllocError>
     ensures { IfOk result (λ _. (others : List ℕ) →
         string_bytes text.new ++ others ≡ string_bytes text.old ++ test_text least others) }
@@ -49,7 +86,7 @@ fn push_read(text: &mut String, block: u64) -> Result<(), AllocError>
     let mut buffer = Buffer::new();
     text.push_str("send 17 at by hc ")?;
     text.push_str(buffer.format(block))?;
-    text.push_str(" { clean { } else { fault read } }\nrecv { ok { } else { fault read } }\n")?;
+    text.push_str(READ_LINES)?;
     Ok(())
 }
 
@@ -61,9 +98,7 @@ fn push_write(text: &mut String, block: u64) -> Result<(), AllocError>
     let mut buffer = Buffer::new();
     text.push_str("send 24 at by hc ")?;
     text.push_str(buffer.format(block))?;
-    text.push_str(
-        " { clean { } else { fault write } }\ngive { ok { } else { fault write } }\nloop 1000 { wait { ok { break } else { } } } else { fault busy }\nsend 13 { clean & state=tran { } else { fault write } }\n",
-    )?;
+    text.push_str(WRITE_LINES)?;
     Ok(())
 }
 
