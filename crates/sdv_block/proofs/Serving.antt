@@ -1,0 +1,130 @@
+-- A BATCH of one-block requests beside a card does what a plain disk does.
+use Rattle.std.proofs.Common.{◌≡◌, ℕ, ◌+◌, inl, inr, refl, sym, ap, ◌∙◌, subst, arith, true, false, List, [], ◌∷◌, ◌++◌, take, drop, length, append-nil, append_assoc, map}
+use Rattle.std.specs.Prelude.{◌⊎◌, ◌&&◌, nat_le, slice_get}
+use Rattle.std.proofs.lemmas.Bool.{le-leb}
+use Rattle.sdv_registers.specs.declared.kind.Kind.{Kind}
+use Rattle.sdv_card.specs.Card.{Card, Block, AreBlocks}
+use Rattle.sdv_card.specs.Host.{Host}
+use Rattle.sdv_graph.specs.Walk.{Pair, Ending, Finished, Open, Rest, walk_statements, given}
+use Rattle.sdv_card.proofs.Members.{both_true}
+use Rattle.sdv_block.specs.declared.request.Request.{Request}
+use Rattle.sdv_block.specs.declared.request.Request.TheVariants.{Read, Write}
+use Rattle.sdv_block.specs.BlockStatements.{Access, reading, writing, request_of, batch_statements}
+use Rattle.sdv_block.specs.Disk.{Disk, with_blocks, can_serve, after_request, after_batch, AllServed, HasRead, SameOutside, writes}
+use Rattle.sdv_block.specs.Served.{AllowedSteps, blocks_read, IsEarly, disk_of, EndsAs, Served}
+use Rattle.sdv_block.proofs.DiskLaws.{same_at, same_outside, outside_both, grows, first_served, same_disk}
+use Rattle.sdv_block.proofs.Giving.{HaltedWriting}
+use Rattle.sdv_block.proofs.OneRead.{ReadBlock, read_part}
+use Rattle.sdv_block.proofs.OneWrite.{WroteBlock, write_part}
+use Rattle.sdv_block.proofs.Parts.{Past, halts}
+use Rattle.sdv_block.proofs.Quiet.{HaltedQuiet, halted_here, blocks_read-append, given-append}
+
+-- A WALK THAT HALTED EARLY read what was read before, and so no more than the disk
+
+ends_early : (e : Ending) (reached served : Disk) → IsEarly e → HasRead reached.output served → EndsAs e reached served
+ends_early Finished reached served early h = absurd early
+ends_early e reached served early h = h
+
+not_early : (e : Ending) → IsEarly e → e ≡ Finished → ⊥
+not_early e early is = subst (λ v. IsEarly v) is early
+
+read_nothing : (output read : List Block) → read ≡ [] → output ≡ output ++ read
+read_nothing output read e = rw e (sym (append-nil output))
+
+pub halted_early : (rs : List Request) (e : Ending) (es : List Pair) (c last : Card) → IsEarly e → blocks_read es ≡ [] → SameOutside rs c.contents last.contents → Served rs e es c last
+halted_early rs e es c last early read outside = record {
+  ends = λ left output. ends_early e (disk_of last left (output ++ blocks_read es)) (after_batch rs (disk_of c (given es ++ left) output)) early
+      (subst (λ o. HasRead o (after_batch rs (disk_of c (given es ++ left) output))) (read_nothing output (blocks_read es) read) (grows rs (disk_of c (given es ++ left) output)));
+  over = inr early;
+  all = λ is. absurd (not_early e early is);
+  outside = outside;
+}
+
+-- DONE
+
+done_by : (e : Ending) (es : List Pair) (c last : Card) → es ≡ [] → e ≡ Finished → c ≡ last → Served [] e es c last
+done_by e es c last none is same = record {
+  ends = λ left output. subst (λ e. EndsAs e (disk_of last left (output ++ blocks_read es)) (disk_of c (given es ++ left) output)) (sym is)
+      (same_disk c.contents last.contents (given es ++ left) left output (output ++ blocks_read es) (ap (λ (x : Card). x.contents) same) (ap (λ (es : List Pair). given es ++ left) none) (read_nothing output (blocks_read es) (ap blocks_read none)));
+  over = inl is;
+  all = λ is left output. tt;
+  outside = same_outside [] c.contents last.contents (ap (λ (x : Card). x.contents) same);
+}
+
+-- ONE REQUEST, AND THEN THE OTHERS
+
+-- what a request made of the card is what it makes of the disk
+record Step (r : Request) (es front rest : List Pair) (c u : Card) : Type 0 where
+  split : es ≡ front ++ rest
+  can : (left output : List Block) → can_serve (disk_of c (given es ++ left) output) r ≡ true
+  -- the blocks that it read
+  now : (left output : List Block) → after_request r (disk_of c (given es ++ left) output) ≡ disk_of u (given rest ++ left) (output ++ blocks_read front)
+  outside : (block : ℕ) → writes r block ≡ false → slice_get u.contents block ≡ slice_get c.contents block
+
+and_then : (r : Request) (rs : List Request) (e : Ending) (es front rest : List Pair) (c u last : Card) → Step r es front rest c u → Served rs e rest u last → Served (r ∷ rs) e es c last
+and_then r rs e es front rest c u last step s = record {
+  ends = λ left output. (
+      let d = disk_of c (given es ++ left) output in
+      let reached : disk_of last left ((output ++ blocks_read front) ++ blocks_read rest) ≡ disk_of last left (output ++ blocks_read es) =
+      ap (λ (o : List Block). disk_of last left o) (append_assoc output (blocks_read front) (blocks_read rest) ∙ ap (λ (bs : List Block). output ++ bs) (sym (ap blocks_read step.split ∙ blocks_read-append front rest))) in
+      let served : after_batch rs (disk_of u (given rest ++ left) (output ++ blocks_read front)) ≡ after_batch (r ∷ rs) d =
+      ap (λ (d : Disk). after_batch rs d) (sym (step.now left output)) ∙ sym (first_served r rs d (step.can left output)) in
+      subst (λ x. EndsAs e x (after_batch (r ∷ rs) d)) reached
+      (subst (λ y. EndsAs e (disk_of last left ((output ++ blocks_read front) ++ blocks_read rest)) y) served (s.ends left (output ++ blocks_read front))));
+  over = s.over;
+  all = λ is left output. (step.can left output, subst (λ d. AllServed rs d) (sym (step.now left output)) (s.all is left (output ++ blocks_read front)));
+  outside = outside_both r rs c.contents u.contents last.contents step.outside s.outside;
+}
+
+-- a block that was read
+read_step : (block : ℕ) (es front rest : List Pair) (c u : Card) (h : Host) → es ≡ front ++ rest → ReadBlock block c front u h → Step (Read block 1) es front rest c u
+read_step block es front rest c u h split did = record {
+  split = split;
+  can = λ left output. le-leb (block + 1) (length c.contents) did.room;
+  now = λ left output. same_disk c.contents u.contents (given es ++ left) (given rest ++ left) _ _ did.contents
+      (ap (λ (bs : List Block). bs ++ left) (ap given split ∙ (given-append front rest ∙ ap (λ (bs : List Block). bs ++ given rest) did.gave)))
+      (ap (λ (bs : List Block). output ++ bs) (sym did.read));
+  outside = λ i other. ap (λ (bs : List Block). slice_get bs i) (sym did.contents);
+}
+
+-- a block that was written
+write_step : (block : ℕ) (es front rest : List Pair) (c u : Card) (h : Host) → es ≡ front ++ rest → WroteBlock block c front u h → Step (Write block 1) es front rest c u
+write_step block es front rest c u h split did = record {
+  split = split;
+  can = λ left output.
+      subst (λ i. (nat_le (block + 1) (length c.contents) && nat_le 1 (length i)) ≡ true) (sym (input left))
+      (both_true _ _ (le-leb (block + 1) (length c.contents) did.room) (le-leb 1 (length (did.new ∷ (given rest ++ left))) (omega arith)));
+  now = λ left output. same_disk (with_blocks block (take 1 (given es ++ left)) c.contents) u.contents (drop 1 (given es ++ left)) (given rest ++ left) output (output ++ blocks_read front)
+      (ap (λ (i : List Block). with_blocks block (take 1 i) c.contents) (input left) ∙ sym did.contents)
+      (ap (λ (i : List Block). drop 1 i) (input left))
+      (read_nothing output (blocks_read front) did.read);
+  outside = λ i other. same_at block i c.contents u.contents did.outside other;
+}
+  where
+    input : (left : List Block) → given es ++ left ≡ did.new ∷ (given rest ++ left)
+    input left = ap (λ (bs : List Block). bs ++ left) (ap given split ∙ (given-append front rest ∙ ap (λ (bs : List Block). bs ++ given rest) did.gave))
+
+-- THE BATCH
+
+module _ (k : Kind) (e : Ending) (last : Card) (fell broke : Rest) where
+  abbrev Serves : List Access → Type 0
+  Serves accesses = (h : Host) (es : List Pair) (c : Card) → AreBlocks c.capacity c.contents → walk_statements k e (batch_statements accesses) fell broke h es → AllowedSteps c es last → Served (map request_of accesses) e es c last
+
+  of_read : (block : ℕ) (accesses : List Access) → Serves accesses → (h : Host) (es : List Pair) (c : Card) →
+      HaltedQuiet e es c last ⊎ Past (ReadBlock block c) (walk_statements k e (batch_statements accesses) fell broke) es last → Served (Read block 1 ∷ map request_of accesses) e es c last
+  of_read block accesses later h es c (inl q) = halted_early (Read block 1 ∷ map request_of accesses) e es c last q.early q.read (same_outside (Read block 1 ∷ map request_of accesses) c.contents last.contents q.contents)
+  of_read block accesses later h es c (inr r) =
+      and_then (Read block 1) (map request_of accesses) e es r.front r.rest c r.card last (read_step block es r.front r.rest c r.card r.host r.split r.did) (later r.host r.rest r.card r.did.blocks r.on r.steps)
+
+  of_write : (block : ℕ) (accesses : List Access) → Serves accesses → (h : Host) (es : List Pair) (c : Card) →
+      HaltedWriting block e es c last ⊎ Past (WroteBlock block c) (walk_statements k e (batch_statements accesses) fell broke) es last → Served (Write block 1 ∷ map request_of accesses) e es c last
+  of_write block accesses later h es c (inl q) = halted_early (Write block 1 ∷ map request_of accesses) e es c last q.early q.read
+      (outside_both (Write block 1) (map request_of accesses) c.contents last.contents last.contents (λ i other. same_at block i c.contents last.contents q.outside other) (same_outside (map request_of accesses) last.contents last.contents refl))
+  of_write block accesses later h es c (inr r) =
+      and_then (Write block 1) (map request_of accesses) e es r.front r.rest c r.card last (write_step block es r.front r.rest c r.card r.host r.split r.did) (later r.host r.rest r.card r.did.kept r.on r.steps)
+
+  pub serves : (accesses : List Access) → Serves accesses
+  serves [] h es c b (inl s) steps = let q = halted_here e es c last (halts e Open es tt s) steps in halted_early [] e es c last q.early q.read (same_outside [] c.contents last.contents q.contents)
+  serves [] h es c b (inr s) steps = done_by e es c last s.0 s.1 (subst (λ es. AllowedSteps c es last) s.0 steps)
+  serves (reading block ∷ accesses) h es c b walk steps = of_read block accesses (serves accesses) h es c (read_part k e block (batch_statements accesses) fell broke h es c last b walk steps)
+  serves (writing block ∷ accesses) h es c b walk steps = of_write block accesses (serves accesses) h es c (write_part k e block (batch_statements accesses) fell broke h es c last b walk steps)

@@ -1,0 +1,9 @@
+pub mod Disk
+pub mod BlockStatements
+pub mod Served
+pub mod BringUpStatements
+pub mod BatchText
+pub mod Batch
+pub mod Laws
+pub mod ServedOver
+pub mod Serves

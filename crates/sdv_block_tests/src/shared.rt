@@ -1,0 +1,61 @@
+//! What several tests call.
+
+use sdv_block::Request;
+use sdv_controller::Controller;
+use sdv_registers::Kind;
+use sdv_sim::{CardDesc, MemImage, Sim};
+use std::alloc::Global;
+use std::test::Fail;
+
+/// A simulated card behind a controller.
+pub type Port = Controller<Sim<MemImage>>;
+
+/// A card, how many blocks it has, and the lines of its bring-up.
+pub struct Disk {
+    /// The kind.
+    pub kind: Kind,
+    /// The description.
+    pub desc: &'static str,
+    /// How many blocks there are.
+    pub blocks: u64,
+    /// The trace of the bring-up.
+    pub bring_up: &'static str,
+    /// What CMD13 sends.
+    pub rca: &'static str,
+}
+
+/// A card and a device, both with block addresses.
+pub static DISKS: [Disk; 2] = [
+    Disk {
+        kind: Kind::Sd,
+        desc: "card sd\nversion 2\nunit block\ncsize 0\nrca 4660\n",
+        blocks: 1024,
+        bring_up: "CMD0 00000000 -\nCMD8 000001aa R7 000001aa\nCMD55 00000000 R1 00000120\nCMD41 40ff8000 R3 c0ff8000\nCMD2 00000000 R2 005858534456202010000000010181\nCMD3 00000000 R6 12340500\nCMD9 12340000 R2 400000000009000000000000000000\nCMD7 12340000 R1 00000700\nCMD16 00000200 R1 00000900\n",
+        rca: "12340000",
+    },
+    Disk {
+        kind: Kind::Emmc,
+        desc: "card emmc\nunit block\nsectors 2048\n",
+        blocks: 2048,
+        bring_up: "CMD0 00000000 -\nCMD1 40ff8080 R3 c0ff8080\nCMD2 00000000 R2 000158534456455249100000000117\nCMD3 00010000 R1 00000500\nCMD9 00010000 R2 00000000000903ffc0038000000000\nCMD7 00010000 R1 00000700\nCMD16 00000200 R1 00000900\nCMD8 00000000 R1 00000900\nREG 512 ok\n",
+        rca: "00010000",
+    },
+];
+
+/// The simulated card of a disk, over an image of zeros.
+pub fn port(alloc: Global, disk: &Disk) -> Result<Port, Fail> {
+    let desc = CardDesc::parse(disk.desc)?;
+    let mut bytes = Vec::new(alloc);
+    for _ in 0..disk.blocks {
+        bytes.extend_from_slice(&[0; 512])?;
+    }
+    let image = MemImage::from_bytes(bytes)?;
+    Ok(Controller::new(Sim::new(alloc, desc, image, &[])?))
+}
+
+/// A block is written twice, and read.
+pub static WRITES_AND_READ: [Request; 3] = [
+    Request::Write { first: 3, count: 1 },
+    Request::Write { first: 3, count: 1 },
+    Request::Read { first: 3, count: 1 },
+];
