@@ -34,7 +34,8 @@ pub fn given_by<'a, S: Store>(
     files: &S,
     names: &RunFiles<'a>,
 ) -> Result<(Given, Vec<u8>), Fault<'a>>
-    ensures given { IfOk result (λ read. AreGiven (store_of S.gives S.stored S.received files.now) (names_of names.now) read.0 read.1.items) }
+    ensures given { IfOk result (λ read.
+        AreGiven (store_of S.gives S.stored S.received files.now) (names_of names.now) read.0 read.1.items) }
     ensures refused { IfErr result (IsUnread (store_of S.gives S.stored S.received files.now) (names_of names.now)) }
 {
     let script = text_in(alloc, files, names.script)?;
@@ -55,7 +56,8 @@ pub fn given_by<'a, S: Store>(
 
 /// The bytes of an image: those of its file, or zeros where the name asks for a new one.
 fn image_in<'a, S: Store>(alloc: Global, files: &S, name: &'a str) -> Result<Vec<u8>, Fault<'a>>
-    ensures given { IfOk result (λ bytes. GivesImage (store_of S.gives S.stored S.received files.now) name.entry.now bytes.items) }
+    ensures given { IfOk result (λ bytes.
+        GivesImage (store_of S.gives S.stored S.received files.now) name.entry.now bytes.items) }
     ensures refused { IfErr result
         (λ fault. (fault ≡ Fault.File name.entry) ⊎ (fault ≡ Fault.Memory)) }
 {
@@ -78,7 +80,8 @@ fn codes_in<'a, S: Store>(
     files: &S,
     name: Option<&'a str>,
 ) -> Result<Vec<u8>, Fault<'a>>
-    ensures given { IfOk result (λ codes. GivesSchedule (store_of S.gives S.stored S.received files.now) (option_map (λ file. file.now) name.entry) codes.items) }
+    ensures given { IfOk result (λ codes. GivesSchedule (store_of S.gives S.stored S.received files.now)
+        (option_map (λ file. file.now) name.entry) codes.items) }
     ensures refused { IfErr result (IsOptional name.entry) }
 {
     match name {
@@ -91,7 +94,7 @@ fn codes_in<'a, S: Store>(
 }
 
 /// The values that the bytes of a schedule write: a digit from 0 to 6 is a value, a space and an end of a line are none,
-/// and any other byte is 9, which no schedule has.
+/// and any other byte is 9, which is no value.
 pub fn codes_of(alloc: Global, bytes: &[u8]) -> Result<Vec<u8>, AllocError>
     ensures { IfOk result (λ codes. codes.items ≡ schedule_codes bytes.now) }
 {
@@ -120,7 +123,8 @@ fn input_in<'a, S: Store>(
     files: &S,
     name: Option<&'a str>,
 ) -> Result<Vec<u8>, Fault<'a>>
-    ensures given { IfOk result (λ bytes. GivesInput (store_of S.gives S.stored S.received files.now) (option_map (λ file. file.now) name.entry) bytes.items) }
+    ensures given { IfOk result (λ bytes. GivesInput (store_of S.gives S.stored S.received files.now)
+        (option_map (λ file. file.now) name.entry) bytes.items) }
     ensures refused { IfErr result (IsOptional name.entry) }
 {
     let Some(file) = name else {

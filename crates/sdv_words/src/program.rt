@@ -21,8 +21,8 @@ use std::io::Write;
 use std::rt::Files;
 
 /// Runs the program on the words that it is called with, without its own name, and gives the exit status: 0 where the
-/// answer was printed or the run ended in `done`, 1 where what was asked for is refused or the run did not end so, 2 where the words are no line of the program, a file cannot
-/// be used or standard output failed, 3 where memory ran out.
+/// answer was printed or the run ended in `done`, 1 where what was asked for is refused or the run did not end so, 2 where
+/// the words are no line of the program, a file cannot be used or standard output failed, 3 where memory ran out.
 pub fn program<R: Files + AllocGlobal, O: Write, E: Write>(
     rt: &R,
     words: &[&str],
@@ -59,10 +59,12 @@ pub fn answer<'a, S: Store, O: Write>(
     out: &mut O,
 ) -> Result<(), Fault<'a>>
     ensures ok { OnOk result
-        (Answers (store_of S.gives S.stored S.received files.now) (texts words.now) (O.contents out.old) (O.contents out.new)) }
+        (Answers (store_of S.gives S.stored S.received files.now) (texts words.now)
+        (O.contents out.old) (O.contents out.new)) }
     ensures faults { IfErr result (IsFaultOf (store_of S.gives S.stored S.received files.now) (texts words.now)) }
     ensures left { IfErr result (λ fault.
-        Leaves (store_of S.gives S.stored S.received files.now) (texts words.now) fault (O.contents out.old) (O.contents out.new)) }
+        Leaves (store_of S.gives S.stored S.received files.now) (texts words.now) fault
+        (O.contents out.old) (O.contents out.new)) }
 {
     match line_of(alloc, words)? {
         Line::Frame { index, argument } => answer_frame(index, argument, out),

@@ -1,4 +1,4 @@
-//! `run SCRIPT CERT CARD IMAGE [SCHEDULE] [--in FILE] [--out FILE]`: a script that was verified, beside a simulated card.
+//! `run SCRIPT CERT CARD IMAGE [SCHEDULE] [--in FILE] [--out FILE]`: a verified script beside a simulated card.
 ghost use Rattle.std.specs.Prelude.{◌≡◌, OnOk, IfErr, IfOk};
 ghost use Rattle.std.specs.Io.KnownBytes.{Keeps};
 ghost use Rattle.sdv_words.specs.CommandLine.{names_of};
@@ -33,8 +33,8 @@ pub struct Outcome {
 ///
 /// # Errors
 ///
-/// - [`Fault::File`]: a file cannot be used; then nothing was run or printed. Or the file of the image or of the output did
-///   not take all that it had to; then the run had come to its end.
+/// - [`Fault::File`]: a file cannot be used; then nothing was run or printed. Or the file of the image or of the output
+///   did not take all that it had to; then the run had come to its end.
 /// - The faults of [`run_given`].
 /// - [`Fault::Named`]: the script ended in a fault that it names. The trace is whole.
 /// - [`Fault::Run`]: the run stopped before its end.
@@ -44,10 +44,10 @@ pub fn run_files<'a, S: Store, T: Write>(
     names: RunFiles<'a>,
     trace: &mut T,
 ) -> Result<(), Fault<'a>>
-    ensures done { OnOk result (EndsRun (store_of S.gives S.stored S.received files.now) (names_of names.entry) Done
-        (T.contents trace.old) (T.contents trace.new)) }
-    ensures fails { IfErr result (λ fault. RunFails (store_of S.gives S.stored S.received files.now) (names_of names.entry) fault
-        (T.contents trace.old) (T.contents trace.new)) }
+    ensures done { OnOk result (EndsRun (store_of S.gives S.stored S.received files.now)
+        (names_of names.entry) Done (T.contents trace.old) (T.contents trace.new)) }
+    ensures fails { IfErr result (λ fault. RunFails (store_of S.gives S.stored S.received files.now)
+        (names_of names.entry) fault (T.contents trace.old) (T.contents trace.new)) }
 {
     let (given, image) = given_by(alloc, files, &names)?;
     match names.output {
@@ -73,8 +73,9 @@ fn run_kept<'a, S: Store, O: Write, T: Write>(
     out: &mut O,
     trace: &mut T,
 ) -> Result<Result<End, RunFault>, Fault<'a>>
-    ensures kept { IfOk result (λ end. IsKept (store_of S.gives S.stored S.received files.now) (names_of names.now) given.now
-        image.items end (O.contents out.old) (O.contents out.new) (T.contents trace.old) (T.contents trace.new)) }
+    ensures kept { IfOk result (λ end. IsKept (store_of S.gives S.stored S.received files.now)
+        (names_of names.now) given.now image.items end
+        (O.contents out.old) (O.contents out.new) (T.contents trace.old) (T.contents trace.new)) }
     ensures fails { IfErr result (λ fault. FailsToKeep (names_of names.now) given.now image.items fault
         (T.contents trace.old) (T.contents trace.new)) }
 {
@@ -85,7 +86,8 @@ fn run_kept<'a, S: Store, O: Write, T: Write>(
 
 /// Writes the card's blocks over the file of the image, but drops those of a new image.
 fn store_image<'a, S: Store>(files: &S, name: &'a str, bytes: &[u8]) -> Result<(), Fault<'a>>
-    ensures stored { OnOk result (StoresImage (store_of S.gives S.stored S.received files.now) name.entry.now bytes.now) }
+    ensures stored { OnOk result
+        (StoresImage (store_of S.gives S.stored S.received files.now) name.entry.now bytes.now) }
     ensures refused { IfErr result (λ fault. fault ≡ Fault.File name.entry) }
 {
     match new_blocks(name) {
