@@ -3,6 +3,9 @@ use Rattle.std.proofs.Common.{Bool, false, not, ◌||◌, ◌≢◌, cond, codes
 use Rattle.std.specs.Prelude.{slice_get, unwrap_or}
 use Rattle.std.specs.List.{AllByRecursion}
 use Rattle.std.specs.Option.{ok_or, option_map_or}
+use Rattle.clap.proofs.WalkLemmas.{first_value-rows}
+use Rattle.clap.specs.Words.{first_value, rows_of}
+use Rattle.clap.specs.declared.parser.matches.Found.{Found}
 use Rattle.clap.specs.Walk.{answers_to, nothing_held, rows_after, stop_after}
 use Rattle.clap.specs.Simple.{entered, label_of, names_of, rows_at}
 use Rattle.clap.specs.Takes.{is_given}
@@ -16,6 +19,10 @@ use Rattle.sdv_words.specs.declared.line.LineFault.TheVariants.{Usage, Memory}
 use Rattle.clap.specs.Words.{HasKind, kind_of}
 use Rattle.clap.specs.declared.error.Error.{Error}
 use Rattle.clap.specs.declared.error.kind.ErrorKind.TheVariants.{OutOfMemory}
+
+-- what a getter finds is what the rows have
+pub found_in : (f : Found) (id : Text) (found : Option Text) → found ≡ first_value f id → first_of id (rows_of f) ≡ found
+found_in f id found is = sym (first_value-rows f id) ∙ sym is
 
 command_line_is_simple : is_simple command_line ≡ true
 command_line_is_simple = refl

@@ -1,12 +1,7 @@
-use Rattle.std.proofs.Common.{◌≡◌, ◌∙◌, sym, refl, Option, Some, None, codes}
-use Rattle.clap.proofs.WalkLemmas.{first_value-rows}
-use Rattle.clap.specs.Words.{Text, first_of, first_value, found_of, rows_of}
-use Rattle.clap.specs.declared.parser.matches.Found.{Found}
+use Rattle.std.proofs.Common.{refl, Some, None, codes}
+use Rattle.clap.specs.Words.{found_of}
+use Rattle.sdv_words.proofs.CommandLineLaws.{found_in}
 use Rattle.sdv_words.proofs.line.check_line.Goals as goal
-
--- what the getter finds is what the rows have
-found_in : (f : Found) (id : Text) (found : Option Text) → found ≡ first_value f id → first_of id (rows_of f) ≡ found
-found_in f id found e = sym (first_value-rows f id) ∙ sym e
 
 pub returns-in_err-script : goal.returns-in_err-script
 returns-in_err-script c =
