@@ -2,6 +2,7 @@
 use Rattle.std.specs.Prelude.{◌≡◌, ◌≢◌, ℕ, List, Option, Some, map, true, false}
 use Rattle.sdv_image.specs.declared.fault.SimFault.{SimFault}
 use Rattle.sdv_image.specs.declared.fault.SimFault.TheVariants as faults
+use Rattle.sdv_image.specs.Images.{HasFailed}
 use Rattle.sdv_card.specs.Card.{Block}
 use Rattle.sdv_card.specs.Profile.{IsAtStart}
 use Rattle.sdv_description.specs.declared.card_desc.CardDesc.{CardDesc}
@@ -27,10 +28,14 @@ pub record IsOtherSize (codes : List ℕ) (size capacity : ℕ) : Type 0 where
   pub known : are_codes codes ≡ true
   pub other : size ≢ capacity
 
--- each refusal comes where none before it is due
-abbrev pub IsRefused : (codes : List ℕ) → (size capacity : ℕ) → SimFault → Type 0
-IsRefused codes size capacity faults.Description = are_codes codes ≡ false
-IsRefused codes size capacity faults.ImageLength = IsOtherSize codes size capacity
-IsRefused codes size capacity faults.ImageRead = IsWhole codes size capacity
-IsRefused codes size capacity faults.Memory = IsWhole codes size capacity
-IsRefused codes size capacity faults.Capacity = ⊥
+-- a call of the image failed, as its count of failures shows
+abbrev pub IsUnread : {I : Type 0} → (failed : I → ℕ) → I → Type 0
+IsUnread {I} failed image = (after : I) × HasFailed (failed image) (failed after)
+
+-- each refusal comes where none before it is due, and that of a read where one failed
+abbrev pub IsRefused : (codes : List ℕ) → (size capacity : ℕ) → (unread : Type 0) → SimFault → Type 0
+IsRefused codes size capacity unread faults.Description = are_codes codes ≡ false
+IsRefused codes size capacity unread faults.ImageLength = IsOtherSize codes size capacity
+IsRefused codes size capacity unread faults.ImageRead = IsWhole codes size capacity × unread
+IsRefused codes size capacity unread faults.Memory = IsWhole codes size capacity
+IsRefused codes size capacity unread faults.Capacity = ⊥

@@ -2,7 +2,7 @@ ghost use Rattle.std.specs.Prelude.{◌≡◌, ◌<◌, ◌^◌, length, All, Ma
 ghost use Rattle.sdv_card.specs.Card.{IsByte, IsRegister};
 ghost use Rattle.sdv_behavior.specs.Schedules.{are_codes};
 ghost use Rattle.sdv_sim.specs.SimOf.{image_of, state_of};
-ghost use Rattle.sdv_sim.specs.Made.{IsMade, IsRefused};
+ghost use Rattle.sdv_sim.specs.Made.{IsMade, IsRefused, IsUnread};
 
 use crate::schedule::Schedule;
 use crate::sim::Sim;
@@ -46,7 +46,7 @@ impl<I: Image + Drop> Sim<I> {
     pub fn new(alloc: Global, desc: CardDesc, image: I, schedule: &[u8]) -> Result<Sim<I>, SimFault>
         ensures { MatchResult result
             (λ sim. IsMade desc schedule.now (I.blocks image) (state_of sim))
-            (IsRefused schedule.now (I.size image) desc.capacity) }
+            (IsRefused schedule.now (I.size image) desc.capacity (IsUnread I.failed image)) }
     {
         if !are_codes(schedule) {
             return Err(SimFault::Description);
