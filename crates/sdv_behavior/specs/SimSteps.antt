@@ -153,9 +153,10 @@ padded register count = take count (register ++ replicate count 0)
 abbrev pub receives_register : SimState → ℕ → Bool
 receives_register s count = recv_reg_legal s.card.state s.card.transfer && nat_le 1 count
 
+-- it asks nothing of the image, so the behavior alone cuts it
 pub record ReceivesRegister (end : DataEnd) (bytes : List ℕ) (s s' : SimState) : Type 0 where
   pub goes : Goes (phase_over end s.card) s s'
-  pub end_fits : EndFits (behavior_of s) s.failed s'.failed end
+  pub end_is : (if cuts (behavior_of s) then Cut else Ok) ≡ end
   pub truth : IfEndedWell end (bytes ≡ padded (register_of s.card.transfer s.desc) (length bytes))
   pub same : s.blocks ≡ s'.blocks
 
