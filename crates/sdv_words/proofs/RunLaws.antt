@@ -1,5 +1,5 @@
 -- What a run is given and what it leaves.
-use Rattle.std.proofs.Common.{◌≡◌, refl, ap, subst, sym, inl, inr, Some, None, IfSome, OnOk, ℕ, zero, suc, List, ◌∷◌, take, drop, Option, Result, Ok, Err, IfErr, IsErrAnd}
+use Rattle.std.proofs.Common.{arith, ◌≡◌, refl, ap, subst, sym, inl, inr, Some, None, IfSome, OnOk, ℕ, zero, suc, List, ◌∷◌, take, drop, Option, Result, Ok, Err, IfErr, IsErrAnd}
 use Rattle.std.specs.Prelude.{string_bytes}
 use Rattle.std.specs.Simd.{first_chunks}
 use Rattle.std.specs.Borrow.{Bor}
@@ -16,7 +16,7 @@ use Rattle.sdv_description.specs.declared.card_desc.CardDesc.{CardDesc}
 use Rattle.sdv_behavior.specs.SimSteps.{SimState, SimSteps, card_shown}
 use Rattle.sdv_sim.specs.declared.sim.Sim.{Sim}
 use Rattle.sdv_sim.specs.SimOf.{state_of}
-use Rattle.sdv_sim.specs.Made.{IsMade}
+use Rattle.sdv_sim.specs.Made.{IsMade, IsRefused, IsUnread}
 use Rattle.sdv_controller.specs.declared.controller.Controller.{Controller}
 use Rattle.sdv_controller.specs.Controlled.{ControllerSteps, wire_of}
 use Rattle.sdv_graph.specs.Graph.{Flow}
@@ -72,6 +72,19 @@ module _ {I : Type 0} {images : Ghosts I} where
   made_over desc codes codes' shown shown' s s' same_codes same_shown same made =
       subst (λ t. IsMade desc codes' shown' (state_of t)) (sym same)
       (subst (λ known. IsMade desc codes' known (state_of s)) same_shown (subst (λ c. IsMade desc c shown (state_of s)) same_codes made))
+
+-- no call of an image in memory fails
+never_unread : {I : Type 0} (image : I) → IsUnread (λ _. 0) image → ⊥
+never_unread image (after, inl rose) = absurd (omega (arith, rose))
+never_unread image (after, inr greatest) = absurd (omega (arith, greatest))
+
+pub always_read : {I : Type 0} (image : I) (codes : List ℕ) (size capacity : ℕ) (fault : SimFault) → IsRefused codes size capacity (IsUnread (λ _. 0) image) fault
+    → IsRefused codes size capacity ⊥ fault
+always_read image codes size capacity Description refused = refused
+always_read image codes size capacity ImageLength refused = refused
+always_read image codes size capacity ImageRead refused = absurd (never_unread image refused.1)
+always_read image codes size capacity Memory refused = refused
+always_read image codes size capacity Capacity refused = refused
 
 -- what comes of what was opened
 pub opened_of : {S : Type 0} (o : Option S) (fault : Fault) (s : S) (P : S → Type 0) → Ok s ≡ ok_or o fault → IfSome o P → P s

@@ -101,13 +101,14 @@ pub record IsRun (given : Given) (image image' : List ℕ) (result : Result End 
       (record { port = card; input = blocks_of given.input.items; out = out; trace = trace })
       (record { port = card'; input = left; out = out'; trace = trace' }) result
 
--- there is no simulated card, for this reason: that of the description, of the image, or of the schedule beside them
+-- there is no simulated card, for this reason: that of the description, of the image, or of the schedule beside them; an
+-- image in memory is always read
 abbrev pub HasNoCard : Given → (image : List ℕ) → SimFault → Type 0
 HasNoCard given image fault =
     IsNoCard (string_bytes given.card) fault
     ⊎ (((desc : CardDesc) × Describes (string_bytes given.card) desc × (length image % 512 ≢ 0) × (fault ≡ cards.ImageLength))
     ⊎ ((desc : CardDesc) × Describes (string_bytes given.card) desc × (length image % 512 ≡ 0)
-    × IsRefused given.codes.items (length image / 512) desc.capacity fault))
+    × IsRefused given.codes.items (length image / 512) desc.capacity ⊥ fault))
 
 -- why nothing was run; want of memory says nothing
 abbrev pub RefusesRun : Given → (image : List ℕ) → Fault → Type 0

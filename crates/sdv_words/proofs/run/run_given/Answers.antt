@@ -7,7 +7,7 @@ use Rattle.sdv_image.specs.MemBlocks.{bytes_of}
 use Rattle.sdv_sim.specs.Made.{IsRefused}
 use Rattle.sdv_sim.specs.SimOf.{image_of, state_of}
 use Rattle.sdv_words.specs.Run.{blocks_of}
-use Rattle.sdv_words.proofs.RunLaws.{chunks_are_blocks, made_over, refused_card, run_of_sim}
+use Rattle.sdv_words.proofs.RunLaws.{always_read, chunks_are_blocks, made_over, refused_card, run_of_sim}
 use Rattle.sdv_words.proofs.run.run_given.Goals as goal
 
 pub returns-in_err-image-clause-refused : goal.returns-in_err-image-clause-refused
@@ -25,10 +25,11 @@ returns-in_err-sim-clause-refused g c =
     let accepted : IsAccepted (string_bytes given.script) (string_bytes given.certificate) c.in_ok-accepted.accepted =
     rw (c.as_str.ensures.value, c.as_str-2.ensures.value) at c.in_ok-accepted.ensures.verified in
     let described : Describes (string_bytes given.card) c.in_ok-desc.desc = rw (c.as_str-3.ensures.value) at c.in_ok-desc.ensures in
-    let refused : IsRefused given.codes.items (length c.args.image.items / 512) c.in_ok-desc.desc.capacity c.in_err-sim.field-0.0 =
-    subst (λ codes. IsRefused codes (length c.args.image.items / 512) c.in_ok-desc.desc.capacity c.in_err-sim.field-0.0) c.as_slice.ensures.value
-    (subst (λ bytes. IsRefused c.as_slice.result.now (length bytes / 512) c.in_ok-desc.desc.capacity c.in_err-sim.field-0.0) c.in_ok-image.ensures.1
-    c.in_err-sim.ensures) in
+    let refused : IsRefused given.codes.items (length c.args.image.items / 512) c.in_ok-desc.desc.capacity ⊥ c.in_err-sim.field-0.0 =
+    subst (λ codes. IsRefused codes (length c.args.image.items / 512) c.in_ok-desc.desc.capacity ⊥ c.in_err-sim.field-0.0) c.as_slice.ensures.value
+    (subst (λ bytes. IsRefused c.as_slice.result.now (length bytes / 512) c.in_ok-desc.desc.capacity ⊥ c.in_err-sim.field-0.0) c.in_ok-image.ensures.1
+    (always_read c.in_ok-image.image c.as_slice.result.now (length (bytes_of c.in_ok-image.image) / 512) c.in_ok-desc.desc.capacity
+    c.in_err-sim.field-0.0 c.in_err-sim.ensures)) in
     refused_card given c.args.image.items c.in_ok-accepted.accepted accepted c.in_err-sim.field-0.0 c.from_residual-in_err-sim.result
     (inr (inr (c.in_ok-desc.desc, described, c.in_ok-image.ensures.0, refused))) c.from_residual-in_err-sim.ensures.1
 
