@@ -1,4 +1,4 @@
--- The block that a one-block command names, by its position and the argument that is sent for it.
+-- The blocks that a command names, by its position and the argument that is sent for it.
 use Rattle.std.proofs.Common.{◌≡◌, ℕ, ◌+◌, ◌*◌, ◌≤◌, refl, sym, subst, arith, Bool, true, false, Option, Some, None, nat_le}
 use Rattle.std.specs.Prelude.{if◌then◌else◌}
 use Rattle.sdv_card.specs.declared.answer.Answer.{Answer}
@@ -9,7 +9,7 @@ use Rattle.sdv_card.specs.Legal.{Within}
 use Rattle.sdv_card.specs.Taken.{block_of}
 use Rattle.sdv_graph.specs.AddressSent.{position_of_command}
 use Rattle.sdv_graph.specs.Counts.{max_number}
-use Rattle.sdv_block.specs.BlockStatements.{address_of}
+use Rattle.sdv_block.specs.RequestStatements.{address_of}
 
 abbrev in_unit : Bool → ℕ → ℕ
 in_unit unit block = if unit then block else 512 * block
@@ -32,9 +32,9 @@ named unit other block position argument is same sent =
     subst (λ u. block_of u argument ≡ block) same
     (subst (λ n. block_of unit argument ≡ n) (sym is) (subst (λ n. block_of unit n ≡ position) (sym sent) (named_in unit position)))
 
--- and the card has it
-pub named_within : (c : Card) (block position argument : ℕ) → block ≡ position → Within c position argument 1 → block + 1 ≤ c.capacity
-named_within c block position argument is w = subst (λ n. n + 1 ≤ c.capacity) (sym is) w.room
+-- and the card has it, with the blocks behind it
+pub named_within : (c : Card) (block count position argument : ℕ) → block ≡ position → Within c position argument count → block + count ≤ c.capacity
+named_within c block count position argument is w = subst (λ n. n + count ≤ c.capacity) (sym is) w.room
 
 -- no command changes the flags
 pub order_flags : (o : Option Order) (answer : Answer) (h : Host) → (host_after_order o answer h).flags ≡ h.flags

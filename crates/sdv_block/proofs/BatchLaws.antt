@@ -15,8 +15,8 @@ use Rattle.sdv_block.specs.declared.fault.BlockFault.TheVariants.{Range, Limit, 
 use Rattle.sdv_block.specs.declared.request.Request.{Request}
 use Rattle.sdv_block.specs.declared.request.Request.TheVariants.{Read, Write}
 use Rattle.sdv_block.specs.Batch.{blocks_fit, is_in_range, keeps_limits, batch_refusal}
-use Rattle.sdv_block.specs.BatchText.{line, line_with, card_text, ready_text, capacity_text, select_text, bring_up_text, test_text, access_text, accesses_text, batch_text, batch_script}
-use Rattle.sdv_block.specs.BlockStatements.{Access, reading, writing, all_accesses, batch_statements}
+use Rattle.sdv_block.specs.BatchText.{line, line_with, card_text, ready_text, capacity_text, select_text, bring_up_text, test_text, counted_line, single_read_text, multiple_read_text, settle_text, single_write_text, multiple_write_text, requests_text, batch_text, batch_script}
+use Rattle.sdv_block.specs.RequestStatements.{batch_statements}
 use Rattle.sdv_block.specs.BringUpStatements.{batch_body}
 use Rattle.sdv_block.specs.Disk.{end_of, greatest_end}
 use Rattle.sdv_block.proofs.BatchScript.{is_script}
@@ -32,35 +32,74 @@ with_size before n behind others =
     let b = length-append (decimal n) (32 ∷ line behind others) in
     omega (arith, a, b)
 
-read_size : (block : ℕ) (others : List ℕ) (n : ℕ) → n ≤ length others → 64 + n ≤ length (access_text (reading block) others)
-read_size block others n le =
+counted_size : (before : List ℕ) (block count : ℕ) (behind others : List ℕ) → length before + 5 + length (line behind others) ≤ length (counted_line before block count behind others)
+counted_size before block count behind others =
+    let rest : List ℕ = line_with (codes "count") count behind others in
+    let a = length-append before (32 ∷ (decimal block ++ 32 ∷ rest)) in
+    let b = length-append (decimal block) (32 ∷ rest) in
+    let c = with_size (codes "count") count behind others in
+    omega (arith, a, b, c)
+
+settle_size : (others : List ℕ) → 112 + length others ≤ length (settle_text others)
+settle_size others =
+    let status : List ℕ = line (codes "send 13 { clean & state=tran { } else { fault write } }") others in
+    let a = line_size (codes "send 13 { clean & state=tran { } else { fault write } }") others in
+    let b = line_size (codes "loop 1000 { wait { ok { break } else { } } } else { fault busy }") status in
+    omega (arith, a, b)
+
+single_read_size : (block : ℕ) (others : List ℕ) → 64 + length others ≤ length (single_read_text block others)
+single_read_size block others =
     let last = line_size (codes "recv { ok { } else { fault read } }") others in
     let one = line_size (codes "{ clean { } else { fault read } }") (line (codes "recv { ok { } else { fault read } }") others) in
     let all = with_size (codes "send 17 at by hc") block (codes "{ clean { } else { fault read } }") (line (codes "recv { ok { } else { fault read } }") others) in
     omega (arith, last, one, all)
 
-write_size : (block : ℕ) (others : List ℕ) (n : ℕ) → n ≤ length others → 160 + n ≤ length (access_text (writing block) others)
-write_size block others n le =
-    let status : List ℕ = line (codes "send 13 { clean & state=tran { } else { fault write } }") others in
-    let wait : List ℕ = line (codes "loop 1000 { wait { ok { break } else { } } } else { fault busy }") status in
-    let give : List ℕ = line (codes "give { ok { } else { fault write } }") wait in
-    let a = line_size (codes "send 13 { clean & state=tran { } else { fault write } }") others in
-    let b = line_size (codes "loop 1000 { wait { ok { break } else { } } } else { fault busy }") status in
-    let c = line_size (codes "give { ok { } else { fault write } }") wait in
-    let d = line_size (codes "{ clean { } else { fault write } }") give in
-    let e = with_size (codes "send 24 at by hc") block (codes "{ clean { } else { fault write } }") give in
+multiple_read_size : (block count : ℕ) (others : List ℕ) → 192 + length others ≤ length (multiple_read_text block count others)
+multiple_read_size block count others =
+    let poll : List ℕ = codes "loop 1000 { send 13 { clean & state=tran { break } answer { } else { fault read } } } else { fault read }" in
+    let stop : List ℕ = codes "send 12 { answer { } else { fault read } }" in
+    let recv : List ℕ = codes "recv { ok { } else { fault read } }" in
+    let a = line_size poll others in
+    let b = line_size stop (line poll others) in
+    let c = line_size recv (line stop (line poll others)) in
+    let d = line_size (codes "{ clean { } else { fault read } }") (line recv (line stop (line poll others))) in
+    let e = counted_size (codes "send 18 at by hc") block count (codes "{ clean { } else { fault read } }") (line recv (line stop (line poll others))) in
     omega (arith, a, b, c, d, e)
 
-accesses_size : (accesses : List Access) (others : List ℕ) → 11 ≤ length others + 6 → 16 * statements_count (batch_statements accesses) ≤ length (accesses_text accesses others) + 11
-accesses_size [] others le = omega arith
-accesses_size (reading block ∷ accesses) others le =
-    let later = accesses_size accesses others le in
-    let here = read_size block (accesses_text accesses others) (length (accesses_text accesses others)) (omega arith) in
-    omega (arith, later, here)
-accesses_size (writing block ∷ accesses) others le =
-    let later = accesses_size accesses others le in
-    let here = write_size block (accesses_text accesses others) (length (accesses_text accesses others)) (omega arith) in
-    omega (arith, later, here)
+single_write_size : (block : ℕ) (others : List ℕ) → 160 + length others ≤ length (single_write_text block others)
+single_write_size block others =
+    let give : List ℕ = line (codes "give { ok { } else { fault write } }") (settle_text others) in
+    let b = settle_size others in
+    let c = line_size (codes "give { ok { } else { fault write } }") (settle_text others) in
+    let d = line_size (codes "{ clean { } else { fault write } }") give in
+    let e = with_size (codes "send 24 at by hc") block (codes "{ clean { } else { fault write } }") give in
+    omega (arith, b, c, d, e)
+
+multiple_write_size : (block count : ℕ) (others : List ℕ) → 192 + length others ≤ length (multiple_write_text block count others)
+multiple_write_size block count others =
+    let stop : List ℕ = line (codes "send 12 { clean { } else { fault write } }") (settle_text others) in
+    let give : List ℕ = line (codes "give { ok { } else { fault write } }") stop in
+    let a = settle_size others in
+    let b = line_size (codes "send 12 { clean { } else { fault write } }") (settle_text others) in
+    let c = line_size (codes "give { ok { } else { fault write } }") stop in
+    let d = line_size (codes "{ clean { } else { fault write } }") give in
+    let e = counted_size (codes "send 25 at by hc") block count (codes "{ clean { } else { fault write } }") give in
+    omega (arith, a, b, c, d, e)
+
+requests_size : (rs : List Request) (others : List ℕ) → 11 ≤ length others + 6 → 16 * statements_count (batch_statements rs) ≤ length (requests_text rs others) + 11
+requests_size [] others le = omega arith
+requests_size (Read block zero ∷ rs) others le =
+    let later = requests_size rs others le in let here = multiple_read_size block zero (requests_text rs others) in omega (arith, later, here)
+requests_size (Read block (suc zero) ∷ rs) others le =
+    let later = requests_size rs others le in let here = single_read_size block (requests_text rs others) in omega (arith, later, here)
+requests_size (Read block (suc (suc n)) ∷ rs) others le =
+    let later = requests_size rs others le in let here = multiple_read_size block (suc (suc n)) (requests_text rs others) in omega (arith, later, here)
+requests_size (Write block zero ∷ rs) others le =
+    let later = requests_size rs others le in let here = multiple_write_size block zero (requests_text rs others) in omega (arith, later, here)
+requests_size (Write block (suc zero) ∷ rs) others le =
+    let later = requests_size rs others le in let here = single_write_size block (requests_text rs others) in omega (arith, later, here)
+requests_size (Write block (suc (suc n)) ∷ rs) others le =
+    let later = requests_size rs others le in let here = multiple_write_size block (suc (suc n)) (requests_text rs others) in omega (arith, later, here)
 
 test_size : (least : ℕ) (others : List ℕ) → 32 + length others ≤ length (test_text least others)
 test_size least others =
@@ -121,20 +160,20 @@ bring_up_size k others =
 abbrev done_line : List ℕ
 done_line = line (codes "done") []
 
-few_of : (k : Kind) (least : ℕ) (accesses : List Access) → 16 * statements_count (batch_body k least accesses) ≤ length (batch_text k least accesses)
-few_of Sd least accesses =
-    let a = accesses_size accesses done_line (omega arith) in
-    let b = test_size least (accesses_text accesses done_line) in
-    let c = bring_up_size Sd (test_text least (accesses_text accesses done_line)) in
+few_of : (k : Kind) (least : ℕ) (rs : List Request) → 16 * statements_count (batch_body k least rs) ≤ length (batch_text k least rs)
+few_of Sd least rs =
+    let a = requests_size rs done_line (omega arith) in
+    let b = test_size least (requests_text rs done_line) in
+    let c = bring_up_size Sd (test_text least (requests_text rs done_line)) in
     omega (arith, a, b, c)
-few_of Emmc least accesses =
-    let a = accesses_size accesses done_line (omega arith) in
-    let b = test_size least (accesses_text accesses done_line) in
-    let c = bring_up_size Emmc (test_text least (accesses_text accesses done_line)) in
+few_of Emmc least rs =
+    let a = requests_size rs done_line (omega arith) in
+    let b = test_size least (requests_text rs done_line) in
+    let c = bring_up_size Emmc (test_text least (requests_text rs done_line)) in
     omega (arith, a, b, c)
 
 pub few_statements : (k : Kind) (rs : List Request) → length (batch_script k rs).text ≤ max_bytes → statements_count (batch_script k rs).body ≤ max_statements
-few_statements k rs short = let few = few_of k (greatest_end rs) (all_accesses rs) in omega (arith, few, short)
+few_statements k rs short = let few = few_of k (greatest_end rs) rs in omega (arith, few, short)
 
 -- REQUESTS IN RANGE end within 2^32
 
@@ -159,7 +198,7 @@ abbrev pub text_of : Kind → List Request → List ℕ
 text_of k rs = (batch_script k rs).text
 
 pub script_of : (k : Kind) (rs : List Request) → list_all is_in_range rs ≡ true → length (text_of k rs) ≤ max_bytes → IsScript (batch_script k rs)
-script_of k rs fit short = let small = ends_small rs fit in is_script k rs (omega (arith, small)) (few_statements k rs short) short
+script_of k rs fit short = let small = ends_small rs fit in is_script k rs fit (omega (arith, small)) (few_statements k rs short) short
 
 limits_kept : (k : Kind) (rs : List Request) → length (text_of k rs) ≤ max_bytes → keeps_limits (batch_script k rs) ≡ true
 limits_kept k rs short = both_true _ _ (le-leb (length (text_of k rs)) max_bytes short) (le-leb (statements_count (batch_script k rs).body) max_statements (few_statements k rs short))
@@ -202,13 +241,6 @@ pub no_script : (k : Kind) (rs : List Request) → keeps_limits (batch_script k 
 no_script k rs broken s same is =
     let short : length (text_of k rs) ≤ max_bytes = subst (λ (t : List ℕ). length t ≤ max_bytes) same is.small in
     let f : true ≡ false = sym (limits_kept k rs short) ∙ broken in cc
-
--- LINES, one after another
-
-pub accesses_both : (xs ys : List Access) (others : List ℕ) → accesses_text (xs ++ ys) others ≡ accesses_text xs (accesses_text ys others)
-accesses_both [] ys others = refl
-accesses_both (reading block ∷ xs) ys others = ap (λ (t : List ℕ). access_text (reading block) t) (accesses_both xs ys others)
-accesses_both (writing block ∷ xs) ys others = ap (λ (t : List ℕ). access_text (writing block) t) (accesses_both xs ys others)
 
 -- THE LAWS
 

@@ -2,16 +2,14 @@
 use Rattle.std.proofs.Common.{◌≡◌, ℕ, ◌≤◌, inl, inr, refl, sym, ◌∙◌, subst, true, false, List, [], ◌++◌}
 use Rattle.std.specs.Prelude.{◌⊎◌, codes}
 use Rattle.sdv_registers.specs.declared.kind.Kind.{Kind}
-use Rattle.sdv_card.specs.Card.{Card, Block, AreBlocks}
+use Rattle.sdv_card.specs.Card.{Card, Block}
 use Rattle.sdv_card.specs.Profile.{IsAtStart}
 use Rattle.sdv_graph.specs.Walk.{Pair, Ending, Finished, Failed, Walk, given}
 use Rattle.sdv_facts.specs.Beside.{StepsOf, IsGood}
 use Rattle.sdv_block.specs.declared.request.Request.{Request}
-use Rattle.sdv_block.specs.BlockStatements.{all_accesses}
 use Rattle.sdv_block.specs.BringUpStatements.{batch_names, batch_body}
 use Rattle.sdv_block.specs.Disk.{Disk, after_batch, HasRead, greatest_end}
 use Rattle.sdv_block.specs.Served.{blocks_read, IsEarly, disk_of, EndsAs, ServedBatch}
-use Rattle.sdv_block.proofs.Batches.{singles, singles_are, same_served, singles_write}
 use Rattle.sdv_block.proofs.DiskLaws.{grows, same_outside}
 use Rattle.sdv_block.proofs.Parts.{allowed_steps}
 use Rattle.sdv_block.proofs.WholeBatch.{Outcome, batch_walk}
@@ -41,35 +39,26 @@ undone rs e es c last f read left =
 early_undone : (e : Ending) → IsEarly e → e ≡ Finished → ⊥
 early_undone e early is = subst (λ v. IsEarly v) is early
 
--- THE REQUESTS WERE SERVED, one block at a time
-same_end : (e : Ending) (reached one whole : Disk) → (e ≡ Finished → one ≡ whole) → one.output ≡ whole.output → EndsAs e reached one → EndsAs e reached whole
-same_end Finished reached one whole f g x = sym (f refl) ∙ x
-same_end e reached one whole f g x = record { more = x.more; output = sym g ∙ x.output }
-
-of_outcome : (rs : List Request) (e : Ending) (es : List Pair) (c last : Card) → AreBlocks c.capacity c.contents → Outcome (greatest_end rs) (singles rs) e es c last → ServedBatch rs e es c last
-of_outcome rs e es c last blocks (inl q) = record {
+-- THE REQUESTS WERE SERVED
+of_outcome : (rs : List Request) (e : Ending) (es : List Pair) (c last : Card) → Outcome (greatest_end rs) rs e es c last → ServedBatch rs e es c last
+of_outcome rs e es c last (inl q) = record {
   ends = undone rs e es c last (early_undone e q.early) q.read;
   outside = same_outside rs c.contents last.contents q.contents;
   beyond = λ is. absurd (not_beyond e q.early is);
 }
-of_outcome rs e es c last blocks (inr (inl r)) = record {
+of_outcome rs e es c last (inr (inl r)) = record {
   ends = undone rs e es c last (λ is. done_not_beyond e is r.is) r.read;
   outside = same_outside rs c.contents last.contents r.contents;
   beyond = λ is. r.small;
 }
-of_outcome rs e es c last blocks (inr (inr s)) = record {
-  ends = λ left. (
-      let d = disk_of c (given es ++ left) [] in
-      let same = same_served rs d (subst (λ n. greatest_end rs ≤ n) (sym blocks.size) s.enough) in
-      same_end e (disk_of last left (blocks_read es)) (after_batch (singles rs) d) (after_batch rs d) (λ is. same.disk (s.served.all is left [])) same.output (s.served.ends left []));
-  outside = λ block other. s.served.outside block (singles_write rs block other);
+of_outcome rs e es c last (inr (inr s)) = record {
+  ends = λ left. s.served.ends left [];
+  outside = s.served.outside;
   beyond = λ is. absurd (over_not_beyond e s.served.over is);
 }
 
 -- every walk of the script beside a card of the profile whose events are legal and in bounds
 pub batch_served : (k : Kind) (rs : List Request) (most : ℕ) (e : Ending) (es : List Pair) (c last : Card) → k ≡ c.kind → IsAtStart c →
-    Walk k (batch_names k) (batch_body k (greatest_end rs) (all_accesses rs)) e es → StepsOf c es last → IsGood most e es c → ServedBatch rs e es c last
+    Walk k (batch_names k) (batch_body k (greatest_end rs) rs) e es → StepsOf c es last → IsGood most e es c → ServedBatch rs e es c last
 batch_served k rs most e es c last kind start walk steps good =
-    of_outcome rs e es c last start.profile.card.contents
-    (subst (λ xs. Outcome (greatest_end rs) xs e es c last) (singles_are rs)
-    (batch_walk k e (greatest_end rs) (all_accesses rs) es c last kind start walk (allowed_steps es c last steps good.allowed)))
+    of_outcome rs e es c last (batch_walk k e (greatest_end rs) rs es c last kind start walk (allowed_steps es c last steps good.allowed))

@@ -12,7 +12,7 @@ use Rattle.sdv_graph.specs.AddressSent.{is_flag_set}
 use Rattle.sdv_graph.specs.Tree.{Statements, first, send}
 use Rattle.sdv_graph.specs.Walk.{Pair, Ending, Rest, walk_statements, given}
 use Rattle.sdv_facts.specs.Keeps.{IsHonest}
-use Rattle.sdv_block.specs.BlockStatements.{only_if}
+use Rattle.sdv_block.specs.RequestStatements.{only_if}
 use Rattle.sdv_block.specs.BringUpStatements.{plain, sends_anyway, until_ready, app_statement, op_cond_statement, ready_statements, select_statements}
 use Rattle.sdv_block.specs.Served.{AllowedSteps, blocks_read}
 use Rattle.sdv_block.proofs.Knowing.{Knowing, and_on, anyway_part, guarded_part}

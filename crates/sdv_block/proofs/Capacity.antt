@@ -32,7 +32,7 @@ use Rattle.sdv_graph.specs.ValueOfLet.{number, with_number, in_range, value_of_l
 use Rattle.sdv_graph.specs.Walk.{Pair, Ending, Open, Failed, Rest, Stops, InRange, number_fault, exactly, all_pass, walk_statement, walk_statements, given}
 use Rattle.sdv_facts.specs.Beside.{IsAllowed}
 use Rattle.sdv_facts.specs.Keeps.{IsHonest}
-use Rattle.sdv_block.specs.BlockStatements.{fails}
+use Rattle.sdv_block.specs.RequestStatements.{fails}
 use Rattle.sdv_block.specs.BringUpStatements.{plain, cap_from, ext_csd_statement, capacity_statement, capacity_test}
 use Rattle.sdv_block.specs.Served.{AllowedSteps, blocks_read}
 use Rattle.sdv_block.proofs.Knowing.{Knowing, profile_kept, known_after}

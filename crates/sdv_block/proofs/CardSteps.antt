@@ -1,7 +1,6 @@
--- What the steps of a card say that a one-block read and a one-block write make.
-use Rattle.std.proofs.Common.{◌≡◌, ℕ, ◌/◌, inl, inr, refl, sym, ap, ◌∙◌, subst, Bool, true, false, not, List, Option, Some, ◌==◌, eqb-true, eq-eqb}
-use Rattle.std.specs.Prelude.{IsTrue}
-use Rattle.std.specs.Prelude.{bit_and}
+-- What the steps of a card say that reads and writes make.
+use Rattle.std.proofs.Common.{◌≡◌, ℕ, zero, suc, ◌/◌, inl, inr, refl, sym, ap, ◌∙◌, subst, Bool, true, false, not, List, Option, Some, None, ◌==◌, eqb-true, eq-eqb}
+use Rattle.std.specs.Prelude.{IsTrue, bit_and, ◌&&◌}
 use Rattle.std.proofs.lemmas.Nat.{and_assoc}
 use Rattle.std.specs.Int.Bits.{and_zero_l}
 use Rattle.sdv_registers.specs.declared.kind.Kind.{Kind}
@@ -10,37 +9,37 @@ use Rattle.sdv_registers.specs.Status.{clean_mask, doubt_mask, state as state_fi
 use Rattle.sdv_frames.specs.declared.reply.Expect.TheVariants.{R1 as ExpectR1}
 use Rattle.sdv_frames.specs.declared.reply.Reply.TheVariants.{R1}
 use Rattle.sdv_card.specs.declared.state.State.TheVariants.{Tran}
-use Rattle.sdv_card.specs.declared.state.Transfer.{Transfer}
-use Rattle.sdv_card.specs.declared.state.Transfer.TheVariants.{ReadDue, WriteDue}
 use Rattle.sdv_card.specs.declared.answer.Answer.{Answer}
 use Rattle.sdv_card.specs.declared.answer.Answer.TheVariants.{TimeOut, Reply as Replied}
 use Rattle.sdv_card.specs.declared.command.Order.{Order}
-use Rattle.sdv_card.specs.declared.command.Order.TheVariants.{GoIdleState, SendOpCond, AllSendCid, SendRelativeAddress, DeselectCards, SendIfCond, SendCsd, SendCid, SdSendOpCond, ReadSingleBlock, WriteBlock, SendStatus}
+use Rattle.sdv_card.specs.declared.command.Order.TheVariants.{GoIdleState, SendOpCond, AllSendCid, SendRelativeAddress, DeselectCards, SendIfCond, SendCsd, SendCid, SdSendOpCond, StopTransmission, ReadSingleBlock, ReadMultipleBlock, WriteBlock, WriteMultipleBlock, SendStatus}
 use Rattle.sdv_card.specs.declared.command.Row.{Row}
-use Rattle.sdv_card.specs.declared.command.Row.TheVariants.{Cmd17, Cmd24, Cmd38}
+use Rattle.sdv_card.specs.declared.command.Row.TheVariants.{Cmd17, Cmd18, Cmd24, Cmd25, Cmd38}
+use Rattle.sdv_card.specs.declared.command.Response.TheVariants.{CardStatus}
 use Rattle.sdv_card.specs.declared.command.TakenAs.{TakenAs}
 use Rattle.sdv_card.specs.declared.command.TakenAs.TheVariants.{By}
 use Rattle.sdv_card.specs.declared.guard.Guard.TheVariants.{Clean, State as InState}
 use Rattle.sdv_card.specs.Agrees.{TakenOrStayed}
 use Rattle.sdv_card.specs.Card.{Card, Block}
-use Rattle.sdv_card.specs.CommandTable.{order_of, order_expect}
+use Rattle.sdv_card.specs.CommandTable.{is_counted, order_if, order_of, order_expect}
 use Rattle.sdv_card.specs.ScriptEvent.{SendCommand, Answered}
+use Rattle.sdv_card.specs.declared.event.Aim.TheVariants.{Plain}
 use Rattle.sdv_card.specs.declared.event.Ask.{Ask}
-use Rattle.sdv_card.specs.Exchange.{SettledAnswer, card_takes}
+use Rattle.sdv_card.specs.Exchange.{RowAnswer, SettledAnswer, card_takes}
 use Rattle.sdv_card.specs.Guards.{answer_passes}
-use Rattle.sdv_card.specs.Host.{Host, host_after, host_after_order}
-use Rattle.sdv_card.specs.Legal.{SettledLegal, SendLegal}
+use Rattle.sdv_card.specs.Legal.{SettledLegal, SendLegal, InBounds, Within}
 use Rattle.sdv_card.specs.Settled.{Settled}
 use Rattle.sdv_card.specs.States.{state_number}
 use Rattle.sdv_card.specs.Step.{Sends}
-use Rattle.sdv_card.specs.Taken.{Taken, SameCard, block_of, ContentsAfter}
+use Rattle.sdv_card.specs.Taken.{Taken, SameCard, Begins, block_of, ContentsAfter}
 use Rattle.sdv_card.specs.Takes.{taken_as_of, matches}
 use Rattle.sdv_card.proofs.Members.{same_state}
 use Rattle.sdv_card.proofs.Same.{same_both, settled_same, steps_keep_same}
 use Rattle.sdv_card.proofs.Became.{Became, became}
 use Rattle.sdv_card.proofs.OrdersOfAsks.{of_ask}
 use Rattle.sdv_card.proofs.RowsOfOrders.{order_index, says}
-use Rattle.sdv_block.specs.BlockStatements.{read_ask, write_ask, status_ask}
+use Rattle.sdv_script.specs.Rules.{ask_with}
+use Rattle.sdv_block.specs.RequestStatements.{read_ask, write_ask, stop_ask, status_ask}
 
 -- ITS OWN STEP changes neither the blocks nor an error that is still to be shown
 
@@ -54,20 +53,42 @@ settled_doubt c t (inr x) = ap (λ (v : Card). v.doubt) x.2
 
 -- THE ORDERS of the asks
 
-read_order : (k : Kind) → order_of k read_ask ≡ Some ReadSingleBlock
-unfolding order_of
-read_order Sd = refl
-read_order Emmc = refl
+some_order : (o order : Order) → Some o ≡ Some order → order ≡ o
+some_order o order e = cc
 
-write_order : (k : Kind) → order_of k write_ask ≡ Some WriteBlock
-unfolding order_of
-write_order Sd = refl
-write_order Emmc = refl
+counted_order : (is : Bool) (o order : Order) → order_if is o None ≡ Some order → order ≡ o
+counted_order true o order e = some_order o order e
+counted_order false o order e = absurd (let f : None ≡ Some order = e in cc)
 
-status_order : (k : Kind) → order_of k status_ask ≡ Some SendStatus
+single_read : (k : Kind) (order : Order) → order_of k (read_ask 1) ≡ Some order → order ≡ ReadSingleBlock
 unfolding order_of
-status_order Sd = refl
-status_order Emmc = refl
+single_read Sd order line = some_order ReadSingleBlock order line
+single_read Emmc order line = some_order ReadSingleBlock order line
+
+multiple_read : (k : Kind) (n : ℕ) (order : Order) → order_of k (ask_with 18 Plain 0 n) ≡ Some order → order ≡ ReadMultipleBlock n
+unfolding order_of
+multiple_read Sd n order line = counted_order (is_counted (ask_with 18 Plain 0 n) 18) (ReadMultipleBlock n) order line
+multiple_read Emmc n order line = counted_order (is_counted (ask_with 18 Plain 0 n) 18) (ReadMultipleBlock n) order line
+
+single_write : (k : Kind) (order : Order) → order_of k (write_ask 1) ≡ Some order → order ≡ WriteBlock
+unfolding order_of
+single_write Sd order line = some_order WriteBlock order line
+single_write Emmc order line = some_order WriteBlock order line
+
+multiple_write : (k : Kind) (n : ℕ) (order : Order) → order_of k (ask_with 25 Plain 0 n) ≡ Some order → order ≡ WriteMultipleBlock n
+unfolding order_of
+multiple_write Sd n order line = counted_order (is_counted (ask_with 25 Plain 0 n) 25) (WriteMultipleBlock n) order line
+multiple_write Emmc n order line = counted_order (is_counted (ask_with 25 Plain 0 n) 25) (WriteMultipleBlock n) order line
+
+stop_order : (k : Kind) (order : Order) → order_of k stop_ask ≡ Some order → order ≡ StopTransmission
+unfolding order_of
+stop_order Sd order line = some_order StopTransmission order line
+stop_order Emmc order line = some_order StopTransmission order line
+
+status_order : (k : Kind) (order : Order) → order_of k status_ask ≡ Some order → order ≡ SendStatus
+unfolding order_of
+status_order Sd order line = some_order SendStatus order line
+status_order Emmc order line = some_order SendStatus order line
 
 -- CLEAN ANSWERS leave no doubt
 
@@ -86,72 +107,138 @@ surely_taken : (row : Row) (argument : ℕ) (t u : Card) (doubt : Bool) → Take
 surely_taken row argument t u doubt (inl m) e = m
 surely_taken row argument t u doubt (inr m) e = absurd (let f : true ≡ false = sym m.0 ∙ e in cc)
 
--- THE ORDER of a command that was sent
+-- A CLEAN ANSWER to a command that begins a transfer: the card took it
 
-some_same : {A : Type 0} → (x y : A) (o : Option A) → o ≡ Some x → o ≡ Some y → x ≡ y
-some_same x y o e f = cc
-
--- a transfer of one block began at the block that the argument names
-pub record Begun (transfer : Transfer) (argument : ℕ) (c u : Card) : Type 0 where
+-- a transfer of so many blocks began at the block that the argument names
+pub record Begun (count argument : ℕ) (c u : Card) : Type 0 where
   pub same : SameCard c u
   pub contents : c.contents ≡ u.contents
-  pub due : transfer ≡ u.transfer
   pub block : block_of u.block_unit argument ≡ u.next_block
-  pub count : 1 ≡ u.announced
+  pub count_is : count ≡ u.announced
 
--- A CLEAN ANSWER TO A READ: the card took it
+clean_taken : (k : Kind) (order : Order) (row : Row) (argument : ℕ) (t u : Card) (answer : Answer) → RowAnswer CardStatus order row argument t answer u →
+    answer_passes k Clean answer ≡ true → Taken row argument t u
+clean_taken k order row argument t u (Replied (R1 index word)) a clean = surely_taken row argument t u (has_doubt word) a.card (clean_word k word clean)
+clean_taken k order row argument t u (Replied reply) a clean = absurd a
+clean_taken k order row argument t u answer a clean = absurd (let f : false ≡ true = clean in cc)
 
-read_taken : (k : Kind) (app matched : Bool) (argument : ℕ) (t u : Card) (answer : Answer) → SettledLegal (taken_as_of ReadSingleBlock app matched) t →
-    SettledAnswer (taken_as_of ReadSingleBlock app matched) ReadSingleBlock argument t answer u → answer_passes k Clean answer ≡ true → Taken Cmd17 argument t u
-read_taken k true matched argument t u answer legal a clean = absurd legal
-read_taken k false matched argument t u (Replied (R1 index word)) legal a clean = surely_taken Cmd17 argument t u (has_doubt word) a.card (clean_word k word clean)
-read_taken k false matched argument t u (Replied reply) legal a clean = absurd a
-read_taken k false matched argument t u answer legal a clean = absurd (let f : false ≡ true = clean in cc)
+-- how a settled card takes an order that begins a transfer
+abbrev Takes : Kind → Order → Row → ℕ → Answer → Type 0
+Takes k order row argument answer = (app matched : Bool) (t u : Card) → SettledLegal (taken_as_of order app matched) t →
+    SettledAnswer (taken_as_of order app matched) order argument t answer u → answer_passes k Clean answer ≡ true → Taken row argument t u
 
-pub read_begun : (k : Kind) (argument : ℕ) (c u : Card) (answer : Answer) → SendLegal read_ask argument c → Sends read_ask argument c answer u → answer_passes k Clean answer ≡ true → Begun ReadDue argument c u
-read_begun k argument c u answer legal s clean =
+takes_single_read : (k : Kind) (argument : ℕ) (answer : Answer) → Takes k ReadSingleBlock Cmd17 argument answer
+takes_single_read k argument answer true matched t u legal a clean = absurd legal
+takes_single_read k argument answer false matched t u legal a clean = clean_taken k ReadSingleBlock Cmd17 argument t u answer a clean
+
+takes_multiple_read : (k : Kind) (n argument : ℕ) (answer : Answer) → Takes k (ReadMultipleBlock n) (Cmd18 n) argument answer
+takes_multiple_read k n argument answer true matched t u legal a clean = absurd legal
+takes_multiple_read k n argument answer false matched t u legal a clean = clean_taken k (ReadMultipleBlock n) (Cmd18 n) argument t u answer a clean
+
+takes_single_write : (k : Kind) (argument : ℕ) (answer : Answer) → Takes k WriteBlock Cmd24 argument answer
+takes_single_write k argument answer true matched t u legal a clean = absurd legal
+takes_single_write k argument answer false matched t u legal a clean = clean_taken k WriteBlock Cmd24 argument t u answer a clean
+
+takes_multiple_write : (k : Kind) (n argument : ℕ) (answer : Answer) → Takes k (WriteMultipleBlock n) (Cmd25 n) argument answer
+takes_multiple_write k n argument answer true matched t u legal a clean = absurd legal
+takes_multiple_write k n argument answer false matched t u legal a clean = clean_taken k (WriteMultipleBlock n) (Cmd25 n) argument t u answer a clean
+
+module _ (k : Kind) (ask : Ask) (order : Order) (row : Row) (count argument : ℕ) (c u : Card) (answer : Answer) (clean : answer_passes k Clean answer ≡ true)
+    (ordered : (o : Order) → order_of c.kind ask ≡ Some o → o ≡ order) (takes : Takes k order row argument answer)
+    (begins : (t : Card) → Taken row argument t u → Begins argument count u × (t.contents ≡ u.contents)) where
+  begun_by : SendLegal ask argument c → Sends ask argument c answer u → Begun count argument c u
+  begun_by legal s =
+      let t : Card = s.exchange.settled_card in
+      let m : Taken row argument t u =
+      takes t.app (matches t.rca (argument / 65536)) t u
+      (subst (λ o. SettledLegal (card_takes t o argument) t) (ordered legal.order legal.asks.line) (legal.settled t s.exchange.settled))
+      (subst (λ o. SettledAnswer (card_takes t o argument) o argument t answer u) (ordered s.order s.asks.line) s.exchange.answered) clean in
+      let b = begins t m in
+      record {
+        same = same_both c t u (settled_same c t s.exchange.settled) m.same;
+        contents = settled_contents c t s.exchange.settled ∙ b.1;
+        block = b.0.block;
+        count_is = b.0.count_is;
+      }
+
+multiple_read_begun : (k : Kind) (n argument : ℕ) (c u : Card) (answer : Answer) → answer_passes k Clean answer ≡ true →
+    SendLegal (ask_with 18 Plain 0 n) argument c → Sends (ask_with 18 Plain 0 n) argument c answer u → Begun n argument c u
+multiple_read_begun k n argument c u answer clean legal s =
+    begun_by k (ask_with 18 Plain 0 n) (ReadMultipleBlock n) (Cmd18 n) n argument c u answer clean (multiple_read c.kind n)
+    (takes_multiple_read k n argument answer) (λ t m. (m.blocks, m.contents)) legal s
+
+pub read_begun : (k : Kind) (count argument : ℕ) (c u : Card) (answer : Answer) → answer_passes k Clean answer ≡ true →
+    SendLegal (read_ask count) argument c → Sends (read_ask count) argument c answer u → Begun count argument c u
+read_begun k zero argument c u answer clean legal s = multiple_read_begun k zero argument c u answer clean legal s
+read_begun k (suc zero) argument c u answer clean legal s =
+    begun_by k (read_ask 1) ReadSingleBlock Cmd17 1 argument c u answer clean (single_read c.kind) (takes_single_read k argument answer) (λ t m. (m.blocks, m.contents)) legal s
+read_begun k (suc (suc n)) argument c u answer clean legal s = multiple_read_begun k (suc (suc n)) argument c u answer clean legal s
+
+multiple_write_begun : (k : Kind) (n argument : ℕ) (c u : Card) (answer : Answer) → answer_passes k Clean answer ≡ true →
+    SendLegal (ask_with 25 Plain 0 n) argument c → Sends (ask_with 25 Plain 0 n) argument c answer u → Begun n argument c u
+multiple_write_begun k n argument c u answer clean legal s =
+    begun_by k (ask_with 25 Plain 0 n) (WriteMultipleBlock n) (Cmd25 n) n argument c u answer clean (multiple_write c.kind n)
+    (takes_multiple_write k n argument answer) (λ t m. (m.blocks, m.contents)) legal s
+
+pub write_begun : (k : Kind) (count argument : ℕ) (c u : Card) (answer : Answer) → answer_passes k Clean answer ≡ true →
+    SendLegal (write_ask count) argument c → Sends (write_ask count) argument c answer u → Begun count argument c u
+write_begun k zero argument c u answer clean legal s = multiple_write_begun k zero argument c u answer clean legal s
+write_begun k (suc zero) argument c u answer clean legal s =
+    begun_by k (write_ask 1) WriteBlock Cmd24 1 argument c u answer clean (single_write c.kind) (takes_single_write k argument answer) (λ t m. (m.blocks, m.contents)) legal s
+write_begun k (suc (suc n)) argument c u answer clean legal s = multiple_write_begun k (suc (suc n)) argument c u answer clean legal s
+
+-- no command of a request is an erase
+
+other_than : (n : ℕ) → (n == 38) ≡ false → n ≡ 38 → ⊥
+other_than n e is = let f : true ≡ false = sym (eq-eqb n 38 is) ∙ e in cc
+
+pub read_keeps : (count : ℕ) → (read_ask count).index ≡ 38 → ⊥
+read_keeps zero = other_than 18 refl
+read_keeps (suc zero) = other_than 17 refl
+read_keeps (suc (suc n)) = other_than 18 refl
+
+pub write_keeps : (count : ℕ) → (write_ask count).index ≡ 38 → ⊥
+write_keeps zero = other_than 25 refl
+write_keeps (suc zero) = other_than 24 refl
+write_keeps (suc (suc n)) = other_than 25 refl
+
+pub stop_keeps : stop_ask.index ≡ 38 → ⊥
+stop_keeps = other_than 12 refl
+
+pub status_keeps : status_ask.index ≡ 38 → ⊥
+status_keeps = other_than 13 refl
+
+-- THE BLOCKS that reads and writes address
+pub read_within : (count position argument : ℕ) (c : Card) → InBounds (SendCommand (read_ask count) position argument) c → Within c position argument count
+read_within zero position argument c w = w
+read_within (suc zero) position argument c w = w
+read_within (suc (suc n)) position argument c w = w
+
+pub write_within : (count position argument : ℕ) (c : Card) → InBounds (SendCommand (write_ask count) position argument) c → Within c position argument count
+write_within zero position argument c w = w
+write_within (suc zero) position argument c w = w
+write_within (suc (suc n)) position argument c w = w
+
+-- A CLEAN ANSWER TO A STOP: an error that is still to be shown stays so
+
+unshown : (error shown after : Bool) → after ≡ (error && not shown) → shown ≡ false → error ≡ after
+unshown true false after e f = sym e
+unshown false shown after e f = sym e
+unshown true true after e f = absurd (let g : true ≡ false = f in cc)
+
+stop_heard : (k : Kind) (app matched : Bool) (argument : ℕ) (t u : Card) (answer : Answer) → SettledAnswer (taken_as_of StopTransmission app matched) StopTransmission argument t answer u →
+    answer_passes k Clean answer ≡ true → t.doubt ≡ u.doubt
+stop_heard k true matched argument t u answer a clean = absurd a
+stop_heard k false matched argument t u (Replied (R1 index word)) a clean = unshown t.doubt (has_doubt word) u.doubt a.error.ends (clean_word k word clean)
+stop_heard k false matched argument t u (Replied reply) a clean = absurd a
+stop_heard k false matched argument t u answer a clean = absurd (let f : false ≡ true = clean in cc)
+
+pub stop_keeps_error : (k : Kind) (argument : ℕ) (c u : Card) (answer : Answer) → Sends stop_ask argument c answer u → answer_passes k Clean answer ≡ true → c.doubt ≡ u.doubt
+stop_keeps_error k argument c u answer s clean =
     let t : Card = s.exchange.settled_card in
-    let line = read_order c.kind in
-    let legal_order : legal.order ≡ ReadSingleBlock = some_same legal.order ReadSingleBlock (order_of c.kind read_ask) legal.asks.line line in
-    let sent_order : s.order ≡ ReadSingleBlock = some_same s.order ReadSingleBlock (order_of c.kind read_ask) s.asks.line line in
-    let m : Taken Cmd17 argument t u =
-    read_taken k t.app (matches t.rca (argument / 65536)) argument t u answer
-    (subst (λ o. SettledLegal (card_takes t o argument) t) legal_order (legal.settled t s.exchange.settled))
-    (subst (λ o. SettledAnswer (card_takes t o argument) o argument t answer u) sent_order s.exchange.answered) clean in
-    record {
-      same = same_both c t u (settled_same c t s.exchange.settled) m.same;
-      contents = settled_contents c t s.exchange.settled ∙ m.contents;
-      due = m.transfer;
-      block = m.blocks.block;
-      count = m.blocks.count_is;
-    }
-
--- A CLEAN ANSWER TO A WRITE: the card took it
-
-write_taken : (k : Kind) (app matched : Bool) (argument : ℕ) (t u : Card) (answer : Answer) → SettledLegal (taken_as_of WriteBlock app matched) t →
-    SettledAnswer (taken_as_of WriteBlock app matched) WriteBlock argument t answer u → answer_passes k Clean answer ≡ true → Taken Cmd24 argument t u
-write_taken k true matched argument t u answer legal a clean = absurd legal
-write_taken k false matched argument t u (Replied (R1 index word)) legal a clean = surely_taken Cmd24 argument t u (has_doubt word) a.card (clean_word k word clean)
-write_taken k false matched argument t u (Replied reply) legal a clean = absurd a
-write_taken k false matched argument t u answer legal a clean = absurd (let f : false ≡ true = clean in cc)
-
-pub write_begun : (k : Kind) (argument : ℕ) (c u : Card) (answer : Answer) → SendLegal write_ask argument c → Sends write_ask argument c answer u → answer_passes k Clean answer ≡ true → Begun WriteDue argument c u
-write_begun k argument c u answer legal s clean =
-    let t : Card = s.exchange.settled_card in
-    let line = write_order c.kind in
-    let legal_order : legal.order ≡ WriteBlock = some_same legal.order WriteBlock (order_of c.kind write_ask) legal.asks.line line in
-    let sent_order : s.order ≡ WriteBlock = some_same s.order WriteBlock (order_of c.kind write_ask) s.asks.line line in
-    let m : Taken Cmd24 argument t u =
-    write_taken k t.app (matches t.rca (argument / 65536)) argument t u answer
-    (subst (λ o. SettledLegal (card_takes t o argument) t) legal_order (legal.settled t s.exchange.settled))
-    (subst (λ o. SettledAnswer (card_takes t o argument) o argument t answer u) sent_order s.exchange.answered) clean in
-    record {
-      same = same_both c t u (settled_same c t s.exchange.settled) m.same;
-      contents = settled_contents c t s.exchange.settled ∙ m.contents;
-      due = m.transfer;
-      block = m.blocks.block;
-      count = m.blocks.count_is;
-    }
+    settled_doubt c t s.exchange.settled
+    ∙ stop_heard k t.app (matches t.rca (argument / 65536)) argument t u answer
+    (subst (λ o. SettledAnswer (card_takes t o argument) o argument t answer u) (stop_order c.kind s.order s.asks.line) s.exchange.answered) clean
 
 -- A CLEAN ANSWER TO A STATUS REQUEST that shows transfer state: no error is still to be shown
 
@@ -178,10 +265,9 @@ pub no_error_left : (k : Kind) (argument : ℕ) (c u : Card) (answer : Answer) �
     answer_passes k Clean answer ≡ true → answer_passes k (InState Tran) answer ≡ true → c.doubt ≡ false
 no_error_left k argument c u answer s clean tran =
     let t : Card = s.exchange.settled_card in
-    let sent_order : s.order ≡ SendStatus = some_same s.order SendStatus (order_of c.kind status_ask) s.asks.line (status_order c.kind) in
     settled_doubt c t s.exchange.settled
     ∙ status_heard k t.app (matches t.rca (argument / 65536)) argument t u answer
-    (subst (λ o. SettledAnswer (card_takes t o argument) o argument t answer u) sent_order s.exchange.answered) clean tran
+    (subst (λ o. SettledAnswer (card_takes t o argument) o argument t answer u) (status_order c.kind s.order s.asks.line) s.exchange.answered) clean tran
 
 -- NO COMMAND BUT AN ERASE changes the blocks of a card
 
@@ -218,10 +304,3 @@ send_keeps ask argument c u answer other s =
 
 pub send_same : (ask : Ask) (argument : ℕ) (c u : Card) (answer : Answer) → Sends ask argument c answer u → SameCard c u
 send_same ask argument c u answer s = steps_keep_same c.kind (SendCommand ask 0 argument) c (Answered answer) u refl s
-
--- what a host announced last
-pub read_announces : (k : Kind) (position argument : ℕ) (answer : Answer) (h : Host) → (host_after k (SendCommand read_ask position argument) (Answered answer) h).announced ≡ 1
-read_announces k position argument answer h = ap (λ o. (host_after_order o answer h).announced) (read_order k)
-
-pub write_announces : (k : Kind) (position argument : ℕ) (answer : Answer) (h : Host) → (host_after k (SendCommand write_ask position argument) (Answered answer) h).announced ≡ 1
-write_announces k position argument answer h = ap (λ o. (host_after_order o answer h).announced) (write_order k)

@@ -23,7 +23,7 @@ use Rattle.sdv_facts.specs.Beside.{IsAllowed}
 use Rattle.sdv_facts.specs.Keeps.{IsHonest}
 use Rattle.sdv_card.proofs.KeepPairs.{steps_keep_pairs}
 use Rattle.sdv_card.proofs.KeepSound.{steps_keep_sound}
-use Rattle.sdv_block.specs.BlockStatements.{only_if}
+use Rattle.sdv_block.specs.RequestStatements.{only_if}
 use Rattle.sdv_block.specs.Served.{AllowedSteps}
 use Rattle.sdv_block.proofs.Addresses.{order_flags}
 use Rattle.sdv_block.proofs.CardSteps.{send_keeps, send_same}

@@ -2,11 +2,13 @@ pub mod Parts
 pub mod CardSteps
 pub mod Addresses
 pub mod Quiet
-pub mod OneRead
+pub mod Asking
+pub mod Reading
 pub mod Waiting
+pub mod Stopping
 pub mod Giving
 pub mod Status
-pub mod OneWrite
+pub mod Writing
 pub mod DiskLaws
 pub mod Serving
 pub mod Knowing
@@ -14,8 +16,6 @@ pub mod ReadyLoop
 pub mod BringUp
 pub mod Capacity
 pub mod WholeBatch
-pub mod Expanding
-pub mod Batches
 pub mod BatchServed
 pub mod TextJoins
 pub mod NumberTokens

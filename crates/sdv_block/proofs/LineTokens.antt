@@ -1,5 +1,5 @@
 -- The tokens of a batch's text are those of its script.
-use Rattle.std.proofs.Common.{◌≡◌, ℕ, ◌^◌, ◌≤◌, refl, ap, ◌∙◌, true, List, [], ◌∷◌, ◌++◌}
+use Rattle.std.proofs.Common.{◌≡◌, ℕ, zero, suc, ◌^◌, ◌≤◌, refl, ap, ◌∙◌, arith, true, List, [], ◌∷◌, ◌++◌, Some}
 use Rattle.std.specs.Prelude.{codes}
 use Rattle.std.specs.Fmt.{decimal}
 use Rattle.sdv_registers.specs.declared.kind.Kind.{Kind}
@@ -8,12 +8,16 @@ use Rattle.sdv_card.specs.declared.event.Aim.TheVariants.{Plain, Rca}
 use Rattle.sdv_card.specs.declared.guard.Guard.TheVariants.{Answer, Clean, State as InState}
 use Rattle.sdv_card.specs.declared.state.State.TheVariants.{Tran}
 use Rattle.sdv_script.specs.declared.keyword.Keyword.TheVariants as word
+use Rattle.sdv_graph.specs.declared.tree.Command.{Command}
 use Rattle.sdv_graph.specs.declared.tree.Phase.TheVariants as phases
+use Rattle.sdv_script.specs.Rules.{ask_with}
 use Rattle.sdv_script.specs.Grammar.{kind_word, list_written, statement_written, statements_written, script_written}
 use Rattle.sdv_script.specs.Tokens.{Token, Key, Number, tokens, first_tokens, after_gap, word as word_token, number_after}
 use Rattle.sdv_graph.specs.Tree.{Statement, Statements, nothing, first, send, phase}
-use Rattle.sdv_block.specs.BatchText.{line, line_with, card_text, ready_text, capacity_text, select_text, bring_up_text, accesses_text, batch_text}
-use Rattle.sdv_block.specs.BlockStatements.{Access, reading, writing, read_command, write_command, status_command, only_if, fails, wait_statement, batch_statements}
+use Rattle.sdv_block.specs.declared.request.Request.{Request}
+use Rattle.sdv_block.specs.declared.request.Request.TheVariants.{Read, Write}
+use Rattle.sdv_block.specs.BatchText.{line, line_with, counted_line, card_text, ready_text, capacity_text, select_text, bring_up_text, single_read_text, multiple_read_text, settle_text, single_write_text, multiple_write_text, request_text, requests_text, batch_text}
+use Rattle.sdv_block.specs.RequestStatements.{address_of, read_command, write_command, stop_command, status_command, only_if, fails, poll_statement, wait_statement, settle_statements, read_statements, write_statements, batch_statements}
 use Rattle.sdv_block.specs.BringUpStatements.{batch_names, plain, sends_anyway, until_ready, app_statement, op_cond_statement, ready_statements, select_statements, capacity_statement, bring_up, capacity_test, batch_body}
 use Rattle.sdv_block.proofs.NumberTokens.{number_tokens, no_comment_decimal}
 use Rattle.sdv_block.proofs.TextJoins.{no_comment, space_breaks, line_breaks, tokens_joined}
@@ -36,22 +40,59 @@ line_with_tokens before behind others n small none_before none_behind =
 record Writes (k : Kind) (text : List ℕ) (s : Statement) : Type 0 where
   tokens_are : (others : List Token) → tokens text ++ others ≡ statement_written (batch_names k) s others
 
+-- and one with a number, or with a block and a count
 record WritesWith (k : Kind) (before : List ℕ) (n : ℕ) (behind : List ℕ) (s : Statement) : Type 0 where
   tokens_are : (others : List Token) → tokens before ++ (Number n ∷ (tokens behind ++ others)) ≡ statement_written (batch_names k) s others
 
+record WritesCounted (k : Kind) (before : List ℕ) (block count : ℕ) (behind : List ℕ) (s : Statement) : Type 0 where
+  tokens_are : (others : List Token) →
+      tokens before ++ (Number block ∷ (tokens (codes "count") ++ (Number count ∷ (tokens behind ++ others)))) ≡ statement_written (batch_names k) s others
+
 -- THE TOKENS OF EACH LINE, before others
 
-read_line : (k : Kind) (block : ℕ) → WritesWith k (codes "send 17 at by hc") block (codes "{ clean { } else { fault read } }") (send (read_command block) (only_if (Clean ∷ []) (codes "read")))
+read_line : (k : Kind) (block : ℕ) → WritesWith k (codes "send 17 at by hc") block (codes "{ clean { } else { fault read } }") (send (read_command block 1) (only_if (Clean ∷ []) (codes "read")))
 unfolding tokens first_tokens after_gap word_token number_after
 read_line Sd block = record { tokens_are = λ others. refl }
 read_line Emmc block = record { tokens_are = λ others. refl }
+
+-- a command of several blocks
+abbrev pub counted_command : (index block count : ℕ) → Command
+counted_command index block count = record { ask = ask_with index Plain 0 count; address = Some (address_of block) }
+
+read_many_line : (k : Kind) (block count : ℕ) →
+    WritesCounted k (codes "send 18 at by hc") block count (codes "{ clean { } else { fault read } }") (send (counted_command 18 block count) (only_if (Clean ∷ []) (codes "read")))
+unfolding tokens first_tokens after_gap word_token number_after
+read_many_line Sd block count = record { tokens_are = λ others. refl }
+read_many_line Emmc block count = record { tokens_are = λ others. refl }
+
+write_many_line : (k : Kind) (block count : ℕ) →
+    WritesCounted k (codes "send 25 at by hc") block count (codes "{ clean { } else { fault write } }") (send (counted_command 25 block count) (only_if (Clean ∷ []) (codes "write")))
+unfolding tokens first_tokens after_gap word_token number_after
+write_many_line Sd block count = record { tokens_are = λ others. refl }
+write_many_line Emmc block count = record { tokens_are = λ others. refl }
+
+stop_read_line : (k : Kind) → Writes k (codes "send 12 { answer { } else { fault read } }") (send stop_command (only_if (Answer ∷ []) (codes "read")))
+unfolding tokens first_tokens after_gap word_token number_after
+stop_read_line Sd = record { tokens_are = λ others. refl }
+stop_read_line Emmc = record { tokens_are = λ others. refl }
+
+stop_write_line : (k : Kind) → Writes k (codes "send 12 { clean { } else { fault write } }") (send stop_command (only_if (Clean ∷ []) (codes "write")))
+unfolding tokens first_tokens after_gap word_token number_after
+stop_write_line Sd = record { tokens_are = λ others. refl }
+stop_write_line Emmc = record { tokens_are = λ others. refl }
+
+poll_line : (k : Kind) →
+    Writes k (codes "loop 1000 { send 13 { clean & state=tran { break } answer { } else { fault read } } } else { fault read }") poll_statement
+unfolding tokens first_tokens after_gap word_token number_after
+poll_line Sd = record { tokens_are = λ others. refl }
+poll_line Emmc = record { tokens_are = λ others. refl }
 
 recv_line : (k : Kind) → Writes k (codes "recv { ok { } else { fault read } }") (phase phases.ReceiveBlocks nothing (fails (codes "read")))
 unfolding tokens first_tokens after_gap word_token number_after
 recv_line Sd = record { tokens_are = λ others. refl }
 recv_line Emmc = record { tokens_are = λ others. refl }
 
-write_line : (k : Kind) (block : ℕ) → WritesWith k (codes "send 24 at by hc") block (codes "{ clean { } else { fault write } }") (send (write_command block) (only_if (Clean ∷ []) (codes "write")))
+write_line : (k : Kind) (block : ℕ) → WritesWith k (codes "send 24 at by hc") block (codes "{ clean { } else { fault write } }") (send (write_command block 1) (only_if (Clean ∷ []) (codes "write")))
 unfolding tokens first_tokens after_gap word_token number_after
 write_line Sd block = record { tokens_are = λ others. refl }
 write_line Emmc block = record { tokens_are = λ others. refl }
@@ -81,10 +122,27 @@ no_tokens = refl
 
 -- THE REQUESTS
 
-abbrev pub Small : List Access → Type 0
-Small [] = Unit {0}
-Small (reading block ∷ accesses) = (block ≤ 2 ^ 40) × Small accesses
-Small (writing block ∷ accesses) = (block ≤ 2 ^ 40) × Small accesses
+-- the block of a request is a number of a script, and its count one of a transfer
+pub record IsSmall (block count : ℕ) : Type 0 where
+  pub block_small : block ≤ 2 ^ 40
+  pub some : 1 ≤ count
+  pub most : count ≤ 65535
+
+abbrev pub AreSmall : List Request → Type 0
+AreSmall [] = Unit {0}
+AreSmall (Read block count ∷ rs) = IsSmall block count × AreSmall rs
+AreSmall (Write block count ∷ rs) = IsSmall block count × AreSmall rs
+
+counted_tokens : (before behind others : List ℕ) (block count : ℕ) → IsSmall block count → no_comment before ≡ true → no_comment behind ≡ true →
+    tokens (counted_line before block count behind others) ≡ tokens before ++ (Number block ∷ (tokens (codes "count") ++ (Number count ∷ (tokens behind ++ tokens others))))
+counted_tokens before behind others block count small none_before none_behind =
+    let rest : List ℕ = line_with (codes "count") count behind others in
+    let most : count ≤ 2 ^ 40 = (let le = small.most in omega (arith, le)) in
+    tokens_joined 32 before (decimal block ++ 32 ∷ rest) space_breaks none_before
+    ∙ ap (λ (ts : List Token). tokens before ++ ts)
+    (tokens_joined 32 (decimal block) rest space_breaks (no_comment_decimal block small.block_small)
+    ∙ ap (λ (ts : List Token). ts ++ tokens rest) (number_tokens block small.block_small)
+    ∙ ap (λ (ts : List Token). Number block ∷ ts) (line_with_tokens (codes "count") behind others count most refl none_behind))
 
 then_line : {k : Kind} {text : List ℕ} {s : Statement} {ts : List Token} (others : List ℕ) → no_comment text ≡ true → Writes k text s → tokens others ≡ ts → tokens (line text others) ≡ statement_written (batch_names k) s ts
 then_line {k} {text} {s} {ts} others none writes later =
@@ -95,20 +153,43 @@ then_line_with : {k : Kind} {before behind : List ℕ} {n : ℕ} {s : Statement}
 then_line_with {k} {before} {behind} {n} {s} {ts} others small none_before none_behind writes later =
     line_with_tokens before behind others n small none_before none_behind ∙ writes.tokens_are (tokens others) ∙ ap (λ (ts : List Token). statement_written (batch_names k) s ts) later
 
+then_counted : {k : Kind} {before behind : List ℕ} {block count : ℕ} {s : Statement} {ts : List Token} (others : List ℕ) → IsSmall block count → no_comment before ≡ true →
+    no_comment behind ≡ true → WritesCounted k before block count behind s → tokens others ≡ ts → tokens (counted_line before block count behind others) ≡ statement_written (batch_names k) s ts
+then_counted {k} {before} {behind} {block} {count} {s} {ts} others small none_before none_behind writes later =
+    counted_tokens before behind others block count small none_before none_behind
+    ∙ writes.tokens_are (tokens others) ∙ ap (λ (ts : List Token). statement_written (batch_names k) s ts) later
+
 -- the text is that of these statements
 abbrev pub TextOf : Kind → List ℕ → Statements → Type 0
 TextOf k text s = tokens text ≡ statements_written (batch_names k) s []
 
-pub accesses_written : (k : Kind) (accesses : List Access) → Small accesses → TextOf k (accesses_text accesses (line (codes "done") [])) (batch_statements accesses)
-accesses_written k [] small = line_tokens (codes "done") [] refl ∙ ap (λ (ts : List Token). ts ++ tokens []) done_line ∙ ap (λ (ts : List Token). Key word.Done ∷ ts) no_tokens
-accesses_written k (reading block ∷ accesses) small =
-    then_line_with _ small.0 refl refl (read_line k block) (
-    then_line _ refl (recv_line k) (accesses_written k accesses small.1))
-accesses_written k (writing block ∷ accesses) small =
-    then_line_with _ small.0 refl refl (write_line k block) (
-    then_line _ refl (give_line k) (
-    then_line _ refl (wait_line k) (
-    then_line _ refl (status_line k) (accesses_written k accesses small.1))))
+settled_text : (k : Kind) (others : List ℕ) (rest : Statements) → TextOf k others rest → TextOf k (settle_text others) (settle_statements rest)
+settled_text k others rest later = then_line _ refl (wait_line k) (then_line _ refl (status_line k) later)
+
+read_written : (k : Kind) (block count : ℕ) (others : List ℕ) (rest : Statements) → IsSmall block count → TextOf k others rest →
+    TextOf k (request_text (Read block count) others) (read_statements block count rest)
+read_written k block zero others rest small later = absurd (let le = small.some in omega (arith, le))
+read_written k block (suc zero) others rest small later = then_line_with _ small.block_small refl refl (read_line k block) (then_line _ refl (recv_line k) later)
+read_written k block (suc (suc n)) others rest small later =
+    then_counted _ small refl refl (read_many_line k block (suc (suc n))) (
+    then_line _ refl (recv_line k) (then_line _ refl (stop_read_line k) (then_line _ refl (poll_line k) later)))
+
+write_written : (k : Kind) (block count : ℕ) (others : List ℕ) (rest : Statements) → IsSmall block count → TextOf k others rest →
+    TextOf k (request_text (Write block count) others) (write_statements block count rest)
+write_written k block zero others rest small later = absurd (let le = small.some in omega (arith, le))
+write_written k block (suc zero) others rest small later =
+    then_line_with _ small.block_small refl refl (write_line k block) (then_line _ refl (give_line k) (settled_text k others rest later))
+write_written k block (suc (suc n)) others rest small later =
+    then_counted _ small refl refl (write_many_line k block (suc (suc n))) (
+    then_line _ refl (give_line k) (then_line _ refl (stop_write_line k) (settled_text k others rest later)))
+
+pub requests_written : (k : Kind) (rs : List Request) → AreSmall rs → TextOf k (requests_text rs (line (codes "done") [])) (batch_statements rs)
+requests_written k [] small =
+    line_tokens (codes "done") [] refl ∙ ap (λ (ts : List Token). ts ++ tokens []) done_line ∙ ap (λ (ts : List Token). Key word.Done ∷ ts) no_tokens
+requests_written k (Read block count ∷ rs) small =
+    read_written k block count (requests_text rs (line (codes "done") [])) (batch_statements rs) small.0 (requests_written k rs small.1)
+requests_written k (Write block count ∷ rs) small =
+    write_written k block count (requests_text rs (line (codes "done") [])) (batch_statements rs) small.0 (requests_written k rs small.1)
 
 -- THE BRING-UP
 
@@ -203,6 +284,6 @@ bring_up_written k others rest later =
     then_line _ (plain_capacity k) (capacity_line k) later))))
 
 -- THE WHOLE TEXT
-pub batch_written : (k : Kind) (least : ℕ) (accesses : List Access) → least ≤ 2 ^ 40 → Small accesses → tokens (batch_text k least accesses) ≡ script_written (batch_names k) (batch_body k least accesses)
-batch_written k least accesses small each =
-    bring_up_written k _ (first (capacity_test least) (batch_statements accesses)) (then_line_with _ small refl refl (test_line k least) (accesses_written k accesses each))
+pub batch_written : (k : Kind) (least : ℕ) (rs : List Request) → least ≤ 2 ^ 40 → AreSmall rs → tokens (batch_text k least rs) ≡ script_written (batch_names k) (batch_body k least rs)
+batch_written k least rs small each =
+    bring_up_written k _ (first (capacity_test least) (batch_statements rs)) (then_line_with _ small refl refl (test_line k least) (requests_written k rs each))

@@ -1,5 +1,5 @@
 -- The parts of a walk beside a card: at each statement it halts, or its event is a legal step and it goes on.
-use Rattle.std.proofs.Common.{◌≡◌, ℕ, inl, inr, refl, sym, ap, ◌∙◌, subst, Bool, true, false, List, [], ◌∷◌, ◌++◌, Option, Some, None}
+use Rattle.std.proofs.Common.{◌≡◌, ℕ, inl, inr, refl, sym, ap, ◌∙◌, subst, Bool, true, false, List, [], ◌∷◌, ◌++◌, Option, Some, None, append_assoc}
 use Rattle.std.specs.Prelude.{◌⊎◌}
 use Rattle.sdv_registers.specs.declared.kind.Kind.{Kind}
 use Rattle.sdv_card.specs.declared.guard.Guard.TheVariants.{Ok as WentWell}
@@ -161,3 +161,21 @@ pub record Past (P : List Pair → Card → Host → Type 0) (next : Rest) (es :
   pub did : P front card host
   pub on : next host rest
   pub steps : AllowedSteps card rest last
+
+-- one part after another
+unfoldable pub past_both : {P Q R : List Pair → Card → Host → Type 0} (next after : Rest) (es : List Pair) (last : Card) → (w : Past P next es last) → (r : Past Q after w.rest last) →
+    R (w.front ++ r.front) r.card r.host → Past R after es last
+past_both next after es last w r did = record {
+  front = w.front ++ r.front;
+  rest = r.rest;
+  card = r.card;
+  host = r.host;
+  split = w.split ∙ (ap (λ (es : List Pair). w.front ++ es) r.split ∙ sym (append_assoc w.front r.front r.rest));
+  did = did;
+  on = r.on;
+  steps = r.steps;
+}
+
+-- a part of nothing
+pub past_here : {P : List Pair → Card → Host → Type 0} (next : Rest) (h : Host) (es : List Pair) (c last : Card) → next h es → AllowedSteps c es last → P [] c h → Past P next es last
+past_here next h es c last on steps did = record { front = []; rest = es; card = c; host = h; split = refl; did = did; on = on; steps = steps }

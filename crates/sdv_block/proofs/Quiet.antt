@@ -4,7 +4,7 @@ use Rattle.sdv_card.specs.Card.{Card, Block, AreBlocks}
 use Rattle.sdv_card.specs.Host.{Host}
 use Rattle.sdv_card.specs.Taken.{SameCard}
 use Rattle.sdv_graph.specs.Walk.{Pair, Ending, given, given_by}
-use Rattle.sdv_card.proofs.Same.{same_both}
+use Rattle.sdv_card.proofs.Same.{same_itself, same_both}
 use Rattle.sdv_block.specs.Served.{AllowedSteps, IsEarly, blocks_in, blocks_read}
 use Rattle.sdv_block.proofs.Parts.{Halts}
 
@@ -35,6 +35,9 @@ pub record Quiet (c : Card) (h : Host) (front : List Pair) (u : Card) (h' : Host
   pub read : blocks_read front ≡ []
   pub gave : given front ≡ []
   pub flags : h'.flags ≡ h.flags
+
+pub quiet_none : (c : Card) (h : Host) → Quiet c h [] c h
+quiet_none c h = record { same = same_itself c c refl; contents = refl; read = refl; gave = refl; flags = refl }
 
 pub quiet_both : (c u v : Card) (h i j : Host) (f g : List Pair) → Quiet c h f u i → Quiet u i g v j → Quiet c h (f ++ g) v j
 quiet_both c u v h i j f g a b = record {

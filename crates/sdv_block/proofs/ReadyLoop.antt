@@ -29,7 +29,7 @@ use Rattle.sdv_graph.specs.Conditions.{put_bit, with_flag}
 use Rattle.sdv_graph.specs.Tree.{Statement, nothing, first, send, way, otherwise}
 use Rattle.sdv_graph.specs.Walk.{Pair, Ending, Open, Failed, Rest, Stops, Either, all_pass, rounds, walk_statements, walk_ways, given}
 use Rattle.sdv_facts.specs.Keeps.{IsHonest}
-use Rattle.sdv_block.specs.BlockStatements.{fails}
+use Rattle.sdv_block.specs.RequestStatements.{fails}
 use Rattle.sdv_block.specs.BringUpStatements.{plain, ocr_ways, ocr_statement, app_statement, op_cond_statement}
 use Rattle.sdv_block.specs.Served.{AllowedSteps, blocks_read}
 use Rattle.sdv_block.proofs.Knowing.{Knowing, known_after}

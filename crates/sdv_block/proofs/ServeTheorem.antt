@@ -30,7 +30,6 @@ use Rattle.sdv_run.specs.Step.{World}
 use Rattle.sdv_run.proofs.OnCard.{HasCertificate, ran_beside}
 use Rattle.sdv_block.specs.declared.request.Request.{Request}
 use Rattle.sdv_block.specs.BatchText.{batch_script}
-use Rattle.sdv_block.specs.BlockStatements.{all_accesses}
 use Rattle.sdv_block.specs.BringUpStatements.{batch_names, batch_body}
 use Rattle.sdv_block.specs.Disk.{after_batch, greatest_end}
 use Rattle.sdv_block.specs.Served.{blocks_in, blocks_read, disk_of, EndsAs, ServedBatch}
@@ -61,13 +60,13 @@ received_is (p ∷ es) =
     ap (λ (bs : List ℕ). bs ++ received es) (received_of p.1) ∙ ap (λ (bs : List ℕ). concat (blocks_in p.1) ++ bs) (received_is es) ∙ sym (concat-append (blocks_in p.1) (blocks_read es))
 
 module _ (k : Kind) (rs : List Request) (g : Flow) (is : IsScript (batch_script k rs)) (of : IsGraphOfText (batch_script k rs).text g) where
-  abbrev same_tree : (of.script.names ≡ batch_names k) × (of.script.body ≡ batch_body k (greatest_end rs) (all_accesses rs))
+  abbrev same_tree : (of.script.names ≡ batch_names k) × (of.script.body ≡ batch_body k (greatest_end rs) rs)
   same_tree = one_tree_lem of.script (batch_script k rs) of.is_script is of.same
 
   -- a path of the graph of its text is a walk of its statements
-  walk_of : (e : Ending) (es : List Pair) → IsWalk g e es → Walk k (batch_names k) (batch_body k (greatest_end rs) (all_accesses rs)) e es
+  walk_of : (e : Ending) (es : List Pair) → IsWalk g e es → Walk k (batch_names k) (batch_body k (greatest_end rs) rs) e es
   walk_of e es w =
-      subst (λ names. Walk names.kind names (batch_body k (greatest_end rs) (all_accesses rs)) e es) same_tree.0
+      subst (λ names. Walk names.kind names (batch_body k (greatest_end rs) rs) e es) same_tree.0
       (subst (λ body. Walk of.script.names.kind of.script.names body e es) same_tree.1 (w.walk of.script.names of.script.body of.graph))
 
   kind_is : g.kind ≡ k

@@ -1,5 +1,5 @@
--- A BATCH of one-block requests beside a card does what a plain disk does.
-use Rattle.std.proofs.Common.{◌≡◌, ℕ, ◌+◌, inl, inr, refl, sym, ap, ◌∙◌, subst, arith, true, false, List, [], ◌∷◌, ◌++◌, take, drop, length, append-nil, append_assoc, map}
+-- A BATCH beside a card does what a plain disk does.
+use Rattle.std.proofs.Common.{◌≡◌, ℕ, ◌+◌, inl, inr, refl, sym, ap, ◌∙◌, subst, arith, true, false, List, [], ◌∷◌, ◌++◌, take, drop, ◌≤◌, length, length-append, append-nil, append_assoc}
 use Rattle.std.specs.Prelude.{◌⊎◌, ◌&&◌, nat_le, slice_get}
 use Rattle.std.proofs.lemmas.Bool.{le-leb}
 use Rattle.sdv_registers.specs.declared.kind.Kind.{Kind}
@@ -9,15 +9,15 @@ use Rattle.sdv_graph.specs.Walk.{Pair, Ending, Finished, Open, Rest, walk_statem
 use Rattle.sdv_card.proofs.Members.{both_true}
 use Rattle.sdv_block.specs.declared.request.Request.{Request}
 use Rattle.sdv_block.specs.declared.request.Request.TheVariants.{Read, Write}
-use Rattle.sdv_block.specs.BlockStatements.{Access, reading, writing, request_of, batch_statements}
+use Rattle.sdv_block.specs.RequestStatements.{batch_statements}
 use Rattle.sdv_block.specs.Disk.{Disk, with_blocks, can_serve, after_request, after_batch, AllServed, HasRead, SameOutside, writes}
 use Rattle.sdv_block.specs.Served.{AllowedSteps, blocks_read, IsEarly, disk_of, EndsAs, Served}
 use Rattle.sdv_block.proofs.DiskLaws.{same_at, same_outside, outside_both, grows, first_served, same_disk}
 use Rattle.sdv_block.proofs.Giving.{HaltedWriting}
-use Rattle.sdv_block.proofs.OneRead.{ReadBlock, read_part}
-use Rattle.sdv_block.proofs.OneWrite.{WroteBlock, write_part}
+use Rattle.sdv_block.proofs.Reading.{ReadBlocks, HaltedRead, read_part}
+use Rattle.sdv_block.proofs.Writing.{Wrote, write_part}
 use Rattle.sdv_block.proofs.Parts.{Past, halts}
-use Rattle.sdv_block.proofs.Quiet.{HaltedQuiet, halted_here, blocks_read-append, given-append}
+use Rattle.sdv_block.proofs.Quiet.{HaltedQuiet, halted_here, same_blocks, blocks_read-append, given-append}
 
 -- A WALK THAT HALTED EARLY read what was read before, and so no more than the disk
 
@@ -51,6 +51,16 @@ done_by e es c last none is same = record {
   outside = same_outside [] c.contents last.contents (ap (λ (x : Card). x.contents) same);
 }
 
+-- as many elements as the first list has
+
+take_all_of : (n : ℕ) (first others : List Block) → length first ≡ n → take n (first ++ others) ≡ first
+take_all_of n [] others e = rw (sym e) refl
+take_all_of n (b ∷ first) others e = rw (sym e) (ap (λ (bs : List Block). b ∷ bs) (take_all_of (length first) first others refl))
+
+drop_all_of : (n : ℕ) (first others : List Block) → length first ≡ n → drop n (first ++ others) ≡ others
+drop_all_of n [] others e = rw (sym e) refl
+drop_all_of n (b ∷ first) others e = rw (sym e) (drop_all_of (length first) first others refl)
+
 -- ONE REQUEST, AND THEN THE OTHERS
 
 -- what a request made of the card is what it makes of the disk
@@ -76,55 +86,101 @@ and_then r rs e es front rest c u last step s = record {
   outside = outside_both r rs c.contents u.contents last.contents step.outside s.outside;
 }
 
--- a block that was read
-read_step : (block : ℕ) (es front rest : List Pair) (c u : Card) (h : Host) → es ≡ front ++ rest → ReadBlock block c front u h → Step (Read block 1) es front rest c u
-read_step block es front rest c u h split did = record {
+-- blocks that were read
+read_step : (block count : ℕ) (es front rest : List Pair) (c u : Card) (h : Host) → AreBlocks c.capacity c.contents → es ≡ front ++ rest → ReadBlocks block count c front u h →
+    Step (Read block count) es front rest c u
+read_step block count es front rest c u h blocks split did = record {
   split = split;
-  can = λ left output. le-leb (block + 1) (length c.contents) did.room;
+  can = λ left output. le-leb (block + count) (length c.contents) (subst (λ n. block + count ≤ n) (sym blocks.size) did.room);
   now = λ left output. same_disk c.contents u.contents (given es ++ left) (given rest ++ left) _ _ did.contents
       (ap (λ (bs : List Block). bs ++ left) (ap given split ∙ (given-append front rest ∙ ap (λ (bs : List Block). bs ++ given rest) did.gave)))
       (ap (λ (bs : List Block). output ++ bs) (sym did.read));
   outside = λ i other. ap (λ (bs : List Block). slice_get bs i) (sym did.contents);
 }
 
--- a block that was written
-write_step : (block : ℕ) (es front rest : List Pair) (c u : Card) (h : Host) → es ≡ front ++ rest → WroteBlock block c front u h → Step (Write block 1) es front rest c u
-write_step block es front rest c u h split did = record {
+-- blocks that were written
+write_step : (block count : ℕ) (es front rest : List Pair) (c u : Card) (h : Host) → AreBlocks c.capacity c.contents → es ≡ front ++ rest → Wrote block count c front u h →
+    Step (Write block count) es front rest c u
+write_step block count es front rest c u h blocks split did = record {
   split = split;
   can = λ left output.
-      subst (λ i. (nat_le (block + 1) (length c.contents) && nat_le 1 (length i)) ≡ true) (sym (input left))
-      (both_true _ _ (le-leb (block + 1) (length c.contents) did.room) (le-leb 1 (length (did.new ∷ (given rest ++ left))) (omega arith)));
-  now = λ left output. same_disk (with_blocks block (take 1 (given es ++ left)) c.contents) u.contents (drop 1 (given es ++ left)) (given rest ++ left) output (output ++ blocks_read front)
-      (ap (λ (i : List Block). with_blocks block (take 1 i) c.contents) (input left) ∙ sym did.contents)
-      (ap (λ (i : List Block). drop 1 i) (input left))
-      (read_nothing output (blocks_read front) did.read);
-  outside = λ i other. same_at block i c.contents u.contents did.outside other;
+      both_true _ _ (le-leb (block + count) (length c.contents) (subst (λ n. block + count ≤ n) (sym blocks.size) did.room))
+      (le-leb count (length (given es ++ left)) (enough left));
+  now = λ left output. same_disk (with_blocks block (take count (given es ++ left)) c.contents) u.contents (drop count (given es ++ left)) (given rest ++ left) output
+      (output ++ blocks_read front)
+      (ap (λ (bs : List Block). with_blocks block bs c.contents) (taken left) ∙ sym did.wrote.contents) (dropped left) (read_nothing output (blocks_read front) did.wrote.read);
+  outside = λ i other. same_at block count i c.contents u.contents did.wrote.outside other;
 }
   where
-    input : (left : List Block) → given es ++ left ≡ did.new ∷ (given rest ++ left)
-    input left = ap (λ (bs : List Block). bs ++ left) (ap given split ∙ (given-append front rest ∙ ap (λ (bs : List Block). bs ++ given rest) did.gave))
+    new : List Block
+    new = did.wrote.new
+
+    input : (left : List Block) → given es ++ left ≡ new ++ (given rest ++ left)
+    input left =
+        ap (λ (bs : List Block). bs ++ left) (ap given split ∙ (given-append front rest ∙ ap (λ (bs : List Block). bs ++ given rest) did.wrote.gave))
+        ∙ append_assoc new (given rest) left
+
+    enough : (left : List Block) → count ≤ length (given es ++ left)
+    enough left =
+        let a = length-append new (given rest ++ left) in
+        subst (λ (bs : List Block). count ≤ length bs) (sym (input left)) (let size = did.wrote.size in omega (arith, a, size))
+
+    taken : (left : List Block) → take count (given es ++ left) ≡ new
+    taken left = ap (λ (bs : List Block). take count bs) (input left) ∙ take_all_of count new (given rest ++ left) did.wrote.size
+
+    dropped : (left : List Block) → drop count (given es ++ left) ≡ given rest ++ left
+    dropped left = ap (λ (bs : List Block). drop count bs) (input left) ∙ drop_all_of count new (given rest ++ left) did.wrote.size
+
+-- A WALK THAT HALTED after it had read the blocks of a request
+halted_reading : (block count : ℕ) (rs : List Request) (e : Ending) (es : List Pair) (c last : Card) → AreBlocks c.capacity c.contents → HaltedRead block count e es c last →
+    Served (Read block count ∷ rs) e es c last
+halted_reading block count rs e es c last blocks q = record {
+  ends = λ left output. (
+      let d = disk_of c (given es ++ left) output in
+      let can : can_serve d (Read block count) ≡ true = le-leb (block + count) (length c.contents) (subst (λ n. block + count ≤ n) (sym blocks.size) q.room) in
+      let more : HasRead (output ++ take count (drop block c.contents)) (after_batch rs (after_request (Read block count) d)) = grows rs (after_request (Read block count) d) in
+      ends_early e (disk_of last left (output ++ blocks_read es)) (after_batch (Read block count ∷ rs) d) q.early
+      (subst (λ served. HasRead (output ++ blocks_read es) served) (sym (first_served (Read block count) rs d can))
+      (subst (λ (bs : List Block). HasRead (output ++ bs) (after_batch rs (after_request (Read block count) d))) (sym q.read) more)));
+  over = inr q.early;
+  all = λ is. absurd (not_early e q.early is);
+  outside = same_outside (Read block count ∷ rs) c.contents last.contents q.contents;
+}
 
 -- THE BATCH
 
 module _ (k : Kind) (e : Ending) (last : Card) (fell broke : Rest) where
-  abbrev Serves : List Access → Type 0
-  Serves accesses = (h : Host) (es : List Pair) (c : Card) → AreBlocks c.capacity c.contents → walk_statements k e (batch_statements accesses) fell broke h es → AllowedSteps c es last → Served (map request_of accesses) e es c last
+  abbrev Serves : List Request → Type 0
+  Serves rs = (h : Host) (es : List Pair) (c : Card) → AreBlocks c.capacity c.contents → walk_statements k e (batch_statements rs) fell broke h es → AllowedSteps c es last →
+      Served rs e es c last
 
-  of_read : (block : ℕ) (accesses : List Access) → Serves accesses → (h : Host) (es : List Pair) (c : Card) →
-      HaltedQuiet e es c last ⊎ Past (ReadBlock block c) (walk_statements k e (batch_statements accesses) fell broke) es last → Served (Read block 1 ∷ map request_of accesses) e es c last
-  of_read block accesses later h es c (inl q) = halted_early (Read block 1 ∷ map request_of accesses) e es c last q.early q.read (same_outside (Read block 1 ∷ map request_of accesses) c.contents last.contents q.contents)
-  of_read block accesses later h es c (inr r) =
-      and_then (Read block 1) (map request_of accesses) e es r.front r.rest c r.card last (read_step block es r.front r.rest c r.card r.host r.split r.did) (later r.host r.rest r.card r.did.blocks r.on r.steps)
+  -- what comes after a request
+  abbrev others : List Request → Rest
+  others rs = walk_statements k e (batch_statements rs) fell broke
 
-  of_write : (block : ℕ) (accesses : List Access) → Serves accesses → (h : Host) (es : List Pair) (c : Card) →
-      HaltedWriting block e es c last ⊎ Past (WroteBlock block c) (walk_statements k e (batch_statements accesses) fell broke) es last → Served (Write block 1 ∷ map request_of accesses) e es c last
-  of_write block accesses later h es c (inl q) = halted_early (Write block 1 ∷ map request_of accesses) e es c last q.early q.read
-      (outside_both (Write block 1) (map request_of accesses) c.contents last.contents last.contents (λ i other. same_at block i c.contents last.contents q.outside other) (same_outside (map request_of accesses) last.contents last.contents refl))
-  of_write block accesses later h es c (inr r) =
-      and_then (Write block 1) (map request_of accesses) e es r.front r.rest c r.card last (write_step block es r.front r.rest c r.card r.host r.split r.did) (later r.host r.rest r.card r.did.kept r.on r.steps)
+  of_read : (block count : ℕ) (rs : List Request) → Serves rs → (es : List Pair) (c : Card) → AreBlocks c.capacity c.contents →
+      HaltedQuiet e es c last ⊎ (HaltedRead block count e es c last ⊎ Past (ReadBlocks block count c) (others rs) es last) → Served (Read block count ∷ rs) e es c last
+  of_read block count rs later es c blocks (inl q) =
+      halted_early (Read block count ∷ rs) e es c last q.early q.read (same_outside (Read block count ∷ rs) c.contents last.contents q.contents)
+  of_read block count rs later es c blocks (inr (inl q)) = halted_reading block count rs e es c last blocks q
+  of_read block count rs later es c blocks (inr (inr r)) =
+      and_then (Read block count) rs e es r.front r.rest c r.card last (read_step block count es r.front r.rest c r.card r.host blocks r.split r.did)
+      (later r.host r.rest r.card (same_blocks c r.card blocks r.did.same r.did.contents) r.on r.steps)
 
-  pub serves : (accesses : List Access) → Serves accesses
-  serves [] h es c b (inl s) steps = let q = halted_here e es c last (halts e Open es tt s) steps in halted_early [] e es c last q.early q.read (same_outside [] c.contents last.contents q.contents)
+  of_write : (block count : ℕ) (rs : List Request) → Serves rs → (es : List Pair) (c : Card) → AreBlocks c.capacity c.contents →
+      HaltedWriting block count e es c last ⊎ Past (Wrote block count c) (others rs) es last → Served (Write block count ∷ rs) e es c last
+  of_write block count rs later es c blocks (inl q) = halted_early (Write block count ∷ rs) e es c last q.early q.read
+      (outside_both (Write block count) rs c.contents last.contents last.contents (λ i other. same_at block count i c.contents last.contents q.outside other)
+      (same_outside rs last.contents last.contents refl))
+  of_write block count rs later es c blocks (inr r) =
+      and_then (Write block count) rs e es r.front r.rest c r.card last (write_step block count es r.front r.rest c r.card r.host blocks r.split r.did)
+      (later r.host r.rest r.card (subst (λ n. AreBlocks n r.card.contents) r.did.wrote.same.capacity r.did.wrote.blocks) r.on r.steps)
+
+  pub serves : (rs : List Request) → Serves rs
+  serves [] h es c b (inl s) steps =
+      let q = halted_here e es c last (halts e Open es tt s) steps in halted_early [] e es c last q.early q.read (same_outside [] c.contents last.contents q.contents)
   serves [] h es c b (inr s) steps = done_by e es c last s.0 s.1 (subst (λ es. AllowedSteps c es last) s.0 steps)
-  serves (reading block ∷ accesses) h es c b walk steps = of_read block accesses (serves accesses) h es c (read_part k e block (batch_statements accesses) fell broke h es c last b walk steps)
-  serves (writing block ∷ accesses) h es c b walk steps = of_write block accesses (serves accesses) h es c (write_part k e block (batch_statements accesses) fell broke h es c last b walk steps)
+  serves (Read block count ∷ rs) h es c b walk steps =
+      of_read block count rs (serves rs) es c b (read_part k e block count (batch_statements rs) fell broke h es c last walk steps)
+  serves (Write block count ∷ rs) h es c b walk steps =
+      of_write block count rs (serves rs) es c b (write_part k e block count (batch_statements rs) fell broke h es c last walk steps)

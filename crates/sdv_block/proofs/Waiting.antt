@@ -11,13 +11,13 @@ use Rattle.sdv_graph.specs.declared.tree.Phase.TheVariants as phases
 use Rattle.sdv_graph.specs.Tree.{nothing, first, phase, break}
 use Rattle.sdv_graph.specs.Walk.{Pair, Ending, Open, Rest, exactly, rounds, walk_statements}
 use Rattle.sdv_card.proofs.Same.{steps_keep_same}
-use Rattle.sdv_block.specs.BlockStatements.{fails}
+use Rattle.sdv_block.specs.RequestStatements.{fails}
 use Rattle.sdv_block.specs.Served.{AllowedSteps}
 use Rattle.sdv_block.proofs.Parts.{Halts, halts, halts_in_fault, Acted, made, after_phase, phase_part, Past}
 use Rattle.sdv_block.proofs.Quiet.{Quiet, quiet_both, HaltedQuiet, halted_later, halted_here}
 
 -- an error that is still to be shown stays so
-pub record WaitedQuietly (c : Card) (h : Host) (front : List Pair) (u : Card) (h' : Host) : Type 0 where
+pub record ErrorKept (c : Card) (h : Host) (front : List Pair) (u : Card) (h' : Host) : Type 0 where
   pub quiet : Quiet c h front u h'
   pub error : c.doubt ≡ u.doubt
 
@@ -31,9 +31,9 @@ module _ (k : Kind) (e : Ending) (fell broke : Rest) where
   other = walk_statements k e (fails (codes "busy")) fell broke
 
   abbrev WaitOutcome : Host → List Pair → (c last : Card) → Type 0
-  WaitOutcome h es c last = HaltedQuiet e es c last ⊎ Past (WaitedQuietly c h) fell es last
+  WaitOutcome h es c last = HaltedQuiet e es c last ⊎ Past (ErrorKept c h) fell es last
 
-  waited : (c v : Card) (h : Host) (returned : Return) → Step AwaitReady c returned v → WaitedQuietly c h ((AwaitReady, returned) ∷ []) v (host_after k AwaitReady returned h)
+  waited : (c v : Card) (h : Host) (returned : Return) → Step AwaitReady c returned v → ErrorKept c h ((AwaitReady, returned) ∷ []) v (host_after k AwaitReady returned h)
   waited c v h (Waited end) step = record {
     quiet = record {
       same = steps_keep_same c.kind AwaitReady c (Waited end) v refl step;

@@ -1,5 +1,5 @@
--- A WHOLE BATCH of one-block requests beside a card of the profile.
-use Rattle.std.proofs.Common.{◌≡◌, ℕ, ◌<◌, ◌≤◌, inl, inr, refl, sym, ap, ◌∙◌, subst, List, [], ◌∷◌, ◌++◌, append_assoc, map}
+-- A WHOLE BATCH beside a card of the profile.
+use Rattle.std.proofs.Common.{◌≡◌, ℕ, ◌<◌, ◌≤◌, inl, inr, refl, sym, ap, ◌∙◌, subst, List, [], ◌∷◌, ◌++◌, append_assoc}
 use Rattle.std.specs.Prelude.{◌⊎◌, codes, slice_get}
 use Rattle.sdv_registers.specs.declared.kind.Kind.{Kind}
 use Rattle.sdv_card.specs.Card.{Card, Block}
@@ -12,7 +12,7 @@ use Rattle.sdv_facts.specs.Keeps.{IsHonest}
 use Rattle.sdv_card.proofs.Same.{same_both}
 use Rattle.sdv_card.proofs.StartHolds.{starts_hold}
 use Rattle.sdv_block.specs.declared.request.Request.{Request}
-use Rattle.sdv_block.specs.BlockStatements.{Access, request_of, batch_statements}
+use Rattle.sdv_block.specs.RequestStatements.{batch_statements}
 use Rattle.sdv_block.specs.BringUpStatements.{batch_names, capacity_statement, capacity_test, batch_body}
 use Rattle.sdv_block.specs.Disk.{AllServed, after_batch}
 use Rattle.sdv_block.specs.Served.{AllowedSteps, blocks_read, disk_of, EndsAs, Served}
@@ -61,18 +61,15 @@ later_served rs e es front rest c u last split read gave contents s = record {
     same : (left output : List Block) → disk_of u (given rest ++ left) output ≡ disk_of c (given es ++ left) output
     same left output = same_disk u.contents c.contents (given rest ++ left) (given es ++ left) output output (sym contents) (ap (λ (bs : List Block). bs ++ left) (sym given_is)) refl
 
-module _ (k : Kind) (e : Ending) (least : ℕ) (accesses : List Access) (fell broke : Rest) (h : Host) (es : List Pair) (c last : Card) where
-  abbrev rs : List Request
-  rs = map request_of accesses
-
+module _ (k : Kind) (e : Ending) (least : ℕ) (rs : List Request) (fell broke : Rest) (h : Host) (es : List Pair) (c last : Card) where
   abbrev tested : Statements
-  tested = first (capacity_test least) (batch_statements accesses)
+  tested = first (capacity_test least) (batch_statements rs)
 
   abbrev on_tested : Rest
   on_tested = walk_statements k e tested fell broke
 
   abbrev on_requests : Rest
-  on_requests = walk_statements k e (batch_statements accesses) fell broke
+  on_requests = walk_statements k e (batch_statements rs) fell broke
 
   abbrev Ready : Type 0
   Ready = Past (Counted c) on_tested es last
@@ -97,7 +94,7 @@ module _ (k : Kind) (e : Ending) (least : ℕ) (accesses : List Access) (fell br
   after_test w (inr (inr x)) = inr (inr (record {
     enough = subst (λ n. least ≤ n) (w.did.cap ∙ sym w.did.same.capacity) x.enough;
     served = later_served rs e es w.front w.rest c w.card last w.split w.did.read w.did.gave w.did.contents
-        (serves k e last fell broke accesses w.host w.rest w.card w.did.blocks x.on w.steps);
+        (serves k e last fell broke rs w.host w.rest w.card w.did.blocks x.on w.steps);
   }))
 
   after_capacity : HaltedQuiet e es c last ⊎ Ready → Outcome least rs e es c last
@@ -138,12 +135,12 @@ module _ (k : Kind) (e : Ending) (least : ℕ) (accesses : List Access) (fell br
   after_unit numbers (inr w) =
       after_capacity (then_capacity w (capacity_part e on_tested broke last k w.host w.rest w.card w.did.honest (w.did.numbers ∙ numbers) w.did.unit w.on w.steps))
 
-  pub batch_part : h.numbers ≡ 0 ∷ [] → h.flags ≡ 0 → IsHonest k c h → walk_statements k e (batch_body k least accesses) fell broke h es → AllowedSteps c es last → Outcome least rs e es c last
+  pub batch_part : h.numbers ≡ 0 ∷ [] → h.flags ≡ 0 → IsHonest k c h → walk_statements k e (batch_body k least rs) fell broke h es → AllowedSteps c es last → Outcome least rs e es c last
   batch_part numbers clear honest walk steps = after_unit numbers (unit_part k e fell broke last (first (capacity_statement k) tested) h es c clear honest walk steps)
 
 -- every walk of the whole script beside a card of the profile
-pub batch_walk : (k : Kind) (e : Ending) (least : ℕ) (accesses : List Access) (es : List Pair) (c last : Card) → k ≡ c.kind → IsAtStart c → Walk k (batch_names k) (batch_body k least accesses) e es → AllowedSteps c es last →
-    Outcome least (map request_of accesses) e es c last
-batch_walk k e least accesses es c last kind start walk steps =
+pub batch_walk : (k : Kind) (e : Ending) (least : ℕ) (rs : List Request) (es : List Pair) (c last : Card) → k ≡ c.kind → IsAtStart c → Walk k (batch_names k) (batch_body k least rs) e es → AllowedSteps c es last →
+    Outcome least rs e es c last
+batch_walk k e least rs es c last kind start walk steps =
     let s = starts_hold k c 1 kind start in
-    batch_part k e least accesses (after_all e Fell) (after_all e Broke) (host_at_start 1) es c last refl refl (record { pair = s.pair; profile = start.profile; sound = s.sound }) walk steps
+    batch_part k e least rs (after_all e Fell) (after_all e Broke) (host_at_start 1) es c last refl refl (record { pair = s.pair; profile = start.profile; sound = s.sound }) walk steps

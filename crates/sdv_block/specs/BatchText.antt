@@ -1,12 +1,12 @@
 -- The TEXT of a batch, line by line.
-use Rattle.std.specs.Prelude.{ℕ, List, [], ◌∷◌, ◌++◌, codes}
+use Rattle.std.specs.Prelude.{ℕ, zero, suc, List, [], ◌∷◌, ◌++◌, codes}
 use Rattle.std.specs.Fmt.{decimal}
 use Rattle.sdv_registers.specs.declared.kind.Kind.{Kind}
 use Rattle.sdv_registers.specs.declared.kind.Kind.TheVariants.{Sd, Emmc}
 use Rattle.sdv_script.specs.Script.{Parsed}
 use Rattle.sdv_block.specs.BringUpStatements.{batch_names, batch_body}
 use Rattle.sdv_block.specs.declared.request.Request.{Request}
-use Rattle.sdv_block.specs.BlockStatements.{Access, reading, writing, all_accesses}
+use Rattle.sdv_block.specs.declared.request.Request.TheVariants.{Read, Write}
 use Rattle.sdv_block.specs.Disk.{greatest_end}
 
 -- a line, and the lines after it
@@ -16,6 +16,11 @@ line text others = text ++ 10 ∷ others
 -- a line with a number between its words
 abbrev pub line_with : (before : List ℕ) → ℕ → (behind : List ℕ) → List ℕ → List ℕ
 line_with before n behind others = before ++ 32 ∷ (decimal n ++ 32 ∷ line behind others)
+
+-- a line with a block and a count between its words
+abbrev pub counted_line : (before : List ℕ) → (block count : ℕ) → (behind : List ℕ) → List ℕ → List ℕ
+counted_line before block count behind others =
+    before ++ 32 ∷ (decimal block ++ 32 ∷ line_with (codes "count") count behind others)
 
 -- THE BRING-UP
 
@@ -57,28 +62,53 @@ bring_up_text k others =
 abbrev pub test_text : (least : ℕ) → List ℕ → List ℕ
 test_text least others = line_with (codes "if cap >=") least (codes "{ } else { fault beyond }") others
 
-abbrev pub access_text : Access → List ℕ → List ℕ
-access_text (reading block) others =
+abbrev pub single_read_text : (block : ℕ) → List ℕ → List ℕ
+single_read_text block others =
     line_with (codes "send 17 at by hc") block (codes "{ clean { } else { fault read } }") (
     line (codes "recv { ok { } else { fault read } }") others)
-access_text (writing block) others =
-    line_with (codes "send 24 at by hc") block (codes "{ clean { } else { fault write } }") (
-    line (codes "give { ok { } else { fault write } }") (
-    line (codes "loop 1000 { wait { ok { break } else { } } } else { fault busy }") (
-    line (codes "send 13 { clean & state=tran { } else { fault write } }") others)))
 
-abbrev pub accesses_text : List Access → List ℕ → List ℕ
-accesses_text [] others = others
-accesses_text (a ∷ accesses) others = access_text a (accesses_text accesses others)
+abbrev pub multiple_read_text : (block count : ℕ) → List ℕ → List ℕ
+multiple_read_text block count others =
+    counted_line (codes "send 18 at by hc") block count (codes "{ clean { } else { fault read } }") (
+    line (codes "recv { ok { } else { fault read } }") (
+    line (codes "send 12 { answer { } else { fault read } }") (
+    line (codes "loop 1000 { send 13 { clean & state=tran { break } answer { } else { fault read } } } else { fault read }") others)))
+
+abbrev pub settle_text : List ℕ → List ℕ
+settle_text others =
+    line (codes "loop 1000 { wait { ok { break } else { } } } else { fault busy }") (
+    line (codes "send 13 { clean & state=tran { } else { fault write } }") others)
+
+abbrev pub single_write_text : (block : ℕ) → List ℕ → List ℕ
+single_write_text block others =
+    line_with (codes "send 24 at by hc") block (codes "{ clean { } else { fault write } }") (
+    line (codes "give { ok { } else { fault write } }") (settle_text others))
+
+abbrev pub multiple_write_text : (block count : ℕ) → List ℕ → List ℕ
+multiple_write_text block count others =
+    counted_line (codes "send 25 at by hc") block count (codes "{ clean { } else { fault write } }") (
+    line (codes "give { ok { } else { fault write } }") (
+    line (codes "send 12 { clean { } else { fault write } }") (settle_text others)))
+
+-- one block has lines of its own
+abbrev pub request_text : Request → List ℕ → List ℕ
+request_text (Read block (suc zero)) others = single_read_text block others
+request_text (Read block count) others = multiple_read_text block count others
+request_text (Write block (suc zero)) others = single_write_text block others
+request_text (Write block count) others = multiple_write_text block count others
+
+abbrev pub requests_text : List Request → List ℕ → List ℕ
+requests_text [] others = others
+requests_text (r ∷ rs) others = request_text r (requests_text rs others)
 
 -- the whole text
-abbrev pub batch_text : Kind → (least : ℕ) → List Access → List ℕ
-batch_text k least accesses = bring_up_text k (test_text least (accesses_text accesses (line (codes "done") [])))
+abbrev pub batch_text : Kind → (least : ℕ) → List Request → List ℕ
+batch_text k least rs = bring_up_text k (test_text least (requests_text rs (line (codes "done") [])))
 
 -- the script of a batch: its text, its names and its statements
 abbrev pub batch_script : Kind → List Request → Parsed
 batch_script k rs = record {
-  text = batch_text k (greatest_end rs) (all_accesses rs);
+  text = batch_text k (greatest_end rs) rs;
   names = batch_names k;
-  body = batch_body k (greatest_end rs) (all_accesses rs);
+  body = batch_body k (greatest_end rs) rs;
 }

@@ -17,7 +17,8 @@ use Rattle.sdv_graph.specs.declared.tree.Condition.TheVariants as conditions
 use Rattle.sdv_graph.specs.declared.tree.Phase.TheVariants as phases
 use Rattle.sdv_graph.specs.Tree.{Statements, nothing, first, Ways, otherwise, way, Statement, send, phase, setting, choice, set, turns, break, Declared}
 use Rattle.sdv_script.specs.Rules.{ask_with}
-use Rattle.sdv_block.specs.BlockStatements.{Access, fails, only_if, batch_statements}
+use Rattle.sdv_block.specs.declared.request.Request.{Request}
+use Rattle.sdv_block.specs.RequestStatements.{fails, only_if, batch_statements}
 
 -- the flag `hc` tells that the card counts blocks, the number `cap` its capacity
 abbrev pub batch_names : Kind → Declared
@@ -92,5 +93,5 @@ abbrev pub capacity_test : ℕ → Statement
 capacity_test least = choice (conditions.AtLeast 0 least) nothing (fails (codes "beyond"))
 
 -- the whole script
-abbrev pub batch_body : Kind → (least : ℕ) → List Access → Statements
-batch_body k least accesses = bring_up k (first (capacity_test least) (batch_statements accesses))
+abbrev pub batch_body : Kind → (least : ℕ) → List Request → Statements
+batch_body k least rs = bring_up k (first (capacity_test least) (batch_statements rs))

@@ -1,5 +1,5 @@
 pub mod Disk
-pub mod BlockStatements
+pub mod RequestStatements
 pub mod Served
 pub mod BringUpStatements
 pub mod BatchText

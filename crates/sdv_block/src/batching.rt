@@ -5,8 +5,7 @@ ghost use Rattle.std.specs.List.{list_all};
 ghost use Rattle.sdv_script.specs.Rules.{max_bytes};
 ghost use Rattle.sdv_script.specs.Script.{IsScript};
 ghost use Rattle.sdv_block.specs.Batch.{Grows, batch_refusal, is_in_range};
-ghost use Rattle.sdv_block.specs.BatchText.{accesses_text, batch_script};
-ghost use Rattle.sdv_block.specs.BlockStatements.{all_accesses};
+ghost use Rattle.sdv_block.specs.BatchText.{batch_script, requests_text};
 ghost use Rattle.sdv_block.specs.Disk.{greatest_end};
 
 use crate::fault::BlockFault;
@@ -36,12 +35,11 @@ fn greatest_end(requests: &[Request]) -> u64
 
 /// Adds the lines of all requests.
 fn push_requests(text: &mut String, requests: &[Request]) -> Result<(), BlockFault>
-    requires { list_all is_in_range requests.now ≡ true }
-    ensures { Grows (string_bytes text.old) (string_bytes text.new) result
-        (λ others. accesses_text (all_accesses requests.now) others) }
+    ensures { Grows (string_bytes text.old) (string_bytes text.new) result (requests_text requests.now) }
 {
     for request in requests {
         push_request(text, *request)?;
+        short_enough(text.as_str())?;
     }
     Ok(())
 }
@@ -63,7 +61,8 @@ fn script_text(alloc: Global, kind: Kind, requests: &[Request]) -> Result<String
 }
 
 /// The script that serves requests to a card of a kind: it brings the card up, refuses one that is too small, and then
-/// reads and writes block by block, in the order of the requests.
+/// reads and writes, in the order of the requests: one block by a single-block command, several by a multiple-block command
+/// that is stopped.
 ///
 /// # Errors
 ///

@@ -1,10 +1,9 @@
 //! The text of a batch, line by line.
 
-ghost use Rattle.std.specs.Prelude.{◌≡◌, ◌++◌, ◌+◌, ◌<◌, ◌≤◌, ◌^◌, ℕ, List, IfOk, MatchResult, codes, length, string_bytes, true};
+ghost use Rattle.std.specs.Prelude.{◌≡◌, ◌++◌, ◌<◌, ◌≤◌, ℕ, List, IfOk, MatchResult, codes, length, string_bytes};
+ghost use Rattle.std.specs.Fmt.{decimal};
 ghost use Rattle.sdv_script.specs.Rules.{max_bytes};
-ghost use Rattle.sdv_block.specs.Batch.{Grows, is_in_range};
-ghost use Rattle.sdv_block.specs.BatchText.{access_text, accesses_text, bring_up_text, line, test_text};
-ghost use Rattle.sdv_block.specs.BlockStatements.{accesses_from, accesses_of, reading, writing};
+ghost use Rattle.sdv_block.specs.BatchText.{bring_up_text, line, request_text, test_text};
 
 use crate::fault::BlockFault;
 use crate::request::Request;
@@ -44,14 +43,29 @@ send 16 { clean { } else { fault blen } }
 if hc { send 8 { clean { recv reg { ok { let cap = ext.blocks } else { fault ext } } } else { fault ext } } } else { let cap = csd.blocks }
 ";
 
-/// The lines after the block of a read.
+/// The lines after the block of a read of one block.
 const READ_LINES: &str = " { clean { } else { fault read } }
 recv { ok { } else { fault read } }
 ";
 
-/// The lines after the block of a write.
+/// The lines after the count of a read of several blocks.
+const STOPPED_READ_LINES: &str = " { clean { } else { fault read } }
+recv { ok { } else { fault read } }
+send 12 { answer { } else { fault read } }
+loop 1000 { send 13 { clean & state=tran { break } answer { } else { fault read } } } else { fault read }
+";
+
+/// The lines after the block of a write of one block.
 const WRITE_LINES: &str = " { clean { } else { fault write } }
 give { ok { } else { fault write } }
+loop 1000 { wait { ok { break } else { } } } else { fault busy }
+send 13 { clean & state=tran { } else { fault write } }
+";
+
+/// The lines after the count of a write of several blocks.
+const STOPPED_WRITE_LINES: &str = " { clean { } else { fault write } }
+give { ok { } else { fault write } }
+send 12 { clean { } else { fault write } }
 loop 1000 { wait { ok { break } else { } } } else { fault busy }
 send 13 { clean & state=tran { } else { fault write } }
 ";
@@ -71,35 +85,76 @@ pub(crate) fn push_test(text: &mut String, least: u64) -> Result<(), AllocError>
     ensures { IfOk result (λ _. (others : List ℕ) →
         string_bytes text.new ++ others ≡ string_bytes text.old ++ test_text least others) }
 {
-    let mut buffer = Buffer::new();
-    text.push_str("if cap >= ")?;
-    text.push_str(buffer.format(least))?;
-    text.push_str(" { } else { fault beyond }\n")?;
-    Ok(())
+    push_single(text, "if cap >= ", least, " { } else { fault beyond }\n")
 }
 
-/// Adds the lines that read one block.
-fn push_read(text: &mut String, block: u64) -> Result<(), AllocError>
-    ensures { IfOk result (λ _. (others : List ℕ) →
-        string_bytes text.new ++ others ≡ string_bytes text.old ++ access_text (reading block) others) }
+/// Adds a number, in decimal digits.
+fn push_number(text: &mut String, number: u64) -> Result<(), AllocError>
+    ensures { IfOk result (λ _. string_bytes text.new ≡ string_bytes text.old ++ decimal number) }
 {
     let mut buffer = Buffer::new();
-    text.push_str("send 17 at by hc ")?;
-    text.push_str(buffer.format(block))?;
-    text.push_str(READ_LINES)?;
-    Ok(())
+    text.push_str(buffer.format(number))
 }
 
-/// Adds the lines that write one block.
-fn push_write(text: &mut String, block: u64) -> Result<(), AllocError>
-    ensures { IfOk result (λ _. (others : List ℕ) →
-        string_bytes text.new ++ others ≡ string_bytes text.old ++ access_text (writing block) others) }
+/// Adds lines that begin with words and a block.
+fn push_single(text: &mut String, words: &str, block: u64, lines: &str) -> Result<(), AllocError>
+    ensures { IfOk result (λ _.
+        string_bytes text.new ≡ string_bytes text.old ++ (words.now ++ (decimal block ++ lines.now))) }
 {
-    let mut buffer = Buffer::new();
-    text.push_str("send 24 at by hc ")?;
-    text.push_str(buffer.format(block))?;
-    text.push_str(WRITE_LINES)?;
-    Ok(())
+    text.push_str(words)?;
+    push_number(text, block)?;
+    text.push_str(lines)
+}
+
+/// Adds lines that begin with words, a block and a count.
+fn push_counted(
+    text: &mut String,
+    words: &str,
+    block: u64,
+    count: u64,
+    lines: &str,
+) -> Result<(), AllocError>
+    ensures { IfOk result (λ _. string_bytes text.new
+        ≡ string_bytes text.old ++ (words.now ++ (decimal block ++ (codes " count " ++ (decimal count ++ lines.now))))) }
+{
+    push_single(text, words, block, " count ")?;
+    push_number(text, count)?;
+    text.push_str(lines)
+}
+
+/// Adds the lines that read blocks.
+fn push_read(text: &mut String, first: u64, count: u64) -> Result<(), AllocError>
+    ensures { IfOk result (λ _. (others : List ℕ) →
+        string_bytes text.new ++ others ≡ string_bytes text.old ++ request_text (Request.Read first count) others) }
+{
+    if count == 1 {
+        push_single(text, "send 17 at by hc ", first, READ_LINES)
+    } else {
+        push_counted(text, "send 18 at by hc ", first, count, STOPPED_READ_LINES)
+    }
+}
+
+/// Adds the lines that write blocks.
+fn push_write(text: &mut String, first: u64, count: u64) -> Result<(), AllocError>
+    ensures { IfOk result (λ _. (others : List ℕ) →
+        string_bytes text.new ++ others ≡ string_bytes text.old ++ request_text (Request.Write first count) others) }
+{
+    if count == 1 {
+        push_single(text, "send 24 at by hc ", first, WRITE_LINES)
+    } else {
+        push_counted(text, "send 25 at by hc ", first, count, STOPPED_WRITE_LINES)
+    }
+}
+
+/// Adds the lines of a request.
+pub(crate) fn push_request(text: &mut String, request: Request) -> Result<(), AllocError>
+    ensures { IfOk result (λ _. (others : List ℕ) →
+        string_bytes text.new ++ others ≡ string_bytes text.old ++ request_text request others) }
+{
+    match request {
+        Request::Read { first, count } => push_read(text, first, count),
+        Request::Write { first, count } => push_write(text, first, count),
+    }
 }
 
 /// Refuses a text that is too long for a script.
@@ -113,49 +168,10 @@ pub(crate) fn short_enough(text: &str) -> Result<(), BlockFault>
     Ok(())
 }
 
-/// Adds the lines that read blocks, one at a time.
-fn push_reads(text: &mut String, first: u64, count: u64) -> Result<(), BlockFault>
-    requires { first + count ≤ 2 ^ 32 }
-    ensures { Grows (string_bytes text.old) (string_bytes text.new) result
-        (λ others. accesses_text (accesses_from reading first count) others) }
-{
-    for block in first..first + count {
-        push_read(text, block)?;
-        short_enough(text.as_str())?;
-    }
-    Ok(())
-}
-
-/// Adds the lines that write blocks, one at a time.
-fn push_writes(text: &mut String, first: u64, count: u64) -> Result<(), BlockFault>
-    requires { first + count ≤ 2 ^ 32 }
-    ensures { Grows (string_bytes text.old) (string_bytes text.new) result
-        (λ others. accesses_text (accesses_from writing first count) others) }
-{
-    for block in first..first + count {
-        push_write(text, block)?;
-        short_enough(text.as_str())?;
-    }
-    Ok(())
-}
-
-/// Adds the lines of a request.
-pub(crate) fn push_request(text: &mut String, request: Request) -> Result<(), BlockFault>
-    requires { is_in_range request ≡ true }
-    ensures { Grows (string_bytes text.old) (string_bytes text.new) result
-        (λ others. accesses_text (accesses_of request) others) }
-{
-    match request {
-        Request::Read { first, count } => push_reads(text, first, count),
-        Request::Write { first, count } => push_writes(text, first, count),
-    }
-}
-
 /// Adds the line that ends the script.
 pub(crate) fn push_end(text: &mut String) -> Result<(), AllocError>
     ensures { IfOk result (λ _. (others : List ℕ) →
         string_bytes text.new ++ others ≡ string_bytes text.old ++ line (codes "done") others) }
 {
-    text.push_str("done\n")?;
-    Ok(())
+    text.push_str("done\n")
 }

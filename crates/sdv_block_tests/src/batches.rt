@@ -1,6 +1,6 @@
 //! Scripts of batches, and batches that are refused.
 
-use crate::shared::WRITES_AND_READ;
+use crate::shared::{WRITE_AND_READ_OF_TWO, WRITES_AND_READ};
 use sdv_block::{BlockFault, Request, batch};
 use sdv_certify::certify;
 use sdv_check::check;
@@ -18,15 +18,17 @@ fn bound(alloc: Global, text: &str) -> Result<u64, Fail> {
 
 #[test]
 fn bounds(rt: HostRuntime) -> Result<(), Fail> {
-    for (kind, most) in [(Kind::Sd, 2012), (Kind::Emmc, 1012)] {
+    for (kind, single, multiple) in [(Kind::Sd, 2012, 3012), (Kind::Emmc, 1012, 2012)] {
         let text = batch(rt.alloc(), kind, &WRITES_AND_READ)?;
-        assert_eq!(rt; bound(rt.alloc(), text.as_str())?, most);
+        assert_eq!(rt; bound(rt.alloc(), text.as_str())?, single);
+        let text = batch(rt.alloc(), kind, &WRITE_AND_READ_OF_TWO)?;
+        assert_eq!(rt; bound(rt.alloc(), text.as_str())?, multiple);
     }
     Ok(())
 }
 
 /// Requests, and the fault of their batch.
-static BATCHES: [(&[Request], Option<BlockFault>); 8] = [
+static BATCHES: [(&[Request], Option<BlockFault>); 7] = [
     (&[], Some(BlockFault::Empty)),
     (
         &[Request::Read { first: 0, count: 0 }],
@@ -64,13 +66,6 @@ static BATCHES: [(&[Request], Option<BlockFault>); 8] = [
             first: 0,
             count: 65_535,
         }],
-        Some(BlockFault::Limit),
-    ),
-    (
-        &[Request::Read {
-            first: 0,
-            count: 600,
-        }],
         None,
     ),
     (
@@ -89,4 +84,25 @@ fn refused(rt: HostRuntime) {
             assert!(rt; batch(rt.alloc(), kind, requests).err() == *fault);
         }
     }
+}
+
+/// Reads of so many blocks, one by one.
+fn single_reads(alloc: Global, count: u64) -> Result<Vec<Request>, Fail> {
+    let mut requests = Vec::new(alloc);
+    for first in 0..count {
+        requests.push(Request::Read { first, count: 1 })?;
+    }
+    Ok(requests)
+}
+
+/// A text that is too long for a script.
+#[test]
+fn too_many_requests(rt: HostRuntime) -> Result<(), Fail> {
+    for (count, fault) in [(500, None), (800, Some(BlockFault::Limit))] {
+        let requests = single_reads(rt.alloc(), count)?;
+        for kind in [Kind::Sd, Kind::Emmc] {
+            assert!(rt; batch(rt.alloc(), kind, requests.as_slice()).err() == fault);
+        }
+    }
+    Ok(())
 }

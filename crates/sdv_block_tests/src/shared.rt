@@ -59,3 +59,9 @@ pub static WRITES_AND_READ: [Request; 3] = [
     Request::Write { first: 3, count: 1 },
     Request::Read { first: 3, count: 1 },
 ];
+
+/// Two blocks are written by one command, and read by one.
+pub static WRITE_AND_READ_OF_TWO: [Request; 2] = [
+    Request::Write { first: 3, count: 2 },
+    Request::Read { first: 3, count: 2 },
+];
