@@ -1,5 +1,5 @@
 //! The program over writers in memory, and over one that takes nothing.
-use crate::testing::USAGE;
+use crate::testing::{USAGE, expect, says};
 use sdv_frames::Command;
 use sdv_run::RunFault;
 use sdv_sim::SimFault;
@@ -9,6 +9,7 @@ use sdv_words::line::{Line, LineFault, line_of};
 use sdv_words::number::number_of;
 use sdv_words::program::program;
 use std::io::{self, Write};
+use std::str;
 use std::test::Fail;
 
 #[derive(Drop)]
@@ -43,8 +44,42 @@ fn prints_frames(rt: HostRuntime) {
 }
 
 #[test]
+fn prints_batches(rt: HostRuntime) -> Result<(), Fail> {
+    let alloc = rt.alloc();
+    let rows = [
+        (
+            "write 3 1",
+            "send 24 at by hc 3 { clean { } else { fault write } }\n",
+        ),
+        (
+            " read\t0x10 2\nread 0 1",
+            "send 18 at by hc 16 count 2 { clean { } else { fault read } }\n",
+        ),
+    ];
+    for (requests, line) in rows {
+        let mut out = Vec::new(alloc);
+        let mut err = Vec::new(alloc);
+        assert_eq!(rt;
+            program(&rt, &["batch", "sd", requests], &mut out, &mut err),
+            0
+        );
+        let text = str::from_utf8(&out)?;
+        assert!(rt; text.starts_with("card sd\n"), "at {line}");
+        assert!(rt; text.contains(line), "at {line}");
+        assert!(rt; err.is_empty(), "at {line}");
+    }
+    expect(&rt, &["batch", "sd", ""], says(1, "refused Empty\n"));
+    expect(
+        &rt,
+        &["batch", "emmc", "read 0 0"],
+        says(1, "refused Range\n"),
+    );
+    Ok(())
+}
+
+#[test]
 fn refuses_other_words(rt: HostRuntime) {
-    let rows: [&[&str]; 25] = [
+    let rows: [&[&str]; 29] = [
         &[],
         &["frame"],
         &["frame", "0"],
@@ -67,6 +102,10 @@ fn refuses_other_words(rt: HostRuntime) {
         &["run", "a", "b", "c", "d", "e", "f"],
         &["run", "a", "b", "c", "d", "--out"],
         &["run", "a", "b", "c", "d", "--out", "e", "--out", "f"],
+        &["batch", "sd"],
+        &["batch", "mmc", "read 0 1"],
+        &["batch", "sd", "read 0"],
+        &["batch", "sd", "erase 0 1"],
         &["help"],
         &["--help"],
         &["frame", "-h"],

@@ -2,9 +2,10 @@
 use Rattle.std.proofs.Common.{◌≡◌, ◌≢◌, ◌∙◌, ◌⊎◌, refl, sym, ap, subst, inl, inr, ℕ, List, [], Option, Some, None, Result, Ok, Err, IsErrAnd, IfErr}
 use Rattle.clap.specs.Words.{Text, fault_of}
 use Rattle.sdv_words.specs.Answer.{Answers, AsksFrame, AsksNoRun, AsksNothing, AnswersInPart, AsksRun, IsFaultOf, Leaves, Left, PrintsFrameInPart, RefusesFrame, RefusesScript}
+use Rattle.sdv_words.specs.BatchWords.{PrintsBatchInPart, RefusesBatch}
 use Rattle.sdv_words.specs.Certify.{CertifiesFileInPart, UncertifiesFile}
 use Rattle.sdv_words.specs.Check.{AcceptsFilesInPart, RefusesFiles}
-use Rattle.sdv_words.specs.CommandLine.{Request, RunNames, command_line, frame, certify, check, run, meaning_of}
+use Rattle.sdv_words.specs.CommandLine.{Request, RunNames, command_line, frame, certify, check, run, batch, meaning_of}
 use Rattle.sdv_words.specs.Files.{Files}
 use Rattle.sdv_words.specs.Run.{RunFails}
 use Rattle.std.specs.Io.KnownBytes.{Keeps}
@@ -15,7 +16,7 @@ use Rattle.sdv_words.proofs.StartLaws.{keeps_same}
 use Rattle.sdv_words.specs.declared.line.LineFault.{LineFault}
 use Rattle.sdv_words.specs.declared.line.LineFault.TheVariants as line_fault
 use Rattle.sdv_words.specs.declared.fault.Fault.{Fault}
-use Rattle.sdv_words.specs.declared.fault.Fault.TheVariants.{Usage, File, Script, Certificate, Refused, Uncertified, Card, Run, Named, Output, Memory}
+use Rattle.sdv_words.specs.declared.fault.Fault.TheVariants.{Usage, File, Script, Certificate, Refused, Uncertified, Unserved, Card, Run, Named, Output, Memory}
 use Rattle.sdv_frames.specs.declared.command.Command.{Command}
 
 -- ---- words
@@ -41,6 +42,13 @@ certify_is_no_run words script meaning names other = let same : Some (certify sc
 check_is_no_run : (words : List Text) (script certificate : Text) → meaning_of words ≡ Some (check script certificate) → AsksNoRun words
 check_is_no_run words script certificate meaning names other = let same : Some (check script certificate) ≡ Some (run names) = sym meaning ∙ other in cc
 
+batch_is_no_run : (words : List Text) (kind requests : Text) → meaning_of words ≡ Some (batch kind requests) → AsksNoRun words
+batch_is_no_run words kind requests meaning names other = let same : Some (batch kind requests) ≡ Some (run names) = sym meaning ∙ other in cc
+
+-- nor for a batch
+frame_is_no_batch : (words : List Text) (index argument kind requests : Text) → meaning_of words ≡ Some (frame index argument) → meaning_of words ≢ Some (batch kind requests)
+frame_is_no_batch words index argument kind requests meaning other = let same : Some (frame index argument) ≡ Some (batch kind requests) = sym meaning ∙ other in cc
+
 -- words whose texts write no command ask for nothing
 asks_nothing : (words : List Text) (index argument : Text) → meaning_of words ≡ Some (frame index argument)
     → ((c : Command) → ¬ Writes index argument c) → AsksNothing words
@@ -49,6 +57,7 @@ asks_nothing words index argument meaning none = record {
   no_certificate = λ script. frame_is_no_certify words index argument script meaning;
   no_check = λ script certificate. frame_is_no_check words index argument script certificate meaning;
   no_run = frame_is_no_run words index argument meaning;
+  no_batch = λ kind requests. frame_is_no_batch words index argument kind requests meaning;
 }
   where
     no_frame : (c : Command) → ¬ AsksFrame words c
@@ -67,6 +76,7 @@ asks_nothing-fault words some =
       no_certificate = λ script meaning. cc (none, meaning);
       no_check = λ script certificate meaning. cc (none, meaning);
       no_run = λ names meaning. cc (none, meaning);
+      no_batch = λ kind requests meaning. cc (none, meaning);
     }
 
 -- ---- the faults of an answer
@@ -76,13 +86,13 @@ module _ (files : Files) (words : List Text) where
   pub faults_of_line : {T : Type 0} (fault : LineFault) (r : Result T Fault) → IsErrAnd r (λ f. f ≡ fault_of_line fault)
       → (fault ≡ line_fault.Usage → fault_of command_line words ≢ []) → IfErr r (IsFaultOf files words)
   faults_of_line fault (Ok x) is usage = absurd is
-  faults_of_line line_fault.Usage (Err f) is usage = rw is (asks_nothing-fault words (usage refl))
+  faults_of_line line_fault.Usage (Err f) is usage = rw is (inl (asks_nothing-fault words (usage refl)))
   faults_of_line line_fault.Memory (Err f) is usage = rw is tt
 
   -- the words of `frame`
   frame_fault : (index argument : Text) → meaning_of words ≡ Some (frame index argument) → (fault : Fault) → RefusesFrame index argument fault
       → IsFaultOf files words fault
-  frame_fault index argument meaning Usage none = asks_nothing words index argument meaning none
+  frame_fault index argument meaning Usage none = inl (asks_nothing words index argument meaning none)
   frame_fault index argument meaning Output some = inl (some.0, record { index = index; argument = argument; meaning = meaning; writes = some.1 })
   frame_fault index argument meaning _ refused = absurd refused
 
@@ -96,7 +106,7 @@ module _ (files : Files) (words : List Text) where
   certify_fault script meaning (File file) refuses = inl (inl (record { script_file = script; meaning = meaning; refuses = refuses }))
   certify_fault script meaning (Script fault) refuses = inl (inl (record { script_file = script; meaning = meaning; refuses = refuses }))
   certify_fault script meaning (Uncertified fault) refuses = inl (inl (record { script_file = script; meaning = meaning; refuses = refuses }))
-  certify_fault script meaning Output refuses = inr (inl (record { script_file = script; meaning = meaning; refuses = refuses }))
+  certify_fault script meaning Output refuses = inr (inl (inl (record { script_file = script; meaning = meaning; refuses = refuses })))
   certify_fault script meaning Memory refuses = tt
   certify_fault script meaning _ refuses = absurd refuses.refuses
 
@@ -117,7 +127,7 @@ module _ (files : Files) (words : List Text) where
   check_fault script certificate meaning (Refused fault) refuses =
       inl (inr (record { script_file = script; certificate_file = certificate; meaning = meaning; refuses = refuses }))
   check_fault script certificate meaning Output refuses =
-      inr (inr (record { script_file = script; certificate_file = certificate; meaning = meaning; refuses = refuses }))
+      inr (inl (inr (record { script_file = script; certificate_file = certificate; meaning = meaning; refuses = refuses })))
   check_fault script certificate meaning Memory refuses = tt
   check_fault script certificate meaning _ refuses = absurd refuses.refuses
 
@@ -126,12 +136,26 @@ module _ (files : Files) (words : List Text) where
   faults_of_check script certificate meaning (Ok x) refuses = tt
   faults_of_check script certificate meaning (Err fault) refuses = check_fault script certificate meaning fault refuses
 
+  -- the words of `batch`
+  batch_fault : (kind requests : Text) → meaning_of words ≡ Some (batch kind requests) → (fault : Fault) → RefusesBatch kind requests fault → IsFaultOf files words fault
+  batch_fault kind requests meaning Usage refuses = inr (record { kind = kind; requests = requests; meaning = meaning; refuses = refuses })
+  batch_fault kind requests meaning (Unserved fault) refuses = record { kind = kind; requests = requests; meaning = meaning; refuses = refuses }
+  batch_fault kind requests meaning Output refuses = inr (inr (record { kind = kind; requests = requests; meaning = meaning; refuses = refuses }))
+  batch_fault kind requests meaning Memory refuses = tt
+  batch_fault kind requests meaning _ refuses = absurd refuses
+
+  pub faults_of_batch : {T : Type 0} (kind requests : Text) → meaning_of words ≡ Some (batch kind requests) → (r : Result T Fault)
+      → IfErr r (RefusesBatch kind requests) → IfErr r (IsFaultOf files words)
+  faults_of_batch kind requests meaning (Ok x) refuses = tt
+  faults_of_batch kind requests meaning (Err fault) refuses = batch_fault kind requests meaning fault refuses
+
   -- words that ask for nothing have no answer
   pub no_answer : (before after : Option (List ℕ)) → AsksNothing words → Answers files words before after → ⊥
   no_answer before after nothing (inl framed) = nothing.no_frame framed.command framed.asked
   no_answer before after nothing (inr (inl certified)) = nothing.no_certificate certified.script_file certified.meaning
   no_answer before after nothing (inr (inr (inl checked))) = nothing.no_check checked.script_file checked.certificate_file checked.meaning
-  no_answer before after nothing (inr (inr (inr ran))) = nothing.no_run ran.names ran.meaning
+  no_answer before after nothing (inr (inr (inr (inl ran)))) = nothing.no_run ran.names ran.meaning
+  no_answer before after nothing (inr (inr (inr (inr batched)))) = nothing.no_batch batched.kind batched.requests batched.meaning
 
   -- nor do they have a failed output
   pub no_output : (fault : Fault) → AsksNothing words → IsFaultOf files words fault → fault ≢ Output
@@ -139,8 +163,9 @@ module _ (files : Files) (words : List Text) where
     where
       go : IsFaultOf files words Output → ⊥
       go (inl framed) = nothing.no_frame framed.0 framed.1
-      go (inr (inl certified)) = nothing.no_certificate certified.script_file certified.meaning
-      go (inr (inr checked)) = nothing.no_check checked.script_file checked.certificate_file checked.meaning
+      go (inr (inl (inl certified))) = nothing.no_certificate certified.script_file certified.meaning
+      go (inr (inl (inr checked))) = nothing.no_check checked.script_file checked.certificate_file checked.meaning
+      go (inr (inr batched)) = nothing.no_batch batched.kind batched.requests batched.meaning
 
   -- where words ask for a frame, no fault is of another request
   frame_alone : (c : Command) → AsksFrame words c → (fault : Fault) → RefusesScript files words fault ⊎ AsksRun words → ⊥
@@ -152,12 +177,14 @@ module _ (files : Files) (words : List Text) where
 
   -- then status 2 is that of a failed output
   pub frame_output : (c : Command) → AsksFrame words c → (fault : Fault) → status_of fault ≡ 2 → IsFaultOf files words fault → fault ≡ Output
-  frame_output c asked Usage status faults = absurd (faults.no_frame c asked)
+  frame_output c asked Usage status (inl nothing) = absurd (nothing.no_frame c asked)
+  frame_output c asked Usage status (inr batched) = absurd (frame_is_no_batch words asked.index asked.argument batched.kind batched.requests asked.meaning batched.meaning)
   frame_output c asked (File file) status faults = absurd (frame_alone c asked (File file) faults)
   frame_output c asked (Script fault) status faults = cc
   frame_output c asked (Certificate fault) status faults = cc
   frame_output c asked (Refused fault) status faults = cc
   frame_output c asked (Uncertified fault) status faults = cc
+  frame_output c asked (Unserved fault) status faults = cc
   frame_output c asked (Card fault) status faults = cc
   frame_output c asked (Run fault) status faults = cc
   frame_output c asked Named status faults = cc
@@ -175,6 +202,7 @@ module _ (files : Files) (words : List Text) where
   left_without before after none (Certificate fault) keeps part = record { kept = λ _. keeps (λ same. absurd (cc same)); of_run = λ names meaning. absurd (none names meaning) }
   left_without before after none (Refused fault) keeps part = record { kept = λ _. keeps (λ same. absurd (cc same)); of_run = λ names meaning. absurd (none names meaning) }
   left_without before after none (Uncertified fault) keeps part = record { kept = λ _. keeps (λ same. absurd (cc same)); of_run = λ names meaning. absurd (none names meaning) }
+  left_without before after none (Unserved fault) keeps part = record { kept = λ _. keeps (λ same. absurd (cc same)); of_run = λ names meaning. absurd (none names meaning) }
   left_without before after none (Card fault) keeps part = record { kept = λ _. keeps (λ same. absurd (cc same)); of_run = λ names meaning. absurd (none names meaning) }
   left_without before after none (Run fault) keeps part = record { kept = λ _. keeps (λ same. absurd (cc same)); of_run = λ names meaning. absurd (none names meaning) }
   left_without before after none Named keeps part = record { kept = λ _. keeps (λ same. absurd (cc same)); of_run = λ names meaning. absurd (none names meaning) }
@@ -219,7 +247,15 @@ module _ (files : Files) (words : List Text) where
       → IfErr r (λ fault. Leaves files words fault before after)
   left_of_check script certificate meaning r before after =
       if_left before after (check_is_no_run words script certificate meaning) r _
-      (λ part. inr (inr (record { script_file = script; certificate_file = certificate; meaning = meaning; accepts = part })))
+      (λ part. inr (inr (inl (record { script_file = script; certificate_file = certificate; meaning = meaning; accepts = part }))))
+
+  pub left_of_batch : {T : Type 0} (kind requests : Text) → meaning_of words ≡ Some (batch kind requests) → (r : Result T Fault) (before after : Option (List ℕ))
+      → IfErr r (λ fault. fault ≢ Output → Keeps before after)
+      → IfErr r (λ fault. fault ≡ Output → PrintsBatchInPart kind requests before after)
+      → IfErr r (λ fault. Leaves files words fault before after)
+  left_of_batch kind requests meaning r before after =
+      if_left before after (batch_is_no_run words kind requests meaning) r _
+      (λ part. inr (inr (inr (record { kind = kind; requests = requests; meaning = meaning; prints = part }))))
 
   -- ---- runs
 
@@ -234,6 +270,7 @@ module _ (files : Files) (words : List Text) where
     run_fault (Certificate fault) fails = inr asks_run
     run_fault (Refused fault) fails = inr asks_run
     run_fault (Uncertified fault) fails = inr asks_run
+    run_fault (Unserved fault) fails = absurd fails.refused
     run_fault (Card fault) fails = inr asks_run
     run_fault (Run fault) fails = inr asks_run
     run_fault Named fails = inr asks_run
@@ -261,6 +298,7 @@ module _ (files : Files) (words : List Text) where
     run_left (Certificate fault) fails = left_by_run (Certificate fault) fails
     run_left (Refused fault) fails = left_by_run (Refused fault) fails
     run_left (Uncertified fault) fails = left_by_run (Uncertified fault) fails
+    run_left (Unserved fault) fails = absurd fails.refused
     run_left (Card fault) fails = left_by_run (Card fault) fails
     run_left (Run fault) fails = left_by_run (Run fault) fails
     run_left Named fails = left_by_run Named fails
@@ -280,6 +318,7 @@ module _ (files : Files) (words : List Text) where
   left_kept (Certificate fault) before after none other left = left.kept none
   left_kept (Refused fault) before after none other left = left.kept none
   left_kept (Uncertified fault) before after none other left = left.kept none
+  left_kept (Unserved fault) before after none other left = left.kept none
   left_kept (Card fault) before after none other left = left.kept none
   left_kept (Run fault) before after none other left = left.kept none
   left_kept Named before after none other left = left.kept none
@@ -296,6 +335,7 @@ module _ (files : Files) (words : List Text) where
       go (Some (check script certificate)) is = left.kept (check_is_no_run words script certificate is)
       go None is = left.kept (λ names meaning. cc (is, meaning))
       go (Some (run names)) is = left.of_run names is
+      go (Some (batch kind requests)) is = left.kept (batch_is_no_run words kind requests is)
 
   pub memory_kept : (fault : Fault) (before after : Option (List ℕ)) → status_of fault ≡ 3 → Leaves files words fault before after → Keeps before after
   memory_kept Memory before after is left = memory_left before after left
@@ -305,6 +345,7 @@ module _ (files : Files) (words : List Text) where
   memory_kept (Certificate fault) before after is left = cc
   memory_kept (Refused fault) before after is left = cc
   memory_kept (Uncertified fault) before after is left = cc
+  memory_kept (Unserved fault) before after is left = cc
   memory_kept (Card fault) before after is left = cc
   memory_kept (Run fault) before after is left = cc
   memory_kept Named before after is left = cc

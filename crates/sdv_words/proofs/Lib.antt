@@ -1,4 +1,5 @@
 mod AnswerLaws
+mod BatchWordsLaws
 mod CertifyLaws
 mod CommandLineLaws
 mod FrameTextLaws

@@ -6,10 +6,11 @@ use Rattle.clap.specs.Words.{Text}
 use Rattle.sdv_frames.specs.Frame.{IsCommandFrame}
 use Rattle.sdv_frames.specs.declared.command.Command.{Command}
 use Rattle.sdv_words.specs.declared.fault.Fault.{Fault}
-use Rattle.sdv_words.specs.declared.fault.Fault.TheVariants.{Usage, Output, Memory}
+use Rattle.sdv_words.specs.declared.fault.Fault.TheVariants.{Usage, Unserved, Output, Memory}
 use Rattle.sdv_words.specs.Certify.{CertifiesFile, CertifiesFileInPart, UncertifiesFile}
 use Rattle.sdv_words.specs.Check.{AcceptsFiles, AcceptsFilesInPart, RefusesFiles}
-use Rattle.sdv_words.specs.CommandLine.{RunNames, frame, certify, check, run, meaning_of}
+use Rattle.sdv_words.specs.BatchWords.{PrintsBatch, PrintsBatchInPart, RefusesBatch}
+use Rattle.sdv_words.specs.CommandLine.{RunNames, frame, certify, check, run, batch, meaning_of}
 use Rattle.sdv_words.specs.Fault.{Says, status_of}
 use Rattle.sdv_words.specs.Files.{Files}
 use Rattle.sdv_words.specs.Run.{EndsRun, RunFails}
@@ -115,24 +116,49 @@ pub record AnswersRun (files : Files) (words : List Text) (before after : Option
   pub meaning : meaning_of words ≡ Some (run names)
   pub ends : EndsRun files names Done before after
 
+-- BATCHES
+
+-- the words ask for the script of requests, and it was printed
+pub record AnswersBatch (words : List Text) (before after : Option (List ℕ)) : Type 0 where
+  pub kind : Text
+  pub requests : Text
+  pub meaning : meaning_of words ≡ Some (batch kind requests)
+  pub prints : PrintsBatch kind requests before after
+
+-- the words ask for it, and a part of it was printed
+pub record AnswersBatchInPart (words : List Text) (before after : Option (List ℕ)) : Type 0 where
+  pub kind : Text
+  pub requests : Text
+  pub meaning : meaning_of words ≡ Some (batch kind requests)
+  pub prints : PrintsBatchInPart kind requests before after
+
+-- the words ask for it, and of its words is so what the fault says
+pub record RefusesRequests (words : List Text) (fault : Fault) : Type 0 where
+  pub kind : Text
+  pub requests : Text
+  pub meaning : meaning_of words ≡ Some (batch kind requests)
+  pub refuses : RefusesBatch kind requests fault
+
 -- ANSWERS
 
--- the words ask for no frame, for no certificate, for no check and for no run
+-- the words ask for no frame, for no certificate, for no check, for no run and for no batch
 pub record AsksNothing (words : List Text) : Type 0 where
   pub no_frame : (c : Command) → ¬ AsksFrame words c
   pub no_certificate : (script : Text) → meaning_of words ≢ Some (certify script)
   pub no_check : (script certificate : Text) → meaning_of words ≢ Some (check script certificate)
   pub no_run : AsksNoRun words
+  pub no_batch : (kind requests : Text) → meaning_of words ≢ Some (batch kind requests)
 
 abbrev pub Answers : Files → List Text → (before after : Option (List ℕ)) → Type 0
 Answers files words before after =
     AnswersFrame words before after ⊎ (AnswersCertify files.gives words before after ⊎ (AnswersCheck files.gives words before after
-    ⊎ AnswersRun files words before after))
+    ⊎ (AnswersRun files words before after ⊎ AnswersBatch words before after)))
 
 -- what was asked for was printed in part, and not all of it
 abbrev pub AnswersInPart : Files → List Text → (before after : Option (List ℕ)) → Type 0
 AnswersInPart files words before after =
-    AnswersFrameInPart words before after ⊎ (AnswersCertifyInPart files.gives words before after ⊎ AnswersCheckInPart files.gives words before after)
+    AnswersFrameInPart words before after ⊎ (AnswersCertifyInPart files.gives words before after
+    ⊎ (AnswersCheckInPart files.gives words before after ⊎ AnswersBatchInPart words before after))
 
 -- the words ask for a certificate or a check, and of the files is so what the fault says
 abbrev pub RefusesScript : Files → List Text → Fault → Type 0
@@ -140,8 +166,9 @@ RefusesScript files words fault = RefusesCertify files.gives words fault ⊎ Ref
 
 -- what a fault says of the words; of a run it is said below
 abbrev pub IsFaultOf : Files → List Text → Fault → Type 0
-IsFaultOf files words Usage = AsksNothing words
-IsFaultOf files words Output = ((c : Command) × AsksFrame words c) ⊎ RefusesScript files words Output
+IsFaultOf files words Usage = AsksNothing words ⊎ RefusesRequests words Usage
+IsFaultOf files words Output = ((c : Command) × AsksFrame words c) ⊎ (RefusesScript files words Output ⊎ RefusesRequests words Output)
+IsFaultOf files words (Unserved fault) = RefusesRequests words (Unserved fault)
 IsFaultOf files words Memory = Unit {0}
 IsFaultOf files words fault = RefusesScript files words fault ⊎ AsksRun words
 

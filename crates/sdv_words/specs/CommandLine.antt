@@ -5,7 +5,7 @@ use Rattle.std.specs.Str.{bytes_eq}
 use Rattle.clap.specs.Words.{App, Kinds, Row, Rule, Shape, Text, fault_of, first_of, new_app}
 use Rattle.clap.specs.Words.{new_rule, subcommand_of, with_rule, with_subcommand}
 use Rattle.sdv_words.specs.declared.line.Line.{Line}
-use Rattle.sdv_words.specs.declared.line.Line.TheVariants.{Frame, Certify, Check, Run}
+use Rattle.sdv_words.specs.declared.line.Line.TheVariants.{Frame, Certify, Check, Run, Batch}
 use Rattle.sdv_words.specs.declared.line.RunFiles.{RunFiles}
 
 -- a word that stands by its place, and may not be left out
@@ -25,6 +25,11 @@ certify_command = with_rule (new_app (codes "certify")) (required (codes "SCRIPT
 abbrev pub check_command : App
 check_command =
     with_rule (with_rule (new_app (codes "check")) (required (codes "SCRIPT"))) (required (codes "CERT"))
+
+-- `batch KIND REQUESTS`
+abbrev pub batch_command : App
+batch_command =
+    with_rule (with_rule (new_app (codes "batch")) (required (codes "KIND"))) (required (codes "REQUESTS"))
 
 -- a word behind another one, which names it
 abbrev pub option : (id long : Text) → Rule
@@ -53,8 +58,8 @@ program_shape = record (new_app (codes "sdv")).top {
 -- `sdv`, and its commands
 abbrev pub command_line : App
 command_line =
-    with_subcommand (with_subcommand (with_subcommand (with_subcommand (record { top = program_shape; subs = [] }) frame_command.top) certify_command.top)
-    check_command.top) run_command.top
+    with_subcommand (with_subcommand (with_subcommand (with_subcommand (with_subcommand (record { top = program_shape; subs = [] }) frame_command.top)
+    certify_command.top) check_command.top) run_command.top) batch_command.top
 
 -- the files of a run, by their names
 pub record RunNames : Type 0 where
@@ -72,6 +77,7 @@ pub data Request : Type 0 where
   certify : Text → Request
   check : Text → Text → Request
   run : RunNames → Request
+  batch : (kind requests : Text) → Request
 
 abbrev pub names_of : RunFiles → RunNames
 names_of files = record {
@@ -90,6 +96,7 @@ request_of (Frame index argument) = frame index.now argument.now
 request_of (Certify script) = certify script.now
 request_of (Check script certificate) = check script.now certificate.now
 request_of (Run files) = run (names_of files)
+request_of (Batch kind requests) = batch kind.now requests.now
 
 abbrev pub frame_of : Option Text → Option Text → Option Request
 frame_of (Some index) (Some argument) = Some (frame index argument)
@@ -111,6 +118,14 @@ check_of _ _ = None
 abbrev pub check_request : List Row → Option Request
 check_request matched = check_of (first_of (codes "SCRIPT") matched) (first_of (codes "CERT") matched)
 
+abbrev pub batch_of : Option Text → Option Text → Option Request
+batch_of (Some kind) (Some requests) = Some (batch kind requests)
+batch_of _ _ = None
+
+-- the request in what clap matched for the words of `batch`
+abbrev pub batch_request : List Row → Option Request
+batch_request matched = batch_of (first_of (codes "KIND") matched) (first_of (codes "REQUESTS") matched)
+
 abbrev pub run_of : (script certificate card image schedule input output : Option Text) → Option Request
 run_of (Some script) (Some certificate) (Some card) (Some image) schedule input output =
     Some (run (record { script = script; certificate = certificate; card = card; image = image; schedule = schedule; input = input; output = output }))
@@ -129,6 +144,7 @@ request_in used =
     else if bytes_eq used.0 (codes "certify") then certify_request used.1
     else if bytes_eq used.0 (codes "check") then check_request used.1
     else if bytes_eq used.0 (codes "run") then run_request used.1
+    else if bytes_eq used.0 (codes "batch") then batch_request used.1
     else None
 
 -- the same, by the kinds of fault that clap finds in the words: there is no request where there are

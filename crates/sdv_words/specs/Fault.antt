@@ -19,6 +19,8 @@ use Rattle.sdv_check.specs.declared.fault.CheckFault.{CheckFault}
 use Rattle.sdv_check.specs.declared.fault.CheckFault.TheVariants as checks
 use Rattle.sdv_check.specs.declared.fault.VerifyFault.{VerifyFault}
 use Rattle.sdv_check.specs.declared.fault.VerifyFault.TheVariants as verifies
+use Rattle.sdv_block.specs.declared.fault.BlockFault.{BlockFault}
+use Rattle.sdv_block.specs.declared.fault.BlockFault.TheVariants as blocks
 use Rattle.sdv_image.specs.declared.fault.SimFault.{SimFault}
 use Rattle.sdv_image.specs.declared.fault.SimFault.TheVariants as cards
 use Rattle.sdv_run.specs.declared.fault.RunFault.{RunFault}
@@ -26,7 +28,7 @@ use Rattle.sdv_run.specs.declared.fault.RunFault.TheVariants as runs
 use Rattle.sdv_words.specs.declared.line.LineFault.{LineFault}
 use Rattle.sdv_words.specs.declared.line.LineFault.TheVariants as lines
 use Rattle.sdv_words.specs.declared.fault.Fault.{Fault}
-use Rattle.sdv_words.specs.declared.fault.Fault.TheVariants.{Usage, File, Script, Certificate, Refused, Uncertified, Card, Run, Named, Output, Memory}
+use Rattle.sdv_words.specs.declared.fault.Fault.TheVariants.{Usage, File, Script, Certificate, Refused, Uncertified, Unserved, Card, Run, Named, Output, Memory}
 
 -- WHAT IS SAID
 
@@ -75,6 +77,15 @@ uncertified_line (certifies.EndState point) = numbered_line (codes "refused EndS
 uncertified_line certifies.TooMany = plain_line (codes "refused TooMany")
 uncertified_line certifies.Memory = plain_line (codes "refused Memory")
 
+abbrev pub block_fault_name : BlockFault → Text
+block_fault_name blocks.Empty = codes "Empty"
+block_fault_name blocks.Range = codes "Range"
+block_fault_name blocks.Limit = codes "Limit"
+block_fault_name (blocks.Certify fault) = codes "Certify"
+block_fault_name (blocks.Verify fault) = codes "Verify"
+block_fault_name (blocks.Run fault) = codes "Run"
+block_fault_name blocks.Memory = codes "Memory"
+
 abbrev pub sim_fault_name : SimFault → Text
 sim_fault_name cards.Description = codes "Description"
 sim_fault_name cards.Capacity = codes "Capacity"
@@ -90,7 +101,7 @@ run_fault_name runs.Trace = codes "Trace"
 run_fault_name runs.Memory = codes "Memory"
 
 abbrev pub usage : Text
-usage = codes "usage: sdv frame INDEX ARG | sdv certify SCRIPT | sdv check SCRIPT CERT | sdv run SCRIPT CERT CARD IMAGE [SCHEDULE] [--in FILE] [--out FILE]"
+usage = codes "usage: sdv frame INDEX ARG | sdv certify SCRIPT | sdv check SCRIPT CERT | sdv run SCRIPT CERT CARD IMAGE [SCHEDULE] [--in FILE] [--out FILE] | sdv batch KIND REQUESTS"
 
 abbrev pub named_line : (words name : Text) → Text
 named_line words name = words ++ (name ++ 10 ∷ [])
@@ -103,6 +114,7 @@ fault_line (Script fault) = codes "script fault " ++ (kind_name fault.kind ++ (c
 fault_line (Certificate fault) = certificate_line fault
 fault_line (Refused fault) = refusal_line fault
 fault_line (Uncertified fault) = uncertified_line fault
+fault_line (Unserved fault) = named_line (codes "refused ") (block_fault_name fault)
 fault_line (Card fault) = named_line (codes "card fault ") (sim_fault_name fault)
 fault_line (Run fault) = named_line (codes "run fault ") (run_fault_name fault)
 fault_line Named = []
@@ -122,6 +134,7 @@ status_of (Script fault) = 1
 status_of (Certificate fault) = 1
 status_of (Refused fault) = 1
 status_of (Uncertified fault) = 1
+status_of (Unserved fault) = 1
 status_of (Card fault) = 1
 status_of (Run fault) = 1
 status_of Named = 1
@@ -156,6 +169,11 @@ fault_of_verify (verifies.Script fault) = Script fault
 fault_of_verify (verifies.Certificate fault) = Certificate fault
 fault_of_verify (verifies.Check fault) = Refused fault
 fault_of_verify verifies.Memory = Memory
+
+-- requests that no script serves
+abbrev pub fault_of_block : BlockFault → Fault
+fault_of_block blocks.Memory = Memory
+fault_of_block fault = Unserved fault
 
 -- cards that there are not
 abbrev pub fault_of_card : SimFault → Fault

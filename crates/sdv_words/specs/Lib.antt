@@ -3,6 +3,7 @@ pub mod Number
 pub mod FrameText
 pub mod Fault
 pub mod Check
+pub mod BatchWords
 pub mod Certify
 pub mod Files
 pub mod Run

@@ -4,10 +4,11 @@ ghost use Rattle.std.specs.Int.{w64, to_be_bytes};
 ghost use Rattle.hex.specs.Hex.{encode_lower};
 ghost use Rattle.sdv_text.specs.Written.{Writes};
 ghost use Rattle.sdv_words.specs.Fault.{Says, certificate_line, fault_line, illegal_line, kind_name, numbered_line, plain_line};
-ghost use Rattle.sdv_words.specs.Fault.{named_line, refusal_line, run_fault_name, sim_fault_name, status_of, uncertified_line};
+ghost use Rattle.sdv_words.specs.Fault.{block_fault_name, named_line, refusal_line, run_fault_name, sim_fault_name, status_of, uncertified_line};
 
 use crate::line::{LineFault, USAGE};
 use itoa::Buffer;
+use sdv_block::BlockFault;
 use sdv_card::Shape;
 use sdv_certify::CertifyFault;
 use sdv_check::{CertFault, CheckFault, VerifyFault};
@@ -33,6 +34,8 @@ pub enum Fault<'a> {
     Refused(CheckFault),
     /// The script has no certificate.
     Uncertified(CertifyFault),
+    /// There is no script that serves the requests.
+    Unserved(BlockFault),
     /// There is no simulated card by the description, the schedule and the image.
     Card(SimFault),
     /// The run of a script stopped before its end.
@@ -99,6 +102,19 @@ impl<'a> From<VerifyFault> for Fault<'a> {
     }
 }
 
+impl<'a> From<BlockFault> for Fault<'a> {
+    ghost use Rattle.sdv_words.specs.Fault.{fault_of_block};
+
+    ghost from_gives = { λ fault f. f ≡ fault_of_block fault };
+
+    fn from(fault: BlockFault) -> Fault<'a> {
+        match fault {
+            BlockFault::Memory => Fault::Memory,
+            _ => Fault::Unserved(fault),
+        }
+    }
+}
+
 impl<'a> From<SimFault> for Fault<'a> {
     ghost use Rattle.sdv_words.specs.Fault.{fault_of_card};
 
@@ -143,7 +159,7 @@ impl<'a> Fault<'a> {
         match self {
             Fault::Script(_) | Fault::Certificate(_) | Fault::Refused(_) | Fault::Uncertified(_) =>
                 1,
-            Fault::Card(_) | Fault::Run(_) | Fault::Named => 1,
+            Fault::Unserved(_) | Fault::Card(_) | Fault::Run(_) | Fault::Named => 1,
             Fault::Usage | Fault::File(_) | Fault::Output => 2,
             Fault::Memory => 3,
         }
@@ -164,6 +180,7 @@ impl<'a> Fault<'a> {
             Fault::Certificate(fault) => say_certificate(fault, err),
             Fault::Refused(fault) => say_refusal(fault, err),
             Fault::Uncertified(fault) => say_uncertified(fault, err),
+            Fault::Unserved(fault) => say_named("refused ", block_fault_name(fault), err),
             Fault::Card(fault) => say_named("card fault ", sim_fault_name(fault), err),
             Fault::Run(fault) => say_named("run fault ", run_fault_name(fault), err),
             Fault::Named | Fault::Output => Ok(()),
@@ -195,6 +212,20 @@ fn kind_name(kind: FaultKind) -> &'static str
         FaultKind::Limit => "Limit",
         FaultKind::NoEnd => "NoEnd",
         FaultKind::Memory => "Memory",
+    }
+}
+
+fn block_fault_name(fault: BlockFault) -> &'static str
+    ensures { result.now ≡ block_fault_name fault }
+{
+    match fault {
+        BlockFault::Empty => "Empty",
+        BlockFault::Range => "Range",
+        BlockFault::Limit => "Limit",
+        BlockFault::Certify(_) => "Certify",
+        BlockFault::Verify(_) => "Verify",
+        BlockFault::Run(_) => "Run",
+        BlockFault::Memory => "Memory",
     }
 }
 

@@ -4,6 +4,7 @@
 //! says what is answered.
 #![tactic(auto)]
 
+pub mod batch;
 pub mod certify;
 pub mod check;
 pub mod fault;

@@ -6,6 +6,7 @@ ghost use Rattle.clap.specs.Words.{app_of, fault_of, found_of, kind_of, rows_of}
 ghost use Rattle.clap.specs.Words.{subcommand_rows_of, takes};
 ghost use Rattle.clap.specs.Walk.{texts};
 ghost use Rattle.clap.specs.declared.error.kind.ErrorKind.TheVariants.{OutOfMemory};
+ghost use Rattle.sdv_words.specs.CommandLine.{batch_command, batch_request};
 ghost use Rattle.sdv_words.specs.CommandLine.{certify_command, certify_request, check_command, check_request, command_line};
 ghost use Rattle.sdv_words.specs.CommandLine.{frame_command, frame_request, meaning_of, request_in, request_of};
 ghost use Rattle.sdv_words.specs.CommandLine.{run_command, run_files_command, run_request};
@@ -17,7 +18,7 @@ use thiserror::Error;
 
 /// How the program is called.
 pub const USAGE: &str =
-    "usage: sdv frame INDEX ARG | sdv certify SCRIPT | sdv check SCRIPT CERT | sdv run SCRIPT CERT CARD IMAGE [SCHEDULE] [--in FILE] [--out FILE]";
+    "usage: sdv frame INDEX ARG | sdv certify SCRIPT | sdv check SCRIPT CERT | sdv run SCRIPT CERT CARD IMAGE [SCHEDULE] [--in FILE] [--out FILE] | sdv batch KIND REQUESTS";
 
 /// A command of the program, with the texts of its words.
 #[derive(Clone, Copy, Debug, PartialEq, Eq)]
@@ -35,6 +36,11 @@ pub enum Line<'a> {
     Check {
         script: &'a str,
         certificate: &'a str,
+    },
+    /// The script that serves these requests to a card of this kind.
+    Batch {
+        kind: &'a str,
+        requests: &'a str,
     },
     /// The run of the script in these files beside a simulated card.
     Run(RunFiles<'a>),
@@ -112,7 +118,8 @@ fn program_command<'a>(alloc: Global) -> Result<Command<'a>, AllocError>
         .subcommand(frame_command(alloc)?)?
         .subcommand(certify_command(alloc)?)?
         .subcommand(check_command(alloc)?)?
-        .subcommand(run_command(alloc)?)
+        .subcommand(run_command(alloc)?)?
+        .subcommand(batch_command(alloc)?)
 }
 
 fn frame_command<'a>(alloc: Global) -> Result<Command<'a>, AllocError>
@@ -136,6 +143,14 @@ fn check_command<'a>(alloc: Global) -> Result<Command<'a>, AllocError>
     let script = Arg::new(alloc, "SCRIPT").required(true);
     let certificate = Arg::new(alloc, "CERT").required(true);
     Command::new(alloc, "check").arg(script)?.arg(certificate)
+}
+
+fn batch_command<'a>(alloc: Global) -> Result<Command<'a>, AllocError>
+    ensures { IfOk result (λ command. app_of command ≡ batch_command) }
+{
+    let kind = Arg::new(alloc, "KIND").required(true);
+    let requests = Arg::new(alloc, "REQUESTS").required(true);
+    Command::new(alloc, "batch").arg(kind)?.arg(requests)
 }
 
 fn run_command<'a>(alloc: Global) -> Result<Command<'a>, AllocError>
@@ -172,6 +187,7 @@ fn line_in<'a>(matches: &ArgMatches<'a>) -> Option<Line<'a>>
         ("certify", matches) => certify_line(matches),
         ("check", matches) => check_line(matches),
         ("run", matches) => run_line(matches),
+        ("batch", matches) => batch_line(matches),
         _ => None,
     }
 }
@@ -200,6 +216,14 @@ fn check_line<'a>(matches: &ArgMatches<'a>) -> Option<Line<'a>>
         script,
         certificate,
     })
+}
+
+fn batch_line<'a>(matches: &ArgMatches<'a>) -> Option<Line<'a>>
+    ensures { option_map request_of result ≡ batch_request (rows_of (found_of matches.now)) }
+{
+    let kind = matches.get_str("KIND")?;
+    let requests = matches.get_str("REQUESTS")?;
+    Some(Line::Batch { kind, requests })
 }
 
 fn run_line<'a>(matches: &ArgMatches<'a>) -> Option<Line<'a>>

@@ -9,6 +9,7 @@ ghost use Rattle.sdv_words.specs.Fault.{status_of};
 ghost use Rattle.sdv_words.specs.Number.{Writes};
 ghost use Rattle.sdv_frames.specs.declared.command.Command.{Command};
 
+use crate::batch::print_batch;
 use crate::certify::certify_file;
 use crate::check::check_files;
 use crate::fault::Fault;
@@ -74,6 +75,7 @@ pub fn answer<'a, S: Store, O: Write>(
             certificate,
         } => check_files(alloc, files, script, certificate, out),
         Line::Run(names) => run_files(alloc, files, names, out),
+        Line::Batch { kind, requests } => print_batch(alloc, kind, requests, out),
     }
 }
 
