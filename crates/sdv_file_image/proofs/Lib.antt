@@ -1,0 +1,7 @@
+mod CleanLaws
+mod FindLaws
+mod HoldLaws
+mod ImageLaws
+mod ShownLaws
+mod SoundLaws
+mod WriteLaws

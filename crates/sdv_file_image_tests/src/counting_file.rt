@@ -1,0 +1,70 @@
+//! A file in memory that counts what is done to it.
+
+ghost use Rattle.std.specs.Prelude.{None, ◌^◌, ◌-◌};
+
+use sdv_file_image::BlockFile;
+use sdv_image::{Image, ImageFault, MemImage, SimFault};
+use std::alloc::Global;
+use std::test::Fail;
+
+/// Blocks in memory, how many were read and written, and which write fails, counted from 1. It claims nothing of its
+/// blocks, and its count of failures stands at its greatest.
+#[derive(Debug, Drop)]
+pub struct CountingFile {
+    pub image: MemImage,
+    pub bytes: u64,
+    pub reads: u64,
+    pub writes: u64,
+    pub fails_at: u64,
+}
+
+impl CountingFile {
+    /// A file of so many bytes, all zero.
+    pub fn new(alloc: Global, bytes: u64) -> Result<CountingFile, Fail> {
+        let mut zeros = Vec::new(alloc);
+        for _ in 0..bytes / 512 {
+            for _ in 0..512 {
+                zeros.push(0)?;
+            }
+        }
+        Ok(CountingFile {
+            image: MemImage::from_bytes(zeros)?,
+            bytes,
+            reads: 0,
+            writes: 0,
+            fails_at: 0,
+        })
+    }
+}
+
+impl BlockFile for CountingFile {
+    ghost byte_count = { λ file. file.bytes };
+
+    ghost blocks = { λ _. None };
+
+    ghost failed = { λ _. 2 ^ 64 - 1 };
+
+    fn bytes(&self) -> u64 {
+        self.bytes
+    }
+
+    fn read_at(&mut self, place: u64, block: &mut [u8; 512]) -> Result<(), ImageFault> {
+        self.reads = self.reads.saturating_add(1);
+        if place < self.image.len() {
+            return self.image.read_block(place, block);
+        }
+        Err(ImageFault)
+    }
+
+    fn write_at(&mut self, place: u64, block: &[u8; 512]) -> Result<(), ImageFault> {
+        self.writes = self.writes.saturating_add(1);
+        if place < self.image.len() && self.writes != self.fails_at {
+            return self.image.write_block(place, block);
+        }
+        Err(ImageFault)
+    }
+
+    fn failures(&self) -> u64 {
+        u64::MAX
+    }
+}

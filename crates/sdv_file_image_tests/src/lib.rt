@@ -1,0 +1,10 @@
+//! Tests of images over files: how often they read and write the file, which buffer they give up, and what they keep where
+//! the file fails.
+//!
+//! The crate has no code of its own.
+#![tactic(auto)]
+
+#[cfg(test)]
+mod counting_file;
+#[cfg(test)]
+mod file_image;
