@@ -1,5 +1,5 @@
 -- THE THEOREM: a walk of a batch's script beside a card of the profile does what a plain disk does.
-use Rattle.std.proofs.Common.{◌≡◌, ℕ, ◌≤◌, inl, inr, refl, sym, ◌∙◌, subst, true, false, List, [], ◌++◌}
+use Rattle.std.proofs.Common.{◌≡◌, ℕ, inl, inr, refl, sym, ◌∙◌, subst, true, false, List, [], ◌++◌}
 use Rattle.std.specs.Prelude.{◌⊎◌, codes}
 use Rattle.sdv_registers.specs.declared.kind.Kind.{Kind}
 use Rattle.sdv_card.specs.Card.{Card, Block}

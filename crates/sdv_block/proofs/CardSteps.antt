@@ -1,5 +1,5 @@
 -- What the steps of a card say that reads and writes make.
-use Rattle.std.proofs.Common.{◌≡◌, ℕ, zero, suc, ◌/◌, inl, inr, refl, sym, ap, ◌∙◌, subst, Bool, true, false, not, List, Option, Some, None, ◌==◌, eqb-true, eq-eqb}
+use Rattle.std.proofs.Common.{◌≡◌, ℕ, zero, suc, ◌/◌, inl, inr, refl, sym, ap, ◌∙◌, subst, Bool, true, false, not, List, Some, None, ◌==◌, eqb-true, eq-eqb}
 use Rattle.std.specs.Prelude.{IsTrue, bit_and, ◌&&◌}
 use Rattle.std.proofs.lemmas.Nat.{and_assoc}
 use Rattle.std.specs.Int.Bits.{and_zero_l}

@@ -1,5 +1,5 @@
 -- A text that grows line by line towards the text of all its requests.
-use Rattle.std.proofs.Common.{◌≡◌, ℕ, zero, suc, ◌+◌, ◌-◌, ◌<◌, ◌≤◌, refl, sym, ap, ◌∙◌, subst, arith, List, [], ◌∷◌, ◌++◌, length, length-append, append_assoc, append-nil, drop}
+use Rattle.std.proofs.Common.{◌≡◌, ℕ, zero, suc, ◌+◌, ◌<◌, ◌≤◌, refl, sym, ap, ◌∙◌, subst, arith, List, [], ◌∷◌, ◌++◌, length, length-append, append_assoc, append-nil, drop}
 use Rattle.std.specs.Prelude.{codes, Err}
 use Rattle.std.proofs.lemmas.List.{drop_all}
 use Rattle.sdv_registers.specs.declared.kind.Kind.{Kind}

@@ -16,7 +16,7 @@ use Rattle.sdv_script.specs.Tokens.{Token, Key, Number, tokens, first_tokens, af
 use Rattle.sdv_graph.specs.Tree.{Statement, Statements, nothing, first, send, phase}
 use Rattle.sdv_block.specs.declared.request.Request.{Request}
 use Rattle.sdv_block.specs.declared.request.Request.TheVariants.{Read, Write}
-use Rattle.sdv_block.specs.BatchText.{line, line_with, counted_line, card_text, ready_text, capacity_text, select_text, bring_up_text, single_read_text, multiple_read_text, settle_text, single_write_text, multiple_write_text, request_text, requests_text, batch_text}
+use Rattle.sdv_block.specs.BatchText.{line, line_with, counted_line, card_text, ready_text, capacity_text, select_text, bring_up_text, settle_text, request_text, requests_text, batch_text}
 use Rattle.sdv_block.specs.RequestStatements.{address_of, read_command, write_command, stop_command, status_command, only_if, fails, poll_statement, wait_statement, settle_statements, read_statements, write_statements, batch_statements}
 use Rattle.sdv_block.specs.BringUpStatements.{batch_names, plain, sends_anyway, until_ready, app_statement, op_cond_statement, ready_statements, select_statements, capacity_statement, bring_up, capacity_test, batch_body}
 use Rattle.sdv_block.proofs.NumberTokens.{number_tokens, no_comment_decimal}

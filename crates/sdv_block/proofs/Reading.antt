@@ -1,11 +1,11 @@
 -- A READ beside a card: the walk halts with the card's blocks as they were, or goes on with the blocks read.
-use Rattle.std.proofs.Common.{◌≡◌, ℕ, ◌+◌, ◌≤◌, inl, inr, refl, sym, ap, ◌∙◌, subst, List, [], ◌∷◌, ◌++◌, take, drop, length, append-nil}
+use Rattle.std.proofs.Common.{◌≡◌, ℕ, ◌+◌, ◌≤◌, inl, inr, refl, sym, ap, ◌∙◌, List, [], ◌∷◌, ◌++◌, take, drop, append-nil}
 use Rattle.std.specs.Prelude.{◌⊎◌, codes}
 use Rattle.sdv_registers.specs.declared.kind.Kind.{Kind}
 use Rattle.sdv_card.specs.declared.answer.DataEnd.{DataEnd}
 use Rattle.sdv_card.specs.declared.answer.DataEnd.TheVariants.{Ok, Cut}
 use Rattle.sdv_card.specs.declared.guard.Guard.TheVariants.{Clean}
-use Rattle.sdv_card.specs.Card.{Card, Block, AreBlocks}
+use Rattle.sdv_card.specs.Card.{Card, Block}
 use Rattle.sdv_card.specs.Host.{Host, host_after}
 use Rattle.sdv_card.specs.Phases.{Moved}
 use Rattle.sdv_card.specs.ScriptEvent.{ReceiveBlocks, Return, BlocksIn}
@@ -21,7 +21,7 @@ use Rattle.sdv_block.specs.Served.{AllowedSteps, IsEarly, blocks_read}
 use Rattle.sdv_block.proofs.Addresses.{position_is, named, named_within}
 use Rattle.sdv_block.proofs.Asking.{Asked, asked_part}
 use Rattle.sdv_block.proofs.CardSteps.{Begun, read_begun, read_keeps, read_within}
-use Rattle.sdv_block.proofs.Quiet.{Quiet, HaltedQuiet, halted_later, halted_here, at_rest, same_blocks, blocks_read-append, gave_none}
+use Rattle.sdv_block.proofs.Quiet.{HaltedQuiet, halted_later, halted_here, at_rest, blocks_read-append, gave_none}
 use Rattle.sdv_block.proofs.Parts.{Halts, halts_in_fault, Acted, made, argument_at, after_phase, phase_part, Past, past_both}
 use Rattle.sdv_block.proofs.Stopping.{QuietOutcome, stop_reading_part}
 

@@ -1,6 +1,6 @@
 -- A BATCH beside a card does what a plain disk does.
 use Rattle.std.proofs.Common.{◌≡◌, ℕ, ◌+◌, inl, inr, refl, sym, ap, ◌∙◌, subst, arith, true, false, List, [], ◌∷◌, ◌++◌, take, drop, ◌≤◌, length, length-append, append-nil, append_assoc}
-use Rattle.std.specs.Prelude.{◌⊎◌, ◌&&◌, nat_le, slice_get}
+use Rattle.std.specs.Prelude.{◌⊎◌, slice_get}
 use Rattle.std.proofs.lemmas.Bool.{le-leb}
 use Rattle.sdv_registers.specs.declared.kind.Kind.{Kind}
 use Rattle.sdv_card.specs.Card.{Card, Block, AreBlocks}

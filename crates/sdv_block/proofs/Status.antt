@@ -1,5 +1,5 @@
 -- THE STATUS after a write: the walk halts, or no error is left to be shown.
-use Rattle.std.proofs.Common.{◌≡◌, ℕ, inl, inr, refl, false, List, [], ◌∷◌}
+use Rattle.std.proofs.Common.{◌≡◌, inl, inr, refl, false, List, [], ◌∷◌}
 use Rattle.std.specs.Prelude.{◌⊎◌, codes}
 use Rattle.sdv_registers.specs.declared.kind.Kind.{Kind}
 use Rattle.sdv_card.specs.declared.guard.Guard.{Guard}

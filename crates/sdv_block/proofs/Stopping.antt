@@ -1,5 +1,5 @@
 -- STOPPING a transfer of several blocks: the walk halts, or goes on with the card's blocks as they were.
-use Rattle.std.proofs.Common.{◌≡◌, ℕ, zero, suc, inl, inr, refl, Bool, true, false, List, [], ◌∷◌, ◌++◌}
+use Rattle.std.proofs.Common.{◌≡◌, ℕ, zero, suc, inl, inr, refl, Bool, true, false, List, [], ◌∷◌}
 use Rattle.std.specs.Prelude.{◌⊎◌, codes}
 use Rattle.sdv_registers.specs.declared.kind.Kind.{Kind}
 use Rattle.sdv_card.specs.declared.guard.Guard.{Guard}

@@ -19,7 +19,7 @@ use Rattle.sdv_block.proofs.Addresses.{position_is, named, named_within}
 use Rattle.sdv_block.proofs.Asking.{Asked, asked_part}
 use Rattle.sdv_block.proofs.CardSteps.{Begun, write_begun, write_keeps, write_within}
 use Rattle.sdv_block.proofs.Parts.{argument_at, Past, past_both}
-use Rattle.sdv_block.proofs.Quiet.{Quiet, quiet_both, HaltedQuiet, halted_later, read_none, given-append}
+use Rattle.sdv_block.proofs.Quiet.{quiet_both, HaltedQuiet, halted_later, read_none, given-append}
 use Rattle.sdv_block.proofs.Giving.{SameBut, rebuilt, same_but_then, Gave, HaltedWriting, halted_quietly, give_part}
 use Rattle.sdv_block.proofs.Status.{ShownClean, status_part}
 use Rattle.sdv_block.proofs.Stopping.{stop_writing_part}
