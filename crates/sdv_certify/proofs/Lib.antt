@@ -36,3 +36,4 @@ pub mod FewestLaws
 pub mod JoinLaws
 pub mod MergeLaws
 pub mod SortLaws
+pub mod SurveyLaws
