@@ -1,0 +1,4 @@
+pub mod Edge
+pub mod Way
+pub mod Found
+pub mod Laws
