@@ -1,13 +1,25 @@
 //! Why a script is refused, and what is known at each of its points, in words.
 //!
-//! Begin at `find_way`, and at `specs/Way.antt`, which says what a way through the graph of a script is.
+//! Begin at `explain`. The way to a shape that it tells is proved: `find_way` finds it, and `specs/Way.antt` says what a
+//! way through the graph of a script is. What the texts say no clause claims.
 #![tactic(auto)]
 
 mod edges;
+mod explaining;
+mod fault;
 mod found;
 pub mod laws;
+mod outline;
+mod listing;
+mod reason;
+mod refusal;
+mod shapes;
+mod statements;
+mod text;
 mod visit;
 mod way;
 
+pub use explaining::{Explanation, Refusal, explain};
+pub use fault::ExplainFault;
 pub use visit::Visit;
 pub use way::find_way;

@@ -1,0 +1,68 @@
+-- What is explained of a text: whether it is the text of a script that is refused, and the way to the point that is.
+use Rattle.std.specs.Prelude.{◌≡◌, ◌⊎◌, ℕ, List, [], IfSome, None}
+use Rattle.sdv_card.specs.declared.shape.Shape.{Shape}
+use Rattle.sdv_script.specs.declared.fault.FaultKind.{FaultKind}
+use Rattle.sdv_script.specs.declared.fault.FaultKind.TheVariants as kinds
+use Rattle.sdv_script.specs.declared.fault.ScriptFault.{ScriptFault}
+use Rattle.sdv_script.specs.declared.script.Script.{Script as Tree}
+use Rattle.sdv_script.specs.Script.{IsScript}
+use Rattle.sdv_script.specs.Shown.{shown}
+use Rattle.sdv_graph.specs.Graph.{Flow}
+use Rattle.sdv_graph.specs.GraphOf.{IsGraphOf}
+use Rattle.sdv_facts.specs.declared.certificate.PointFacts.{PointFacts}
+use Rattle.sdv_certify.specs.declared.fault.CertifyFault.{CertifyFault}
+use Rattle.sdv_certify.specs.declared.fault.CertifyFault.TheVariants as certifies
+use Rattle.sdv_certify.specs.Assembled.{CertificateOf, SurveyOf, RefusedFor}
+use Rattle.sdv_explain.specs.declared.explaining.Explanation.{Explanation}
+use Rattle.sdv_explain.specs.declared.explaining.Refusal.{Refusal}
+use Rattle.sdv_explain.specs.declared.fault.ExplainFault.{ExplainFault}
+use Rattle.sdv_explain.specs.declared.fault.ExplainFault.TheVariants.{Script, Memory}
+use Rattle.sdv_explain.specs.declared.visit.Visit.{Visit}
+use Rattle.sdv_explain.specs.Way.{IsWay}
+
+-- want of memory says nothing of the text
+abbrev pub fault_of_script : FaultKind → ScriptFault → ExplainFault
+fault_of_script kinds.Memory fault = Memory
+fault_of_script kind fault = Script fault
+
+-- the point that a refusal names
+abbrev pub NamesPoint : CertifyFault → (point : ℕ) → Type 0
+NamesPoint (certifies.Illegal number shape) point = number ≡ point
+NamesPoint (certifies.Address number) point = number ≡ point
+NamesPoint (certifies.EndState number) point = number ≡ point
+NamesPoint certifies.TooMany point = ⊥
+NamesPoint certifies.Memory point = ⊥
+
+-- the shape, where it names one
+abbrev pub NamesShape : CertifyFault → Shape → Type 0
+NamesShape (certifies.Illegal number shape) other = shape ≡ other
+NamesShape fault other = Unit {0}
+
+-- the way leads to the point that a refusal names, by what is known of the points
+pub record LeadsThere (g : Flow) (ps : List PointFacts) (fault : CertifyFault) (way : List Visit) : Type 0 where
+  pub point : ℕ
+  pub named : NamesPoint fault point
+  pub shape : Shape
+  pub with_shape : NamesShape fault shape
+  pub is_way : IsWay g ps way point shape
+
+-- so does the way of a refusal, which is empty where none was found
+abbrev pub HasWay : Flow → List PointFacts → Refusal → Type 0
+HasWay g ps refusal = (refusal.way.items ≡ []) ⊎ LeadsThere g ps refusal.fault refusal.way.items
+
+-- a script is refused so
+pub record IsRefusal (s : Tree) (refusal : Refusal) : Type 0 where
+  pub refused : RefusedFor s refusal.fault
+  pub graph : Flow
+  pub is_graph : IsGraphOf (shown s).names (shown s).body graph
+  pub points : List PointFacts
+  pub survey : SurveyOf s points
+  pub way : HasWay graph points refusal
+
+-- the text is that of a script: one that has a certificate, or one that is refused so
+pub record Explains (text : List ℕ) (explanation : Explanation) : Type 0 where
+  pub script : Tree
+  pub same : (shown script).text ≡ text
+  pub is_script : IsScript (shown script)
+  pub certified : explanation.refusal ≡ None → (ps : List PointFacts) × CertificateOf script ps
+  pub refused : IfSome explanation.refusal (IsRefusal script)

@@ -1,0 +1,173 @@
+//! The explanation of a script.
+
+ghost use Rattle.std.specs.Prelude.{◌≡◌, [], ◌⊎◌, IfOk, IfSome, None, ℕ, List};
+ghost use Rattle.sdv_graph.specs.Graph.{Flow};
+ghost use Rattle.sdv_graph.specs.GraphOf.{IsGraphOf};
+ghost use Rattle.sdv_facts.specs.declared.certificate.PointFacts.{PointFacts};
+ghost use Rattle.sdv_script.specs.Shown.{shown};
+ghost use Rattle.sdv_certify.specs.Assembled.{CertificateOf, SurveyOf};
+ghost use Rattle.sdv_explain.specs.Explained.{Explains, HasWay, IsRefusal, LeadsThere, NamesPoint};
+ghost use Rattle.sdv_explain.specs.Way.{IsWay};
+
+use crate::fault::ExplainFault;
+use crate::listing::put_listing;
+use crate::outline::Outline;
+use crate::refusal::{put_refusal, put_way, refused_shape};
+use crate::text::Text;
+use crate::visit::Visit;
+use crate::way::find_way;
+use sdv_card::Shape;
+use sdv_certify::{CertifyFault, certify, survey};
+use sdv_facts::{Certificate, PointFacts};
+use sdv_graph::Graph;
+use sdv_script::{Script, parse};
+use std::alloc::{AllocError, Global};
+
+/// Why a script has no certificate, with a way to the point that is refused.
+#[derive(Drop)]
+pub struct Refusal {
+    /// What `certify` answers.
+    pub fault: CertifyFault,
+    /// A shortest way to a shape of the point that is refused; empty where none was found.
+    pub way: Vec<Visit>,
+}
+
+/// What is explained of a script.
+#[derive(Drop)]
+pub struct Explanation {
+    /// What is known at each point, and why the script is refused where it is, in words.
+    pub text: Vec<u8>,
+    /// Why the script is refused, if it is.
+    pub refusal: Option<Refusal>,
+}
+
+/// What is known at each point of a script, by its text, and why the script is refused where it is.
+///
+/// # Errors
+///
+/// [`ExplainFault::Script`] where the text is no script, [`ExplainFault::TooMany`] where what is known is too much, and
+/// [`ExplainFault::Memory`].
+pub fn explain(alloc: Global, text: &str) -> Result<Explanation, ExplainFault>
+    ensures { IfOk result (Explains text.entry.now) }
+{
+    let script = parse(alloc, text)?;
+    let known = known_of(alloc, &script)?;
+    let explanation = explain_script(alloc, text, &script, known.points())?;
+    Ok(explanation)
+}
+
+/// What is known at each point of a script.
+fn known_of(alloc: Global, script: &Script<'_>) -> Result<Certificate, ExplainFault>
+    ensures { IfOk result (SurveyOf script.now) }
+{
+    match survey(alloc, script) {
+        Ok(known) => Ok(known),
+        Err(CertifyFault::Memory) => Err(ExplainFault::Memory),
+        Err(_) => Err(ExplainFault::TooMany),
+    }
+}
+
+/// The same of a script of which this is known.
+fn explain_script(
+    alloc: Global,
+    text: &str,
+    script: &Script<'_>,
+    points: &[PointFacts],
+) -> Result<Explanation, ExplainFault>
+    requires { SurveyOf script.now points.now }
+    ensures certified { IfOk result (λ e. e.refusal ≡ None → (ps : List PointFacts) × CertificateOf script.now ps) }
+    ensures refused { IfOk result (λ e. IfSome e.refusal (IsRefusal script.now)) }
+{
+    let graph = script.graph(alloc)?;
+    let outline = Outline::read(alloc, text.as_bytes())?;
+    let mut words = Vec::new(alloc);
+    put_listing(alloc, &mut words, &graph, points, &outline)?;
+    match certify(alloc, script) {
+        Ok(_) => Ok(Explanation {
+            text: words,
+            refusal: None,
+        }),
+        Err(CertifyFault::Memory) => Err(ExplainFault::Memory),
+        Err(fault) => {
+            let refusal = refuse(alloc, &mut words, &graph, points, &outline, fault)?;
+            Ok(Explanation {
+                text: words,
+                refusal: Some(refusal),
+            })
+        }
+    }
+}
+
+/// The point that a refusal names.
+fn refused_point(fault: CertifyFault) -> Option<usize>
+    ensures { IfSome result (NamesPoint fault) }
+{
+    match fault {
+        CertifyFault::Illegal { point, .. }
+        | CertifyFault::Address { point }
+        | CertifyFault::EndState { point } => Some(point),
+        CertifyFault::TooMany | CertifyFault::Memory => None,
+    }
+}
+
+/// The refusal by a fault, whose words are added.
+fn refuse(
+    alloc: Global,
+    words: &mut Text,
+    graph: &Graph<'_>,
+    points: &[PointFacts],
+    outline: &Outline<'_>,
+    fault: CertifyFault,
+) -> Result<Refusal, AllocError>
+    ensures fault { IfOk result (λ refusal. refusal.fault ≡ fault) }
+    ensures way { IfOk result (HasWay graph.now points.now) }
+{
+    let mut way = Vec::new(alloc);
+    if let Some(number) = refused_point(fault) {
+        way = refuse_point(alloc, words, graph, points, outline, fault, number)?;
+    }
+    Ok(Refusal { fault, way })
+}
+
+/// Adds the words of the refusal of a point, and answers a way to it.
+fn refuse_point(
+    alloc: Global,
+    words: &mut Text,
+    graph: &Graph<'_>,
+    points: &[PointFacts],
+    outline: &Outline<'_>,
+    fault: CertifyFault,
+    number: usize,
+) -> Result<Vec<Visit>, AllocError>
+    requires { NamesPoint fault number }
+    ensures { IfOk result (λ way. (way.items ≡ []) ⊎ LeadsThere graph.now points.now fault way.items) }
+{
+    if graph.len() <= number || points.len() <= number {
+        return Ok(Vec::new(alloc));
+    }
+    let known = &points[number];
+    let Some(shape) = refused_shape(fault, &graph.point(number).action, &known.facts) else {
+        return Ok(Vec::new(alloc));
+    };
+    put_refusal(words, graph, outline, fault, number, known, shape)?;
+    let way = way_or_none(alloc, graph, points, number, shape)?;
+    put_way(words, graph, outline, &way)?;
+    Ok(way)
+}
+
+/// A way to a shape of a point; an empty one where none was found.
+fn way_or_none(
+    alloc: Global,
+    graph: &Graph<'_>,
+    points: &[PointFacts],
+    number: usize,
+    shape: Shape,
+) -> Result<Vec<Visit>, AllocError>
+    ensures { IfOk result (λ way. (way.items ≡ []) ⊎ IsWay graph.now points.now way.items number shape) }
+{
+    let way = match find_way(alloc, graph, points, number, shape)? {
+        Some(way) => way,
+        None => Vec::new(alloc),
+    };
+    Ok(way)
+}

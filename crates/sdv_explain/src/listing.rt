@@ -1,0 +1,108 @@
+//! The listing: what is known at each point of a script.
+
+use crate::outline::Outline;
+use crate::shapes::put_shapes;
+use crate::statements::put_statement;
+use crate::text::{Text, put, put_number, put_numbered};
+use sdv_facts::{MAX_NUMBER, Numbers, PointFacts, VarFacts};
+use sdv_graph::{Action, Graph};
+use std::alloc::{AllocError, Global};
+
+/// Adds the place of a point: its line, its number, and its statement's first words.
+pub fn put_place(
+    text: &mut Text,
+    number: usize,
+    action: &Action<'_>,
+    outline: &Outline,
+) -> Result<(), AllocError> {
+    put_numbered(text, "line ", outline.line(number) as u64, ", point ")?;
+    put_numbered(text, "", number as u64, ": ")?;
+    put_statement(text, action, outline)
+}
+
+/// Adds what each turn left of a loop adds to a bound: of the loop in this place from the outside, of so many.
+fn put_turn(text: &mut Text, cost: u64, place: usize, loops: usize) -> Result<(), AllocError> {
+    put_numbered(text, " + ", cost, " a turn")?;
+    if loops > 1 {
+        put_numbered(text, " of loop ", place as u64, " of ")?;
+        put_number(text, loops as u64)?;
+    }
+    Ok(())
+}
+
+/// Adds how many commands are sent from a point on.
+fn put_bound(text: &mut Text, facts: &PointFacts) -> Result<(), AllocError> {
+    put_numbered(text, "   (at most ", facts.base, " commands")?;
+    let loops = facts.turns.len();
+    let mut place = 0usize;
+    for cost in facts.turns.as_slice() {
+        place = place.saturating_add(1);
+        put_turn(text, *cost, place, loops)?;
+    }
+    put(text, ")\n")
+}
+
+/// Adds what is known of the value of a number variable.
+fn put_value(text: &mut Text, known: &VarFacts) -> Result<(), AllocError> {
+    if known.lo == known.hi {
+        put_numbered(text, " is ", known.lo, "")?;
+    } else if known.lo == 0 && known.hi >= MAX_NUMBER {
+        put(text, " is any number")?;
+    } else {
+        put_numbered(text, " is from ", known.lo, " to ")?;
+        put_number(text, known.hi)?;
+    }
+    match known.gap {
+        Some(gap) => put_numbered(text, ", with ", gap, " blocks or more from there on"),
+        None => Ok(()),
+    }
+}
+
+/// Adds what is known of number variables, where the script has some.
+pub fn put_numbers(text: &mut Text, numbers: &Numbers, outline: &Outline) -> Result<(), AllocError> {
+    if numbers.vars.is_empty() {
+        return Ok(());
+    }
+    put_numbered(text, "    the card has ", numbers.m, " blocks or more")?;
+    for (known, name) in numbers.vars.as_slice().iter().zip(outline.numbers.iter()) {
+        put(text, "; ")?;
+        text.extend_from_slice(name)?;
+        put_value(text, known)?;
+    }
+    put(text, "\n")
+}
+
+/// Adds what is known at a point.
+fn put_point(
+    alloc: Global,
+    text: &mut Text,
+    number: usize,
+    action: &Action<'_>,
+    facts: &PointFacts,
+    outline: &Outline,
+) -> Result<(), AllocError> {
+    put_place(text, number, action, outline)?;
+    put_bound(text, facts)?;
+    if facts.facts.shapes().is_empty() {
+        return put(text, "    no run comes here\n");
+    }
+    put_shapes(alloc, text, facts.facts.shapes(), &outline.flags)?;
+    put_numbers(text, facts.facts.numbers(), outline)
+}
+
+/// Adds what is known at each point.
+pub fn put_listing(
+    alloc: Global,
+    text: &mut Text,
+    graph: &Graph<'_>,
+    points: &[PointFacts],
+    outline: &Outline,
+) -> Result<(), AllocError> {
+    for number in 0..graph.len() {
+        if let Some(facts) = points.get(number) {
+            let action = &graph.point(number).action;
+            put_point(alloc, text, number, action, facts, outline)?;
+        }
+    }
+    Ok(())
+}

@@ -1,0 +1,173 @@
+//! Why an event is not legal at a shape.
+
+ghost use Rattle.std.specs.Prelude.{◌≡◌, is_none};
+ghost use Rattle.sdv_card.specs.LegalShapes.{row_legal, settled_legal, order_legal, event_legal, legal_code};
+ghost use Rattle.sdv_card.specs.RowRules.{length_allows, erase_allows, preset_allows};
+ghost use Rattle.sdv_card.specs.Takes.{taken_as_of};
+
+use sdv_card::laws::{
+    Rows, give_legal, is_shape, order, own_target, recv_legal, recv_reg_legal, taken_as, wait_legal,
+};
+use sdv_card::{EraseStage, Event, Fields, Order, Row, Shape, State, TakenAs, Transfer};
+
+/// Why an event is not legal.
+#[derive(Clone, Copy, Debug, PartialEq, Eq)]
+pub enum Reason {
+    /// The number is no shape of a card.
+    NoCard,
+    /// The kind of card has no such command.
+    NoCommand,
+    /// The card takes the next command as an application command, and this is none.
+    NotForApplications,
+    /// The command is an application command, and the card does not take the next command as one.
+    OnlyForApplications,
+    /// The state table has no row for it in the state.
+    State(State),
+    /// The block length may not be 512.
+    BlockLength,
+    /// The erase sequence is not so far.
+    EraseSequence,
+    /// Another count is preset.
+    PresetCount(u16),
+    /// No read of blocks is due.
+    NoReadDue,
+    /// No register is due.
+    NoRegisterDue,
+    /// No write is due.
+    NoWriteDue,
+}
+
+/// Why an event is not legal, and whether that is so only after a step of the card's own.
+#[derive(Clone, Copy, Debug, PartialEq, Eq)]
+pub struct Illegality {
+    /// The reason.
+    pub reason: Reason,
+    /// The state to which the card went first.
+    pub after_step: Option<State>,
+}
+
+fn length_allows(row: Row, length_512: bool) -> bool
+    ensures { result ≡ length_allows row length_512 }
+{
+    match row {
+        Row::Cmd17 | Row::Cmd18 { .. } | Row::Cmd24 | Row::Cmd25 { .. } => length_512,
+        _ => true,
+    }
+}
+
+fn erase_allows(row: Row, erase: EraseStage) -> bool
+    ensures { result ≡ erase_allows row erase }
+{
+    match (row, erase) {
+        (Row::Cmd33 | Row::Cmd36, EraseStage::Begun) | (Row::Cmd38, EraseStage::Both) => true,
+        (Row::Cmd33 | Row::Cmd36 | Row::Cmd38, _) => false,
+        _ => true,
+    }
+}
+
+fn preset_allows(row: Row, preset: u16) -> bool
+    ensures { result ≡ preset_allows row preset }
+{
+    match row {
+        Row::Cmd18 { count } | Row::Cmd25 { count } => preset == 0 || preset == count,
+        _ => true,
+    }
+}
+
+/// Why a settled card does not take a row.
+fn row_reason<T: Rows>(row: Row, t: &Fields) -> Option<Reason>
+    ensures { is_none result ≡ row_legal T.kind row t.now }
+{
+    if T::next(row, t.state).is_none() {
+        return Some(Reason::State(t.state));
+    }
+    if !length_allows(row, t.length_512) {
+        return Some(Reason::BlockLength);
+    }
+    if !erase_allows(row, t.erase) {
+        return Some(Reason::EraseSequence);
+    }
+    if !preset_allows(row, t.preset) {
+        return Some(Reason::PresetCount(t.preset));
+    }
+    None
+}
+
+/// Why an order is not legal at a settled card.
+fn settled_reason<T: Rows>(order: Order, t: &Fields) -> Option<Reason>
+    ensures { is_none result ≡ settled_legal T.kind t.now (taken_as_of order t.now.app t.now.matched) }
+{
+    match taken_as(order, t.app, t.matched) {
+        TakenAs::Forbidden if t.app => Some(Reason::NotForApplications),
+        TakenAs::Forbidden => Some(Reason::OnlyForApplications),
+        TakenAs::Ignored => None,
+        TakenAs::By(row) => row_reason::<T>(row, t),
+    }
+}
+
+/// Why an order is not legal at a card, as it is or after its own step.
+fn order_reason<T: Rows>(order: Order, fields: &Fields) -> Option<Illegality>
+    ensures { is_none result ≡ order_legal T.kind order fields.now }
+{
+    if let Some(reason) = settled_reason::<T>(order, fields) {
+        return Some(Illegality {
+            reason,
+            after_step: None,
+        });
+    }
+    let Some(state) = own_target(fields.state, fields.transfer) else {
+        return None;
+    };
+    let after = Fields {
+        state,
+        transfer: Transfer::Nothing,
+        ..*fields
+    };
+    match settled_reason::<T>(order, &after) {
+        Some(reason) => Some(Illegality {
+            reason,
+            after_step: Some(state),
+        }),
+        None => None,
+    }
+}
+
+/// Why an event is not legal at a card.
+fn event_reason<T: Rows>(event: &Event, fields: &Fields) -> Option<Illegality>
+    ensures { is_none result ≡ event_legal T.kind event.now fields.now }
+{
+    let reason = match event {
+        Event::Send(ask) => match order(T::kind(), ask) {
+            Some(order) => return order_reason::<T>(order, fields),
+            None => Some(Reason::NoCommand),
+        },
+        Event::RecvBlocks if recv_legal(fields.state, fields.transfer) => None,
+        Event::RecvBlocks => Some(Reason::NoReadDue),
+        Event::RecvReg if recv_reg_legal(fields.state, fields.transfer) => None,
+        Event::RecvReg => Some(Reason::NoRegisterDue),
+        Event::Give if give_legal(fields.state, fields.transfer) => None,
+        Event::Give => Some(Reason::NoWriteDue),
+        Event::Wait if wait_legal(fields.state) => None,
+        Event::Wait => Some(Reason::State(fields.state)),
+    };
+    match reason {
+        Some(reason) => Some(Illegality {
+            reason,
+            after_step: None,
+        }),
+        None => None,
+    }
+}
+
+/// Why an event is not legal at a shape, if it is not.
+pub fn reason_of<T: Rows>(event: &Event, shape: Shape) -> Option<Illegality>
+    ensures { is_none result ≡ legal_code T.kind shape.0 event.now }
+{
+    match shape.decode() {
+        Some(fields) if is_shape(T::kind(), &fields) => event_reason::<T>(event, &fields),
+        _ => Some(Illegality {
+            reason: Reason::NoCard,
+            after_step: None,
+        }),
+    }
+}

@@ -1,0 +1,299 @@
+//! The refusal: which statement is refused beside which card, why, and a way there.
+
+ghost use Rattle.std.specs.Prelude.{IfSome};
+ghost use Rattle.sdv_explain.specs.Explained.{NamesShape};
+
+use crate::listing::{put_numbers, put_place};
+use crate::outline::Outline;
+use crate::reason::{Illegality, Reason, reason_of};
+use crate::shapes::{put_shape, state_word};
+use crate::statements::{put_address, put_seen, put_statement};
+use crate::text::{Text, pad, put, put_number, put_numbered};
+use crate::visit::Visit;
+use sdv_card::{Event, Kind, Shape};
+use sdv_certify::CertifyFault;
+use sdv_emmc::EmmcTable;
+use sdv_facts::{Facts, PointFacts, ends_at, event_of_phase, has_flag};
+use sdv_graph::{Action, Address, Change, Condition, Graph, Unit};
+use sdv_sd::SdTable;
+use std::alloc::AllocError;
+
+/// The unit of an address is that of the shape.
+fn fits_unit(unit: Unit, shape: Shape) -> bool {
+    let has_blocks = shape.0 / 1024 % 2 == 1;
+    match unit {
+        Unit::Block => has_blocks,
+        Unit::Byte => !has_blocks,
+        Unit::By(flag) => has_flag(shape, flag) == has_blocks,
+    }
+}
+
+/// The address of a statement's command, if it has one.
+fn address_of<'g>(action: &'g Action<'_>) -> Option<&'g Address> {
+    match action {
+        Action::Send(command, _, _) => command.address.as_ref(),
+        _ => None,
+    }
+}
+
+/// The first shape whose unit is another than that of the address.
+fn other_unit(unit: Unit, shapes: &[Shape]) -> Option<Shape> {
+    shapes
+        .iter()
+        .copied()
+        .find(|shape| !fits_unit(unit, *shape))
+}
+
+/// The first shape that is not in the transfer state at `done`.
+fn other_end(action: &Action<'_>, shapes: &[Shape]) -> Option<Shape> {
+    shapes
+        .iter()
+        .copied()
+        .find(|shape| !ends_at(action, *shape))
+}
+
+/// The first shape that an address does not fit: of another unit, or any where the capacity is not known.
+fn unaddressed(action: &Action<'_>, shapes: &[Shape]) -> Option<Shape> {
+    let odd = match address_of(action) {
+        Some(address) => other_unit(address.unit, shapes),
+        None => None,
+    };
+    match odd {
+        Some(shape) => Some(shape),
+        None => shapes.first().copied(),
+    }
+}
+
+/// A shape at which a point is refused.
+pub fn refused_shape(fault: CertifyFault, action: &Action<'_>, facts: &Facts) -> Option<Shape>
+    ensures { IfSome result (NamesShape fault) }
+{
+    match fault {
+        CertifyFault::Illegal { shape, .. } => Some(shape),
+        CertifyFault::Address { .. } => unaddressed(action, facts.shapes()),
+        CertifyFault::EndState { .. } => other_end(action, facts.shapes()),
+        CertifyFault::TooMany | CertifyFault::Memory => None,
+    }
+}
+
+/// The event of a statement, if it makes one.
+fn event_of(action: &Action<'_>) -> Option<Event> {
+    match action {
+        Action::Send(command, _, _) => Some(Event::Send(command.ask)),
+        Action::Phase(phase, _, _) => Some(event_of_phase(*phase)),
+        _ => None,
+    }
+}
+
+/// Why the event of a statement is not legal at a shape, by the table of the kind.
+fn illegality(kind: Kind, action: &Action<'_>, shape: Shape) -> Option<Illegality> {
+    let event = event_of(action)?;
+    match kind {
+        Kind::Sd => reason_of::<SdTable>(&event, shape),
+        Kind::Emmc => reason_of::<EmmcTable>(&event, shape),
+    }
+}
+
+fn reason_words(reason: Reason) -> &'static str {
+    match reason {
+        Reason::NoCard => "this is no card",
+        Reason::NoCommand => "the card has no such command",
+        Reason::NotForApplications => {
+            "the card takes the next command as an application command, and this is none"
+        }
+        Reason::OnlyForApplications => {
+            "this is an application command, and the card may not take the next command as one"
+        }
+        Reason::BlockLength => "the block length may be another than 512: CMD16 was not taken",
+        Reason::EraseSequence => "no command that goes before it in an erase was taken right before",
+        Reason::NoReadDue => "no read of blocks is due",
+        Reason::NoRegisterDue => "no register is due",
+        Reason::NoWriteDue => "no write of blocks is due",
+        Reason::State(_) | Reason::PresetCount(_) => "",
+    }
+}
+
+/// Adds why an event is not legal.
+fn put_illegality(
+    text: &mut Text,
+    illegality: Illegality,
+    action: &Action<'_>,
+    outline: &Outline,
+) -> Result<(), AllocError> {
+    if let Some(state) = illegality.after_step {
+        put(text, "the card may go to ")?;
+        put(text, state_word(state))?;
+        put(text, " state by itself; then ")?;
+    }
+    match illegality.reason {
+        Reason::State(state) => {
+            put_statement(text, action, outline)?;
+            put(text, " is not legal in ")?;
+            put(text, state_word(state))?;
+            put(text, " state")
+        }
+        Reason::PresetCount(count) => put_numbered(
+            text,
+            "the card has the preset count ",
+            u64::from(count),
+            ", and another one is announced",
+        ),
+        reason => put(text, reason_words(reason)),
+    }
+}
+
+/// Adds what the unit of an address asks of the cards.
+fn put_unit_rule(text: &mut Text, address: &Address, outline: &Outline) -> Result<(), AllocError> {
+    put_address(text, address, outline)?;
+    match address.unit {
+        Unit::Block => put(text, " needs block addresses at every card that comes here"),
+        Unit::Byte => put(text, " needs byte addresses at every card that comes here"),
+        Unit::By(_) => put(
+            text,
+            " needs the flag set exactly where the card has block addresses",
+        ),
+    }
+}
+
+/// Adds why an address does not fit.
+fn put_misfit(
+    text: &mut Text,
+    action: &Action<'_>,
+    facts: &Facts,
+    outline: &Outline,
+) -> Result<(), AllocError> {
+    match address_of(action) {
+        Some(address) if other_unit(address.unit, facts.shapes()).is_some() => {
+            put_unit_rule(text, address, outline)
+        }
+        _ => {
+            put(text, "the card is not known to have so many blocks from there on\n")?;
+            put_numbers(text, facts.numbers(), outline)
+        }
+    }
+}
+
+/// Adds why a statement is refused at a shape.
+fn put_reason(
+    text: &mut Text,
+    kind: Kind,
+    fault: CertifyFault,
+    action: &Action<'_>,
+    facts: &Facts,
+    outline: &Outline,
+) -> Result<(), AllocError> {
+    put(text, "why: ")?;
+    match fault {
+        CertifyFault::Illegal { shape, .. } => {
+            if let Some(illegality) = illegality(kind, action, shape) {
+                put_illegality(text, illegality, action, outline)?;
+            }
+        }
+        CertifyFault::Address { .. } => put_misfit(text, action, facts, outline)?,
+        CertifyFault::EndState { .. } => put(text, "at done the card has to be in tran state")?,
+        CertifyFault::TooMany | CertifyFault::Memory => {}
+    }
+    put(text, "\n")
+}
+
+/// The word of a refusal.
+fn fault_word(fault: CertifyFault) -> &'static str {
+    match fault {
+        CertifyFault::Illegal { .. } => "Illegal",
+        CertifyFault::Address { .. } => "Address",
+        CertifyFault::EndState { .. } => "EndState",
+        CertifyFault::TooMany => "TooMany",
+        CertifyFault::Memory => "Memory",
+    }
+}
+
+/// The statement compares a number, or tests the range of one.
+fn tests_number(action: &Action<'_>) -> bool {
+    match action {
+        Action::If(Condition::AtLeast(_, _) | Condition::Below(_, _), _, _) => true,
+        Action::Let(set, _) => !matches!(set.change, Change::Same),
+        _ => false,
+    }
+}
+
+/// A number is tested at a visit.
+fn tests_at(graph: &Graph<'_>, visit: &Visit) -> bool {
+    visit.point < graph.len() && tests_number(&graph.point(visit.point).action)
+}
+
+/// Adds the event of a visit, what was seen of it, and the shape after it.
+fn put_event(
+    text: &mut Text,
+    graph: &Graph<'_>,
+    outline: &Outline,
+    before: &Visit,
+    after: &Visit,
+) -> Result<(), AllocError> {
+    let Some(seen) = after.seen else {
+        return Ok(());
+    };
+    if graph.len() <= before.point {
+        return Ok(());
+    }
+    let action = &graph.point(before.point).action;
+    let start = text.len();
+    put_numbered(text, "    line ", outline.line(before.point) as u64, "")?;
+    pad(text, start, 13)?;
+    put_statement(text, action, outline)?;
+    pad(text, start, 37)?;
+    put_seen(text, action, seen)?;
+    pad(text, start, 66)?;
+    put(text, "then ")?;
+    put_shape(text, after.shape, &outline.flags)?;
+    put(text, "\n")
+}
+
+/// Adds the events of a way.
+pub fn put_way(
+    text: &mut Text,
+    graph: &Graph<'_>,
+    outline: &Outline,
+    way: &[Visit],
+) -> Result<(), AllocError> {
+    let Some(first) = way.first() else {
+        return Ok(());
+    };
+    if way.iter().any(|visit| tests_at(graph, visit)) {
+        put(text, "a way there, if its tests of numbers may come out so:\n")?;
+    } else {
+        put(text, "a way there:\n")?;
+    }
+    put(text, "    before the first command    ")?;
+    put_shape(text, first.shape, &outline.flags)?;
+    put(text, "\n")?;
+    let mut before = first;
+    for visit in way {
+        put_event(text, graph, outline, before, visit)?;
+        before = visit;
+    }
+    Ok(())
+}
+
+/// Adds which statement is refused beside which card, and why.
+pub fn put_refusal(
+    text: &mut Text,
+    graph: &Graph<'_>,
+    outline: &Outline,
+    fault: CertifyFault,
+    number: usize,
+    known: &PointFacts,
+    shape: Shape,
+) -> Result<(), AllocError> {
+    if graph.len() <= number {
+        return Ok(());
+    }
+    let action = &graph.point(number).action;
+    put(text, "refused ")?;
+    put(text, fault_word(fault))?;
+    put_numbered(text, " point ", number as u64, "\n")?;
+    put_place(text, number, action, outline)?;
+    put(text, ", beside a card that is\n    ")?;
+    put_shape(text, shape, &outline.flags)?;
+    put(text, "\n")?;
+    put_reason(text, graph.kind(), fault, action, &known.facts, outline)
+}

@@ -1,0 +1,172 @@
+//! The shapes of cards, in words.
+
+use crate::text::{Text, put, put_numbered};
+use sdv_card::{EraseStage, Fields, Shape, State, Transfer};
+use std::alloc::{AllocError, Global};
+
+/// The bits of a shape that vary on one line: its unit, its block length, and the script's flags.
+const VARYING: u64 = 0x000f_0c00;
+
+/// The word of a state, as scripts write it.
+pub fn state_word(state: State) -> &'static str {
+    match state {
+        State::Idle => "idle",
+        State::Ready => "ready",
+        State::Ident => "ident",
+        State::Stby => "stby",
+        State::Tran => "tran",
+        State::Data => "data",
+        State::Rcv => "rcv",
+        State::Prg => "prg",
+        State::Dis => "dis",
+    }
+}
+
+/// The word of the state with a number.
+pub fn numbered_state_word(number: u8) -> &'static str {
+    match number {
+        0 => "idle",
+        1 => "ready",
+        2 => "ident",
+        3 => "stby",
+        4 => "tran",
+        5 => "data",
+        6 => "rcv",
+        7 => "prg",
+        _ => "dis",
+    }
+}
+
+fn transfer_words(transfer: Transfer) -> &'static str {
+    match transfer {
+        Transfer::Nothing => "",
+        Transfer::ReadDue => ", a read is due",
+        Transfer::OpenReadDue => ", an open read is due",
+        Transfer::ScrDue => ", the SCR is due",
+        Transfer::SdStatusDue => ", the SD status is due",
+        Transfer::ExtCsdDue => ", the EXT_CSD is due",
+        Transfer::ReadOver => ", a read is over",
+        Transfer::OpenReadOver => ", an open read is over",
+        Transfer::WriteDue => ", a write is due",
+        Transfer::OpenWriteDue => ", an open write is due",
+        Transfer::WriteOver => ", a write is over",
+        Transfer::OpenWriteOver => ", an open write is over",
+    }
+}
+
+fn erase_words(erase: EraseStage) -> &'static str {
+    match erase {
+        EraseStage::Outside => "",
+        EraseStage::Begun => ", the first block of an erase set",
+        EraseStage::Both => ", both ends of an erase set",
+    }
+}
+
+/// Adds the state of a card and all else of it but what varies on a line.
+fn put_state(text: &mut Text, fields: &Fields) -> Result<(), AllocError> {
+    put(text, state_word(fields.state))?;
+    put(text, transfer_words(fields.transfer))?;
+    if fields.app {
+        put(text, ", application command next")?;
+    }
+    put(text, erase_words(fields.erase))?;
+    if fields.preset > 0 {
+        put_numbered(text, ", preset count ", u64::from(fields.preset), "")?;
+    }
+    if !fields.matched {
+        put(text, ", at an address that the host does not hold")?;
+    }
+    Ok(())
+}
+
+/// Adds the unit of addresses and the block length of a card.
+fn put_unit(text: &mut Text, fields: &Fields) -> Result<(), AllocError> {
+    match (fields.block_unit, fields.length_512) {
+        (true, _) => put(text, "block addresses"),
+        (false, true) => put(text, "byte addresses, length 512"),
+        (false, false) => put(text, "byte addresses, another length"),
+    }
+}
+
+/// The flag in a place is set.
+fn is_set(flags: u8, place: usize) -> bool {
+    match place {
+        0 => flags % 2 == 1,
+        1 => flags / 2 % 2 == 1,
+        2 => flags / 4 % 2 == 1,
+        _ => flags / 8 % 2 == 1,
+    }
+}
+
+/// Adds the names of the flags that are set.
+fn put_flags(text: &mut Text, flags: u8, names: &[&[u8]]) -> Result<(), AllocError> {
+    let mut sign = " [";
+    for (place, name) in names.iter().enumerate() {
+        if is_set(flags, place) {
+            put(text, sign)?;
+            text.extend_from_slice(name)?;
+            sign = " ";
+        }
+    }
+    if sign == " " {
+        put(text, "]")?;
+    }
+    Ok(())
+}
+
+/// Adds a shape, with the names of the script's flags.
+pub fn put_shape(text: &mut Text, shape: Shape, names: &[&[u8]]) -> Result<(), AllocError> {
+    let Some(fields) = shape.decode() else {
+        return put(text, "no card");
+    };
+    put_state(text, &fields)?;
+    put(text, ": ")?;
+    put_unit(text, &fields)?;
+    put_flags(text, fields.flags, names)
+}
+
+/// What a shape has in common with those on its line.
+fn line_of(shape: Shape) -> u64 {
+    shape.0 & !VARYING
+}
+
+/// Adds a shape behind another one: what varies, where both stand on one line, and else a line of its own.
+fn put_behind(
+    text: &mut Text,
+    last: Option<Shape>,
+    shape: Shape,
+    names: &[&[u8]],
+) -> Result<(), AllocError> {
+    match (last, shape.decode()) {
+        (Some(last), Some(fields)) if line_of(last) == line_of(shape) => {
+            put(text, "; ")?;
+            put_unit(text, &fields)?;
+            put_flags(text, fields.flags, names)
+        }
+        (Some(_), _) => {
+            put(text, "\n    ")?;
+            put_shape(text, shape, names)
+        }
+        (None, _) => {
+            put(text, "    ")?;
+            put_shape(text, shape, names)
+        }
+    }
+}
+
+/// Adds shapes, which rise: a line for each state, with the units, lengths and flags that are possible in it.
+pub fn put_shapes(
+    alloc: Global,
+    text: &mut Text,
+    shapes: &[Shape],
+    names: &[&[u8]],
+) -> Result<(), AllocError> {
+    let mut sorted = Vec::from_slice(alloc, shapes)?;
+    sorted.sort_by_key(|shape| line_of(*shape))?;
+    let mut last = None;
+    for shape in &sorted {
+        put_behind(text, last, *shape, names)?;
+        last = Some(*shape);
+    }
+    put(text, "\n")
+}

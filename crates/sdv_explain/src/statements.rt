@@ -1,0 +1,176 @@
+//! Statements of scripts, and what is seen of their events, in words.
+
+use crate::outline::Outline;
+use crate::shapes::numbered_state_word;
+use crate::text::{Text, put, put_number, put_numbered};
+use sdv_card::{Aim, Seen};
+use sdv_graph::{
+    Action, Address, Atom, Change, Command, Condition, Let, Phase, Position, Unit,
+};
+use std::alloc::AllocError;
+
+/// Adds the name in a place.
+fn put_name(text: &mut Text, names: &[&[u8]], place: usize) -> Result<(), AllocError> {
+    match names.get(place) {
+        Some(name) => text.extend_from_slice(name),
+        None => put(text, "?"),
+    }
+}
+
+fn put_position(text: &mut Text, position: Position, outline: &Outline) -> Result<(), AllocError> {
+    match position {
+        Position::Number(number) => put_number(text, number),
+        Position::Variable(variable, None) => put_name(text, &outline.numbers, variable),
+        Position::Variable(variable, Some(more)) => {
+            put_name(text, &outline.numbers, variable)?;
+            put_numbered(text, " + ", more, "")
+        }
+    }
+}
+
+/// Adds an address.
+pub fn put_address(
+    text: &mut Text,
+    address: &Address,
+    outline: &Outline,
+) -> Result<(), AllocError> {
+    match address.unit {
+        Unit::Block => put(text, "at block ")?,
+        Unit::Byte => put(text, "at byte ")?,
+        Unit::By(flag) => {
+            put(text, "at by ")?;
+            put_name(text, &outline.flags, flag)?;
+            put(text, " ")?;
+        }
+    }
+    put_position(text, address.position, outline)
+}
+
+/// Adds a command: its index, and what it is written with.
+fn put_command(text: &mut Text, command: &Command, outline: &Outline) -> Result<(), AllocError> {
+    let ask = &command.ask;
+    put_numbered(text, "CMD", u64::from(ask.index), "")?;
+    if let (7, Aim::Plain) = (ask.index, ask.aim) {
+        put(text, " none")?;
+    }
+    if let Some(address) = &command.address {
+        put(text, " ")?;
+        put_address(text, address, outline)?;
+    }
+    match ask.index {
+        18 | 23 | 25 => put_numbered(text, " count ", u64::from(ask.count), ""),
+        _ => Ok(()),
+    }
+}
+
+fn phase_words(phase: Phase) -> &'static str {
+    match phase {
+        Phase::ReceiveBlocks => "recv",
+        Phase::ReceiveRegister => "recv reg",
+        Phase::GiveBlocks => "give",
+        Phase::Wait => "wait",
+    }
+}
+
+fn put_let(text: &mut Text, set: &Let, outline: &Outline) -> Result<(), AllocError> {
+    put(text, "let ")?;
+    put_name(text, &outline.numbers, set.target)?;
+    put(text, " = ")?;
+    match set.atom {
+        Atom::Number(number) => put_number(text, number)?,
+        Atom::Variable(variable) => put_name(text, &outline.numbers, variable)?,
+        Atom::CsdBlocks => put(text, "csd.blocks")?,
+        Atom::ExtBlocks => put(text, "ext.blocks")?,
+    }
+    match set.change {
+        Change::Same => Ok(()),
+        Change::Plus(number) => put_numbered(text, " + ", number, ""),
+        Change::Minus(number) => put_numbered(text, " - ", number, ""),
+    }
+}
+
+fn put_condition(
+    text: &mut Text,
+    condition: Condition,
+    outline: &Outline,
+) -> Result<(), AllocError> {
+    put(text, "if ")?;
+    match condition {
+        Condition::Flag(flag) => put_name(text, &outline.flags, flag),
+        Condition::AtLeast(variable, number) => {
+            put_name(text, &outline.numbers, variable)?;
+            put_numbered(text, " >= ", number, "")
+        }
+        Condition::Below(variable, number) => {
+            put_name(text, &outline.numbers, variable)?;
+            put_numbered(text, " < ", number, "")
+        }
+    }
+}
+
+/// Adds the first words of a statement.
+pub fn put_statement(
+    text: &mut Text,
+    action: &Action<'_>,
+    outline: &Outline,
+) -> Result<(), AllocError> {
+    match action {
+        Action::Send(command, _, _) => put_command(text, command, outline),
+        Action::Phase(phase, _, _) => put(text, phase_words(*phase)),
+        Action::Let(set, _) => put_let(text, set, outline),
+        Action::If(condition, _, _) => put_condition(text, *condition, outline),
+        Action::Flag(flag, on, _) => {
+            put(text, if *on { "set " } else { "clear " })?;
+            put_name(text, &outline.flags, *flag)
+        }
+        Action::Loop(turns, _, _) => put_numbered(text, "loop ", u64::from(*turns), ""),
+        Action::Break(_) => put(text, "break"),
+        Action::Done => put(text, "done"),
+        Action::Fault(name) => {
+            put(text, "fault ")?;
+            put(text, name)
+        }
+    }
+}
+
+/// How a data phase or a wait is said not to have ended well.
+fn cut_word(action: &Action<'_>) -> &'static str {
+    match action {
+        Action::Phase(Phase::Wait, _, _) => "late",
+        _ => "cut",
+    }
+}
+
+fn put_ocr(text: &mut Text, ready: bool, block: Option<bool>) -> Result<(), AllocError> {
+    put(text, if ready { "answer, ready" } else { "answer, not ready" })?;
+    match block {
+        Some(true) => put(text, ", block addresses"),
+        Some(false) => put(text, ", byte addresses"),
+        None => Ok(()),
+    }
+}
+
+fn put_status(text: &mut Text, state: u8, doubt: bool, app: bool) -> Result<(), AllocError> {
+    put(text, "status ")?;
+    put(text, numbered_state_word(state))?;
+    if app {
+        put(text, ", application command next")?;
+    }
+    if doubt {
+        put(text, ", error")?;
+    }
+    Ok(())
+}
+
+/// Adds what was seen of the event of a statement.
+pub fn put_seen(text: &mut Text, action: &Action<'_>, seen: Seen) -> Result<(), AllocError> {
+    match seen {
+        Seen::Sent => put(text, "-"),
+        Seen::TimeOut => put(text, "timeout"),
+        Seen::Bare => put(text, "answer"),
+        Seen::Ocr { ready, block } => put_ocr(text, ready, block),
+        Seen::Status { state, doubt, app } => put_status(text, state, doubt, app.unwrap_or(false)),
+        Seen::Ok => put(text, "ok"),
+        Seen::NotOk => put(text, cut_word(action)),
+    }
+}

@@ -1,0 +1,44 @@
+//! Texts that are put together piece by piece.
+
+ghost use Rattle.std.specs.Prelude.{◌≡◌, ◌++◌, OnOk};
+
+use itoa::Buffer;
+use std::alloc::AllocError;
+
+/// A text so far.
+pub type Text = Vec<u8>;
+
+/// Adds words.
+pub fn put(text: &mut Text, words: &str) -> Result<(), AllocError>
+    ensures { OnOk result (text.new.items ≡ text.old.items ++ words.now) }
+{
+    text.extend_from_slice(words.as_bytes())
+}
+
+/// Adds a number, in decimal digits.
+pub fn put_number(text: &mut Text, number: u64) -> Result<(), AllocError> {
+    let mut buffer = Buffer::new();
+    put(text, buffer.format(number))
+}
+
+/// Adds words, a number, and words.
+pub fn put_numbered(
+    text: &mut Text,
+    before: &str,
+    number: u64,
+    after: &str,
+) -> Result<(), AllocError> {
+    put(text, before)?;
+    put_number(text, number)?;
+    put(text, after)
+}
+
+/// Adds spaces until the text has so many bytes from a place on, and one in any case.
+pub fn pad(text: &mut Text, from: usize, width: usize) -> Result<(), AllocError> {
+    put(text, " ")?;
+    let len = text.len().saturating_sub(from);
+    for _ in len..width {
+        put(text, " ")?;
+    }
+    Ok(())
+}
