@@ -1,2 +1,3 @@
 pub mod EdgeLaws
 pub mod FoundLaws
+pub mod ExplainedLaws

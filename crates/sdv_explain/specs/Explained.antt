@@ -5,7 +5,7 @@ use Rattle.sdv_script.specs.declared.fault.FaultKind.{FaultKind}
 use Rattle.sdv_script.specs.declared.fault.FaultKind.TheVariants as kinds
 use Rattle.sdv_script.specs.declared.fault.ScriptFault.{ScriptFault}
 use Rattle.sdv_script.specs.declared.script.Script.{Script as Tree}
-use Rattle.sdv_script.specs.Script.{IsScript}
+use Rattle.sdv_script.specs.Script.{IsScript, Parsed}
 use Rattle.sdv_script.specs.Shown.{shown}
 use Rattle.sdv_graph.specs.Graph.{Flow}
 use Rattle.sdv_graph.specs.GraphOf.{IsGraphOf}
@@ -16,7 +16,7 @@ use Rattle.sdv_certify.specs.Assembled.{CertificateOf, SurveyOf, RefusedFor}
 use Rattle.sdv_explain.specs.declared.explaining.Explanation.{Explanation}
 use Rattle.sdv_explain.specs.declared.explaining.Refusal.{Refusal}
 use Rattle.sdv_explain.specs.declared.fault.ExplainFault.{ExplainFault}
-use Rattle.sdv_explain.specs.declared.fault.ExplainFault.TheVariants.{Script, Memory}
+use Rattle.sdv_explain.specs.declared.fault.ExplainFault.TheVariants.{Script, TooMany, Memory}
 use Rattle.sdv_explain.specs.declared.visit.Visit.{Visit}
 use Rattle.sdv_explain.specs.Way.{IsWay}
 
@@ -66,3 +66,9 @@ pub record Explains (text : List ℕ) (explanation : Explanation) : Type 0 where
   pub is_script : IsScript (shown script)
   pub certified : explanation.refusal ≡ None → (ps : List PointFacts) × CertificateOf script ps
   pub refused : IfSome explanation.refusal (IsRefusal script)
+
+-- a text of which nothing is explained: it is no script, or too much is known of it; want of memory says nothing of it
+abbrev pub Unexplained : (text : List ℕ) → ExplainFault → Type 0
+Unexplained text (Script fault) = (s : Parsed) → s.text ≡ text → IsScript s → ⊥
+Unexplained text TooMany = (s : Tree) × ((shown s).text ≡ text) × IsScript (shown s) × RefusedFor s certifies.TooMany
+Unexplained text Memory = Unit {0}

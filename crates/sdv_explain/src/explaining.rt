@@ -1,12 +1,12 @@
 //! The explanation of a script.
 
-ghost use Rattle.std.specs.Prelude.{◌≡◌, [], ◌⊎◌, IfOk, IfSome, None, ℕ, List};
+ghost use Rattle.std.specs.Prelude.{◌≡◌, ◌≢◌, [], ◌⊎◌, IfErr, IfOk, IfSome, None, ℕ, List};
 ghost use Rattle.sdv_graph.specs.Graph.{Flow};
 ghost use Rattle.sdv_graph.specs.GraphOf.{IsGraphOf};
 ghost use Rattle.sdv_facts.specs.declared.certificate.PointFacts.{PointFacts};
 ghost use Rattle.sdv_script.specs.Shown.{shown};
-ghost use Rattle.sdv_certify.specs.Assembled.{CertificateOf, SurveyOf};
-ghost use Rattle.sdv_explain.specs.Explained.{Explains, HasWay, IsRefusal, LeadsThere, NamesPoint};
+ghost use Rattle.sdv_certify.specs.Assembled.{CertificateOf, RefusedFor, SurveyOf};
+ghost use Rattle.sdv_explain.specs.Explained.{Explains, HasWay, IsRefusal, LeadsThere, NamesPoint, Unexplained};
 ghost use Rattle.sdv_explain.specs.Way.{IsWay};
 
 use crate::fault::ExplainFault;
@@ -48,7 +48,8 @@ pub struct Explanation {
 /// [`ExplainFault::Script`] where the text is no script, [`ExplainFault::TooMany`] where what is known is too much, and
 /// [`ExplainFault::Memory`].
 pub fn explain(alloc: Global, text: &str) -> Result<Explanation, ExplainFault>
-    ensures { IfOk result (Explains text.entry.now) }
+    ensures explained { IfOk result (Explains text.entry.now) }
+    ensures refused { IfErr result (Unexplained text.entry.now) }
 {
     let script = parse(alloc, text)?;
     let known = known_of(alloc, &script)?;
@@ -58,7 +59,9 @@ pub fn explain(alloc: Global, text: &str) -> Result<Explanation, ExplainFault>
 
 /// What is known at each point of a script.
 fn known_of(alloc: Global, script: &Script<'_>) -> Result<Certificate, ExplainFault>
-    ensures { IfOk result (SurveyOf script.now) }
+    ensures known { IfOk result (SurveyOf script.now) }
+    ensures refused { IfErr result (λ fault. fault ≡ ExplainFault.TooMany → RefusedFor script.now CertifyFault.TooMany) }
+    ensures others { IfErr result (λ fault. fault ≢ ExplainFault.TooMany → fault ≡ ExplainFault.Memory) }
 {
     match survey(alloc, script) {
         Ok(known) => Ok(known),
@@ -75,6 +78,7 @@ fn explain_script(
     points: &[PointFacts],
 ) -> Result<Explanation, ExplainFault>
     requires { SurveyOf script.now points.now }
+    ensures memory { IfErr result (λ fault. fault ≡ ExplainFault.Memory) }
     ensures certified { IfOk result (λ e. e.refusal ≡ None → (ps : List PointFacts) × CertificateOf script.now ps) }
     ensures refused { IfOk result (λ e. IfSome e.refusal (IsRefusal script.now)) }
 {

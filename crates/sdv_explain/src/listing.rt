@@ -3,7 +3,7 @@
 use crate::outline::Outline;
 use crate::shapes::put_shapes;
 use crate::statements::put_statement;
-use crate::text::{Text, put, put_number, put_numbered};
+use crate::text::{Text, put, put_count, put_number, put_numbered};
 use sdv_facts::{MAX_NUMBER, Numbers, PointFacts, VarFacts};
 use sdv_graph::{Action, Graph};
 use std::alloc::{AllocError, Global};
@@ -22,6 +22,9 @@ pub fn put_place(
 
 /// Adds what each turn left of a loop adds to a bound: of the loop in this place from the outside, of so many.
 fn put_turn(text: &mut Text, cost: u64, place: usize, loops: usize) -> Result<(), AllocError> {
+    if cost == 0 {
+        return Ok(());
+    }
     put_numbered(text, " + ", cost, " a turn")?;
     if loops > 1 {
         put_numbered(text, " of loop ", place as u64, " of ")?;
@@ -32,7 +35,8 @@ fn put_turn(text: &mut Text, cost: u64, place: usize, loops: usize) -> Result<()
 
 /// Adds how many commands are sent from a point on.
 fn put_bound(text: &mut Text, facts: &PointFacts) -> Result<(), AllocError> {
-    put_numbered(text, "   (at most ", facts.base, " commands")?;
+    put(text, "   (at most ")?;
+    put_count(text, facts.base, "command", "commands")?;
     let loops = facts.turns.len();
     let mut place = 0usize;
     for cost in facts.turns.as_slice() {
@@ -42,34 +46,48 @@ fn put_bound(text: &mut Text, facts: &PointFacts) -> Result<(), AllocError> {
     put(text, ")\n")
 }
 
+/// Adds what is known of the blocks from a number on.
+fn put_gap(text: &mut Text, gap: u64) -> Result<(), AllocError> {
+    if gap == 0 {
+        return put(text, ", not beyond the card's end");
+    }
+    put(text, ", with ")?;
+    put_count(text, gap, "block", "blocks")?;
+    put(text, " or more from there on")
+}
+
 /// Adds what is known of the value of a number variable.
 fn put_value(text: &mut Text, known: &VarFacts) -> Result<(), AllocError> {
     if known.lo == known.hi {
-        put_numbered(text, " is ", known.lo, "")?;
-    } else if known.lo == 0 && known.hi >= MAX_NUMBER {
+        return put_numbered(text, " is ", known.lo, "");
+    }
+    if known.lo == 0 && known.hi >= MAX_NUMBER {
         put(text, " is any number")?;
     } else {
         put_numbered(text, " is from ", known.lo, " to ")?;
         put_number(text, known.hi)?;
     }
     match known.gap {
-        Some(gap) => put_numbered(text, ", with ", gap, " blocks or more from there on"),
+        Some(gap) => put_gap(text, gap),
         None => Ok(()),
     }
 }
 
-/// Adds what is known of number variables, where the script has some.
-pub fn put_numbers(text: &mut Text, numbers: &Numbers, outline: &Outline) -> Result<(), AllocError> {
-    if numbers.vars.is_empty() {
-        return Ok(());
-    }
-    put_numbered(text, "    the card has ", numbers.m, " blocks or more")?;
+/// Adds what is known of the card's capacity and of number variables.
+pub fn put_numbers(
+    text: &mut Text,
+    numbers: &Numbers,
+    outline: &Outline,
+) -> Result<(), AllocError> {
+    put(text, "the card has ")?;
+    put_count(text, numbers.m, "block", "blocks")?;
+    put(text, " or more")?;
     for (known, name) in numbers.vars.as_slice().iter().zip(outline.numbers.iter()) {
         put(text, "; ")?;
         text.extend_from_slice(name)?;
         put_value(text, known)?;
     }
-    put(text, "\n")
+    Ok(())
 }
 
 /// Adds what is known at a point.
@@ -87,7 +105,12 @@ fn put_point(
         return put(text, "    no run comes here\n");
     }
     put_shapes(alloc, text, facts.facts.shapes(), &outline.flags)?;
-    put_numbers(text, facts.facts.numbers(), outline)
+    if outline.numbers.is_empty() {
+        return Ok(());
+    }
+    put(text, "    ")?;
+    put_numbers(text, facts.facts.numbers(), outline)?;
+    put(text, "\n")
 }
 
 /// Adds what is known at each point.

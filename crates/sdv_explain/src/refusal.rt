@@ -105,7 +105,7 @@ fn reason_words(reason: Reason) -> &'static str {
             "this is an application command, and the card may not take the next command as one"
         }
         Reason::BlockLength => "the block length may be another than 512: CMD16 was not taken",
-        Reason::EraseSequence => "no command that goes before it in an erase was taken right before",
+        Reason::EraseSequence => "the commands before it in an erase may not have been taken, one right after the other",
         Reason::NoReadDue => "no read of blocks is due",
         Reason::NoRegisterDue => "no register is due",
         Reason::NoWriteDue => "no write of blocks is due",
@@ -166,10 +166,13 @@ fn put_misfit(
         Some(address) if other_unit(address.unit, facts.shapes()).is_some() => {
             put_unit_rule(text, address, outline)
         }
-        _ => {
-            put(text, "the card is not known to have so many blocks from there on\n")?;
+        Some(address) => {
+            put(text, "the card may not have all blocks ")?;
+            put_address(text, address, outline)?;
+            put(text, ", for this is known: ")?;
             put_numbers(text, facts.numbers(), outline)
         }
+        None => put(text, "it has no address"),
     }
 }
 

@@ -33,6 +33,12 @@ pub fn put_numbered(
     put(text, after)
 }
 
+/// Adds a number of things, by the words for one and for more.
+pub fn put_count(text: &mut Text, number: u64, one: &str, more: &str) -> Result<(), AllocError> {
+    put_numbered(text, "", number, " ")?;
+    put(text, if number == 1 { one } else { more })
+}
+
 /// Adds spaces until the text has so many bytes from a place on, and one in any case.
 pub fn pad(text: &mut Text, from: usize, width: usize) -> Result<(), AllocError> {
     put(text, " ")?;

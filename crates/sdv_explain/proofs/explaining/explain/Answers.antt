@@ -1,10 +1,18 @@
+use Rattle.std.proofs.Common.{rules}
+use Rattle.sdv_explain.proofs.ExplainedLaws.{unexplained}
 use Rattle.sdv_explain.proofs.explaining.explain.Goals as goal
 
-pub returns : goal.returns
-returns c = record {
+pub returns-clause-explained : goal.returns-clause-explained
+returns-clause-explained c = record {
   script = c.in_ok-script.script;
   same = c.in_ok-script.ensures.text;
   is_script = c.in_ok-script.ensures.script;
   certified = c.in_ok-explanation.ensures.certified;
   refused = c.in_ok-explanation.ensures.refused;
 }
+
+pub returns-in_err-known-clause-refused : goal.returns-in_err-known-clause-refused
+returns-in_err-known-clause-refused c =
+    let known = c.in_err-known.ensures in
+    let h = unexplained c.in_ok-script.script c.args.text.now c.in_err-known.field-0.0 c.in_ok-script.ensures.text c.in_ok-script.ensures.script known.refused known.others in
+    search rules
