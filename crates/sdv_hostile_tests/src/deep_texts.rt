@@ -69,11 +69,13 @@ static ROWS: [Row; 9] = [
         ],
         "Syntax",
     ),
-    // braces and loops
+    // statements in as many braces as may be open, and in loops
     (
         &[
             ("card sd flags f ", 1),
-            ("if f{", 64),
+            ("if f{", 60),
+            ("loop 2{", 4),
+            ("set f ", 4_031),
             ("}else{}", 64),
             ("fault a", 1),
         ],

@@ -1,7 +1,7 @@
 //! Tests of hostile texts, and of ports that answer anything.
 //!
 //! A module stands for a subject. `common` has the texts that several of them use, `names` names and counts what is
-//! answered, and `port` is a port that draws its answers.
+//! answered, `port` is a port that draws its answers, and `wire` a wire that does.
 #![tactic(auto)]
 
 #[cfg(test)]
@@ -18,3 +18,5 @@ mod names;
 mod port;
 #[cfg(test)]
 mod port_tests;
+#[cfg(test)]
+mod wire;

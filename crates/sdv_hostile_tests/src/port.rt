@@ -166,8 +166,8 @@ fn text_of(alloc: Global, answer: &Answer) -> Result<String, AllocError> {
 #[derive(Drop)]
 pub struct HostilePort {
     alloc: Global,
-    kind: Kind,
-    rng: Pcg32,
+    pub kind: Kind,
+    pub rng: Pcg32,
     /// One answer in so many may be of another kind than asked; none where this is 0.
     others: u32,
     /// The answer to every command, if it is not drawn.
@@ -211,7 +211,8 @@ impl HostilePort {
         }
     }
 
-    fn answer(&mut self, expect: Expect) -> Answer {
+    /// An answer to a command, by how the port was made.
+    pub fn answer(&mut self, expect: Expect) -> Answer {
         if let Some(answer) = self.fixed {
             return answer;
         }
@@ -219,6 +220,21 @@ impl HostilePort {
             return any_answer(&mut self.rng);
         }
         asked_answer(&mut self.rng, expect)
+    }
+
+    /// Keeps what a command was answered.
+    pub fn record(&mut self, command: Command, expect: Expect, answer: &Answer) {
+        let Command { index, argument } = command;
+        let text = match text_of(self.alloc, answer) {
+            Ok(text) => format!(in self.alloc; "CMD{index} {argument:08x} {text}"),
+            Err(error) => Err(error),
+        };
+        self.asked = expect;
+        self.taken = is_taken(self.kind, command, expect, answer);
+        match text {
+            Ok(text) => self.line(&text),
+            Err(_) => self.taken = false,
+        }
     }
 
     fn line(&mut self, text: &str) {
@@ -248,17 +264,7 @@ impl CardPort for HostilePort {
 
     fn exchange(&mut self, command: Command, expect: Expect) -> Answer {
         let answer = self.answer(expect);
-        let Command { index, argument } = command;
-        let text = match text_of(self.alloc, &answer) {
-            Ok(text) => format!(in self.alloc; "CMD{index} {argument:08x} {text}"),
-            Err(error) => Err(error),
-        };
-        self.asked = expect;
-        self.taken = is_taken(self.kind, command, expect, &answer);
-        match text {
-            Ok(text) => self.line(&text),
-            Err(_) => self.taken = false,
-        }
+        self.record(command, expect, &answer);
         answer
     }
 

@@ -3,7 +3,9 @@
 use crate::common::{BRING_UP, DEVICE_BRING_UP};
 use crate::names::{Counts, name_of_run};
 use crate::port::{FAULTS, HostilePort};
+use crate::wire::HostileWire;
 use sdv_card::Answer;
+use sdv_controller::Controller;
 use sdv_frames::{Expect, Reply};
 use sdv_registers::Kind;
 use sdv_run::{End, RunFault, run_graph};
@@ -130,6 +132,26 @@ fn is_front_of_input(given: &[u8]) -> bool {
         .all(|(number, byte)| *byte as usize == number)
 }
 
+/// A run over a port or a wire says what happened there.
+fn assert_told(
+    rt: &impl Abort,
+    alloc: Global,
+    outcome: &Result<End, RunFault>,
+    port: &HostilePort,
+    out: &[u8],
+    trace: &[u8],
+) -> Result<(), Fail> {
+    let trace = str::from_utf8(trace)?;
+    let lines = port.lines.as_str();
+    assert!(rt;
+        is_trace(alloc, outcome, port, trace)?,
+        "{trace}\nfor\n{lines}"
+    );
+    assert!(rt; out == port.output.as_slice(), "{trace}");
+    assert!(rt; is_front_of_input(port.given.as_slice()), "{trace}");
+    Ok(())
+}
+
 /// Runs a script over a port: its outcome, where trace and output say what happened there.
 fn run_over(
     rt: &impl Abort,
@@ -140,14 +162,23 @@ fn run_over(
 ) -> Result<Result<End, RunFault>, Fail> {
     let (mut out, mut trace) = (Vec::new(alloc), Vec::new(alloc));
     let outcome = run_graph(alloc, graph, port, input, &mut out, &mut trace);
-    let trace = str::from_utf8(&trace)?;
-    assert!(rt;
-        is_trace(alloc, &outcome, port, trace)?,
-        "{trace}\nfor\n{}",
-        port.lines.as_str()
-    );
-    assert!(rt; out.as_slice() == port.output.as_slice(), "{trace}");
-    assert!(rt; is_front_of_input(port.given.as_slice()), "{trace}");
+    assert_told(rt, alloc, &outcome, port, &out, &trace)?;
+    Ok(outcome)
+}
+
+/// The same over a wire.
+fn run_over_wire(
+    rt: &impl Abort,
+    alloc: Global,
+    graph: &Graph<'_>,
+    port: HostilePort,
+    input: &[[u8; 512]],
+) -> Result<Result<End, RunFault>, Fail> {
+    let (mut out, mut trace) = (Vec::new(alloc), Vec::new(alloc));
+    let mut controller = Controller::new(HostileWire { port });
+    let outcome = run_graph(alloc, graph, &mut controller, input, &mut out, &mut trace);
+    let port = controller.into_wire().port;
+    assert_told(rt, alloc, &outcome, &port, &out, &trace)?;
     Ok(outcome)
 }
 
@@ -197,6 +228,39 @@ fn runs_over_any_port(rt: HostRuntime) -> Result<(), Fail> {
         found.push_str(format!(in alloc; "{name}, {others}: {counts}\n")?.as_str())?;
     }
     assert_eq!(&rt; found.as_str(), ENDS);
+    Ok(())
+}
+
+/// How often each end comes over a wire.
+const ENDS_OVER_WIRES: &str = "\
+all commands, 0: done 329, kept 51, Input 15, Reply 105
+all commands, 100: done 228, Reply 233, kept 38, Input 1
+bring-up, 0: done 285, cid 19, lost55 56, rca 31, lost41 13, select 37, Reply 13, blen 31, csd 15
+bring-up, 10: done 149, cid 19, Reply 198, lost55 52, select 23, lost41 16, csd 14, blen 11, rca 18
+all commands of a device, 0: done 270, Reply 140, Input 34, kept 56
+all commands of a device, 100: Reply 271, done 184, kept 38, Input 7
+bring-up of a device, 0: done 243, ext 71, rca 57, lost1 18, blen 35, select 38, csd 11, Reply 12, cid 15
+bring-up of a device, 10: done 126, Reply 164, blen 24, ext 39, rca 45, cid 16, csd 22, lost1 33, select 31
+";
+
+#[test]
+fn runs_over_any_wire(rt: HostRuntime) -> Result<(), Fail> {
+    let alloc = rt.alloc();
+    let input = input_blocks(alloc, 30)?;
+    let mut found = String::new(alloc);
+    for &(name, kind, text, others) in RUNS.iter() {
+        let text = text.replace(alloc, "7 none", "7")?;
+        let graph = parse(alloc, &text)?.graph(alloc)?;
+        let mut counts = Counts::new(alloc);
+        for seed in 0..500 {
+            let port = HostilePort::new(alloc, kind, seed, others);
+            let outcome = run_over_wire(&rt, alloc, &graph, port, &input)?;
+            counts.add(name_of_run(&outcome))?;
+        }
+        let counts = counts.text()?;
+        found.push_str(format!(in alloc; "{name}, {others}: {counts}\n")?.as_str())?;
+    }
+    assert_eq!(&rt; found.as_str(), ENDS_OVER_WIRES);
     Ok(())
 }
 
