@@ -3,9 +3,9 @@ use crate::testing::{
     BRING_UP, CERTIFICATE, Expected, SMALLEST, expect, expect_certify, prints, says,
 };
 use sdv_words::program::program;
-use std::fs;
 use std::io::{self, Write};
 use std::test::Fail;
+use std::{fs, str};
 
 /// A writer that takes one byte at a time, so many and no more, and keeps them.
 #[derive(Drop)]
@@ -98,6 +98,46 @@ fn certifies_files(rt: HostRuntime) -> Result<(), Fail> {
         says(2, "cannot use missing.sdv\n"),
     );
     expect(&rt, &["certify", "."], says(2, "cannot use .\n"));
+    Ok(())
+}
+
+#[test]
+fn explains_files(rt: HostRuntime) -> Result<(), Fail> {
+    let file = "explained.sdv";
+    let rows: [(&[u8], u8, &str, &str); 4] = [
+        (SMALLEST.as_bytes(), 0, "line 2, point 0: CMD0", ""),
+        (
+            ILLEGAL.as_bytes(),
+            1,
+            "a way there:",
+            "refused Illegal point 0 shape 0000000000002000\n",
+        ),
+        (TOO_MANY.as_bytes(), 1, "", "refused TooMany\n"),
+        (
+            b"card sd\nsend 16 @\n",
+            1,
+            "",
+            "script fault Token line 2\n",
+        ),
+    ];
+    for (script, status, told, said) in rows {
+        let (mut out, mut err) = (Vec::new(rt.alloc()), Vec::new(rt.alloc()));
+        fs::write(&rt, file, script)?;
+        assert_eq!(rt;
+            program(&rt, &["explain", file], &mut out, &mut err),
+            status,
+            "{said}"
+        );
+        fs::remove_file(&rt, file)?;
+        assert!(rt; str::from_utf8(&out)?.contains(told), "{said}");
+        assert_eq!(rt; out.is_empty(), told.is_empty(), "{said}");
+        assert_eq!(rt; str::from_utf8(&err), Ok(said));
+    }
+    expect(
+        &rt,
+        &["explain", "missing.sdv"],
+        says(2, "cannot use missing.sdv\n"),
+    );
     Ok(())
 }
 

@@ -1,11 +1,12 @@
 -- What words ask for, and the faults of the program by cases.
 use Rattle.std.proofs.Common.{◌≡◌, ◌≢◌, ◌∙◌, ◌⊎◌, refl, sym, ap, subst, inl, inr, ℕ, List, [], Option, Some, None, Result, Ok, Err, IsErrAnd, IfErr}
 use Rattle.clap.specs.Words.{Text, fault_of}
-use Rattle.sdv_words.specs.Answer.{Answers, AsksFrame, AsksNoRun, AsksNothing, AnswersInPart, AsksRun, IsFaultOf, Leaves, Left, PrintsFrameInPart, RefusesFrame, RefusesScript}
+use Rattle.sdv_words.specs.Answer.{Answers, AsksFrame, AsksExplanation, AsksNoExplanation, AsksNoRun, AsksNothing, AnswersInPart, AsksRun, IsFaultOf, Leaves, Left, PrintsFrameInPart, RefusesFrame, RefusesScript}
 use Rattle.sdv_words.specs.BatchWords.{PrintsBatchInPart, RefusesBatch}
+use Rattle.sdv_words.specs.Explain.{ExplainFileFails}
 use Rattle.sdv_words.specs.Certify.{CertifiesFileInPart, UncertifiesFile}
 use Rattle.sdv_words.specs.Check.{AcceptsFilesInPart, RefusesFiles}
-use Rattle.sdv_words.specs.CommandLine.{Request, RunNames, command_line, frame, certify, check, run, batch, meaning_of}
+use Rattle.sdv_words.specs.CommandLine.{Request, RunNames, command_line, frame, certify, check, run, batch, explain, meaning_of}
 use Rattle.sdv_words.specs.Files.{Files}
 use Rattle.sdv_words.specs.Run.{RunFails}
 use Rattle.std.specs.Io.KnownBytes.{Keeps}
@@ -45,6 +46,26 @@ check_is_no_run words script certificate meaning names other = let same : Some (
 batch_is_no_run : (words : List Text) (kind requests : Text) → meaning_of words ≡ Some (batch kind requests) → AsksNoRun words
 batch_is_no_run words kind requests meaning names other = let same : Some (batch kind requests) ≡ Some (run names) = sym meaning ∙ other in cc
 
+-- nor for an explanation
+frame_is_no_explanation : (words : List Text) (index argument : Text) → meaning_of words ≡ Some (frame index argument) → AsksNoExplanation words
+frame_is_no_explanation words index argument meaning script other = let same : Some (frame index argument) ≡ Some (explain script) = sym meaning ∙ other in cc
+
+certify_is_no_explanation : (words : List Text) (script : Text) → meaning_of words ≡ Some (certify script) → AsksNoExplanation words
+certify_is_no_explanation words script meaning other_script other = let same : Some (certify script) ≡ Some (explain other_script) = sym meaning ∙ other in cc
+
+check_is_no_explanation : (words : List Text) (script certificate : Text) → meaning_of words ≡ Some (check script certificate) → AsksNoExplanation words
+check_is_no_explanation words script certificate meaning other_script other =
+    let same : Some (check script certificate) ≡ Some (explain other_script) = sym meaning ∙ other in cc
+
+batch_is_no_explanation : (words : List Text) (kind requests : Text) → meaning_of words ≡ Some (batch kind requests) → AsksNoExplanation words
+batch_is_no_explanation words kind requests meaning script other = let same : Some (batch kind requests) ≡ Some (explain script) = sym meaning ∙ other in cc
+
+run_is_no_explanation : (words : List Text) (names : RunNames) → meaning_of words ≡ Some (run names) → AsksNoExplanation words
+run_is_no_explanation words names meaning script other = let same : Some (run names) ≡ Some (explain script) = sym meaning ∙ other in cc
+
+explain_is_no_run : (words : List Text) (script : Text) → meaning_of words ≡ Some (explain script) → AsksNoRun words
+explain_is_no_run words script meaning names other = let same : Some (explain script) ≡ Some (run names) = sym meaning ∙ other in cc
+
 -- nor for a batch
 frame_is_no_batch : (words : List Text) (index argument kind requests : Text) → meaning_of words ≡ Some (frame index argument) → meaning_of words ≢ Some (batch kind requests)
 frame_is_no_batch words index argument kind requests meaning other = let same : Some (frame index argument) ≡ Some (batch kind requests) = sym meaning ∙ other in cc
@@ -57,6 +78,7 @@ asks_nothing words index argument meaning none = record {
   no_certificate = λ script. frame_is_no_certify words index argument script meaning;
   no_check = λ script certificate. frame_is_no_check words index argument script certificate meaning;
   no_run = frame_is_no_run words index argument meaning;
+  no_explanation = frame_is_no_explanation words index argument meaning;
   no_batch = λ kind requests. frame_is_no_batch words index argument kind requests meaning;
 }
   where
@@ -76,6 +98,7 @@ asks_nothing-fault words some =
       no_certificate = λ script meaning. cc (none, meaning);
       no_check = λ script certificate meaning. cc (none, meaning);
       no_run = λ names meaning. cc (none, meaning);
+      no_explanation = λ script meaning. cc (none, meaning);
       no_batch = λ kind requests meaning. cc (none, meaning);
     }
 
@@ -140,7 +163,7 @@ module _ (files : Files) (words : List Text) where
   batch_fault : (kind requests : Text) → meaning_of words ≡ Some (batch kind requests) → (fault : Fault) → RefusesBatch kind requests fault → IsFaultOf files words fault
   batch_fault kind requests meaning Usage refuses = inr (record { kind = kind; requests = requests; meaning = meaning; refuses = refuses })
   batch_fault kind requests meaning (Unserved fault) refuses = record { kind = kind; requests = requests; meaning = meaning; refuses = refuses }
-  batch_fault kind requests meaning Output refuses = inr (inr (record { kind = kind; requests = requests; meaning = meaning; refuses = refuses }))
+  batch_fault kind requests meaning Output refuses = inr (inr (inl (record { kind = kind; requests = requests; meaning = meaning; refuses = refuses })))
   batch_fault kind requests meaning Memory refuses = tt
   batch_fault kind requests meaning _ refuses = absurd refuses
 
@@ -155,7 +178,8 @@ module _ (files : Files) (words : List Text) where
   no_answer before after nothing (inr (inl certified)) = nothing.no_certificate certified.script_file certified.meaning
   no_answer before after nothing (inr (inr (inl checked))) = nothing.no_check checked.script_file checked.certificate_file checked.meaning
   no_answer before after nothing (inr (inr (inr (inl ran)))) = nothing.no_run ran.names ran.meaning
-  no_answer before after nothing (inr (inr (inr (inr batched)))) = nothing.no_batch batched.kind batched.requests batched.meaning
+  no_answer before after nothing (inr (inr (inr (inr (inl batched))))) = nothing.no_batch batched.kind batched.requests batched.meaning
+  no_answer before after nothing (inr (inr (inr (inr (inr explained))))) = nothing.no_explanation explained.script_file explained.meaning
 
   -- nor do they have a failed output
   pub no_output : (fault : Fault) → AsksNothing words → IsFaultOf files words fault → fault ≢ Output
@@ -165,15 +189,17 @@ module _ (files : Files) (words : List Text) where
       go (inl framed) = nothing.no_frame framed.0 framed.1
       go (inr (inl (inl certified))) = nothing.no_certificate certified.script_file certified.meaning
       go (inr (inl (inr checked))) = nothing.no_check checked.script_file checked.certificate_file checked.meaning
-      go (inr (inr batched)) = nothing.no_batch batched.kind batched.requests batched.meaning
+      go (inr (inr (inl batched))) = nothing.no_batch batched.kind batched.requests batched.meaning
+      go (inr (inr (inr explained))) = nothing.no_explanation explained.script_file explained.meaning
 
   -- where words ask for a frame, no fault is of another request
-  frame_alone : (c : Command) → AsksFrame words c → (fault : Fault) → RefusesScript files words fault ⊎ AsksRun words → ⊥
+  frame_alone : (c : Command) → AsksFrame words c → (fault : Fault) → RefusesScript files words fault ⊎ (AsksRun words ⊎ AsksExplanation words) → ⊥
   frame_alone c asked fault (inl (inl certifies)) =
       frame_is_no_certify words asked.index asked.argument certifies.script_file asked.meaning certifies.meaning
   frame_alone c asked fault (inl (inr checks)) =
       frame_is_no_check words asked.index asked.argument checks.script_file checks.certificate_file asked.meaning checks.meaning
-  frame_alone c asked fault (inr runs) = frame_is_no_run words asked.index asked.argument asked.meaning runs.names runs.meaning
+  frame_alone c asked fault (inr (inl runs)) = frame_is_no_run words asked.index asked.argument asked.meaning runs.names runs.meaning
+  frame_alone c asked fault (inr (inr explained)) = frame_is_no_explanation words asked.index asked.argument asked.meaning explained.script_file explained.meaning
 
   -- then status 2 is that of a failed output
   pub frame_output : (c : Command) → AsksFrame words c → (fault : Fault) → status_of fault ≡ 2 → IsFaultOf files words fault → fault ≡ Output
@@ -193,41 +219,52 @@ module _ (files : Files) (words : List Text) where
 
   -- ---- what a fault leaves standard output as
 
-  -- where no run was asked for
-  left_without : (before after : Option (List ℕ)) → AsksNoRun words → (fault : Fault) → (fault ≢ Output → Keeps before after)
-      → (fault ≡ Output → AnswersInPart files words before after) → Leaves files words fault before after
-  left_without before after none Usage keeps part = record { kept = λ _. keeps (λ same. absurd (cc same)); of_run = λ names meaning. absurd (none names meaning) }
-  left_without before after none (File file) keeps part = record { kept = λ _. keeps (λ same. absurd (cc same)); of_run = λ names meaning. absurd (none names meaning) }
-  left_without before after none (Script fault) keeps part = record { kept = λ _. keeps (λ same. absurd (cc same)); of_run = λ names meaning. absurd (none names meaning) }
-  left_without before after none (Certificate fault) keeps part = record { kept = λ _. keeps (λ same. absurd (cc same)); of_run = λ names meaning. absurd (none names meaning) }
-  left_without before after none (Refused fault) keeps part = record { kept = λ _. keeps (λ same. absurd (cc same)); of_run = λ names meaning. absurd (none names meaning) }
-  left_without before after none (Uncertified fault) keeps part = record { kept = λ _. keeps (λ same. absurd (cc same)); of_run = λ names meaning. absurd (none names meaning) }
-  left_without before after none (Unserved fault) keeps part = record { kept = λ _. keeps (λ same. absurd (cc same)); of_run = λ names meaning. absurd (none names meaning) }
-  left_without before after none (Card fault) keeps part = record { kept = λ _. keeps (λ same. absurd (cc same)); of_run = λ names meaning. absurd (none names meaning) }
-  left_without before after none (Run fault) keeps part = record { kept = λ _. keeps (λ same. absurd (cc same)); of_run = λ names meaning. absurd (none names meaning) }
-  left_without before after none Named keeps part = record { kept = λ _. keeps (λ same. absurd (cc same)); of_run = λ names meaning. absurd (none names meaning) }
-  left_without before after none Output keeps part = part refl
-  left_without before after none Memory keeps part = record { kept = λ _. keeps (λ same. absurd (cc same)); of_run = λ names meaning. absurd (none names meaning) }
+  -- where no run and no explanation were asked for
+  left_quiet : (before after : Option (List ℕ)) → AsksNoRun words → AsksNoExplanation words → (fault : Fault) → Keeps before after → Left files words fault before after
+  left_quiet before after none unexplained fault keeps = record {
+    kept = λ _ _. keeps;
+    of_run = λ names meaning. absurd (none names meaning);
+    of_explanation = λ script meaning. absurd (unexplained script meaning);
+  }
 
-  if_left : {T : Type 0} (before after : Option (List ℕ)) → AsksNoRun words → (r : Result T Fault) (P : Type 0)
+  left_without : (before after : Option (List ℕ)) → AsksNoRun words → AsksNoExplanation words → (fault : Fault) → (fault ≢ Output → Keeps before after)
+      → (fault ≡ Output → AnswersInPart files words before after) → Leaves files words fault before after
+  left_without before after none unexplained Usage keeps part = left_quiet before after none unexplained Usage (keeps (λ same. absurd (cc same)))
+  left_without before after none unexplained (File file) keeps part = left_quiet before after none unexplained (File file) (keeps (λ same. absurd (cc same)))
+  left_without before after none unexplained (Script fault) keeps part = left_quiet before after none unexplained (Script fault) (keeps (λ same. absurd (cc same)))
+  left_without before after none unexplained (Certificate fault) keeps part =
+      left_quiet before after none unexplained (Certificate fault) (keeps (λ same. absurd (cc same)))
+  left_without before after none unexplained (Refused fault) keeps part = left_quiet before after none unexplained (Refused fault) (keeps (λ same. absurd (cc same)))
+  left_without before after none unexplained (Uncertified fault) keeps part =
+      left_quiet before after none unexplained (Uncertified fault) (keeps (λ same. absurd (cc same)))
+  left_without before after none unexplained (Unserved fault) keeps part = left_quiet before after none unexplained (Unserved fault) (keeps (λ same. absurd (cc same)))
+  left_without before after none unexplained (Card fault) keeps part = left_quiet before after none unexplained (Card fault) (keeps (λ same. absurd (cc same)))
+  left_without before after none unexplained (Run fault) keeps part = left_quiet before after none unexplained (Run fault) (keeps (λ same. absurd (cc same)))
+  left_without before after none unexplained Named keeps part = left_quiet before after none unexplained Named (keeps (λ same. absurd (cc same)))
+  left_without before after none unexplained Output keeps part = part refl
+  left_without before after none unexplained Memory keeps part = left_quiet before after none unexplained Memory (keeps (λ same. absurd (cc same)))
+
+  if_left : {T : Type 0} (before after : Option (List ℕ)) → AsksNoRun words → AsksNoExplanation words → (r : Result T Fault) (P : Type 0)
       → (P → AnswersInPart files words before after) → IfErr r (λ fault. fault ≢ Output → Keeps before after)
       → IfErr r (λ fault. fault ≡ Output → P) → IfErr r (λ fault. Leaves files words fault before after)
-  if_left before after none (Ok x) P answers keeps part = tt
-  if_left before after none (Err fault) P answers keeps part = left_without before after none fault keeps (λ is. answers (part is))
+  if_left before after none unexplained (Ok x) P answers keeps part = tt
+  if_left before after none unexplained (Err fault) P answers keeps part = left_without before after none unexplained fault keeps (λ is. answers (part is))
 
   pub left_of_line : {T : Type 0} (fault : LineFault) (r : Result T Fault) (before : Option (List ℕ)) → IsErrAnd r (λ f. f ≡ fault_of_line fault)
       → (fault ≡ line_fault.Usage → fault_of command_line words ≢ []) → IfErr r (λ f. Leaves files words f before before)
   left_of_line fault (Ok x) before is usage = absurd is
   left_of_line line_fault.Usage (Err f) before is usage =
-      rw is (left_without before before (asks_nothing-fault words (usage refl)).no_run Usage (λ _. keeps_same before) (λ is. absurd (cc is)))
-  left_of_line line_fault.Memory (Err f) before is usage = rw is (record { kept = λ _. keeps_same before; of_run = λ names meaning. keeps_same before })
+      let nothing = asks_nothing-fault words (usage refl) in
+      rw is (left_quiet before before nothing.no_run nothing.no_explanation Usage (keeps_same before))
+  left_of_line line_fault.Memory (Err f) before is usage = 
+      rw is (record { kept = λ _ _. keeps_same before; of_run = λ names meaning. keeps_same before; of_explanation = λ script meaning. keeps_same before })
 
   pub left_of_frame : {T : Type 0} (index argument : Text) → meaning_of words ≡ Some (frame index argument) → (r : Result T Fault)
       (before after : Option (List ℕ)) → IfErr r (λ fault. fault ≢ Output → Keeps before after)
       → IfErr r (λ fault. fault ≡ Output → (c : Command) × Writes index argument c × PrintsFrameInPart c before after)
       → IfErr r (λ fault. Leaves files words fault before after)
   left_of_frame index argument meaning r before after =
-      if_left before after (frame_is_no_run words index argument meaning) r _
+      if_left before after (frame_is_no_run words index argument meaning) (frame_is_no_explanation words index argument meaning) r _
       (λ part. inl (record {
         command = part.0;
         asked = record { index = index; argument = argument; meaning = meaning; writes = part.1 };
@@ -239,14 +276,15 @@ module _ (files : Files) (words : List Text) where
       → IfErr r (λ fault. fault ≡ Output → CertifiesFileInPart files.gives script before after)
       → IfErr r (λ fault. Leaves files words fault before after)
   left_of_certify script meaning r before after =
-      if_left before after (certify_is_no_run words script meaning) r _ (λ part. inr (inl (record { script_file = script; meaning = meaning; certifies = part })))
+      if_left before after (certify_is_no_run words script meaning) (certify_is_no_explanation words script meaning) r _
+      (λ part. inr (inl (record { script_file = script; meaning = meaning; certifies = part })))
 
   pub left_of_check : {T : Type 0} (script certificate : Text) → meaning_of words ≡ Some (check script certificate) → (r : Result T Fault)
       (before after : Option (List ℕ)) → IfErr r (λ fault. fault ≢ Output → Keeps before after)
       → IfErr r (λ fault. fault ≡ Output → AcceptsFilesInPart files.gives script certificate before after)
       → IfErr r (λ fault. Leaves files words fault before after)
   left_of_check script certificate meaning r before after =
-      if_left before after (check_is_no_run words script certificate meaning) r _
+      if_left before after (check_is_no_run words script certificate meaning) (check_is_no_explanation words script certificate meaning) r _
       (λ part. inr (inr (inl (record { script_file = script; certificate_file = certificate; meaning = meaning; accepts = part }))))
 
   pub left_of_batch : {T : Type 0} (kind requests : Text) → meaning_of words ≡ Some (batch kind requests) → (r : Result T Fault) (before after : Option (List ℕ))
@@ -254,8 +292,8 @@ module _ (files : Files) (words : List Text) where
       → IfErr r (λ fault. fault ≡ Output → PrintsBatchInPart kind requests before after)
       → IfErr r (λ fault. Leaves files words fault before after)
   left_of_batch kind requests meaning r before after =
-      if_left before after (batch_is_no_run words kind requests meaning) r _
-      (λ part. inr (inr (inr (record { kind = kind; requests = requests; meaning = meaning; prints = part }))))
+      if_left before after (batch_is_no_run words kind requests meaning) (batch_is_no_explanation words kind requests meaning) r _
+      (λ part. inr (inr (inr (inl (record { kind = kind; requests = requests; meaning = meaning; prints = part })))))
 
   -- ---- runs
 
@@ -265,15 +303,15 @@ module _ (files : Files) (words : List Text) where
 
     run_fault : (fault : Fault) → RunFails files names fault before after → IsFaultOf files words fault
     run_fault Usage fails = absurd fails.refused
-    run_fault (File file) fails = inr asks_run
-    run_fault (Script fault) fails = inr asks_run
-    run_fault (Certificate fault) fails = inr asks_run
-    run_fault (Refused fault) fails = inr asks_run
-    run_fault (Uncertified fault) fails = inr asks_run
+    run_fault (File file) fails = inr (inl asks_run)
+    run_fault (Script fault) fails = inr (inl asks_run)
+    run_fault (Certificate fault) fails = inr (inl asks_run)
+    run_fault (Refused fault) fails = inr (inl asks_run)
+    run_fault (Uncertified fault) fails = inr (inl asks_run)
     run_fault (Unserved fault) fails = absurd fails.refused
-    run_fault (Card fault) fails = inr asks_run
-    run_fault (Run fault) fails = inr asks_run
-    run_fault Named fails = inr asks_run
+    run_fault (Card fault) fails = inr (inl asks_run)
+    run_fault (Run fault) fails = inr (inl asks_run)
+    run_fault Named fails = inr (inl asks_run)
     run_fault Output fails = absurd fails.refused
     run_fault Memory fails = tt
 
@@ -283,11 +321,12 @@ module _ (files : Files) (words : List Text) where
 
     left_by_run : (fault : Fault) → RunFails files names fault before after → Left files words fault before after
     left_by_run fault fails = record {
-      kept = λ none. absurd (none names meaning);
+      kept = λ none unexplained. absurd (none names meaning);
       of_run = λ others other.
           let same : Some (run names) ≡ Some (run others) = sym meaning ∙ other in
           let is : names ≡ others = cc in
           subst (λ names. RunFails files names fault before after) is fails;
+      of_explanation = λ script other. absurd (run_is_no_explanation words names meaning script other);
     }
 
     run_left : (fault : Fault) → RunFails files names fault before after → Leaves files words fault before after
@@ -309,33 +348,77 @@ module _ (files : Files) (words : List Text) where
     left_of_run (Ok x) fails = tt
     left_of_run (Err fault) fails = run_left fault fails
 
+  -- ---- explanations
+
+  module _ (script : Text) (meaning : meaning_of words ≡ Some (explain script)) (before after : Option (List ℕ)) where
+    asks_explanation : AsksExplanation words
+    asks_explanation = record { script_file = script; meaning = meaning }
+
+    explain_fault : (fault : Fault) → ExplainFileFails files.gives script fault before after → IsFaultOf files words fault
+    explain_fault (File file) fails = inr (inr asks_explanation)
+    explain_fault (Script fault) fails = inr (inr asks_explanation)
+    explain_fault (Uncertified fault) fails = inr (inr asks_explanation)
+    explain_fault Output fails = inr (inr (inr asks_explanation))
+    explain_fault Memory fails = tt
+    explain_fault _ fails = absurd fails.fails
+
+    pub faults_of_explain : {T : Type 0} (r : Result T Fault) → IfErr r (λ fault. ExplainFileFails files.gives script fault before after)
+        → IfErr r (IsFaultOf files words)
+    faults_of_explain (Ok x) fails = tt
+    faults_of_explain (Err fault) fails = explain_fault fault fails
+
+    left_by_explain : (fault : Fault) → ExplainFileFails files.gives script fault before after → Left files words fault before after
+    left_by_explain fault fails = record {
+      kept = λ none unexplained. absurd (unexplained script meaning);
+      of_run = λ names other. absurd (explain_is_no_run words script meaning names other);
+      of_explanation = λ others other.
+          let same : Some (explain script) ≡ Some (explain others) = sym meaning ∙ other in
+          let is : script ≡ others = cc in
+          subst (λ file. ExplainFileFails files.gives file fault before after) is fails;
+    }
+
+    explain_left : (fault : Fault) → ExplainFileFails files.gives script fault before after → Leaves files words fault before after
+    explain_left (File file) fails = left_by_explain (File file) fails
+    explain_left (Script fault) fails = left_by_explain (Script fault) fails
+    explain_left (Uncertified fault) fails = left_by_explain (Uncertified fault) fails
+    explain_left Output fails = inr (inr (inr (inr (record { script_file = script; meaning = meaning; fails = fails }))))
+    explain_left Memory fails = left_by_explain Memory fails
+    explain_left _ fails = absurd fails.fails
+
+    pub left_of_explain : {T : Type 0} (r : Result T Fault) → IfErr r (λ fault. ExplainFileFails files.gives script fault before after)
+        → IfErr r (λ fault. Leaves files words fault before after)
+    left_of_explain (Ok x) fails = tt
+    left_of_explain (Err fault) fails = explain_left fault fails
+
   -- ---- standard output as it was
 
-  pub left_kept : (fault : Fault) (before after : Option (List ℕ)) → AsksNoRun words → fault ≢ Output → Leaves files words fault before after → Keeps before after
-  left_kept Usage before after none other left = left.kept none
-  left_kept (File file) before after none other left = left.kept none
-  left_kept (Script fault) before after none other left = left.kept none
-  left_kept (Certificate fault) before after none other left = left.kept none
-  left_kept (Refused fault) before after none other left = left.kept none
-  left_kept (Uncertified fault) before after none other left = left.kept none
-  left_kept (Unserved fault) before after none other left = left.kept none
-  left_kept (Card fault) before after none other left = left.kept none
-  left_kept (Run fault) before after none other left = left.kept none
-  left_kept Named before after none other left = left.kept none
-  left_kept Output before after none other left = absurd (other refl)
-  left_kept Memory before after none other left = left.kept none
+  pub left_kept : (fault : Fault) (before after : Option (List ℕ)) → AsksNoRun words → AsksNoExplanation words → fault ≢ Output → Leaves files words fault before after
+      → Keeps before after
+  left_kept Usage before after none unexplained other left = left.kept none unexplained
+  left_kept (File file) before after none unexplained other left = left.kept none unexplained
+  left_kept (Script fault) before after none unexplained other left = left.kept none unexplained
+  left_kept (Certificate fault) before after none unexplained other left = left.kept none unexplained
+  left_kept (Refused fault) before after none unexplained other left = left.kept none unexplained
+  left_kept (Uncertified fault) before after none unexplained other left = left.kept none unexplained
+  left_kept (Unserved fault) before after none unexplained other left = left.kept none unexplained
+  left_kept (Card fault) before after none unexplained other left = left.kept none unexplained
+  left_kept (Run fault) before after none unexplained other left = left.kept none unexplained
+  left_kept Named before after none unexplained other left = left.kept none unexplained
+  left_kept Output before after none unexplained other left = absurd (other refl)
+  left_kept Memory before after none unexplained other left = left.kept none unexplained
 
   -- where memory was wanting
   memory_left : (before after : Option (List ℕ)) → Left files words Memory before after → Keeps before after
   memory_left before after left = go (meaning_of words) refl
     where
       go : (m : Option Request) → meaning_of words ≡ m → Keeps before after
-      go (Some (frame index argument)) is = left.kept (frame_is_no_run words index argument is)
-      go (Some (certify script)) is = left.kept (certify_is_no_run words script is)
-      go (Some (check script certificate)) is = left.kept (check_is_no_run words script certificate is)
-      go None is = left.kept (λ names meaning. cc (is, meaning))
+      go (Some (frame index argument)) is = left.kept (frame_is_no_run words index argument is) (frame_is_no_explanation words index argument is)
+      go (Some (certify script)) is = left.kept (certify_is_no_run words script is) (certify_is_no_explanation words script is)
+      go (Some (check script certificate)) is = left.kept (check_is_no_run words script certificate is) (check_is_no_explanation words script certificate is)
+      go None is = left.kept (λ names meaning. cc (is, meaning)) (λ script meaning. cc (is, meaning))
       go (Some (run names)) is = left.of_run names is
-      go (Some (batch kind requests)) is = left.kept (batch_is_no_run words kind requests is)
+      go (Some (batch kind requests)) is = left.kept (batch_is_no_run words kind requests is) (batch_is_no_explanation words kind requests is)
+      go (Some (explain script)) is = left.of_explanation script is
 
   pub memory_kept : (fault : Fault) (before after : Option (List ℕ)) → status_of fault ≡ 3 → Leaves files words fault before after → Keeps before after
   memory_kept Memory before after is left = memory_left before after left

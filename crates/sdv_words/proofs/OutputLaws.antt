@@ -1,6 +1,6 @@
 -- What was written, where the answer of a function is as good as the writing, and what stands after a fault.
-use Rattle.std.proofs.Common.{◌≡◌, ◌∙◌, inl, inr, ℕ, List, [], ◌++◌, Option, Some, None, length, Result, Ok, Err, IfErr, OnOk, append-nil, length-append, ap, sym, arith}
-use Rattle.std.specs.Prelude.{is_ok}
+use Rattle.std.proofs.Common.{◌≡◌, ◌∙◌, true, false, inl, inr, ℕ, List, [], ◌++◌, Option, Some, None, length, Result, Ok, Err, IfErr, OnOk, append-nil, length-append, ap, sym, arith}
+use Rattle.std.specs.Prelude.{is_ok, is_err}
 use Rattle.std.specs.Io.KnownBytes.{Appends, Keeps}
 use Rattle.sdv_text.specs.Written.{AppendsPart, Writes}
 use Rattle.sdv_words.specs.Fault.{Says}
@@ -18,6 +18,16 @@ module _ {E : Type 0} (before after : Option (List ℕ)) (text : List ℕ) where
   in_part w (Ok v) same writes = tt
   in_part (Ok u) (Err f) same writes = cc
   in_part (Err e) (Err f) same writes = writes
+
+-- by whether the writing failed
+module _ {E : Type 0} (before after : Option (List ℕ)) (text : List ℕ) where
+  pub written : (w : Result (Unit {0}) E) → is_err w ≡ false → Writes before after w text → Appends before after text
+  written (Ok u) none writes = writes
+  written (Err e) none writes = cc
+
+  pub written_in_part : (w : Result (Unit {0}) E) → is_err w ≡ true → Writes before after w text → AppendsPart before after text
+  written_in_part (Ok u) failed writes = cc
+  written_in_part (Err e) failed writes = writes
 
 pub if_err : {T : Type 0} (r : Result T Fault) (P Q : Fault → Type 0) → IfErr r P → ((fault : Fault) → P fault → Q fault) → IfErr r Q
 if_err (Ok x) P Q is step = tt

@@ -10,7 +10,8 @@ use Rattle.sdv_words.specs.declared.fault.Fault.TheVariants.{Usage, Unserved, Ou
 use Rattle.sdv_words.specs.Certify.{CertifiesFile, CertifiesFileInPart, UncertifiesFile}
 use Rattle.sdv_words.specs.Check.{AcceptsFiles, AcceptsFilesInPart, RefusesFiles}
 use Rattle.sdv_words.specs.BatchWords.{PrintsBatch, PrintsBatchInPart, RefusesBatch}
-use Rattle.sdv_words.specs.CommandLine.{RunNames, frame, certify, check, run, batch, meaning_of}
+use Rattle.sdv_words.specs.CommandLine.{RunNames, frame, certify, check, run, batch, explain, meaning_of}
+use Rattle.sdv_words.specs.Explain.{ExplainsFile, ExplainFileFails}
 use Rattle.sdv_words.specs.Fault.{Says, status_of}
 use Rattle.sdv_words.specs.Files.{Files}
 use Rattle.sdv_words.specs.Run.{EndsRun, RunFails}
@@ -116,6 +117,28 @@ pub record AnswersRun (files : Files) (words : List Text) (before after : Option
   pub meaning : meaning_of words ≡ Some (run names)
   pub ends : EndsRun files names Done before after
 
+-- EXPLANATIONS
+
+-- the words ask for the explanation of a script
+pub record AsksExplanation (words : List Text) : Type 0 where
+  pub script_file : Text
+  pub meaning : meaning_of words ≡ Some (explain script_file)
+
+abbrev pub AsksNoExplanation : List Text → Type 0
+AsksNoExplanation words = (script : Text) → meaning_of words ≢ Some (explain script)
+
+-- the words ask for it, the script has a certificate, and its explanation was printed
+pub record AnswersExplain (gives : (file text : Text) → Type 0) (words : List Text) (before after : Option (List ℕ)) : Type 0 where
+  pub script_file : Text
+  pub meaning : meaning_of words ≡ Some (explain script_file)
+  pub explains : ExplainsFile gives script_file before after
+
+-- the words ask for it, and the output failed
+pub record AnswersExplainInPart (gives : (file text : Text) → Type 0) (words : List Text) (before after : Option (List ℕ)) : Type 0 where
+  pub script_file : Text
+  pub meaning : meaning_of words ≡ Some (explain script_file)
+  pub fails : ExplainFileFails gives script_file Output before after
+
 -- BATCHES
 
 -- the words ask for the script of requests, and it was printed
@@ -141,44 +164,47 @@ pub record RefusesRequests (words : List Text) (fault : Fault) : Type 0 where
 
 -- ANSWERS
 
--- the words ask for no frame, for no certificate, for no check, for no run and for no batch
+-- the words ask for no frame, for no certificate, for no check, for no run, for no explanation and for no batch
 pub record AsksNothing (words : List Text) : Type 0 where
   pub no_frame : (c : Command) → ¬ AsksFrame words c
   pub no_certificate : (script : Text) → meaning_of words ≢ Some (certify script)
   pub no_check : (script certificate : Text) → meaning_of words ≢ Some (check script certificate)
   pub no_run : AsksNoRun words
+  pub no_explanation : AsksNoExplanation words
   pub no_batch : (kind requests : Text) → meaning_of words ≢ Some (batch kind requests)
 
 abbrev pub Answers : Files → List Text → (before after : Option (List ℕ)) → Type 0
 Answers files words before after =
     AnswersFrame words before after ⊎ (AnswersCertify files.gives words before after ⊎ (AnswersCheck files.gives words before after
-    ⊎ (AnswersRun files words before after ⊎ AnswersBatch words before after)))
+    ⊎ (AnswersRun files words before after ⊎ (AnswersBatch words before after ⊎ AnswersExplain files.gives words before after))))
 
 -- what was asked for was printed in part, and not all of it
 abbrev pub AnswersInPart : Files → List Text → (before after : Option (List ℕ)) → Type 0
 AnswersInPart files words before after =
     AnswersFrameInPart words before after ⊎ (AnswersCertifyInPart files.gives words before after
-    ⊎ (AnswersCheckInPart files.gives words before after ⊎ AnswersBatchInPart words before after))
+    ⊎ (AnswersCheckInPart files.gives words before after
+    ⊎ (AnswersBatchInPart words before after ⊎ AnswersExplainInPart files.gives words before after)))
 
 -- the words ask for a certificate or a check, and of the files is so what the fault says
 abbrev pub RefusesScript : Files → List Text → Fault → Type 0
 RefusesScript files words fault = RefusesCertify files.gives words fault ⊎ RefusesCheck files.gives words fault
 
--- what a fault says of the words; of a run it is said below
+-- what a fault says of the words; of a run and of an explanation it is said below
 abbrev pub IsFaultOf : Files → List Text → Fault → Type 0
 IsFaultOf files words Usage = AsksNothing words ⊎ RefusesRequests words Usage
-IsFaultOf files words Output = ((c : Command) × AsksFrame words c) ⊎ (RefusesScript files words Output ⊎ RefusesRequests words Output)
+IsFaultOf files words Output = ((c : Command) × AsksFrame words c) ⊎ (RefusesScript files words Output ⊎ (RefusesRequests words Output ⊎ AsksExplanation words))
 IsFaultOf files words (Unserved fault) = RefusesRequests words (Unserved fault)
 IsFaultOf files words Memory = Unit {0}
-IsFaultOf files words fault = RefusesScript files words fault ⊎ AsksRun words
+IsFaultOf files words fault = RefusesScript files words fault ⊎ (AsksRun words ⊎ AsksExplanation words)
 
 -- REFUSALS
 
--- what a fault leaves standard output as: as it was, but where a run was asked for
+-- what a fault leaves standard output as: as it was, but where a run or an explanation was asked for
 pub record Left (files : Files) (words : List Text) (fault : Fault) (before after : Option (List ℕ)) : Type 0 where
-  pub kept : AsksNoRun words → Keeps before after
+  pub kept : AsksNoRun words → AsksNoExplanation words → Keeps before after
   -- and of a run it is so what the fault says
   pub of_run : (names : RunNames) → meaning_of words ≡ Some (run names) → RunFails files names fault before after
+  pub of_explanation : (script : Text) → meaning_of words ≡ Some (explain script) → ExplainFileFails files.gives script fault before after
 
 -- what is known of standard output after a fault
 abbrev pub Leaves : Files → List Text → Fault → (before after : Option (List ℕ)) → Type 0

@@ -5,7 +5,7 @@ use Rattle.std.specs.Str.{bytes_eq}
 use Rattle.clap.specs.Words.{App, Kinds, Row, Rule, Shape, Text, fault_of, first_of, new_app}
 use Rattle.clap.specs.Words.{new_rule, subcommand_of, with_rule, with_subcommand}
 use Rattle.sdv_words.specs.declared.line.Line.{Line}
-use Rattle.sdv_words.specs.declared.line.Line.TheVariants.{Frame, Certify, Check, Run, Batch}
+use Rattle.sdv_words.specs.declared.line.Line.TheVariants.{Frame, Certify, Check, Run, Batch, Explain}
 use Rattle.sdv_words.specs.declared.line.RunFiles.{RunFiles}
 
 -- a word that stands by its place, and may not be left out
@@ -30,6 +30,10 @@ check_command =
 abbrev pub batch_command : App
 batch_command =
     with_rule (with_rule (new_app (codes "batch")) (required (codes "KIND"))) (required (codes "REQUESTS"))
+
+-- `explain SCRIPT`
+abbrev pub explain_command : App
+explain_command = with_rule (new_app (codes "explain")) (required (codes "SCRIPT"))
 
 -- a word behind another one, which names it
 abbrev pub option : (id long : Text) → Rule
@@ -58,8 +62,8 @@ program_shape = record (new_app (codes "sdv")).top {
 -- `sdv`, and its commands
 abbrev pub command_line : App
 command_line =
-    with_subcommand (with_subcommand (with_subcommand (with_subcommand (with_subcommand (record { top = program_shape; subs = [] }) frame_command.top)
-    certify_command.top) check_command.top) run_command.top) batch_command.top
+    with_subcommand (with_subcommand (with_subcommand (with_subcommand (with_subcommand (with_subcommand (record { top = program_shape; subs = [] })
+    frame_command.top) certify_command.top) check_command.top) run_command.top) batch_command.top) explain_command.top
 
 -- the files of a run, by their names
 pub record RunNames : Type 0 where
@@ -78,6 +82,7 @@ pub data Request : Type 0 where
   check : Text → Text → Request
   run : RunNames → Request
   batch : (kind requests : Text) → Request
+  explain : Text → Request
 
 abbrev pub names_of : RunFiles → RunNames
 names_of files = record {
@@ -97,6 +102,7 @@ request_of (Certify script) = certify script.now
 request_of (Check script certificate) = check script.now certificate.now
 request_of (Run files) = run (names_of files)
 request_of (Batch kind requests) = batch kind.now requests.now
+request_of (Explain script) = explain script.now
 
 abbrev pub frame_of : Option Text → Option Text → Option Request
 frame_of (Some index) (Some argument) = Some (frame index argument)
@@ -117,6 +123,10 @@ check_of _ _ = None
 -- the request in what clap matched for the words of `check`
 abbrev pub check_request : List Row → Option Request
 check_request matched = check_of (first_of (codes "SCRIPT") matched) (first_of (codes "CERT") matched)
+
+-- the request in what clap matched for the words of `explain`
+abbrev pub explain_request : List Row → Option Request
+explain_request matched = option_map explain (first_of (codes "SCRIPT") matched)
 
 abbrev pub batch_of : Option Text → Option Text → Option Request
 batch_of (Some kind) (Some requests) = Some (batch kind requests)
@@ -145,6 +155,7 @@ request_in used =
     else if bytes_eq used.0 (codes "check") then check_request used.1
     else if bytes_eq used.0 (codes "run") then run_request used.1
     else if bytes_eq used.0 (codes "batch") then batch_request used.1
+    else if bytes_eq used.0 (codes "explain") then explain_request used.1
     else None
 
 -- the same, by the kinds of fault that clap finds in the words: there is no request where there are

@@ -19,6 +19,8 @@ use Rattle.sdv_check.specs.declared.fault.CheckFault.{CheckFault}
 use Rattle.sdv_check.specs.declared.fault.CheckFault.TheVariants as checks
 use Rattle.sdv_check.specs.declared.fault.VerifyFault.{VerifyFault}
 use Rattle.sdv_check.specs.declared.fault.VerifyFault.TheVariants as verifies
+use Rattle.sdv_explain.specs.declared.fault.ExplainFault.{ExplainFault}
+use Rattle.sdv_explain.specs.declared.fault.ExplainFault.TheVariants as explains
 use Rattle.sdv_block.specs.declared.fault.BlockFault.{BlockFault}
 use Rattle.sdv_block.specs.declared.fault.BlockFault.TheVariants as blocks
 use Rattle.sdv_image.specs.declared.fault.SimFault.{SimFault}
@@ -101,7 +103,7 @@ run_fault_name runs.Trace = codes "Trace"
 run_fault_name runs.Memory = codes "Memory"
 
 abbrev pub usage : Text
-usage = codes "usage: sdv frame INDEX ARG | sdv certify SCRIPT | sdv check SCRIPT CERT | sdv run SCRIPT CERT CARD IMAGE [SCHEDULE] [--in FILE] [--out FILE] | sdv batch KIND REQUESTS"
+usage = codes "usage: sdv frame INDEX ARG | sdv certify SCRIPT | sdv check SCRIPT CERT | sdv run SCRIPT CERT CARD IMAGE [SCHEDULE] [--in FILE] [--out FILE] | sdv batch KIND REQUESTS | sdv explain SCRIPT"
 
 abbrev pub named_line : (words name : Text) → Text
 named_line words name = words ++ (name ++ 10 ∷ [])
@@ -169,6 +171,12 @@ fault_of_verify (verifies.Script fault) = Script fault
 fault_of_verify (verifies.Certificate fault) = Certificate fault
 fault_of_verify (verifies.Check fault) = Refused fault
 fault_of_verify verifies.Memory = Memory
+
+-- scripts of which nothing is explained
+abbrev pub fault_of_explain : ExplainFault → Fault
+fault_of_explain (explains.Script fault) = Script fault
+fault_of_explain explains.TooMany = Uncertified certifies.TooMany
+fault_of_explain explains.Memory = Memory
 
 -- requests that no script serves
 abbrev pub fault_of_block : BlockFault → Fault

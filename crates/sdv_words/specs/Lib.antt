@@ -4,6 +4,7 @@ pub mod FrameText
 pub mod Fault
 pub mod Check
 pub mod BatchWords
+pub mod Explain
 pub mod Certify
 pub mod Files
 pub mod Run

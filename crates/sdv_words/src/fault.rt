@@ -12,6 +12,7 @@ use sdv_block::BlockFault;
 use sdv_card::Shape;
 use sdv_certify::CertifyFault;
 use sdv_check::{CertFault, CheckFault, VerifyFault};
+use sdv_explain::ExplainFault;
 use sdv_run::RunFault;
 use sdv_script::{FaultKind, ScriptFault};
 use sdv_sim::SimFault;
@@ -98,6 +99,20 @@ impl<'a> From<VerifyFault> for Fault<'a> {
             VerifyFault::Certificate(fault) => Fault::Certificate(fault),
             VerifyFault::Check(fault) => Fault::Refused(fault),
             VerifyFault::Memory => Fault::Memory,
+        }
+    }
+}
+
+impl<'a> From<ExplainFault> for Fault<'a> {
+    ghost use Rattle.sdv_words.specs.Fault.{fault_of_explain};
+
+    ghost from_gives = { λ fault f. f ≡ fault_of_explain fault };
+
+    fn from(fault: ExplainFault) -> Fault<'a> {
+        match fault {
+            ExplainFault::Script(fault) => Fault::Script(fault),
+            ExplainFault::TooMany => Fault::Uncertified(CertifyFault::TooMany),
+            ExplainFault::Memory => Fault::Memory,
         }
     }
 }

@@ -7,6 +7,7 @@
 pub mod batch;
 pub mod certify;
 pub mod check;
+pub mod explain;
 pub mod fault;
 pub mod file;
 pub mod frame;

@@ -6,7 +6,7 @@ ghost use Rattle.clap.specs.Words.{app_of, fault_of, found_of, kind_of, rows_of}
 ghost use Rattle.clap.specs.Words.{subcommand_rows_of, takes};
 ghost use Rattle.clap.specs.Walk.{texts};
 ghost use Rattle.clap.specs.declared.error.kind.ErrorKind.TheVariants.{OutOfMemory};
-ghost use Rattle.sdv_words.specs.CommandLine.{batch_command, batch_request};
+ghost use Rattle.sdv_words.specs.CommandLine.{batch_command, batch_request, explain_command, explain_request};
 ghost use Rattle.sdv_words.specs.CommandLine.{certify_command, certify_request, check_command, check_request, command_line};
 ghost use Rattle.sdv_words.specs.CommandLine.{frame_command, frame_request, meaning_of, request_in, request_of};
 ghost use Rattle.sdv_words.specs.CommandLine.{run_command, run_files_command, run_request};
@@ -18,7 +18,7 @@ use thiserror::Error;
 
 /// How the program is called.
 pub const USAGE: &str =
-    "usage: sdv frame INDEX ARG | sdv certify SCRIPT | sdv check SCRIPT CERT | sdv run SCRIPT CERT CARD IMAGE [SCHEDULE] [--in FILE] [--out FILE] | sdv batch KIND REQUESTS";
+    "usage: sdv frame INDEX ARG | sdv certify SCRIPT | sdv check SCRIPT CERT | sdv run SCRIPT CERT CARD IMAGE [SCHEDULE] [--in FILE] [--out FILE] | sdv batch KIND REQUESTS | sdv explain SCRIPT";
 
 /// A command of the program, with the texts of its words.
 #[derive(Clone, Copy, Debug, PartialEq, Eq)]
@@ -41,6 +41,10 @@ pub enum Line<'a> {
     Batch {
         kind: &'a str,
         requests: &'a str,
+    },
+    /// The explanation of the script in this file.
+    Explain {
+        script: &'a str,
     },
     /// The run of the script in these files beside a simulated card.
     Run(RunFiles<'a>),
@@ -119,7 +123,8 @@ fn program_command<'a>(alloc: Global) -> Result<Command<'a>, AllocError>
         .subcommand(certify_command(alloc)?)?
         .subcommand(check_command(alloc)?)?
         .subcommand(run_command(alloc)?)?
-        .subcommand(batch_command(alloc)?)
+        .subcommand(batch_command(alloc)?)?
+        .subcommand(explain_command(alloc)?)
 }
 
 fn frame_command<'a>(alloc: Global) -> Result<Command<'a>, AllocError>
@@ -143,6 +148,13 @@ fn check_command<'a>(alloc: Global) -> Result<Command<'a>, AllocError>
     let script = Arg::new(alloc, "SCRIPT").required(true);
     let certificate = Arg::new(alloc, "CERT").required(true);
     Command::new(alloc, "check").arg(script)?.arg(certificate)
+}
+
+fn explain_command<'a>(alloc: Global) -> Result<Command<'a>, AllocError>
+    ensures { IfOk result (λ command. app_of command ≡ explain_command) }
+{
+    let script = Arg::new(alloc, "SCRIPT").required(true);
+    Command::new(alloc, "explain").arg(script)
 }
 
 fn batch_command<'a>(alloc: Global) -> Result<Command<'a>, AllocError>
@@ -188,6 +200,7 @@ fn line_in<'a>(matches: &ArgMatches<'a>) -> Option<Line<'a>>
         ("check", matches) => check_line(matches),
         ("run", matches) => run_line(matches),
         ("batch", matches) => batch_line(matches),
+        ("explain", matches) => explain_line(matches),
         _ => None,
     }
 }
@@ -216,6 +229,13 @@ fn check_line<'a>(matches: &ArgMatches<'a>) -> Option<Line<'a>>
         script,
         certificate,
     })
+}
+
+fn explain_line<'a>(matches: &ArgMatches<'a>) -> Option<Line<'a>>
+    ensures { option_map request_of result ≡ explain_request (rows_of (found_of matches.now)) }
+{
+    let script = matches.get_str("SCRIPT")?;
+    Some(Line::Explain { script })
 }
 
 fn batch_line<'a>(matches: &ArgMatches<'a>) -> Option<Line<'a>>

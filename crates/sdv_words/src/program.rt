@@ -2,7 +2,7 @@
 ghost use Rattle.std.specs.Prelude.{◌≡◌, ◌≢◌, ◌⊎◌, IfErr, OnOk};
 ghost use Rattle.std.specs.Io.KnownBytes.{Keeps};
 ghost use Rattle.clap.specs.Walk.{texts};
-ghost use Rattle.sdv_words.specs.Answer.{Answers, AsksFrame, AsksNoRun, AsksNothing, EndsBy, IsFaultOf, Leaves, PrintsFrame};
+ghost use Rattle.sdv_words.specs.Answer.{Answers, AsksFrame, AsksNoExplanation, AsksNoRun, AsksNothing, EndsBy, IsFaultOf, Leaves, PrintsFrame};
 ghost use Rattle.sdv_words.specs.Answer.{PrintsFrameInPart, RefusesFrame};
 ghost use Rattle.sdv_words.specs.Files.{any_files, store_of};
 ghost use Rattle.sdv_words.specs.Fault.{status_of};
@@ -12,6 +12,7 @@ ghost use Rattle.sdv_frames.specs.declared.command.Command.{Command};
 use crate::batch::print_batch;
 use crate::certify::certify_file;
 use crate::check::check_files;
+use crate::explain::explain_file;
 use crate::fault::Fault;
 use crate::file::{MachineFiles, Store};
 use crate::frame::{command_of, write_frame};
@@ -41,7 +42,8 @@ pub fn program<R: Files + AllocGlobal, O: Write, E: Write>(
 
     ensures nothing_asked { AsksNothing (texts words.now)
         → Keeps (O.contents out.old) (O.contents out.new) }
-    ensures refused { AsksNoRun (texts words.now) → result ≡ 1 → Keeps (O.contents out.old) (O.contents out.new) }
+    ensures refused { AsksNoRun (texts words.now) → AsksNoExplanation (texts words.now) → result ≡ 1
+        → Keeps (O.contents out.old) (O.contents out.new) }
     ensures output_failed { (c : Command) → AsksFrame (texts words.now) c → result ≡ 2
         → Keeps (E.contents err.old) (E.contents err.new) }
     ensures no_memory { result ≡ 3 → Keeps (O.contents out.old) (O.contents out.new) }
@@ -75,6 +77,7 @@ pub fn answer<'a, S: Store, O: Write>(
             certificate,
         } => check_files(alloc, files, script, certificate, out),
         Line::Run(names) => run_files(alloc, files, names, out),
+        Line::Explain { script } => explain_file(alloc, files, script, out),
         Line::Batch { kind, requests } => print_batch(alloc, kind, requests, out),
     }
 }

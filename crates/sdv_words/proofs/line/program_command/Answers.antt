@@ -4,7 +4,7 @@ use Rattle.clap.specs.Walk.{is_empty}
 use Rattle.clap.specs.Words.{App, app_of, with_subcommand}
 use Rattle.clap.specs.declared.builder.command.Command.{Command}
 use Rattle.clap.specs.declared.builder.command.Command.TheViews.{out-Command}
-use Rattle.sdv_words.specs.CommandLine.{batch_command, certify_command, check_command, frame_command, program_shape, run_command}
+use Rattle.sdv_words.specs.CommandLine.{batch_command, explain_command, certify_command, check_command, frame_command, program_shape, run_command}
 use Rattle.sdv_words.proofs.line.program_command.Goals as goal
 
 no_global : (a b g rest : Bool) → (a && (not b && (not g && rest))) ≡ true → g ≡ false
@@ -31,5 +31,7 @@ returns c =
     let third = c.in_ok-subcommand-3.ensures.shape (no_globals _ _ check refl) ∙ ap₂ with_subcommand second (ap (λ (a : App). a.top) check) in
     let fourth = c.in_ok-subcommand-4.ensures.shape (no_globals _ _ run refl) ∙ ap₂ with_subcommand third (ap (λ (a : App). a.top) run) in
     let batch : app_of c.in_ok-batch_command.field-0 ≡ batch_command = c.in_ok-batch_command.ensures in
-    IfOk-weaker c.subcommand-5.result _ _
-    (λ command added. added.shape (no_globals _ _ batch refl) ∙ ap₂ with_subcommand fourth (ap (λ (a : App). a.top) batch)) c.subcommand-5.ensures
+    let fifth = c.in_ok-subcommand-5.ensures.shape (no_globals _ _ batch refl) ∙ ap₂ with_subcommand fourth (ap (λ (a : App). a.top) batch) in
+    let explain : app_of c.in_ok-explain_command.field-0 ≡ explain_command = c.in_ok-explain_command.ensures in
+    IfOk-weaker c.subcommand-6.result _ _
+    (λ command added. added.shape (no_globals _ _ explain refl) ∙ ap₂ with_subcommand fifth (ap (λ (a : App). a.top) explain)) c.subcommand-6.ensures

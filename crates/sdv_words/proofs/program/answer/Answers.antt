@@ -1,8 +1,8 @@
 use Rattle.std.proofs.Common.{◌≡◌, ◌∙◌, Err, Some, ap}
 use Rattle.clap.specs.Walk.{texts}
-use Rattle.sdv_words.specs.CommandLine.{batch, certify, check, frame, meaning_of, names_of, request_of, run}
+use Rattle.sdv_words.specs.CommandLine.{batch, explain, certify, check, frame, meaning_of, names_of, request_of, run}
 use Rattle.sdv_words.specs.Files.{store_of}
-use Rattle.sdv_words.proofs.AnswerLaws.{faults_of_batch, faults_of_certify, faults_of_check, faults_of_frame, faults_of_line, faults_of_run, left_of_batch, left_of_certify, left_of_check, left_of_frame, left_of_line, left_of_run}
+use Rattle.sdv_words.proofs.AnswerLaws.{faults_of_explain, left_of_explain, faults_of_batch, faults_of_certify, faults_of_check, faults_of_frame, faults_of_line, faults_of_run, left_of_batch, left_of_certify, left_of_check, left_of_frame, left_of_line, left_of_run}
 use Rattle.sdv_words.proofs.program.answer.Goals as goal
 
 pub returns-in_err-index-clause-faults : goal.returns-in_err-index-clause-faults
@@ -84,3 +84,17 @@ returns-in-Batch-clause-left g c =
     c.in_ok-index.ensures.ok ∙ ap (λ line. Some (request_of line)) c.in-Batch.is in
     left_of_batch (store_of g.S.Store.gives g.S.Store.stored g.S.Store.received c.args.files.now) (texts c.args.words.now) c.in-Batch.kind.now
     c.in-Batch.requests.now meaning c.print_batch.result _ _ c.print_batch.ensures.quiet c.print_batch.ensures.part
+
+pub returns-in-Explain-clause-faults : goal.returns-in-Explain-clause-faults
+returns-in-Explain-clause-faults g c =
+    let meaning : meaning_of (texts c.args.words.now) ≡ Some (explain c.in-Explain.script.now) =
+    c.in_ok-index.ensures.ok ∙ ap (λ line. Some (request_of line)) c.in-Explain.is in
+    faults_of_explain (store_of g.S.Store.gives g.S.Store.stored g.S.Store.received c.args.files.now) (texts c.args.words.now) c.in-Explain.script.now meaning _ _
+    c.explain_file.result c.explain_file.ensures.fails
+
+pub returns-in-Explain-clause-left : goal.returns-in-Explain-clause-left
+returns-in-Explain-clause-left g c =
+    let meaning : meaning_of (texts c.args.words.now) ≡ Some (explain c.in-Explain.script.now) =
+    c.in_ok-index.ensures.ok ∙ ap (λ line. Some (request_of line)) c.in-Explain.is in
+    left_of_explain (store_of g.S.Store.gives g.S.Store.stored g.S.Store.received c.args.files.now) (texts c.args.words.now) c.in-Explain.script.now meaning _ _
+    c.explain_file.result c.explain_file.ensures.fails
