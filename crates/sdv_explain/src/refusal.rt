@@ -105,7 +105,8 @@ fn reason_words(reason: Reason) -> &'static str {
             "this is an application command, and the card may not take the next command as one"
         }
         Reason::BlockLength => "the block length may be another than 512: CMD16 was not taken",
-        Reason::EraseSequence => "the commands before it in an erase may not have been taken, one right after the other",
+        Reason::EraseSequence =>
+            "the commands before it in an erase may not have been taken, one right after the other",
         Reason::NoReadDue => "no read of blocks is due",
         Reason::NoRegisterDue => "no register is due",
         Reason::NoWriteDue => "no write of blocks is due",
@@ -210,6 +211,25 @@ fn fault_word(fault: CertifyFault) -> &'static str {
     }
 }
 
+/// The sixteen hexadecimal digits of a shape's code.
+fn digits_of(shape: Shape) -> [u8; 16] {
+    let mut digits = [0; 16];
+    hex::encode_to_slice(shape.0.to_be_bytes(), &mut digits).unwrap();
+    digits
+}
+
+/// Adds the line of a refusal of a point.
+fn put_fault(text: &mut Text, fault: CertifyFault, number: usize) -> Result<(), AllocError> {
+    put(text, "refused ")?;
+    put(text, fault_word(fault))?;
+    put_numbered(text, " point ", number as u64, "")?;
+    if let CertifyFault::Illegal { shape, .. } = fault {
+        put(text, " shape ")?;
+        text.extend_from_slice(&digits_of(shape))?;
+    }
+    put(text, "\n")
+}
+
 /// The statement compares a number, or tests the range of one.
 fn tests_number(action: &Action<'_>) -> bool {
     match action {
@@ -245,7 +265,7 @@ fn put_event(
     put_statement(text, action, outline)?;
     pad(text, start, 37)?;
     put_seen(text, action, seen)?;
-    pad(text, start, 66)?;
+    pad(text, start, 74)?;
     put(text, "then ")?;
     put_shape(text, after.shape, &outline.flags)?;
     put(text, "\n")
@@ -262,7 +282,10 @@ pub fn put_way(
         return Ok(());
     };
     if way.iter().any(|visit| tests_at(graph, visit)) {
-        put(text, "a way there, if its tests of numbers may come out so:\n")?;
+        put(
+            text,
+            "a way there, if its tests of numbers may come out so:\n",
+        )?;
     } else {
         put(text, "a way there:\n")?;
     }
@@ -291,9 +314,7 @@ pub fn put_refusal(
         return Ok(());
     }
     let action = &graph.point(number).action;
-    put(text, "refused ")?;
-    put(text, fault_word(fault))?;
-    put_numbered(text, " point ", number as u64, "\n")?;
+    put_fault(text, fault, number)?;
     put_place(text, number, action, outline)?;
     put(text, ", beside a card that is\n    ")?;
     put_shape(text, shape, &outline.flags)?;

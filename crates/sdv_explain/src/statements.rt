@@ -4,9 +4,7 @@ use crate::outline::Outline;
 use crate::shapes::numbered_state_word;
 use crate::text::{Text, put, put_number, put_numbered};
 use sdv_card::{Aim, Seen};
-use sdv_graph::{
-    Action, Address, Atom, Change, Command, Condition, Let, Phase, Position, Unit,
-};
+use sdv_graph::{Action, Address, Atom, Change, Command, Condition, Let, Phase, Position, Unit};
 use std::alloc::AllocError;
 
 /// Adds the name in a place.
@@ -142,7 +140,14 @@ fn cut_word(action: &Action<'_>) -> &'static str {
 }
 
 fn put_ocr(text: &mut Text, ready: bool, block: Option<bool>) -> Result<(), AllocError> {
-    put(text, if ready { "answer, ready" } else { "answer, not ready" })?;
+    put(
+        text,
+        if ready {
+            "answer, ready"
+        } else {
+            "answer, not ready"
+        },
+    )?;
     match block {
         Some(true) => put(text, ", block addresses"),
         Some(false) => put(text, ", byte addresses"),
