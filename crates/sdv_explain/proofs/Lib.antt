@@ -1,3 +1,4 @@
 pub mod EdgeLaws
 pub mod FoundLaws
 pub mod ExplainedLaws
+pub mod StandLaws

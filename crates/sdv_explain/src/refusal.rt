@@ -244,6 +244,36 @@ fn tests_at(graph: &Graph<'_>, visit: &Visit) -> bool {
     visit.point < graph.len() && tests_number(&graph.point(visit.point).action)
 }
 
+/// Adds the line of a point and its statement, as a step of a way.
+fn put_step(
+    text: &mut Text,
+    action: &Action<'_>,
+    outline: &Outline,
+    point: usize,
+) -> Result<(), AllocError> {
+    let start = text.len();
+    put_numbered(text, "    line ", outline.line(point) as u64, "")?;
+    pad(text, start, 13)?;
+    put_statement(text, action, outline)
+}
+
+/// Adds that a loop has no turn left, where its else block comes next.
+fn put_last_turn(
+    text: &mut Text,
+    action: &Action<'_>,
+    outline: &Outline,
+    before: &Visit,
+    after: &Visit,
+) -> Result<(), AllocError> {
+    match action {
+        Action::Loop(_, body, other) if after.point == other.to && after.point != body.to => {
+            put_step(text, action, outline, before.point)?;
+            put(text, ", after its last turn\n")
+        }
+        _ => Ok(()),
+    }
+}
+
 /// Adds the event of a visit, what was seen of it, and the shape after it.
 fn put_event(
     text: &mut Text,
@@ -252,17 +282,15 @@ fn put_event(
     before: &Visit,
     after: &Visit,
 ) -> Result<(), AllocError> {
-    let Some(seen) = after.seen else {
-        return Ok(());
-    };
     if graph.len() <= before.point {
         return Ok(());
     }
     let action = &graph.point(before.point).action;
     let start = text.len();
-    put_numbered(text, "    line ", outline.line(before.point) as u64, "")?;
-    pad(text, start, 13)?;
-    put_statement(text, action, outline)?;
+    let Some(seen) = after.seen else {
+        return put_last_turn(text, action, outline, before, after);
+    };
+    put_step(text, action, outline, before.point)?;
     pad(text, start, 37)?;
     put_seen(text, action, seen)?;
     pad(text, start, 74)?;
