@@ -1,34 +1,46 @@
 use crate::counting_file::CountingFile;
-use sdv_file_image::FileImage;
+use sdv_file_image::{BlockFile, FileImage};
+use sdv_fuse::{Call, Fuse, FuseFile};
 use sdv_image::{Image, ImageFault, SimFault};
 use std::alloc::Global;
 use std::process::Abort;
 use std::test::Fail;
 
-/// A call on a block: it is read and has this byte first, or it is written with it.
+/// A step on a block: it is read and has this byte first, or it is written with it.
 #[derive(Clone, Copy, Debug)]
-enum Call {
+enum Step {
     Read(u64, u8),
     Write(u64, u8),
 }
 
-use Call::{Read, Write};
+use Step::{Read, Write};
 
 /// An image over a file of 64 blocks.
-fn image_of(alloc: Global, fails_at: u64) -> Result<FileImage<CountingFile>, Fail> {
-    let mut file = CountingFile::new(alloc, 64 * 512)?;
-    file.fails_at = fails_at;
+fn image_of(alloc: Global) -> Result<FileImage<CountingFile>, Fail> {
+    let file = CountingFile::new(alloc, 64 * 512)?;
     Ok(FileImage::new(alloc, file)?)
 }
 
-/// Makes a call. A block that is read must have its byte.
-fn make<I: Image>(rt: &impl Abort, image: &mut I, call: Call) -> Result<(), ImageFault> {
+/// An image over a file of 64 blocks, of which a write fails once, after so many good ones.
+fn failing_image(alloc: Global, good: u64) -> Result<FileImage<FuseFile<CountingFile>>, Fail> {
+    let file = FuseFile {
+        file: CountingFile::new(alloc, 64 * 512)?,
+        fuse: Fuse {
+            call: Call::Write,
+            good: Some(good),
+        },
+    };
+    Ok(FileImage::new(alloc, file)?)
+}
+
+/// Makes a step. A block that is read must have its byte.
+fn make<I: Image>(rt: &impl Abort, image: &mut I, step: Step) -> Result<(), ImageFault> {
     let mut block = [0; 512];
-    match call {
+    match step {
         Read(place, byte) => {
             assert!(rt; place < image.len());
             image.read_block(place, &mut block)?;
-            assert!(rt; block[0] == byte, "{call:?}: {}", block[0]);
+            assert!(rt; block[0] == byte, "{step:?}: {}", block[0]);
             Ok(())
         }
         Write(place, byte) => {
@@ -39,10 +51,10 @@ fn make<I: Image>(rt: &impl Abort, image: &mut I, call: Call) -> Result<(), Imag
     }
 }
 
-/// Makes calls that do not fail.
-fn play<I: Image>(rt: &impl Abort, image: &mut I, calls: &[Call]) {
-    for call in calls {
-        assert!(rt; make(rt, image, *call).is_ok(), "{call:?}");
+/// Makes steps that do not fail.
+fn play<I: Image>(rt: &impl Abort, image: &mut I, steps: &[Step]) {
+    for step in steps {
+        assert!(rt; make(rt, image, *step).is_ok(), "{step:?}");
     }
 }
 
@@ -55,8 +67,8 @@ fn counts(image: FileImage<CountingFile>) -> Result<(u64, u64), Fail> {
 /// Blocks one after another, each of them twice, cost the file one read or write each.
 #[test]
 fn sequential_use(rt: HostRuntime) -> Result<(), Fail> {
-    let mut read = image_of(rt.alloc(), 0)?;
-    let mut written = image_of(rt.alloc(), 0)?;
+    let mut read = image_of(rt.alloc())?;
+    let mut written = image_of(rt.alloc())?;
     for place in 0..40 {
         play(&rt, &mut read, &[Read(place, 0), Read(place, 0)]);
         play(&rt, &mut written, &[Write(place, 1), Write(place, 2)]);
@@ -69,7 +81,7 @@ fn sequential_use(rt: HostRuntime) -> Result<(), Fail> {
 /// 40 blocks with their numbers, read in reverse: the last 16 are still in buffers.
 #[test]
 fn written_and_read_back(rt: HostRuntime) -> Result<(), Fail> {
-    let mut image = image_of(rt.alloc(), 0)?;
+    let mut image = image_of(rt.alloc())?;
     for place in 0..40u8 {
         play(&rt, &mut image, &[Write(place as u64, place)]);
     }
@@ -83,7 +95,7 @@ fn written_and_read_back(rt: HostRuntime) -> Result<(), Fail> {
 /// The block that was used least recently is given up: block 1, since block 0 was read again.
 #[test]
 fn least_recent(rt: HostRuntime) -> Result<(), Fail> {
-    let mut image = image_of(rt.alloc(), 0)?;
+    let mut image = image_of(rt.alloc())?;
     for place in 0..16 {
         play(&rt, &mut image, &[Read(place, 0)]);
     }
@@ -99,7 +111,7 @@ fn least_recent(rt: HostRuntime) -> Result<(), Fail> {
 /// The first write-back fails once: nothing is lost, and the next try gives the buffer up.
 #[test]
 fn failed_write_back(rt: HostRuntime) -> Result<(), Fail> {
-    let mut image = image_of(rt.alloc(), 1)?;
+    let mut image = failing_image(rt.alloc(), 0)?;
     for place in 0..16u8 {
         play(&rt, &mut image, &[Write(place as u64, place)]);
     }
@@ -114,14 +126,15 @@ fn failed_write_back(rt: HostRuntime) -> Result<(), Fail> {
 /// A write-back fails once in `finish`: the image still has all blocks, and the next `finish` writes them.
 #[test]
 fn failed_finish(rt: HostRuntime) -> Result<(), Fail> {
-    let mut image = image_of(rt.alloc(), 2)?;
+    let mut image = failing_image(rt.alloc(), 1)?;
     play(&rt, &mut image, &[Write(3, 3), Write(4, 4), Write(5, 5)]);
     let refused = image.finish().err();
     assert!(rt; refused.is_some());
     if let Some((mut image, _)) = refused {
         play(&rt, &mut image, &[Read(3, 3), Read(4, 4), Read(5, 5)]);
         let file = image.finish().ok().ok_or("a write-back failed")?;
-        let mut image = file.image;
+        assert_eq!(rt; file.failures(), u64::MAX);
+        let mut image = file.file.image;
         play(&rt, &mut image, &[Read(3, 3), Read(4, 4), Read(5, 5)]);
     }
     Ok(())

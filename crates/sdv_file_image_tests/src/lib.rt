@@ -1,5 +1,5 @@
 //! Tests of images over files: how often they read and write the file, which buffer they give up, and what they keep where
-//! the file fails.
+//! the file fails; and of the fuses that make a call fail.
 //!
 //! The crate has no code of its own.
 #![tactic(auto)]
@@ -8,3 +8,5 @@
 mod counting_file;
 #[cfg(test)]
 mod file_image;
+#[cfg(test)]
+mod fuses;
