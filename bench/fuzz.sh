@@ -10,7 +10,8 @@
 # status; what `certify` writes has to be accepted, and a run beside a card of the script's kind never stops at an answer.
 # What ends otherwise is told with its words, its files are kept under /tmp, and the status is 1.
 #
-# SDV may name another build of the program, and PROCESSES how many are started at a time (4).
+# SDV may name another build of the program, PROCESSES how many are started at a time (4), and LIMIT how many kilobytes of
+# memory each may have (2,000,000).
 set -eu
 top=$(cd "$(dirname "$0")/.." && pwd)
 export PATH="/opt/rattle/bin:$PATH" LC_ALL=C
@@ -19,6 +20,8 @@ seed=${1:-1} count=${2:-10000} first=${3:-0} processes=${PROCESSES:-4}
 work=$(mktemp -d -p "$memory")
 found=/tmp/sdv-fuzz-$seed
 trap 'rm -rf "$work"' EXIT
+workers=""
+trap 'kill $workers 2> "$work/said"; exit 130' INT TERM
 
 sdv=${SDV:-$top/crates/sdv/out/sdv}
 [ -x "$sdv" ] || (cd "$top/crates/sdv" && rt run -- frame 0 0) > "$work/built" 2>&1 || { cat "$work/built"; exit 1; }
@@ -68,7 +71,8 @@ write_cases() {
         if (way < 13) return replaced(text, at, at, span)
         if (way < 14) return substr(text, 1, at - 1)
         if (way < 15) { text = replaced(text, at, to, ""); at = draw(length(text) + 1) + 1; return replaced(text, at, at, span) }
-        while (length(span) > 0 && length(span) < 2000) span = span span
+        way = draw(8) ? 2000 : 70000
+        while (length(span) > 0 && length(span) < way) span = span span
         return replaced(text, at, at, span)
     }
     # A word in place of one of a text.
@@ -335,7 +339,7 @@ worker() {
 }
 
 started=$(date +%s)
-number=0 workers=""
+number=0
 while [ "$number" -lt "$processes" ]; do
     worker "$number" &
     workers="$workers $!"
