@@ -256,7 +256,7 @@ module _ (files : Files) (words : List Text) where
   left_of_line line_fault.Usage (Err f) before is usage =
       let nothing = asks_nothing-fault words (usage refl) in
       rw is (left_quiet before before nothing.no_run nothing.no_explanation Usage (keeps_same before))
-  left_of_line line_fault.Memory (Err f) before is usage = 
+  left_of_line line_fault.Memory (Err f) before is usage =
       rw is (record { kept = λ _ _. keeps_same before; of_run = λ names meaning. keeps_same before; of_explanation = λ script meaning. keeps_same before })
 
   pub left_of_frame : {T : Type 0} (index argument : Text) → meaning_of words ≡ Some (frame index argument) → (r : Result T Fault)

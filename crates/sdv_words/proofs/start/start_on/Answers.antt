@@ -23,9 +23,13 @@ pub returns-in-Err : goal.returns-in-Err
 returns-in-Err g c = record {
   answered = λ zero. cc (zero, c.report.ensures.status);
   quiet = λ zero. cc (zero, c.report.ensures.status);
-  refused = λ other. (Memory, c.report.ensures.status, record {
-    is_so = tt;
-    left = record { kept = λ _ _. keeps_same _; of_run = λ _ _. keeps_same _; of_explanation = λ _ _. keeps_same _ };
-    said = c.report.ensures.said;
-  });
+  refused = λ other. (
+    Memory,
+    c.report.ensures.status,
+    record {
+      is_so = tt;
+      left = record { kept = λ _ _. keeps_same _; of_run = λ _ _. keeps_same _; of_explanation = λ _ _. keeps_same _ };
+      said = c.report.ensures.said;
+    },
+  );
 }
