@@ -93,7 +93,7 @@ send 7 { clean { } else { fault select } }
 ";
 
 /// Scripts by their fronts and their last lines, with the two lines that say which statement is refused and why.
-static REFUSED: [(&str, &str, &str, &str); 12] = [
+static REFUSED: [(&str, &str, &str, &str); 13] = [
     (
         SD_FRONT,
         "send 16 { clean { } else { fault len } } send 17 at block 0 { clean { recv { ok { } else { fault rd } } } else { fault rd } } done",
@@ -141,6 +141,12 @@ static REFUSED: [(&str, &str, &str, &str); 12] = [
         "give { ok { } else { } } done",
         "line 8, point 19: give, beside a card that is",
         "why: no write of blocks is due",
+    ),
+    (
+        "card sd ",
+        "loop 3 { send 0 { else { } } } else { } send 7 { else { } } done",
+        "line 1, point 2: CMD7, beside a card that is",
+        "    line 1   loop 3, after its last turn",
     ),
     (
         "card sd ",
