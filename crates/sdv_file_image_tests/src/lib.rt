@@ -1,5 +1,5 @@
 //! Tests of images over files: how often they read and write the file, which buffer they give up, and what they keep where
-//! the file fails; and of the fuses that make a call fail.
+//! the file fails; of the fuses that make a call fail; and of a simulated card over such an image.
 //!
 //! The crate has no code of its own.
 #![tactic(auto)]
@@ -10,3 +10,5 @@ mod counting_file;
 mod file_image;
 #[cfg(test)]
 mod fuses;
+#[cfg(test)]
+mod simulated_card;

@@ -1,0 +1,61 @@
+//! A simulated card whose blocks are those of a file.
+
+use crate::counting_file::CountingFile;
+use sdv_card::{Answer, CardPort, DataEnd, WaitEnd};
+use sdv_controller::Controller;
+use sdv_file_image::FileImage;
+use sdv_frames::{Command, Expect};
+use sdv_image::Image;
+use sdv_sim::{CardDesc, Sim};
+use std::process::Abort;
+use std::test::Fail;
+
+/// An SD card of version 2 with block addresses, of 1,024 blocks.
+const CARD: &str = "card sd\nversion 2\nunit block\ncsize 0\nrca 4660\n";
+
+/// Its bring-up, up to the transfer state with blocks of 512 bytes.
+const BRING_UP: [(u8, u32, Expect); 9] = [
+    (0, 0, Expect::Nothing),
+    (8, 0x1aa, Expect::R7),
+    (55, 0, Expect::R1(55)),
+    (41, 0x40ff_8000, Expect::R3),
+    (2, 0, Expect::R2),
+    (3, 0, Expect::R6),
+    (9, 0x1234_0000, Expect::R2),
+    (7, 0x1234_0000, Expect::R1(7)),
+    (16, 512, Expect::R1(16)),
+];
+
+/// Sends a command, which has to be answered, or to need no answer.
+fn send<P: CardPort>(rt: &impl Abort, port: &mut P, index: u8, argument: u32, expect: Expect) {
+    assert!(rt; index < 64);
+    let answer = port.exchange(Command { index, argument }, expect);
+    let is_answered = matches!(&answer, Answer::Sent | Answer::Reply(_));
+    assert!(rt; is_answered, "CMD{index}: {answer:?}");
+}
+
+/// A block that is written over the card, and read again, is in the file once the image is finished.
+#[test]
+fn written_and_read(rt: HostRuntime) -> Result<(), Fail> {
+    let alloc = rt.alloc();
+    let image = FileImage::new(alloc, CountingFile::new(alloc, 1024 * 512)?)?;
+    let mut port = Controller::new(Sim::new(alloc, CardDesc::parse(CARD)?, image, &[])?);
+    for (index, argument, expect) in BRING_UP {
+        send(&rt, &mut port, index, argument, expect);
+    }
+    send(&rt, &mut port, 24, 3, Expect::R1(24));
+    assert!(rt; port.data_out(&[[7; 512]]) == DataEnd::Ok);
+    assert!(rt; port.wait() == WaitEnd::Ok);
+    send(&rt, &mut port, 17, 3, Expect::R1(17));
+    let mut blocks = [[0; 512]];
+    assert!(rt; port.data_in(&mut blocks) == DataEnd::Ok);
+    assert!(rt; blocks == [[7; 512]]);
+    let finished = port.into_wire().into_image().finish();
+    let mut file = finished.ok().ok_or("a write-back failed")?;
+    assert_eq!(rt; (file.reads, file.writes), (1, 1));
+    let mut block = [0; 512];
+    assert!(rt; 3 < file.image.len());
+    assert!(rt; file.image.read_block(3, &mut block).is_ok());
+    assert!(rt; block == [7; 512]);
+    Ok(())
+}
