@@ -13,6 +13,10 @@ module _ {F : Type 0} {file : Ghosts F} where
   abbrev pub buffers_of : FileImage F file → List Buffer
   buffers_of image = image.buffers.items
 
+  -- its buffers' indexes, from the one that was used least recently on
+  abbrev pub order_of : FileImage F file → List ℕ
+  order_of image = image.order
+
   -- how many bytes its file has
   abbrev pub bytes_of : FileImage F file → ℕ
   bytes_of image = file.byte_count image.file

@@ -1,3 +1,4 @@
 pub mod Buffers
 pub mod FileImages
+pub mod Orders
 pub mod Refused

@@ -52,9 +52,10 @@ impl<F: BlockFile + Drop> FileImage<F> {
 }
 
 impl<F: BlockFile> FileImage<F> {
-    ghost use Rattle.std.specs.Prelude.{slice_set};
+    ghost use Rattle.std.specs.Prelude.{slice_get, slice_set};
     ghost use Rattle.sdv_file_image.specs.Buffers.{buffer_at, place_of, written_back, NoMorePlaces, IsFreeFor};
-    ghost use Rattle.sdv_file_image.specs.FileImages.{file_of, buffers_of, bytes_of, size_of, shown_of, failed_of};
+    ghost use Rattle.sdv_file_image.specs.FileImages.{file_of, buffers_of, order_of, bytes_of, size_of, shown_of, failed_of};
+    ghost use Rattle.sdv_file_image.specs.Orders.{used};
 
     /// Writes the block of a buffer back, where it changed.
     fn write_back(&mut self, index: usize) -> Result<(), ImageFault>
@@ -125,6 +126,7 @@ impl<F: BlockFile> FileImage<F> {
         ensures bytes { bytes_of self.new ≡ bytes_of self.old }
         ensures shown { shown_of self.new ≡ shown_of self.old }
         ensures index { IfOk result (λ index. index < BUFFERS) }
+        ensures least_recent { IfOk result (λ index. slice_get (order_of self.old) 0 ≡ Some index) }
         ensures empty { IfOk result (λ index. (buffer_at (buffers_of self.new) index).held ≡ Held.Nothing) }
         ensures places { NoMorePlaces (buffers_of self.old) (buffers_of self.new) }
         ensures fault { OnErr result (HasFailed (failed_of self.old) (failed_of self.new)) }
@@ -161,6 +163,7 @@ impl<F: BlockFile> FileImage<F> {
         ensures bytes { bytes_of self.new ≡ bytes_of self.old }
         ensures shown { (place : ℕ) → place_of held ≡ Some place →
             shown_of self.new ≡ option_map (λ blocks. slice_set blocks place block.now) (shown_of self.old) }
+        ensures used { order_of self.new ≡ used (order_of self.old) index }
         ensures failed { failed_of self.new ≡ failed_of self.old }
     {
         let buffer = &mut self.buffers[index];

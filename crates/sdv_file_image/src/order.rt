@@ -1,9 +1,10 @@
 //! In which order buffers were used.
 
-ghost use Rattle.std.specs.Prelude.{◌≡◌, ◌<◌, All};
-ghost use Rattle.arrayvec.specs.ArrayVec.{array_vec_len};
+ghost use Rattle.std.specs.Prelude.{◌≡◌, ◌==◌, ◌<◌, Some, position, slice_get};
+ghost use Rattle.sdv_file_image.specs.Orders.{IsOrder, used};
 
 use arrayvec::ArrayVec;
+use std::marker::Model;
 
 /// How many buffers an image keeps.
 pub const BUFFERS: usize = 16;
@@ -12,13 +13,24 @@ pub const BUFFERS: usize = 16;
 #[derive(Debug, Drop)]
 pub struct Order {
     indexes: ArrayVec<usize, BUFFERS>,
-    ghost count: { array_vec_len indexes ≡ 16 },
-    ghost known: { All (λ index. index < 16) indexes.items },
+}
+
+impl Model for Order {
+    ghost use Rattle.std.specs.Prelude.{List, ℕ};
+    ghost use Rattle.sdv_file_image.specs.Orders.{IsOrder};
+
+    ghost Value = { List ℕ };
+
+    ghost view = { λ order. order.indexes.items };
+
+    ghost invariant = { λ order. IsOrder order.indexes.items };
 }
 
 impl Order {
     /// The order before any use.
-    pub fn new() -> Order {
+    pub fn new() -> Order
+        ensures { IsOrder result }
+    {
         let mut indexes = ArrayVec::new();
         for index in 0..BUFFERS {
             indexes.push(index);
@@ -28,7 +40,8 @@ impl Order {
 
     /// The buffer that was used least recently.
     pub fn least_recent(&self) -> usize
-        ensures { result < BUFFERS }
+        ensures first { slice_get self.now 0 ≡ Some result }
+        ensures known { result < BUFFERS }
     {
         self.indexes[0]
     }
@@ -36,10 +49,18 @@ impl Order {
     /// A buffer is used.
     pub fn touch(&mut self, index: usize)
         requires { index < BUFFERS }
+        ensures { self.new ≡ used self.old index }
     {
-        if let Some(turn) = self.indexes.iter().position(|other| *other == index) {
+        if let Some(turn) = turn_of(&self.indexes, index) {
             self.indexes.remove(turn);
             self.indexes.push(index);
         }
     }
+}
+
+/// Where an index stands.
+fn turn_of(indexes: &[usize], index: usize) -> Option<usize>
+    ensures { result ≡ position (λ other. other == index) indexes.now }
+{
+    indexes.iter().position(|other| *other == index)
 }
