@@ -3,7 +3,7 @@
 use sdv_certify::{CertifyFault, certify};
 use sdv_check::{CertFault, CheckFault, VerifyFault, check, verify};
 use sdv_run::{End, RunFault};
-use sdv_script::{FaultKind, parse};
+use sdv_script::{FaultKind, Script, parse};
 use std::alloc::{AllocError, Global};
 
 fn name_of_kind(kind: FaultKind) -> &'static str {
@@ -53,21 +53,24 @@ fn name_of_check(fault: CheckFault) -> &'static str {
     }
 }
 
+/// Why a script has no certificate, or that it is accepted with the one that is written for it.
+fn name_of_parsed(alloc: Global, script: &Script<'_>) -> &'static str {
+    match (certify(alloc, script), script.graph(alloc)) {
+        (Err(fault), _) => name_of_refusal(fault),
+        (Ok(_), Err(_)) => "Memory",
+        (Ok(certificate), Ok(graph)) => match check(&graph, &certificate) {
+            Ok(_) => "accepted",
+            Err(_) => "no certificate of its own",
+        },
+    }
+}
+
 /// What becomes of a script: why it is none, why it has no certificate, or that it is accepted with the one that is written
 /// for it.
 pub fn name_of_script(alloc: Global, text: &str) -> &'static str {
-    let script = match parse(alloc, text) {
-        Ok(script) => script,
-        Err(fault) => return name_of_kind(fault.kind),
-    };
-    let certificate = match certify(alloc, &script) {
-        Ok(certificate) => certificate,
-        Err(fault) => return name_of_refusal(fault),
-    };
-    match script.graph(alloc) {
-        Ok(graph) if check(&graph, &certificate).is_ok() => "accepted",
-        Ok(_) => "no certificate of its own",
-        Err(_) => "Memory",
+    match parse(alloc, text) {
+        Ok(script) => name_of_parsed(alloc, &script),
+        Err(fault) => name_of_kind(fault.kind),
     }
 }
 

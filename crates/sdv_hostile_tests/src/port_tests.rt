@@ -166,7 +166,7 @@ fn run_over(
     Ok(outcome)
 }
 
-/// The same over a wire.
+/// The same over a wire, behind a controller.
 fn run_over_wire(
     rt: &impl Abort,
     alloc: Global,
@@ -211,22 +211,52 @@ bring-up of a device, 0: done 264, rca 46, Reply 16, ext 61, lost1 19, select 39
 bring-up of a device, 10: Reply 213, done 113, rca 44, ext 33, select 32, cid 17, lost1 15, blen 23, csd 10
 ";
 
+/// What runs go over.
+#[derive(Clone, Copy, PartialEq, Eq)]
+enum Way {
+    Port,
+    Wire,
+}
+
+/// How often each end comes of five hundred runs of a script.
+fn ends_of(
+    rt: &impl Abort,
+    alloc: Global,
+    way: Way,
+    kind: Kind,
+    text: &str,
+    others: u32,
+) -> Result<String, Fail> {
+    let input = input_blocks(alloc, 30)?;
+    let graph = parse(alloc, text)?.graph(alloc)?;
+    let mut counts = Counts::new(alloc);
+    for seed in 0..500 {
+        let mut port = HostilePort::new(alloc, kind, seed, others);
+        let outcome = match way {
+            Way::Port => run_over(rt, alloc, &graph, &mut port, &input)?,
+            Way::Wire => run_over_wire(rt, alloc, &graph, port, &input)?,
+        };
+        counts.add(name_of_run(&outcome))?;
+    }
+    Ok(counts.text()?)
+}
+
+/// The same of each script. A wire does not see whether an answer is asked for after CMD7, so that none goes over it for which
+/// there is none.
+fn all_ends(rt: &impl Abort, alloc: Global, way: Way) -> Result<String, Fail> {
+    let mut found = String::new(alloc);
+    let none = if way == Way::Wire { "" } else { " none" };
+    for &(name, kind, text, others) in RUNS.iter() {
+        let text = text.replace(alloc, " none", none)?;
+        let ends = ends_of(rt, alloc, way, kind, &text, others)?;
+        found.push_str(format!(in alloc; "{name}, {others}: {ends}\n")?.as_str())?;
+    }
+    Ok(found)
+}
+
 #[test]
 fn runs_over_any_port(rt: HostRuntime) -> Result<(), Fail> {
-    let alloc = rt.alloc();
-    let input = input_blocks(alloc, 30)?;
-    let mut found = String::new(alloc);
-    for &(name, kind, text, others) in RUNS.iter() {
-        let graph = parse(alloc, text)?.graph(alloc)?;
-        let mut counts = Counts::new(alloc);
-        for seed in 0..500 {
-            let mut port = HostilePort::new(alloc, kind, seed, others);
-            let outcome = run_over(&rt, alloc, &graph, &mut port, &input)?;
-            counts.add(name_of_run(&outcome))?;
-        }
-        let counts = counts.text()?;
-        found.push_str(format!(in alloc; "{name}, {others}: {counts}\n")?.as_str())?;
-    }
+    let found = all_ends(&rt, rt.alloc(), Way::Port)?;
     assert_eq!(&rt; found.as_str(), ENDS);
     Ok(())
 }
@@ -245,21 +275,7 @@ bring-up of a device, 10: done 126, Reply 164, blen 24, ext 39, rca 45, cid 16, 
 
 #[test]
 fn runs_over_any_wire(rt: HostRuntime) -> Result<(), Fail> {
-    let alloc = rt.alloc();
-    let input = input_blocks(alloc, 30)?;
-    let mut found = String::new(alloc);
-    for &(name, kind, text, others) in RUNS.iter() {
-        let text = text.replace(alloc, "7 none", "7")?;
-        let graph = parse(alloc, &text)?.graph(alloc)?;
-        let mut counts = Counts::new(alloc);
-        for seed in 0..500 {
-            let port = HostilePort::new(alloc, kind, seed, others);
-            let outcome = run_over_wire(&rt, alloc, &graph, port, &input)?;
-            counts.add(name_of_run(&outcome))?;
-        }
-        let counts = counts.text()?;
-        found.push_str(format!(in alloc; "{name}, {others}: {counts}\n")?.as_str())?;
-    }
+    let found = all_ends(&rt, rt.alloc(), Way::Wire)?;
     assert_eq!(&rt; found.as_str(), ENDS_OVER_WIRES);
     Ok(())
 }
@@ -332,29 +348,44 @@ fn answers_to(alloc: Global, expect: Expect) -> Result<Vec<Answer>, AllocError> 
     Ok(answers)
 }
 
+/// How many answers to a command a run goes on with: it stops at each other one.
+fn taken_of(
+    rt: &impl Abort,
+    alloc: Global,
+    kind: Kind,
+    text: &str,
+    expect: Expect,
+) -> Result<usize, Fail> {
+    let graph = parse(alloc, text)?.graph(alloc)?;
+    let mut taken: usize = 0;
+    for answer in answers_to(alloc, expect)? {
+        let mut port = HostilePort::answering(alloc, kind, answer);
+        let outcome = run_over(rt, alloc, &graph, &mut port, &[])?;
+        assert_eq!(rt; port.asked, expect, "{text}");
+        let wanted = if port.taken { "done" } else { "Reply" };
+        assert_eq!(rt; name_of_run(&outcome), wanted, "{text} {answer:?}");
+        taken = taken.saturating_add(port.taken as usize);
+    }
+    Ok(taken)
+}
+
 #[test]
 fn answers_to_commands(rt: HostRuntime) -> Result<(), Fail> {
     let alloc = rt.alloc();
     for &(kind, command, expect) in COMMANDS.iter() {
         let card = if kind == Kind::Sd { "sd" } else { "emmc" };
         let text = format!(in alloc; "card {card} send {command} {{ else {{ }} }} done")?;
-        let graph = parse(alloc, &text)?.graph(alloc)?;
-        let mut taken: usize = 0;
-        for answer in answers_to(alloc, expect)? {
-            let mut port = HostilePort::answering(alloc, kind, answer);
-            let outcome = run_over(&rt, alloc, &graph, &mut port, &[])?;
-            assert_eq!(&rt; port.asked, expect, "{text}");
-            let wanted = if port.taken { "done" } else { "Reply" };
-            assert_eq!(&rt; name_of_run(&outcome), wanted, "{text} {answer:?}");
-            taken = taken.saturating_add(port.taken as usize);
-        }
         // one answer, or also none; any CID, and one of the two CSDs
         let wanted = match expect {
             Expect::Nothing => 1,
             Expect::R2 if command != "9" => 3,
             _ => 2,
         };
-        assert_eq!(&rt; taken, wanted, "{text}");
+        assert_eq!(&rt;
+            taken_of(&rt, alloc, kind, &text, expect)?,
+            wanted,
+            "{text}"
+        );
     }
     Ok(())
 }
