@@ -1,6 +1,8 @@
 #!/bin/sh
-# How long `sdv certify` takes on the longest scripts: 4,096 points in four nested loops, and 4,023 with status commands after a
-# bring-up, where a card may have other shapes. `sdv check` has to accept what it writes.
+# How long `sdv certify` takes on long scripts: 4,096 points in four nested loops; 4,023 with status commands after a bring-up,
+# where a card may have other shapes; three nested loops whose turns set one flag after another; and 2,000 commands before a
+# loop that does the same. In the last two, facts change in many passes, everywhere or at the end alone. `sdv check` has to
+# accept what it writes.
 #
 # With valgrind on the path it also says how many instructions that is for each point and each shape; the number does not
 # depend on what else the machine does.
@@ -29,6 +31,22 @@ repeat() {
     echo "fault stop"
 } > "$work/status.sdv"
 
+{
+    echo "card sd flags a b c loop 2 { loop 2 { loop 2 {"
+    echo "if a { if b { set c } else { set b } } else { set a }"
+    repeat 1200 "send 0{else{}}"
+    echo "} else { } } else { } } else { } fault stop"
+} > "$work/flags.sdv"
+
+{
+    echo "card sd flags a b c d"
+    repeat 2000 "send 0{else{}}"
+    echo "loop 2 {"
+    echo "if a { if b { if c { set d } else { set c } } else { set b } } else { set a }"
+    repeat 8 "send 0{else{}}"
+    echo "} else { } fault stop"
+} > "$work/front.sdv"
+
 measure() {
     start=$(date +%s%N)
     "$sdv" certify "$work/$1.sdv" > "$work/$1.cert"
@@ -45,3 +63,5 @@ measure() {
 
 measure loops
 measure status
+measure flags
+measure front

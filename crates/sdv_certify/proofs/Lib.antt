@@ -37,3 +37,4 @@ pub mod JoinLaws
 pub mod MergeLaws
 pub mod SortLaws
 pub mod SurveyLaws
+pub mod QuietLaws

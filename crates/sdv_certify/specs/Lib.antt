@@ -7,6 +7,7 @@ pub mod FormsPay
 pub mod Family
 pub mod Ways
 pub mod Grows
+pub mod Quiet
 pub mod Fits
 pub mod Refusal
 pub mod Answers
