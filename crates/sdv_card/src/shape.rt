@@ -20,7 +20,7 @@ use crate::state::{EraseStage, State, Transfer};
 /// | 47..32 | preset count, 0 where there is none |
 ///
 /// All other bits are 0.
-#[derive(Clone, Copy, Debug, Default, PartialEq, Eq)]
+#[derive(Clone, Copy, Debug, Default, PartialEq, Eq, Hash)]
 pub struct Shape(pub u64);
 
 /// The shapes of a card before the first command: byte addresses with another block length than 512, byte addresses

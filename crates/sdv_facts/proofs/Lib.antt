@@ -5,7 +5,9 @@ pub mod FlagLaws
 pub mod Flags
 mod GapLaws
 pub mod Headline
+pub mod InternLaws
 pub mod LetLaws
+mod Probes
 pub mod RegisterLaws
 mod Rising
 pub mod RunLaws
@@ -15,6 +17,7 @@ pub mod StartLaws
 mod StatementLaws
 pub mod StepLaws
 pub mod SuitLaws
+mod TableLaws
 pub mod TestLaws
 pub mod UnitLaws
 pub mod VariableLaws

@@ -8,6 +8,7 @@ pub mod AfterLet
 pub mod AfterTest
 pub mod Covers
 pub mod Sets
+pub mod SharedSets
 pub mod Joins
 pub mod AddressFits
 pub mod Keeps

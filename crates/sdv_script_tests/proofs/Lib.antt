@@ -1,1 +1,2 @@
 pub mod FewShapes
+pub mod Counting

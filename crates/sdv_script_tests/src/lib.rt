@@ -7,5 +7,8 @@ mod common;
 mod facts_tests;
 #[cfg(test)]
 mod graph_tests;
+pub mod rising;
 #[cfg(test)]
 mod script_tests;
+#[cfg(test)]
+mod set_tests;
