@@ -38,3 +38,4 @@ pub mod MergeLaws
 pub mod SortLaws
 pub mod SurveyLaws
 pub mod QuietLaws
+pub mod FoundLaws

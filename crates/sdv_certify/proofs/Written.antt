@@ -4,11 +4,11 @@ use Rattle.std.proofs.lemmas.List.Concat.{flat_map-cons}
 use Rattle.std.specs.Io.KnownBytes.{Appends}
 use Rattle.sdv_card.specs.declared.shape.Shape.{Shape}
 use Rattle.sdv_text.specs.Written.{AppendsPart, Writes}
-use Rattle.sdv_text.proofs.WrittenLaws.{appends_more, part_after, part_before}
+use Rattle.sdv_text.proofs.WrittenLaws.{appends_none, appends_more, part_after, part_before, then_more}
 use Rattle.sdv_facts.specs.declared.numbers.VarFacts.{VarFacts}
 use Rattle.sdv_facts.specs.declared.certificate.PointFacts.{PointFacts}
 use Rattle.sdv_facts.specs.CertificateText.{number_written, gap_written, var_written, shape_written, each_written, point_written, points_written, text_of}
-use Rattle.sdv_certify.specs.Pieces.{number_text, gap_text, var_text, shape_text, bound_text, numbers_text, shapes_text, line_text, lines_text, title_text}
+use Rattle.sdv_certify.specs.Pieces.{number_text, gap_text, var_text, shape_text, bound_text, numbers_text, shapes_text, line_text, lines_text, title_text, PassesOn}
 
 -- EACH PIECE, before what follows it
 
@@ -97,10 +97,6 @@ title_made a b c d n e0 e1 e2 e3 =
 pub front_made : (a b c : List ℕ) (place : ℕ) (p : PointFacts) → a ≡ [] → b ≡ a ++ bound_text place p → c ≡ b ++ numbers_text p → c ≡ bound_text place p ++ numbers_text p
 front_made a b c place p e0 e1 e2 = e2 ∙ ap (λ (l : List ℕ). l ++ numbers_text p) (e1 ∙ ap (λ (l : List ℕ). l ++ bound_text place p) e0)
 
-pub front_failed : {E : Type 0} (r : Result (Unit {0}) E) (old new : Option (List ℕ)) (front : List ℕ) (place : ℕ) (p : PointFacts) → IsErr r → front ≡ bound_text place p ++ numbers_text p → AppendsPart old new front → Writes old new r (line_text place p)
-front_failed r old new front place p err e h =
-    failed r old new (line_text place p) err (part_before old new (bound_text place p ++ numbers_text p) (shapes_text p.facts.shapes) (subst (λ (l : List ℕ). AppendsPart old new l) e h))
-
 pub title_failed : {E : Type 0} (r : Result (Unit {0}) E) (old new : Option (List ℕ)) (c : List PointFacts) → IsErr r → AppendsPart old new (title_text (length c)) → Writes old new r (text_of c)
 title_failed r old new c err h =
     failed r old new (text_of c) err (subst (λ (l : List ℕ). AppendsPart old new l) (sym (text_is c)) (part_before old new (title_text (length c)) (lines_text 0 c) h))
@@ -111,3 +107,42 @@ all_written old new all written rest e none p =
 
 pub same_text : {E : Type 0} (r : Result (Unit {0}) E) (old new : Option (List ℕ)) (a b : List ℕ) → a ≡ b → Writes old new r a → Writes old new r b
 same_text r old new a b e p = subst (λ (l : List ℕ). Writes old new r l) e p
+
+-- A LINE, of which a part is held back
+
+-- what is written, what is held, and what is still to come
+abbrev pub Held : (all : List ℕ) (old new : Option (List ℕ)) (line rest : List ℕ) → Type 0
+Held all old new line rest = (written : List ℕ) × (all ≡ written ++ (line ++ rest)) × Appends old new written
+
+pub none_passed : (known : Option (List ℕ)) (held : List ℕ) → PassesOn known known held held
+none_passed known held = ([], refl, appends_none known)
+
+pub all_passed : (old new : Option (List ℕ)) (held text left : List ℕ) → text ≡ held → left ≡ [] → Appends old new text → PassesOn old new held left
+all_passed old new held text left e none p =
+    (held, sym (append-nil held) ∙ ap (λ (l : List ℕ). held ++ l) (sym none), subst (λ (l : List ℕ). Appends old new l) e p)
+
+pub part_passed : (old new : Option (List ℕ)) (held text : List ℕ) → text ≡ held → AppendsPart old new text → AppendsPart old new held
+part_passed old new held text e p = subst (λ (l : List ℕ). AppendsPart old new l) e p
+
+pub line_begins : (known : Option (List ℕ)) (line : List ℕ) (place : ℕ) (p : PointFacts) → line ≡ bound_text place p ++ numbers_text p
+    → Held (line_text place p) known known line (shapes_text p.facts.shapes)
+line_begins known line place p e = ([], ap (λ (l : List ℕ). l ++ shapes_text p.facts.shapes) (sym e), appends_none known)
+
+pub one_held : (all : List ℕ) (old mid new : Option (List ℕ)) (line left more piece rest : List ℕ) → Held all old mid line (piece ++ rest) → PassesOn mid new line left
+    → more ≡ left ++ piece → Held all old new more rest
+one_held all old mid new line left more piece rest h p e = (
+  h.0 ++ p.0,
+  h.1
+      ∙ ap (λ (l : List ℕ). h.0 ++ (l ++ (piece ++ rest))) p.1
+      ∙ ap (λ (l : List ℕ). h.0 ++ l) (append_assoc p.0 left (piece ++ rest) ∙ ap (λ (l : List ℕ). p.0 ++ l) (sym (append_assoc left piece rest) ∙ ap (λ (l : List ℕ). l ++ rest) (sym e)))
+      ∙ sym (append_assoc h.0 p.0 (more ++ rest)),
+  appends_more old mid new h.0 p.0 h.2 p.2,
+)
+
+pub line_failed : (all : List ℕ) (old mid new : Option (List ℕ)) (line rest : List ℕ) → Held all old mid line rest → AppendsPart mid new line → AppendsPart old new all
+line_failed all old mid new line rest h q = one_failed old mid new all h.0 line rest h.1 h.2 q
+
+pub line_ends : {E : Type 0} (r : Result (Unit {0}) E) (all : List ℕ) (old mid new : Option (List ℕ)) (line whole : List ℕ) → Held all old mid line (10 ∷ []) → whole ≡ line ++ 10 ∷ []
+    → Writes mid new r whole → Writes old new r all
+line_ends r all old mid new line whole h e p =
+    subst (λ (l : List ℕ). Writes old new r l) (ap (λ (l : List ℕ). h.0 ++ l) e ∙ sym h.1) (then_more r old mid new h.0 whole h.2 p)

@@ -8,6 +8,7 @@ pub mod Family
 pub mod Ways
 pub mod Grows
 pub mod Quiet
+pub mod Found
 pub mod Fits
 pub mod Refusal
 pub mod Answers

@@ -1,6 +1,7 @@
 -- The text of a certificate piece by piece, each by itself.
-use Rattle.std.specs.Prelude.{ℕ, suc, List, [], ◌∷◌, ◌++◌, flat_map, codes, decimal, Option, Some, None}
+use Rattle.std.specs.Prelude.{◌≡◌, ℕ, suc, List, [], ◌∷◌, ◌++◌, flat_map, codes, decimal, Option, Some, None}
 use Rattle.std.specs.Int.{w64, to_be_bytes}
+use Rattle.std.specs.Io.KnownBytes.{Appends}
 use Rattle.hex.specs.Hex.{encode_lower}
 use Rattle.sdv_card.specs.declared.shape.Shape.{Shape}
 use Rattle.sdv_facts.specs.declared.numbers.VarFacts.{VarFacts}
@@ -41,3 +42,7 @@ lines_text place (p ∷ ps) = line_text place p ++ lines_text (suc place) ps
 -- the first two lines
 abbrev pub title_text : (count : ℕ) → List ℕ
 title_text count = codes "sdv-cert 1\npoints" ++ (number_text count ++ 10 ∷ [])
+
+-- a front of what is held is written, and the rest is left
+abbrev pub PassesOn : (old new : Option (List ℕ)) (held left : List ℕ) → Type 0
+PassesOn old new held left = (written : List ℕ) × (held ≡ written ++ left) × Appends old new written

@@ -16,6 +16,7 @@ mod form;
 mod joining;
 mod known;
 pub mod laws;
+mod outcomes;
 mod parts;
 mod passes;
 mod refusal;

@@ -1,10 +1,10 @@
 //! Writing a certificate.
 
-ghost use Rattle.std.specs.Prelude.{◌≡◌, ◌<◌, ◌≤◌, ◌+◌, ◌++◌, [], ◌∷◌, length};
+ghost use Rattle.std.specs.Prelude.{◌≡◌, ◌<◌, ◌≤◌, ◌+◌, ◌++◌, [], ◌∷◌, length, OnOk, OnErr};
 ghost use Rattle.arrayvec.specs.ArrayVec.{array_vec_len};
 ghost use Rattle.sdv_facts.specs.CertificateText.{text_of};
-ghost use Rattle.sdv_text.specs.Written.{Writes};
-ghost use Rattle.sdv_certify.specs.Pieces.{number_text, gap_text, var_text, shape_text, bound_text, numbers_text, line_text, title_text};
+ghost use Rattle.sdv_text.specs.Written.{AppendsPart, Writes};
+ghost use Rattle.sdv_certify.specs.Pieces.{number_text, gap_text, var_text, shape_text, bound_text, numbers_text, line_text, title_text, PassesOn};
 
 use arrayvec::ArrayVec;
 use itoa::Buffer;
@@ -13,112 +13,132 @@ use sdv_facts::{Certificate, PointFacts, VarFacts};
 use sdv_text::write_text;
 use std::io::{Error, Write};
 
-/// The front of a line: room for the words, four loops and eight variables with numbers of 20 digits.
-type Front = ArrayVec<u8, 1024>;
+/// What of a line is not written yet: room for its front, of the words, four loops and eight variables with numbers of 20
+/// digits, and for the shapes of most points.
+type Line = ArrayVec<u8, 1024>;
 
-fn push(front: &mut Front, bytes: &[u8])
-    requires { array_vec_len front.old + length bytes.now ≤ 1024 }
-    ensures items { front.new.items ≡ front.old.items ++ bytes.now }
-    ensures len { array_vec_len front.new ≡ array_vec_len front.old + length bytes.now }
+fn push(line: &mut Line, bytes: &[u8])
+    requires { array_vec_len line.old + length bytes.now ≤ 1024 }
+    ensures items { line.new.items ≡ line.old.items ++ bytes.now }
+    ensures len { array_vec_len line.new ≡ array_vec_len line.old + length bytes.now }
 {
-    front.try_extend_from_slice(bytes).unwrap();
+    line.try_extend_from_slice(bytes).unwrap();
 }
 
-fn push_number(front: &mut Front, number: u64)
-    requires { array_vec_len front.old + 21 ≤ 1024 }
-    ensures items { front.new.items ≡ front.old.items ++ number_text number }
-    ensures len { array_vec_len front.new ≤ array_vec_len front.old + 21 }
+fn push_number(line: &mut Line, number: u64)
+    requires { array_vec_len line.old + 21 ≤ 1024 }
+    ensures items { line.new.items ≡ line.old.items ++ number_text number }
+    ensures len { array_vec_len line.new ≤ array_vec_len line.old + 21 }
 {
     let mut buffer = Buffer::new();
-    push(front, b" ");
-    push(front, buffer.format(number).as_bytes());
+    push(line, b" ");
+    push(line, buffer.format(number).as_bytes());
 }
 
-fn push_gap(front: &mut Front, gap: Option<u64>)
-    requires { array_vec_len front.old + 21 ≤ 1024 }
-    ensures items { front.new.items ≡ front.old.items ++ gap_text gap }
-    ensures len { array_vec_len front.new ≤ array_vec_len front.old + 21 }
+fn push_gap(line: &mut Line, gap: Option<u64>)
+    requires { array_vec_len line.old + 21 ≤ 1024 }
+    ensures items { line.new.items ≡ line.old.items ++ gap_text gap }
+    ensures len { array_vec_len line.new ≤ array_vec_len line.old + 21 }
 {
     match gap {
-        Some(gap) => push_number(front, gap),
-        None => push(front, b" -"),
+        Some(gap) => push_number(line, gap),
+        None => push(line, b" -"),
     }
 }
 
-fn push_variable(front: &mut Front, known: &VarFacts)
-    requires { array_vec_len front.old + 65 ≤ 1024 }
-    ensures items { front.new.items ≡ front.old.items ++ var_text known.now }
-    ensures len { array_vec_len front.new ≤ array_vec_len front.old + 65 }
+fn push_variable(line: &mut Line, known: &VarFacts)
+    requires { array_vec_len line.old + 65 ≤ 1024 }
+    ensures items { line.new.items ≡ line.old.items ++ var_text known.now }
+    ensures len { array_vec_len line.new ≤ array_vec_len line.old + 65 }
 {
-    push(front, b" v");
-    push_number(front, known.lo);
-    push_number(front, known.hi);
-    push_gap(front, known.gap);
+    push(line, b" v");
+    push_number(line, known.lo);
+    push_number(line, known.hi);
+    push_gap(line, known.gap);
 }
 
 // A point's place and bound.
-fn push_bound(front: &mut Front, place: u64, point: &PointFacts)
-    requires { array_vec_len front.old + 200 ≤ 1024 }
-    ensures items { front.new.items ≡ front.old.items ++ bound_text place point.now }
-    ensures len { array_vec_len front.new ≤ array_vec_len front.old + 200 }
+fn push_bound(line: &mut Line, place: u64, point: &PointFacts)
+    requires { array_vec_len line.old + 200 ≤ 1024 }
+    ensures items { line.new.items ≡ line.old.items ++ bound_text place point.now }
+    ensures len { array_vec_len line.new ≤ array_vec_len line.old + 200 }
 {
-    push(front, b"p");
-    push_number(front, place);
-    push(front, b" b");
-    push_number(front, point.base);
+    push(line, b"p");
+    push_number(line, place);
+    push(line, b" b");
+    push_number(line, point.base);
     let turns = point.turns.as_slice();
     for turn in turns {
-        push_number(front, *turn);
+        push_number(line, *turn);
     }
 }
 
 // What is known of numbers at a point.
-fn push_numbers(front: &mut Front, point: &PointFacts)
-    requires { array_vec_len front.old + 600 ≤ 1024 }
-    ensures { front.new.items ≡ front.old.items ++ numbers_text point.now }
+fn push_numbers(line: &mut Line, point: &PointFacts)
+    requires { array_vec_len line.old + 600 ≤ 1024 }
+    ensures items { line.new.items ≡ line.old.items ++ numbers_text point.now }
+    ensures len { array_vec_len line.new ≤ array_vec_len line.old + 600 }
 {
     let numbers = point.facts.numbers();
-    push(front, b" m");
-    push_number(front, numbers.m);
+    push(line, b" m");
+    push_number(line, numbers.m);
     let vars = numbers.vars.as_slice();
     for known in vars {
-        push_variable(front, known);
+        push_variable(line, known);
     }
-    push(front, b" s");
+    push(line, b" s");
 }
 
-fn put_shape<W: Write>(out: &mut W, shape: Shape) -> Result<(), Error>
-    ensures { Writes (W.contents out.old) (W.contents out.new) result (shape_text shape) }
+fn push_shape(line: &mut Line, shape: Shape)
+    requires { array_vec_len line.old + 17 ≤ 1024 }
+    ensures items { line.new.items ≡ line.old.items ++ shape_text shape }
+    ensures len { array_vec_len line.new ≡ array_vec_len line.old + 17 }
 {
     let mut item = [b' '; 17];
     hex::encode_to_slice(shape.0.to_be_bytes(), &mut item[1..]).unwrap();
-    write_text(out, &item)
+    push(line, &item);
 }
 
-// The line of a point.
+// Writes what there is of a line, unless there is room for a shape and the line's end.
+#[tactic(auto, using(crate::proofs::Written::none_passed, crate::proofs::Written::all_passed, crate::proofs::Written::part_passed))]
+fn make_room<W: Write>(out: &mut W, line: &mut Line) -> Result<(), Error>
+    ensures passed { OnOk result (PassesOn (W.contents out.old) (W.contents out.new) line.old.items line.new.items) }
+    ensures room { OnOk result (array_vec_len line.new + 18 ≤ 1024) }
+    ensures failed { OnErr result (AppendsPart (W.contents out.old) (W.contents out.new) line.old.items) }
+{
+    if line.len() + 18 <= 1024 {
+        return Ok(());
+    }
+    write_text(out, line.as_slice())?;
+    line.clear();
+    Ok(())
+}
+
+// The line of a point, in one write unless it is long.
 fn put_line<W: Write>(out: &mut W, place: u64, point: &PointFacts) -> Result<(), Error>
     ensures { Writes (W.contents out.old) (W.contents out.new) result (line_text place point.now) }
 {
-    let mut front = Front::new();
-    push_bound(&mut front, place, point);
-    push_numbers(&mut front, point);
-    write_text(out, front.as_slice())?;
+    let mut line = Line::new();
+    push_bound(&mut line, place, point);
+    push_numbers(&mut line, point);
     let shapes = point.facts.shapes();
     for shape in shapes {
-        put_shape(out, *shape)?;
+        make_room(out, &mut line)?;
+        push_shape(&mut line, *shape);
     }
-    write_text(out, b"\n")
+    push(&mut line, b"\n");
+    write_text(out, line.as_slice())
 }
 
 // The first two lines.
 fn put_title<W: Write>(out: &mut W, count: u64) -> Result<(), Error>
     ensures { Writes (W.contents out.old) (W.contents out.new) result (title_text count) }
 {
-    let mut front = Front::new();
-    push(&mut front, b"sdv-cert 1\npoints");
-    push_number(&mut front, count);
-    push(&mut front, b"\n");
-    write_text(out, front.as_slice())
+    let mut line = Line::new();
+    push(&mut line, b"sdv-cert 1\npoints");
+    push_number(&mut line, count);
+    push(&mut line, b"\n");
+    write_text(out, line.as_slice())
 }
 
 /// Writes the text of a certificate.

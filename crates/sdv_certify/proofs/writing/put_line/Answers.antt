@@ -1,29 +1,41 @@
-use Rattle.std.proofs.Common.{◌∙◌, ◌++◌, ap, List, ℕ}
-use Rattle.sdv_script.proofs.Written.{line_done}
-use Rattle.sdv_certify.specs.Pieces.{line_text}
-use Rattle.sdv_certify.proofs.Written.{failed, front_made, front_failed, one_more, one_failed, last_shape, no_shape}
+use Rattle.std.proofs.Common.{◌≡◌, ◌∙◌, ◌+◌, ap, subst, sym, drop, length, arith, List, ℕ}
+use Rattle.sdv_certify.specs.Pieces.{shapes_text, line_text}
+use Rattle.sdv_certify.proofs.Written.{Held, failed, front_made, last_shape, no_shape, line_begins, one_held, line_failed, line_ends}
 use Rattle.sdv_certify.proofs.writing.put_line.Goals as goal
 
-pub returns-in_err-write_text : goal.returns-in_err-write_text
-returns-in_err-write_text g c =
-    let front = c.as_slice.ensures.value ∙ front_made c.new-front.result.items c.push_bound.new.front.items c.push_numbers.new.front.items c.args.place c.args.point.now c.new-front.ensures c.push_bound.ensures.items c.push_numbers.ensures in
-    front_failed c.from_residual.result _ _ c.as_slice.result.now c.args.place c.args.point.now c.from_residual.ensures.0 front c.in_err-write_text.ensures
+pub loop-shape-init : goal.loop-shape-init
+loop-shape-init g c =
+    let front = front_made c.new-line.result.items c.push_bound.new.line.items c.push_numbers.new.line.items c.args.place c.args.point.now c.new-line.ensures c.push_bound.ensures.items c.push_numbers.ensures.items in
+    let none : length c.new-line.result.items ≡ 0 = ap length c.new-line.ensures in
+    let out = g.W.Write.contents c.args.out.now in
+    record {
+      held = subst (λ s. Held (line_text c.args.place c.args.point.now) out out c.push_numbers.new.line.items (shapes_text s)) (sym c.shapes-shapes.ensures.value) (line_begins out c.push_numbers.new.line.items c.args.place c.args.point.now front);
+      room = omega (arith, none, c.push_bound.ensures.len, c.push_numbers.ensures.len);
+    }
 
-pub returns-in_err-put_shape : goal.returns-in_err-put_shape
-returns-in_err-put_shape g c =
-    let i = c.loop-shape.invariant in
-    let e = i.1 ∙ ap (λ (l : List ℕ). i.0 ++ l) (last_shape c.shapes-shapes.result.now c.loop-shape.shape-index _ c.loop-shape-test.true) in
-    failed c.from_residual-in_err-put_shape.result _ _ (line_text c.args.place c.args.point.now) c.from_residual-in_err-put_shape.ensures.0
-    (one_failed _ _ _ (line_text c.args.place c.args.point.now) i.0 _ _ e i.2 c.in_err-put_shape.ensures)
+pub returns-in_err-make_room : goal.returns-in_err-make_room
+returns-in_err-make_room g c =
+    failed c.from_residual.result _ _ (line_text c.args.place c.args.point.now) c.from_residual.ensures.0
+    (line_failed (line_text c.args.place c.args.point.now) _ _ _ c.loop-shape.line.items _ c.loop-shape.invariant.held c.in_err-make_room.ensures.failed)
 
 pub loop-shape-preserved : goal.loop-shape-preserved
 loop-shape-preserved g c =
-    let i = c.loop-shape.invariant in
-    let e = i.1 ∙ ap (λ (l : List ℕ). i.0 ++ l) (last_shape c.shapes-shapes.result.now c.loop-shape.shape-index _ c.loop-shape-test.true) in
-    one_more _ _ _ (line_text c.args.place c.args.point.now) i.0 _ _ e i.2 c.in_ok-put_shape.ensures
+    let shapes = c.shapes-shapes.result.now in
+    let i = c.loop-shape.shape-index in
+    let line = line_text c.args.place c.args.point.now in
+    let old = g.W.Write.contents c.args.out.now in
+    let mid = g.W.Write.contents c.loop-shape.out in
+    record {
+      held = one_held line old mid _ c.loop-shape.line.items c.make_room.new.line.items c.push_shape.new.line.items _ (shapes_text (drop (i + 1) shapes))
+          (subst (λ (l : List ℕ). Held line old mid c.loop-shape.line.items l) (last_shape shapes i _ c.loop-shape-test.true) c.loop-shape.invariant.held) c.in_ok-make_room.ensures.passed c.push_shape.ensures.items;
+      room = omega (arith, c.in_ok-make_room.ensures.room, c.push_shape.ensures.len);
+    }
 
 pub returns : goal.returns
 returns g c =
-    let i = c.loop-shape.invariant in
-    let e = i.1 ∙ ap (λ (l : List ℕ). i.0 ++ l) (no_shape c.shapes-shapes.result.now c.loop-shape.shape-index c.loop-shape-test.false) in
-    line_done c.write_text-2.result _ _ _ (line_text c.args.place c.args.point.now) i.0 e i.2 c.write_text-2.ensures
+    let line = line_text c.args.place c.args.point.now in
+    let old = g.W.Write.contents c.args.out.now in
+    let mid = g.W.Write.contents c.loop-shape.out in
+    line_ends c.write_text.result line old mid _ c.loop-shape.line.items c.as_slice.result.now
+    (subst (λ (l : List ℕ). Held line old mid c.loop-shape.line.items l) (no_shape c.shapes-shapes.result.now c.loop-shape.shape-index c.loop-shape-test.false) c.loop-shape.invariant.held)
+    (c.as_slice.ensures.value ∙ c.push.ensures.items) c.write_text.ensures
