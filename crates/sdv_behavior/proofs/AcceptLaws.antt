@@ -35,7 +35,7 @@ use Rattle.sdv_behavior.specs.declared.heard.Deed.TheVariants.{Loses, TakesUnhea
 use Rattle.sdv_behavior.specs.Heard.{deed_of, is_ready, does, done_as, hear_at}
 use Rattle.sdv_behavior.specs.Replies.{reply_of}
 use Rattle.sdv_behavior.specs.RowTaken.{count_of, state_next, taken_by}
-use Rattle.sdv_behavior.proofs.CommandLaws.{read_as}
+use Rattle.sdv_behavior.specs.LinesRead.{read_as}
 
 -- A CARD THAT IS DESELECTED has an address other than 0
 
@@ -49,7 +49,8 @@ not_zero n h = go (n == 0) refl
 other_address : (rca : Option ℕ) → (n : ℕ) × (Some n ≡ rca) × (0 < n) × (n < 65536) → matches rca 0 ≡ false
 other_address rca a = subst (λ v. matches v 0 ≡ false) a.1 (not_zero a.0 a.2)
 
-not_addressed : (k : Kind) (state : State) (rca : Option ℕ) {target : State} → May (targets (rows k Cmd7NotAddressed) state) target → AddressFits state rca → matches rca 0 ≡ false
+not_addressed : (k : Kind) (state : State) (rca : Option ℕ) {target : State} → May (targets (rows k Cmd7NotAddressed) state) target → AddressFits state rca →
+    matches rca 0 ≡ false
 not_addressed Sd Idle rca m a = absurd m.one
 not_addressed Sd Ready rca m a = absurd m.one
 not_addressed Sd Ident rca m a = absurd m.one
@@ -71,16 +72,32 @@ count_allowed preset true e = refl
 count_allowed preset false e = eq-eqb preset preset refl
 
 read_18 : (n : ℕ) (t : Card) → RowLegal (Cmd18 n) t → RowLegal (Cmd18 (count_of t.preset)) t
-read_18 n t l = record { target = l.target; has_row = go t.kind l.has_row; length = l.length; erase = l.erase; preset = count_allowed t.preset (t.preset == 0) refl }
+read_18 n t l = record {
+  target = l.target;
+  has_row = go t.kind l.has_row;
+  length = l.length;
+  erase = l.erase;
+  preset =
+      count_allowed t.preset (t.preset == 0) refl;
+}
   where
-    go : (k : Kind) {target : State} → May (rows k (Cmd18 n)) (record { source = t.state; target = target }) → May (rows k (Cmd18 (count_of t.preset))) (record { source = t.state; target = target })
+    go : (k : Kind) {target : State} → May (rows k (Cmd18 n)) (record { source = t.state; target = target }) →
+        May (rows k (Cmd18 (count_of t.preset))) (record { source = t.state; target = target })
     go Sd m = m
     go Emmc m = m
 
 read_25 : (n : ℕ) (t : Card) → RowLegal (Cmd25 n) t → RowLegal (Cmd25 (count_of t.preset)) t
-read_25 n t l = record { target = l.target; has_row = go t.kind l.has_row; length = l.length; erase = l.erase; preset = count_allowed t.preset (t.preset == 0) refl }
+read_25 n t l = record {
+  target = l.target;
+  has_row = go t.kind l.has_row;
+  length = l.length;
+  erase = l.erase;
+  preset =
+      count_allowed t.preset (t.preset == 0) refl;
+}
   where
-    go : (k : Kind) {target : State} → May (rows k (Cmd25 n)) (record { source = t.state; target = target }) → May (rows k (Cmd25 (count_of t.preset))) (record { source = t.state; target = target })
+    go : (k : Kind) {target : State} → May (rows k (Cmd25 n)) (record { source = t.state; target = target }) →
+        May (rows k (Cmd25 (count_of t.preset))) (record { source = t.state; target = target })
     go Sd m = m
     go Emmc m = m
 
@@ -99,7 +116,8 @@ read_legal order argument t sent a l = by_flag order t.app argument sent l
         SettledLegal (taken_as_of (read_as t.preset order) app (matches t.rca (argument / 65536))) t
     by_flag DeselectCards true argument sent l = l
     by_flag DeselectCards false argument sent l =
-        subst (λ n. SettledLegal (taken_as_of SelectCard false (matches t.rca (n / 65536))) t) (sym sent) (subst (λ way. SettledLegal way t) (sym (same_way false t a l)) l)
+        subst (λ n. SettledLegal (taken_as_of SelectCard false (matches t.rca (n / 65536))) t) (sym sent)
+        (subst (λ way. SettledLegal way t) (sym (same_way false t a l)) l)
     by_flag (ReadMultipleBlock n) true argument sent l = l
     by_flag (ReadMultipleBlock n) false argument sent l = read_18 n t l
     by_flag (WriteMultipleBlock n) true argument sent l = l
@@ -111,7 +129,8 @@ settled_preset : (c t : Card) → Settled c t → c.preset ≡ t.preset
 settled_preset c t (inl e) = ap (λ v. v.preset) e
 settled_preset c t (inr x) = ap (λ v. v.preset) x.2
 
-pub reads_legal : (order : Order) (argument : ℕ) (c : Card) → SentTo order argument → IsCard c → OrderLegal order argument c → OrderLegal (read_as c.preset order) argument c
+pub reads_legal : (order : Order) (argument : ℕ) (c : Card) → SentTo order argument → IsCard c → OrderLegal order argument c →
+    OrderLegal (read_as c.preset order) argument c
 reads_legal order argument c sent card legal t settles =
     subst (λ p. SettledLegal (card_takes t (read_as p order) argument) t) (sym (settled_preset c t settles))
     (read_legal order argument t sent (settled_is_card c t card settles).address (legal t settles))
@@ -125,18 +144,22 @@ state_18 Emmc n m ready state = refl
 taken_18 : (d : CardDesc) (n m argument : ℕ) (ready : Bool) (t : CardState) → taken_by d (Cmd18 n) argument ready t ≡ taken_by d (Cmd18 m) argument ready t
 taken_18 d n m argument ready t = ap (λ s. record (taken_by d (Cmd18 n) argument ready t) { state = s }) (state_18 d.kind n m ready t.state)
 
-does_18 : (d : CardDesc) (deed : Deed) (n m argument : ℕ) (ready : Bool) (t : CardState) → does d deed (Cmd18 n) argument ready t ≡ does d deed (Cmd18 m) argument ready t
+does_18 : (d : CardDesc) (deed : Deed) (n m argument : ℕ) (ready : Bool) (t : CardState) →
+    does d deed (Cmd18 n) argument ready t ≡ does d deed (Cmd18 m) argument ready t
 does_18 d Loses n m argument ready t = refl
 does_18 d TakesUnheard n m argument ready t = ap (λ a. record { after = a; reply = None; erases = false }) (taken_18 d n m argument ready t)
-does_18 d (Takes error) n m argument ready t = ap (λ a. record { after = a; reply = reply_of d (Cmd18 n) t.state true error ready; erases = false }) (taken_18 d n m argument ready t)
+does_18 d (Takes error) n m argument ready t =
+    ap (λ a. record { after = a; reply = reply_of d (Cmd18 n) t.state true error ready; erases = false }) (taken_18 d n m argument ready t)
 does_18 d Stays n m argument ready t = refl
 
-ready_18 : (behavior : Behavior) (n m : ℕ) (block_unit checked : Bool) → is_ready behavior (Cmd18 n) block_unit checked ≡ is_ready behavior (Cmd18 m) block_unit checked
+ready_18 : (behavior : Behavior) (n m : ℕ) (block_unit checked : Bool) →
+    is_ready behavior (Cmd18 n) block_unit checked ≡ is_ready behavior (Cmd18 m) block_unit checked
 ready_18 IsSlow n m block_unit checked = refl
 ready_18 behavior n m block_unit checked = refl
 
 done_18 : (d : CardDesc) (behavior : Behavior) (n m : ℕ) (app matched : Bool) (argument : ℕ) (t : CardState) →
-    done_as d behavior (taken_as_of (ReadMultipleBlock n) app matched) argument t ≡ done_as d behavior (taken_as_of (ReadMultipleBlock m) app matched) argument t
+    done_as d behavior (taken_as_of (ReadMultipleBlock n) app matched) argument t
+    ≡ done_as d behavior (taken_as_of (ReadMultipleBlock m) app matched) argument t
 done_18 d behavior n m true matched argument t = refl
 done_18 d behavior n m false matched argument t =
     does_18 d (deed_of behavior CardStatus) n m argument (is_ready behavior (Cmd18 n) d.block_unit t.checked) t
@@ -149,28 +172,35 @@ state_25 Emmc n m ready state = refl
 taken_25 : (d : CardDesc) (n m argument : ℕ) (ready : Bool) (t : CardState) → taken_by d (Cmd25 n) argument ready t ≡ taken_by d (Cmd25 m) argument ready t
 taken_25 d n m argument ready t = ap (λ s. record (taken_by d (Cmd25 n) argument ready t) { state = s }) (state_25 d.kind n m ready t.state)
 
-does_25 : (d : CardDesc) (deed : Deed) (n m argument : ℕ) (ready : Bool) (t : CardState) → does d deed (Cmd25 n) argument ready t ≡ does d deed (Cmd25 m) argument ready t
+does_25 : (d : CardDesc) (deed : Deed) (n m argument : ℕ) (ready : Bool) (t : CardState) →
+    does d deed (Cmd25 n) argument ready t ≡ does d deed (Cmd25 m) argument ready t
 does_25 d Loses n m argument ready t = refl
 does_25 d TakesUnheard n m argument ready t = ap (λ a. record { after = a; reply = None; erases = false }) (taken_25 d n m argument ready t)
-does_25 d (Takes error) n m argument ready t = ap (λ a. record { after = a; reply = reply_of d (Cmd25 n) t.state true error ready; erases = false }) (taken_25 d n m argument ready t)
+does_25 d (Takes error) n m argument ready t =
+    ap (λ a. record { after = a; reply = reply_of d (Cmd25 n) t.state true error ready; erases = false }) (taken_25 d n m argument ready t)
 does_25 d Stays n m argument ready t = refl
 
-ready_25 : (behavior : Behavior) (n m : ℕ) (block_unit checked : Bool) → is_ready behavior (Cmd25 n) block_unit checked ≡ is_ready behavior (Cmd25 m) block_unit checked
+ready_25 : (behavior : Behavior) (n m : ℕ) (block_unit checked : Bool) →
+    is_ready behavior (Cmd25 n) block_unit checked ≡ is_ready behavior (Cmd25 m) block_unit checked
 ready_25 IsSlow n m block_unit checked = refl
 ready_25 behavior n m block_unit checked = refl
 
 done_25 : (d : CardDesc) (behavior : Behavior) (n m : ℕ) (app matched : Bool) (argument : ℕ) (t : CardState) →
-    done_as d behavior (taken_as_of (WriteMultipleBlock n) app matched) argument t ≡ done_as d behavior (taken_as_of (WriteMultipleBlock m) app matched) argument t
+    done_as d behavior (taken_as_of (WriteMultipleBlock n) app matched) argument t
+    ≡ done_as d behavior (taken_as_of (WriteMultipleBlock m) app matched) argument t
 done_25 d behavior n m true matched argument t = refl
 done_25 d behavior n m false matched argument t =
     does_25 d (deed_of behavior CardStatus) n m argument (is_ready behavior (Cmd25 n) d.block_unit t.checked) t
     ∙ ap (λ r. does d (deed_of behavior CardStatus) (Cmd25 m) argument r t) (ready_25 behavior n m d.block_unit t.checked)
 
-pub hears_same : (d : CardDesc) (behavior : Behavior) (order : Order) (preset argument announced : ℕ) (t : CardState) (contents : List Block) → SentTo order argument → AddressFits t.state t.rca →
+pub hears_same : (d : CardDesc) (behavior : Behavior) (order : Order) (preset argument announced : ℕ) (t : CardState) (contents : List Block) →
+    SentTo order argument → AddressFits t.state t.rca →
     SettledLegal (card_takes (card_with d t announced contents) order argument) (card_with d t announced contents) →
     hear_at d behavior (read_as preset order) argument t ≡ hear_at d behavior order argument t
-hears_same d behavior (ReadMultipleBlock n) preset argument announced t contents sent a l = done_18 d behavior (count_of preset) n t.app (matches t.rca (argument / 65536)) argument t
-hears_same d behavior (WriteMultipleBlock n) preset argument announced t contents sent a l = done_25 d behavior (count_of preset) n t.app (matches t.rca (argument / 65536)) argument t
+hears_same d behavior (ReadMultipleBlock n) preset argument announced t contents sent a l =
+    done_18 d behavior (count_of preset) n t.app (matches t.rca (argument / 65536)) argument t
+hears_same d behavior (WriteMultipleBlock n) preset argument announced t contents sent a l =
+    done_25 d behavior (count_of preset) n t.app (matches t.rca (argument / 65536)) argument t
 hears_same d behavior DeselectCards preset argument announced t contents sent a l =
     ap (λ way. done_as d behavior way argument t)
     (ap (λ n. taken_as_of SelectCard t.app (matches t.rca (n / 65536))) sent
@@ -194,7 +224,8 @@ CountFits preset (ReadMultipleBlock n) = count_of preset ≤ n
 CountFits preset (WriteMultipleBlock n) = count_of preset ≤ n
 CountFits preset order = Unit {0}
 
-in_unit : (d : CardDesc) (position argument n m : ℕ) (c : Card) → d.block_unit ≡ c.block_unit → d.capacity ≡ c.capacity → m ≤ n → Within c position argument n → has_blocks d argument (Some m) ≡ true
+in_unit : (d : CardDesc) (position argument n m : ℕ) (c : Card) → d.block_unit ≡ c.block_unit → d.capacity ≡ c.capacity → m ≤ n → Within c position argument n →
+    has_blocks d argument (Some m) ≡ true
 in_unit d position argument n m c unit capacity few w = go d.block_unit (w.unit ∙ ap (λ b. if b then position else 512 * position) (sym unit))
   where
     room : position + m ≤ d.capacity
@@ -204,7 +235,8 @@ in_unit d position argument n m c unit capacity few w = go d.block_unit (w.unit 
     go true e = le-leb (argument + m) d.capacity (let r = room in omega (arith, r, e))
     go false e = both_true _ _ (eq-eqb (argument % 512) 0 (omega (arith, e))) (le-leb (argument / 512 + m) d.capacity (let r = room in omega (arith, r, e)))
 
-reads_blocks : (d : CardDesc) (order : Order) (preset position argument : ℕ) (c : Card) → d.block_unit ≡ c.block_unit → d.capacity ≡ c.capacity → CountFits preset order →
+reads_blocks : (d : CardDesc) (order : Order) (preset position argument : ℕ) (c : Card) → d.block_unit ≡ c.block_unit → d.capacity ≡ c.capacity →
+    CountFits preset order →
     BlocksWithin (order_blocks order) c position argument → has_blocks d argument (order_blocks (read_as preset order)) ≡ true
 reads_blocks d (ReadMultipleBlock n) preset position argument c unit capacity few w = in_unit d position argument n (count_of preset) c unit capacity few w
 reads_blocks d (WriteMultipleBlock n) preset position argument c unit capacity few w = in_unit d position argument n (count_of preset) c unit capacity few w
@@ -222,8 +254,10 @@ reads_blocks d order preset position argument c unit capacity few w = refl
 abbrev host_of : ℕ → Host
 host_of argument = record (host_at_start 0) { rca = argument / 65536 }
 
-pub accepts_law : (d : CardDesc) (order : Order) (position argument announced : ℕ) (s : CardState) (contents : List Block) → SentTo order argument → CountFits s.preset order →
-    IsCard (card_with d s announced contents) → OrderLegal order argument (card_with d s announced contents) → BlocksWithin (order_blocks order) (card_with d s announced contents) position argument →
+pub accepts_law : (d : CardDesc) (order : Order) (position argument announced : ℕ) (s : CardState) (contents : List Block) → SentTo order argument →
+    CountFits s.preset order →
+    IsCard (card_with d s announced contents) → OrderLegal order argument (card_with d s announced contents) →
+    BlocksWithin (order_blocks order) (card_with d s announced contents) position argument →
     accepts d (read_as s.preset order) argument s ≡ true
 accepts_law d order position argument announced s contents sent few card legal within =
     let c : Card = card_with d s announced contents in
@@ -233,7 +267,8 @@ accepts_law d order position argument announced s contents sent few card legal w
 
 -- WHAT IS ACCEPTED is legal and in bounds, and what is so is accepted
 
-legal_fields : (d : CardDesc) (order : Order) (argument : ℕ) (s : CardState) (contents : List Block) → order_legal d.kind order (fields_at d argument s) ≡ true → OrderLegal order argument (card_of d s contents)
+legal_fields : (d : CardDesc) (order : Order) (argument : ℕ) (s : CardState) (contents : List Block) →
+    order_legal d.kind order (fields_at d argument s) ≡ true → OrderLegal order argument (card_of d s contents)
 legal_fields d order argument s contents e = order_legal_back order argument (card_of d s contents) (host_of argument) (record { way = λ app rca. refl }) e
 
 -- some position of a command in bounds
@@ -241,11 +276,13 @@ record Positioned (blocks : Option ℕ) (c : Card) (argument : ℕ) : Type 0 whe
   position : ℕ
   bounds : BlocksWithin blocks c position argument
 
-positioned : (d : CardDesc) (s : CardState) (contents : List Block) (argument : ℕ) (blocks : Option ℕ) → has_blocks d argument blocks ≡ true → Positioned blocks (card_of d s contents) argument
+positioned : (d : CardDesc) (s : CardState) (contents : List Block) (argument : ℕ) (blocks : Option ℕ) → has_blocks d argument blocks ≡ true →
+    Positioned blocks (card_of d s contents) argument
 positioned d s contents argument None e = record { position = 0; bounds = tt }
 positioned d s contents argument (Some count) e = go d.block_unit refl e
   where
-    go : (unit : Bool) → d.block_unit ≡ unit → ((unit || (argument % 512 == 0)) && nat_le (block_of unit argument + count) d.capacity) ≡ true → Positioned (Some count) (card_of d s contents) argument
+    go : (unit : Bool) → d.block_unit ≡ unit → ((unit || (argument % 512 == 0)) && nat_le (block_of unit argument + count) d.capacity) ≡ true →
+        Positioned (Some count) (card_of d s contents) argument
     go true u e =
         let room : argument + count ≤ d.capacity = leb-true _ _ (and_right true _ e) in
         record { position = argument; bounds = record { unit = rw u refl; room = room } }
@@ -255,7 +292,8 @@ positioned d s contents argument (Some count) e = go d.block_unit refl e
         let unit : argument ≡ 512 * (argument / 512) = omega (arith, whole) in
         record { position = argument / 512; bounds = record { unit = rw u unit; room = room } }
 
-has_them : (d : CardDesc) (s : CardState) (contents : List Block) (position argument : ℕ) (blocks : Option ℕ) → BlocksWithin blocks (card_of d s contents) position argument → has_blocks d argument blocks ≡ true
+has_them : (d : CardDesc) (s : CardState) (contents : List Block) (position argument : ℕ) (blocks : Option ℕ) →
+    BlocksWithin blocks (card_of d s contents) position argument → has_blocks d argument blocks ≡ true
 has_them d s contents position argument None w = refl
 has_them d s contents position argument (Some count) w = in_unit d position argument count count (card_of d s contents) refl refl (omega arith) w
 

@@ -27,7 +27,8 @@ silence expect response (Replied reply) e (inr f) = absurd (cc)
 silence expect response answer e told = absurd e
 
 -- the frame of a reply shows the reply
-frame : (expect : Expect) (count : ℕ) (response : List ℕ) (reply : Reply) → AnswerExpected expect (Replied reply) → IsReply reply → count ≤ 17 → IsReplyFrame reply (take count response) →
+frame : (expect : Expect) (count : ℕ) (response : List ℕ) (reply : Reply) → AnswerExpected expect (Replied reply) → IsReply reply → count ≤ 17 →
+    IsReplyFrame reply (take count response) →
     ShowsAnswer expect (Bytes count) response (Replied reply)
 frame expects.Nothing count response reply e is room f = absurd e
 frame (expects.R1 i) count response reply e is room f = (reply, refl, record { room = room; is_reply = is; answers = e; frame = f })
@@ -36,7 +37,8 @@ frame expects.R3 count response reply e is room f = (reply, refl, record { room 
 frame expects.R6 count response reply e is room f = (reply, refl, record { room = room; is_reply = is; answers = e; frame = f })
 frame expects.R7 count response reply e is room f = (reply, refl, record { room = room; is_reply = is; answers = e; frame = f })
 
-pub shows_law : (expect : Expect) (reply : Option Reply) (end : WireEnd) (response : List ℕ) (answer : Answer) → AnswerExpected expect answer → Tells reply answer → IfSome reply IsReply →
+pub shows_law : (expect : Expect) (reply : Option Reply) (end : WireEnd) (response : List ℕ) (answer : Answer) → AnswerExpected expect answer →
+    Tells reply answer → IfSome reply IsReply →
     Gives reply end response → ShowsAnswer expect end response answer
 shows_law expect None end response answer e told is gives = subst (λ v. ShowsAnswer expect v response answer) gives (silence expect response answer e told)
 shows_law expect (Some reply) end response answer e told is gives =

@@ -10,14 +10,7 @@ use Rattle.sdv_card.specs.declared.command.Order.TheVariants.{GoIdleState, SendO
 use Rattle.sdv_card.specs.CommandTable.{is_line, is_counted, order_if, sd_order, emmc_order, order_of, order_argument}
 use Rattle.sdv_card.proofs.Members.{and_left, and_right, both_true}
 use Rattle.sdv_behavior.specs.Commands.{sd_order_read, emmc_order_read, order_read}
-use Rattle.sdv_behavior.specs.RowTaken.{count_of}
-
--- the order that a card reads from a host's: CMD7 with any address selects, and the counts of CMD18 and CMD25 are its own
-abbrev pub read_as : ℕ → Order → Order
-read_as preset DeselectCards = SelectCard
-read_as preset (ReadMultipleBlock n) = ReadMultipleBlock (count_of preset)
-read_as preset (WriteMultipleBlock n) = WriteMultipleBlock (count_of preset)
-read_as preset order = order
+use Rattle.sdv_behavior.specs.LinesRead.{read_as}
 
 record Reads (read : ℕ → ℕ → ℕ → Option Order) (ask : Ask) (order : Order) : Type 0 where
   same : (preset rca address : ℕ) → read preset ask.index (order_argument order ask.argument rca address) ≡ Some (read_as preset order)
@@ -61,24 +54,30 @@ sd_line : (ask : Ask) (order : Order) → sd_order ask ≡ Some order → Reads 
 sd_line ask order e =
     line sd_order_read ask order (is_line ask 0 Plain 0 0) GoIdleState _ (λ i. at sd_order_read ask GoIdleState 0 Plain 0 0 i (λ p r a. refl)) e (λ e.
     line sd_order_read ask order (is_line ask 2 Plain 0 0) AllSendCid _ (λ i. at sd_order_read ask AllSendCid 2 Plain 0 0 i (λ p r a. refl)) e (λ e.
-    line sd_order_read ask order (is_line ask 3 Plain 0 0) SendRelativeAddress _ (λ i. at sd_order_read ask SendRelativeAddress 3 Plain 0 0 i (λ p r a. refl)) e (λ e.
+    line sd_order_read ask order (is_line ask 3 Plain 0 0) SendRelativeAddress _ (λ i. at sd_order_read ask SendRelativeAddress 3 Plain 0 0 i (λ p r a. refl)) e
+    (λ e.
     line sd_order_read ask order (is_line ask 7 Rca 0 0) SelectCard _ (λ i. at sd_order_read ask SelectCard 7 Rca 0 0 i (λ p r a. refl)) e (λ e.
     line sd_order_read ask order (is_line ask 7 Plain 0 0) DeselectCards _ (λ i. at sd_order_read ask DeselectCards 7 Plain 0 0 i (λ p r a. refl)) e (λ e.
     line sd_order_read ask order (is_line ask 8 Plain 0 0) SendIfCond _ (λ i. at sd_order_read ask SendIfCond 8 Plain 0 0 i (λ p r a. refl)) e (λ e.
     line sd_order_read ask order (is_line ask 9 Rca 0 0) SendCsd _ (λ i. at sd_order_read ask SendCsd 9 Rca 0 0 i (λ p r a. refl)) e (λ e.
     line sd_order_read ask order (is_line ask 10 Rca 0 0) SendCid _ (λ i. at sd_order_read ask SendCid 10 Rca 0 0 i (λ p r a. refl)) e (λ e.
-    line sd_order_read ask order (is_line ask 12 Plain 0 0) StopTransmission _ (λ i. at sd_order_read ask StopTransmission 12 Plain 0 0 i (λ p r a. refl)) e (λ e.
+    line sd_order_read ask order (is_line ask 12 Plain 0 0) StopTransmission _ (λ i. at sd_order_read ask StopTransmission 12 Plain 0 0 i (λ p r a. refl)) e
+    (λ e.
     line sd_order_read ask order (is_line ask 13 Rca 0 0) SendStatus _ (λ i. at sd_order_read ask SendStatus 13 Rca 0 0 i (λ p r a. refl)) e (λ e.
     line sd_order_read ask order (is_line ask 16 Plain 0 0) SetBlockLength _ (λ i. at sd_order_read ask SetBlockLength 16 Plain 0 0 i (λ p r a. refl)) e (λ e.
     line sd_order_read ask order (is_line ask 17 Plain 0 1) ReadSingleBlock _ (λ i. at sd_order_read ask ReadSingleBlock 17 Plain 0 1 i (λ p r a. refl)) e (λ e.
-    line sd_order_read ask order (is_counted ask 18) (ReadMultipleBlock ask.count) _ (λ i. counted sd_order_read ask (ReadMultipleBlock ask.count) 18 i (λ p r a. refl)) e (λ e.
+    line sd_order_read ask order (is_counted ask 18) (ReadMultipleBlock ask.count) _
+    (λ i. counted sd_order_read ask (ReadMultipleBlock ask.count) 18 i (λ p r a. refl)) e (λ e.
     line sd_order_read ask order (is_line ask 24 Plain 0 1) WriteBlock _ (λ i. at sd_order_read ask WriteBlock 24 Plain 0 1 i (λ p r a. refl)) e (λ e.
-    line sd_order_read ask order (is_counted ask 25) (WriteMultipleBlock ask.count) _ (λ i. counted sd_order_read ask (WriteMultipleBlock ask.count) 25 i (λ p r a. refl)) e (λ e.
+    line sd_order_read ask order (is_counted ask 25) (WriteMultipleBlock ask.count) _
+    (λ i. counted sd_order_read ask (WriteMultipleBlock ask.count) 25 i (λ p r a. refl)) e (λ e.
     line sd_order_read ask order (is_line ask 32 Plain 0 0) EraseBlockStart _ (λ i. at sd_order_read ask EraseBlockStart 32 Plain 0 0 i (λ p r a. refl)) e (λ e.
     line sd_order_read ask order (is_line ask 33 Plain 0 0) EraseBlockEnd _ (λ i. at sd_order_read ask EraseBlockEnd 33 Plain 0 0 i (λ p r a. refl)) e (λ e.
     line sd_order_read ask order (is_line ask 38 Plain 0 0) Erase _ (λ i. at sd_order_read ask Erase 38 Plain 0 0 i (λ p r a. refl)) e (λ e.
-    line sd_order_read ask order (is_line ask 41 Plain 0x00ff8000 0) (SdSendOpCond false) _ (λ i. at sd_order_read ask (SdSendOpCond false) 41 Plain 0x00ff8000 0 i (λ p r a. refl)) e (λ e.
-    line sd_order_read ask order (is_line ask 41 Plain 0x40ff8000 0) (SdSendOpCond true) _ (λ i. at sd_order_read ask (SdSendOpCond true) 41 Plain 0x40ff8000 0 i (λ p r a. refl)) e (λ e.
+    line sd_order_read ask order (is_line ask 41 Plain 0x00ff8000 0) (SdSendOpCond false) _
+    (λ i. at sd_order_read ask (SdSendOpCond false) 41 Plain 0x00ff8000 0 i (λ p r a. refl)) e (λ e.
+    line sd_order_read ask order (is_line ask 41 Plain 0x40ff8000 0) (SdSendOpCond true) _
+    (λ i. at sd_order_read ask (SdSendOpCond true) 41 Plain 0x40ff8000 0 i (λ p r a. refl)) e (λ e.
     line sd_order_read ask order (is_line ask 51 Plain 0 0) SendScr _ (λ i. at sd_order_read ask SendScr 51 Plain 0 0 i (λ p r a. refl)) e (λ e.
     line sd_order_read ask order (is_line ask 55 Rca 0 0) AppCommand _ (λ i. at sd_order_read ask AppCommand 55 Rca 0 0 i (λ p r a. refl)) e (λ e.
     absurd (cc)))))))))))))))))))))))
@@ -88,21 +87,28 @@ emmc_line ask order e =
     line emmc_order_read ask order (is_line ask 0 Plain 0 0) GoIdleState _ (λ i. at emmc_order_read ask GoIdleState 0 Plain 0 0 i (λ p r a. refl)) e (λ e.
     line emmc_order_read ask order (is_line ask 1 Plain 0 0) SendOpCond _ (λ i. at emmc_order_read ask SendOpCond 1 Plain 0 0 i (λ p r a. refl)) e (λ e.
     line emmc_order_read ask order (is_line ask 2 Plain 0 0) AllSendCid _ (λ i. at emmc_order_read ask AllSendCid 2 Plain 0 0 i (λ p r a. refl)) e (λ e.
-    line emmc_order_read ask order (is_line ask 3 Plain 0 0) SetRelativeAddress _ (λ i. at emmc_order_read ask SetRelativeAddress 3 Plain 0 0 i (λ p r a. refl)) e (λ e.
+    line emmc_order_read ask order (is_line ask 3 Plain 0 0) SetRelativeAddress _
+    (λ i. at emmc_order_read ask SetRelativeAddress 3 Plain 0 0 i (λ p r a. refl)) e (λ e.
     line emmc_order_read ask order (is_line ask 7 Rca 0 0) SelectCard _ (λ i. at emmc_order_read ask SelectCard 7 Rca 0 0 i (λ p r a. refl)) e (λ e.
     line emmc_order_read ask order (is_line ask 7 Plain 0 0) DeselectCards _ (λ i. at emmc_order_read ask DeselectCards 7 Plain 0 0 i (λ p r a. refl)) e (λ e.
     line emmc_order_read ask order (is_line ask 8 Plain 0 0) SendExtCsd _ (λ i. at emmc_order_read ask SendExtCsd 8 Plain 0 0 i (λ p r a. refl)) e (λ e.
     line emmc_order_read ask order (is_line ask 9 Rca 0 0) SendCsd _ (λ i. at emmc_order_read ask SendCsd 9 Rca 0 0 i (λ p r a. refl)) e (λ e.
     line emmc_order_read ask order (is_line ask 10 Rca 0 0) SendCid _ (λ i. at emmc_order_read ask SendCid 10 Rca 0 0 i (λ p r a. refl)) e (λ e.
-    line emmc_order_read ask order (is_line ask 12 Plain 0 0) StopTransmission _ (λ i. at emmc_order_read ask StopTransmission 12 Plain 0 0 i (λ p r a. refl)) e (λ e.
+    line emmc_order_read ask order (is_line ask 12 Plain 0 0) StopTransmission _ (λ i. at emmc_order_read ask StopTransmission 12 Plain 0 0 i (λ p r a. refl)) e
+    (λ e.
     line emmc_order_read ask order (is_line ask 13 Rca 0 0) SendStatus _ (λ i. at emmc_order_read ask SendStatus 13 Rca 0 0 i (λ p r a. refl)) e (λ e.
-    line emmc_order_read ask order (is_line ask 16 Plain 0 0) SetBlockLength _ (λ i. at emmc_order_read ask SetBlockLength 16 Plain 0 0 i (λ p r a. refl)) e (λ e.
-    line emmc_order_read ask order (is_line ask 17 Plain 0 1) ReadSingleBlock _ (λ i. at emmc_order_read ask ReadSingleBlock 17 Plain 0 1 i (λ p r a. refl)) e (λ e.
-    line emmc_order_read ask order (is_counted ask 18) (ReadMultipleBlock ask.count) _ (λ i. counted emmc_order_read ask (ReadMultipleBlock ask.count) 18 i (λ p r a. refl)) e (λ e.
+    line emmc_order_read ask order (is_line ask 16 Plain 0 0) SetBlockLength _ (λ i. at emmc_order_read ask SetBlockLength 16 Plain 0 0 i (λ p r a. refl)) e
+    (λ e.
+    line emmc_order_read ask order (is_line ask 17 Plain 0 1) ReadSingleBlock _ (λ i. at emmc_order_read ask ReadSingleBlock 17 Plain 0 1 i (λ p r a. refl)) e
+    (λ e.
+    line emmc_order_read ask order (is_counted ask 18) (ReadMultipleBlock ask.count) _
+    (λ i. counted emmc_order_read ask (ReadMultipleBlock ask.count) 18 i (λ p r a. refl)) e (λ e.
     line emmc_order_read ask order (is_counted ask 23) (SetBlockCount ask.count) _ (λ i. preset_read ask i) e (λ e.
     line emmc_order_read ask order (is_line ask 24 Plain 0 1) WriteBlock _ (λ i. at emmc_order_read ask WriteBlock 24 Plain 0 1 i (λ p r a. refl)) e (λ e.
-    line emmc_order_read ask order (is_counted ask 25) (WriteMultipleBlock ask.count) _ (λ i. counted emmc_order_read ask (WriteMultipleBlock ask.count) 25 i (λ p r a. refl)) e (λ e.
-    line emmc_order_read ask order (is_line ask 35 Plain 0 0) EraseGroupStart _ (λ i. at emmc_order_read ask EraseGroupStart 35 Plain 0 0 i (λ p r a. refl)) e (λ e.
+    line emmc_order_read ask order (is_counted ask 25) (WriteMultipleBlock ask.count) _
+    (λ i. counted emmc_order_read ask (WriteMultipleBlock ask.count) 25 i (λ p r a. refl)) e (λ e.
+    line emmc_order_read ask order (is_line ask 35 Plain 0 0) EraseGroupStart _ (λ i. at emmc_order_read ask EraseGroupStart 35 Plain 0 0 i (λ p r a. refl)) e
+    (λ e.
     line emmc_order_read ask order (is_line ask 36 Plain 0 0) EraseGroupEnd _ (λ i. at emmc_order_read ask EraseGroupEnd 36 Plain 0 0 i (λ p r a. refl)) e (λ e.
     line emmc_order_read ask order (is_line ask 38 Plain 0 0) Erase _ (λ i. at emmc_order_read ask Erase 38 Plain 0 0 i (λ p r a. refl)) e (λ e.
     line emmc_order_read ask order (is_line ask 38 Plain 1 0) Erase _ (λ i. at emmc_order_read ask Erase 38 Plain 1 0 i (λ p r a. refl)) e (λ e.

@@ -33,7 +33,7 @@ use Rattle.sdv_behavior.proofs.AcceptLaws.{CountFits}
 abbrev pub Knows : CardState → ℕ → Type 0
 Knows s announced = count_known s.transfer ≡ true → s.announced ≡ announced
 
-no : {A : Type 0} → false ≡ true → A
+pub no : {A : Type 0} → false ≡ true → A
 no e = absurd (cc)
 
 counted : (preset n announced : ℕ) (due wide : Transfer) (none : Bool) → (preset == 0) ≡ none → (none || (preset == n)) ≡ true → count_known wide ≡ false →
@@ -54,14 +54,16 @@ row_count Acmd13 t announced allowed knows k = no k
 row_count Acmd51 t announced allowed knows k = no k
 row_count row t announced allowed knows k = knows k
 
-does_count : (d : CardDesc) (deed : Deed) (row : Row) (argument : ℕ) (ready : Bool) (t : CardState) (announced : ℕ) → preset_allows row t.preset ≡ true → Knows t announced →
+does_count : (d : CardDesc) (deed : Deed) (row : Row) (argument : ℕ) (ready : Bool) (t : CardState) (announced : ℕ) → preset_allows row t.preset ≡ true →
+    Knows t announced →
     Knows (does d deed row argument ready t).after (announced_by deed row announced)
 does_count d Loses row argument ready t announced allowed knows k = knows k
 does_count d TakesUnheard row argument ready t announced allowed knows k = row_count row t announced allowed knows k
 does_count d (Takes error) row argument ready t announced allowed knows k = row_count row t announced allowed knows k
 does_count d Stays row argument ready t announced allowed knows k = knows k
 
-pub done_count : (d : CardDesc) (behavior : Behavior) (way : TakenAs) (argument : ℕ) (t : CardState) (announced : ℕ) (contents : List Block) → SettledLegal way (card_with d t announced contents) → Knows t announced →
+pub done_count : (d : CardDesc) (behavior : Behavior) (way : TakenAs) (argument : ℕ) (t : CardState) (announced : ℕ) (contents : List Block) →
+    SettledLegal way (card_with d t announced contents) → Knows t announced →
     Knows (done_as d behavior way argument t).after (announced_as behavior way announced)
 done_count d behavior Forbidden argument t announced contents legal knows = knows
 done_count d behavior Ignored argument t announced contents legal knows = knows

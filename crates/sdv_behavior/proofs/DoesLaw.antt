@@ -103,19 +103,22 @@ no_error t u shown before after = record {
 }
 
 -- a card that is asked for its conditions is ready, or idle
-conditions_state : (k : Kind) (high ready : Bool) (state : State) {target : State} → May (targets (rows k (Acmd41 high)) state) target → is_ready_state (state_next k (Acmd41 high) ready state) ≡ ready
+conditions_state : (k : Kind) (high ready : Bool) (state : State) {target : State} → May (targets (rows k (Acmd41 high)) state) target →
+    is_ready_state (state_next k (Acmd41 high) ready state) ≡ ready
 conditions_state Emmc high ready state m = absurd m.one
 conditions_state Sd high true Idle m = refl
 conditions_state Sd high false Idle m = refl
 conditions_state Sd high ready state m = absurd m.one
 
-op_cond_state : (k : Kind) (ready : Bool) (state : State) {target : State} → May (targets (rows k Cmd1) state) target → is_ready_state (state_next k Cmd1 ready state) ≡ ready
+op_cond_state : (k : Kind) (ready : Bool) (state : State) {target : State} → May (targets (rows k Cmd1) state) target →
+    is_ready_state (state_next k Cmd1 ready state) ≡ ready
 op_cond_state Sd ready state m = absurd m.one
 op_cond_state Emmc true Idle m = refl
 op_cond_state Emmc false Idle m = refl
 op_cond_state Emmc ready state m = absurd m.one
 
-left_after : (row : Row) (capacity : ℕ) (contents after : List Block) → LeavesBlocks (is_erase row) capacity contents after → ContentsAfter row capacity contents after
+left_after : (row : Row) (capacity : ℕ) (contents after : List Block) → LeavesBlocks (is_erase row) capacity contents after →
+    ContentsAfter row capacity contents after
 left_after Cmd38 capacity contents after l = l
 left_after row capacity contents after l = l
 
@@ -123,8 +126,38 @@ register_reply : (bytes : List ℕ) → IsRegister 15 bytes → IsReply (R2 byte
 register_reply bytes r = (r.size, recursion_from_All _ bytes r.bytes_fit)
 
 cid_reply : (k : Kind) → IsReply (R2 (cid_of k))
-cid_reply Sd = (refl, (lit< tt, (lit< tt, (lit< tt, (lit< tt, (lit< tt, (lit< tt, (lit< tt, (lit< tt, (lit< tt, (lit< tt, (lit< tt, (lit< tt, (lit< tt, (lit< tt, (lit< tt, tt))))))))))))))))
-cid_reply Emmc = (refl, (lit< tt, (lit< tt, (lit< tt, (lit< tt, (lit< tt, (lit< tt, (lit< tt, (lit< tt, (lit< tt, (lit< tt, (lit< tt, (lit< tt, (lit< tt, (lit< tt, (lit< tt, tt))))))))))))))))
+cid_reply Sd = (
+  refl,
+  (
+    lit< tt,
+    (
+      lit< tt,
+      (
+        lit< tt,
+        (
+          lit< tt,
+          (lit< tt, (lit< tt, (lit< tt, (lit< tt, (lit< tt, (lit< tt, (lit< tt, (lit< tt, (lit< tt, (lit< tt, (lit< tt, tt))))))))))),
+        ),
+      ),
+    ),
+  ),
+)
+cid_reply Emmc = (
+  refl,
+  (
+    lit< tt,
+    (
+      lit< tt,
+      (
+        lit< tt,
+        (
+          lit< tt,
+          (lit< tt, (lit< tt, (lit< tt, (lit< tt, (lit< tt, (lit< tt, (lit< tt, (lit< tt, (lit< tt, (lit< tt, (lit< tt, tt))))))))))),
+        ),
+      ),
+    ),
+  ),
+)
 
 index_small : (row : Row) → row_index row < 2 ^ 6
 index_small Cmd0 = lit< tt
@@ -132,7 +165,8 @@ index_small row = lit< tt
 
 -- THE ROWS
 
-module _ (d : CardDesc) (is : IsDescribed d) (csd : IsRegister 15 d.csd) (order : Order) (argument : ℕ) (t : CardState) (announced : ℕ) (contents : List Block) where
+module _ (d : CardDesc) (is : IsDescribed d) (csd : IsRegister 15 d.csd) (order : Order) (argument : ℕ) (t : CardState) (announced : ℕ)
+    (contents : List Block) where
   abbrev before : Card
   before = card_with d t announced contents
 
@@ -149,7 +183,8 @@ module _ (d : CardDesc) (is : IsDescribed d) (csd : IsRegister 15 d.csd) (order 
   -- the answer did not reach the host
   unheard_row : (row : Row) (u : Card) → DeedFits TakesUnheard row → Taken row argument before u → false ≡ u.doubt → RowTold order row argument before u None
   unheard_row Cmd0 u f taken error = absurd f
-  unheard_row Cmd7NotAddressed u f taken error = record { answer = unaddressed_answer order; told = unheard_answer order; is_reply = tt; answered = (refl, inr (record { card = taken; error = error })) }
+  unheard_row Cmd7NotAddressed u f taken error =
+      record { answer = unaddressed_answer order; told = unheard_answer order; is_reply = tt; answered = (refl, inr (record { card = taken; error = error })) }
   unheard_row row u f taken error = record { answer = TimeOut; told = inr refl; is_reply = tt; answered = inr (inl (record { card = taken; error = error })) }
 
   -- CMD8 of an SD card, by its version
@@ -161,7 +196,8 @@ module _ (d : CardDesc) (is : IsDescribed d) (csd : IsRegister 15 d.csd) (order 
     is_reply = lit< tt;
     answered = record { shown = record { is_word = lit< tt; echo = refl; version = eqb-true d.version 2 e }; card = card; error = refl };
   }
-  interface contents' ready false e card = record { answer = TimeOut; told = inr refl; is_reply = tt; answered = inr (inl (record { card = card; error = refl })) }
+  interface contents' ready false e card =
+      record { answer = TimeOut; told = inr refl; is_reply = tt; answered = inr (inl (record { card = card; error = refl })) }
 
   -- it takes the row and answers
   answered_row : (row : Row) (error ready : Bool) (contents' : List Block) → RowLegal row before → Taken row argument before (taken row ready contents') →
@@ -178,12 +214,14 @@ module _ (d : CardDesc) (is : IsDescribed d) (csd : IsRegister 15 d.csd) (order 
           is_word = s.is_word;
           windows = s.windows;
           ready = s.ready ∙ sym e;
-          unit = λ r. let is : ready ≡ true = sym e ∙ r in subst (λ v. access_mode (conditions_word Emmc d.block_unit v) ≡ (if d.block_unit then 2 else 0)) (sym is) (emmc_unit d.block_unit);
+          unit = λ r. let is : ready ≡ true = sym e ∙ r in
+              subst (λ v. access_mode (conditions_word Emmc d.block_unit v) ≡ (if d.block_unit then 2 else 0)) (sym is) (emmc_unit d.block_unit);
           card = card;
           error = refl;
         };
       }
-  answered_row Cmd2 error ready contents' legal card = record { answer = Replied (R2 (cid_of d.kind)); told = refl; is_reply = cid_reply d.kind; answered = record { shown = refl; card = card; error = refl } }
+  answered_row Cmd2 error ready contents' legal card =
+      record { answer = Replied (R2 (cid_of d.kind)); told = refl; is_reply = cid_reply d.kind; answered = record { shown = refl; card = card; error = refl } }
   answered_row Cmd3Sd error ready contents' legal card =
       let s = address_shows d.rca error t.state is.address_fits in
       record {
@@ -194,8 +232,10 @@ module _ (d : CardDesc) (is : IsDescribed d) (csd : IsRegister 15 d.csd) (order 
       }
   answered_row Cmd7NotAddressed error ready contents' legal card = unheard_row Cmd7NotAddressed _ tt card refl
   answered_row Cmd8Sd error ready contents' legal card = interface contents' ready (d.version == 2) refl card
-  answered_row Cmd9 error ready contents' legal card = record { answer = Replied (R2 d.csd); told = refl; is_reply = register_reply d.csd csd; answered = record { shown = refl; card = card; error = refl } }
-  answered_row Cmd10 error ready contents' legal card = record { answer = Replied (R2 (cid_of d.kind)); told = refl; is_reply = cid_reply d.kind; answered = record { shown = refl; card = card; error = refl } }
+  answered_row Cmd9 error ready contents' legal card =
+      record { answer = Replied (R2 d.csd); told = refl; is_reply = register_reply d.csd csd; answered = record { shown = refl; card = card; error = refl } }
+  answered_row Cmd10 error ready contents' legal card =
+      record { answer = Replied (R2 (cid_of d.kind)); told = refl; is_reply = cid_reply d.kind; answered = record { shown = refl; card = card; error = refl } }
   answered_row (Acmd41 high) error ready contents' legal card =
       let s = conditions_show Sd d.block_unit ready in
       let e = conditions_state d.kind high ready t.state (May-targets legal.has_row) in
@@ -254,7 +294,14 @@ module _ (d : CardDesc) (is : IsDescribed d) (csd : IsRegister 15 d.csd) (order 
         answer = Replied (R1 55 (status_word t.state false true));
         told = refl;
         is_reply = (lit< tt, s.is_word);
-        answered = record { is_word = s.is_word; same_index = refl; state = s.state; card = inr (s.error, stayed_law d is Cmd55 argument t announced contents); app = s.app; error = no_error _ _ _ refl refl };
+        answered = record {
+          is_word = s.is_word;
+          same_index = refl;
+          state = s.state;
+          card = inr (s.error, stayed_law d is Cmd55 argument t announced contents);
+          app = s.app;
+          error = no_error _ _ _ refl refl;
+        };
       }
   stayed_row row ready f =
       let s = status_shows false true t.state in
@@ -262,23 +309,37 @@ module _ (d : CardDesc) (is : IsDescribed d) (csd : IsRegister 15 d.csd) (order 
         answer = Replied (R1 (row_index row) (status_word t.state false true));
         told = refl;
         is_reply = (index_small row, s.is_word);
-        answered = record { is_word = s.is_word; same_index = refl; state = s.state; card = inr (s.error, stayed_law d is row argument t announced contents); app = tt; error = no_error _ _ _ refl refl };
+        answered = record {
+          is_word = s.is_word;
+          same_index = refl;
+          state = s.state;
+          card = inr (s.error, stayed_law d is row argument t announced contents);
+          app = tt;
+          error = no_error _ _ _ refl refl;
+        };
       }
 
   -- a row, by the deed
-  does_law : (deed : Deed) (row : Row) (ready : Bool) (contents' : List Block) → DeedFits deed row → (is_refused row d.block_unit ≡ true → ready ≡ false) → RowLegal row before →
+  does_law : (deed : Deed) (row : Row) (ready : Bool) (contents' : List Block) → DeedFits deed row → (is_refused row d.block_unit ≡ true → ready ≡ false) →
+      RowLegal row before →
       LeavesBlocks (does d deed row argument ready t).erases d.capacity contents contents' →
-      RowTold order row argument before (card_with d (does d deed row argument ready t).after (announced_by deed row announced) contents') (does d deed row argument ready t).reply
+      RowTold order row argument before (card_with d (does d deed row argument ready t).after (announced_by deed row announced) contents')
+      (does d deed row argument ready t).reply
   does_law Loses row ready contents' f only legal left = subst (λ cs. RowTold order row argument before (card_with d t announced cs) None) left (lost row f)
   does_law TakesUnheard row ready contents' f only legal left =
       unheard_row row _ f (taken_law d is row argument t announced contents ready contents' only legal (left_after row d.capacity contents contents' left)) refl
   does_law (Takes error) row ready contents' f only legal left =
-      answered_row row error ready contents' legal (taken_law d is row argument t announced contents ready contents' only legal (left_after row d.capacity contents contents' left))
+      answered_row row error ready contents' legal
+      (taken_law d is row argument t announced contents ready contents' only legal (left_after row d.capacity contents contents' left))
   does_law Stays row ready contents' f only legal left =
-      subst (λ cs. RowTold order row argument before (card_with d (stays t) announced cs) (reply_of d row t.state false true ready)) left (stayed_row row ready f)
+      subst (λ cs. RowTold order row argument before (card_with d (stays t) announced cs) (reply_of d row t.state false true ready)) left
+      (stayed_row row ready f)
 
   -- a row, by the behavior
-  pub behaves_law : (behavior : Behavior) (row : Row) (ready : Bool) (contents' : List Block) → (is_refused row d.block_unit ≡ true → ready ≡ false) → RowLegal row before →
+  pub behaves_law : (behavior : Behavior) (row : Row) (ready : Bool) (contents' : List Block) → (is_refused row d.block_unit ≡ true → ready ≡ false) →
+      RowLegal row before →
       LeavesBlocks (does d (row_deed behavior row) row argument ready t).erases d.capacity contents contents' →
-      RowTold order row argument before (card_with d (does d (row_deed behavior row) row argument ready t).after (announced_by (row_deed behavior row) row announced) contents') (does d (row_deed behavior row) row argument ready t).reply
+      RowTold order row argument before
+      (card_with d (does d (row_deed behavior row) row argument ready t).after (announced_by (row_deed behavior row) row announced) contents')
+      (does d (row_deed behavior row) row argument ready t).reply
   behaves_law behavior row ready contents' only legal left = does_law (row_deed behavior row) row ready contents' (deed_fits behavior row) only legal left

@@ -38,17 +38,22 @@ abbrev pub announced_as : Behavior → TakenAs → ℕ → ℕ
 announced_as behavior (By row) before = announced_by (row_deed behavior row) row before
 announced_as behavior way before = before
 
-module _ (d : CardDesc) (is : IsDescribed d) (csd : IsRegister 15 d.csd) (behavior : Behavior) (order : Order) (argument : ℕ) (announced : ℕ) (contents contents' : List Block) where
-  done_law : (way : TakenAs) (t : CardState) → SettledLegal way (card_with d t announced contents) → LeavesBlocks (done_as d behavior way argument t).erases d.capacity contents contents' →
-      SettledTold way order argument (card_with d t announced contents) (card_with d (done_as d behavior way argument t).after (announced_as behavior way announced) contents') (done_as d behavior way argument t).reply
+module _ (d : CardDesc) (is : IsDescribed d) (csd : IsRegister 15 d.csd) (behavior : Behavior) (order : Order) (argument : ℕ) (announced : ℕ)
+    (contents contents' : List Block) where
+  done_law : (way : TakenAs) (t : CardState) → SettledLegal way (card_with d t announced contents) →
+      LeavesBlocks (done_as d behavior way argument t).erases d.capacity contents contents' →
+      SettledTold way order argument (card_with d t announced contents)
+      (card_with d (done_as d behavior way argument t).after (announced_as behavior way announced) contents') (done_as d behavior way argument t).reply
   done_law Forbidden t legal left = absurd legal
   done_law Ignored t legal left = record { answer = TimeOut; told = inr refl; is_reply = tt; answered = (refl, ap (card_with d t announced) left) }
   done_law (By row) t legal left =
-      let r = behaves_law d is csd order argument t announced contents behavior row (is_ready behavior row d.block_unit t.checked) contents' (not_ready behavior row d.block_unit t.checked) legal left in
+      let r = behaves_law d is csd order argument t announced contents behavior row (is_ready behavior row d.block_unit t.checked) contents'
+      (not_ready behavior row d.block_unit t.checked) legal left in
       record { answer = r.answer; told = r.told; is_reply = r.is_reply; answered = r.answered }
 
   -- the state that the command meets is a settled one
-  settles : (s : CardState) (o : Option State) → own_target s.state s.transfer ≡ o → Settled (card_with d s announced contents) (card_with d (stepped_to o s) announced contents)
+  settles : (s : CardState) (o : Option State) → own_target s.state s.transfer ≡ o →
+      Settled (card_with d s announced contents) (card_with d (stepped_to o s) announced contents)
   settles s None e = inl refl
   settles s (Some state) e = inr (state, e, refl)
 
@@ -67,14 +72,18 @@ pub record Told (order : Order) (argument : ℕ) (c u : Card) (reply : Option Re
 abbrev pub way_of : Behavior → Order → ℕ → CardState → TakenAs
 way_of behavior order argument s = let t = settled_by behavior s in taken_as_of order t.app (matches t.rca (argument / 65536))
 
-pub hear_law : (d : CardDesc) → IsDescribed d → IsRegister 15 d.csd → (behavior : Behavior) (order : Order) (argument announced : ℕ) (s : CardState) (contents contents' : List Block) →
+pub hear_law : (d : CardDesc) → IsDescribed d → IsRegister 15 d.csd →
+    (behavior : Behavior) (order : Order) (argument announced : ℕ) (s : CardState) (contents contents' : List Block) →
     ((t : Card) → Settled (card_with d s announced contents) t → SettledLegal (card_takes t order argument) t) →
     LeavesBlocks (hear d behavior order argument s).erases d.capacity contents contents' →
-    Told order argument (card_with d s announced contents) (card_with d (hear d behavior order argument s).after (announced_as behavior (way_of behavior order argument s) announced) contents') (hear d behavior order argument s).reply
+    Told order argument (card_with d s announced contents)
+    (card_with d (hear d behavior order argument s).after (announced_as behavior (way_of behavior order argument s) announced) contents')
+    (hear d behavior order argument s).reply
 hear_law d is csd behavior order argument announced s contents contents' legal left =
     let t : CardState = settled_by behavior s in
     let settled = settled_law d is csd behavior order argument announced contents contents' behavior s in
-    let r = done_law d is csd behavior order argument announced contents contents' (way_of behavior order argument s) t (legal (card_with d t announced contents) settled) left in
+    let r = done_law d is csd behavior order argument announced contents contents' (way_of behavior order argument s) t
+    (legal (card_with d t announced contents) settled) left in
     record {
       answer = r.answer;
       told = r.told;

@@ -4,6 +4,7 @@ pub mod WordLaws
 pub mod DoesLaw
 pub mod HearLaw
 pub mod CommandLaws
+pub mod LineLaws
 pub mod AcceptLaws
 pub mod CountLaw
 pub mod AnswerShown

@@ -23,12 +23,9 @@ use Rattle.sdv_behavior.specs.CardOf.{card_of, card_with}
 use Rattle.sdv_image.specs.Images.{Shown, OnlyThese, OnlyAt, AreSized}
 use Rattle.sdv_behavior.specs.RowTaken.{first_of}
 use Rattle.sdv_behavior.specs.SimSteps.{SimState, card_shown, shown_card, Goes, length_fits, first_place, phase_over, register_of, padded, IfEndedWell, receives, receives_register, takes_blocks, Receives, ReceivesRegister, TakesBlocks, wait_state, Waits}
-use Rattle.sdv_behavior.proofs.CountLaw.{Knows}
+use Rattle.sdv_behavior.proofs.CountLaw.{Knows, no}
 
 -- WHICH PHASE IS DUE
-
-no : {A : Type 0} → false ≡ true → A
-no e = absurd (cc)
 
 read_is_due : (state : State) (x : Transfer) → recv_legal state x ≡ true → read_due x ≡ true
 read_is_due Data x e = e
@@ -53,14 +50,16 @@ write_blocks_due OpenWriteDue e = refl
 write_blocks_due x e = no e
 
 -- a block phase that is due has the length that the host announced
-counts : (x : Transfer) (count known announced : ℕ) → blocks_due x ≡ true → (count_known x ≡ true → known ≡ announced) → count ≡ announced → (is_open x || (count == known)) ≡ true
+counts : (x : Transfer) (count known announced : ℕ) → blocks_due x ≡ true → (count_known x ≡ true → known ≡ announced) → count ≡ announced →
+    (is_open x || (count == known)) ≡ true
 counts ReadDue count known announced e knows same = eq-eqb count known (same ∙ sym (knows refl))
 counts OpenReadDue count known announced e knows same = refl
 counts WriteDue count known announced e knows same = eq-eqb count known (same ∙ sym (knows refl))
 counts OpenWriteDue count known announced e knows same = refl
 counts x count known announced e knows same = no e
 
-fits : (d : CardDesc) (s : CardState) (count announced : ℕ) (contents : List Block) → blocks_due s.transfer ≡ true → Knows s announced → TransferOnCard (card_with d s announced contents) → count ≡ announced → length_fits d s count ≡ true
+fits : (d : CardDesc) (s : CardState) (count announced : ℕ) (contents : List Block) → blocks_due s.transfer ≡ true → Knows s announced →
+    TransferOnCard (card_with d s announced contents) → count ≡ announced → length_fits d s count ≡ true
 fits d s count announced contents due knows on_card same =
     let has = on_card due in
     let some = has.some in
@@ -77,7 +76,8 @@ record AfterPhase (x : Transfer) (end : DataEnd) : Type 0 where
   places : after_phase x end ≡ place ∷ rest
   unknown : count_known place.transfer ≡ false
 
-first : {x : Transfer} {end : DataEnd} (place : Place) (rest : List Place) → after_phase x end ≡ place ∷ rest → count_known place.transfer ≡ false → AfterPhase x end
+first : {x : Transfer} {end : DataEnd} (place : Place) (rest : List Place) → after_phase x end ≡ place ∷ rest → count_known place.transfer ≡ false →
+    AfterPhase x end
 first place rest e u = record { place = place; rest = rest; places = e; unknown = u }
 
 read_after : (x : Transfer) (end : DataEnd) → read_due x ≡ true → AfterPhase x end
@@ -133,11 +133,13 @@ module _ (s s' : SimState) (contents : List Block) (shows : s.blocks ≡ Some co
       sym (ap (λ b. shown_card s.desc card b) e ∙ (ap (λ d. shown_card d card s'.blocks) goes.desc ∙ ap (λ c. shown_card s'.desc c s'.blocks) goes.state))
 
   -- the blocks that a phase moves
-  moved_blocks : (first count : ℕ) (blocks : List Block) (b : Option (List Block)) (all : List Block) → Some all ≡ b → length blocks ≡ count → Shown first blocks b → blocks ≡ take count (drop first all)
+  moved_blocks : (first count : ℕ) (blocks : List Block) (b : Option (List Block)) (all : List Block) → Some all ≡ b → length blocks ≡ count →
+      Shown first blocks b → blocks ≡ take count (drop first all)
   moved_blocks first count blocks b all e size shown =
       subst (λ n. blocks ≡ take n (drop first all)) size (subst (λ v. Shown first blocks v) (sym e) shown)
 
-  pub receive_law : (count : ℕ) (end : DataEnd) (blocks : List Block) → recv_legal s.card.state s.card.transfer ≡ true → count ≡ announced → length blocks ≡ count → Receives end blocks s s' →
+  pub receive_law : (count : ℕ) (end : DataEnd) (blocks : List Block) → recv_legal s.card.state s.card.transfer ≡ true → count ≡ announced →
+      length blocks ≡ count → Receives end blocks s s' →
       Kept card_shown (ReceiveBlocks count) before (BlocksIn end blocks) s'
   receive_law count end blocks legal bounds size r =
       let due = read_is_due s.card.state s.card.transfer legal in
@@ -160,16 +162,19 @@ module _ (s s' : SimState) (contents : List Block) (shows : s.blocks ≡ Some co
   -- a phase from a card that is due is one that the simulator takes
   pub receives_law : (count : ℕ) → recv_legal s.card.state s.card.transfer ≡ true → TransferOnCard before → count ≡ announced → receives s count ≡ true
   receives_law count legal on_card bounds =
-      both_true _ _ legal (fits s.desc s.card count announced contents (read_blocks_due s.card.transfer (read_is_due s.card.state s.card.transfer legal)) knows on_card bounds)
+      both_true _ _ legal (fits s.desc s.card count announced contents
+      (read_blocks_due s.card.transfer (read_is_due s.card.state s.card.transfer legal)) knows on_card bounds)
 
   pub takes_law : (count : ℕ) → give_legal s.card.state s.card.transfer ≡ true → TransferOnCard before → count ≡ announced → takes_blocks s count ≡ true
   takes_law count legal on_card bounds =
-      both_true _ _ legal (fits s.desc s.card count announced contents (write_blocks_due s.card.transfer (write_is_due s.card.state s.card.transfer legal)) knows on_card bounds)
+      both_true _ _ legal (fits s.desc s.card count announced contents
+      (write_blocks_due s.card.transfer (write_is_due s.card.state s.card.transfer legal)) knows on_card bounds)
 
   pub receives_register_law : (count : ℕ) → recv_reg_legal s.card.state s.card.transfer ≡ true → 0 < count → receives_register s count ≡ true
   receives_register_law count legal some = both_true _ _ legal (le-leb 1 count (omega (arith, some)))
 
-  pub register_law : (count : ℕ) (end : DataEnd) (bytes : List ℕ) → recv_reg_legal s.card.state s.card.transfer ≡ true → length bytes ≡ count → ReceivesRegister end bytes s s' →
+  pub register_law : (count : ℕ) (end : DataEnd) (bytes : List ℕ) → recv_reg_legal s.card.state s.card.transfer ≡ true → length bytes ≡ count →
+      ReceivesRegister end bytes s s' →
       Kept card_shown (ReceiveRegister count) before (RegisterIn end bytes) s'
   register_law count end bytes legal size r =
       let due = register_is_due s.card.state s.card.transfer legal in
@@ -190,8 +195,10 @@ module _ (s s' : SimState) (contents : List Block) (shows : s.blocks ≡ Some co
       same_register SdStatusDue = refl
       same_register x = refl
 
-      truth : (end : DataEnd) → IfEndedWell end (bytes ≡ padded (register_of s.card.transfer s.desc) (length bytes)) → RegisterTrue end (due_register s.card.transfer before) bytes
-      truth Ok t = subst (λ r. take (length r) bytes ≡ take (length bytes) r) (sym (same_register s.card.transfer)) (padded_true (register_of s.card.transfer s.desc) bytes t)
+      truth : (end : DataEnd) → IfEndedWell end (bytes ≡ padded (register_of s.card.transfer s.desc) (length bytes)) →
+          RegisterTrue end (due_register s.card.transfer before) bytes
+      truth Ok t = subst (λ r. take (length r) bytes ≡ take (length bytes) r) (sym (same_register s.card.transfer))
+          (padded_true (register_of s.card.transfer s.desc) bytes t)
       truth Cut t = tt
 
   -- the blocks that a write leaves
@@ -213,7 +220,8 @@ module _ (s s' : SimState) (contents : List Block) (shows : s.blocks ≡ Some co
         others = let same : old ≡ contents = cc in subst (λ v. OnlyThese s.card.next_block (length blocks) v o.0) same o.2;
       }
 
-  pub give_law : (end : DataEnd) (blocks : List Block) → AreBlocks s.desc.capacity contents → give_legal s.card.state s.card.transfer ≡ true → length blocks ≡ announced → TakesBlocks end blocks s s' →
+  pub give_law : (end : DataEnd) (blocks : List Block) → AreBlocks s.desc.capacity contents → give_legal s.card.state s.card.transfer ≡ true →
+      length blocks ≡ announced → TakesBlocks end blocks s s' →
       Kept card_shown (GiveBlocks blocks) before (BlocksOut end) s'
   give_law end blocks all legal bounds r =
       let due = write_is_due s.card.state s.card.transfer legal in
@@ -239,9 +247,11 @@ module _ (s s' : SimState) (contents : List Block) (shows : s.blocks ≡ Some co
         };
       }
     where
-      stored : (end : DataEnd) (card : CardState) (contents' : List Block) → Some contents' ≡ s'.blocks → IfEndedWell end (Shown s.card.next_block blocks s'.blocks) →
+      stored : (end : DataEnd) (card : CardState) (contents' : List Block) → Some contents' ≡ s'.blocks →
+          IfEndedWell end (Shown s.card.next_block blocks s'.blocks) →
           StoredOrNot end before blocks (card_with s.desc card announced contents')
-      stored Ok card contents' e t = inl (record { stored = sym (moved_blocks s.card.next_block announced blocks s'.blocks contents' e bounds t); error = refl })
+      stored Ok card contents' e t =
+          inl (record { stored = sym (moved_blocks s.card.next_block announced blocks s'.blocks contents' e bounds t); error = refl })
       stored Cut card contents' e t = refl
 
   -- a wait ends in a state that the tables have

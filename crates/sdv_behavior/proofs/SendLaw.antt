@@ -30,7 +30,8 @@ use Rattle.sdv_behavior.specs.SimSteps.{SimState, behavior_of, card_shown, shown
 use Rattle.sdv_behavior.proofs.Told.{LeavesBlocks}
 use Rattle.sdv_behavior.proofs.AcceptLaws.{SentTo, accepts_law, hears_same}
 use Rattle.sdv_behavior.proofs.AnswerShown.{shows_law}
-use Rattle.sdv_behavior.proofs.CommandLaws.{read_as, read_law}
+use Rattle.sdv_behavior.specs.LinesRead.{read_as}
+use Rattle.sdv_behavior.proofs.CommandLaws.{read_law}
 use Rattle.sdv_behavior.proofs.CountLaw.{Knows, SomeCount, count_fits, settled_count, done_count}
 use Rattle.sdv_behavior.proofs.HearLaw.{way_of, announced_as, settled_law, hear_law}
 
@@ -55,7 +56,8 @@ record Left (erases : Bool) (capacity : ℕ) (contents : List Block) (blocks : O
 sized : (capacity : ℕ) (left : List Block) (blocks : Option (List Block)) → Some left ≡ blocks → AreSized capacity blocks → AreBlocks capacity left
 sized capacity left blocks e fit = subst (λ b. AreSized capacity b) (sym e) fit
 
-left_of : (erases : Bool) (s s' : SimState) (contents : List Block) → s.blocks ≡ Some contents → AreBlocks s.desc.capacity contents → BlocksLeft erases s s' → Left erases s.desc.capacity contents s'.blocks
+left_of : (erases : Bool) (s s' : SimState) (contents : List Block) → s.blocks ≡ Some contents → AreBlocks s.desc.capacity contents → BlocksLeft erases s s' →
+    Left erases s.desc.capacity contents s'.blocks
 left_of false s s' contents e all same = record { contents' = contents; shown = sym e ∙ same; leaves = refl }
 left_of true s s' contents e all erased = go _ _ s.blocks e erased.others
   where
@@ -64,11 +66,18 @@ left_of true s s' contents e all erased = go _ _ s.blocks e erased.others
 
     go : (first count : ℕ) (b : Option (List Block)) → b ≡ Some contents → OnlyAt first count b s'.blocks → Left true s.desc.capacity contents s'.blocks
     go first count None e o = absurd (cc)
-    go first count (Some old) e o = record { contents' = o.0; shown = o.1; leaves = sized s.desc.capacity o.0 s'.blocks o.1 (erased.fit (subst (λ b. AreSized s.desc.capacity b) (sym whole) all)) }
+    go first count (Some old) e o =
+        record {
+          contents' = o.0;
+          shown = o.1;
+          leaves =
+              sized s.desc.capacity o.0 s'.blocks o.1 (erased.fit (subst (λ b. AreSized s.desc.capacity b) (sym whole) all));
+        }
 
 -- ONE COMMAND
 
-module _ (s s' : SimState) (is : IsDescribed s.desc) (contents : List Block) (shows : s.blocks ≡ Some contents) (announced : ℕ) (knows : Knows s.card announced) where
+module _ (s s' : SimState) (is : IsDescribed s.desc) (contents : List Block) (shows : s.blocks ≡ Some contents) (announced : ℕ)
+    (knows : Knows s.card announced) where
   abbrev before : Card
   before = card_with s.desc s.card announced contents
 
@@ -86,14 +95,16 @@ module _ (s s' : SimState) (is : IsDescribed s.desc) (contents : List Block) (sh
     sent = sent_to order argument ask.argument h.rca fine.made.address argument_is
 
     read : order_read s.desc.kind s.card.preset ask.index argument ≡ Some (read_as s.card.preset order)
-    read = ap (λ a. order_read s.desc.kind s.card.preset ask.index a) argument_is ∙ read_law s.desc.kind ask order s.card.preset h.rca fine.made.address fine.legal.asks.line
+    read = ap (λ a. order_read s.desc.kind s.card.preset ask.index a) argument_is
+        ∙ read_law s.desc.kind ask order s.card.preset h.rca fine.made.address fine.legal.asks.line
 
     within : BlocksWithin (order_blocks order) before position argument
     within = subst (λ o. BlocksWithin o before position argument) (sym (asks_address s.desc.kind ask order fine.legal.asks.line)) fine.bounds
 
     accepted : accepts s.desc (read_as s.card.preset order) argument s.card ≡ true
     accepted = accepts_law s.desc order position argument announced s.card contents sent
-        (count_fits order s.card.app _ before (some_count s.desc.kind ask order (of_ask s.desc.kind ask order fine.legal.asks.line)) (fine.legal.settled before (inl refl)))
+        (count_fits order s.card.app _ before (some_count s.desc.kind ask order (of_ask s.desc.kind ask order fine.legal.asks.line))
+        (fine.legal.settled before (inl refl)))
         fine.pair.card fine.legal.settled within
 
     -- the card that the command meets
@@ -121,14 +132,17 @@ module _ (s s' : SimState) (is : IsDescribed s.desc) (contents : List Block) (sh
 
     knows_after : Knows outcome.after (announced_as behavior (way_of behavior order argument s.card) announced)
     knows_after =
-        done_count s.desc behavior (way_of behavior order argument s.card) argument (settled_by behavior s.card) announced contents (fine.legal.settled met settles)
+        done_count s.desc behavior (way_of behavior order argument s.card) argument (settled_by behavior s.card) announced contents
+        (fine.legal.settled met settles)
         (settled_count behavior s.card announced knows)
 
-    shown_after : (contents' : List Block) → Some contents' ≡ s'.blocks → s.desc ≡ s'.desc → outcome.after ≡ s'.card → Some (card_of s.desc outcome.after contents') ≡ card_shown s'
+    shown_after : (contents' : List Block) → Some contents' ≡ s'.blocks → s.desc ≡ s'.desc → outcome.after ≡ s'.card →
+        Some (card_of s.desc outcome.after contents') ≡ card_shown s'
     shown_after contents' e desc card =
         ap (λ b. shown_card s.desc outcome.after b) e ∙ (ap (λ d. shown_card d outcome.after s'.blocks) desc ∙ ap (λ c. shown_card s'.desc c s'.blocks) card)
 
-    transferred : (end : WireEnd) (response : List ℕ) → Transfers outcome end response s s' → HeardBy card_shown s.desc.kind ask position argument before end response s'
+    transferred : (end : WireEnd) (response : List ℕ) → Transfers outcome end response s s' →
+        HeardBy card_shown s.desc.kind ask position argument before end response s'
     transferred end response t =
         let left = left_of outcome.erases s s' contents shows fine.pair.card.contents t.blocks in
         let told = hear_law s.desc is fine.pair.card.csd behavior order argument announced s.card contents left.contents' fine.legal.settled left.leaves in
@@ -150,5 +164,6 @@ module _ (s s' : SimState) (is : IsDescribed s.desc) (contents : List Block) (sh
               told.told told.is_reply t.gives;
         }
 
-    pub send_law : (end : WireEnd) (response : List ℕ) → Transfers (heard_of s (command_of ask argument)) end response s s' → HeardBy card_shown s.desc.kind ask position argument before end response s'
+    pub send_law : (end : WireEnd) (response : List ℕ) → Transfers (heard_of s (command_of ask argument)) end response s s' →
+        HeardBy card_shown s.desc.kind ask position argument before end response s'
     send_law end response t = transferred end response (subst (λ v. Transfers v end response s s') heard_is t)

@@ -16,7 +16,8 @@ use Rattle.sdv_behavior.proofs.PhaseLaws.{receive_law, receives_law, register_la
 use Rattle.sdv_behavior.proofs.SendLaw.{send_law}
 
 -- a card is shown where the image shows its blocks
-blocks_of : (d : CardDesc) (s : CardState) (b : Option (List Block)) (c : Card) → shown_card d s b ≡ Some c → (contents : List Block) × (b ≡ Some contents) × (card_of d s contents ≡ c)
+blocks_of : (d : CardDesc) (s : CardState) (b : Option (List Block)) (c : Card) → shown_card d s b ≡ Some c →
+    (contents : List Block) × (b ≡ Some contents) × (card_of d s contents ≡ c)
 blocks_of d s None c e = absurd (cc)
 blocks_of d s (Some contents) c e = (contents, refl, (cc))
 
@@ -29,7 +30,8 @@ abbrev Known : Card → ℕ → Type 0
 Known c announced = IsTrue (count_known c.transfer) → c.announced ≡ announced
 
 -- what holds of a state of the simulator holds of what has that state
-kept_by : {S : Type 0} (state : S → SimState) (s' : S) (event : ScriptEvent) (c : Card) (returned : Return) → Kept card_shown event c returned (state s') → Kept (λ s. card_shown (state s)) event c returned s'
+kept_by : {S : Type 0} (state : S → SimState) (s' : S) (event : ScriptEvent) (c : Card) (returned : Return) → Kept card_shown event c returned (state s') →
+    Kept (λ s. card_shown (state s)) event c returned s'
 kept_by state s' event c returned k = record {
   after = k.after;
   step = k.step;
@@ -44,35 +46,48 @@ module _ {S : Type 0} (state : S → SimState) (is : (s : S) → IsDescribed (st
   shown s = card_shown (state s)
 
   -- at the card that is shown, with the count that the host announced
-  module _ (s s' : S) (contents : List Block) (announced : ℕ) (h : Host) (blocks : (state s).blocks ≡ Some contents) (knows : Knows (state s).card announced) where
+  module _ (s s' : S) (contents : List Block) (announced : ℕ) (h : Host) (blocks : (state s).blocks ≡ Some contents)
+      (knows : Knows (state s).card announced) where
     abbrev before : Card
     before = card_with (state s).desc (state s).card announced contents
 
-    receive_at : (count : ℕ) → IsFine (state s).desc.kind (ReceiveBlocks count) before h → (returned : Return) → steps s (OtherCall (DataIn count)) (OtherReturn returned) s' → Kept shown (ReceiveBlocks count) before returned s'
+    receive_at : (count : ℕ) → IsFine (state s).desc.kind (ReceiveBlocks count) before h → (returned : Return) →
+        steps s (OtherCall (DataIn count)) (OtherReturn returned) s' → Kept shown (ReceiveBlocks count) before returned s'
     receive_at count fine (BlocksIn end moved) (size, step) =
-        kept_by state s' (ReceiveBlocks count) before (BlocksIn end moved) (receive_law (state s) (state s') contents blocks announced knows count end moved fine.legal fine.bounds size
-        (chosen (receives (state s) count) _ _ (receives_law (state s) (state s') contents blocks announced knows count fine.legal fine.on_card fine.bounds) step))
+        kept_by state s' (ReceiveBlocks count) before (BlocksIn end moved)
+        (receive_law (state s) (state s') contents blocks announced knows count end moved fine.legal fine.bounds size
+        (chosen (receives (state s) count) _ _
+        (receives_law (state s) (state s') contents blocks announced knows count fine.legal fine.on_card fine.bounds) step))
     receive_at count fine returned step = absurd step
 
-    register_at : (count : ℕ) → IsFine (state s).desc.kind (ReceiveRegister count) before h → (returned : Return) → steps s (OtherCall (DataInRegister count)) (OtherReturn returned) s' → Kept shown (ReceiveRegister count) before returned s'
+    register_at : (count : ℕ) → IsFine (state s).desc.kind (ReceiveRegister count) before h → (returned : Return) →
+        steps s (OtherCall (DataInRegister count)) (OtherReturn returned) s' → Kept shown (ReceiveRegister count) before returned s'
     register_at count fine (RegisterIn end bytes) (size, step) =
-        kept_by state s' (ReceiveRegister count) before (RegisterIn end bytes) (register_law (state s) (state s') contents blocks announced knows count end bytes fine.legal size
-        (chosen (receives_register (state s) count) _ _ (receives_register_law (state s) (state s') contents blocks announced knows count fine.legal fine.bounds) step))
+        kept_by state s' (ReceiveRegister count) before (RegisterIn end bytes)
+        (register_law (state s) (state s') contents blocks announced knows count end bytes fine.legal size
+        (chosen (receives_register (state s) count) _ _
+        (receives_register_law (state s) (state s') contents blocks announced knows count fine.legal fine.bounds) step))
     register_at count fine returned step = absurd step
 
-    give_at : (moved : List Block) → IsFine (state s).desc.kind (GiveBlocks moved) before h → (returned : Return) → steps s (OtherCall (DataOut moved)) (OtherReturn returned) s' → Kept shown (GiveBlocks moved) before returned s'
+    give_at : (moved : List Block) → IsFine (state s).desc.kind (GiveBlocks moved) before h → (returned : Return) →
+        steps s (OtherCall (DataOut moved)) (OtherReturn returned) s' → Kept shown (GiveBlocks moved) before returned s'
     give_at moved fine (BlocksOut end) step =
-        kept_by state s' (GiveBlocks moved) before (BlocksOut end) (give_law (state s) (state s') contents blocks announced knows end moved fine.pair.card.contents fine.legal fine.bounds
-        (chosen (takes_blocks (state s) (length moved)) _ _ (takes_law (state s) (state s') contents blocks announced knows (length moved) fine.legal fine.on_card fine.bounds) step))
+        kept_by state s' (GiveBlocks moved) before (BlocksOut end)
+        (give_law (state s) (state s') contents blocks announced knows end moved fine.pair.card.contents fine.legal fine.bounds
+        (chosen (takes_blocks (state s) (length moved)) _ _
+        (takes_law (state s) (state s') contents blocks announced knows (length moved) fine.legal fine.on_card fine.bounds) step))
     give_at moved fine returned step = absurd step
 
-    wait_at : IsFine (state s).desc.kind AwaitReady before h → (returned : Return) → steps s (OtherCall WaitWhileBusy) (OtherReturn returned) s' → Kept shown AwaitReady before returned s'
-    wait_at fine (Waited end) step = kept_by state s' AwaitReady before (Waited end) (wait_law (state s) (state s') contents blocks announced knows end fine.legal step)
+    wait_at : IsFine (state s).desc.kind AwaitReady before h → (returned : Return) → steps s (OtherCall WaitWhileBusy) (OtherReturn returned) s' →
+        Kept shown AwaitReady before returned s'
+    wait_at fine (Waited end) step =
+        kept_by state s' AwaitReady before (Waited end) (wait_law (state s) (state s') contents blocks announced knows end fine.legal step)
     wait_at fine returned step = absurd step
 
     keeps_at : (event : ScriptEvent) → IsFine (state s).desc.kind event before h → KeepsAt steps shown s s' (state s).desc.kind event before
     keeps_at (SendCommand ask position argument) fine = λ frame response end is_command framed step.
-        let heard = send_law (state s) (state s') (is s) contents blocks announced knows ask position argument h fine end response (step.0 (command_of ask argument) is_command framed) in
+        let heard = send_law (state s) (state s') (is s) contents blocks announced knows ask position argument h fine end response
+        (step.0 (command_of ask argument) is_command framed) in
         record {
           answer = heard.answer;
           kept = kept_by state s' (SendCommand ask position argument) before (Answered heard.answer) heard.kept;
@@ -91,6 +106,8 @@ module _ {S : Type 0} (state : S → SimState) (is : (s : S) → IsDescribed (st
       let moves : shows.shown.transfer ≡ c.transfer = ap (λ v. v.transfer) shows.same in
       let known : Known shows.shown c.announced = λ k. shows.count (subst (λ t. IsTrue (count_known t)) moves k) in
       let knows : Knows (state s).card c.announced = subst (λ v. Known v c.announced) (sym b.2) known in
-      let here : IsFine (state s).desc.kind event (card_with (state s).desc (state s).card c.announced b.0) h = subst (λ v. IsFine v event (card_with (state s).desc (state s).card c.announced b.0) h) kind (subst (λ v. IsFine k event v h) (sym same) fine) in
+      let here : IsFine (state s).desc.kind event (card_with (state s).desc (state s).card c.announced b.0) h =
+      subst (λ v. IsFine v event (card_with (state s).desc (state s).card c.announced b.0) h) kind (subst (λ v. IsFine k event v h) (sym same) fine) in
       subst (λ v. KeepsAt steps shown s s' k event v) same
-      (subst (λ v. KeepsAt steps shown s s' v event (card_with (state s).desc (state s).card c.announced b.0)) (sym kind) (keeps_at s s' b.0 c.announced h b.1 knows event here))
+      (subst (λ v. KeepsAt steps shown s s' v event (card_with (state s).desc (state s).card c.announced b.0)) (sym kind)
+      (keeps_at s s' b.0 c.announced h b.1 knows event here))

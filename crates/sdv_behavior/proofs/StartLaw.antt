@@ -12,8 +12,32 @@ use Rattle.sdv_description.proofs.Described.{described_law}
 use Rattle.sdv_behavior.specs.CardOf.{card_of, at_start}
 
 cid_is : (k : Kind) → IsRegister 15 (cid_of k)
-cid_is Sd = record { size = refl; bytes_fit = All-from_recursion IsByte (cid_of Sd) (lit< tt, (lit< tt, (lit< tt, (lit< tt, (lit< tt, (lit< tt, (lit< tt, (lit< tt, (lit< tt, (lit< tt, (lit< tt, (lit< tt, (lit< tt, (lit< tt, (lit< tt, tt))))))))))))))) }
-cid_is Emmc = record { size = refl; bytes_fit = All-from_recursion IsByte (cid_of Emmc) (lit< tt, (lit< tt, (lit< tt, (lit< tt, (lit< tt, (lit< tt, (lit< tt, (lit< tt, (lit< tt, (lit< tt, (lit< tt, (lit< tt, (lit< tt, (lit< tt, (lit< tt, tt))))))))))))))) }
+cid_is Sd = record {
+  size = refl;
+  bytes_fit = All-from_recursion IsByte (cid_of Sd) (
+    lit< tt,
+    (
+      lit< tt,
+      (
+        lit< tt,
+        (lit< tt, (lit< tt, (lit< tt, (lit< tt, (lit< tt, (lit< tt, (lit< tt, (lit< tt, (lit< tt, (lit< tt, (lit< tt, (lit< tt, tt)))))))))))),
+      ),
+    ),
+  );
+}
+cid_is Emmc = record {
+  size = refl;
+  bytes_fit = All-from_recursion IsByte (cid_of Emmc) (
+    lit< tt,
+    (
+      lit< tt,
+      (
+        lit< tt,
+        (lit< tt, (lit< tt, (lit< tt, (lit< tt, (lit< tt, (lit< tt, (lit< tt, (lit< tt, (lit< tt, (lit< tt, (lit< tt, (lit< tt, tt)))))))))))),
+      ),
+    ),
+  );
+}
 
 zeros_fit : (n : ℕ) → All IsByte (replicate n 0)
 zeros_fit zero = All-nil IsByte
@@ -24,10 +48,15 @@ unfolding sd_status
 status_is = record { size = refl; bytes_fit = zeros_fit 64 }
 
 scr_is : IsRegister 8 scr
-scr_is = record { size = refl; bytes_fit = All-from_recursion IsByte scr (lit< tt, (lit< tt, (lit< tt, (lit< tt, (lit< tt, (lit< tt, (lit< tt, (lit< tt, tt)))))))) }
+scr_is = record {
+  size = refl;
+  bytes_fit =
+      All-from_recursion IsByte scr (lit< tt, (lit< tt, (lit< tt, (lit< tt, (lit< tt, (lit< tt, (lit< tt, (lit< tt, tt))))))));
+}
 
 four_fit : (n : ℕ) → n < 2 ^ 32 → All IsByte (n % 256 ∷ n / 256 % 256 ∷ n / 65536 % 256 ∷ n / 16777216 ∷ [])
-four_fit n fits = All-from_recursion IsByte (n % 256 ∷ n / 256 % 256 ∷ n / 65536 % 256 ∷ n / 16777216 ∷ []) (omega arith, (omega arith, (omega arith, (omega (arith, fits), tt))))
+four_fit n fits = All-from_recursion IsByte (n % 256 ∷ n / 256 % 256 ∷ n / 65536 % 256 ∷ n / 16777216 ∷ [])
+    (omega arith, (omega arith, (omega arith, (omega (arith, fits), tt))))
 
 ext_csd_is : (n : ℕ) → n < 2 ^ 32 → IsRegister 512 (ext_csd_of n)
 unfolding ext_csd_of
@@ -50,7 +79,8 @@ length_is : (block_unit : Bool) (length : ℕ) → (block_unit ≡ true → leng
 length_is true length h = eq-eqb length 512 (h refl)
 length_is false length h = refl
 
-pub start_law : (d : CardDesc) (contents : List Block) → IsRegister 15 d.csd → d.sectors < 2 ^ 32 → AreBlocks d.capacity contents → IsAtStart (card_of d (at_start d) contents)
+pub start_law : (d : CardDesc) (contents : List Block) → IsRegister 15 d.csd → d.sectors < 2 ^ 32 → AreBlocks d.capacity contents →
+    IsAtStart (card_of d (at_start d) contents)
 start_law d contents csd sectors blocks =
     let is = described_law d in
     record {

@@ -28,7 +28,8 @@ first_is_one : (ss : List State) (s : State) (x : State) → IsOneOf ss x → Is
 first_is_one [] s x m = absurd m
 first_is_one (y ∷ ss) s x m = inl refl
 
-first_target : (k : Kind) (row : Row) (state : State) {target : State} → May (targets (rows k row) state) target → May (rows k row) (state to first_of (targets (rows k row) state) state)
+first_target : (k : Kind) (row : Row) (state : State) {target : State} → May (targets (rows k row) state) target →
+    May (rows k row) (state to first_of (targets (rows k row) state) state)
 first_target k row state m = May-from_targets (record { one = first_is_one (targets (rows k row) state) state _ m.one })
 
 -- a card that is asked for its conditions is idle, and may stay so
@@ -37,12 +38,14 @@ idle_still Sd state m = absurd m.one
 idle_still Emmc Idle m = there (here refl)
 idle_still Emmc state m = absurd m.one
 
-sd_idle_still : (k : Kind) (high : Bool) (state : State) {target : State} → May (targets (rows k (Acmd41 high)) state) target → May (rows k (Acmd41 high)) (state to state)
+sd_idle_still : (k : Kind) (high : Bool) (state : State) {target : State} → May (targets (rows k (Acmd41 high)) state) target →
+    May (rows k (Acmd41 high)) (state to state)
 sd_idle_still Emmc high state m = absurd m.one
 sd_idle_still Sd high Idle m = there (here refl)
 sd_idle_still Sd high state m = absurd m.one
 
-state_law : (k : Kind) (row : Row) (ready : Bool) (state : State) {target : State} → May (targets (rows k row) state) target → May (rows k row) (state to state_next k row ready state)
+state_law : (k : Kind) (row : Row) (ready : Bool) (state : State) {target : State} → May (targets (rows k row) state) target →
+    May (rows k row) (state to state_next k row ready state)
 state_law k Cmd1 false state m = idle_still k state m
 state_law k Cmd1 true state m = first_target k Cmd1 state m
 state_law k (Acmd41 high) false state m = sd_idle_still k high state m
@@ -54,7 +57,8 @@ abbrev pub is_refused : Row → Bool → Bool
 is_refused (Acmd41 false) true = true
 is_refused row block_unit = false
 
-pub not_ready : (behavior : Behavior) (row : Row) (block_unit checked : Bool) → is_refused row block_unit ≡ true → is_ready behavior row block_unit checked ≡ false
+pub not_ready : (behavior : Behavior) (row : Row) (block_unit checked : Bool) → is_refused row block_unit ≡ true →
+    is_ready behavior row block_unit checked ≡ false
 not_ready IsSlow row block_unit checked e = refl
 not_ready behavior (Acmd41 false) true checked e = refl
 not_ready behavior (Acmd41 false) false checked e = absurd (let f : false ≡ true = e in cc)
@@ -93,7 +97,8 @@ rca_law described Cmd0 rca some fits = refl
 rca_law described Cmd3Sd rca some fits = (described, refl, some, fits)
 rca_law described row rca some fits = refl
 
-length_law : (described : ℕ) (row : Row) (block_unit : Bool) (length : ℕ) → (block_unit ≡ true → described ≡ 512) → LengthAfter row block_unit length (length_next described row length)
+length_law : (described : ℕ) (row : Row) (block_unit : Bool) (length : ℕ) → (block_unit ≡ true → described ≡ 512) →
+    LengthAfter row block_unit length (length_next described row length)
 length_law described Cmd0 true length whole = whole refl
 length_law described Cmd0 false length whole = tt
 length_law described Cmd16 block_unit length whole = refl
@@ -121,13 +126,16 @@ blocks_law d (Cmd25 n) argument ready t announced contents contents' = record { 
 blocks_law d row argument ready t announced contents contents' = record { block = refl; count_is = refl }
 
 same_card : (d : CardDesc) (t u : CardState) (n m : ℕ) (contents contents' : List Block) → SameCard (card_with d t n contents) (card_with d u m contents')
-same_card d t u n m contents contents' = record { kind = refl; version = refl; block_unit = refl; capacity = refl; csd = refl; cid = refl; ext_csd = refl; scr = refl; sd_status = refl }
+same_card d t u n m contents contents' =
+    record { kind = refl; version = refl; block_unit = refl; capacity = refl; csd = refl; cid = refl; ext_csd = refl; scr = refl; sd_status = refl }
 
 -- THE ROW
 
 module _ (d : CardDesc) (is : IsDescribed d) (row : Row) (argument : ℕ) (t : CardState) (announced : ℕ) (contents : List Block) where
-  pub taken_law : (ready : Bool) (contents' : List Block) → (is_refused row d.block_unit ≡ true → ready ≡ false) → RowLegal row (card_with d t announced contents) →
-      ContentsAfter row d.capacity contents contents' → Taken row argument (card_with d t announced contents) (card_with d (taken_by d row argument ready t) (announced_with row announced) contents')
+  pub taken_law : (ready : Bool) (contents' : List Block) → (is_refused row d.block_unit ≡ true → ready ≡ false) →
+      RowLegal row (card_with d t announced contents) →
+      ContentsAfter row d.capacity contents contents' →
+      Taken row argument (card_with d t announced contents) (card_with d (taken_by d row argument ready t) (announced_with row announced) contents')
   taken_law ready contents' only legal left =
       let m = May-targets legal.has_row in
       record {

@@ -1,5 +1,5 @@
--- What a simulated card accepts, in the words of the tables: a command that is legal at each settled card, and addresses
--- blocks that the card has, from the position that its argument names.
+-- What a simulated card accepts, in the words of the tables: a command that is legal at each settled card, and
+-- addresses blocks that the card has, from the position that its argument names.
 use Rattle.std.specs.Prelude.{◌≡◌, ◌↔◌, ℕ, List, true}
 use Rattle.sdv_card.specs.declared.command.Order.{Order}
 use Rattle.sdv_card.specs.Card.{Card, Block}

@@ -31,4 +31,5 @@ has_blocks d argument (Some count) =
     (d.block_unit || (argument % 512 == 0)) && nat_le (block_of d.block_unit argument + count) d.capacity
 
 abbrev pub accepts : CardDesc → Order → (argument : ℕ) → CardState → Bool
-accepts d order argument s = order_legal d.kind order (fields_at d argument s) && has_blocks d argument (order_blocks order)
+accepts d order argument s =
+    order_legal d.kind order (fields_at d argument s) && has_blocks d argument (order_blocks order)

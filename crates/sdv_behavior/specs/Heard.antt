@@ -51,8 +51,8 @@ abbrev pub row_deed : Behavior → Row → Deed
 row_deed behavior Cmd0 = Takes false
 row_deed behavior row = deed_of behavior (response_of row)
 
--- ACMD41 and CMD1 make a card ready, unless it is slow. An SD card with block addresses is ready only for a host that can
--- work with them, and after a CMD8.
+-- ACMD41 and CMD1 make a card ready, unless it is slow. An SD card with block addresses is ready only for a host that
+-- can work with them, and after a CMD8.
 abbrev pub is_ready : Behavior → Row → (block_unit checked : Bool) → Bool
 is_ready IsSlow row block_unit checked = false
 is_ready behavior (Acmd41 high) block_unit checked = not block_unit || (high && checked)
@@ -69,20 +69,28 @@ unheard s = record { after = s; reply = None; erases = false }
 -- what comes of a row at a settled state
 abbrev pub does : CardDesc → Deed → Row → (argument : ℕ) → (ready : Bool) → CardState → Heard
 does d Loses row argument ready t = unheard t
-does d TakesUnheard row argument ready t = record { after = taken_by d row argument ready t; reply = None; erases = is_erase row }
+does d TakesUnheard row argument ready t =
+    record { after = taken_by d row argument ready t; reply = None; erases = is_erase row }
 does d (Takes error) row argument ready t =
-    record { after = taken_by d row argument ready t; reply = reply_of d row t.state true error ready; erases = is_erase row }
-does d Stays row argument ready t = record { after = stays t; reply = reply_of d row t.state false true ready; erases = false }
+    record {
+      after = taken_by d row argument ready t;
+      reply = reply_of d row t.state true error ready;
+      erases = is_erase row;
+    }
+does d Stays row argument ready t =
+    record { after = stays t; reply = reply_of d row t.state false true ready; erases = false }
 
 -- what comes of an order at a settled state: of one with another relative address nothing does
 abbrev pub done_as : CardDesc → Behavior → TakenAs → (argument : ℕ) → CardState → Heard
 done_as d behavior Forbidden argument t = unheard t
 done_as d behavior Ignored argument t = unheard t
-done_as d behavior (By row) argument t = does d (row_deed behavior row) row argument (is_ready behavior row d.block_unit t.checked) t
+done_as d behavior (By row) argument t =
+    does d (row_deed behavior row) row argument (is_ready behavior row d.block_unit t.checked) t
 
 -- what comes of a legal order
 abbrev pub hear_at : CardDesc → Behavior → Order → (argument : ℕ) → CardState → Heard
-hear_at d behavior order argument t = done_as d behavior (taken_as_of order t.app (matches t.rca (argument / 65536))) argument t
+hear_at d behavior order argument t =
+    done_as d behavior (taken_as_of order t.app (matches t.rca (argument / 65536))) argument t
 
 abbrev pub hear : CardDesc → Behavior → Order → (argument : ℕ) → CardState → Heard
 hear d behavior order argument s = hear_at d behavior order argument (settled_by behavior s)

@@ -5,6 +5,7 @@ pub mod Words
 pub mod Replies
 pub mod Heard
 pub mod Commands
+pub mod LinesRead
 pub mod Accepts
 pub mod Accepted
 pub mod SimSteps

@@ -49,7 +49,8 @@ preset_next (Cmd23 n) preset = n
 preset_next (Cmd25 n) preset = 0
 preset_next row preset = preset
 
--- BLOCKS OF A TRANSFER: the block that the argument names; where no count was preset the transfer is open, with one block
+-- BLOCKS OF A TRANSFER: the block that the argument names; where no count was preset the transfer is
+-- open, with one block
 abbrev pub block_next : Row → (block_unit : Bool) → (argument : ℕ) → ℕ → ℕ
 block_next Cmd17 block_unit argument block = block_of block_unit argument
 block_next (Cmd18 n) block_unit argument block = block_of block_unit argument

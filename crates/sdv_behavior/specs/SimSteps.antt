@@ -47,7 +47,8 @@ pub record SimState : Type 0 where
   pub failed : ℕ
 
 abbrev pub state_with : CardDesc → CardState → List Behavior → Option (List Block) → (failed : ℕ) → SimState
-state_with desc card behaviors blocks failed = record { desc = desc; card = card; behaviors = behaviors; blocks = blocks; failed = failed }
+state_with desc card behaviors blocks failed =
+    record { desc = desc; card = card; behaviors = behaviors; blocks = blocks; failed = failed }
 
 abbrev pub behavior_of : SimState → Behavior
 behavior_of s = first_behavior s.behaviors
@@ -70,15 +71,19 @@ pub record Goes (card : CardState) (s s' : SimState) : Type 0 where
 
 abbrev pub heard_order : CardDesc → Behavior → Option Order → (argument : ℕ) → CardState → Heard
 heard_order d behavior None argument s = unheard s
-heard_order d behavior (Some order) argument s = if accepts d order argument s then hear d behavior order argument s else unheard s
+heard_order d behavior (Some order) argument s =
+    if accepts d order argument s then hear d behavior order argument s else unheard s
 
 abbrev pub heard_of : SimState → Command → Heard
-heard_of s command = heard_order s.desc (behavior_of s) (order_read s.desc.kind s.card.preset command.index command.argument) command.argument s.card
+heard_of s command =
+    heard_order s.desc (behavior_of s) (order_read s.desc.kind s.card.preset command.index command.argument)
+    command.argument s.card
 
 -- what a wire gives for an answer: its frame, or silence
 abbrev pub Gives : Option Reply → WireEnd → (response : List ℕ) → Type 0
 Gives None end response = Silent ≡ end
-Gives (Some reply) end response = (count : ℕ) × (Bytes count ≡ end) × (count ≤ 17) × IsReplyFrame reply (take count response)
+Gives (Some reply) end response =
+    (count : ℕ) × (Bytes count ≡ end) × (count ≤ 17) × IsReplyFrame reply (take count response)
 
 -- an erase writes zeros from the first to the last block that the card has; a failure ends it
 pub record Erased (first count size : ℕ) (s s' : SimState) : Type 0 where
@@ -88,7 +93,8 @@ pub record Erased (first count size : ℕ) (s s' : SimState) : Type 0 where
 
 abbrev pub BlocksLeft : (erases : Bool) → SimState → SimState → Type 0
 BlocksLeft false s s' = s.blocks ≡ s'.blocks
-BlocksLeft true s s' = Erased s.card.erase_first (min (s.card.erase_last + 1) s.desc.capacity - s.card.erase_first) s.desc.capacity s s'
+BlocksLeft true s s' =
+    Erased s.card.erase_first (min (s.card.erase_last + 1) s.desc.capacity - s.card.erase_first) s.desc.capacity s s'
 
 pub record Transfers (heard : Heard) (end : WireEnd) (response : List ℕ) (s s' : SimState) : Type 0 where
   pub goes : Goes heard.after s s'
@@ -116,7 +122,8 @@ phase_over end s = first_place (after_phase s.transfer end) s
 
 -- a block phase has blocks, the card has them, and a transfer that is not open has as many
 abbrev pub length_fits : CardDesc → CardState → ℕ → Bool
-length_fits d s count = nat_le 1 count && nat_le (s.next_block + count) d.capacity && (is_open s.transfer || (count == s.announced))
+length_fits d s count =
+    nat_le 1 count && nat_le (s.next_block + count) d.capacity && (is_open s.transfer || (count == s.announced))
 
 abbrev pub receives : SimState → ℕ → Bool
 receives s count = recv_legal s.card.state s.card.transfer && length_fits s.desc s.card count
@@ -187,8 +194,10 @@ pub record Waits (end : WaitEnd) (s s' : SimState) : Type 0 where
 
 abbrev pub SimSteps : SimState → WireCall → WireReturn → SimState → Type 0
 SimSteps s (TransferFrame frame) (Transferred end response) s' =
-    ((command : Command) → IsCommand command → IsCommandFrame command frame → Transfers (heard_of s command) end response s s')
-    × (((command : Command) → IsCommand command → IsCommandFrame command frame → ⊥) → Transfers (unheard s.card) end response s s')
+    ((command : Command) → IsCommand command → IsCommandFrame command frame →
+    Transfers (heard_of s command) end response s s')
+    × (((command : Command) → IsCommand command → IsCommandFrame command frame → ⊥) →
+    Transfers (unheard s.card) end response s s')
 SimSteps s (OtherCall (DataIn count)) (OtherReturn (BlocksIn end blocks)) s' =
     (length blocks ≡ count) × MatchBool (receives s count) (Receives end blocks s s') (Refused end s s')
 SimSteps s (OtherCall (DataInRegister count)) (OtherReturn (RegisterIn end bytes)) s' =

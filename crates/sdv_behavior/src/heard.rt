@@ -184,7 +184,8 @@ pub fn hear(
 
 /// What comes of a command: nothing, where the card has it not or does not accept it.
 pub fn heard_of(desc: &CardDesc, behavior: Behavior, command: Command, s: &CardState) -> Heard
-    ensures heard { result ≡ heard_order desc.now behavior (order_read desc.now.kind s.now.preset command.index command.argument) command.argument s.now }
+    ensures heard { result ≡ heard_order desc.now behavior
+        (order_read desc.now.kind s.now.preset command.index command.argument) command.argument s.now }
     ensures index { IfSome result.reply HasIndex }
 {
     match order_read(desc.kind, s.preset, command) {

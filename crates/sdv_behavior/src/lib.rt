@@ -1,9 +1,9 @@
-//! What a simulated card does: its state, what it makes of each command and phase at each behavior of a schedule, and that
-//! all of it is what the tables of a card allow.
+//! What a simulated card does: its state, what it makes of each command and phase at each behavior of a schedule, and
+//! that all of it is what the tables of a card allow.
 //!
 //! Begin at `specs/Heard.antt`, which has the table of the behaviors, and at `specs/SimSteps.antt`, which says what a
-//! simulator does at each call of a wire. `proofs/SimKeeps.antt` proves that whatever does so keeps the tables of the card
-//! that it shows, for both kinds and every schedule.
+//! simulator does at each call of a wire. `proofs/SimKeeps.antt` proves that whatever does so keeps the tables of the
+//! card that it shows, for both kinds and every schedule.
 #![tactic(auto)]
 
 mod accepts;

@@ -1,3 +1,5 @@
+//! A simulated card before its first command.
+
 ghost use Rattle.std.specs.Prelude.{◌≡◌};
 ghost use Rattle.sdv_behavior.specs.CardOf.{at_start};
 
