@@ -21,4 +21,5 @@ DecodesAs expect bytes answer = ⊥
 abbrev pub AnswerIs : Expect → WireEnd → List ℕ → Answer → Type 0
 AnswerIs Nothing end response answer = answer ≡ answers.Sent
 AnswerIs expect Silent response answer = answer ≡ answers.TimeOut
-AnswerIs expect (Bytes count) response answer = MatchBool (nat_le count 17) (DecodesAs expect (take count response) answer) (answer ≡ answers.Damaged Length)
+AnswerIs expect (Bytes count) response answer =
+    MatchBool (nat_le count 17) (DecodesAs expect (take count response) answer) (answer ≡ answers.Damaged Length)

@@ -16,7 +16,8 @@ abbrev pub wire_of : {W : Type 0} → Controller W → W
 wire_of c = c.wire
 
 -- one transfer of the command's frame, and the answer that its bytes are
-pub record Exchanged {S : Type 0} (steps : S → WireCall → WireReturn → S → Type 0) (command : Command) (expect : Expect) (s : S) (answer : Answer) (s' : S) : Type 0 where
+pub record Exchanged {S : Type 0} (steps : S → WireCall → WireReturn → S → Type 0) (command : Command) (expect : Expect)
+    (s : S) (answer : Answer) (s' : S) : Type 0 where
   pub is_command : IsCommand command
   pub frame : List ℕ
   pub framed : IsCommandFrame command frame

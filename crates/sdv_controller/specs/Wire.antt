@@ -40,22 +40,29 @@ pub record Carries (expect : Expect) (count : ℕ) (response : List ℕ) (reply 
 abbrev pub ShowsAnswer : Expect → WireEnd → List ℕ → Answer → Type 0
 ShowsAnswer Nothing end response answer = answer ≡ answers.Sent
 ShowsAnswer expect Silent response answer = answer ≡ answers.TimeOut
-ShowsAnswer expect (Bytes count) response answer = (reply : Reply) × (answer ≡ answers.Reply reply) × Carries expect count response reply
+ShowsAnswer expect (Bytes count) response answer =
+    (reply : Reply) × (answer ≡ answers.Reply reply) × Carries expect count response reply
 
 -- what was transferred is an answer of the card, and the wire shows the card after it
-pub record Heard {S : Type 0} (card : S → Option Card) (k : Kind) (ask : Ask) (position argument : ℕ) (c : Card) (end : WireEnd) (response : List ℕ) (s' : S) : Type 0 where
+pub record Heard {S : Type 0} (card : S → Option Card) (k : Kind) (ask : Ask) (position argument : ℕ) (c : Card)
+    (end : WireEnd) (response : List ℕ) (s' : S) : Type 0 where
   pub answer : Answer
   pub kept : Kept card (SendCommand ask position argument) c (Answered answer) s'
   pub shown : ShowsAnswer (expect_of k ask) end response answer
 
 -- what a wire keeps at an event, by its kind
-abbrev pub KeepsAt : {S : Type 0} → (S → WireCall → WireReturn → S → Type 0) → (S → Option Card) → S → S → Kind → ScriptEvent → Card → Type 0
+abbrev pub KeepsAt : {S : Type 0} → (S → WireCall → WireReturn → S → Type 0) → (S → Option Card) → S → S → Kind →
+    ScriptEvent → Card → Type 0
 KeepsAt steps card s s' k (SendCommand ask position argument) c =
-    (frame response : List ℕ) (end : WireEnd) → IsCommand (command_of ask argument) → IsCommandFrame (command_of ask argument) frame →
+    (frame response : List ℕ) (end : WireEnd) →
+    IsCommand (command_of ask argument) → IsCommandFrame (command_of ask argument) frame →
     steps s (Transfer frame) (Transferred end response) s' → Heard card k ask position argument c end response s'
-KeepsAt steps card s s' k event c = (returned : Return) → steps s (OtherCall (call_of k event)) (OtherReturn returned) s' → Kept card event c returned s'
+KeepsAt steps card s s' k event c =
+    (returned : Return) → steps s (OtherCall (call_of k event)) (OtherReturn returned) s' →
+    Kept card event c returned s'
 
 -- Where a wire shows a card, each legal event in bounds is a step of that card. Of other events nothing is known.
 abbrev pub WireKeepsTables : {S : Type 0} → (S → WireCall → WireReturn → S → Type 0) → (S → Option Card) → Type 0
 WireKeepsTables {S} steps card =
-    (s s' : S) (k : Kind) (event : ScriptEvent) (c : Card) (h : Host) → Shows card s c → IsFine k event c h → KeepsAt steps card s s' k event c
+    (s s' : S) (k : Kind) (event : ScriptEvent) (c : Card) (h : Host) → Shows card s c → IsFine k event c h →
+    KeepsAt steps card s s' k event c

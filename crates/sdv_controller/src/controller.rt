@@ -1,3 +1,5 @@
+//! A controller: a port over a wire.
+
 ghost use Rattle.std.specs.Prelude.{◌≡◌};
 ghost use Rattle.sdv_controller.specs.Answers.{AnswerIs};
 
@@ -60,9 +62,9 @@ impl<W: Wire> CardPort for Controller<W> {
 
     ghost keeps_tables = { controller_keeps wire_of W.steps W.card W.keeps_tables };
 
-    /// Hands the frame of the command to the wire, and answers what the wire gave: `Sent` for a command without a response,
-    /// else `TimeOut` for silence, `Reply` for the frame of a response that was waited for, and `Damaged` with the first
-    /// fault for other bytes. More than 17 bytes are of another length.
+    /// Hands the frame of the command to the wire, and answers what the wire gave: `Sent` for a command without a
+    /// response, else `TimeOut` for silence, `Reply` for the frame of a response that was waited for, and `Damaged`
+    /// with the first fault for other bytes. More than 17 bytes are of another length.
     fn exchange(&mut self, command: Command, expect: Expect) -> Answer {
         let mut response = [0; 17];
         let end = self.wire.transfer(&encode(command), &mut response);

@@ -1,3 +1,5 @@
+//! Wires, which carry frames as bytes.
+
 ghost use Rattle.std.specs.Prelude.{length, Option};
 ghost use Rattle.sdv_card.specs.Card.{Card};
 ghost use Rattle.sdv_card.specs.Port.{DataIn, DataInRegister, DataOut, WaitWhileBusy};
@@ -33,11 +35,13 @@ pub trait Wire {
 
     /// Receives as many blocks as there is room for. Where the phase is cut, the blocks hold anything.
     fn data_in(&mut self, blocks: &mut [[u8; 512]]) -> DataEnd
-        ensures { steps self.old (OtherCall (DataIn (length blocks.old))) (OtherReturn (BlocksIn result blocks.new)) self.new };
+        ensures { steps self.old (OtherCall (DataIn (length blocks.old)))
+            (OtherReturn (BlocksIn result blocks.new)) self.new };
 
     /// Receives as many bytes of a register as there is room for. Where the phase is cut, the bytes are anything.
     fn data_in_reg(&mut self, bytes: &mut [u8]) -> DataEnd
-        ensures { steps self.old (OtherCall (DataInRegister (length bytes.old))) (OtherReturn (RegisterIn result bytes.new)) self.new };
+        ensures { steps self.old (OtherCall (DataInRegister (length bytes.old)))
+            (OtherReturn (RegisterIn result bytes.new)) self.new };
 
     /// Sends blocks.
     fn data_out(&mut self, blocks: &[[u8; 512]]) -> DataEnd
