@@ -27,7 +27,8 @@ named_in true block = refl
 named_in false block = omega arith
 
 -- the argument names it to the card
-pub named : (unit other : Bool) (block position argument : ℕ) → block ≡ position → unit ≡ other → argument ≡ in_unit unit position → block_of other argument ≡ block
+pub named : (unit other : Bool) (block position argument : ℕ) → block ≡ position → unit ≡ other → argument ≡ in_unit unit position →
+    block_of other argument ≡ block
 named unit other block position argument is same sent =
     subst (λ u. block_of u argument ≡ block) same
     (subst (λ n. block_of unit argument ≡ n) (sym is) (subst (λ n. block_of unit n ≡ position) (sym sent) (named_in unit position)))

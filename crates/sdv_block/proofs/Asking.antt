@@ -32,7 +32,8 @@ pub record Asked (k : Kind) (command : Command) (guards : List Guard) (c : Card)
   pub allowed : IsAllowed (command_at k command h position) c
   pub sends : Sends command.ask (argument_at k command h position) c answer u
 
-module _ (k : Kind) (e : Ending) (command : Command) (ways : Ways) (other : command.ask.index ≡ 38 → ⊥) (fell broke : Rest) (h : Host) (es : List Pair) (c last : Card) where
+module _ (k : Kind) (e : Ending) (command : Command) (ways : Ways) (other : command.ask.index ≡ 38 → ⊥) (fell broke : Rest) (h : Host) (es : List Pair)
+    (c last : Card) where
   -- the pair of the command, and what the host is after it
   abbrev pub asked : Sent k e command ways fell broke h es c last → Pair
   asked s = (command_at k command h s.position, Answered s.answer)
@@ -53,9 +54,11 @@ module _ (k : Kind) (e : Ending) (command : Command) (ways : Ways) (other : comm
   pub faulted : (s : Sent k e command ways fell broke h es c last) (name : List ℕ) → bytes_eq name (codes "beyond") ≡ false →
       Stops e Open s.rest ⊎ Stops e (Failed name) s.rest → HaltedQuiet e es c last
   faulted s name early f =
-      halted_later e es (asked s ∷ []) s.rest c s.after last h (host s) s.same (quiet_command s) (halted_here e s.rest s.after last (halts_in_fault e name s.rest early f) s.steps)
+      halted_later e es (asked s ∷ []) s.rest c s.after last h (host s) s.same (quiet_command s)
+      (halted_here e s.rest s.after last (halts_in_fault e name s.rest early f) s.steps)
 
-module _ (k : Kind) (e : Ending) (command : Command) (guards : List Guard) (name : List ℕ) (other : command.ask.index ≡ 38 → ⊥) (early : bytes_eq name (codes "beyond") ≡ false)
+module _ (k : Kind) (e : Ending) (command : Command) (guards : List Guard) (name : List ℕ) (other : command.ask.index ≡ 38 → ⊥)
+    (early : bytes_eq name (codes "beyond") ≡ false)
     (fell broke : Rest) (h : Host) (es : List Pair) (c last : Card) where
   abbrev SentIt : Type 0
   SentIt = Sent k e command (only_if guards name) fell broke h es c last

@@ -32,7 +32,8 @@ with_size before n behind others =
     let b = length-append (decimal n) (32 ∷ line behind others) in
     omega (arith, a, b)
 
-counted_size : (before : List ℕ) (block count : ℕ) (behind others : List ℕ) → length before + 5 + length (line behind others) ≤ length (counted_line before block count behind others)
+counted_size : (before : List ℕ) (block count : ℕ) (behind others : List ℕ) →
+    length before + 5 + length (line behind others) ≤ length (counted_line before block count behind others)
 counted_size before block count behind others =
     let rest : List ℕ = line_with (codes "count") count behind others in
     let a = length-append before (32 ∷ (decimal block ++ 32 ∷ rest)) in
@@ -51,7 +52,8 @@ single_read_size : (block : ℕ) (others : List ℕ) → 64 + length others ≤ 
 single_read_size block others =
     let last = line_size (codes "recv { ok { } else { fault read } }") others in
     let one = line_size (codes "{ clean { } else { fault read } }") (line (codes "recv { ok { } else { fault read } }") others) in
-    let all = with_size (codes "send 17 at by hc") block (codes "{ clean { } else { fault read } }") (line (codes "recv { ok { } else { fault read } }") others) in
+    let all = with_size (codes "send 17 at by hc") block (codes "{ clean { } else { fault read } }")
+    (line (codes "recv { ok { } else { fault read } }") others) in
     omega (arith, last, one, all)
 
 multiple_read_size : (block count : ℕ) (others : List ℕ) → 192 + length others ≤ length (multiple_read_text block count others)
@@ -86,7 +88,8 @@ multiple_write_size block count others =
     let e = counted_size (codes "send 25 at by hc") block count (codes "{ clean { } else { fault write } }") give in
     omega (arith, a, b, c, d, e)
 
-requests_size : (rs : List Request) (others : List ℕ) → 11 ≤ length others + 6 → 16 * statements_count (batch_statements rs) ≤ length (requests_text rs others) + 11
+requests_size : (rs : List Request) (others : List ℕ) → 11 ≤ length others + 6 →
+    16 * statements_count (batch_statements rs) ≤ length (requests_text rs others) + 11
 requests_size [] others le = omega arith
 requests_size (Read block zero ∷ rs) others le =
     let later = requests_size rs others le in let here = multiple_read_size block zero (requests_text rs others) in omega (arith, later, here)
@@ -127,12 +130,14 @@ ready_bytes Emmc = 130
 
 ready_size : (k : Kind) (others : List ℕ) → ready_bytes k + length others ≤ length (ready_text k others)
 ready_size Sd others =
-    let app : List ℕ = codes "loop 1000 { send 55 { app { send 41 0x40ff8000 { ocr.ready & ocr.block { set hc break } ocr.ready { break } answer { } else { fault lost41 } } } else { fault lost55 } } } else { fault busy }" in
+    let app : List ℕ = codes
+    "loop 1000 { send 55 { app { send 41 0x40ff8000 { ocr.ready & ocr.block { set hc break } ocr.ready { break } answer { } else { fault lost41 } } } else { fault lost55 } } } else { fault busy }" in
     let a = line_size (codes "send 8 { else { } }") (line app others) in
     let b = line_size app others in
     omega (arith, a, b)
 ready_size Emmc others =
-    let op_cond : List ℕ = codes "loop 1000 { send 1 { ocr.ready & ocr.block { set hc break } ocr.ready { break } answer { } else { fault lost1 } } } else { fault busy }" in
+    let op_cond : List ℕ = codes
+    "loop 1000 { send 1 { ocr.ready & ocr.block { set hc break } ocr.ready { break } answer { } else { fault lost1 } } } else { fault busy }" in
     let a = line_size op_cond others in
     omega (arith, a)
 
@@ -201,7 +206,9 @@ pub script_of : (k : Kind) (rs : List Request) → list_all is_in_range rs ≡ t
 script_of k rs fit short = let small = ends_small rs fit in is_script k rs fit (omega (arith, small)) (few_statements k rs short) short
 
 limits_kept : (k : Kind) (rs : List Request) → length (text_of k rs) ≤ max_bytes → keeps_limits (batch_script k rs) ≡ true
-limits_kept k rs short = both_true _ _ (le-leb (length (text_of k rs)) max_bytes short) (le-leb (statements_count (batch_script k rs).body) max_statements (few_statements k rs short))
+limits_kept k rs short =
+    both_true _ _ (le-leb (length (text_of k rs)) max_bytes short)
+    (le-leb (statements_count (batch_script k rs).body) max_statements (few_statements k rs short))
 
 not_both : (a b : Bool) → a ≡ false → (a && b) ≡ false
 not_both false b e = refl
@@ -213,7 +220,8 @@ not_le m n lt = lt-leb m n lt
 limits_broken : (k : Kind) (rs : List Request) → max_bytes < length (text_of k rs) → keeps_limits (batch_script k rs) ≡ false
 limits_broken k rs long = not_both _ _ (not_le (length (text_of k rs)) max_bytes long)
 
-pub not_refused : (k : Kind) (r : Request) (rs : List Request) → list_all is_in_range (r ∷ rs) ≡ true → length (text_of k (r ∷ rs)) ≤ max_bytes → batch_refusal k (r ∷ rs) ≡ None
+pub not_refused : (k : Kind) (r : Request) (rs : List Request) → list_all is_in_range (r ∷ rs) ≡ true → length (text_of k (r ∷ rs)) ≤ max_bytes →
+    batch_refusal k (r ∷ rs) ≡ None
 not_refused k r rs fit short = two_true (list_all is_in_range (r ∷ rs)) (keeps_limits (batch_script k (r ∷ rs))) fit (limits_kept k (r ∷ rs) short)
   where
     two_true : (range limits : Bool) → range ≡ true → limits ≡ true → (if range then (if limits then None else Some Limit) else Some Range) ≡ None
@@ -228,7 +236,8 @@ refused_by_range k r rs off = by (list_all is_in_range (r ∷ rs)) off
     by false e = refl
     by true e = absurd (let g : true ≡ false = e in cc)
 
-pub refused_by_limit : (k : Kind) (r : Request) (rs : List Request) → list_all is_in_range (r ∷ rs) ≡ true → max_bytes < length (text_of k (r ∷ rs)) → batch_refusal k (r ∷ rs) ≡ Some Limit
+pub refused_by_limit : (k : Kind) (r : Request) (rs : List Request) → list_all is_in_range (r ∷ rs) ≡ true → max_bytes < length (text_of k (r ∷ rs)) →
+    batch_refusal k (r ∷ rs) ≡ Some Limit
 refused_by_limit k r rs fit long = by (list_all is_in_range (r ∷ rs)) (keeps_limits (batch_script k (r ∷ rs))) fit (limits_broken k (r ∷ rs) long)
   where
     by : (range limits : Bool) → range ≡ true → limits ≡ false → (if range then (if limits then None else Some Limit) else Some Range) ≡ Some Limit
@@ -288,18 +297,21 @@ greatest_last rs i g le so_far =
 
 -- BY ITS RESULT
 
-pub script_if : {A : Type 0} (r : Result A BlockFault) (k : Kind) (rs : List Request) → list_all is_in_range rs ≡ true → OnOk r (length (text_of k rs) ≤ max_bytes) → IfOk r (λ text. IsScript (batch_script k rs))
+pub script_if : {A : Type 0} (r : Result A BlockFault) (k : Kind) (rs : List Request) → list_all is_in_range rs ≡ true →
+    OnOk r (length (text_of k rs) ≤ max_bytes) → IfOk r (λ text. IsScript (batch_script k rs))
 script_if (Ok text) k rs fit short = script_of k rs fit short
 script_if (Err fault) k rs fit short = tt
 
-pub served_if : {A : Type 0} (r : Result A BlockFault) (k : Kind) (rs : List Request) → (length rs == 0) ≡ false → list_all is_in_range rs ≡ true → OnOk r (length (text_of k rs) ≤ max_bytes) →
+pub served_if : {A : Type 0} (r : Result A BlockFault) (k : Kind) (rs : List Request) → (length rs == 0) ≡ false → list_all is_in_range rs ≡ true →
+    OnOk r (length (text_of k rs) ≤ max_bytes) →
     IfOk r (λ text. batch_refusal k rs ≡ None)
 served_if (Err fault) k rs some fit short = tt
 served_if (Ok text) k [] some fit short = absurd (let f : true ≡ false = some in cc)
 served_if (Ok text) k (r ∷ rs) some fit short = not_refused k r rs fit short
 
 pub refused_if : {A : Type 0} (r : Result A BlockFault) (k : Kind) (rs : List Request) → (length rs == 0) ≡ false → list_all is_in_range rs ≡ true →
-    IfErr r (λ fault. (fault ≡ Memory → ⊥) → (fault ≡ Limit) × (max_bytes < length (text_of k rs))) → IfErr r (λ fault. (fault ≡ Memory → ⊥) → batch_refusal k rs ≡ Some fault)
+    IfErr r (λ fault. (fault ≡ Memory → ⊥) → (fault ≡ Limit) × (max_bytes < length (text_of k rs))) →
+    IfErr r (λ fault. (fault ≡ Memory → ⊥) → batch_refusal k rs ≡ Some fault)
 refused_if (Ok text) k rs some fit long = tt
 refused_if (Err fault) k [] some fit long = absurd (let f : true ≡ false = some in cc)
 refused_if (Err fault) k (r ∷ rs) some fit long = λ other.

@@ -29,7 +29,8 @@ all_small (Read block count ∷ rs) fit = (blocks_small block count (and_left _ 
 all_small (Write block count ∷ rs) fit = (blocks_small block count (and_left _ _ fit), all_small rs (and_right _ _ fit))
 
 -- the requests are in range
-pub is_script : (k : Kind) (rs : List Request) → list_all is_in_range rs ≡ true → greatest_end rs ≤ 2 ^ 40 → statements_count (batch_script k rs).body ≤ max_statements →
+pub is_script : (k : Kind) (rs : List Request) → list_all is_in_range rs ≡ true → greatest_end rs ≤ 2 ^ 40 →
+    statements_count (batch_script k rs).body ≤ max_statements →
     length (batch_script k rs).text ≤ max_bytes → IsScript (batch_script k rs)
 is_script k rs fit le few short = record {
   small = short;

@@ -12,6 +12,7 @@ use Rattle.sdv_block.specs.Disk.{Disk, after_batch, HasRead, greatest_end}
 use Rattle.sdv_block.specs.Served.{blocks_read, IsEarly, disk_of, EndsAs, ServedBatch}
 use Rattle.sdv_block.proofs.DiskLaws.{grows, same_outside}
 use Rattle.sdv_block.proofs.Parts.{allowed_steps}
+use Rattle.sdv_block.proofs.Serving.{not_early}
 use Rattle.sdv_block.proofs.WholeBatch.{Outcome, batch_walk}
 
 -- an early end is not the fault `beyond`
@@ -36,13 +37,10 @@ undone rs e es c last f read left =
     nothing_read e (disk_of last left (blocks_read es)) (after_batch rs (disk_of c (given es ++ left) [])) f
     (subst (λ r. HasRead r (after_batch rs (disk_of c (given es ++ left) []))) (sym read) (grows rs (disk_of c (given es ++ left) [])))
 
-early_undone : (e : Ending) → IsEarly e → e ≡ Finished → ⊥
-early_undone e early is = subst (λ v. IsEarly v) is early
-
 -- THE REQUESTS WERE SERVED
 of_outcome : (rs : List Request) (e : Ending) (es : List Pair) (c last : Card) → Outcome (greatest_end rs) rs e es c last → ServedBatch rs e es c last
 of_outcome rs e es c last (inl q) = record {
-  ends = undone rs e es c last (early_undone e q.early) q.read;
+  ends = undone rs e es c last (not_early e q.early) q.read;
   outside = same_outside rs c.contents last.contents q.contents;
   beyond = λ is. absurd (not_beyond e q.early is);
 }

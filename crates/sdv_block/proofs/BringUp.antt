@@ -77,30 +77,36 @@ module _ (k : Kind) (e : Ending) (fell broke : Rest) (last : Card) where
   rca_on rest = first (send (plain 3 Plain 0) (only_if (Clean ∷ []) (codes "rca"))) (csd_on rest)
 
   blen_part : (rest : Statements) → Does (blen_on rest) (Walks rest)
-  blen_part rest h es c honest walk steps = guarded_part k e (plain 16 Plain 0) not_16 (Walks rest) broke h es c last honest (Clean ∷ []) (codes "blen") refl walk steps
+  blen_part rest h es c honest walk steps =
+      guarded_part k e (plain 16 Plain 0) not_16 (Walks rest) broke h es c last honest (Clean ∷ []) (codes "blen") refl walk steps
 
   select_part : (rest : Statements) → Does (select_on rest) (Walks rest)
   select_part rest h es c honest walk steps =
-      and_then (blen_on rest) (Walks rest) (blen_part rest) h es c (guarded_part k e (plain 7 Rca 0) not_7 (Walks (blen_on rest)) broke h es c last honest (Clean ∷ []) (codes "select") refl walk steps)
+      and_then (blen_on rest) (Walks rest) (blen_part rest) h es c
+      (guarded_part k e (plain 7 Rca 0) not_7 (Walks (blen_on rest)) broke h es c last honest (Clean ∷ []) (codes "select") refl walk steps)
 
   csd_part : (rest : Statements) → Does (csd_on rest) (Walks rest)
   csd_part rest h es c honest walk steps =
-      and_then (select_on rest) (Walks rest) (select_part rest) h es c (guarded_part k e (plain 9 Rca 0) not_9 (Walks (select_on rest)) broke h es c last honest (Answer ∷ []) (codes "csd") refl walk steps)
+      and_then (select_on rest) (Walks rest) (select_part rest) h es c
+      (guarded_part k e (plain 9 Rca 0) not_9 (Walks (select_on rest)) broke h es c last honest (Answer ∷ []) (codes "csd") refl walk steps)
 
   rca_part : (rest : Statements) → Does (rca_on rest) (Walks rest)
   rca_part rest h es c honest walk steps =
-      and_then (csd_on rest) (Walks rest) (csd_part rest) h es c (guarded_part k e (plain 3 Plain 0) not_3 (Walks (csd_on rest)) broke h es c last honest (Clean ∷ []) (codes "rca") refl walk steps)
+      and_then (csd_on rest) (Walks rest) (csd_part rest) h es c
+      (guarded_part k e (plain 3 Plain 0) not_3 (Walks (csd_on rest)) broke h es c last honest (Clean ∷ []) (codes "rca") refl walk steps)
 
   cid_part : (rest : Statements) → Does (select_statements rest) (Walks rest)
   cid_part rest h es c honest walk steps =
-      and_then (rca_on rest) (Walks rest) (rca_part rest) h es c (guarded_part k e (plain 2 Plain 0) not_2 (Walks (rca_on rest)) broke h es c last honest (Answer ∷ []) (codes "cid") refl walk steps)
+      and_then (rca_on rest) (Walks rest) (rca_part rest) h es c
+      (guarded_part k e (plain 2 Plain 0) not_2 (Walks (rca_on rest)) broke h es c last honest (Answer ∷ []) (codes "cid") refl walk steps)
 
   -- ALL BEFORE THE CAPACITY
 
   abbrev Found : Rest → Host → List Pair → Card → Type 0
   Found next h es c = HaltedQuiet e es c last ⊎ Past (FoundUnit k c h) next es last
 
-  found_then : (next after : Rest) (h : Host) (es : List Pair) (c : Card) → (w : Past (FoundUnit k c h) next es last) → Known after w.host w.rest w.card → Found after h es c
+  found_then : (next after : Rest) (h : Host) (es : List Pair) (c : Card) → (w : Past (FoundUnit k c h) next es last) → Known after w.host w.rest w.card →
+      Found after h es c
   found_then next after h es c w (inl halt) = inl (record {
     early = halt.early;
     contents = w.did.contents ∙ halt.contents;
@@ -128,11 +134,13 @@ module _ (k : Kind) (e : Ending) (fell broke : Rest) (last : Card) where
 
   pub then_commands : (rest : Statements) (h : Host) (es : List Pair) (c : Card) → Found (Walks (select_statements rest)) h es c → Found (Walks rest) h es c
   then_commands rest h es c (inl halt) = inl halt
-  then_commands rest h es c (inr w) = found_then (Walks (select_statements rest)) (Walks rest) h es c w (cid_part rest w.host w.rest w.card w.did.honest w.on w.steps)
+  then_commands rest h es c (inr w) =
+      found_then (Walks (select_statements rest)) (Walks rest) h es c w (cid_part rest w.host w.rest w.card w.did.honest w.on w.steps)
 
 -- THE LOOP, after the first commands
 
-sd_loop : (e : Ending) (fell broke : Rest) (last : Card) (rest : Statements) (h : Host) (es : List Pair) (c : Card) → h.flags ≡ 0 → Known Sd e fell broke last (Walks Sd e fell broke last (first (until_ready app_statement) rest)) h es c →
+sd_loop : (e : Ending) (fell broke : Rest) (last : Card) (rest : Statements) (h : Host) (es : List Pair) (c : Card) → h.flags ≡ 0 →
+    Known Sd e fell broke last (Walks Sd e fell broke last (first (until_ready app_statement) rest)) h es c →
     Found Sd e fell broke last (Walks Sd e fell broke last rest) h es c
 sd_loop e fell broke last rest h es c clear (inl halt) = inl halt
 sd_loop e fell broke last rest h es c clear (inr w) =
@@ -140,16 +148,20 @@ sd_loop e fell broke last rest h es c clear (inr w) =
     before Sd e on broke last c w.card h w.host es w.front w.rest w.split w.did
     (ready_part Sd e on broke last app_statement (app_turn e on broke last) 1000 w.host w.rest w.card (w.did.quiet.flags ∙ clear) w.did.honest w.on w.steps)
 
-emmc_loop : (e : Ending) (fell broke : Rest) (last : Card) (rest : Statements) (h : Host) (es : List Pair) (c : Card) → h.flags ≡ 0 → Known Emmc e fell broke last (Walks Emmc e fell broke last (first (until_ready op_cond_statement) rest)) h es c →
+emmc_loop : (e : Ending) (fell broke : Rest) (last : Card) (rest : Statements) (h : Host) (es : List Pair) (c : Card) → h.flags ≡ 0 →
+    Known Emmc e fell broke last (Walks Emmc e fell broke last (first (until_ready op_cond_statement) rest)) h es c →
     Found Emmc e fell broke last (Walks Emmc e fell broke last rest) h es c
 emmc_loop e fell broke last rest h es c clear (inl halt) = inl halt
 emmc_loop e fell broke last rest h es c clear (inr w) =
     let on : Rest = walk_statements Emmc e rest fell broke in
     before Emmc e on broke last c w.card h w.host es w.front w.rest w.split w.did
-    (ready_part Emmc e on broke last op_cond_statement (op_cond_turn e on broke last) 1000 w.host w.rest w.card (w.did.quiet.flags ∙ clear) w.did.honest w.on w.steps)
+    (ready_part Emmc e on broke last op_cond_statement (op_cond_turn e on broke last) 1000 w.host w.rest w.card
+    (w.did.quiet.flags ∙ clear) w.did.honest w.on w.steps)
 
-ready_then : (k : Kind) (e : Ending) (fell broke : Rest) (last : Card) (rest : Statements) (h : Host) (es : List Pair) (c : Card) → h.flags ≡ 0 → IsHonest k c h →
-    walk_statements k e (first (sends_anyway 0) (ready_statements k rest)) fell broke h es → AllowedSteps c es last → Found k e fell broke last (walk_statements k e rest fell broke) h es c
+ready_then : (k : Kind) (e : Ending) (fell broke : Rest) (last : Card) (rest : Statements) (h : Host) (es : List Pair) (c : Card) → h.flags ≡ 0 →
+    IsHonest k c h →
+    walk_statements k e (first (sends_anyway 0) (ready_statements k rest)) fell broke h es → AllowedSteps c es last →
+    Found k e fell broke last (walk_statements k e rest fell broke) h es c
 ready_then Sd e fell broke last rest h es c clear honest walk steps =
     let loop : Statements = first (until_ready app_statement) rest in
     sd_loop e fell broke last rest h es c clear
@@ -158,7 +170,9 @@ ready_then Sd e fell broke last rest h es c clear honest walk steps =
 ready_then Emmc e fell broke last rest h es c clear honest walk steps =
     emmc_loop e fell broke last rest h es c clear (idle_part Emmc e fell broke last (first (until_ready op_cond_statement) rest) h es c honest walk steps)
 
-pub unit_part : (k : Kind) (e : Ending) (fell broke : Rest) (last : Card) (rest : Statements) (h : Host) (es : List Pair) (c : Card) → h.flags ≡ 0 → IsHonest k c h →
-    walk_statements k e (first (sends_anyway 0) (ready_statements k (select_statements rest))) fell broke h es → AllowedSteps c es last → Found k e fell broke last (walk_statements k e rest fell broke) h es c
+pub unit_part : (k : Kind) (e : Ending) (fell broke : Rest) (last : Card) (rest : Statements) (h : Host) (es : List Pair) (c : Card) → h.flags ≡ 0 →
+    IsHonest k c h →
+    walk_statements k e (first (sends_anyway 0) (ready_statements k (select_statements rest))) fell broke h es → AllowedSteps c es last →
+    Found k e fell broke last (walk_statements k e rest fell broke) h es c
 unit_part k e fell broke last rest h es c clear honest walk steps =
     then_commands k e fell broke last rest h es c (ready_then k e fell broke last (select_statements rest) h es c clear honest walk steps)

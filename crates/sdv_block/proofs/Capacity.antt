@@ -7,13 +7,11 @@ use Rattle.sdv_registers.specs.Csd.{blocks}
 use Rattle.sdv_registers.specs.ExtCsd.{sec_count}
 use Rattle.sdv_registers.specs.declared.kind.Kind.{Kind}
 use Rattle.sdv_registers.specs.declared.kind.Kind.TheVariants.{Sd, Emmc}
-use Rattle.sdv_card.specs.declared.answer.DataEnd.{DataEnd}
 use Rattle.sdv_card.specs.declared.answer.DataEnd.TheVariants.{Ok, Cut}
 use Rattle.sdv_card.specs.declared.event.Aim.TheVariants.{Plain}
 use Rattle.sdv_card.specs.declared.guard.Guard.TheVariants.{Clean}
 use Rattle.sdv_card.specs.Card.{Card, AreBlocks}
 use Rattle.sdv_card.specs.Host.{Host, host_after}
-use Rattle.sdv_card.specs.Phases.{Moved}
 use Rattle.sdv_card.specs.Profile.{told_blocks}
 use Rattle.sdv_card.specs.ScriptEvent.{ScriptEvent, ReceiveRegister, Return, Answered, RegisterIn}
 use Rattle.sdv_card.specs.Shapes.{IsPair}
@@ -37,7 +35,7 @@ use Rattle.sdv_block.specs.BringUpStatements.{plain, cap_from, ext_csd_statement
 use Rattle.sdv_block.specs.Served.{AllowedSteps, blocks_read}
 use Rattle.sdv_block.proofs.Knowing.{Knowing, profile_kept, known_after}
 use Rattle.sdv_block.proofs.Parts.{Halts, halts, halts_in_fault, either, command_at, Acted, made, Sent, send_part, after_phase, phase_part, Past}
-use Rattle.sdv_block.proofs.Quiet.{HaltedQuiet, halted_later, halted_here, read_none, gave_none}
+use Rattle.sdv_block.proofs.Quiet.{HaltedQuiet, halted_later, halted_here, moved_contents, read_none, gave_none}
 
 -- THE VALUE of a register
 
@@ -51,10 +49,13 @@ in_range_is n value e = go (nat_le n max_number) e
 sd_told : (k : Kind) (c : Card) → Sd ≡ k → told_blocks k c.block_unit c.csd c.ext_csd ≡ c.capacity → blocks Sd (bits_of c.csd) ≡ c.capacity
 sd_told k c e t = subst (λ k. told_blocks k c.block_unit c.csd c.ext_csd ≡ c.capacity) (sym e) t
 
-told_by : (c : Card) (k : Kind) (unit : Bool) → k ≡ c.kind → unit ≡ c.block_unit → told_blocks c.kind c.block_unit c.csd c.ext_csd ≡ c.capacity → told_blocks k unit c.csd c.ext_csd ≡ c.capacity
-told_by c k unit kind same told = subst (λ k. told_blocks k unit c.csd c.ext_csd ≡ c.capacity) (sym kind) (subst (λ u. told_blocks c.kind u c.csd c.ext_csd ≡ c.capacity) (sym same) told)
+told_by : (c : Card) (k : Kind) (unit : Bool) → k ≡ c.kind → unit ≡ c.block_unit → told_blocks c.kind c.block_unit c.csd c.ext_csd ≡ c.capacity →
+    told_blocks k unit c.csd c.ext_csd ≡ c.capacity
+told_by c k unit kind same told =
+    subst (λ k. told_blocks k unit c.csd c.ext_csd ≡ c.capacity) (sym kind) (subst (λ u. told_blocks c.kind u c.csd c.ext_csd ≡ c.capacity) (sym same) told)
 
-csd_value : (k : Kind) (c : Card) (h : Host) (n : ℕ) → IsHonest k c h → blocks k (bits_of c.csd) ≡ c.capacity → value_of_let k h (cap_from atoms.CsdBlocks) ≡ Some n → n ≡ c.capacity
+csd_value : (k : Kind) (c : Card) (h : Host) (n : ℕ) → IsHonest k c h → blocks k (bits_of c.csd) ≡ c.capacity →
+    value_of_let k h (cap_from atoms.CsdBlocks) ≡ Some n → n ≡ c.capacity
 csd_value k c h n honest told e = go h.csd refl e
   where
     go : (o : Option (List ℕ)) → h.csd ≡ o → option_and_then in_range (option_map (λ bytes. blocks k (bits_of bytes)) o) ≡ Some n → n ≡ c.capacity
@@ -63,7 +64,8 @@ csd_value k c h n honest told e = go h.csd refl e
         sym (in_range_is (blocks k (bits_of bytes)) n e)
         ∙ (ap (λ (b : List ℕ). blocks k (bits_of b)) (honest.sound.csd bytes held) ∙ told)
 
-ext_csd_value : (c : Card) (h : Host) (n : ℕ) → IsHonest Emmc c h → sec_count c.ext_csd ≡ c.capacity → value_of_let Emmc h (cap_from atoms.ExtBlocks) ≡ Some n → n ≡ c.capacity
+ext_csd_value : (c : Card) (h : Host) (n : ℕ) → IsHonest Emmc c h → sec_count c.ext_csd ≡ c.capacity → value_of_let Emmc h (cap_from atoms.ExtBlocks) ≡ Some n →
+    n ≡ c.capacity
 ext_csd_value c h n honest told e = go h.ext_csd refl e
   where
     go : (o : Option (List ℕ)) → h.ext_csd ≡ o → option_and_then in_range (option_map sec_count o) ≡ Some n → n ≡ c.capacity
@@ -86,7 +88,8 @@ abbrev pub CountOutcome : Ending → Rest → List Pair → (c last : Card) → 
 CountOutcome e fell es c last = HaltedQuiet e es c last ⊎ Past (Counted c) fell es last
 
 -- quiet events before what came of the others
-counted_after : (k : Kind) (e : Ending) (fell : Rest) (c u last : Card) (h i : Host) (es front rest : List Pair) → es ≡ front ++ rest → Knowing k c h front u i → CountOutcome e fell rest u last → CountOutcome e fell es c last
+counted_after : (k : Kind) (e : Ending) (fell : Rest) (c u last : Card) (h i : Host) (es front rest : List Pair) → es ≡ front ++ rest →
+    Knowing k c h front u i → CountOutcome e fell rest u last → CountOutcome e fell es c last
 counted_after k e fell c u last h i es front rest split w (inl halt) = inl (halted_later e es front rest c u last h i split w.quiet halt)
 counted_after k e fell c u last h i es front rest split w (inr r) = inr (record {
   front = front ++ r.front;
@@ -110,8 +113,10 @@ held : (numbers : List ℕ) (value : ℕ) → numbers ≡ 0 ∷ [] → slice_ind
 held numbers value e = rw e refl
 
 -- let cap = ATOM
-module _ (k : Kind) (e : Ending) (fell broke : Rest) (h : Host) (es : List Pair) (c last : Card) (l : Let) (target : l.target ≡ 0) (honest : IsHonest k c h) (numbers : h.numbers ≡ 0 ∷ []) (is : (n : ℕ) → value_of_let k h l ≡ Some n → n ≡ c.capacity) where
-  by_value : (o : Option ℕ) → value_of_let k h l ≡ o → InRange e o (λ n. fell (with_number h l.target n) es) es → AllowedSteps c es last → CountOutcome e fell es c last
+module _ (k : Kind) (e : Ending) (fell broke : Rest) (h : Host) (es : List Pair) (c last : Card) (l : Let) (target : l.target ≡ 0) (honest : IsHonest k c h)
+    (numbers : h.numbers ≡ 0 ∷ []) (is : (n : ℕ) → value_of_let k h l ≡ Some n → n ≡ c.capacity) where
+  by_value : (o : Option ℕ) → value_of_let k h l ≡ o → InRange e o (λ n. fell (with_number h l.target n) es) es → AllowedSteps c es last →
+      CountOutcome e fell es c last
   by_value None value s steps = inl (halted_here e es c last (halts e number_fault es refl s) steps)
   by_value (Some n) value on steps = inr (record {
     front = [];
@@ -137,10 +142,8 @@ module _ (k : Kind) (e : Ending) (fell broke : Rest) (h : Host) (es : List Pair)
 
 -- A REGISTER PHASE keeps what the host knows true
 
-moved_contents : (end : DataEnd) (u v : Card) → Moved end u v → u.contents ≡ v.contents
-moved_contents end u v m = ap (λ (x : Card). x.contents) m.card
-
-register_known : (k : Kind) (c v : Card) (h : Host) (returned : Return) → IsHonest k c h → IsAllowed (ReceiveRegister h.register_length) c → Step (ReceiveRegister h.register_length) c returned v →
+register_known : (k : Kind) (c v : Card) (h : Host) (returned : Return) → IsHonest k c h → IsAllowed (ReceiveRegister h.register_length) c →
+    Step (ReceiveRegister h.register_length) c returned v →
     Knowing k c h ((ReceiveRegister h.register_length, returned) ∷ []) v (host_after k (ReceiveRegister h.register_length) returned h)
 register_known k c v h (RegisterIn end bytes) honest allowed step =
     let event : ScriptEvent = ReceiveRegister h.register_length in
@@ -179,16 +182,19 @@ module _ (e : Ending) (fell broke : Rest) (last : Card) where
   ext_told : (h : Host) (c : Card) → IsHonest Emmc c h → c.block_unit ≡ true → sec_count c.ext_csd ≡ c.capacity
   ext_told h c honest unit = told_by c Emmc true honest.pair.kind (sym unit) honest.profile.told
 
-  register_by : (h : Host) (es : List Pair) (c : Card) → IsHonest Emmc c h → h.numbers ≡ 0 ∷ [] → c.block_unit ≡ true → (returned : Return) (rest : List Pair) (v : Card) → es ≡ (ReceiveRegister h.register_length, returned) ∷ rest →
+  register_by : (h : Host) (es : List Pair) (c : Card) → IsHonest Emmc c h → h.numbers ≡ 0 ∷ [] → c.block_unit ≡ true →
+      (returned : Return) (rest : List Pair) (v : Card) → es ≡ (ReceiveRegister h.register_length, returned) ∷ rest →
       IsAllowed (ReceiveRegister h.register_length) c → Step (ReceiveRegister h.register_length) c returned v →
-      after_phase Emmc e in_ext ext_failed fell broke returned (host_after Emmc (ReceiveRegister h.register_length) returned h) rest → AllowedSteps v rest last → CountOutcome e fell es c last
+      after_phase Emmc e in_ext ext_failed fell broke returned (host_after Emmc (ReceiveRegister h.register_length) returned h) rest →
+      AllowedSteps v rest last → CountOutcome e fell es c last
   register_by h es c honest numbers unit (RegisterIn Ok bytes) rest v same allowed step on steps =
       let event : ScriptEvent = ReceiveRegister h.register_length in
       let w = register_known Emmc c v h (RegisterIn Ok bytes) honest allowed step in
       let i : Host = host_after Emmc event (RegisterIn Ok bytes) h in
       let told = ext_told i v w.honest (unit_kept c v w.quiet.same unit) in
       counted_after Emmc e fell c v last h i es ((event, RegisterIn Ok bytes) ∷ []) rest same w
-      (let_part Emmc e fell broke i rest v last (cap_from atoms.ExtBlocks) refl w.honest (w.numbers ∙ numbers) (λ n value. ext_csd_value v i n w.honest told value) on steps)
+      (let_part Emmc e fell broke i rest v last (cap_from atoms.ExtBlocks) refl w.honest (w.numbers ∙ numbers)
+      (λ n value. ext_csd_value v i n w.honest told value) on steps)
   register_by h es c honest numbers unit (RegisterIn Cut bytes) rest v same allowed step on steps =
       let event : ScriptEvent = ReceiveRegister h.register_length in
       let w = register_known Emmc c v h (RegisterIn Cut bytes) honest allowed step in
@@ -197,7 +203,8 @@ module _ (e : Ending) (fell broke : Rest) (last : Card) where
   register_by h es c honest numbers unit returned rest v same allowed step on steps = absurd step
 
   of_phase : (h : Host) (es : List Pair) (c : Card) → IsHonest Emmc c h → h.numbers ≡ 0 ∷ [] → c.block_unit ≡ true → AllowedSteps c es last →
-      Halts e es ⊎ Acted Emmc (exactly (ReceiveRegister h.register_length)) h (after_phase Emmc e in_ext ext_failed fell broke) es c last → CountOutcome e fell es c last
+      Halts e es ⊎ Acted Emmc (exactly (ReceiveRegister h.register_length)) h (after_phase Emmc e in_ext ext_failed fell broke) es c last →
+      CountOutcome e fell es c last
   of_phase h es c honest numbers unit steps (inl halt) = inl (halted_here e es c last halt steps)
   of_phase h es c honest numbers unit steps (inr a) =
       let m = made Emmc (ReceiveRegister h.register_length) h (after_phase Emmc e in_ext ext_failed fell broke) es c last a in
@@ -223,30 +230,38 @@ module _ (e : Ending) (fell broke : Rest) (last : Card) where
       let w = known_after Emmc (plain 8 Plain 0) s.position c s.after h s.answer not_8 honest s.allowed s.sends in
       let b : Bool = all_pass Emmc (Clean ∷ []) (Answered s.answer) in
       counted_after Emmc e fell c s.after last h i es ((command_at Emmc (plain 8 Plain 0) h s.position, Answered s.answer) ∷ []) s.rest s.same w
-      (if_clean i s.rest s.after b w.honest (w.numbers ∙ numbers) (unit_kept c s.after w.quiet.same unit) s.steps (either (phase_walk i s.rest) (ExtFailed s.rest) b s.on))
+      (if_clean i s.rest s.after b w.honest (w.numbers ∙ numbers) (unit_kept c s.after w.quiet.same unit) s.steps
+      (either (phase_walk i s.rest) (ExtFailed s.rest) b s.on))
     where
       not_8 : ◌≡◌ {A = ℕ} 8 38 → ⊥
       not_8 e = absurd (omega arith)
 
-  ext_part : (h : Host) (es : List Pair) (c : Card) → IsHonest Emmc c h → h.numbers ≡ 0 ∷ [] → c.block_unit ≡ true → walk_statement Emmc e ext_csd_statement fell broke h es → AllowedSteps c es last → CountOutcome e fell es c last
-  ext_part h es c honest numbers unit walk steps = of_ext h es c honest numbers unit steps (send_part Emmc e (plain 8 Plain 0) ext_ways fell broke h es c last walk steps)
+  ext_part : (h : Host) (es : List Pair) (c : Card) → IsHonest Emmc c h → h.numbers ≡ 0 ∷ [] → c.block_unit ≡ true →
+      walk_statement Emmc e ext_csd_statement fell broke h es → AllowedSteps c es last → CountOutcome e fell es c last
+  ext_part h es c honest numbers unit walk steps =
+      of_ext h es c honest numbers unit steps (send_part Emmc e (plain 8 Plain 0) ext_ways fell broke h es c last walk steps)
 
   -- by its CSD
-  csd_part : (k : Kind) (h : Host) (es : List Pair) (c : Card) → IsHonest k c h → h.numbers ≡ 0 ∷ [] → blocks k (bits_of c.csd) ≡ c.capacity → walk_statement k e (setting (cap_from atoms.CsdBlocks)) fell broke h es → AllowedSteps c es last → CountOutcome e fell es c last
+  csd_part : (k : Kind) (h : Host) (es : List Pair) (c : Card) → IsHonest k c h → h.numbers ≡ 0 ∷ [] → blocks k (bits_of c.csd) ≡ c.capacity →
+      walk_statement k e (setting (cap_from atoms.CsdBlocks)) fell broke h es → AllowedSteps c es last → CountOutcome e fell es c last
   csd_part k h es c honest numbers told walk steps =
       let_part k e fell broke h es c last (cap_from atoms.CsdBlocks) refl honest numbers (λ n value. csd_value k c h n honest told value) walk steps
 
   by_unit : (h : Host) (es : List Pair) (c : Card) → IsHonest Emmc c h → h.numbers ≡ 0 ∷ [] → is_flag_set h.flags 0 ≡ c.block_unit → AllowedSteps c es last →
-      ((is_flag_set h.flags 0 ≡ true) × walk_statement Emmc e ext_csd_statement fell broke h es) ⊎ ((is_flag_set h.flags 0 ≡ false) × walk_statement Emmc e (setting (cap_from atoms.CsdBlocks)) fell broke h es) → CountOutcome e fell es c last
+      ((is_flag_set h.flags 0 ≡ true) × walk_statement Emmc e ext_csd_statement fell broke h es)
+      ⊎ ((is_flag_set h.flags 0 ≡ false) × walk_statement Emmc e (setting (cap_from atoms.CsdBlocks)) fell broke h es) → CountOutcome e fell es c last
   by_unit h es c honest numbers unit steps (inl x) = ext_part h es c honest numbers (sym unit ∙ x.0) x.1 steps
   by_unit h es c honest numbers unit steps (inr x) =
       csd_part Emmc h es c honest numbers (told_by c Emmc false honest.pair.kind (sym x.0 ∙ unit) honest.profile.told) x.1 steps
 
-  pub capacity_part : (k : Kind) (h : Host) (es : List Pair) (c : Card) → IsHonest k c h → h.numbers ≡ 0 ∷ [] → is_flag_set h.flags 0 ≡ c.block_unit → walk_statement k e (capacity_statement k) fell broke h es → AllowedSteps c es last → CountOutcome e fell es c last
+  pub capacity_part : (k : Kind) (h : Host) (es : List Pair) (c : Card) → IsHonest k c h → h.numbers ≡ 0 ∷ [] → is_flag_set h.flags 0 ≡ c.block_unit →
+      walk_statement k e (capacity_statement k) fell broke h es → AllowedSteps c es last → CountOutcome e fell es c last
   capacity_part Sd h es c honest numbers unit walk steps = csd_part Sd h es c honest numbers (sd_told c.kind c honest.pair.kind honest.profile.told) walk steps
   capacity_part Emmc h es c honest numbers unit (inl s) steps = inl (halted_here e es c last (halts e Open es tt s) steps)
   capacity_part Emmc h es c honest numbers unit (inr w) steps =
-      by_unit h es c honest numbers unit steps (either (walk_statement Emmc e ext_csd_statement fell broke h es) (walk_statement Emmc e (setting (cap_from atoms.CsdBlocks)) fell broke h es) (is_flag_set h.flags 0) w)
+      by_unit h es c honest numbers unit steps
+      (either (walk_statement Emmc e ext_csd_statement fell broke h es) (walk_statement Emmc e (setting (cap_from atoms.CsdBlocks)) fell broke h es)
+      (is_flag_set h.flags 0) w)
 
 -- if cap >= LEAST { } else { fault beyond }
 
@@ -270,10 +285,12 @@ is_beyond : (e : Ending) (least : ℕ) (fell : Rest) (h : Host) (es : List Pair)
 is_beyond e least fell h es less (inl s) = inl (halts e Open es tt s)
 is_beyond e least fell h es less (inr s) = inr (inl (record { none = s.0; is = s.1; small = leb-false least (number h 0) less }))
 
-by_test : (e : Ending) (least : ℕ) (fell : Rest) (h : Host) (es : List Pair) → ((nat_le least (number h 0) ≡ true) × fell h es) ⊎ ((nat_le least (number h 0) ≡ false) × Beyond e es) → Tested e least fell h es
+by_test : (e : Ending) (least : ℕ) (fell : Rest) (h : Host) (es : List Pair) →
+    ((nat_le least (number h 0) ≡ true) × fell h es) ⊎ ((nat_le least (number h 0) ≡ false) × Beyond e es) → Tested e least fell h es
 by_test e least fell h es (inl x) = inr (inr (record { enough = leb-true least (number h 0) x.0; on = x.1 }))
 by_test e least fell h es (inr x) = is_beyond e least fell h es x.0 x.1
 
-pub test_part : (k : Kind) (e : Ending) (least : ℕ) (fell broke : Rest) (h : Host) (es : List Pair) → walk_statement k e (capacity_test least) fell broke h es → Tested e least fell h es
+pub test_part : (k : Kind) (e : Ending) (least : ℕ) (fell broke : Rest) (h : Host) (es : List Pair) → walk_statement k e (capacity_test least) fell broke h es →
+    Tested e least fell h es
 test_part k e least fell broke h es (inl s) = inl (halts e Open es tt s)
 test_part k e least fell broke h es (inr w) = by_test e least fell h es (either (fell h es) (Beyond e es) (nat_le least (number h 0)) w)

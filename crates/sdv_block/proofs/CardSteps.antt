@@ -171,7 +171,8 @@ pub read_begun : (k : Kind) (count argument : ℕ) (c u : Card) (answer : Answer
     SendLegal (read_ask count) argument c → Sends (read_ask count) argument c answer u → Begun count argument c u
 read_begun k zero argument c u answer clean legal s = multiple_read_begun k zero argument c u answer clean legal s
 read_begun k (suc zero) argument c u answer clean legal s =
-    begun_by k (read_ask 1) ReadSingleBlock Cmd17 1 argument c u answer clean (single_read c.kind) (takes_single_read k argument answer) (λ t m. (m.blocks, m.contents)) legal s
+    begun_by k (read_ask 1) ReadSingleBlock Cmd17 1 argument c u answer clean (single_read c.kind) (takes_single_read k argument answer)
+    (λ t m. (m.blocks, m.contents)) legal s
 read_begun k (suc (suc n)) argument c u answer clean legal s = multiple_read_begun k (suc (suc n)) argument c u answer clean legal s
 
 multiple_write_begun : (k : Kind) (n argument : ℕ) (c u : Card) (answer : Answer) → answer_passes k Clean answer ≡ true →
@@ -184,7 +185,8 @@ pub write_begun : (k : Kind) (count argument : ℕ) (c u : Card) (answer : Answe
     SendLegal (write_ask count) argument c → Sends (write_ask count) argument c answer u → Begun count argument c u
 write_begun k zero argument c u answer clean legal s = multiple_write_begun k zero argument c u answer clean legal s
 write_begun k (suc zero) argument c u answer clean legal s =
-    begun_by k (write_ask 1) WriteBlock Cmd24 1 argument c u answer clean (single_write c.kind) (takes_single_write k argument answer) (λ t m. (m.blocks, m.contents)) legal s
+    begun_by k (write_ask 1) WriteBlock Cmd24 1 argument c u answer clean (single_write c.kind) (takes_single_write k argument answer)
+    (λ t m. (m.blocks, m.contents)) legal s
 write_begun k (suc (suc n)) argument c u answer clean legal s = multiple_write_begun k (suc (suc n)) argument c u answer clean legal s
 
 -- no command of a request is an erase
@@ -226,14 +228,16 @@ unshown true false after e f = sym e
 unshown false shown after e f = sym e
 unshown true true after e f = absurd (let g : true ≡ false = f in cc)
 
-stop_heard : (k : Kind) (app matched : Bool) (argument : ℕ) (t u : Card) (answer : Answer) → SettledAnswer (taken_as_of StopTransmission app matched) StopTransmission argument t answer u →
+stop_heard : (k : Kind) (app matched : Bool) (argument : ℕ) (t u : Card) (answer : Answer) →
+    SettledAnswer (taken_as_of StopTransmission app matched) StopTransmission argument t answer u →
     answer_passes k Clean answer ≡ true → t.doubt ≡ u.doubt
 stop_heard k true matched argument t u answer a clean = absurd a
 stop_heard k false matched argument t u (Replied (R1 index word)) a clean = unshown t.doubt (has_doubt word) u.doubt a.error.ends (clean_word k word clean)
 stop_heard k false matched argument t u (Replied reply) a clean = absurd a
 stop_heard k false matched argument t u answer a clean = absurd (let f : false ≡ true = clean in cc)
 
-pub stop_keeps_error : (k : Kind) (argument : ℕ) (c u : Card) (answer : Answer) → Sends stop_ask argument c answer u → answer_passes k Clean answer ≡ true → c.doubt ≡ u.doubt
+pub stop_keeps_error : (k : Kind) (argument : ℕ) (c u : Card) (answer : Answer) → Sends stop_ask argument c answer u → answer_passes k Clean answer ≡ true →
+    c.doubt ≡ u.doubt
 stop_keeps_error k argument c u answer s clean =
     let t : Card = s.exchange.settled_card in
     settled_doubt c t s.exchange.settled
@@ -242,7 +246,8 @@ stop_keeps_error k argument c u answer s clean =
 
 -- A CLEAN ANSWER TO A STATUS REQUEST that shows transfer state: no error is still to be shown
 
-shown_in_tran : (k : Kind) (word : ℕ) (t : Card) → status_is_clean k word ≡ true → (state_field word == state_number Tran) ≡ true → state_field word ≡ state_number t.state →
+shown_in_tran : (k : Kind) (word : ℕ) (t : Card) → status_is_clean k word ≡ true → (state_field word == state_number Tran) ≡ true →
+    state_field word ≡ state_number t.state →
     (t.state ≡ Tran → IsTrue t.doubt → IsTrue (has_doubt word)) → t.doubt ≡ false
 shown_in_tran k word t clean tran state must =
     none t.doubt (λ d. must (same_state t.state Tran (sym state ∙ eqb-true _ _ tran)) d)
@@ -251,7 +256,8 @@ shown_in_tran k word t clean tran state must =
     none false f = refl
     none true f = let g : true ≡ false = sym (f refl) ∙ clean_word k word clean in cc
 
-status_heard : (k : Kind) (app matched : Bool) (argument : ℕ) (t u : Card) (answer : Answer) → SettledAnswer (taken_as_of SendStatus app matched) SendStatus argument t answer u →
+status_heard : (k : Kind) (app matched : Bool) (argument : ℕ) (t u : Card) (answer : Answer) →
+    SettledAnswer (taken_as_of SendStatus app matched) SendStatus argument t answer u →
     answer_passes k Clean answer ≡ true → answer_passes k (InState Tran) answer ≡ true → t.doubt ≡ false
 status_heard k true matched argument t u (Replied (R1 index word)) a clean tran = shown_in_tran k word t clean tran a.state a.error.must
 status_heard k false true argument t u (Replied (R1 index word)) a clean tran = shown_in_tran k word t clean tran a.state a.error.must

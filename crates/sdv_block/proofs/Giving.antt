@@ -35,7 +35,8 @@ rebuilt block count before after new same size stored =
     sym (take-append-drop count (drop block after))
     ∙ (ap (λ (bs : List Block). bs ++ drop count (drop block after)) stored
     ∙ (ap (λ (bs : List Block). new ++ bs) (rest ∙ sym same.above) ∙ ap (λ n. new ++ drop (block + n) before) (sym size))) in
-    sym (take-append-drop block after) ∙ (ap (λ (bs : List Block). bs ++ drop block after) (sym same.below) ∙ ap (λ (bs : List Block). take block before ++ bs) there)
+    sym (take-append-drop block after)
+    ∙ (ap (λ (bs : List Block). bs ++ drop block after) (sym same.below) ∙ ap (λ (bs : List Block). take block before ++ bs) there)
 
 -- it gave blocks, of which a card may have stored anything
 pub record Gave (block count : ℕ) (c : Card) (h : Host) (front : List Pair) (u : Card) (h' : Host) : Type 0 where
@@ -60,7 +61,8 @@ pub same_but : (block count : ℕ) (before after : List Block) → before ≡ af
 same_but block count before after e =
     record { below = ap (λ (bs : List Block). take block bs) e; above = ap (λ (bs : List Block). drop (block + count) bs) e }
 
-pub same_but_then : (block count : ℕ) (before between after : List Block) → SameBut block count before between → between ≡ after → SameBut block count before after
+pub same_but_then : (block count : ℕ) (before between after : List Block) → SameBut block count before between → between ≡ after →
+    SameBut block count before after
 same_but_then block count before between after s e = subst (λ bs. SameBut block count before bs) e s
 
 -- a halt that changed nothing is one
@@ -76,7 +78,8 @@ stored_blocks : (block count announced next : ℕ) (after blocks : List Block) �
     take count (drop block after) ≡ blocks
 stored_blocks block count announced next after blocks e f stored = rw (e, f) stored
 
-module _ (k : Kind) (e : Ending) (block count : ℕ) (fell broke : Rest) (h : Host) (es : List Pair) (c last : Card) (announced : count ≡ c.announced) (next : block ≡ c.next_block) where
+module _ (k : Kind) (e : Ending) (block count : ℕ) (fell broke : Rest) (h : Host) (es : List Pair) (c last : Card) (announced : count ≡ c.announced)
+    (next : block ≡ c.next_block) where
   abbrev GaveOutcome : Type 0
   GaveOutcome = HaltedWriting block count e es c last ⊎ Past (Gave block count c h) fell es last
 
@@ -90,7 +93,8 @@ module _ (k : Kind) (e : Ending) (block count : ℕ) (fell broke : Rest) (h : Ho
   outside_of : (u : Card) → OnlyAddressed c u → SameBut block count c.contents u.contents
   outside_of u o = addressed_blocks block count c.announced c.next_block c.contents u.contents announced next o.below o.above
 
-  give_by : (blocks : List Block) → length blocks ≡ c.announced → (returned : Return) (rest : List Pair) (u : Card) → es ≡ (GiveBlocks blocks, returned) ∷ rest →
+  give_by : (blocks : List Block) → length blocks ≡ c.announced → (returned : Return) (rest : List Pair) (u : Card) →
+      es ≡ (GiveBlocks blocks, returned) ∷ rest →
       Step (GiveBlocks blocks) c returned u → after_give returned (host_after k (GiveBlocks blocks) returned h) rest → AllowedSteps u rest last → GaveOutcome
   give_by blocks size (BlocksOut Ok) rest u same step on steps = inr (record {
     front = (GiveBlocks blocks, BlocksOut Ok) ∷ [];
@@ -116,7 +120,8 @@ module _ (k : Kind) (e : Ending) (block count : ℕ) (fell broke : Rest) (h : Ho
       let halt = halts_in_fault e (codes "write") rest refl on in
       inl (record {
         early = halt.early;
-        outside = same_but_then block count c.contents u.contents last.contents (outside_of u step.others) (ap (λ (x : Card). x.contents) (at_rest e rest u last halt steps));
+        outside = same_but_then block count c.contents u.contents last.contents (outside_of u step.others)
+            (ap (λ (x : Card). x.contents) (at_rest e rest u last halt steps));
         read = ap blocks_read (same ∙ ap (λ (r : List Pair). (GiveBlocks blocks, BlocksOut Cut) ∷ r) halt.none);
       })
   give_by blocks size returned rest u same step on steps = absurd step
@@ -132,5 +137,6 @@ module _ (k : Kind) (e : Ending) (block count : ℕ) (fell broke : Rest) (h : Ho
       (subst (λ v. Step v c a.returned a.after) is a.step)
       (subst (λ v. after_give a.returned (host_after k v a.returned h) a.rest) is a.on) a.steps
 
-  pub give_part : walk_statements k e (first (phase phases.GiveBlocks nothing (fails (codes "write"))) nothing) fell broke h es → AllowedSteps c es last → GaveOutcome
+  pub give_part : walk_statements k e (first (phase phases.GiveBlocks nothing (fails (codes "write"))) nothing) fell broke h es → AllowedSteps c es last →
+      GaveOutcome
   give_part walk steps = of_give steps (phase_part k e phases.GiveBlocks nothing (fails (codes "write")) fell broke h es c last walk steps)

@@ -81,21 +81,25 @@ one_listed rs i r old text new here w grew = record {
       ∙ w.grown others;
 }
 
-pub all_listed : (rs : List Request) (i : ℕ) (old text : List ℕ) → length rs ≤ i → Listed rs i old text → (others : List ℕ) → text ++ others ≡ old ++ requests_text rs others
+pub all_listed : (rs : List Request) (i : ℕ) (old text : List ℕ) → length rs ≤ i → Listed rs i old text → (others : List ℕ) →
+    text ++ others ≡ old ++ requests_text rs others
 all_listed rs i old text le w others =
     ap (λ (rest : List Request). text ++ requests_text rest others) (sym (drop_all i rs le)) ∙ w.grown others
 
 -- a text that is too long is so with all that comes after it
-pub long_listed : (rs : List Request) (i most : ℕ) (old text : List ℕ) → Listed rs i old text → most < length text → (others : List ℕ) → most < length (old ++ requests_text rs others)
+pub long_listed : (rs : List Request) (i most : ℕ) (old text : List ℕ) → Listed rs i old text → most < length text → (others : List ℕ) →
+    most < length (old ++ requests_text rs others)
 long_listed rs i most old text w long others = longer most text (requests_text (drop i rs) others) (old ++ requests_text rs others) (w.grown others) long
 
 -- THE WHOLE TEXT
 
-module _ (k : Kind) (rs : List Request) (t0 t1 : List ℕ) (begins : (others : List ℕ) → t0 ++ others ≡ bring_up_text k others) (tests : (others : List ℕ) → t1 ++ others ≡ t0 ++ test_text (greatest_end rs) others) where
+module _ (k : Kind) (rs : List Request) (t0 t1 : List ℕ) (begins : (others : List ℕ) → t0 ++ others ≡ bring_up_text k others)
+    (tests : (others : List ℕ) → t1 ++ others ≡ t0 ++ test_text (greatest_end rs) others) where
   to_requests : (others : List ℕ) → t1 ++ others ≡ bring_up_text k (test_text (greatest_end rs) others)
   to_requests others = tests others ∙ begins (test_text (greatest_end rs) others)
 
-  pub whole_text : (t2 t3 : List ℕ) → ((others : List ℕ) → t2 ++ others ≡ t1 ++ requests_text rs others) → ((others : List ℕ) → t3 ++ others ≡ t2 ++ line (codes "done") others) → t3 ≡ text_of k rs
+  pub whole_text : (t2 t3 : List ℕ) → ((others : List ℕ) → t2 ++ others ≡ t1 ++ requests_text rs others) →
+      ((others : List ℕ) → t3 ++ others ≡ t2 ++ line (codes "done") others) → t3 ≡ text_of k rs
   whole_text t2 t3 requests ends =
       sym (append-nil t3) ∙ (ends [] ∙ (requests (line (codes "done") []) ∙ to_requests (requests_text rs (line (codes "done") []))))
 
@@ -104,17 +108,20 @@ module _ (k : Kind) (rs : List Request) (t0 t1 : List ℕ) (begins : (others : L
       subst (λ (t : List ℕ). most < length t) (to_requests (requests_text rs (line (codes "done") []))) (long (line (codes "done") []))
 
 -- the same, where the first text is a copy and the number is computed
-module _ (k : Kind) (rs : List Request) (b t0 t1 : List ℕ) (n : ℕ) (begins : (others : List ℕ) → b ++ others ≡ bring_up_text k others) (copy : t0 ≡ b) (tests : (others : List ℕ) → t1 ++ others ≡ t0 ++ test_text n others) (end : n ≡ greatest_end rs) where
+module _ (k : Kind) (rs : List Request) (b t0 t1 : List ℕ) (n : ℕ) (begins : (others : List ℕ) → b ++ others ≡ bring_up_text k others) (copy : t0 ≡ b)
+    (tests : (others : List ℕ) → t1 ++ others ≡ t0 ++ test_text n others) (end : n ≡ greatest_end rs) where
   begins_by : (others : List ℕ) → t0 ++ others ≡ bring_up_text k others
   begins_by others = ap (λ (t : List ℕ). t ++ others) copy ∙ begins others
 
   tests_by : (others : List ℕ) → t1 ++ others ≡ t0 ++ test_text (greatest_end rs) others
   tests_by others = tests others ∙ ap (λ (m : ℕ). t0 ++ test_text m others) end
 
-  pub whole_by : (t2 t3 : List ℕ) → ((others : List ℕ) → t2 ++ others ≡ t1 ++ requests_text rs others) → ((others : List ℕ) → t3 ++ others ≡ t2 ++ line (codes "done") others) → t3 ≡ text_of k rs
+  pub whole_by : (t2 t3 : List ℕ) → ((others : List ℕ) → t2 ++ others ≡ t1 ++ requests_text rs others) →
+      ((others : List ℕ) → t3 ++ others ≡ t2 ++ line (codes "done") others) → t3 ≡ text_of k rs
   whole_by t2 t3 requests ends = whole_text k rs t0 t1 begins_by tests_by t2 t3 requests ends
 
-  pub refused_by : (new : List ℕ) (fault : BlockFault) → Grows t1 new (Err fault) (requests_text rs) → (fault ≡ Memory → ⊥) → (fault ≡ Limit) × (max_bytes < length (text_of k rs))
+  pub refused_by : (new : List ℕ) (fault : BlockFault) → Grows t1 new (Err fault) (requests_text rs) → (fault ≡ Memory → ⊥) →
+      (fault ≡ Limit) × (max_bytes < length (text_of k rs))
   refused_by new Limit long f = (refl, long_text k rs t0 t1 begins_by tests_by max_bytes long)
   refused_by new Memory long f = absurd (f refl)
   refused_by new fault long f = absurd long

@@ -61,7 +61,14 @@ known_after k command position c u h answer other honest allowed s =
     let same : SameCard c u = send_same command.ask (argument_at k command h position) c u answer s in
     let pair : IsPair k u h' = steps_keep_pairs k event c h (Answered answer) u honest.pair made s in
     record {
-      quiet = record { same = same; contents = send_keeps command.ask (argument_at k command h position) c u answer other s; read = refl; gave = refl; flags = order_flags (order_of k command.ask) answer h };
+      quiet = record {
+        same = same;
+        contents = send_keeps command.ask (argument_at k command h position) c u answer other s;
+        read = refl;
+        gave = refl;
+        flags =
+            order_flags (order_of k command.ask) answer h;
+      };
       honest = record {
         pair = pair;
         profile = profile_kept c u k h' pair same honest.profile;
@@ -92,14 +99,17 @@ and_on k e next after h es c last w (inr r) = inr (record {
 
 -- A COMMAND
 
-module _ (k : Kind) (e : Ending) (command : Command) (other : command.ask.index ≡ 38 → ⊥) (fell broke : Rest) (h : Host) (es : List Pair) (c last : Card) (honest : IsHonest k c h) where
+module _ (k : Kind) (e : Ending) (command : Command) (other : command.ask.index ≡ 38 → ⊥) (fell broke : Rest) (h : Host) (es : List Pair) (c last : Card)
+    (honest : IsHonest k c h) where
   abbrev Outcome : Type 0
   Outcome = HaltedQuiet e es c last ⊎ Past (Knowing k c h) fell es last
 
   abbrev SentIt : Ways → Type 0
   SentIt ways = Sent k e command ways fell broke h es c last
 
-  known : (ways : Ways) (s : SentIt ways) → Knowing k c h ((command_at k command h s.position, Answered s.answer) ∷ []) s.after (host_after k (command_at k command h s.position) (Answered s.answer) h)
+  known : (ways : Ways) (s : SentIt ways) →
+      Knowing k c h ((command_at k command h s.position, Answered s.answer) ∷ []) s.after
+      (host_after k (command_at k command h s.position) (Answered s.answer) h)
   known ways s = known_after k command s.position c s.after h s.answer other honest s.allowed s.sends
 
   passed : (ways : Ways) (s : SentIt ways) → fell (host_after k (command_at k command h s.position) (Answered s.answer) h) s.rest → Outcome
@@ -114,7 +124,8 @@ module _ (k : Kind) (e : Ending) (command : Command) (other : command.ask.index 
     steps = s.steps;
   })
 
-  pub faulted : (ways : Ways) (s : SentIt ways) (name : List ℕ) → bytes_eq name (codes "beyond") ≡ false → Stops e Open s.rest ⊎ Stops e (Failed name) s.rest → HaltedQuiet e es c last
+  pub faulted : (ways : Ways) (s : SentIt ways) (name : List ℕ) → bytes_eq name (codes "beyond") ≡ false → Stops e Open s.rest ⊎ Stops e (Failed name) s.rest →
+      HaltedQuiet e es c last
   faulted ways s name early f = halted_later e es ((command_at k command h s.position, Answered s.answer) ∷ []) s.rest c s.after last h
       (host_after k (command_at k command h s.position) (Answered s.answer) h) s.same (known ways s).quiet
       (halted_here e s.rest s.after last (halts_in_fault e name s.rest early f) s.steps)
@@ -134,10 +145,13 @@ module _ (k : Kind) (e : Ending) (command : Command) (other : command.ask.index 
   guarded guards name early s (inl x) = passed (only_if guards name) s x.1
   guarded guards name early s (inr x) = inl (faulted (only_if guards name) s name early x.1)
 
-  of_guarded : (guards : List Guard) (name : List ℕ) → bytes_eq name (codes "beyond") ≡ false → Halts e es ⊎ SentIt (only_if guards name) → AllowedSteps c es last → Outcome
+  of_guarded : (guards : List Guard) (name : List ℕ) → bytes_eq name (codes "beyond") ≡ false → Halts e es ⊎ SentIt (only_if guards name) →
+      AllowedSteps c es last → Outcome
   of_guarded guards name early (inl halt) steps = inl (halted_here e es c last halt steps)
   of_guarded guards name early (inr s) steps = guarded guards name early s
-      (either (fell (host_after k (command_at k command h s.position) (Answered s.answer) h) s.rest) (Stops e Open s.rest ⊎ Stops e (Failed name) s.rest) (all_pass k guards (Answered s.answer)) s.on)
+      (either (fell (host_after k (command_at k command h s.position) (Answered s.answer) h) s.rest) (Stops e Open s.rest ⊎ Stops e (Failed name) s.rest)
+      (all_pass k guards (Answered s.answer)) s.on)
 
-  pub guarded_part : (guards : List Guard) (name : List ℕ) → bytes_eq name (codes "beyond") ≡ false → walk_statement k e (send command (only_if guards name)) fell broke h es → AllowedSteps c es last → Outcome
+  pub guarded_part : (guards : List Guard) (name : List ℕ) → bytes_eq name (codes "beyond") ≡ false →
+      walk_statement k e (send command (only_if guards name)) fell broke h es → AllowedSteps c es last → Outcome
   guarded_part guards name early walk steps = of_guarded guards name early (send_part k e command (only_if guards name) fell broke h es c last walk steps) steps

@@ -50,7 +50,9 @@ record WritesCounted (k : Kind) (before : List ℕ) (block count : ℕ) (behind 
 
 -- THE TOKENS OF EACH LINE, before others
 
-read_line : (k : Kind) (block : ℕ) → WritesWith k (codes "send 17 at by hc") block (codes "{ clean { } else { fault read } }") (send (read_command block 1) (only_if (Clean ∷ []) (codes "read")))
+read_line : (k : Kind) (block : ℕ) →
+    WritesWith k (codes "send 17 at by hc") block (codes "{ clean { } else { fault read } }")
+    (send (read_command block 1) (only_if (Clean ∷ []) (codes "read")))
 unfolding tokens first_tokens after_gap word_token number_after
 read_line Sd block = record { tokens_are = λ others. refl }
 read_line Emmc block = record { tokens_are = λ others. refl }
@@ -60,13 +62,15 @@ abbrev pub counted_command : (index block count : ℕ) → Command
 counted_command index block count = record { ask = ask_with index Plain 0 count; address = Some (address_of block) }
 
 read_many_line : (k : Kind) (block count : ℕ) →
-    WritesCounted k (codes "send 18 at by hc") block count (codes "{ clean { } else { fault read } }") (send (counted_command 18 block count) (only_if (Clean ∷ []) (codes "read")))
+    WritesCounted k (codes "send 18 at by hc") block count (codes "{ clean { } else { fault read } }")
+    (send (counted_command 18 block count) (only_if (Clean ∷ []) (codes "read")))
 unfolding tokens first_tokens after_gap word_token number_after
 read_many_line Sd block count = record { tokens_are = λ others. refl }
 read_many_line Emmc block count = record { tokens_are = λ others. refl }
 
 write_many_line : (k : Kind) (block count : ℕ) →
-    WritesCounted k (codes "send 25 at by hc") block count (codes "{ clean { } else { fault write } }") (send (counted_command 25 block count) (only_if (Clean ∷ []) (codes "write")))
+    WritesCounted k (codes "send 25 at by hc") block count (codes "{ clean { } else { fault write } }")
+    (send (counted_command 25 block count) (only_if (Clean ∷ []) (codes "write")))
 unfolding tokens first_tokens after_gap word_token number_after
 write_many_line Sd block count = record { tokens_are = λ others. refl }
 write_many_line Emmc block count = record { tokens_are = λ others. refl }
@@ -92,7 +96,9 @@ unfolding tokens first_tokens after_gap word_token number_after
 recv_line Sd = record { tokens_are = λ others. refl }
 recv_line Emmc = record { tokens_are = λ others. refl }
 
-write_line : (k : Kind) (block : ℕ) → WritesWith k (codes "send 24 at by hc") block (codes "{ clean { } else { fault write } }") (send (write_command block 1) (only_if (Clean ∷ []) (codes "write")))
+write_line : (k : Kind) (block : ℕ) →
+    WritesWith k (codes "send 24 at by hc") block (codes "{ clean { } else { fault write } }")
+    (send (write_command block 1) (only_if (Clean ∷ []) (codes "write")))
 unfolding tokens first_tokens after_gap word_token number_after
 write_line Sd block = record { tokens_are = λ others. refl }
 write_line Emmc block = record { tokens_are = λ others. refl }
@@ -107,7 +113,8 @@ unfolding tokens first_tokens after_gap word_token number_after
 wait_line Sd = record { tokens_are = λ others. refl }
 wait_line Emmc = record { tokens_are = λ others. refl }
 
-status_line : (k : Kind) → Writes k (codes "send 13 { clean & state=tran { } else { fault write } }") (send status_command (only_if (Clean ∷ InState Tran ∷ []) (codes "write")))
+status_line : (k : Kind) →
+    Writes k (codes "send 13 { clean & state=tran { } else { fault write } }") (send status_command (only_if (Clean ∷ InState Tran ∷ []) (codes "write")))
 unfolding tokens first_tokens after_gap word_token number_after
 status_line Sd = record { tokens_are = λ others. refl }
 status_line Emmc = record { tokens_are = λ others. refl }
@@ -134,7 +141,8 @@ AreSmall (Read block count ∷ rs) = IsSmall block count × AreSmall rs
 AreSmall (Write block count ∷ rs) = IsSmall block count × AreSmall rs
 
 counted_tokens : (before behind others : List ℕ) (block count : ℕ) → IsSmall block count → no_comment before ≡ true → no_comment behind ≡ true →
-    tokens (counted_line before block count behind others) ≡ tokens before ++ (Number block ∷ (tokens (codes "count") ++ (Number count ∷ (tokens behind ++ tokens others))))
+    tokens (counted_line before block count behind others) ≡ tokens before
+    ++ (Number block ∷ (tokens (codes "count") ++ (Number count ∷ (tokens behind ++ tokens others))))
 counted_tokens before behind others block count small none_before none_behind =
     let rest : List ℕ = line_with (codes "count") count behind others in
     let most : count ≤ 2 ^ 40 = (let le = small.most in omega (arith, le)) in
@@ -144,17 +152,22 @@ counted_tokens before behind others block count small none_before none_behind =
     ∙ ap (λ (ts : List Token). ts ++ tokens rest) (number_tokens block small.block_small)
     ∙ ap (λ (ts : List Token). Number block ∷ ts) (line_with_tokens (codes "count") behind others count most refl none_behind))
 
-then_line : {k : Kind} {text : List ℕ} {s : Statement} {ts : List Token} (others : List ℕ) → no_comment text ≡ true → Writes k text s → tokens others ≡ ts → tokens (line text others) ≡ statement_written (batch_names k) s ts
+then_line : {k : Kind} {text : List ℕ} {s : Statement} {ts : List Token} (others : List ℕ) → no_comment text ≡ true → Writes k text s → tokens others ≡ ts →
+    tokens (line text others) ≡ statement_written (batch_names k) s ts
 then_line {k} {text} {s} {ts} others none writes later =
     line_tokens text others none ∙ writes.tokens_are (tokens others) ∙ ap (λ (ts : List Token). statement_written (batch_names k) s ts) later
 
-then_line_with : {k : Kind} {before behind : List ℕ} {n : ℕ} {s : Statement} {ts : List Token} (others : List ℕ) → n ≤ 2 ^ 40 → no_comment before ≡ true → no_comment behind ≡ true →
+then_line_with : {k : Kind} {before behind : List ℕ} {n : ℕ} {s : Statement} {ts : List Token} (others : List ℕ) → n ≤ 2 ^ 40 → no_comment before ≡ true →
+    no_comment behind ≡ true →
     WritesWith k before n behind s → tokens others ≡ ts → tokens (line_with before n behind others) ≡ statement_written (batch_names k) s ts
 then_line_with {k} {before} {behind} {n} {s} {ts} others small none_before none_behind writes later =
-    line_with_tokens before behind others n small none_before none_behind ∙ writes.tokens_are (tokens others) ∙ ap (λ (ts : List Token). statement_written (batch_names k) s ts) later
+    line_with_tokens before behind others n small none_before none_behind ∙ writes.tokens_are (tokens others)
+    ∙ ap (λ (ts : List Token). statement_written (batch_names k) s ts) later
 
-then_counted : {k : Kind} {before behind : List ℕ} {block count : ℕ} {s : Statement} {ts : List Token} (others : List ℕ) → IsSmall block count → no_comment before ≡ true →
-    no_comment behind ≡ true → WritesCounted k before block count behind s → tokens others ≡ ts → tokens (counted_line before block count behind others) ≡ statement_written (batch_names k) s ts
+then_counted : {k : Kind} {before behind : List ℕ} {block count : ℕ} {s : Statement} {ts : List Token} (others : List ℕ) → IsSmall block count →
+    no_comment before ≡ true →
+    no_comment behind ≡ true → WritesCounted k before block count behind s → tokens others ≡ ts →
+    tokens (counted_line before block count behind others) ≡ statement_written (batch_names k) s ts
 then_counted {k} {before} {behind} {block} {count} {s} {ts} others small none_before none_behind writes later =
     counted_tokens before behind others block count small none_before none_behind
     ∙ writes.tokens_are (tokens others) ∙ ap (λ (ts : List Token). statement_written (batch_names k) s ts) later
@@ -169,7 +182,8 @@ settled_text k others rest later = then_line _ refl (wait_line k) (then_line _ r
 read_written : (k : Kind) (block count : ℕ) (others : List ℕ) (rest : Statements) → IsSmall block count → TextOf k others rest →
     TextOf k (request_text (Read block count) others) (read_statements block count rest)
 read_written k block zero others rest small later = absurd (let le = small.some in omega (arith, le))
-read_written k block (suc zero) others rest small later = then_line_with _ small.block_small refl refl (read_line k block) (then_line _ refl (recv_line k) later)
+read_written k block (suc zero) others rest small later =
+    then_line_with _ small.block_small refl refl (read_line k block) (then_line _ refl (recv_line k) later)
 read_written k block (suc (suc n)) others rest small later =
     then_counted _ small refl refl (read_many_line k block (suc (suc n))) (
     then_line _ refl (recv_line k) (then_line _ refl (stop_read_line k) (then_line _ refl (poll_line k) later)))
@@ -202,11 +216,14 @@ if_cond_line : Writes Sd (codes "send 8 { else { } }") (sends_anyway 8)
 unfolding tokens first_tokens after_gap word_token number_after
 if_cond_line = record { tokens_are = λ others. refl }
 
-app_line : Writes Sd (codes "loop 1000 { send 55 { app { send 41 0x40ff8000 { ocr.ready & ocr.block { set hc break } ocr.ready { break } answer { } else { fault lost41 } } } else { fault lost55 } } } else { fault busy }") (until_ready app_statement)
+app_line : Writes Sd (codes
+    "loop 1000 { send 55 { app { send 41 0x40ff8000 { ocr.ready & ocr.block { set hc break } ocr.ready { break } answer { } else { fault lost41 } } } else { fault lost55 } } } else { fault busy }") (until_ready app_statement)
 unfolding tokens first_tokens after_gap word_token number_after
 app_line = record { tokens_are = λ others. refl }
 
-op_cond_line : Writes Emmc (codes "loop 1000 { send 1 { ocr.ready & ocr.block { set hc break } ocr.ready { break } answer { } else { fault lost1 } } } else { fault busy }") (until_ready op_cond_statement)
+op_cond_line : Writes Emmc
+    (codes "loop 1000 { send 1 { ocr.ready & ocr.block { set hc break } ocr.ready { break } answer { } else { fault lost1 } } } else { fault busy }")
+    (until_ready op_cond_statement)
 unfolding tokens first_tokens after_gap word_token number_after
 op_cond_line = record { tokens_are = λ others. refl }
 
@@ -271,19 +288,22 @@ select_written k others rest later =
     then_line _ refl (select_line k) (
     then_line _ refl (blen_line k) later))))
 
-bring_up_written : (k : Kind) (others : List ℕ) (rest : Statements) → TextOf k others rest → tokens (bring_up_text k others) ≡ script_written (batch_names k) (bring_up k rest)
+bring_up_written : (k : Kind) (others : List ℕ) (rest : Statements) → TextOf k others rest →
+    tokens (bring_up_text k others) ≡ script_written (batch_names k) (bring_up k rest)
 bring_up_written k others rest later =
     line_tokens (card_text k) _ (plain_card k)
     ∙ ap (λ (x : List Token). tokens (card_text k) ++ x) (line_tokens (codes "flags hc") _ refl
     ∙ ap (λ (x : List Token). tokens (codes "flags hc") ++ x) (line_tokens (codes "nums cap") _ refl))
     ∙ head_lines k _
-    ∙ ap (λ (x : List Token). Key word.Card ∷ Key (kind_word k) ∷ list_written word.Flags (batch_names k).flags (list_written word.Nums (batch_names k).numbers x)) (
+    ∙ ap (λ (x : List Token). Key word.Card ∷ Key (kind_word k)
+    ∷ list_written word.Flags (batch_names k).flags (list_written word.Nums (batch_names k).numbers x)) (
     then_line _ refl (idle_line k) (
     ready_written k _ (select_statements (first (capacity_statement k) rest)) (
     select_written k _ (first (capacity_statement k) rest) (
     then_line _ (plain_capacity k) (capacity_line k) later))))
 
 -- THE WHOLE TEXT
-pub batch_written : (k : Kind) (least : ℕ) (rs : List Request) → least ≤ 2 ^ 40 → AreSmall rs → tokens (batch_text k least rs) ≡ script_written (batch_names k) (batch_body k least rs)
+pub batch_written : (k : Kind) (least : ℕ) (rs : List Request) → least ≤ 2 ^ 40 → AreSmall rs →
+    tokens (batch_text k least rs) ≡ script_written (batch_names k) (batch_body k least rs)
 batch_written k least rs small each =
     bring_up_written k _ (first (capacity_test least) (batch_statements rs)) (then_line_with _ small refl refl (test_line k least) (requests_written k rs each))

@@ -30,7 +30,8 @@ allowed_steps (p ∷ es) c last s a = (
   s.0,
   a [] p.0 p.1 es c refl refl,
   s.1,
-  allowed_steps es s.0 last s.2 (λ front event returned back u is steps. a (p ∷ front) event returned back u (ap (λ (es : List Pair). p ∷ es) is) (s.0, s.1, steps)),
+  allowed_steps es s.0 last s.2
+      (λ front event returned back u is steps. a (p ∷ front) event returned back u (ap (λ (es : List Pair). p ∷ es) is) (s.0, s.1, steps)),
 )
 
 -- HALTS: nothing more happened, and the walk is open or ended in a fault
@@ -64,7 +65,8 @@ pub record Acted (k : Kind) (deed : Deed) (h : Host) (next : Return → Rest) (e
   pub on : next returned (host_after k event returned h) rest
   pub steps : AllowedSteps after rest last
 
-pub acted : (k : Kind) (deed : Deed) (h : Host) (next : Return → Rest) (es : List Pair) (c last : Card) → Acts k deed h next es → AllowedSteps c es last → Acted k deed h next es c last
+pub acted : (k : Kind) (deed : Deed) (h : Host) (next : Return → Rest) (es : List Pair) (c last : Card) → Acts k deed h next es → AllowedSteps c es last →
+    Acted k deed h next es c last
 acted k deed h next es c last (event, returned, rest, is, may, same, on) steps =
     let s : AllowedSteps c ((event, returned) ∷ rest) last = subst (λ es. AllowedSteps c es last) same steps in
     record { event = event; returned = returned; rest = rest; after = s.0; is = is; same = same; allowed = s.1; step = s.2; on = on; steps = s.3 }
@@ -80,7 +82,8 @@ pub record Made (k : Kind) (wanted : ScriptEvent) (h : Host) (next : Return → 
   pub on : next returned (host_after k wanted returned h) rest
   pub steps : AllowedSteps after rest last
 
-pub made : (k : Kind) (wanted : ScriptEvent) (h : Host) (next : Return → Rest) (es : List Pair) (c last : Card) → Acted k (exactly wanted) h next es c last → Made k wanted h next es c last
+pub made : (k : Kind) (wanted : ScriptEvent) (h : Host) (next : Return → Rest) (es : List Pair) (c last : Card) → Acted k (exactly wanted) h next es c last →
+    Made k wanted h next es c last
 made k wanted h next es c last a = record {
   returned = a.returned;
   rest = a.rest;
@@ -113,21 +116,36 @@ pub record Sent (k : Kind) (e : Ending) (command : Command) (ways : Ways) (fell 
   pub on : walk_ways k e ways (Answered answer) fell broke (host_after k (command_at k command h position) (Answered answer) h) rest
   pub steps : AllowedSteps after rest last
 
-of_made : (k : Kind) (e : Ending) (command : Command) (ways : Ways) (fell broke : Rest) (h : Host) (es : List Pair) (c last : Card) (position : ℕ) → position_of_command h command.address ≡ Some position →
+of_made : (k : Kind) (e : Ending) (command : Command) (ways : Ways) (fell broke : Rest) (h : Host) (es : List Pair) (c last : Card) (position : ℕ) →
+    position_of_command h command.address ≡ Some position →
     (returned : Return) (rest : List Pair) (after : Card) → es ≡ (command_at k command h position, returned) ∷ rest →
     IsAllowed (command_at k command h position) c →
     Step (command_at k command h position) c returned after →
     walk_ways k e ways returned fell broke (host_after k (command_at k command h position) returned h) rest →
     AllowedSteps after rest last → Sent k e command ways fell broke h es c last
 of_made k e command ways fell broke h es c last position sent_at (Answered answer) rest after same allowed step on steps =
-    record { position = position; sent_at = sent_at; answer = answer; rest = rest; after = after; same = same; allowed = allowed; sends = step; on = on; steps = steps }
+    record {
+      position = position;
+      sent_at = sent_at;
+      answer = answer;
+      rest = rest;
+      after = after;
+      same = same;
+      allowed = allowed;
+      sends = step;
+      on = on;
+      steps =
+          steps;
+    }
 of_made k e command ways fell broke h es c last position sent_at returned rest after same allowed step on steps = absurd step
 
 abbrev after_answer : Kind → Ending → Ways → (fell broke : Rest) → Return → Rest
 after_answer k e ways fell broke returned = walk_ways k e ways returned fell broke
 
-send_in_range : (k : Kind) (e : Ending) (command : Command) (ways : Ways) (fell broke : Rest) (h : Host) (es : List Pair) (c last : Card) → AllowedSteps c es last →
-    (o : Option ℕ) → position_of_command h command.address ≡ o → InRange e o (λ position. Acts k (command_deed k command h position) h (after_answer k e ways fell broke) es) es →
+send_in_range : (k : Kind) (e : Ending) (command : Command) (ways : Ways) (fell broke : Rest) (h : Host) (es : List Pair) (c last : Card) →
+    AllowedSteps c es last →
+    (o : Option ℕ) → position_of_command h command.address ≡ o →
+    InRange e o (λ position. Acts k (command_deed k command h position) h (after_answer k e ways fell broke) es) es →
     Halts e es ⊎ Sent k e command ways fell broke h es c last
 send_in_range k e command ways fell broke h es c last steps None is s = inl (halts e number_fault es refl s)
 send_in_range k e command ways fell broke h es c last steps (Some position) is a =
@@ -138,15 +156,18 @@ send_in_range k e command ways fell broke h es c last steps (Some position) is a
 pub send_part : (k : Kind) (e : Ending) (command : Command) (ways : Ways) (fell broke : Rest) (h : Host) (es : List Pair) (c last : Card) →
     walk_statement k e (send command ways) fell broke h es → AllowedSteps c es last → Halts e es ⊎ Sent k e command ways fell broke h es c last
 send_part k e command ways fell broke h es c last (inl s) steps = inl (halts e Open es tt s)
-send_part k e command ways fell broke h es c last (inr w) steps = send_in_range k e command ways fell broke h es c last steps (position_of_command h command.address) refl w
+send_part k e command ways fell broke h es c last (inr w) steps =
+    send_in_range k e command ways fell broke h es c last steps (position_of_command h command.address) refl w
 
 -- A PHASE OR A WAIT
 
 abbrev pub after_phase : Kind → Ending → (well other : Statements) → (fell broke : Rest) → Return → Rest
-after_phase k e well other fell broke returned h es = Either (passes k WentWell returned) (walk_statements k e well fell broke h es) (walk_statements k e other fell broke h es)
+after_phase k e well other fell broke returned h es =
+    Either (passes k WentWell returned) (walk_statements k e well fell broke h es) (walk_statements k e other fell broke h es)
 
 pub phase_part : (k : Kind) (e : Ending) (p : Phase) (well other : Statements) (fell broke : Rest) (h : Host) (es : List Pair) (c last : Card) →
-    walk_statement k e (phase p well other) fell broke h es → AllowedSteps c es last → Halts e es ⊎ Acted k (phase_deed p h) h (after_phase k e well other fell broke) es c last
+    walk_statement k e (phase p well other) fell broke h es → AllowedSteps c es last →
+    Halts e es ⊎ Acted k (phase_deed p h) h (after_phase k e well other fell broke) es c last
 phase_part k e p well other fell broke h es c last (inl s) steps = inl (halts e Open es tt s)
 phase_part k e p well other fell broke h es c last (inr a) steps = inr (acted k (phase_deed p h) h (after_phase k e well other fell broke) es c last a steps)
 
@@ -163,7 +184,8 @@ pub record Past (P : List Pair → Card → Host → Type 0) (next : Rest) (es :
   pub steps : AllowedSteps card rest last
 
 -- one part after another
-unfoldable pub past_both : {P Q R : List Pair → Card → Host → Type 0} (next after : Rest) (es : List Pair) (last : Card) → (w : Past P next es last) → (r : Past Q after w.rest last) →
+unfoldable pub past_both : {P Q R : List Pair → Card → Host → Type 0} (next after : Rest) (es : List Pair) (last : Card) → (w : Past P next es last) →
+    (r : Past Q after w.rest last) →
     R (w.front ++ r.front) r.card r.host → Past R after es last
 past_both next after es last w r did = record {
   front = w.front ++ r.front;
@@ -177,5 +199,6 @@ past_both next after es last w r did = record {
 }
 
 -- a part of nothing
-pub past_here : {P : List Pair → Card → Host → Type 0} (next : Rest) (h : Host) (es : List Pair) (c last : Card) → next h es → AllowedSteps c es last → P [] c h → Past P next es last
+pub past_here : {P : List Pair → Card → Host → Type 0} (next : Rest) (h : Host) (es : List Pair) (c last : Card) → next h es → AllowedSteps c es last →
+    P [] c h → Past P next es last
 past_here next h es c last on steps did = record { front = []; rest = es; card = c; host = h; split = refl; did = did; on = on; steps = steps }

@@ -1,7 +1,9 @@
 -- A QUIET part of a walk: it reads nothing, gives nothing, and leaves the card's blocks and the flags as they were.
 use Rattle.std.proofs.Common.{◌≡◌, refl, sym, ap, ◌∙◌, subst, List, [], ◌∷◌, ◌++◌, append_assoc}
+use Rattle.sdv_card.specs.declared.answer.DataEnd.{DataEnd}
 use Rattle.sdv_card.specs.Card.{Card, Block, AreBlocks}
 use Rattle.sdv_card.specs.Host.{Host}
+use Rattle.sdv_card.specs.Phases.{Moved}
 use Rattle.sdv_card.specs.Taken.{SameCard}
 use Rattle.sdv_graph.specs.Walk.{Pair, Ending, given, given_by}
 use Rattle.sdv_card.proofs.Same.{same_itself, same_both}
@@ -12,7 +14,8 @@ use Rattle.sdv_block.proofs.Parts.{Halts}
 
 pub blocks_read-append : (f g : List Pair) → blocks_read (f ++ g) ≡ blocks_read f ++ blocks_read g
 blocks_read-append [] g = refl
-blocks_read-append (p ∷ f) g = ap (λ (bs : List Block). blocks_in p.1 ++ bs) (blocks_read-append f g) ∙ sym (append_assoc (blocks_in p.1) (blocks_read f) (blocks_read g))
+blocks_read-append (p ∷ f) g =
+    ap (λ (bs : List Block). blocks_in p.1 ++ bs) (blocks_read-append f g) ∙ sym (append_assoc (blocks_in p.1) (blocks_read f) (blocks_read g))
 
 pub given-append : (f g : List Pair) → given (f ++ g) ≡ given f ++ given g
 given-append [] g = refl
@@ -26,6 +29,10 @@ read_none f g p q = none_after (blocks_read (f ++ g)) (blocks_read f) (blocks_re
 
 pub gave_none : (f g : List Pair) → given f ≡ [] → given g ≡ [] → given (f ++ g) ≡ []
 gave_none f g p q = none_after (given (f ++ g)) (given f) (given g) (given-append f g) p q
+
+-- a phase that moves no block into the card leaves its blocks
+pub moved_contents : (end : DataEnd) (u v : Card) → Moved end u v → u.contents ≡ v.contents
+moved_contents end u v m = ap (λ (x : Card). x.contents) m.card
 
 -- PARTS
 
@@ -58,7 +65,8 @@ pub record HaltedQuiet (e : Ending) (es : List Pair) (c last : Card) : Type 0 wh
   pub read : blocks_read es ≡ []
   pub gave : given es ≡ []
 
-pub halted_later : (e : Ending) (es f rest : List Pair) (c u last : Card) (h i : Host) → es ≡ f ++ rest → Quiet c h f u i → HaltedQuiet e rest u last → HaltedQuiet e es c last
+pub halted_later : (e : Ending) (es f rest : List Pair) (c u last : Card) (h i : Host) → es ≡ f ++ rest → Quiet c h f u i → HaltedQuiet e rest u last →
+    HaltedQuiet e es c last
 halted_later e es f rest c u last h i same q halt = record {
   early = halt.early;
   contents = q.contents ∙ halt.contents;

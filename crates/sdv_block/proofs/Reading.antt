@@ -2,12 +2,10 @@
 use Rattle.std.proofs.Common.{◌≡◌, ℕ, ◌+◌, ◌≤◌, inl, inr, refl, sym, ap, ◌∙◌, List, [], ◌∷◌, ◌++◌, take, drop, append-nil}
 use Rattle.std.specs.Prelude.{◌⊎◌, codes}
 use Rattle.sdv_registers.specs.declared.kind.Kind.{Kind}
-use Rattle.sdv_card.specs.declared.answer.DataEnd.{DataEnd}
 use Rattle.sdv_card.specs.declared.answer.DataEnd.TheVariants.{Ok, Cut}
 use Rattle.sdv_card.specs.declared.guard.Guard.TheVariants.{Clean}
 use Rattle.sdv_card.specs.Card.{Card, Block}
 use Rattle.sdv_card.specs.Host.{Host, host_after}
-use Rattle.sdv_card.specs.Phases.{Moved}
 use Rattle.sdv_card.specs.ScriptEvent.{ReceiveBlocks, Return, BlocksIn}
 use Rattle.sdv_card.specs.Step.{Step}
 use Rattle.sdv_card.specs.Taken.{SameCard}
@@ -21,7 +19,7 @@ use Rattle.sdv_block.specs.Served.{AllowedSteps, IsEarly, blocks_read}
 use Rattle.sdv_block.proofs.Addresses.{position_is, named, named_within}
 use Rattle.sdv_block.proofs.Asking.{Asked, asked_part}
 use Rattle.sdv_block.proofs.CardSteps.{Begun, read_begun, read_keeps, read_within}
-use Rattle.sdv_block.proofs.Quiet.{HaltedQuiet, halted_later, halted_here, at_rest, blocks_read-append, gave_none}
+use Rattle.sdv_block.proofs.Quiet.{HaltedQuiet, halted_later, halted_here, at_rest, moved_contents, blocks_read-append, gave_none}
 use Rattle.sdv_block.proofs.Parts.{Halts, halts_in_fault, Acted, made, argument_at, after_phase, phase_part, Past, past_both}
 use Rattle.sdv_block.proofs.Stopping.{QuietOutcome, stop_reading_part}
 
@@ -41,11 +39,9 @@ pub record HaltedRead (block count : ℕ) (e : Ending) (es : List Pair) (c last 
   pub gave : given es ≡ []
   pub room : block + count ≤ c.capacity
 
-moved_contents : (end : DataEnd) (u v : Card) → Moved end u v → u.contents ≡ v.contents
-moved_contents end u v m = ap (λ (x : Card). x.contents) m.card
-
 -- the blocks of the phase are those that were named
-phase_blocks : (announced next : ℕ) (blocks contents : List Block) (count block : ℕ) → count ≡ announced → block ≡ next → blocks ≡ take announced (drop next contents) →
+phase_blocks : (announced next : ℕ) (blocks contents : List Block) (count block : ℕ) → count ≡ announced → block ≡ next →
+    blocks ≡ take announced (drop next contents) →
     blocks ≡ take count (drop block contents)
 phase_blocks announced next blocks contents count block e f truth = rw (e, f) truth
 
@@ -65,12 +61,14 @@ pub record Received (block count : ℕ) (u : Card) (front : List Pair) (v : Card
   pub read : blocks_read front ≡ take count (drop block u.contents)
   pub gave : given front ≡ []
 
-module _ (k : Kind) (e : Ending) (block count : ℕ) (fell broke : Rest) (h : Host) (es : List Pair) (u last : Card) (announced : count ≡ u.announced) (next : block ≡ u.next_block) where
+module _ (k : Kind) (e : Ending) (block count : ℕ) (fell broke : Rest) (h : Host) (es : List Pair) (u last : Card) (announced : count ≡ u.announced)
+    (next : block ≡ u.next_block) where
   abbrev RecvOutcome : Type 0
   RecvOutcome = HaltedQuiet e es u last ⊎ Past (Received block count u) fell es last
 
   recv_by : (n : ℕ) (returned : Return) (rest : List Pair) (v : Card) → es ≡ (ReceiveBlocks n, returned) ∷ rest → Step (ReceiveBlocks n) u returned v →
-      after_phase k e nothing (fails (codes "read")) fell broke returned (host_after k (ReceiveBlocks n) returned h) rest → AllowedSteps v rest last → RecvOutcome
+      after_phase k e nothing (fails (codes "read")) fell broke returned (host_after k (ReceiveBlocks n) returned h) rest → AllowedSteps v rest last →
+      RecvOutcome
   recv_by n (BlocksIn Ok blocks) rest v same step on steps = inr (record {
     front = (ReceiveBlocks n, BlocksIn Ok blocks) ∷ [];
     rest = rest;
@@ -97,13 +95,15 @@ module _ (k : Kind) (e : Ending) (block count : ℕ) (fell broke : Rest) (h : Ho
       })
   recv_by n returned rest v same step on steps = absurd step
 
-  of_recv : AllowedSteps u es last → Halts e es ⊎ Acted k (exactly (ReceiveBlocks h.announced)) h (after_phase k e nothing (fails (codes "read")) fell broke) es u last → RecvOutcome
+  of_recv : AllowedSteps u es last →
+      Halts e es ⊎ Acted k (exactly (ReceiveBlocks h.announced)) h (after_phase k e nothing (fails (codes "read")) fell broke) es u last → RecvOutcome
   of_recv steps (inl halt) = inl (halted_here e es u last halt steps)
   of_recv steps (inr a) =
       let m = made k (ReceiveBlocks h.announced) h (after_phase k e nothing (fails (codes "read")) fell broke) es u last a in
       recv_by h.announced m.returned m.rest m.after m.same m.step m.on m.steps
 
-  pub recv_part : walk_statements k e (first (phase phases.ReceiveBlocks nothing (fails (codes "read"))) nothing) fell broke h es → AllowedSteps u es last → RecvOutcome
+  pub recv_part : walk_statements k e (first (phase phases.ReceiveBlocks nothing (fails (codes "read"))) nothing) fell broke h es → AllowedSteps u es last →
+      RecvOutcome
   recv_part walk steps = of_recv steps (phase_part k e phases.ReceiveBlocks nothing (fails (codes "read")) fell broke h es u last walk steps)
 
 -- THE WHOLE READ
@@ -159,12 +159,15 @@ module _ (k : Kind) (e : Ending) (block count : ℕ) (rest : Statements) (fell b
   of_asked (inl halt) = inl halt
   of_asked (inr w) =
       let argument : ℕ = argument_at k (read_command block count) h w.did.position in
-      let begun : Begun count argument c w.card = read_begun k count argument c w.card w.did.answer (and_left _ _ w.did.passed) w.did.allowed.legal w.did.sends in
+      let begun : Begun count argument c w.card =
+      read_begun k count argument c w.card w.did.answer (and_left _ _ w.did.passed) w.did.allowed.legal w.did.sends in
       let is = position_is h block w.did.position w.did.sent_at in
       let bounds = read_within count w.did.position argument c w.did.allowed.bounds in
-      let at : block ≡ w.card.next_block = sym (named c.block_unit w.card.block_unit block w.did.position argument is begun.same.block_unit bounds.unit) ∙ begun.block in
+      let at : block ≡ w.card.next_block = sym (named c.block_unit w.card.block_unit block w.did.position argument is begun.same.block_unit bounds.unit)
+      ∙ begun.block in
       of_received w (named_within c block count w.did.position argument is bounds)
       (recv_part k e block count stopping broke w.host w.rest w.card last begun.count_is at w.on w.steps)
 
   pub read_part : walk_statements k e (read_statements block count rest) fell broke h es → AllowedSteps c es last → Outcome
-  read_part walk steps = of_asked (asked_part k e (read_command block count) (Clean ∷ []) (codes "read") (read_keeps count) refl receiving broke h es c last walk steps)
+  read_part walk steps = of_asked
+      (asked_part k e (read_command block count) (Clean ∷ []) (codes "read") (read_keeps count) refl receiving broke h es c last walk steps)

@@ -53,7 +53,8 @@ ocr_order : order_of Sd ocr_ask ≡ Some (SdSendOpCond true)
 unfolding order_of
 ocr_order = refl
 
-ocr_heard : (app matched : Bool) (argument : ℕ) (t u : Card) (answer : Answer) → SettledAnswer (taken_as_of (SdSendOpCond true) app matched) (SdSendOpCond true) argument t answer u →
+ocr_heard : (app matched : Bool) (argument : ℕ) (t u : Card) (answer : Answer) →
+    SettledAnswer (taken_as_of (SdSendOpCond true) app matched) (SdSendOpCond true) argument t answer u →
     answer_passes Sd OcrReady answer ≡ true → answer_passes Sd OcrBlock answer ≡ u.block_unit
 ocr_heard false matched argument t u answer a ready = absurd a
 ocr_heard true matched argument t u (Replied (R3 word)) a ready = a.unit (sym a.ready ∙ ready)
@@ -65,7 +66,8 @@ ocr_unit argument c u answer kind s ready =
     let t : Card = s.exchange.settled_card in
     let line : order_of c.kind ocr_ask ≡ Some (SdSendOpCond true) = subst (λ k. order_of k ocr_ask ≡ Some (SdSendOpCond true)) kind ocr_order in
     let order : s.order ≡ SdSendOpCond true = some_same s.order (SdSendOpCond true) (order_of c.kind ocr_ask) s.asks.line line in
-    ocr_heard t.app (matches t.rca (argument / 65536)) argument t u answer (subst (λ o. SettledAnswer (card_takes t o argument) o argument t answer u) order s.exchange.answered) ready
+    ocr_heard t.app (matches t.rca (argument / 65536)) argument t u answer
+    (subst (λ o. SettledAnswer (card_takes t o argument) o argument t answer u) order s.exchange.answered) ready
 
 abbrev op_cond_ask : Ask
 op_cond_ask = (plain 1 Plain 0).ask
@@ -78,7 +80,8 @@ mode_told : (word : ℕ) (unit : Bool) → access_mode word ≡ (if unit then 2 
 mode_told word true e = ap (λ (m : ℕ). m == 2) e
 mode_told word false e = ap (λ (m : ℕ). m == 2) e
 
-op_cond_heard : (app matched : Bool) (argument : ℕ) (t u : Card) (answer : Answer) → SettledAnswer (taken_as_of SendOpCond app matched) SendOpCond argument t answer u →
+op_cond_heard : (app matched : Bool) (argument : ℕ) (t u : Card) (answer : Answer) →
+    SettledAnswer (taken_as_of SendOpCond app matched) SendOpCond argument t answer u →
     answer_passes Emmc OcrReady answer ≡ true → answer_passes Emmc OcrBlock answer ≡ u.block_unit
 op_cond_heard true matched argument t u answer a ready = absurd a
 op_cond_heard false matched argument t u (Replied (R3 word)) a ready = mode_told word u.block_unit (a.unit (sym a.ready ∙ ready))
@@ -90,7 +93,8 @@ op_cond_unit argument c u answer kind s ready =
     let t : Card = s.exchange.settled_card in
     let line : order_of c.kind op_cond_ask ≡ Some SendOpCond = subst (λ k. order_of k op_cond_ask ≡ Some SendOpCond) kind op_cond_order in
     let order : s.order ≡ SendOpCond = some_same s.order SendOpCond (order_of c.kind op_cond_ask) s.asks.line line in
-    op_cond_heard t.app (matches t.rca (argument / 65536)) argument t u answer (subst (λ o. SettledAnswer (card_takes t o argument) o argument t answer u) order s.exchange.answered) ready
+    op_cond_heard t.app (matches t.rca (argument / 65536)) argument t u answer
+    (subst (λ o. SettledAnswer (card_takes t o argument) o argument t answer u) order s.exchange.answered) ready
 
 -- PAST THE LOOP
 
@@ -155,7 +159,8 @@ module _ (k : Kind) (e : Ending) (fell broke : Rest) (last : Card) where
   })
 
   -- the loop is left
-  leaves : (u : Card) (h i : Host) (rest : List Pair) → IsHonest k u i → i.numbers ≡ h.numbers → is_flag_set i.flags 0 ≡ u.block_unit → Stops e Open rest ⊎ fell i rest → AllowedSteps u rest last → OcrOutcome h rest u
+  leaves : (u : Card) (h i : Host) (rest : List Pair) → IsHonest k u i → i.numbers ≡ h.numbers → is_flag_set i.flags 0 ≡ u.block_unit →
+      Stops e Open rest ⊎ fell i rest → AllowedSteps u rest last → OcrOutcome h rest u
   leaves u h i rest honest numbers unit (inl s) steps = inl (halted_here e rest u last (halts e Open rest tt s) steps)
   leaves u h i rest honest numbers unit (inr on) steps = inr (record {
     front = [];
@@ -169,7 +174,8 @@ module _ (k : Kind) (e : Ending) (fell broke : Rest) (last : Card) where
   })
 
   -- WHAT THE ANSWER LEADS TO
-  module _ (name : List ℕ) (early : bytes_eq name (codes "beyond") ≡ false) (again : Rest) (later : Again again) (u : Card) (h : Host) (rest : List Pair) (answer : Answer) (clear : h.flags ≡ 0) (honest : IsHonest k u h) (steps : AllowedSteps u rest last)
+  module _ (name : List ℕ) (early : bytes_eq name (codes "beyond") ≡ false) (again : Rest) (later : Again again) (u : Card) (h : Host) (rest : List Pair)
+      (answer : Answer) (clear : h.flags ≡ 0) (honest : IsHonest k u h) (steps : AllowedSteps u rest last)
       (shows : answer_passes k OcrReady answer ≡ true → answer_passes k OcrBlock answer ≡ u.block_unit) where
     abbrev SetsAndLeaves : Type 0
     SetsAndLeaves = Stops e Open rest ⊎ (Stops e Open rest ⊎ fell (with_flag h 0 true) rest)
@@ -205,10 +211,13 @@ module _ (k : Kind) (e : Ending) (fell broke : Rest) (last : Card) where
 
     if_ready : (block_ready ≡ false) → ((is_ready ≡ true) × Leaves) ⊎ ((is_ready ≡ false) × Either is_answered (again h rest) Lost) → OcrOutcome h rest u
     if_ready none (inl x) = leaves u h h rest honest refl
-        (ap (λ n. is_flag_set n 0) clear ∙ (sym (only_first (answer_passes k OcrReady answer) (answer_passes k OcrBlock answer) none (and_left _ _ x.0)) ∙ shows (and_left _ _ x.0))) x.1 steps
+        (ap (λ n. is_flag_set n 0) clear
+        ∙ (sym (only_first (answer_passes k OcrReady answer) (answer_passes k OcrBlock answer) none (and_left _ _ x.0)) ∙ shows (and_left _ _ x.0))) x.1
+        steps
     if_ready none (inr x) = if_answered (either (again h rest) Lost is_answered x.1)
 
-    if_block_ready : ((block_ready ≡ true) × SetsAndLeaves) ⊎ ((block_ready ≡ false) × Either is_ready Leaves (Either is_answered (again h rest) Lost)) → OcrOutcome h rest u
+    if_block_ready : ((block_ready ≡ true) × SetsAndLeaves) ⊎ ((block_ready ≡ false) × Either is_ready Leaves (Either is_answered (again h rest) Lost)) →
+        OcrOutcome h rest u
     if_block_ready (inl x) = sets x.0 x.1
     if_block_ready (inr x) = if_ready x.0 (either Leaves (Either is_answered (again h rest) Lost) is_ready x.1)
 
@@ -216,17 +225,21 @@ module _ (k : Kind) (e : Ending) (fell broke : Rest) (last : Card) where
     ocr_led on = if_block_ready (either SetsAndLeaves (Either is_ready Leaves (Either is_answered (again h rest) Lost)) block_ready on)
 
   -- THE COMMAND that asks for the operating conditions
-  module _ (command : Command) (not_38 : command.ask.index ≡ 38 → ⊥) (unit : ShowsUnit k command.ask) (name : List ℕ) (early : bytes_eq name (codes "beyond") ≡ false) where
-    of_ocr : (again : Rest) → Again again → (h : Host) (es : List Pair) (c : Card) → h.flags ≡ 0 → IsHonest k c h → Halts e es ⊎ Sent k e command (ocr_ways name) again fell h es c last → AllowedSteps c es last → OcrOutcome h es c
+  module _ (command : Command) (not_38 : command.ask.index ≡ 38 → ⊥) (unit : ShowsUnit k command.ask) (name : List ℕ)
+      (early : bytes_eq name (codes "beyond") ≡ false) where
+    of_ocr : (again : Rest) → Again again → (h : Host) (es : List Pair) (c : Card) → h.flags ≡ 0 → IsHonest k c h →
+        Halts e es ⊎ Sent k e command (ocr_ways name) again fell h es c last → AllowedSteps c es last → OcrOutcome h es c
     of_ocr again later h es c clear honest (inl halt) steps = inl (halted_here e es c last halt steps)
     of_ocr again later h es c clear honest (inr s) steps =
         let i : Host = host_after k (command_at k command h s.position) (Answered s.answer) h in
         let w = known_after k command s.position c s.after h s.answer not_38 honest s.allowed s.sends in
         before c s.after h i es ((command_at k command h s.position, Answered s.answer) ∷ []) s.rest s.same w
-        (ocr_led name early again later s.after i s.rest s.answer (w.quiet.flags ∙ clear) w.honest s.steps (unit (argument_at k command h s.position) c s.after s.answer honest.pair.kind s.sends) s.on)
+        (ocr_led name early again later s.after i s.rest s.answer (w.quiet.flags ∙ clear) w.honest s.steps
+        (unit (argument_at k command h s.position) c s.after s.answer honest.pair.kind s.sends) s.on)
 
     pub ocr_part : (again : Rest) → Again again → Again (walk_statements k e (first (send command (ocr_ways name)) nothing) again fell)
-    ocr_part again later h es c clear honest walk steps = of_ocr again later h es c clear honest (send_part k e command (ocr_ways name) again fell h es c last walk steps) steps
+    ocr_part again later h es c clear honest walk steps =
+        of_ocr again later h es c clear honest (send_part k e command (ocr_ways name) again fell h es c last walk steps) steps
 
   -- a turn leads to the same as the turns after it
   abbrev Turns : Statement → Type 1
@@ -256,13 +269,16 @@ module _ (e : Ending) (fell broke : Rest) (last : Card) where
   abbrev ocr_walk : Rest → Rest
   ocr_walk again = walk_statements Sd e (first ocr_statement nothing) again fell
 
-  if_app : (again : Rest) → Again Sd e fell broke last again → (h : Host) (rest : List Pair) (u : Card) (b : Bool) → h.flags ≡ 0 → IsHonest Sd u h → AllowedSteps u rest last →
+  if_app : (again : Rest) → Again Sd e fell broke last again → (h : Host) (rest : List Pair) (u : Card) (b : Bool) → h.flags ≡ 0 → IsHonest Sd u h →
+      AllowedSteps u rest last →
       ((b ≡ true) × ocr_walk again h rest) ⊎ ((b ≡ false) × Lost55 rest) → OcrOutcome Sd e fell broke last h rest u
-  if_app again later h rest u b clear honest steps (inl x) = ocr_part Sd e fell broke last (plain 41 Plain 0x40ff8000) not_41 ocr_unit (codes "lost41") refl again later h rest u clear honest x.1 steps
+  if_app again later h rest u b clear honest steps (inl x) =
+      ocr_part Sd e fell broke last (plain 41 Plain 0x40ff8000) not_41 ocr_unit (codes "lost41") refl again later h rest u clear honest x.1 steps
   if_app again later h rest u b clear honest steps (inr x) = inl (halted_here e rest u last (halts_in_fault e (codes "lost55") rest refl x.1) steps)
 
   of_app : (again : Rest) → Again Sd e fell broke last again → (h : Host) (es : List Pair) (c : Card) → h.flags ≡ 0 → IsHonest Sd c h →
-      Halts e es ⊎ Sent Sd e (plain 55 Rca 0) (way (App ∷ []) (first ocr_statement nothing) (otherwise (fails (codes "lost55")))) again fell h es c last → AllowedSteps c es last → OcrOutcome Sd e fell broke last h es c
+      Halts e es ⊎ Sent Sd e (plain 55 Rca 0) (way (App ∷ []) (first ocr_statement nothing) (otherwise (fails (codes "lost55")))) again fell h es c last →
+      AllowedSteps c es last → OcrOutcome Sd e fell broke last h es c
   of_app again later h es c clear honest (inl halt) steps = inl (halted_here e es c last halt steps)
   of_app again later h es c clear honest (inr s) steps =
       let i : Host = host_after Sd (command_at Sd (plain 55 Rca 0) h s.position) (Answered s.answer) h in
@@ -273,7 +289,9 @@ module _ (e : Ending) (fell broke : Rest) (last : Card) where
 
   pub app_turn : Turns Sd e fell broke last app_statement
   app_turn again later h es c clear honest walk steps =
-      of_app again later h es c clear honest (send_part Sd e (plain 55 Rca 0) (way (App ∷ []) (first ocr_statement nothing) (otherwise (fails (codes "lost55")))) again fell h es c last walk steps) steps
+      of_app again later h es c clear honest
+      (send_part Sd e (plain 55 Rca 0)
+      (way (App ∷ []) (first ocr_statement nothing) (otherwise (fails (codes "lost55")))) again fell h es c last walk steps) steps
 
 -- AN e.MMC DEVICE is asked by CMD1
 pub op_cond_turn : (e : Ending) (fell broke : Rest) (last : Card) → Turns Emmc e fell broke last op_cond_statement

@@ -58,7 +58,8 @@ clean_ways : (k : Kind) (order : Order) (name : List ℕ) (o : Option Order) →
     WaysFit (batch_names k) (record { braces = 1; loops = 0 }) o (only_if (Clean ∷ []) name)
 clean_ways k order name o is fits short = rw is (fits, omega arith, tt, (omega arith, (short, tt)))
 
-read_many_fits : (k : Kind) (block count : ℕ) → IsSmall block count → StatementFits (batch_names k) start (send (counted_command 18 block count) (only_if (Clean ∷ []) (codes "read")))
+read_many_fits : (k : Kind) (block count : ℕ) → IsSmall block count →
+    StatementFits (batch_names k) start (send (counted_command 18 block count) (only_if (Clean ∷ []) (codes "read")))
 read_many_fits Sd block count small = (
   (refl, small.some, small.most, (omega arith, small.block_small)),
   omega arith,
@@ -70,7 +71,8 @@ read_many_fits Emmc block count small = (
   clean_ways Emmc (ReadMultipleBlock count) (codes "read") _ (read_many_order Emmc count small.some small.most) refl (omega arith),
 )
 
-write_many_fits : (k : Kind) (block count : ℕ) → IsSmall block count → StatementFits (batch_names k) start (send (counted_command 25 block count) (only_if (Clean ∷ []) (codes "write")))
+write_many_fits : (k : Kind) (block count : ℕ) → IsSmall block count →
+    StatementFits (batch_names k) start (send (counted_command 25 block count) (only_if (Clean ∷ []) (codes "write")))
 write_many_fits Sd block count small = (
   (refl, small.some, small.most, (omega arith, small.block_small)),
   omega arith,
@@ -198,8 +200,11 @@ ready_fit Sd rest fit = (if_cond_fits, (app_fits, fit))
 ready_fit Emmc rest fit = (op_cond_fits, fit)
 
 bring_up_fits : (k : Kind) (rest : Statements) → StatementsFit (batch_names k) start rest → StatementsFit (batch_names k) start (bring_up k rest)
-bring_up_fits k rest fit =
-    (idle_fits k, ready_fit k (select_statements (first (capacity_statement k) rest)) (cid_fits k, (rca_fits k, (csd_fits k, (select_fits k, (blen_fits k, (capacity_fits k, fit)))))))
+bring_up_fits k rest fit = (
+  idle_fits k,
+  ready_fit k (select_statements (first (capacity_statement k) rest))
+      (cid_fits k, (rca_fits k, (csd_fits k, (select_fits k, (blen_fits k, (capacity_fits k, fit)))))),
+)
 
 -- no run falls off the end
 

@@ -25,11 +25,13 @@ use Rattle.sdv_block.specs.Serves.{Uncertified, Serves, fault_of_script, fault_o
 
 -- A TEXT without a graph
 
-pub script_fault : (text : List ℕ) (kind : FaultKind) (fault : ScriptFault) → ((kind ≡ ScriptMemory → ⊥) → IsNoScript text) → Uncertified text (fault_of_script kind fault)
+pub script_fault : (text : List ℕ) (kind : FaultKind) (fault : ScriptFault) → ((kind ≡ ScriptMemory → ⊥) → IsNoScript text) →
+    Uncertified text (fault_of_script kind fault)
 script_fault text ScriptMemory fault f = tt
 script_fault text kind fault f = f (λ e. cc)
 
-pub writer_fault : (text : List ℕ) (s : Tree) (fault : CertifyFault) → (shown s).text ≡ text → IsScript (shown s) → RefusedFor s fault → Uncertified text (fault_of_writer fault)
+pub writer_fault : (text : List ℕ) (s : Tree) (fault : CertifyFault) → (shown s).text ≡ text → IsScript (shown s) → RefusedFor s fault →
+    Uncertified text (fault_of_writer fault)
 writer_fault text s WriterMemory same is refused = tt
 writer_fault text s fault same is refused = record { script = s; same = same; is_script = is; refused = refused }
 

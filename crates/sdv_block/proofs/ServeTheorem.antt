@@ -57,7 +57,8 @@ received_of r = refl
 received_is : (es : List Pair) → received es ≡ concat (blocks_read es)
 received_is [] = refl
 received_is (p ∷ es) =
-    ap (λ (bs : List ℕ). bs ++ received es) (received_of p.1) ∙ ap (λ (bs : List ℕ). concat (blocks_in p.1) ++ bs) (received_is es) ∙ sym (concat-append (blocks_in p.1) (blocks_read es))
+    ap (λ (bs : List ℕ). bs ++ received es) (received_of p.1) ∙ ap (λ (bs : List ℕ). concat (blocks_in p.1) ++ bs) (received_is es)
+    ∙ sym (concat-append (blocks_in p.1) (blocks_read es))
 
 module _ (k : Kind) (rs : List Request) (g : Flow) (is : IsScript (batch_script k rs)) (of : IsGraphOfText (batch_script k rs).text g) where
   abbrev same_tree : (of.script.names ≡ batch_names k) × (of.script.body ≡ batch_body k (greatest_end rs) rs)
@@ -75,13 +76,15 @@ module _ (k : Kind) (rs : List Request) (g : Flow) (is : IsScript (batch_script 
   served_by : {S : Type 0} (steps : Steps S) (card : S → Option Card) (most : ℕ) (end : End) (w w' : World S) (c : Card) → ShowsStart card k w.port c →
       (ran : Ended steps g end w w') → OnCard card most (ending_of end) ran.events c w'.port → ServedOver card rs (ending_of end) c w w'
   served_by steps card most end w w' c start ran b =
-      let s : ServedBatch rs (ending_of end) ran.events c b.last = batch_served k rs most (ending_of end) ran.events c b.last start.kind start.start (walk_of (ending_of end) ran.events ran.walk) b.steps b.good in
+      let s : ServedBatch rs (ending_of end) ran.events c b.last =
+      batch_served k rs most (ending_of end) ran.events c b.last start.kind start.start (walk_of (ending_of end) ran.events ran.walk) b.steps b.good in
       record {
         last = b.last;
         shown = b.shown;
         read = blocks_read ran.events;
         output = subst (λ bytes. Appends w.out w'.out bytes) (received_is ran.events) ran.output;
-        ends = subst (λ input. EndsAs (ending_of end) (disk_of b.last w'.input (blocks_read ran.events)) (after_batch rs (disk_of c input []))) (sym ran.happened.input) (s.ends w'.input);
+        ends = subst (λ input. EndsAs (ending_of end) (disk_of b.last w'.input (blocks_read ran.events)) (after_batch rs (disk_of c input [])))
+            (sym ran.happened.input) (s.ends w'.input);
         outside = s.outside;
         beyond = s.beyond;
       }
@@ -89,7 +92,8 @@ module _ (k : Kind) (rs : List Request) (g : Flow) (is : IsScript (batch_script 
   kept_by : {S : Type 0} (steps : Steps S) (card : S → Option Card) (most : ℕ) (fault : RunFault) (w w' : World S) (c : Card) → ShowsStart card k w.port c →
       (ran : Stopped steps g fault w w') → OnCard card most Open ran.events c w'.port → KeptOver card rs c w'
   kept_by steps card most fault w w' c start ran b =
-      let s : ServedBatch rs Open ran.events c b.last = batch_served k rs most Open ran.events c b.last start.kind start.start (walk_of Open ran.events ran.walk) b.steps b.good in
+      let s : ServedBatch rs Open ran.events c b.last =
+      batch_served k rs most Open ran.events c b.last start.kind start.start (walk_of Open ran.events ran.walk) b.steps b.good in
       record { last = b.last; shown = b.shown; outside = s.outside }
 
   -- the kind of the card is that of the graph

@@ -25,16 +25,18 @@ ends_early : (e : Ending) (reached served : Disk) → IsEarly e → HasRead reac
 ends_early Finished reached served early h = absurd early
 ends_early e reached served early h = h
 
-not_early : (e : Ending) → IsEarly e → e ≡ Finished → ⊥
+pub not_early : (e : Ending) → IsEarly e → e ≡ Finished → ⊥
 not_early e early is = subst (λ v. IsEarly v) is early
 
 read_nothing : (output read : List Block) → read ≡ [] → output ≡ output ++ read
 read_nothing output read e = rw e (sym (append-nil output))
 
-pub halted_early : (rs : List Request) (e : Ending) (es : List Pair) (c last : Card) → IsEarly e → blocks_read es ≡ [] → SameOutside rs c.contents last.contents → Served rs e es c last
+pub halted_early : (rs : List Request) (e : Ending) (es : List Pair) (c last : Card) → IsEarly e → blocks_read es ≡ [] →
+    SameOutside rs c.contents last.contents → Served rs e es c last
 halted_early rs e es c last early read outside = record {
   ends = λ left output. ends_early e (disk_of last left (output ++ blocks_read es)) (after_batch rs (disk_of c (given es ++ left) output)) early
-      (subst (λ o. HasRead o (after_batch rs (disk_of c (given es ++ left) output))) (read_nothing output (blocks_read es) read) (grows rs (disk_of c (given es ++ left) output)));
+      (subst (λ o. HasRead o (after_batch rs (disk_of c (given es ++ left) output))) (read_nothing output (blocks_read es) read)
+      (grows rs (disk_of c (given es ++ left) output)));
   over = inr early;
   all = λ is. absurd (not_early e early is);
   outside = outside;
@@ -45,7 +47,8 @@ halted_early rs e es c last early read outside = record {
 done_by : (e : Ending) (es : List Pair) (c last : Card) → es ≡ [] → e ≡ Finished → c ≡ last → Served [] e es c last
 done_by e es c last none is same = record {
   ends = λ left output. subst (λ e. EndsAs e (disk_of last left (output ++ blocks_read es)) (disk_of c (given es ++ left) output)) (sym is)
-      (same_disk c.contents last.contents (given es ++ left) left output (output ++ blocks_read es) (ap (λ (x : Card). x.contents) same) (ap (λ (es : List Pair). given es ++ left) none) (read_nothing output (blocks_read es) (ap blocks_read none)));
+      (same_disk c.contents last.contents (given es ++ left) left output (output ++ blocks_read es) (ap (λ (x : Card). x.contents) same)
+      (ap (λ (es : List Pair). given es ++ left) none) (read_nothing output (blocks_read es) (ap blocks_read none)));
   over = inl is;
   all = λ is left output. tt;
   outside = same_outside [] c.contents last.contents (ap (λ (x : Card). x.contents) same);
@@ -71,12 +74,15 @@ record Step (r : Request) (es front rest : List Pair) (c u : Card) : Type 0 wher
   now : (left output : List Block) → after_request r (disk_of c (given es ++ left) output) ≡ disk_of u (given rest ++ left) (output ++ blocks_read front)
   outside : (block : ℕ) → writes r block ≡ false → slice_get u.contents block ≡ slice_get c.contents block
 
-and_then : (r : Request) (rs : List Request) (e : Ending) (es front rest : List Pair) (c u last : Card) → Step r es front rest c u → Served rs e rest u last → Served (r ∷ rs) e es c last
+and_then : (r : Request) (rs : List Request) (e : Ending) (es front rest : List Pair) (c u last : Card) → Step r es front rest c u → Served rs e rest u last →
+    Served (r ∷ rs) e es c last
 and_then r rs e es front rest c u last step s = record {
   ends = λ left output. (
       let d = disk_of c (given es ++ left) output in
       let reached : disk_of last left ((output ++ blocks_read front) ++ blocks_read rest) ≡ disk_of last left (output ++ blocks_read es) =
-      ap (λ (o : List Block). disk_of last left o) (append_assoc output (blocks_read front) (blocks_read rest) ∙ ap (λ (bs : List Block). output ++ bs) (sym (ap blocks_read step.split ∙ blocks_read-append front rest))) in
+      ap (λ (o : List Block). disk_of last left o)
+      (append_assoc output (blocks_read front) (blocks_read rest)
+      ∙ ap (λ (bs : List Block). output ++ bs) (sym (ap blocks_read step.split ∙ blocks_read-append front rest))) in
       let served : after_batch rs (disk_of u (given rest ++ left) (output ++ blocks_read front)) ≡ after_batch (r ∷ rs) d =
       ap (λ (d : Disk). after_batch rs d) (sym (step.now left output)) ∙ sym (first_served r rs d (step.can left output)) in
       subst (λ x. EndsAs e x (after_batch (r ∷ rs) d)) reached
@@ -87,7 +93,8 @@ and_then r rs e es front rest c u last step s = record {
 }
 
 -- blocks that were read
-read_step : (block count : ℕ) (es front rest : List Pair) (c u : Card) (h : Host) → AreBlocks c.capacity c.contents → es ≡ front ++ rest → ReadBlocks block count c front u h →
+read_step : (block count : ℕ) (es front rest : List Pair) (c u : Card) (h : Host) → AreBlocks c.capacity c.contents → es ≡ front ++ rest →
+    ReadBlocks block count c front u h →
     Step (Read block count) es front rest c u
 read_step block count es front rest c u h blocks split did = record {
   split = split;
@@ -99,16 +106,19 @@ read_step block count es front rest c u h blocks split did = record {
 }
 
 -- blocks that were written
-write_step : (block count : ℕ) (es front rest : List Pair) (c u : Card) (h : Host) → AreBlocks c.capacity c.contents → es ≡ front ++ rest → Wrote block count c front u h →
+write_step : (block count : ℕ) (es front rest : List Pair) (c u : Card) (h : Host) → AreBlocks c.capacity c.contents → es ≡ front ++ rest →
+    Wrote block count c front u h →
     Step (Write block count) es front rest c u
 write_step block count es front rest c u h blocks split did = record {
   split = split;
   can = λ left output.
       both_true _ _ (le-leb (block + count) (length c.contents) (subst (λ n. block + count ≤ n) (sym blocks.size) did.room))
       (le-leb count (length (given es ++ left)) (enough left));
-  now = λ left output. same_disk (with_blocks block (take count (given es ++ left)) c.contents) u.contents (drop count (given es ++ left)) (given rest ++ left) output
+  now = λ left output. same_disk (with_blocks block (take count (given es ++ left)) c.contents) u.contents (drop count (given es ++ left))
+      (given rest ++ left) output
       (output ++ blocks_read front)
-      (ap (λ (bs : List Block). with_blocks block bs c.contents) (taken left) ∙ sym did.wrote.contents) (dropped left) (read_nothing output (blocks_read front) did.wrote.read);
+      (ap (λ (bs : List Block). with_blocks block bs c.contents) (taken left) ∙ sym did.wrote.contents) (dropped left)
+      (read_nothing output (blocks_read front) did.wrote.read);
   outside = λ i other. same_at block count i c.contents u.contents did.wrote.outside other;
 }
   where
@@ -132,13 +142,15 @@ write_step block count es front rest c u h blocks split did = record {
     dropped left = ap (λ (bs : List Block). drop count bs) (input left) ∙ drop_all_of count new (given rest ++ left) did.wrote.size
 
 -- A WALK THAT HALTED after it had read the blocks of a request
-halted_reading : (block count : ℕ) (rs : List Request) (e : Ending) (es : List Pair) (c last : Card) → AreBlocks c.capacity c.contents → HaltedRead block count e es c last →
+halted_reading : (block count : ℕ) (rs : List Request) (e : Ending) (es : List Pair) (c last : Card) → AreBlocks c.capacity c.contents →
+    HaltedRead block count e es c last →
     Served (Read block count ∷ rs) e es c last
 halted_reading block count rs e es c last blocks q = record {
   ends = λ left output. (
       let d = disk_of c (given es ++ left) output in
       let can : can_serve d (Read block count) ≡ true = le-leb (block + count) (length c.contents) (subst (λ n. block + count ≤ n) (sym blocks.size) q.room) in
-      let more : HasRead (output ++ take count (drop block c.contents)) (after_batch rs (after_request (Read block count) d)) = grows rs (after_request (Read block count) d) in
+      let more : HasRead (output ++ take count (drop block c.contents)) (after_batch rs (after_request (Read block count) d)) =
+      grows rs (after_request (Read block count) d) in
       ends_early e (disk_of last left (output ++ blocks_read es)) (after_batch (Read block count ∷ rs) d) q.early
       (subst (λ served. HasRead (output ++ blocks_read es) served) (sym (first_served (Read block count) rs d can))
       (subst (λ (bs : List Block). HasRead (output ++ bs) (after_batch rs (after_request (Read block count) d))) (sym q.read) more)));
@@ -151,7 +163,8 @@ halted_reading block count rs e es c last blocks q = record {
 
 module _ (k : Kind) (e : Ending) (last : Card) (fell broke : Rest) where
   abbrev Serves : List Request → Type 0
-  Serves rs = (h : Host) (es : List Pair) (c : Card) → AreBlocks c.capacity c.contents → walk_statements k e (batch_statements rs) fell broke h es → AllowedSteps c es last →
+  Serves rs = (h : Host) (es : List Pair) (c : Card) → AreBlocks c.capacity c.contents → walk_statements k e (batch_statements rs) fell broke h es →
+      AllowedSteps c es last →
       Served rs e es c last
 
   -- what comes after a request
@@ -159,7 +172,8 @@ module _ (k : Kind) (e : Ending) (last : Card) (fell broke : Rest) where
   others rs = walk_statements k e (batch_statements rs) fell broke
 
   of_read : (block count : ℕ) (rs : List Request) → Serves rs → (es : List Pair) (c : Card) → AreBlocks c.capacity c.contents →
-      HaltedQuiet e es c last ⊎ (HaltedRead block count e es c last ⊎ Past (ReadBlocks block count c) (others rs) es last) → Served (Read block count ∷ rs) e es c last
+      HaltedQuiet e es c last ⊎ (HaltedRead block count e es c last ⊎ Past (ReadBlocks block count c) (others rs) es last) →
+      Served (Read block count ∷ rs) e es c last
   of_read block count rs later es c blocks (inl q) =
       halted_early (Read block count ∷ rs) e es c last q.early q.read (same_outside (Read block count ∷ rs) c.contents last.contents q.contents)
   of_read block count rs later es c blocks (inr (inl q)) = halted_reading block count rs e es c last blocks q
@@ -178,7 +192,8 @@ module _ (k : Kind) (e : Ending) (last : Card) (fell broke : Rest) where
 
   pub serves : (rs : List Request) → Serves rs
   serves [] h es c b (inl s) steps =
-      let q = halted_here e es c last (halts e Open es tt s) steps in halted_early [] e es c last q.early q.read (same_outside [] c.contents last.contents q.contents)
+      let q = halted_here e es c last (halts e Open es tt s) steps in
+      halted_early [] e es c last q.early q.read (same_outside [] c.contents last.contents q.contents)
   serves [] h es c b (inr s) steps = done_by e es c last s.0 s.1 (subst (λ es. AllowedSteps c es last) s.0 steps)
   serves (Read block count ∷ rs) h es c b walk steps =
       of_read block count rs (serves rs) es c b (read_part k e block count (batch_statements rs) fell broke h es c last walk steps)

@@ -24,7 +24,8 @@ abbrev pub QuietOutcome : Rest → Ending → Host → List Pair → (c last : C
 QuietOutcome after e h es c last = HaltedQuiet e es c last ⊎ Past (Quiet c h) after es last
 
 -- a quiet part after another
-pub quiet_then : (next after : Rest) (e : Ending) (h : Host) (es : List Pair) (c last : Card) (w : Past (Quiet c h) next es last) → QuietOutcome after e w.host w.rest w.card last →
+pub quiet_then : (next after : Rest) (e : Ending) (h : Host) (es : List Pair) (c last : Card) (w : Past (Quiet c h) next es last) →
+    QuietOutcome after e w.host w.rest w.card last →
     QuietOutcome after e h es c last
 quiet_then next after e h es c last w (inl halt) = inl (halted_later e es w.front w.rest c w.card last h w.host w.split w.did halt)
 quiet_then next after e h es c last w (inr r) = inr (past_both next after es last w r (quiet_both c w.card r.card h w.host r.host w.front r.front w.did r.did))
@@ -72,7 +73,8 @@ module _ (k : Kind) (e : Ending) (fell broke : Rest) where
     broken : (s : SentStatus) → Stops e Open s.rest ⊎ fell (after s) s.rest → QuietOutcome fell e h es c last
     broken s (inl stop) =
         inl (halted_later e es (asked k e status_command status_ways status_keeps again fell h es c last s ∷ []) s.rest c s.after last h (after s) s.same
-        (quiet_command k e status_command status_ways status_keeps again fell h es c last s) (halted_here e s.rest s.after last (halts e Open s.rest tt stop) s.steps))
+        (quiet_command k e status_command status_ways status_keeps again fell h es c last s)
+        (halted_here e s.rest s.after last (halts e Open s.rest tt stop) s.steps))
     broken s (inr on) = inr (past_command s fell on)
 
     -- another turn, or the fault
@@ -98,12 +100,14 @@ module _ (k : Kind) (e : Ending) (fell broke : Rest) where
     turn later steps (inl halt) = inl (halted_here e es c last halt steps)
     turn later steps (inr s) = by_answer s later (either (Broken s) (Unbroken s) (passes_in_tran s) s.on)
 
-  pub poll_part : (n : ℕ) (last : Card) (h : Host) (es : List Pair) (c : Card) → rounds e n body other h es → AllowedSteps c es last → QuietOutcome fell e h es c last
+  pub poll_part : (n : ℕ) (last : Card) (h : Host) (es : List Pair) (c : Card) → rounds e n body other h es → AllowedSteps c es last →
+      QuietOutcome fell e h es c last
   poll_part zero last h es c (inl s) steps = inl (halted_here e es c last (halts e Open es tt s) steps)
   poll_part zero last h es c (inr w) steps = inl (halted_here e es c last (halts_in_fault e (codes "read") es refl w) steps)
   poll_part (suc n) last h es c (inl s) steps = inl (halted_here e es c last (halts e Open es tt s) steps)
   poll_part (suc n) last h es c (inr w) steps =
-      turn (rounds e n body other) h es c last (poll_part n last) steps (send_part k e status_command status_ways (rounds e n body other) fell h es c last w steps)
+      turn (rounds e n body other) h es c last (poll_part n last) steps
+      (send_part k e status_command status_ways (rounds e n body other) fell h es c last w steps)
 
 -- AFTER A READ
 
@@ -156,7 +160,8 @@ module _ (k : Kind) (e : Ending) (rest : Statements) (fell broke : Rest) (h : Ho
     steps = w.steps;
   })
 
-  stopped_write_part : walk_statements k e (first (send stop_command (only_if (Clean ∷ []) (codes "write"))) rest) fell broke h es → AllowedSteps c es last → KeptOutcome
+  stopped_write_part : walk_statements k e (first (send stop_command (only_if (Clean ∷ []) (codes "write"))) rest) fell broke h es → AllowedSteps c es last →
+      KeptOutcome
   stopped_write_part walk steps = of_stopped_write (asked_part k e stop_command (Clean ∷ []) (codes "write") stop_keeps refl on broke h es c last walk steps)
 
   pub stop_writing_part : (count : ℕ) → walk_statements k e (stop_writing count rest) fell broke h es → AllowedSteps c es last → KeptOutcome

@@ -33,7 +33,8 @@ module _ (k : Kind) (e : Ending) (fell broke : Rest) where
   abbrev WaitOutcome : Host → List Pair → (c last : Card) → Type 0
   WaitOutcome h es c last = HaltedQuiet e es c last ⊎ Past (ErrorKept c h) fell es last
 
-  waited : (c v : Card) (h : Host) (returned : Return) → Step AwaitReady c returned v → ErrorKept c h ((AwaitReady, returned) ∷ []) v (host_after k AwaitReady returned h)
+  waited : (c v : Card) (h : Host) (returned : Return) → Step AwaitReady c returned v →
+      ErrorKept c h ((AwaitReady, returned) ∷ []) v (host_after k AwaitReady returned h)
   waited c v h (Waited end) step = record {
     quiet = record {
       same = steps_keep_same c.kind AwaitReady c (Waited end) v refl step;
@@ -47,7 +48,8 @@ module _ (k : Kind) (e : Ending) (fell broke : Rest) where
   waited c v h returned step = absurd step
 
   -- one more turn before what came of the others
-  one_more : (c v last : Card) (h : Host) (returned : Return) (es rest : List Pair) → es ≡ (AwaitReady, returned) ∷ rest → Step AwaitReady c returned v → host_after k AwaitReady returned h ≡ h →
+  one_more : (c v last : Card) (h : Host) (returned : Return) (es rest : List Pair) → es ≡ (AwaitReady, returned) ∷ rest → Step AwaitReady c returned v →
+      host_after k AwaitReady returned h ≡ h →
       WaitOutcome h rest v last → WaitOutcome h es c last
   one_more c v last h returned es rest same step host (inl halt) =
       inl (halted_later e es ((AwaitReady, returned) ∷ []) rest c v last h (host_after k AwaitReady returned h) same (waited c v h returned step).quiet halt)
@@ -60,18 +62,22 @@ module _ (k : Kind) (e : Ending) (fell broke : Rest) where
         host = r.host;
         split = same ∙ ap (λ (es : List Pair). (AwaitReady, returned) ∷ es) r.split;
         did = record {
-          quiet = quiet_both c v r.card h h r.host ((AwaitReady, returned) ∷ []) r.front (record { same = w.quiet.same; contents = w.quiet.contents; read = w.quiet.read; gave = w.quiet.gave; flags = refl }) r.did.quiet;
+          quiet = quiet_both c v r.card h h r.host ((AwaitReady, returned) ∷ []) r.front
+              (record { same = w.quiet.same; contents = w.quiet.contents; read = w.quiet.read; gave = w.quiet.gave; flags = refl }) r.did.quiet;
           error = w.error ∙ r.did.error;
         };
         on = r.on;
         steps = r.steps;
       })
 
-  turn : (again : Rest) (h : Host) (es : List Pair) (c last : Card) → ((es : List Pair) (c : Card) → again h es → AllowedSteps c es last → WaitOutcome h es c last) →
+  turn : (again : Rest) (h : Host) (es : List Pair) (c last : Card) →
+      ((es : List Pair) (c : Card) → again h es → AllowedSteps c es last → WaitOutcome h es c last) →
       (returned : Return) (rest : List Pair) (v : Card) → es ≡ (AwaitReady, returned) ∷ rest → Step AwaitReady c returned v →
-      after_phase k e (first break nothing) nothing again fell returned (host_after k AwaitReady returned h) rest → AllowedSteps v rest last → WaitOutcome h es c last
+      after_phase k e (first break nothing) nothing again fell returned (host_after k AwaitReady returned h) rest → AllowedSteps v rest last →
+      WaitOutcome h es c last
   turn again h es c last later (Waited Over) rest v same step (inl s) steps =
-      inl (halted_later e es ((AwaitReady, Waited Over) ∷ []) rest c v last h h same (waited c v h (Waited Over) step).quiet (halted_here e rest v last (halts e Open rest tt s) steps))
+      inl (halted_later e es ((AwaitReady, Waited Over) ∷ []) rest c v last h h same (waited c v h (Waited Over) step).quiet
+      (halted_here e rest v last (halts e Open rest tt s) steps))
   turn again h es c last later (Waited Over) rest v same step (inr on) steps = inr (record {
     front = (AwaitReady, Waited Over) ∷ [];
     rest = rest;
@@ -85,8 +91,10 @@ module _ (k : Kind) (e : Ending) (fell broke : Rest) where
   turn again h es c last later (Waited Late) rest v same step on steps = one_more c v last h (Waited Late) es rest same step refl (later rest v on steps)
   turn again h es c last later returned rest v same step on steps = absurd step
 
-  turn_part : (again : Rest) (h : Host) (es : List Pair) (c last : Card) → ((es : List Pair) (c : Card) → again h es → AllowedSteps c es last → WaitOutcome h es c last) →
-      AllowedSteps c es last → Halts e es ⊎ Acted k (exactly AwaitReady) h (after_phase k e (first break nothing) nothing again fell) es c last → WaitOutcome h es c last
+  turn_part : (again : Rest) (h : Host) (es : List Pair) (c last : Card) →
+      ((es : List Pair) (c : Card) → again h es → AllowedSteps c es last → WaitOutcome h es c last) →
+      AllowedSteps c es last → Halts e es ⊎ Acted k (exactly AwaitReady) h (after_phase k e (first break nothing) nothing again fell) es c last →
+      WaitOutcome h es c last
   turn_part again h es c last later steps (inl halt) = inl (halted_here e es c last halt steps)
   turn_part again h es c last later steps (inr a) =
       let m = made k AwaitReady h (after_phase k e (first break nothing) nothing again fell) es c last a in

@@ -42,7 +42,8 @@ abbrev pub Outcome : (least : ℕ) → List Request → Ending → List Pair →
 Outcome least rs e es c last = HaltedQuiet e es c last ⊎ (Refused least e es c last ⊎ Serves least rs e es c last)
 
 -- what was served from a card with the same blocks was served from the card itself
-later_served : (rs : List Request) (e : Ending) (es front rest : List Pair) (c u last : Card) → es ≡ front ++ rest → blocks_read front ≡ [] → given front ≡ [] → c.contents ≡ u.contents → Served rs e rest u last → Served rs e es c last
+later_served : (rs : List Request) (e : Ending) (es front rest : List Pair) (c u last : Card) → es ≡ front ++ rest → blocks_read front ≡ [] → given front ≡ [] →
+    c.contents ≡ u.contents → Served rs e rest u last → Served rs e es c last
 later_served rs e es front rest c u last split read gave contents s = record {
   ends = λ left output.
       subst (λ r. EndsAs e (disk_of last left (output ++ r)) (after_batch rs (disk_of c (given es ++ left) output))) (sym read_is)
@@ -59,7 +60,8 @@ later_served rs e es front rest c u last split read gave contents s = record {
     given_is = ap given split ∙ (given-append front rest ∙ ap (λ (bs : List Block). bs ++ given rest) gave)
 
     same : (left output : List Block) → disk_of u (given rest ++ left) output ≡ disk_of c (given es ++ left) output
-    same left output = same_disk u.contents c.contents (given rest ++ left) (given es ++ left) output output (sym contents) (ap (λ (bs : List Block). bs ++ left) (sym given_is)) refl
+    same left output = same_disk u.contents c.contents (given rest ++ left) (given es ++ left) output output (sym contents)
+        (ap (λ (bs : List Block). bs ++ left) (sym given_is)) refl
 
 module _ (k : Kind) (e : Ending) (least : ℕ) (rs : List Request) (fell broke : Rest) (h : Host) (es : List Pair) (c last : Card) where
   abbrev tested : Statements
@@ -82,7 +84,8 @@ module _ (k : Kind) (e : Ending) (least : ℕ) (rs : List Request) (fell broke :
     gave = ap given w.split ∙ gave_none w.front w.rest w.did.gave halt.gave;
   }
 
-  after_test : (w : Ready) → Halts e w.rest ⊎ (TooSmall e least (number w.host 0) w.rest ⊎ Enough on_requests least (number w.host 0) w.host w.rest) → Outcome least rs e es c last
+  after_test : (w : Ready) → Halts e w.rest ⊎ (TooSmall e least (number w.host 0) w.rest ⊎ Enough on_requests least (number w.host 0) w.host w.rest) →
+      Outcome least rs e es c last
   after_test w (inl halt) = inl (halted_after w (halted_here e w.rest w.card last halt w.steps))
   after_test w (inr (inl x)) = inr (inl (record {
     is = x.is;
@@ -133,14 +136,19 @@ module _ (k : Kind) (e : Ending) (least : ℕ) (rs : List Request) (fell broke :
   after_unit : h.numbers ≡ 0 ∷ [] → HaltedQuiet e es c last ⊎ Found → Outcome least rs e es c last
   after_unit numbers (inl halt) = inl halt
   after_unit numbers (inr w) =
-      after_capacity (then_capacity w (capacity_part e on_tested broke last k w.host w.rest w.card w.did.honest (w.did.numbers ∙ numbers) w.did.unit w.on w.steps))
+      after_capacity (then_capacity w
+      (capacity_part e on_tested broke last k w.host w.rest w.card w.did.honest (w.did.numbers ∙ numbers) w.did.unit w.on w.steps))
 
-  pub batch_part : h.numbers ≡ 0 ∷ [] → h.flags ≡ 0 → IsHonest k c h → walk_statements k e (batch_body k least rs) fell broke h es → AllowedSteps c es last → Outcome least rs e es c last
-  batch_part numbers clear honest walk steps = after_unit numbers (unit_part k e fell broke last (first (capacity_statement k) tested) h es c clear honest walk steps)
+  pub batch_part : h.numbers ≡ 0 ∷ [] → h.flags ≡ 0 → IsHonest k c h → walk_statements k e (batch_body k least rs) fell broke h es → AllowedSteps c es last →
+      Outcome least rs e es c last
+  batch_part numbers clear honest walk steps =
+      after_unit numbers (unit_part k e fell broke last (first (capacity_statement k) tested) h es c clear honest walk steps)
 
 -- every walk of the whole script beside a card of the profile
-pub batch_walk : (k : Kind) (e : Ending) (least : ℕ) (rs : List Request) (es : List Pair) (c last : Card) → k ≡ c.kind → IsAtStart c → Walk k (batch_names k) (batch_body k least rs) e es → AllowedSteps c es last →
+pub batch_walk : (k : Kind) (e : Ending) (least : ℕ) (rs : List Request) (es : List Pair) (c last : Card) → k ≡ c.kind → IsAtStart c →
+    Walk k (batch_names k) (batch_body k least rs) e es → AllowedSteps c es last →
     Outcome least rs e es c last
 batch_walk k e least rs es c last kind start walk steps =
     let s = starts_hold k c 1 kind start in
-    batch_part k e least rs (after_all e Fell) (after_all e Broke) (host_at_start 1) es c last refl refl (record { pair = s.pair; profile = start.profile; sound = s.sound }) walk steps
+    batch_part k e least rs (after_all e Fell) (after_all e Broke) (host_at_start 1) es c last refl refl
+    (record { pair = s.pair; profile = start.profile; sound = s.sound }) walk steps

@@ -60,9 +60,11 @@ module _ (k : Kind) (e : Ending) (rest : Statements) (fell broke : Rest) where
   of_stopped h es c last (inl halt) = inl halt
   of_stopped h es c last (inr w) = shown_later settling on_settled e h es c last w (settle_part w.host w.rest w.card last w.on w.steps)
 
-  pub stop_and_settle_part : (count : ℕ) (h : Host) (es : List Pair) (c last : Card) → walk_statements k e (stop_writing count (settle_statements rest)) fell broke h es → AllowedSteps c es last →
+  pub stop_and_settle_part : (count : ℕ) (h : Host) (es : List Pair) (c last : Card) →
+      walk_statements k e (stop_writing count (settle_statements rest)) fell broke h es → AllowedSteps c es last →
       SettledOutcome h es c last
-  stop_and_settle_part count h es c last walk steps = of_stopped h es c last (stop_writing_part k e (settle_statements rest) fell broke h es c last count walk steps)
+  stop_and_settle_part count h es c last walk steps =
+      of_stopped h es c last (stop_writing_part k e (settle_statements rest) fell broke h es c last count walk steps)
 
 -- GIVING THE BLOCKS, and all that comes after it
 
@@ -78,14 +80,16 @@ pub record WroteBlocks (block count : ℕ) (c : Card) (front : List Pair) (u : C
   pub blocks : AreBlocks c.capacity u.contents
 
 -- no error is left, so the blocks were stored
-surely_stored : (block count : ℕ) (u : Card) (new : List Block) → (take count (drop block u.contents) ≡ new) ⊎ (true ≡ u.doubt) → u.doubt ≡ false → take count (drop block u.contents) ≡ new
+surely_stored : (block count : ℕ) (u : Card) (new : List Block) → (take count (drop block u.contents) ≡ new) ⊎ (true ≡ u.doubt) → u.doubt ≡ false →
+    take count (drop block u.contents) ≡ new
 surely_stored block count u new (inl s) e = s
 surely_stored block count u new (inr d) e = absurd (let f : true ≡ false = d ∙ e in cc)
 
 gave_then : (f g : List Pair) (new : List Block) → given f ≡ new → given g ≡ [] → given (f ++ g) ≡ new
 gave_then f g new p q = given-append f g ∙ (ap (λ (bs : List Block). bs ++ given g) p ∙ (ap (λ (bs : List Block). new ++ bs) q ∙ append-nil new))
 
-module _ (k : Kind) (e : Ending) (block count : ℕ) (rest : Statements) (fell broke : Rest) (h : Host) (es : List Pair) (c last : Card) (announced : count ≡ c.announced) (next : block ≡ c.next_block) where
+module _ (k : Kind) (e : Ending) (block count : ℕ) (rest : Statements) (fell broke : Rest) (h : Host) (es : List Pair) (c last : Card)
+    (announced : count ≡ c.announced) (next : block ≡ c.next_block) where
   abbrev on_stored : Rest
   on_stored = walk_statements k e rest fell broke
 
@@ -95,7 +99,8 @@ module _ (k : Kind) (e : Ending) (block count : ℕ) (rest : Statements) (fell b
   abbrev StoredOutcome : Type 0
   StoredOutcome = HaltedWriting block count e es c last ⊎ Past (WroteBlocks block count c) on_stored es last
 
-  of_settled : (w : Past (Gave block count c h) stopping es last) → HaltedQuiet e w.rest w.card last ⊎ Past (ShownClean w.card w.host) on_stored w.rest last → StoredOutcome
+  of_settled : (w : Past (Gave block count c h) stopping es last) → HaltedQuiet e w.rest w.card last ⊎ Past (ShownClean w.card w.host) on_stored w.rest last →
+      StoredOutcome
   of_settled w (inl halt) = inl (record {
     early = halt.early;
     outside = same_but_then block count c.contents w.card.contents last.contents w.did.outside halt.contents;
@@ -119,7 +124,8 @@ module _ (k : Kind) (e : Ending) (block count : ℕ) (rest : Statements) (fell b
   of_gave (inl halt) = inl halt
   of_gave (inr w) = of_settled w (stop_and_settle_part k e rest fell broke count w.host w.rest w.card last w.on w.steps)
 
-  pub store_part : walk_statements k e (first (phase phases.GiveBlocks nothing (fails (codes "write"))) (stop_writing count (settle_statements rest))) fell broke h es →
+  pub store_part : walk_statements k e
+      (first (phase phases.GiveBlocks nothing (fails (codes "write"))) (stop_writing count (settle_statements rest))) fell broke h es →
       AllowedSteps c es last → StoredOutcome
   store_part walk steps = of_gave (give_part k e block count stopping broke h es c last announced next walk steps)
 
@@ -143,7 +149,8 @@ module _ (k : Kind) (e : Ending) (block count : ℕ) (rest : Statements) (fell b
   abbrev AskedWrite : Type 0
   AskedWrite = Past (Asked k (write_command block count) (Clean ∷ []) c h) giving es last
 
-  of_stored : (w : AskedWrite) → block + count ≤ c.capacity → HaltedWriting block count e w.rest w.card last ⊎ Past (WroteBlocks block count w.card) on w.rest last → Outcome
+  of_stored : (w : AskedWrite) → block + count ≤ c.capacity →
+      HaltedWriting block count e w.rest w.card last ⊎ Past (WroteBlocks block count w.card) on w.rest last → Outcome
   of_stored w room (inl halt) = inl (record {
     early = halt.early;
     outside = subst (λ bs. SameBut block count bs last.contents) (sym w.did.quiet.contents) halt.outside;
@@ -167,12 +174,15 @@ module _ (k : Kind) (e : Ending) (block count : ℕ) (rest : Statements) (fell b
   of_asked (inl halt) = inl (halted_quietly block count e es c last halt)
   of_asked (inr w) =
       let argument : ℕ = argument_at k (write_command block count) h w.did.position in
-      let begun : Begun count argument c w.card = write_begun k count argument c w.card w.did.answer (and_left _ _ w.did.passed) w.did.allowed.legal w.did.sends in
+      let begun : Begun count argument c w.card =
+      write_begun k count argument c w.card w.did.answer (and_left _ _ w.did.passed) w.did.allowed.legal w.did.sends in
       let is = position_is h block w.did.position w.did.sent_at in
       let bounds = write_within count w.did.position argument c w.did.allowed.bounds in
-      let at : block ≡ w.card.next_block = sym (named c.block_unit w.card.block_unit block w.did.position argument is begun.same.block_unit bounds.unit) ∙ begun.block in
+      let at : block ≡ w.card.next_block = sym (named c.block_unit w.card.block_unit block w.did.position argument is begun.same.block_unit bounds.unit)
+      ∙ begun.block in
       of_stored w (named_within c block count w.did.position argument is bounds)
       (store_part k e block count rest fell broke w.host w.rest w.card last begun.count_is at w.on w.steps)
 
   pub write_part : walk_statements k e (write_statements block count rest) fell broke h es → AllowedSteps c es last → Outcome
-  write_part walk steps = of_asked (asked_part k e (write_command block count) (Clean ∷ []) (codes "write") (write_keeps count) refl giving broke h es c last walk steps)
+  write_part walk steps = of_asked
+      (asked_part k e (write_command block count) (Clean ∷ []) (codes "write") (write_keeps count) refl giving broke h es c last walk steps)

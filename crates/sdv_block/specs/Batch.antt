@@ -25,7 +25,9 @@ keeps_limits s = nat_le (length s.text) max_bytes && nat_le (statements_count s.
 abbrev pub batch_refusal : Kind → List Request → Option BlockFault
 batch_refusal k [] = Some Empty
 batch_refusal k (r ∷ rs) =
-    if list_all is_in_range (r ∷ rs) then (if keeps_limits (batch_script k (r ∷ rs)) then None else Some Limit) else Some Range
+    if list_all is_in_range (r ∷ rs)
+    then (if keeps_limits (batch_script k (r ∷ rs)) then None else Some Limit)
+    else Some Range
 
 -- A text grew by lines; or with them it is too long for a script, whatever comes after; or memory was refused.
 abbrev pub Grows : (old new : List ℕ) → Result (Unit {0}) BlockFault → (lines : List ℕ → List ℕ) → Type 0

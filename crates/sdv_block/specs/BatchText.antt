@@ -37,7 +37,8 @@ ready_text Emmc others =
 
 abbrev pub capacity_text : Kind → List ℕ
 capacity_text Sd = codes "let cap = csd.blocks"
-capacity_text Emmc = codes "if hc { send 8 { clean { recv reg { ok { let cap = ext.blocks } else { fault ext } } } else { fault ext } } } else { let cap = csd.blocks }"
+capacity_text Emmc =
+    codes "if hc { send 8 { clean { recv reg { ok { let cap = ext.blocks } else { fault ext } } } else { fault ext } } } else { let cap = csd.blocks }"
 
 abbrev pub select_text : List ℕ → List ℕ
 select_text others =

@@ -1,7 +1,7 @@
 -- The STATEMENTS before the requests: a card is brought up, its capacity is read, and a disk that is too small for the
 -- batch is refused.
--- SD Physical Layer Simplified Specification, sections 4.2.3 (initialization) and 4.3 (selection); JESD84-B51, sections 6.4
--- (device identification mode) and 7.4 (extended CSD register).
+-- SD Physical Layer Simplified Specification, sections 4.2.3 (initialization) and 4.3 (selection); JESD84-B51, sections
+-- 6.4 (device identification mode) and 7.4 (extended CSD register).
 use Rattle.std.specs.Prelude.{ℕ, List, [], ◌∷◌, None, codes}
 use Rattle.sdv_registers.specs.declared.kind.Kind.{Kind}
 use Rattle.sdv_registers.specs.declared.kind.Kind.TheVariants.{Sd, Emmc}
@@ -45,7 +45,8 @@ ocr_statement = send (plain 41 Plain 0x40ff8000) (ocr_ways (codes "lost41"))
 
 -- send 55 { app { send 41 .. } else { fault lost55 } }
 abbrev pub app_statement : Statement
-app_statement = send (plain 55 Rca 0) (way (App ∷ []) (first ocr_statement nothing) (otherwise (fails (codes "lost55"))))
+app_statement =
+    send (plain 55 Rca 0) (way (App ∷ []) (first ocr_statement nothing) (otherwise (fails (codes "lost55"))))
 
 -- send 1 { .. else { fault lost1 } }
 abbrev pub op_cond_statement : Statement
@@ -68,13 +69,16 @@ cap_from atom = record { target = 0; atom = atom; change = changes.Same }
 abbrev pub ext_csd_statement : Statement
 ext_csd_statement =
     send (plain 8 Plain 0) (
-    way (Clean ∷ []) (first (phase phases.ReceiveRegister (first (setting (cap_from atoms.ExtBlocks)) nothing) (fails (codes "ext"))) nothing) (
+    way (Clean ∷ []) (first
+    (phase phases.ReceiveRegister (first (setting (cap_from atoms.ExtBlocks)) nothing) (fails (codes "ext")))
+    nothing) (
     otherwise (fails (codes "ext"))))
 
 -- an SD card tells its capacity by its CSD, an e.MMC device that counts blocks by its EXT_CSD
 abbrev pub capacity_statement : Kind → Statement
 capacity_statement Sd = setting (cap_from atoms.CsdBlocks)
-capacity_statement Emmc = choice (conditions.Flag 0) (first ext_csd_statement nothing) (first (setting (cap_from atoms.CsdBlocks)) nothing)
+capacity_statement Emmc =
+    choice (conditions.Flag 0) (first ext_csd_statement nothing) (first (setting (cap_from atoms.CsdBlocks)) nothing)
 
 -- the card is identified and selected, and its block length is 512
 abbrev pub select_statements : Statements → Statements

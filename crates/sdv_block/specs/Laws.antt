@@ -15,9 +15,11 @@ use Rattle.sdv_block.specs.Served.{ServedBatch}
 -- the text of a batch that is not refused is a script, and one that is refused for its limits is none
 pub record BatchesAreScripts : Type 0 where
   pub script : (k : Kind) (rs : List Request) → batch_refusal k rs ≡ None → IsScript (batch_script k rs)
-  pub none : (k : Kind) (rs : List Request) → batch_refusal k rs ≡ Some Limit → (s : Parsed) → s.text ≡ (batch_script k rs).text → IsScript s → ⊥
+  pub none : (k : Kind) (rs : List Request) → batch_refusal k rs ≡ Some Limit → (s : Parsed) →
+      s.text ≡ (batch_script k rs).text → IsScript s → ⊥
 
 -- every walk of it beside a card of the profile, whose events are legal and in bounds, does what a plain disk does
 abbrev pub BatchesServe : Type 0
-BatchesServe = (k : Kind) (rs : List Request) (most : ℕ) (e : Ending) (es : List Pair) (c last : Card) → k ≡ c.kind → IsAtStart c →
-    Walk k (batch_script k rs).names (batch_script k rs).body e es → StepsOf c es last → IsGood most e es c → ServedBatch rs e es c last
+BatchesServe = (k : Kind) (rs : List Request) (most : ℕ) (e : Ending) (es : List Pair) (c last : Card) →
+    k ≡ c.kind → IsAtStart c → Walk k (batch_script k rs).names (batch_script k rs).body e es →
+    StepsOf c es last → IsGood most e es c → ServedBatch rs e es c last

@@ -1,5 +1,6 @@
 -- The STATEMENTS of a batch: each request as a script's text asks it.
--- SD Physical Layer Simplified Specification, sections 4.3.3 (data read) and 4.3.4 (data write); JESD84-B51, section 6.6.
+-- SD Physical Layer Simplified Specification, sections 4.3.3 (data read) and 4.3.4 (data write);
+-- JESD84-B51, section 6.6.
 use Rattle.std.specs.Prelude.{ℕ, zero, suc, List, [], ◌∷◌, Some, None, codes}
 use Rattle.sdv_card.specs.declared.event.Aim.TheVariants.{Plain, Rca}
 use Rattle.sdv_card.specs.declared.event.Ask.{Ask}

@@ -34,7 +34,8 @@ IsEarly e = ⊥
 abbrev pub disk_of : Card → (input output : List Block) → Disk
 disk_of c input output = record { blocks = c.contents; input = input; output = output }
 
--- The walk ended in `done`, and reached what the plain disk reaches; or it ended earlier, and read no more than that disk.
+-- The walk ended in `done`, and reached what the plain disk reaches; or it ended earlier, and read
+-- no more than that disk.
 abbrev pub EndsAs : Ending → (reached served : Disk) → Type 0
 EndsAs Finished reached served = served ≡ reached
 EndsAs e reached served = HasRead reached.output served
@@ -54,7 +55,8 @@ pub record Served (rs : List Request) (e : Ending) (es : List Pair) (c last : Ca
 -- A walk of a whole batch, from a card before its first command to another.
 pub record ServedBatch (rs : List Request) (e : Ending) (es : List Pair) (c last : Card) : Type 0 where
   -- whatever is left of the input
-  pub ends : (left : List Block) → EndsAs e (disk_of last left (blocks_read es)) (after_batch rs (disk_of c (given es ++ left) []))
+  pub ends : (left : List Block) →
+      EndsAs e (disk_of last left (blocks_read es)) (after_batch rs (disk_of c (given es ++ left) []))
   pub outside : SameOutside rs c.contents last.contents
   -- in the fault `beyond` only where a request passes the end of the disk
   pub beyond : e ≡ Failed (codes "beyond") → c.capacity < greatest_end rs

@@ -10,7 +10,8 @@ use Rattle.sdv_block.specs.declared.request.Request.{Request}
 use Rattle.sdv_block.specs.Disk.{after_batch, SameOutside, greatest_end}
 use Rattle.sdv_block.specs.Served.{disk_of, EndsAs}
 
-pub record ServedOver {S : Type 0} (card : S → Option Card) (rs : List Request) (e : Ending) (c : Card) (w w' : World S) : Type 0 where
+pub record ServedOver {S : Type 0} (card : S → Option Card) (rs : List Request) (e : Ending) (c : Card)
+    (w w' : World S) : Type 0 where
   -- the card that the port shows in the end
   pub last : Card
   pub shown : Shows card w'.port last

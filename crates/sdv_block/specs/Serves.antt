@@ -30,16 +30,19 @@ use Rattle.sdv_block.specs.Batch.{batch_refusal}
 use Rattle.sdv_block.specs.BatchText.{batch_script}
 use Rattle.sdv_block.specs.ServedOver.{ServedOver, KeptOver}
 
--- A whole run of the text: its events, its output and its trace, with this end. Over a port that shows a card of the profile,
--- of the kind, before its first command, it served the requests as a plain disk does.
-pub record RanWhole {S : Type 0} (steps : Steps S) (card : S → Option Card) (k : Kind) (rs : List Request) (end : End) (w w' : World S) : Type 0 where
+-- A whole run of the text: its events, its output and its trace, with this end. Over a port that shows a card of the
+-- profile, of the kind, before its first command, it served the requests as a plain disk does.
+pub record RanWhole {S : Type 0} (steps : Steps S) (card : S → Option Card) (k : Kind) (rs : List Request) (end : End)
+    (w w' : World S) : Type 0 where
   pub graph : Flow
   pub of_text : IsGraphOfText (batch_script k rs).text graph
   pub ran : Ended steps graph end w w'
   pub served : (c : Card) → ShowsStart card k w.port c → ∥ ServedOver card rs (ending_of end) c w w' ∥₁
 
--- An open run of the text, for this reason. Over such a port no answer is refused, and no block changed that no request writes.
-pub record RanOpen {S : Type 0} (steps : Steps S) (card : S → Option Card) (k : Kind) (rs : List Request) (fault : RunFault) (w w' : World S) : Type 0 where
+-- An open run of the text, for this reason. Over such a port no answer is refused, and no block
+-- changed that no request writes.
+pub record RanOpen {S : Type 0} (steps : Steps S) (card : S → Option Card) (k : Kind) (rs : List Request)
+    (fault : RunFault) (w w' : World S) : Type 0 where
   pub graph : Flow
   pub of_text : IsGraphOfText (batch_script k rs).text graph
   pub ran : Stopped steps graph fault w w'
@@ -86,7 +89,8 @@ Unserved k rs (Run fault) = ⊥
 Unserved k rs Memory = Unit {0}
 Unserved k rs fault = batch_refusal k rs ≡ Some fault
 
-abbrev pub Serves : {S : Type 0} → Steps S → (S → Option Card) → Kind → List Request → (w w' : World S) → Result End BlockFault → Type 0
+abbrev pub Serves : {S : Type 0} → Steps S → (S → Option Card) → Kind → List Request → (w w' : World S) →
+    Result End BlockFault → Type 0
 Serves steps card k rs w w' (Ok end) = RanWhole steps card k rs end w w'
 Serves steps card k rs w w' (Err (Run fault)) = RanOpen steps card k rs fault w w'
 Serves steps card k rs w w' (Err fault) = Unserved k rs fault × (w' ≡ w)

@@ -61,8 +61,8 @@ fn script_text(alloc: Global, kind: Kind, requests: &[Request]) -> Result<String
 }
 
 /// The script that serves requests to a card of a kind: it brings the card up, refuses one that is too small, and then
-/// reads and writes, in the order of the requests: one block by a single-block command, several by a multiple-block command
-/// that is stopped.
+/// reads and writes, in the order of the requests: one block by a single-block command, several by a multiple-block
+/// command that is stopped.
 ///
 /// # Errors
 ///

@@ -1,3 +1,5 @@
+//! Why requests are not served.
+
 ghost use Rattle.std.specs.Prelude.{◌≡◌};
 ghost use Rattle.sdv_block.specs.declared.fault.BlockFault.TheVariants.{Memory};
 

@@ -114,8 +114,8 @@ fn push_counted(
     count: u64,
     lines: &str,
 ) -> Result<(), AllocError>
-    ensures { IfOk result (λ _. string_bytes text.new
-        ≡ string_bytes text.old ++ (words.now ++ (decimal block ++ (codes " count " ++ (decimal count ++ lines.now))))) }
+    ensures { IfOk result (λ _. string_bytes text.new ≡ string_bytes text.old
+        ++ (words.now ++ (decimal block ++ (codes " count " ++ (decimal count ++ lines.now))))) }
 {
     push_single(text, words, block, " count ")?;
     push_number(text, count)?;

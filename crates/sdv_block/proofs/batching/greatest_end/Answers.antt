@@ -9,7 +9,8 @@ end-requires c = in_range_at c.args.requests.now c.loop-request.request-index (R
 pub loop-request-preserved : goal.loop-request-preserved
 loop-request-preserved c =
     let is : c.max-greatest.result ≡ max c.loop-request.greatest c.end.result = search rules in
-    greatest_more c.args.requests.now c.loop-request.request-index (Read 0 0) c.loop-request.greatest c.end.result c.max-greatest.result is c.end.ensures (omega arith) c.loop-request.invariant
+    greatest_more c.args.requests.now c.loop-request.request-index (Read 0 0) c.loop-request.greatest c.end.result c.max-greatest.result is c.end.ensures
+    (omega arith) c.loop-request.invariant
 
 pub returns : goal.returns
 returns c = greatest_last c.args.requests.now c.loop-request.request-index c.loop-request.greatest (omega arith) c.loop-request.invariant

@@ -34,4 +34,5 @@ returns-in_err-short_enough c =
 
 pub returns : goal.returns
 returns c =
-    all_listed c.args.requests.now c.loop-request.request-index (string_bytes c.args.text.now) (string_bytes c.loop-request.text) (omega arith) c.loop-request.invariant
+    all_listed c.args.requests.now c.loop-request.request-index (string_bytes c.args.text.now) (string_bytes c.loop-request.text)
+    (omega arith) c.loop-request.invariant

@@ -12,4 +12,5 @@ returns-in-Err-certify-clause-refused c =
 -- the certificate is closed
 pub returns-clause-refused : goal.returns-clause-refused
 returns-clause-refused c =
-    absurd (no_fault c.in-Ok-graph.graph _ c.in-Err-check.fault (c.in-Ok-certify.ensures.closed c.in-Ok-graph.graph c.in-Ok-graph.ensures) c.in-Err-check.ensures.checked)
+    absurd (no_fault c.in-Ok-graph.graph _ c.in-Err-check.fault
+    (c.in-Ok-certify.ensures.closed c.in-Ok-graph.graph c.in-Ok-graph.ensures) c.in-Err-check.ensures.checked)
