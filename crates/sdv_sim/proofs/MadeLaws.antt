@@ -1,5 +1,5 @@
 -- A new simulated card is one of the profile, where its image shows its blocks.
-use Rattle.std.proofs.Common.{◌≡◌, ℕ, ◌<◌, ◌^◌, List, Option, Some, refl, sym, subst}
+use Rattle.std.proofs.Common.{◌≡◌, ℕ, ◌<◌, ◌^◌, List, Option, Some, subst}
 use Rattle.sdv_image.specs.Images.{AreSized}
 use Rattle.sdv_card.specs.Card.{Block, IsRegister, AreBlocks}
 use Rattle.sdv_card.specs.Profile.{IsAtStart}

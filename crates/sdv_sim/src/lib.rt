@@ -1,7 +1,7 @@
 //! Simulated cards of SD and e.MMC over images: a `Sim` is a wire with a card behind it.
 //!
-//! What a `Sim` does at each call is `SimSteps` of `sdv_behavior`, by the value that its schedule has for the event. Begin
-//! at `specs/Made.antt`, which says what card a new `Sim` is.
+//! What a `Sim` does at each call is `SimSteps` of `sdv_behavior`, by the value that its schedule has for the event.
+//! Begin at `specs/Made.antt`, which says what card a new `Sim` is.
 #![tactic(auto)]
 
 mod making;

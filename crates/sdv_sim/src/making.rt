@@ -1,3 +1,5 @@
+//! New simulated cards.
+
 ghost use Rattle.std.specs.Prelude.{◌≡◌, ◌<◌, ◌^◌, length, All, MatchResult};
 ghost use Rattle.sdv_card.specs.Card.{IsByte, IsRegister};
 ghost use Rattle.sdv_behavior.specs.Schedules.{are_codes};
@@ -35,13 +37,13 @@ fn registers_fit(csd: &[u8; 15], sectors: u32) -> usize
 }
 
 impl<I: Image + Drop> Sim<I> {
-    /// A card of a description before its first command, over an image of its blocks, with the values of a schedule, one
-    /// for each event. Later calls take no memory.
+    /// A card of a description before its first command, over an image of its blocks, with the values of a schedule,
+    /// one for each event. Later calls take no memory.
     ///
     /// # Errors
     ///
-    /// [`SimFault::Description`] where a value of the schedule is above 6, [`SimFault::ImageLength`] where the image has
-    /// not as many blocks as the card, [`SimFault::ImageRead`] where its first block cannot be read, and
+    /// [`SimFault::Description`] where a value of the schedule is above 6, [`SimFault::ImageLength`] where the image
+    /// has not as many blocks as the card, [`SimFault::ImageRead`] where its first block cannot be read, and
     /// [`SimFault::Memory`]: the first of them. The image is dropped then, its blocks unchanged.
     pub fn new(alloc: Global, desc: CardDesc, image: I, schedule: &[u8]) -> Result<Sim<I>, SimFault>
         ensures { MatchResult result

@@ -1,3 +1,5 @@
+//! The schedule of a simulated card.
+
 ghost use Rattle.std.specs.Prelude.{◌≡◌, Some, true, IfOk, map};
 ghost use Rattle.sdv_behavior.specs.Schedules.{are_codes, behavior_of_code, first_behavior, later_behaviors};
 

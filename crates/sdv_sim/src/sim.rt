@@ -1,3 +1,5 @@
+//! A simulated card, and the state of it that contracts see.
+
 ghost use Rattle.std.specs.Prelude.{◌≡◌};
 
 use crate::schedule::Schedule;

@@ -1,3 +1,5 @@
+//! A simulated card is a wire.
+
 ghost use Rattle.std.specs.Prelude.{◌≡◌, IfSome};
 ghost use Rattle.sdv_frames.specs.Frame.{HasIndex};
 ghost use Rattle.sdv_behavior.specs.SimSteps.{SimSteps, card_shown, heard_of, Goes, BlocksLeft};
@@ -19,7 +21,8 @@ impl<I: Image> Sim<I> {
     fn react(&mut self, command: Command) -> Option<Reply>
         ensures goes { Goes (heard_of (state_of self.old) command).after (state_of self.old) (state_of self.new) }
         ensures reply { result ≡ (heard_of (state_of self.old) command).reply }
-        ensures blocks { BlocksLeft (heard_of (state_of self.old) command).erases (state_of self.old) (state_of self.new) }
+        ensures blocks { BlocksLeft (heard_of (state_of self.old) command).erases
+            (state_of self.old) (state_of self.new) }
         ensures index { IfSome result HasIndex }
     {
         let behavior = self.schedule.advance();

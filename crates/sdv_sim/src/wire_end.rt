@@ -1,3 +1,5 @@
+//! What goes back over a wire: the frame of a response, or silence.
+
 ghost use Rattle.std.specs.Prelude.{IfSome};
 ghost use Rattle.sdv_frames.specs.Frame.{HasIndex};
 ghost use Rattle.sdv_behavior.specs.SimSteps.{Gives};

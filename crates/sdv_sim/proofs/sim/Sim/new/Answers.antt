@@ -18,5 +18,6 @@ returns-in-Ok g c =
       card = c.at_start.ensures;
       behaviors = c.in-Ok.ensures;
       blocks = c.read_block.ensures.same;
-      start = starts c.args.desc (g.I.Image.size c.args.image) (g.I.Image.blocks c.args.image) fit.csd fit.sectors c.len.ensures.blocks (sym c.len.ensures.size ∙ c.if-len-desc.false);
+      start = starts c.args.desc (g.I.Image.size c.args.image) (g.I.Image.blocks c.args.image) fit.csd fit.sectors c.len.ensures.blocks
+          (sym c.len.ensures.size ∙ c.if-len-desc.false);
     }
