@@ -1,3 +1,5 @@
+//! A file of which one call fails.
+
 ghost use Rattle.std.specs.Prelude.{◌≡◌, ◌<◌, ◌≤◌, ◌/◌, ◌∷◌, [], IsErr, OnOk, OnErr};
 ghost use Rattle.sdv_image.specs.Images.{HasFailed, Shown, OnlyAt, AreSized};
 

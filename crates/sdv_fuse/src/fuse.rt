@@ -1,3 +1,5 @@
+//! Which call fails.
+
 ghost use Rattle.std.specs.Prelude.{◌≡◌, ◌↔◌, IsTrue};
 
 /// A call that may fail.

@@ -1,5 +1,5 @@
 -- Bytes that a writer is known to hold: one text after another.
-use Rattle.std.proofs.Common.{◌≡◌, ℕ, suc, ◌+◌, ◌-◌, ◌≤◌, ◌<◌, List, [], ◌∷◌, ◌++◌, length, Option, Some, None, take, drop, sym, ap, ◌∙◌, append_assoc, arith, length-drop, length-append, subst, get_or, drop-cons, add-one, flat_map}
+use Rattle.std.proofs.Common.{◌≡◌, ℕ, suc, ◌+◌, ◌-◌, ◌≤◌, ◌<◌, List, [], ◌∷◌, ◌++◌, length, Option, Some, None, take, drop, sym, ap, ◌∙◌, append_assoc, arith, length-drop, length-append, subst, get_or, drop-cons, flat_map}
 use Rattle.std.proofs.lemmas.List.{append-nil, take_all, take-append-drop, take_more}
 use Rattle.std.proofs.lemmas.List.Concat.{flat_map-append, flat_map-cons}
 use Rattle.std.proofs.Common.{Result, Ok, Err}
@@ -38,7 +38,8 @@ then_more (Err f) old mid new a b p q = part_after old mid new a b p q
 pub rest_split : (n : ℕ) (bs w rest : List ℕ) → n ≤ length rest → bs ≡ w ++ rest → bs ≡ (w ++ take n rest) ++ take (length rest - n) (drop n rest)
 rest_split n bs w rest le e =
     let all : take (length rest - n) (drop n rest) ≡ drop n rest = take_all (length rest - n) (drop n rest) (omega (arith, length-drop n rest)) in
-    e ∙ ap (λ l. w ++ l) (sym (take-append-drop n rest) ∙ ap (λ l. take n rest ++ l) (sym all)) ∙ sym (append_assoc w (take n rest) (take (length rest - n) (drop n rest)))
+    e ∙ ap (λ l. w ++ l) (sym (take-append-drop n rest) ∙ ap (λ l. take n rest ++ l) (sym all))
+    ∙ sym (append_assoc w (take n rest) (take (length rest - n) (drop n rest)))
 
 -- TEXTS one after another: those before a place, that at the place, and those after it
 

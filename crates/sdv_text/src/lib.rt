@@ -1,7 +1,7 @@
 //! Texts that go out whole, or in part where the writer fails.
 //!
-//! `specs/Written.antt` says what a writer then holds. Whatever prints here, scripts, certificates, traces and the lines of
-//! the program, is said in its words.
+//! `specs/Written.antt` says what a writer then holds. Whatever prints here, scripts, certificates, traces and the
+//! lines of the program, is said in its words.
 #![tactic(auto)]
 
 ghost use Rattle.std.specs.Prelude.{flat_map};
@@ -13,8 +13,8 @@ use std::io::{Error, ErrorKind, Write};
 ///
 /// # Errors
 ///
-/// The writer's error, or [`ErrorKind::WriteZero`] where it takes no byte. Then a part of the text is written, and not all
-/// of it.
+/// The writer's error, or [`ErrorKind::WriteZero`] where it takes no byte. Then a part of the text
+/// is written, and not all of it.
 pub fn write_text<W: Write>(out: &mut W, text: &[u8]) -> Result<(), Error>
     ensures { Writes (W.contents out.old) (W.contents out.new) result text.now }
 {
