@@ -19,7 +19,8 @@ pub shown_none : (first : ℕ) (b : Option (List Block)) → Shown first [] b
 shown_none first None = tt
 shown_none first (Some all) = refl
 
-pub shown_more : (first : ℕ) (xs : List Block) (x : Block) (b : Option (List Block)) → Shown first xs b → Shown (first + length xs) (x ∷ []) b → Shown first (xs ++ x ∷ []) b
+pub shown_more : (first : ℕ) (xs : List Block) (x : Block) (b : Option (List Block)) → Shown first xs b → Shown (first + length xs) (x ∷ []) b →
+    Shown first (xs ++ x ∷ []) b
 shown_more first xs x None h k = tt
 shown_more first xs x (Some all) h k =
     ap (λ l. l ++ x ∷ []) h ∙ (ap (λ l. take (length xs) (drop first all) ++ l) k
@@ -28,7 +29,8 @@ shown_more first xs x (Some all) h k =
 
 -- A WRITE BEHIND what was written
 
-pub kept_front : {A : Type 0} → (first n : ℕ) (old new : List A) → take (first + n) old ≡ take (first + n) new → take n (drop first old) ≡ take n (drop first new)
+pub kept_front : {A : Type 0} → (first n : ℕ) (old new : List A) → take (first + n) old ≡ take (first + n) new →
+    take n (drop first old) ≡ take n (drop first new)
 kept_front first n old new e = sym (drop-take first n old) ∙ (ap (λ l. drop first l) e ∙ drop-take first n new)
 
 pub shown_kept : (first count : ℕ) (xs : List Block) (b c : Option (List Block)) → OnlyAt (first + length xs) count b c → Shown first xs b → Shown first xs c
@@ -54,7 +56,8 @@ further m n old new h e =
     let same : n + (m - n) ≡ m = omega (arith, h) in
     subst (λ k. drop k old ≡ drop k new) same (sym (drop-drop (m - n) n old) ∙ (ap (λ l. drop (m - n) l) e ∙ drop-drop (m - n) n new))
 
-only_both : (first count place : ℕ) (a b c : List Block) → first ≤ place → place + 1 ≤ first + count → OnlyThese first count a b → OnlyThese place 1 b c → OnlyThese first count a c
+only_both : (first count place : ℕ) (a b c : List Block) → first ≤ place → place + 1 ≤ first + count → OnlyThese first count a b → OnlyThese place 1 b c →
+    OnlyThese first count a c
 only_both first count place a b c l r x y = record {
   size = x.size ∙ y.size;
   below = x.below ∙ shorter first place b c l y.below;
@@ -62,7 +65,8 @@ only_both first count place a b c l r x y = record {
 }
 
 -- one more write, within
-pub only_more : (first count place : ℕ) (a b c : Option (List Block)) → first ≤ place → place + 1 ≤ first + count → OnlyAt first count a b → OnlyAt place 1 b c → OnlyAt first count a c
+pub only_more : (first count place : ℕ) (a b c : Option (List Block)) → first ≤ place → place + 1 ≤ first + count → OnlyAt first count a b →
+    OnlyAt place 1 b c → OnlyAt first count a c
 only_more first count place None b c l r x y = subst (λ v. OnlyAt place 1 v c) (sym x) y
 only_more first count place (Some a) b c l r x y = go (subst (λ v. OnlyAt place 1 v c) (sym x.1) y)
   where
@@ -71,18 +75,21 @@ only_more first count place (Some a) b c l r x y = go (subst (λ v. OnlyAt place
 
 -- ONE TURN of a loop over blocks
 
-pub read_more : (first i : ℕ) (blocks : List Block) (b : Block) (shown now : Option (List Block)) → i < length blocks → Shown first (take i blocks) shown → now ≡ shown → Shown (first + i) (b ∷ []) now →
+pub read_more : (first i : ℕ) (blocks : List Block) (b : Block) (shown now : Option (List Block)) → i < length blocks → Shown first (take i blocks) shown →
+    now ≡ shown → Shown (first + i) (b ∷ []) now →
     Shown first (take (i + 1) (set blocks i b)) shown
 read_more first i blocks b shown now within before same k =
     subst (λ l. Shown first l shown) (sym (take_more_set blocks i b within))
     (shown_more first (take i blocks) b shown before
     (subst (λ n. Shown (first + n) (b ∷ []) shown) (sym (length-take-le i blocks (omega (arith, within)))) (subst (λ v. Shown (first + i) (b ∷ []) v) same k)))
 
-pub write_more : (first i : ℕ) (blocks : List Block) (b : Block) (old new : Option (List Block)) → i < length blocks → b ≡ get_or blocks i [] → Shown first (take i blocks) old → OnlyAt (first + i) 1 old new →
+pub write_more : (first i : ℕ) (blocks : List Block) (b : Block) (old new : Option (List Block)) → i < length blocks → b ≡ get_or blocks i [] →
+    Shown first (take i blocks) old → OnlyAt (first + i) 1 old new →
     Shown (first + i) (b ∷ []) new → Shown first (take (i + 1) blocks) new
 write_more first i blocks b old new within is before only k =
     let n : length (take i blocks) ≡ i = length-take-le i blocks (omega (arith, within)) in
-    let one : take (i + 1) blocks ≡ take i blocks ++ b ∷ [] = ap (λ m. take m blocks) (add-one i) ∙ (take-suc blocks i [] within ∙ ap (λ x. take i blocks ++ x ∷ []) (sym is)) in
+    let one : take (i + 1) blocks ≡ take i blocks ++ b ∷ [] =
+    ap (λ m. take m blocks) (add-one i) ∙ (take-suc blocks i [] within ∙ ap (λ x. take i blocks ++ x ∷ []) (sym is)) in
     subst (λ l. Shown first l new) (sym one)
     (shown_more first (take i blocks) b new
     (shown_kept first 1 (take i blocks) old new (subst (λ m. OnlyAt (first + m) 1 old new) (sym n) only) before)
@@ -109,7 +116,8 @@ pub erase_none : (first : ℕ) (b : Option (List Block)) → Shown first (zeros 
 unfolding zeros
 erase_none first b = let none : first - first ≡ 0 = omega arith in subst (λ n. Shown first (zeros n) b) (sym none) (shown_none first b)
 
-pub erase_more : (first place : ℕ) (old new : Option (List Block)) → first ≤ place → Shown first (zeros (place - first)) old → OnlyAt place 1 old new → Shown place (replicate 512 0 ∷ []) new →
+pub erase_more : (first place : ℕ) (old new : Option (List Block)) → first ≤ place → Shown first (zeros (place - first)) old → OnlyAt place 1 old new →
+    Shown place (replicate 512 0 ∷ []) new →
     Shown first (zeros (place + 1 - first)) new
 erase_more first place old new h before only k =
     let n : place ≡ first + length (zeros (place - first)) = let l = length-zeros (place - first) in omega (arith, h, l) in
@@ -124,8 +132,10 @@ le-or-lt zero b = inl (omega arith)
 le-or-lt (suc a) zero = inr (omega arith)
 le-or-lt (suc a) (suc b) = elim (le-or-lt a b) [ inl h ↦ inl (omega (arith, h)) | inr h ↦ inr (omega (arith, h)) ]
 
-pub erase_all : (first end place : ℕ) (b : Option (List Block)) → end ≤ place → (first ≤ end → place ≤ end) → (end < first → place ≡ first) → Shown first (zeros (place - first)) b → Shown first (zeros (end - first)) b
-erase_all first end place b low high none s = subst (λ n. Shown first (zeros n) b) (elim (le-or-lt first end) [ inl l ↦ reached (high l) | inr l ↦ empty l (none l) ]) s
+pub erase_all : (first end place : ℕ) (b : Option (List Block)) → end ≤ place → (first ≤ end → place ≤ end) → (end < first → place ≡ first) →
+    Shown first (zeros (place - first)) b → Shown first (zeros (end - first)) b
+erase_all first end place b low high none s =
+    subst (λ n. Shown first (zeros n) b) (elim (le-or-lt first end) [ inl l ↦ reached (high l) | inr l ↦ empty l (none l) ]) s
   where
     reached : place ≤ end → place - first ≡ end - first
     reached h = omega (arith, h, low)

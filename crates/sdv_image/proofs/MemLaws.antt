@@ -48,7 +48,8 @@ blocks_fit (suc n) bytes h fit =
     (blocks_fit n (drop 512 bytes) (let l = length-drop 512 bytes in omega (arith, h, l)) (All-drop IsByte 512 bytes fit))
 
 -- A BLOCK STORED between a front and a back
-module _ (start : ℕ) (block old new : List ℕ) (size : length block ≡ 512) (room : start + 512 ≤ length old) (e : new ≡ take start old ++ block ++ drop (start + 512) old) where
+module _ (start : ℕ) (block old new : List ℕ) (size : length block ≡ 512) (room : start + 512 ≤ length old)
+    (e : new ≡ take start old ++ block ++ drop (start + 512) old) where
   front_size : length (take start old) ≡ start
   front_size = length-take-le start old (omega (arith, room))
 
@@ -56,25 +57,32 @@ module _ (start : ℕ) (block old new : List ℕ) (size : length block ≡ 512) 
   both = e ∙ append_assoc (take start old) block (drop (start + 512) old)
 
   pub front_is : take start new ≡ take start old
-  front_is = ap (λ l. take start l) both ∙ subst (λ k. take k (take start old ++ (block ++ drop (start + 512) old)) ≡ take start old) front_size (take-append_seam (take start old) (block ++ drop (start + 512) old))
+  front_is = ap (λ l. take start l) both
+      ∙ subst (λ k. take k (take start old ++ (block ++ drop (start + 512) old)) ≡ take start old) front_size
+      (take-append_seam (take start old) (block ++ drop (start + 512) old))
 
   rest_is : drop start new ≡ block ++ drop (start + 512) old
-  rest_is = ap (λ l. drop start l) both ∙ subst (λ k. drop k (take start old ++ (block ++ drop (start + 512) old)) ≡ block ++ drop (start + 512) old) front_size (drop-append_seam (take start old) (block ++ drop (start + 512) old))
+  rest_is = ap (λ l. drop start l) both ∙ subst (λ k. drop k (take start old ++ (block ++ drop (start + 512) old)) ≡ block ++ drop (start + 512) old) front_size
+      (drop-append_seam (take start old) (block ++ drop (start + 512) old))
 
   pub block_is : take 512 (drop start new) ≡ block
   block_is = ap (λ l. take 512 l) rest_is ∙ subst (λ k. take k (block ++ drop (start + 512) old) ≡ block) size (take-append_seam block (drop (start + 512) old))
 
   pub back_is : drop (start + 512) new ≡ drop (start + 512) old
-  back_is = sym (drop-drop 512 start new) ∙ (ap (λ l. drop 512 l) rest_is ∙ subst (λ k. drop k (block ++ drop (start + 512) old) ≡ drop (start + 512) old) size (drop-append_seam block (drop (start + 512) old)))
+  back_is = sym (drop-drop 512 start new)
+      ∙ (ap (λ l. drop 512 l) rest_is
+      ∙ subst (λ k. drop k (block ++ drop (start + 512) old) ≡ drop (start + 512) old) size (drop-append_seam block (drop (start + 512) old)))
 
   pub size_is : length new ≡ length old
-  size_is = ap length e ∙ (length-append (take start old ++ block) (drop (start + 512) old) ∙ sizes (length-append (take start old) block) (length-drop (start + 512) old))
+  size_is = ap length e ∙ (length-append (take start old ++ block) (drop (start + 512) old)
+      ∙ sizes (length-append (take start old) block) (length-drop (start + 512) old))
     where
       sizes : length (take start old ++ block) ≡ length (take start old) + length block → length (drop (start + 512) old) ≡ length old - (start + 512) →
           length (take start old ++ block) + length (drop (start + 512) old) ≡ length old
       sizes a b = let f = front_size in omega (arith, a, b, f, size, room)
 
-pub only_stored : (place n : ℕ) (old new : List ℕ) → take (place * 512) new ≡ take (place * 512) old → drop (place * 512 + 512) new ≡ drop (place * 512 + 512) old → OnlyThese place 1 (blocks_in n old) (blocks_in n new)
+pub only_stored : (place n : ℕ) (old new : List ℕ) → take (place * 512) new ≡ take (place * 512) old →
+    drop (place * 512 + 512) new ≡ drop (place * 512 + 512) old → OnlyThese place 1 (blocks_in n old) (blocks_in n new)
 only_stored place n old new low high = record {
   size = length-blocks_in n old ∙ sym (length-blocks_in n new);
   below = before place n old new (sym low);
@@ -85,7 +93,8 @@ pub all_fit : (bytes : List ℕ) → All IsByte bytes → AreBlocks (length byte
 all_fit bytes fit = record { size = length-blocks_in (length bytes / 512) bytes; blocks_fit = blocks_fit (length bytes / 512) bytes (omega arith) fit }
 
 -- A BLOCK WRITTEN into whole blocks, as a vector gives the slice back
-module _ (place len : ℕ) (block items x : List ℕ) (size : length block ≡ 512) (within : place < length items / 512) (all : len ≡ length items) (e : x ≡ take (place * 512) items ++ block ++ drop (place * 512 + 512) items) where
+module _ (place len : ℕ) (block items x : List ℕ) (size : length block ≡ 512) (within : place < length items / 512) (all : len ≡ length items)
+    (e : x ≡ take (place * 512) items ++ block ++ drop (place * 512 + 512) items) where
   abbrev given_back : List ℕ
   given_back = take len (x ++ drop (length x) items)
 

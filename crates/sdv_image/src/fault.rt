@@ -1,3 +1,5 @@
+//! Why there is no simulated card.
+
 use thiserror::Error;
 
 /// Why there is no simulated card. Of several faults the first in this order is answered.

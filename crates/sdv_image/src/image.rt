@@ -1,3 +1,5 @@
+//! Images, the blocks of a simulated card.
+
 ghost use Rattle.std.specs.Prelude.{◌≡◌, ◌<◌, ◌≤◌, ◌^◌, ◌∷◌, [], ℕ, List, Option, OnOk, OnErr};
 ghost use Rattle.sdv_card.specs.Card.{Block};
 ghost use Rattle.sdv_image.specs.Images.{HasFailed, Shown, OnlyAt, AreSized};
@@ -9,7 +11,7 @@ pub struct ImageFault;
 /// The blocks of a card, of 512 bytes each.
 ///
 /// An image shows its blocks to contracts, or it claims nothing of them, as one over a file of which nobody knows who
-/// else writes it. A call answers a fault only where the count of failures rose in that call, or stands at its greatest.
+/// else writes it. A call answers a fault only where the count of failures rose in it, or stands at its greatest.
 pub trait Image {
     /// How many blocks it has.
     ghost size: { Self → ℕ };

@@ -1,4 +1,4 @@
-//! The blocks of a simulated card: what an image of them is, an image in memory, and loops over the blocks of any image.
+//! The blocks of a simulated card: what an image of them is, one in memory, and loops over the blocks of any image.
 //!
 //! Begin at `Image`, and at `specs/Images.antt`, which says what calls leave of an image's blocks.
 #![tactic(auto)]

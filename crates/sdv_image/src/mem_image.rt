@@ -1,3 +1,5 @@
+//! An image in memory.
+
 ghost use Rattle.std.specs.Prelude.{◌≡◌, ◌%◌, ◌/◌, ◌+◌, ◌≤◌, length, take, drop, All, ◌++◌, Some, MatchResult};
 ghost use Rattle.sdv_card.specs.Card.{IsByte};
 ghost use Rattle.sdv_image.specs.MemBlocks.{bytes_of};

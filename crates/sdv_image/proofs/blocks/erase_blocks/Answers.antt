@@ -6,7 +6,8 @@ pub loop-place-init : goal.loop-place-init
 loop-place-init g c = record { size = refl; count = omega arith; erased = erase_none c.args.first _; others = only_none _ _ _; none = λ h. refl; fit = λ h. h }
 
 pub returns-in_err-write_block-clause-others : goal.returns-in_err-write_block-clause-others
-returns-in_err-write_block-clause-others g c = only_more c.args.first _ c.loop-place.place _ _ _ (omega arith) (omega arith) c.loop-place.invariant.others c.in_err-write_block.ensures.others
+returns-in_err-write_block-clause-others g c =
+    only_more c.args.first _ c.loop-place.place _ _ _ (omega arith) (omega arith) c.loop-place.invariant.others c.in_err-write_block.ensures.others
 
 pub loop-place-preserved : goal.loop-place-preserved
 loop-place-preserved g c =
@@ -22,4 +23,5 @@ loop-place-preserved g c =
     }
 
 pub returns-clause-erased : goal.returns-clause-erased
-returns-clause-erased g c = erase_all c.args.first c.args.end c.loop-place.place _ (omega arith) c.loop-place.auto.place-end c.loop-place.invariant.none c.loop-place.invariant.erased
+returns-clause-erased g c =
+    erase_all c.args.first c.args.end c.loop-place.place _ (omega arith) c.loop-place.auto.place-end c.loop-place.invariant.none c.loop-place.invariant.erased
