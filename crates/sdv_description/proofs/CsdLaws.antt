@@ -1,9 +1,8 @@
 -- The fields of a described CSD, and SEC_COUNT of a described EXT_CSD, read as they were set.
-use Rattle.std.proofs.Common.{◌≡◌, ℕ, zero, suc, ◌+◌, ◌-◌, ◌*◌, ◌/◌, ◌%◌, ◌^◌, ◌<◌, ◌≤◌, List, [], ◌∷◌, ◌++◌, refl, ap, ◌∙◌, arith, lit<, lit≤}
+use Rattle.std.proofs.Common.{◌≡◌, ℕ, zero, suc, ◌/◌, ◌%◌, ◌^◌, ◌<◌, ◌≤◌, List, [], ◌∷◌, refl, ap, ◌∙◌, arith, lit<, lit≤}
 use Rattle.byteorder.specs.Endian.{big_from}
 use Rattle.sdv_frames.specs.Bits.{bits, bits_of, number_of}
 use Rattle.sdv_frames.proofs.BitLaws.{number_of-bits}
-use Rattle.sdv_registers.specs.Field.{field}
 use Rattle.sdv_registers.specs.Csd.{csd_structure, read_bl_len, c_size, c_size_mult}
 use Rattle.sdv_registers.specs.declared.csd.Layout.TheVariants.{Version1, Version2}
 use Rattle.sdv_registers.specs.ExtCsd.{sec_count}
@@ -39,16 +38,20 @@ module _ (s : Size) (is : IsSize s) where
   bytes (suc (suc (suc (suc (suc (suc (suc (suc (suc (suc (suc (suc (suc (suc (suc n))))))))))))))) = lit< tt
 
   pub size_structure : csd_structure (bits_of (byte_csd s)) ≡ 0
-  size_structure = field-bytes 127 127 126 8 15 (byte_csd s) bytes refl refl (lit≤ tt) (lit≤ tt) (lit≤ tt) ∙ (let a = is.c_size in let b = is.c_size_mult in let c = is.most in omega (arith, a, b, c))
+  size_structure = field-bytes 127 127 126 8 15 (byte_csd s) bytes refl refl (lit≤ tt) (lit≤ tt) (lit≤ tt)
+      ∙ (let a = is.c_size in let b = is.c_size_mult in let c = is.most in omega (arith, a, b, c))
 
   pub size_read_bl_len : read_bl_len (bits_of (byte_csd s)) ≡ s.read_bl_len
-  size_read_bl_len = field-bytes 127 83 80 8 15 (byte_csd s) bytes refl refl (lit≤ tt) (lit≤ tt) (lit≤ tt) ∙ (let a = is.c_size in let b = is.c_size_mult in let c = is.most in omega (arith, a, b, c))
+  size_read_bl_len = field-bytes 127 83 80 8 15 (byte_csd s) bytes refl refl (lit≤ tt) (lit≤ tt) (lit≤ tt)
+      ∙ (let a = is.c_size in let b = is.c_size_mult in let c = is.most in omega (arith, a, b, c))
 
   pub size_c_size : c_size Version1 (bits_of (byte_csd s)) ≡ s.c_size
-  size_c_size = field-bytes 127 73 62 8 15 (byte_csd s) bytes refl refl (lit≤ tt) (lit≤ tt) (lit≤ tt) ∙ (let a = is.c_size in let b = is.c_size_mult in let c = is.most in omega (arith, a, b, c))
+  size_c_size = field-bytes 127 73 62 8 15 (byte_csd s) bytes refl refl (lit≤ tt) (lit≤ tt) (lit≤ tt)
+      ∙ (let a = is.c_size in let b = is.c_size_mult in let c = is.most in omega (arith, a, b, c))
 
   pub size_c_size_mult : c_size_mult (bits_of (byte_csd s)) ≡ s.c_size_mult
-  size_c_size_mult = field-bytes 127 49 47 8 15 (byte_csd s) bytes refl refl (lit≤ tt) (lit≤ tt) (lit≤ tt) ∙ (let a = is.c_size in let b = is.c_size_mult in let c = is.most in omega (arith, a, b, c))
+  size_c_size_mult = field-bytes 127 49 47 8 15 (byte_csd s) bytes refl refl (lit≤ tt) (lit≤ tt) (lit≤ tt)
+      ∙ (let a = is.c_size in let b = is.c_size_mult in let c = is.most in omega (arith, a, b, c))
 
 -- VERSION 2
 

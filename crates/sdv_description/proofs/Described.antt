@@ -1,5 +1,5 @@
 -- What holds of every card that a description gives, fact by fact.
-use Rattle.std.proofs.Common.{◌≡◌, ℕ, ◌<◌, ◌≤◌, ◌==◌, ◌&&◌, ◌||◌, not, nat_le, Bool, true, false, None, Some, Option, inl, inr, ◌⊎◌, refl, arith, eqb-true}
+use Rattle.std.proofs.Common.{◌≡◌, ℕ, ◌<◌, ◌≤◌, ◌==◌, ◌||◌, not, nat_le, Bool, true, false, None, Some, Option, inl, inr, refl, arith, eqb-true}
 use Rattle.std.specs.Prelude.{is_none}
 use Rattle.std.proofs.lemmas.Bool.{and_parts, leb-true}
 use Rattle.sdv_frames.specs.Bits.{bits_of}
@@ -30,7 +30,8 @@ length_law true true n e t u = eqb-true n 512 e
 length_law true false n e t u = absurd (let f : false ≡ true = t in cc)
 length_law false fits n e t u = absurd (let f : false ≡ true = u in cc)
 
-version_law : (k : Kind) (version : ℕ) (block_unit is_2 is_1 : Bool) → (version == 2) ≡ is_2 → (version == 1) ≡ is_1 → version_fits k version block_unit ≡ true → VersionFits k version block_unit
+version_law : (k : Kind) (version : ℕ) (block_unit is_2 is_1 : Bool) → (version == 2) ≡ is_2 → (version == 1) ≡ is_1 →
+    version_fits k version block_unit ≡ true → VersionFits k version block_unit
 version_law Emmc version block_unit is_2 is_1 e f t = tt
 version_law Sd version block_unit true is_1 e f t = inl (eqb-true version 2 e)
 version_law Sd version false false true e f t = inr (eqb-true version 1 f, refl)

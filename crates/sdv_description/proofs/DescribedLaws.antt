@@ -1,5 +1,5 @@
 -- What holds of every card that a description gives.
-use Rattle.std.proofs.Common.{◌≡◌, ℕ, ◌+◌, ◌-◌, ◌*◌, ◌%◌, ◌^◌, ◌<◌, ◌≤◌, ◌==◌, ◌&&◌, ◌||◌, not, nat_le, nat_lt, Bool, true, false, List, Result, Ok, Err, None, refl, sym, ap, subst, ◌∙◌, arith, eq-eqb, lit≤}
+use Rattle.std.proofs.Common.{◌≡◌, ℕ, ◌+◌, ◌-◌, ◌*◌, ◌%◌, ◌^◌, ◌<◌, ◌≤◌, ◌==◌, ◌&&◌, ◌||◌, nat_le, nat_lt, Bool, true, false, List, Result, Ok, Err, None, refl, sym, subst, arith, eq-eqb, lit≤}
 use Rattle.std.specs.Prelude.{MatchResult}
 use Rattle.std.proofs.lemmas.Bool.{and_parts, le-leb, leb-true}
 use Rattle.std.proofs.lemmas.Bool.Decides.{nat_tests}
@@ -9,17 +9,16 @@ use Rattle.sdv_frames.specs.Bits.{bits_of}
 use Rattle.sdv_registers.specs.declared.kind.Kind.{Kind}
 use Rattle.sdv_registers.specs.declared.kind.Kind.TheVariants.{Sd, Emmc}
 use Rattle.sdv_registers.specs.Csd.{fault, blocks}
-use Rattle.sdv_card.specs.Profile.{most_blocks, told_blocks}
+use Rattle.sdv_card.specs.Profile.{most_blocks}
 use Rattle.sdv_image.specs.declared.fault.SimFault.{SimFault}
 use Rattle.sdv_image.specs.declared.fault.SimFault.TheVariants as faults
 use Rattle.sdv_description.specs.declared.card_desc.CardDesc.{CardDesc}
 use Rattle.sdv_description.specs.declared.description.Description.{Description}
 use Rattle.sdv_description.specs.declared.description.Size.{Size}
 use Rattle.sdv_description.specs.Grammar.{size_fits, rca_fits, IsTextOf}
-use Rattle.sdv_description.specs.Registers.{byte_csd, block_csd, size_blocks, ext_csd_of}
+use Rattle.sdv_description.specs.Registers.{byte_csd, block_csd, size_blocks}
 use Rattle.sdv_description.specs.Described.{version_fits, is_described, within_capacity}
 use Rattle.sdv_description.specs.Gives.{Gives, Describes, Refuses}
-use Rattle.sdv_description.proofs.Words.{both}
 use Rattle.sdv_description.proofs.CsdLaws.{IsSize, size_structure, size_read_bl_len, size_c_size, size_c_size_mult, block_structure, block_c_size, sectors_read}
 
 pub is_size : (s : Size) → size_fits s ≡ true → IsSize s
@@ -57,7 +56,8 @@ pub some_blocks : (s : Size) → 1 ≤ size_blocks s
 some_blocks s =
     let a : 0 < 2 ^ (s.c_size_mult + 2) = pow_pos (s.c_size_mult + 2) in
     let b : 0 < 2 ^ (s.read_bl_len - 9) = pow_pos (s.read_bl_len - 9) in
-    mul-le 1 1 ((s.c_size + 1) * 2 ^ (s.c_size_mult + 2)) (2 ^ (s.read_bl_len - 9)) (mul-le 1 1 (s.c_size + 1) (2 ^ (s.c_size_mult + 2)) (omega arith) (omega arith)) (omega arith)
+    mul-le 1 1 ((s.c_size + 1) * 2 ^ (s.c_size_mult + 2)) (2 ^ (s.read_bl_len - 9))
+    (mul-le 1 1 (s.c_size + 1) (2 ^ (s.c_size_mult + 2)) (omega arith) (omega arith)) (omega arith)
 
 pub most_size_blocks : (s : Size) → IsSize s → size_blocks s ≤ 2 ^ 23
 most_size_blocks s is =
@@ -74,7 +74,8 @@ shifted n h = let p : 2 ^ n ≤ 2048 = power n 11 h in omega (arith, p)
 
 -- ALL OF IT
 
-all_of : (a b c d e f g h : Bool) → a ≡ true → b ≡ true → c ≡ true → d ≡ true → e ≡ true → f ≡ true → g ≡ true → h ≡ true → (a && b && c && d && e && f && g && h) ≡ true
+all_of : (a b c d e f g h : Bool) → a ≡ true → b ≡ true → c ≡ true → d ≡ true → e ≡ true → f ≡ true → g ≡ true → h ≡ true →
+    (a && b && c && d && e && f && g && h) ≡ true
 all_of a b c d e f g h p0 p1 p2 p3 p4 p5 p6 p7 = rw (p0, p1, p2, p3, p4, p5, p6, p7) refl
 
 pub sd_bytes_described : (version rca : ℕ) (s : Size) → ((version == 1) || (version == 2)) ≡ true → size_fits s ≡ true → rca_fits rca ≡ true →
@@ -84,7 +85,8 @@ sd_bytes_described version rca s known fits addressed =
     let is = is_size s fits in
     let a = and_parts (nat_le 1 rca) (nat_le rca 65535) addressed in
     let read : fault Sd (bits_of (byte_csd s)) ≡ None = size_is_read Sd s is in
-    all_of _ _ _ _ _ _ _ _ a.0 a.1 refl (version_known version known) (le-leb _ _ (some_blocks s)) (le-leb _ _ (most_size_blocks s is)) (rw read refl) (eq-eqb _ _ (size_told Sd s is))
+    all_of _ _ _ _ _ _ _ _ a.0 a.1 refl (version_known version known) (le-leb _ _ (some_blocks s)) (le-leb _ _ (most_size_blocks s is)) (rw read refl)
+    (eq-eqb _ _ (size_told Sd s is))
   where
     version_known : (version : ℕ) → ((version == 1) || (version == 2)) ≡ true → version_fits Sd version false ≡ true
     version_known version e = grind (arith, nat_tests)

@@ -1,5 +1,5 @@
 -- Numbers that are read are those that stand there.
-use Rattle.std.proofs.Common.{◌≡◌, ℕ, suc, ◌+◌, ◌-◌, ◌*◌, ◌^◌, ◌<◌, ◌≤◌, min, Bool, true, false, ◌&&◌, nat_le, nat_lt, List, [], ◌∷◌, ◌++◌, length, take, drop, get_or, Option, Some, inl, inr, refl, sym, ap, subst, ◌∙◌, arith, add-one, one-add, drop-cons, take_at, drop_at, append_assoc}
+use Rattle.std.proofs.Common.{◌≡◌, ℕ, suc, ◌+◌, ◌-◌, ◌*◌, ◌^◌, ◌<◌, ◌≤◌, min, true, ◌&&◌, nat_le, nat_lt, List, [], ◌∷◌, ◌++◌, length, take, drop, get_or, Option, Some, inl, inr, refl, sym, ap, ◌∙◌, arith, add-one, one-add, drop-cons, take_at, drop_at, append_assoc}
 use Rattle.std.specs.List.{prefix_len}
 use Rattle.std.proofs.Math.ListN.{drop_of_length-le}
 use Rattle.std.proofs.lemmas.Bool.{and_parts, le-leb, leb-true}
@@ -21,7 +21,8 @@ capped x y cap [] e = e
 capped x y cap (d ∷ bs) e = capped (x * 10 + (d - 48)) (y * 10 + (d - 48)) cap bs (capped_step (d - 48) x y cap e)
 
 -- one more digit
-pub capped_more : (before value i : ℕ) (digits : List ℕ) → i < length digits → value ≡ min (before * 10 + (get_or digits i 0 - 48)) (2 ^ 32) → min (number_after value (drop (i + 1) digits)) (2 ^ 32) ≡ min (number_after before (drop i digits)) (2 ^ 32)
+pub capped_more : (before value i : ℕ) (digits : List ℕ) → i < length digits → value ≡ min (before * 10 + (get_or digits i 0 - 48)) (2 ^ 32) →
+    min (number_after value (drop (i + 1) digits)) (2 ^ 32) ≡ min (number_after before (drop i digits)) (2 ^ 32)
 unfolding number_after
 capped_more before value i digits lt e =
     rw (add-one, drop-cons digits i 0) (capped value (before * 10 + (get_or digits i 0 - 48)) (2 ^ 32) (drop (suc i) digits) (omega arith))
@@ -69,7 +70,8 @@ figure_of (d ∷ ds) others bs rest n whole all e =
     let p = bind_some (after (10 ∷ []) others) (λ r. Some (number_after 0 (d ∷ ds), r)) (n, rest) t.1 in
     let same : ◌≡◌ {A = ℕ × List ℕ} (number_after 0 (d ∷ ds), p.0) (n, rest) = some_is (number_after 0 (d ∷ ds), p.0) (n, rest) p.2 in
     let value : number_after 0 (d ∷ ds) ≡ n = ap (λ (x : ℕ × List ℕ). x.0) same in
-    let small : number_after 0 (d ∷ ds) ≤ 4294967295 = leb-true _ _ (and_parts (nat_lt 0 (length (d ∷ ds))) (nat_le (number_after 0 (d ∷ ds)) 4294967295) t.0).1 in
+    let small : number_after 0 (d ∷ ds) ≤ 4294967295 =
+    leb-true _ _ (and_parts (nat_lt 0 (length (d ∷ ds))) (nat_le (number_after 0 (d ∷ ds)) 4294967295) t.0).1 in
     let others_are : others ≡ 10 ∷ rest = after_takes (10 ∷ []) others p.0 p.1 ∙ ap (λ (x : ℕ × List ℕ). 10 ∷ x.1) same in
     record {
       digit = d;
@@ -104,12 +106,14 @@ number_small word bs x e =
     let p = bind_some (after word bs) read_figure x e in
     (figure_takes p.0 x p.2).small
 
-figure_again : (d : ℕ) (ds rest : List ℕ) (n : ℕ) → are_digits (d ∷ ds) ≡ true → number_after 0 (d ∷ ds) ≡ n → n ≤ 4294967295 → read_figure ((d ∷ ds) ++ 10 ∷ rest) ≡ Some (n, rest)
+figure_again : (d : ℕ) (ds rest : List ℕ) (n : ℕ) → are_digits (d ∷ ds) ≡ true → number_after 0 (d ∷ ds) ≡ n → n ≤ 4294967295 →
+    read_figure ((d ∷ ds) ++ 10 ∷ rest) ≡ Some (n, rest)
 unfolding read_figure
 figure_again d ds rest n all value small =
     let count : run is_digit ((d ∷ ds) ++ 10 ∷ rest) ≡ length (d ∷ ds) = run_is ((d ∷ ds) ++ 10 ∷ rest) ∙ run_again (d ∷ ds) rest all in
     let fits : nat_le (number_after 0 (d ∷ ds)) 4294967295 ≡ true = le-leb (number_after 0 (d ∷ ds)) 4294967295 (omega (arith, value, small)) in
-    let front : figure (take (run is_digit ((d ∷ ds) ++ 10 ∷ rest)) ((d ∷ ds) ++ 10 ∷ rest)) (drop (run is_digit ((d ∷ ds) ++ 10 ∷ rest)) ((d ∷ ds) ++ 10 ∷ rest)) ≡ figure (d ∷ ds) (10 ∷ rest) =
+    let front : figure (take (run is_digit ((d ∷ ds) ++ 10 ∷ rest)) ((d ∷ ds) ++ 10 ∷ rest))
+    (drop (run is_digit ((d ∷ ds) ++ 10 ∷ rest)) ((d ∷ ds) ++ 10 ∷ rest)) ≡ figure (d ∷ ds) (10 ∷ rest) =
     rw (take_at (d ∷ ds) (10 ∷ rest) _ (sym count), drop_at (d ∷ ds) (10 ∷ rest) _ (sym count)) refl in
     let some : nat_lt 0 (length (d ∷ ds)) ≡ true = grind (arith, nat_tests) in
     front ∙ (rw (some, fits) refl ∙ ap (λ (m : ℕ). Some (m, rest)) value)
@@ -117,7 +121,8 @@ figure_again d ds rest n all value small =
 pub number_again : (word bs rest : List ℕ) (n : ℕ) → n ≤ 4294967295 → NumberLine word n bs rest → read_number (word ++ 32 ∷ []) bs ≡ Some (n, rest)
 unfolding read_number
 number_again word bs rest n small line =
-    let whole : bs ≡ (word ++ 32 ∷ []) ++ (line.digit ∷ (line.digits ++ 10 ∷ rest)) = sym line.same ∙ sym (append_assoc word (32 ∷ []) (line.digit ∷ (line.digits ++ 10 ∷ rest))) in
+    let whole : bs ≡ (word ++ 32 ∷ []) ++ (line.digit ∷ (line.digits ++ 10 ∷ rest)) =
+    sym line.same ∙ sym (append_assoc word (32 ∷ []) (line.digit ∷ (line.digits ++ 10 ∷ rest))) in
     ap (λ (l : List ℕ). after (word ++ 32 ∷ []) l >>= read_figure) whole
     ∙ (ap (λ (r : Option (List ℕ)). r >>= read_figure) (after_again (word ++ 32 ∷ []) (line.digit ∷ (line.digits ++ 10 ∷ rest)))
     ∙ figure_again line.digit line.digits rest n line.are line.value small)

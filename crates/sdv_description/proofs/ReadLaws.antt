@@ -1,30 +1,42 @@
 -- What is read of a text is what it says by its grammar, and what it says is read.
-use Rattle.std.proofs.Common.{◌≡◌, ℕ, ◌≤◌, Bool, true, false, ◌&&◌, ◌||◌, ◌==◌, nat_le, List, [], ◌∷◌, ◌++◌, Option, Some, None, inl, inr, ◌⊎◌, refl, sym, ap, subst, ◌∙◌, arith, lit≤}
+use Rattle.std.proofs.Common.{◌≡◌, ℕ, ◌≤◌, true, ◌&&◌, ◌||◌, ◌==◌, nat_le, List, [], ◌∷◌, ◌++◌, Option, Some, None, refl, sym, ap, subst, ◌∙◌, arith, lit≤}
 use Rattle.std.specs.Prelude.{codes}
-use Rattle.std.proofs.lemmas.Bool.{and_parts, or_parts, le-leb, leb-true, eqb-true}
+use Rattle.std.proofs.lemmas.Bool.{and_parts, le-leb, leb-true, eqb-true}
 use Rattle.std.proofs.lemmas.Bool.Decides.{nat_tests}
 use Rattle.sdv_description.specs.declared.description.Size.{Size}
 use Rattle.sdv_description.specs.declared.description.Description.{Description}
 use Rattle.sdv_description.specs.declared.description.Description.TheVariants.{SdBytes, SdBlocks, EmmcBytes, EmmcBlocks}
-use Rattle.sdv_description.specs.Grammar.{Line, Words, Number, NumberLine, HasLines, size_lines, lines_of, size_fits, rca_fits, in_ranges, IsTextOf}
-use Rattle.sdv_description.specs.Reading.{◌>>=◌, or_else, read_line, read_number, size_if, read_size, rca_if, read_rca, sd_bytes_if, read_sd_bytes, sd_blocks_if, read_sd_blocks, read_sd, read_emmc_bytes, read_emmc_blocks, read_emmc, read_description, is_end}
+use Rattle.sdv_description.specs.Grammar.{Line, Number, NumberLine, HasLines, size_lines, lines_of, size_fits, rca_fits, IsTextOf}
+use Rattle.sdv_description.specs.Reading.{◌>>=◌, or_else, read_line, read_number, read_size, read_rca, read_sd_bytes, read_sd_blocks, read_sd, read_emmc_bytes, read_emmc_blocks, read_emmc, read_description, is_end}
 use Rattle.sdv_description.proofs.Words.{bind_some, some_is, tested, both, ends, line_takes, line_again}
 use Rattle.sdv_description.proofs.Numbers.{number_takes, number_small, number_again}
 
 -- SIZES
 
-pub size_takes : (bs rest : List ℕ) (size : Size) (lines : List Line) → read_size bs ≡ Some (size, rest) → HasLines lines rest → (size_fits size ≡ true) × HasLines (size_lines size lines) bs
+pub size_takes : (bs rest : List ℕ) (size : Size) (lines : List Line) → read_size bs ≡ Some (size, rest) → HasLines lines rest →
+    (size_fits size ≡ true) × HasLines (size_lines size lines) bs
 unfolding read_size
 size_takes bs rest size lines e more =
     let p = bind_some (read_number (codes "csize ") bs) _ (size, rest) e in
     let q = bind_some (read_number (codes "cmult ") p.0.1) _ (size, rest) p.2 in
     let r = bind_some (read_number (codes "rbl ") q.0.1) _ (size, rest) q.2 in
     let read : Size = record { c_size = p.0.0; c_size_mult = q.0.0; read_bl_len = r.0.0 } in
-    let t = tested (nat_le p.0.0 4095 && nat_le q.0.0 7 && nat_le 9 r.0.0 && nat_le r.0.0 11) (Some (record { c_size = p.0.0; c_size_mult = q.0.0; read_bl_len = r.0.0 }, r.0.1)) (size, rest) r.2 in
+    let t = tested (nat_le p.0.0 4095 && nat_le q.0.0 7 && nat_le 9 r.0.0 && nat_le r.0.0 11)
+    (Some (record { c_size = p.0.0; c_size_mult = q.0.0; read_bl_len = r.0.0 }, r.0.1)) (size, rest) r.2 in
     let same : ◌≡◌ {A = Size × List ℕ} (record { c_size = p.0.0; c_size_mult = q.0.0; read_bl_len = r.0.0 }, r.0.1) (size, rest) = some_is _ _ t.1 in
     let left : r.0.1 ≡ rest = ap (λ (x : Size × List ℕ). x.1) same in
-    subst (λ (s : Size). (size_fits s ≡ true) × HasLines (size_lines s lines) bs) (ap (λ (x : Size × List ℕ). x.0) same)
-    (t.0, (p.0.1, number_takes (codes "csize") bs p.0 p.1, (q.0.1, number_takes (codes "cmult") p.0.1 q.0 q.1, (r.0.1, number_takes (codes "rbl") q.0.1 r.0 r.1, subst (λ (l : List ℕ). HasLines lines l) (sym left) more))))
+    subst (λ (s : Size). (size_fits s ≡ true) × HasLines (size_lines s lines) bs) (ap (λ (x : Size × List ℕ). x.0) same) (
+      t.0,
+      (
+        p.0.1,
+        number_takes (codes "csize") bs p.0 p.1,
+        (
+          q.0.1,
+          number_takes (codes "cmult") p.0.1 q.0 q.1,
+          (r.0.1, number_takes (codes "rbl") q.0.1 r.0 r.1, subst (λ (l : List ℕ). HasLines lines l) (sym left) more),
+        ),
+      ),
+    )
 
 -- what stands behind the lines of a size
 pub record SizeRead (size : Size) (lines : List Line) (bs : List ℕ) : Type 0 where
@@ -68,7 +80,8 @@ rca_again bs rca fits (rest, line, end) =
 
 -- SD CARDS
 
-sd_bytes_takes : (version : ℕ) (all bs : List ℕ) (read : Description) → NumberLine (codes "version") version all (codes "unit byte" ++ 10 ∷ bs) → read_sd_bytes version bs ≡ Some read →
+sd_bytes_takes : (version : ℕ) (all bs : List ℕ) (read : Description) → NumberLine (codes "version") version all (codes "unit byte" ++ 10 ∷ bs) →
+    read_sd_bytes version bs ≡ Some read →
     (text : List ℕ) → codes "card sd" ++ 10 ∷ all ≡ text → IsTextOf read text
 unfolding read_sd_bytes
 sd_bytes_takes version all bs read line e text whole =
@@ -80,10 +93,12 @@ sd_bytes_takes version all bs read line e text whole =
     subst (λ (d : Description). IsTextOf d text) (some_is (SdBytes version p.0.0 q.0) read t.1)
     (record {
       lines = (all, whole, (codes "unit byte" ++ 10 ∷ bs, line, (bs, refl, size.1)));
-      ranges = both (((version == 1) || (version == 2)) && size_fits p.0.0) (rca_fits q.0) (both ((version == 1) || (version == 2)) (size_fits p.0.0) t.0 size.0) rca.0;
+      ranges = both (((version == 1) || (version == 2)) && size_fits p.0.0) (rca_fits q.0)
+          (both ((version == 1) || (version == 2)) (size_fits p.0.0) t.0 size.0) rca.0;
     })
 
-sd_blocks_takes : (version : ℕ) (all bs : List ℕ) (read : Description) → NumberLine (codes "version") version all (codes "unit block" ++ 10 ∷ bs) → read_sd_blocks version bs ≡ Some read →
+sd_blocks_takes : (version : ℕ) (all bs : List ℕ) (read : Description) → NumberLine (codes "version") version all (codes "unit block" ++ 10 ∷ bs) →
+    read_sd_blocks version bs ≡ Some read →
     (text : List ℕ) → codes "card sd" ++ 10 ∷ all ≡ text → IsTextOf read text
 unfolding read_sd_blocks
 sd_blocks_takes version all bs read line e text whole =
@@ -92,7 +107,8 @@ sd_blocks_takes version all bs read line e text whole =
     let t = tested ((version == 2) && nat_le p.0.0 4194303) (Some (SdBlocks p.0.0 q.0)) read q.2 in
     let rca = rca_takes p.0.1 q.0 q.1 in
     let parts = and_parts (version == 2) (nat_le p.0.0 4194303) t.0 in
-    let line_2 : NumberLine (codes "version") 2 all (codes "unit block" ++ 10 ∷ bs) = subst (λ (n : ℕ). NumberLine (codes "version") n all (codes "unit block" ++ 10 ∷ bs)) (eqb-true version 2 parts.0) line in
+    let line_2 : NumberLine (codes "version") 2 all (codes "unit block" ++ 10 ∷ bs) =
+    subst (λ (n : ℕ). NumberLine (codes "version") n all (codes "unit block" ++ 10 ∷ bs)) (eqb-true version 2 parts.0) line in
     subst (λ (d : Description). IsTextOf d text) (some_is (SdBlocks p.0.0 q.0) read t.1)
     (record {
       lines = (all, whole, (codes "unit block" ++ 10 ∷ bs, line_2, (bs, refl, (p.0.1, number_takes (codes "csize") bs p.0 p.1, rca.1))));
@@ -105,20 +121,24 @@ sd_takes bs text read whole e =
     let p = bind_some (read_number (codes "version ") bs) _ read e in
     go (read_line (codes "unit byte") p.0.1) p.0.0 p.0.1 (number_takes (codes "version") bs p.0 p.1) refl p.2
   where
-    in_blocks : (version : ℕ) (rest : List ℕ) → NumberLine (codes "version") version bs rest → (read_line (codes "unit block") rest >>= read_sd_blocks version) ≡ Some read → IsTextOf read text
+    in_blocks : (version : ℕ) (rest : List ℕ) → NumberLine (codes "version") version bs rest →
+        (read_line (codes "unit block") rest >>= read_sd_blocks version) ≡ Some read → IsTextOf read text
     in_blocks version rest line e =
         let q = bind_some (read_line (codes "unit block") rest) (read_sd_blocks version) read e in
-        sd_blocks_takes version bs q.0 read (subst (λ (l : List ℕ). NumberLine (codes "version") version bs l) (sym (line_takes (codes "unit block") rest q.0 q.1)) line) q.2 text whole
+        sd_blocks_takes version bs q.0 read
+        (subst (λ (l : List ℕ). NumberLine (codes "version") version bs l) (sym (line_takes (codes "unit block") rest q.0 q.1)) line) q.2 text whole
 
     go : (unit : Option (List ℕ)) (version : ℕ) (rest : List ℕ) → NumberLine (codes "version") version bs rest → read_line (codes "unit byte") rest ≡ unit →
         or_else unit (read_sd_bytes version) (read_line (codes "unit block") rest >>= read_sd_blocks version) ≡ Some read → IsTextOf read text
     go None version rest line u e = in_blocks version rest line e
     go (Some behind) version rest line u e =
-        sd_bytes_takes version bs behind read (subst (λ (l : List ℕ). NumberLine (codes "version") version bs l) (sym (line_takes (codes "unit byte") rest behind u)) line) e text whole
+        sd_bytes_takes version bs behind read
+        (subst (λ (l : List ℕ). NumberLine (codes "version") version bs l) (sym (line_takes (codes "unit byte") rest behind u)) line) e text whole
 
 -- E.MMC DEVICES
 
-emmc_bytes_takes : (bs all text : List ℕ) (read : Description) → codes "card emmc" ++ 10 ∷ all ≡ text → codes "unit byte" ++ 10 ∷ bs ≡ all → read_emmc_bytes bs ≡ Some read → IsTextOf read text
+emmc_bytes_takes : (bs all text : List ℕ) (read : Description) → codes "card emmc" ++ 10 ∷ all ≡ text → codes "unit byte" ++ 10 ∷ bs ≡ all →
+    read_emmc_bytes bs ≡ Some read → IsTextOf read text
 unfolding read_emmc_bytes
 emmc_bytes_takes bs all text read whole unit e =
     let p = bind_some (read_size bs) _ read e in
@@ -126,7 +146,8 @@ emmc_bytes_takes bs all text read whole unit e =
     let size = size_takes bs p.0.1 p.0.0 [] p.1 (ends p.0.1 t.0) in
     subst (λ (d : Description). IsTextOf d text) (some_is (EmmcBytes p.0.0) read t.1) (record { lines = (all, whole, (bs, unit, size.1)); ranges = size.0 })
 
-emmc_blocks_takes : (bs all text : List ℕ) (read : Description) → codes "card emmc" ++ 10 ∷ all ≡ text → codes "unit block" ++ 10 ∷ bs ≡ all → read_emmc_blocks bs ≡ Some read → IsTextOf read text
+emmc_blocks_takes : (bs all text : List ℕ) (read : Description) → codes "card emmc" ++ 10 ∷ all ≡ text → codes "unit block" ++ 10 ∷ bs ≡ all →
+    read_emmc_blocks bs ≡ Some read → IsTextOf read text
 unfolding read_emmc_blocks
 emmc_blocks_takes bs all text read whole unit e =
     let p = bind_some (read_number (codes "sectors ") bs) _ read e in
@@ -143,7 +164,8 @@ emmc_takes : (bs text : List ℕ) (read : Description) → codes "card emmc" ++ 
 unfolding read_emmc
 emmc_takes bs text read whole e = go (read_line (codes "unit byte") bs) refl e
   where
-    go : (unit : Option (List ℕ)) → read_line (codes "unit byte") bs ≡ unit → or_else unit read_emmc_bytes (read_line (codes "unit block") bs >>= read_emmc_blocks) ≡ Some read → IsTextOf read text
+    go : (unit : Option (List ℕ)) → read_line (codes "unit byte") bs ≡ unit →
+        or_else unit read_emmc_bytes (read_line (codes "unit block") bs >>= read_emmc_blocks) ≡ Some read → IsTextOf read text
     go None u e =
         let q = bind_some (read_line (codes "unit block") bs) read_emmc_blocks read e in
         emmc_blocks_takes q.0 bs text read whole (line_takes (codes "unit block") bs q.0 q.1) q.2
@@ -155,7 +177,8 @@ pub read_is_said : (text : List ℕ) (read : Description) → read_description t
 unfolding read_description
 read_is_said text read e = go (read_line (codes "card sd") text) refl e
   where
-    go : (card : Option (List ℕ)) → read_line (codes "card sd") text ≡ card → or_else card read_sd (read_line (codes "card emmc") text >>= read_emmc) ≡ Some read → IsTextOf read text
+    go : (card : Option (List ℕ)) → read_line (codes "card sd") text ≡ card →
+        or_else card read_sd (read_line (codes "card emmc") text >>= read_emmc) ≡ Some read → IsTextOf read text
     go None u e =
         let q = bind_some (read_line (codes "card emmc") text) read_emmc read e in
         emmc_takes q.0 text read (line_takes (codes "card emmc") text q.0 q.1) q.2

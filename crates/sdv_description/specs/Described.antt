@@ -1,5 +1,5 @@
 -- The card that a description gives, and the rule of its capacity.
-use Rattle.std.specs.Prelude.{◌≡◌, ℕ, ◌+◌, ◌*◌, ◌^◌, ◌==◌, ◌&&◌, ◌||◌, not, nat_le, nat_lt, List, Bool, true, false, Option, Some, None, is_none}
+use Rattle.std.specs.Prelude.{ℕ, ◌+◌, ◌*◌, ◌^◌, ◌==◌, ◌&&◌, ◌||◌, not, nat_le, List, Bool, true, false, is_none}
 use Rattle.sdv_registers.specs.declared.kind.Kind.{Kind}
 use Rattle.sdv_registers.specs.declared.kind.Kind.TheVariants.{Sd, Emmc}
 use Rattle.sdv_registers.specs.Csd.{fault}
@@ -21,11 +21,51 @@ pub record Parts : Type 0 where
   pub rca : ℕ
 
 abbrev pub parts_of : Description → Parts
-parts_of (SdBytes version size rca) = record { kind = Sd; version = version; block_unit = false; capacity = size_blocks size; csd = byte_csd size; sectors = 0; block_length = 2 ^ size.read_bl_len; rca = rca }
-parts_of (SdBlocks c_size rca) = record { kind = Sd; version = 2; block_unit = true; capacity = (c_size + 1) * 1024; csd = block_csd c_size; sectors = 0; block_length = 512; rca = rca }
-parts_of (EmmcBytes size) = record { kind = Emmc; version = 0; block_unit = false; capacity = size_blocks size; csd = byte_csd size; sectors = 0; block_length = 2 ^ size.read_bl_len; rca = 1 }
+parts_of (SdBytes version size rca) =
+    record {
+      kind = Sd;
+      version = version;
+      block_unit = false;
+      capacity = size_blocks size;
+      csd = byte_csd size;
+      sectors = 0;
+      block_length = 2 ^ size.read_bl_len;
+      rca = rca;
+    }
+parts_of (SdBlocks c_size rca) =
+    record {
+      kind = Sd;
+      version = 2;
+      block_unit = true;
+      capacity = (c_size + 1) * 1024;
+      csd = block_csd c_size;
+      sectors = 0;
+      block_length = 512;
+      rca = rca;
+    }
+parts_of (EmmcBytes size) =
+    record {
+      kind = Emmc;
+      version = 0;
+      block_unit = false;
+      capacity = size_blocks size;
+      csd = byte_csd size;
+      sectors = 0;
+      block_length = 2 ^ size.read_bl_len;
+      rca = 1;
+    }
 -- with the greatest size, as its CSD doesn't tell its capacity
-parts_of (EmmcBlocks sectors) = record { kind = Emmc; version = 0; block_unit = true; capacity = sectors; csd = byte_csd (record { c_size = 4095; c_size_mult = 7; read_bl_len = 9 }); sectors = sectors; block_length = 512; rca = 1 }
+parts_of (EmmcBlocks sectors) =
+    record {
+      kind = Emmc;
+      version = 0;
+      block_unit = true;
+      capacity = sectors;
+      csd = byte_csd (record { c_size = 4095; c_size_mult = 7; read_bl_len = 9 });
+      sectors = sectors;
+      block_length = 512;
+      rca = 1;
+    }
 
 -- no more blocks than a card of the kind and unit can have
 abbrev pub within_capacity : Description → Bool
@@ -38,7 +78,8 @@ abbrev pub version_fits : Kind → ℕ → (block_unit : Bool) → Bool
 version_fits Sd version block_unit = (version == 2) || ((version == 1) && not block_unit)
 version_fits Emmc version block_unit = true
 
-unfoldable pub is_described : Kind → (version : ℕ) → (block_unit : Bool) → (capacity : ℕ) → (csd : List ℕ) → (sectors block_length rca : ℕ) → Bool
+unfoldable pub is_described : Kind → (version : ℕ) → (block_unit : Bool) → (capacity : ℕ) → (csd : List ℕ) →
+    (sectors block_length rca : ℕ) → Bool
 is_described kind version block_unit capacity csd sectors block_length rca =
     nat_le 1 rca && nat_le rca 65535
     && (not block_unit || (block_length == 512))

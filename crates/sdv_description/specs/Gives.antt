@@ -9,7 +9,17 @@ use Rattle.sdv_description.specs.Described.{Parts, parts_of, within_capacity}
 
 -- what is said of a card
 abbrev pub parts : CardDesc → Parts
-parts d = record { kind = d.kind; version = d.version; block_unit = d.block_unit; capacity = d.capacity; csd = d.csd; sectors = d.sectors; block_length = d.block_length; rca = d.rca }
+parts d =
+    record {
+      kind = d.kind;
+      version = d.version;
+      block_unit = d.block_unit;
+      capacity = d.capacity;
+      csd = d.csd;
+      sectors = d.sectors;
+      block_length = d.block_length;
+      rca = d.rca;
+    }
 
 -- the description gives this card
 pub record Gives (read : Description) (d : CardDesc) : Type 0 where

@@ -1,6 +1,6 @@
 -- What the text of a description is: lines, one for each thing that it says, in a fixed order, each with an end of line
 -- (10) behind it and nothing after the last one. The format is this project's own.
-use Rattle.std.specs.Prelude.{◌≡◌, ℕ, ◌+◌, ◌-◌, ◌*◌, List, [], ◌∷◌, ◌++◌, Bool, true, false, ◌&&◌, ◌||◌, ◌==◌, nat_le, codes, IsTrue}
+use Rattle.std.specs.Prelude.{◌≡◌, ℕ, ◌+◌, ◌-◌, ◌*◌, List, [], ◌∷◌, ◌++◌, Bool, true, ◌&&◌, ◌||◌, ◌==◌, nat_le, codes, IsTrue}
 use Rattle.sdv_description.specs.declared.description.Size.{Size}
 use Rattle.sdv_description.specs.declared.description.Description.{Description}
 use Rattle.sdv_description.specs.declared.description.Description.TheVariants.{SdBytes, SdBlocks, EmmcBytes, EmmcBlocks}
@@ -44,20 +44,26 @@ HasLines (Number word n ∷ lines) text = (rest : List ℕ) × NumberLine word n
 -- THE LINES OF A DESCRIPTION
 
 abbrev pub size_lines : Size → List Line → List Line
-size_lines size lines = Number (codes "csize") size.c_size ∷ Number (codes "cmult") size.c_size_mult ∷ Number (codes "rbl") size.read_bl_len ∷ lines
+size_lines size lines =
+    Number (codes "csize") size.c_size ∷ Number (codes "cmult") size.c_size_mult
+    ∷ Number (codes "rbl") size.read_bl_len ∷ lines
 
 abbrev pub lines_of : Description → List Line
 lines_of (SdBytes version size rca) =
-    Words (codes "card sd") ∷ Number (codes "version") version ∷ Words (codes "unit byte") ∷ size_lines size (Number (codes "rca") rca ∷ [])
+    Words (codes "card sd") ∷ Number (codes "version") version ∷ Words (codes "unit byte")
+    ∷ size_lines size (Number (codes "rca") rca ∷ [])
 lines_of (SdBlocks c_size rca) =
-    Words (codes "card sd") ∷ Number (codes "version") 2 ∷ Words (codes "unit block") ∷ Number (codes "csize") c_size ∷ Number (codes "rca") rca ∷ []
+    Words (codes "card sd") ∷ Number (codes "version") 2 ∷ Words (codes "unit block") ∷ Number (codes "csize") c_size
+    ∷ Number (codes "rca") rca ∷ []
 lines_of (EmmcBytes size) = Words (codes "card emmc") ∷ Words (codes "unit byte") ∷ size_lines size []
-lines_of (EmmcBlocks sectors) = Words (codes "card emmc") ∷ Words (codes "unit block") ∷ Number (codes "sectors") sectors ∷ []
+lines_of (EmmcBlocks sectors) =
+    Words (codes "card emmc") ∷ Words (codes "unit block") ∷ Number (codes "sectors") sectors ∷ []
 
 -- RANGES: those of the registers' fields
 
 abbrev pub size_fits : Size → Bool
-size_fits size = nat_le size.c_size 4095 && nat_le size.c_size_mult 7 && nat_le 9 size.read_bl_len && nat_le size.read_bl_len 11
+size_fits size =
+    nat_le size.c_size 4095 && nat_le size.c_size_mult 7 && nat_le 9 size.read_bl_len && nat_le size.read_bl_len 11
 
 abbrev pub rca_fits : ℕ → Bool
 rca_fits rca = nat_le 1 rca && nat_le rca 65535

@@ -1,6 +1,6 @@
 -- Reading the text of a description from left to right: what its front says, and what follows; none where it is no such
 -- front. The laws of reading say that what is read is what the text says by its grammar.
-use Rattle.std.specs.Prelude.{◌≡◌, ℕ, ◌+◌, ◌-◌, ◌*◌, List, [], ◌∷◌, ◌++◌, length, take, drop, Bool, true, false, ◌&&◌, ◌||◌, ◌==◌, nat_lt, nat_le, not, take_while, codes, Option, Some, None, if◌then◌else◌}
+use Rattle.std.specs.Prelude.{ℕ, List, [], ◌∷◌, length, take, drop, Bool, true, false, ◌&&◌, ◌||◌, ◌==◌, nat_lt, nat_le, take_while, codes, Option, Some, None, if◌then◌else◌}
 use Rattle.sdv_description.specs.declared.description.Size.{Size}
 use Rattle.sdv_description.specs.declared.description.Description.{Description}
 use Rattle.sdv_description.specs.declared.description.Description.TheVariants.{SdBytes, SdBlocks, EmmcBytes, EmmcBlocks}
@@ -33,7 +33,9 @@ abbrev pub ended : ℕ → List ℕ → Read ℕ
 ended n bs = after (10 ∷ []) bs >>= λ rest. Some (n, rest)
 
 abbrev pub figure : (digits rest : List ℕ) → Read ℕ
-figure digits rest = if nat_lt 0 (length digits) && nat_le (number_after 0 digits) 4294967295 then ended (number_after 0 digits) rest else None
+figure digits rest =
+    if nat_lt 0 (length digits) && nat_le (number_after 0 digits) 4294967295
+    then ended (number_after 0 digits) rest else None
 
 unfoldable pub read_figure : List ℕ → Read ℕ
 read_figure bs = figure (take (run is_digit bs) bs) (drop (run is_digit bs) bs)
@@ -50,7 +52,9 @@ size_if c_size mult len rest =
 
 unfoldable pub read_size : List ℕ → Read Size
 read_size bs =
-    read_number (codes "csize ") bs >>= λ a. read_number (codes "cmult ") a.1 >>= λ b. read_number (codes "rbl ") b.1 >>= λ c.
+    read_number (codes "csize ") bs >>= λ a.
+    read_number (codes "cmult ") a.1 >>= λ b.
+    read_number (codes "rbl ") b.1 >>= λ c.
     size_if a.0 b.0 c.0 c.1
 
 abbrev pub is_end : List ℕ → Bool
@@ -73,7 +77,8 @@ abbrev pub sd_blocks_if : (version c_size rca : ℕ) → Option Description
 sd_blocks_if version c_size rca = if (version == 2) && nat_le c_size 4194303 then Some (SdBlocks c_size rca) else None
 
 unfoldable pub read_sd_blocks : ℕ → List ℕ → Option Description
-read_sd_blocks version bs = read_number (codes "csize ") bs >>= λ a. read_rca a.1 >>= λ rca. sd_blocks_if version a.0 rca
+read_sd_blocks version bs =
+    read_number (codes "csize ") bs >>= λ a. read_rca a.1 >>= λ rca. sd_blocks_if version a.0 rca
 
 -- the second reading where the first finds none
 abbrev pub or_else : {A : Type 0} → Option (List ℕ) → (List ℕ → Option A) → Option A → Option A
@@ -83,16 +88,19 @@ or_else (Some rest) f other = f rest
 unfoldable pub read_sd : List ℕ → Option Description
 read_sd bs =
     read_number (codes "version ") bs >>= λ a.
-    or_else (read_line (codes "unit byte") a.1) (read_sd_bytes a.0) (read_line (codes "unit block") a.1 >>= read_sd_blocks a.0)
+    or_else (read_line (codes "unit byte") a.1) (read_sd_bytes a.0)
+    (read_line (codes "unit block") a.1 >>= read_sd_blocks a.0)
 
 unfoldable pub read_emmc_bytes : List ℕ → Option Description
 read_emmc_bytes bs = read_size bs >>= λ a. if is_end a.1 then Some (EmmcBytes a.0) else None
 
 unfoldable pub read_emmc_blocks : List ℕ → Option Description
-read_emmc_blocks bs = read_number (codes "sectors ") bs >>= λ a. if nat_le 1 a.0 && is_end a.1 then Some (EmmcBlocks a.0) else None
+read_emmc_blocks bs =
+    read_number (codes "sectors ") bs >>= λ a. if nat_le 1 a.0 && is_end a.1 then Some (EmmcBlocks a.0) else None
 
 unfoldable pub read_emmc : List ℕ → Option Description
-read_emmc bs = or_else (read_line (codes "unit byte") bs) read_emmc_bytes (read_line (codes "unit block") bs >>= read_emmc_blocks)
+read_emmc bs =
+    or_else (read_line (codes "unit byte") bs) read_emmc_bytes (read_line (codes "unit block") bs >>= read_emmc_blocks)
 
 unfoldable pub read_description : List ℕ → Option Description
 read_description bs = or_else (read_line (codes "card sd") bs) read_sd (read_line (codes "card emmc") bs >>= read_emmc)

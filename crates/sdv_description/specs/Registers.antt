@@ -1,7 +1,7 @@
--- The registers of a card that is described: the CSD has the fields that tell the capacity, and all else is 0; the other
--- registers but SEC_COUNT are the same for all cards of a kind.
--- SD Physical Layer Simplified Specification, sections 5.2 (CID), 5.3 (CSD), 5.6 (SCR) and 4.10.2 (SD status);
--- JESD84-B51, sections 7.2 (CID), 7.3 (CSD) and 7.4 (extended CSD). What they hold is this project's own.
+-- The registers of a card that is described: the CSD has the fields that tell the capacity, and all else is 0; the
+-- other registers but SEC_COUNT are the same for all cards of a kind. SD Physical Layer Simplified Specification,
+-- sections 5.2 (CID), 5.3 (CSD), 5.6 (SCR) and 4.10.2 (SD status); JESD84-B51, sections 7.2 (CID), 7.3 (CSD) and 7.4
+-- (extended CSD). What they hold is this project's own.
 use Rattle.std.specs.Prelude.{ℕ, ◌+◌, ◌-◌, ◌*◌, ◌/◌, ◌%◌, ◌^◌, List, [], ◌∷◌, ◌++◌, replicate}
 use Rattle.sdv_registers.specs.declared.kind.Kind.{Kind}
 use Rattle.sdv_registers.specs.declared.kind.Kind.TheVariants.{Sd, Emmc}
@@ -27,7 +27,8 @@ size_blocks size = (size.c_size + 1) * 2 ^ (size.c_size_mult + 2) * 2 ^ (size.re
 -- bits 127..8 of the CID
 abbrev pub cid_of : Kind → List ℕ
 cid_of Sd = 0x00 ∷ 0x58 ∷ 0x58 ∷ 0x53 ∷ 0x44 ∷ 0x56 ∷ 0x20 ∷ 0x20 ∷ 0x10 ∷ 0x00 ∷ 0x00 ∷ 0x00 ∷ 0x01 ∷ 0x01 ∷ 0x81 ∷ []
-cid_of Emmc = 0x00 ∷ 0x01 ∷ 0x58 ∷ 0x53 ∷ 0x44 ∷ 0x56 ∷ 0x45 ∷ 0x52 ∷ 0x49 ∷ 0x10 ∷ 0x00 ∷ 0x00 ∷ 0x00 ∷ 0x01 ∷ 0x17 ∷ []
+cid_of Emmc =
+    0x00 ∷ 0x01 ∷ 0x58 ∷ 0x53 ∷ 0x44 ∷ 0x56 ∷ 0x45 ∷ 0x52 ∷ 0x49 ∷ 0x10 ∷ 0x00 ∷ 0x00 ∷ 0x00 ∷ 0x01 ∷ 0x17 ∷ []
 
 abbrev pub scr : List ℕ
 scr = 0x02 ∷ 0x05 ∷ 0x00 ∷ 0x00 ∷ 0x00 ∷ 0x00 ∷ 0x00 ∷ 0x00 ∷ []
@@ -38,4 +39,5 @@ sd_status = replicate 64 0
 -- all zeros but SEC_COUNT, bytes 212 to 215, whose lowest byte comes first
 unfoldable pub ext_csd_of : (sectors : ℕ) → List ℕ
 ext_csd_of sectors =
-    replicate 212 0 ++ (sectors % 256 ∷ sectors / 256 % 256 ∷ sectors / 65536 % 256 ∷ sectors / 16777216 ∷ []) ++ replicate 296 0
+    replicate 212 0 ++ (sectors % 256 ∷ sectors / 256 % 256 ∷ sectors / 65536 % 256 ∷ sectors / 16777216 ∷ [])
+    ++ replicate 296 0

@@ -1,3 +1,5 @@
+//! A card as its description gives it.
+
 ghost use Rattle.std.specs.Prelude.{IsTrue};
 ghost use Rattle.sdv_description.specs.Described.{is_described};
 

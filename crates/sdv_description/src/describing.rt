@@ -17,8 +17,8 @@ impl CardDesc {
     ///
     /// # Errors
     ///
-    /// [`SimFault::Description`] where the text is no description, else [`SimFault::Capacity`] where a card of its kind and
-    /// unit cannot have as many blocks: an e.MMC device with byte addresses has 2^22 at most.
+    /// [`SimFault::Description`] where the text is no description, else [`SimFault::Capacity`] where a card of its kind
+    /// and unit cannot have as many blocks: an e.MMC device with byte addresses has 2^22 at most.
     pub fn parse(text: &str) -> Result<CardDesc, SimFault>
         ensures { MatchResult result (Describes text.now) (Refuses text.now) }
     {
@@ -35,7 +35,8 @@ impl CardDesc {
     /// [`SimFault::Capacity`] where a card of its kind and unit cannot have as many blocks.
     fn of(read: Description) -> Result<CardDesc, SimFault>
         requires { IsTrue (in_ranges read) }
-        ensures { MatchResult result (Gives read) (λ fault. (fault ≡ SimFault.Capacity) × (within_capacity read ≡ false)) }
+        ensures { MatchResult result (Gives read)
+            (λ fault. (fault ≡ SimFault.Capacity) × (within_capacity read ≡ false)) }
     {
         match read {
             Description::SdBytes { version, size, rca } => Ok(sd_bytes(version, size, rca)),

@@ -1,3 +1,5 @@
+//! A description, line by line.
+
 /// The fields of a CSD that tell the capacity of a card with byte addresses.
 #[derive(Clone, Copy, Debug, PartialEq, Eq)]
 pub struct Size {

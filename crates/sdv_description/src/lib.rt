@@ -1,7 +1,7 @@
 //! Descriptions of simulated cards: the text, and the card with its registers that the text gives.
 //!
-//! Begin at `specs/Grammar.antt`, which says what a description is, line by line, and at `specs/Described.antt`, which says
-//! what card it gives. `docs/CARDS.md` has the page for a user.
+//! Begin at `specs/Grammar.antt`, which says what a description is, line by line, and at `specs/Described.antt`, which
+//! says what card it gives. `docs/CARDS.md` has the page for a user.
 #![tactic(auto)]
 
 mod card_desc;

@@ -79,4 +79,5 @@ end_line (Fault name) = codes "fault " ++ (name.bytes ++ line_feed)
 
 -- known bytes grow by a text and then by a front of another one, and not by all of it
 abbrev pub BreaksOff : Option (List ℕ) → Option (List ℕ) → (whole text : List ℕ) → Type 0
-BreaksOff old new whole text = (front back : List ℕ) × (text ≡ front ++ back) × (0 < length back) × Appends old new (whole ++ front)
+BreaksOff old new whole text =
+    (front back : List ℕ) × (text ≡ front ++ back) × (0 < length back) × Appends old new (whole ++ front)

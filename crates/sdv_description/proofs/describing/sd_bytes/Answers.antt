@@ -1,7 +1,6 @@
 use Rattle.std.proofs.Common.{◌≡◌, ◌*◌, ◌%◌, ◌^◌, ◌==◌, ◌&&◌, ◌||◌}
 use Rattle.std.proofs.lemmas.Bool.{and_parts}
 use Rattle.sdv_description.specs.Grammar.{size_fits, rca_fits}
-use Rattle.sdv_description.proofs.CsdLaws.{IsSize}
 use Rattle.sdv_description.proofs.DescribedLaws.{is_size, shifted, sd_bytes_described}
 use Rattle.sdv_description.proofs.describing.sd_bytes.Goals as goal
 

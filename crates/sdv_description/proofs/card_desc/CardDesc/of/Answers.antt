@@ -1,9 +1,8 @@
-use Rattle.std.proofs.Common.{◌≡◌, ◌≤◌, ◌^◌, ◌==◌, ◌&&◌, ◌||◌, true, IsTrue, subst}
+use Rattle.std.proofs.Common.{◌≡◌, ◌≤◌, ◌^◌, ◌==◌, ◌&&◌, ◌||◌, true}
 use Rattle.std.proofs.lemmas.Bool.{and_parts, le-leb}
 use Rattle.sdv_description.specs.declared.description.Description.TheVariants.{SdBytes}
 use Rattle.sdv_description.specs.Grammar.{size_fits, rca_fits, in_ranges}
 use Rattle.sdv_description.specs.Registers.{size_blocks}
-use Rattle.sdv_description.specs.Gives.{Gives}
 use Rattle.sdv_description.proofs.DescribedLaws.{is_size, most_size_blocks}
 use Rattle.sdv_description.proofs.card_desc.CardDesc.of.Goals as goal
 

@@ -1,4 +1,4 @@
-use Rattle.std.proofs.Common.{◌≡◌, None, Some, List, ℕ, sym, ap, subst, ◌∙◌}
+use Rattle.std.proofs.Common.{◌≡◌, None, Some, List, ℕ, sym, subst}
 use Rattle.sdv_description.specs.Grammar.{IsTextOf}
 use Rattle.sdv_description.specs.Reading.{read_description}
 use Rattle.sdv_description.proofs.ReadLaws.{read_is_said, said_is_read}
@@ -10,7 +10,9 @@ of-requires c = (read_is_said c.as_bytes.result.now c.in-Some.read (sym c.in-Som
 
 pub returns-in-Some : goal.returns-in-Some
 returns-in-Some c =
-    let said : IsTextOf c.in-Some.read c.args.text.now = subst (λ (l : List ℕ). IsTextOf c.in-Some.read l) c.as_bytes.ensures.value (read_is_said c.as_bytes.result.now c.in-Some.read (sym c.in-Some.ensures)) in
+    let said : IsTextOf c.in-Some.read c.args.text.now =
+    subst (λ (l : List ℕ). IsTextOf c.in-Some.read l) c.as_bytes.ensures.value
+    (read_is_said c.as_bytes.result.now c.in-Some.read (sym c.in-Some.ensures)) in
     answered c.args.text.now c.in-Some.read said c.of.result c.of.ensures
 
 pub returns-in-None : goal.returns-in-None
