@@ -32,7 +32,8 @@ announced_fits (WriteMultipleBlock n) room before count is fits few = subst (λ 
 announced_fits order room before count is fits few = few
 
 -- an ask announces at most so many blocks, or leaves what was announced
-announced_of : (k : Kind) (ask : Ask) (o : Option Order) (room : ℕ) → order_of k ask ≡ o → ask.count ≤ room → (answer : Answer) (h : Host) → h.announced ≤ room →
+announced_of : (k : Kind) (ask : Ask) (o : Option Order) (room : ℕ) → order_of k ask ≡ o → ask.count ≤ room → (answer : Answer) (h : Host) →
+    h.announced ≤ room →
     (host_after_order o answer h).announced ≤ room
 announced_of k ask None room e fits answer h few = few
 announced_of k ask (Some order) room e fits answer h few = announced_fits order room h.announced ask.count (line_of k ask order e).count fits few
@@ -51,7 +52,8 @@ abbrev EventWithin : ℕ → ScriptEvent → Type 0
 EventWithin room (SendCommand ask position argument) = ask.count ≤ room
 EventWithin room event = Unit {0}
 
-after_event : (k : Kind) (room : ℕ) (event : ScriptEvent) (returned : Return) (h : Host) → EventWithin room event → Within room h → Within room (host_after k event returned h)
+after_event : (k : Kind) (room : ℕ) (event : ScriptEvent) (returned : Return) (h : Host) → EventWithin room event → Within room h →
+    Within room (host_after k event returned h)
 after_event k room (SendCommand ask position argument) (Answered answer) h few in_room = order_announces k ask room few answer h in_room
 after_event k room (SendCommand ask position argument) (BlocksIn end blocks) h few in_room = in_room
 after_event k room (SendCommand ask position argument) (RegisterIn end bytes) h few in_room = in_room
@@ -77,11 +79,13 @@ module _ {S : Type 0} (k : Kind) (steps : Steps S) (room : ℕ) where
   goes_within : (next : Stand) → Within room next.host → Kept (Goes next)
   goes_within next few = λ w w' stand p. subst (λ s. s.host.announced ≤ room) (sym p.1) few
 
-  does_within : (event : ScriptEvent) (h : Host) (target : Return → Target) (ts : List ℕ) → EventWithin room event → Within room h → Kept (Does (exactly event) h (λ returned after. arrive (target returned) ts after))
+  does_within : (event : ScriptEvent) (h : Host) (target : Return → Target) (ts : List ℕ) → EventWithin room event → Within room h →
+      Kept (Does (exactly event) h (λ returned after. arrive (target returned) ts after))
   does_within event h target ts few in_room w w' stand p =
       subst (λ s. s.host.announced ≤ room) (sym p.4) (after_event k room p.0 p.1 h (deed_within room event p.0 few p.2) in_room)
 
-  gives_within : (count : ℕ) (h : Host) (target : Return → Target) (ts : List ℕ) → Within room h → Kept (Does (giving count) h (λ returned after. arrive (target returned) ts after))
+  gives_within : (count : ℕ) (h : Host) (target : Return → Target) (ts : List ℕ) → Within room h →
+      Kept (Does (giving count) h (λ returned after. arrive (target returned) ts after))
   gives_within count h target ts in_room w w' stand p =
       subst (λ s. s.host.announced ≤ room) (sym p.4) (after_event k room p.0 p.1 h (deed_within room (GiveBlocks p.2.0) p.0 tt p.2.2) in_room)
 
@@ -91,11 +95,18 @@ module _ {S : Type 0} (k : Kind) (steps : Steps S) (room : ℕ) where
 
   pub announced_after : (node : Node) (ts : List ℕ) (h : Host) → announced_at node ≤ room → Within room h → Kept (node_move k node ts h)
   announced_after (sends c ways other) ts h few in_room =
-      with_within (position_of_command h c.address) (λ position. Does (command_deed k c h position) h (λ returned h'. arrive (way_of k ways other returned) ts h')) (λ position. does_within (SendCommand c.ask position (argument_of k c.ask h.rca (address_of_command h c.address position))) h (way_of k ways other) ts few in_room)
-  announced_after (phases kinds.ReceiveBlocks well other) ts h few in_room = does_within (ReceiveBlocks h.announced) h (λ returned. if passes k WentWell returned then well else other) ts tt in_room
-  announced_after (phases kinds.ReceiveRegister well other) ts h few in_room = does_within (ReceiveRegister h.register_length) h (λ returned. if passes k WentWell returned then well else other) ts tt in_room
-  announced_after (phases kinds.GiveBlocks well other) ts h few in_room = gives_within h.announced h (λ returned. if passes k WentWell returned then well else other) ts in_room
-  announced_after (phases kinds.Wait well other) ts h few in_room = does_within AwaitReady h (λ returned. if passes k WentWell returned then well else other) ts tt in_room
+      with_within (position_of_command h c.address)
+      (λ position. Does (command_deed k c h position) h (λ returned h'. arrive (way_of k ways other returned) ts h'))
+      (λ position. does_within (SendCommand c.ask position (argument_of k c.ask h.rca (address_of_command h c.address position))) h
+      (way_of k ways other) ts few in_room)
+  announced_after (phases kinds.ReceiveBlocks well other) ts h few in_room =
+      does_within (ReceiveBlocks h.announced) h (λ returned. if passes k WentWell returned then well else other) ts tt in_room
+  announced_after (phases kinds.ReceiveRegister well other) ts h few in_room =
+      does_within (ReceiveRegister h.register_length) h (λ returned. if passes k WentWell returned then well else other) ts tt in_room
+  announced_after (phases kinds.GiveBlocks well other) ts h few in_room =
+      gives_within h.announced h (λ returned. if passes k WentWell returned then well else other) ts in_room
+  announced_after (phases kinds.Wait well other) ts h few in_room =
+      does_within AwaitReady h (λ returned. if passes k WentWell returned then well else other) ts tt in_room
   announced_after (lets l t) ts h few in_room =
       with_within (value_of_let k h l) (λ n. Goes (arrive t ts (with_number h l.target n))) (λ n. goes_within (arrive t ts (with_number h l.target n)) in_room)
   announced_after (tests c holds other) ts h few in_room = goes_within (arrive (if condition_holds h c then holds else other) ts h) in_room

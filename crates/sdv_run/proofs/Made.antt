@@ -17,7 +17,8 @@ use Rattle.sdv_run.proofs.Places.{Onward}
 
 -- LISTS OF EVENTS
 
-pub moved_more : {S : Type 0} (k : Kind) (steps : Steps S) (es fs : List Pair) (s t u : S) → Moved k steps s es t → Moved k steps t fs u → Moved k steps s (es ++ fs) u
+pub moved_more : {S : Type 0} (k : Kind) (steps : Steps S) (es fs : List Pair) (s t u : S) → Moved k steps s es t → Moved k steps t fs u →
+    Moved k steps s (es ++ fs) u
 moved_more k steps [] fs s t u p q = subst (λ v. Moved k steps v fs u) p q
 moved_more k steps (e ∷ es) fs s t u p q = (p.0, p.1, moved_more k steps es fs p.0 t u p.2 q)
 
@@ -55,7 +56,8 @@ module _ {S : Type 0} (k : Kind) (steps : Steps S) where
 
   -- ONE EVENT
 
-  pub one_happened : (event : ScriptEvent) (returned : Return) (w w' : World S) → Made k steps event returned w w' → Happened k steps ((event, returned) ∷ []) w w'
+  pub one_happened : (event : ScriptEvent) (returned : Return) (w w' : World S) → Made k steps event returned w w' →
+      Happened k steps ((event, returned) ∷ []) w w'
   one_happened event returned w w' made = record {
     port = (w'.port, made.step, refl);
     input = made.input ∙ ap (λ l. l ++ w'.input) (sym (append-nil (given_by event)));

@@ -68,7 +68,8 @@ of_kind expects.R7 (answers.Reply reply) e = reply_of_kind expects.R7 reply e
 of_kind expect answer e = absurd e
 
 -- a CSD that the host holds can be read
-readable : (k : Kind) (o : Option Order) (answer : Answer) (h : Host) → ((bytes : List ℕ) → (host_after_order o answer h).csd ≡ Some bytes → fault k (bits_of bytes) ≡ None) → has_readable_csd k o answer ≡ true
+readable : (k : Kind) (o : Option Order) (answer : Answer) (h : Host) →
+    ((bytes : List ℕ) → (host_after_order o answer h).csd ≡ Some bytes → fault k (bits_of bytes) ≡ None) → has_readable_csd k o answer ≡ true
 readable k (Some SendCsd) (answers.Reply (R2 register)) h f = ap is_none (f register refl)
 readable k (Some SendCsd) (answers.Reply (R1 i w)) h f = refl
 readable k (Some SendCsd) (answers.Reply (R3 w)) h f = refl
@@ -84,7 +85,8 @@ both : (a b : Bool) → a ≡ true → b ≡ true → a && b ≡ true
 both true b e f = f
 both false b e f = absurd (cc)
 
-taken : (k : Kind) → Laws k → (ask : Ask) (position argument : ℕ) (c : Card) (answer : Answer) (u : Card) → IsMade k (SendCommand ask position argument) c → Step (SendCommand ask position argument) c (Answered answer) u → is_taken k ask answer ≡ true
+taken : (k : Kind) → Laws k → (ask : Ask) (position argument : ℕ) (c : Card) (answer : Answer) (u : Card) → IsMade k (SendCommand ask position argument) c →
+    Step (SendCommand ask position argument) c (Answered answer) u → is_taken k ask answer ≡ true
 taken k laws ask position argument c answer u made step =
     let e = SendCommand ask position argument in
     let after = honest_after k laws e c made.host (Answered answer) u made.fine made.honest step in
@@ -100,12 +102,15 @@ record Beside {S : Type 0} (card : S → Option Card) (es : List Pair) (c : Card
   steps : StepsOf c es last
   shown : Shows card s' last
 
-beside : {S : Type 0} (steps : Steps S) (card : S → Option Card) → KeepsTables steps card → (k : Kind) (es : List Pair) (c : Card) (p p' : S) → EachIsMade k es c → Shows card p c → Moved k steps p es p' → Beside card es c p'
+beside : {S : Type 0} (steps : Steps S) (card : S → Option Card) → KeepsTables steps card → (k : Kind) (es : List Pair) (c : Card) (p p' : S) →
+    EachIsMade k es c → Shows card p c → Moved k steps p es p' → Beside card es c p'
 beside steps card keeps k [] c p p' made shown moved = record { last = c; steps = refl; shown = subst (λ s. Shows card s c) (sym moved) shown }
 beside steps card keeps k ((event, returned) ∷ es) c p p' made shown (q, step, more) =
     let one : IsMade k event c = made [] event returned es c refl refl in
     let kept : Kept card event c returned q = keeps p q k event c one.host returned shown one.fine step in
-    let rest = beside steps card keeps k es kept.after q p' (λ front v r back u is st. made ((event, returned) ∷ front) v r back u (ap (λ l. (event, returned) ∷ l) is) (kept.after, kept.step, st)) kept.shown more in
+    let rest = beside steps card keeps k es kept.after q p'
+    (λ front v r back u is st. made ((event, returned) ∷ front) v r back u (ap (λ l. (event, returned) ∷ l) is) (kept.after, kept.step, st)) kept.shown
+    more in
     record { last = rest.last; steps = (kept.after, kept.step, rest.steps); shown = rest.shown }
 
 -- the last of some steps
@@ -120,8 +125,10 @@ last_step (y ∷ front) x c last (u, step, more) =
     let l = last_step front x u last more in
     record { before = l.before; steps = (u, step, l.steps); step = l.step }
 
-module _ {S : Type 0} (steps : Steps S) (card : S → Option Card) (keeps : KeepsTables steps card) (g : Flow) (ps : List PointFacts) (laws : Laws g.kind) (sound : IsSound g) (closed : Closed g ps) where
-  on_card : (e : Ending) (es : List Pair) (s s' : S) (c : Card) → ShowsStart card g.kind s c → Path g.kind g.places e (begin g) es → Moved g.kind steps s es s' → OnCard card (bound_of g ps) e es c s'
+module _ {S : Type 0} (steps : Steps S) (card : S → Option Card) (keeps : KeepsTables steps card) (g : Flow) (ps : List PointFacts) (laws : Laws g.kind)
+    (sound : IsSound g) (closed : Closed g ps) where
+  on_card : (e : Ending) (es : List Pair) (s s' : S) (c : Card) → ShowsStart card g.kind s c → Path g.kind g.places e (begin g) es →
+      Moved g.kind steps s es s' → OnCard card (bound_of g ps) e es c s'
   on_card e es s s' c start path moved =
       let made = each_event g ps laws sound closed c start.kind start.start e es path in
       let b = beside steps card keeps g.kind es c s s' made start.shown moved in
@@ -129,16 +136,23 @@ module _ {S : Type 0} (steps : Steps S) (card : S → Option Card) (keeps : Keep
       record { last = b.last; steps = b.steps; shown = b.shown; good = good; sent = good.sent b.last b.steps; ends = good.ends b.last b.steps }
 
   -- a card's answers are taken, and the arguments of an accepted script have 32 bits
-  no_reply : (es : List Pair) (w w' : World S) (c : Card) → ShowsStart card g.kind w.port c → Path g.kind g.places Open (begin g) es → OnCard card (bound_of g ps) Open es c w'.port → Because faults.Reply g es w w' → ⊥
+  no_reply : (es : List Pair) (w w' : World S) (c : Card) → ShowsStart card g.kind w.port c → Path g.kind g.places Open (begin g) es →
+      OnCard card (bound_of g ps) Open es c w'.port → Because faults.Reply g es w w' → ⊥
   no_reply es w w' c start path on (inl refused) =
-      let l = last_step refused.earlier (SendCommand refused.ask refused.position refused.argument, Answered refused.answer) c on.last (subst (λ es. StepsOf c es on.last) refused.last on.steps) in
-      let made = each_event g ps laws sound closed c start.kind start.start Open es path refused.earlier (SendCommand refused.ask refused.position refused.argument) (Answered refused.answer) [] l.before refused.last l.steps in
-      let t : is_taken g.kind refused.ask refused.answer ≡ true = taken g.kind laws refused.ask refused.position refused.argument l.before refused.answer on.last made l.step in
+      let l = last_step refused.earlier (SendCommand refused.ask refused.position refused.argument, Answered refused.answer) c on.last
+      (subst (λ es. StepsOf c es on.last) refused.last on.steps) in
+      let made = each_event g ps laws sound closed c start.kind start.start Open es path refused.earlier
+      (SendCommand refused.ask refused.position refused.argument) (Answered refused.answer) [] l.before refused.last l.steps in
+      let t : is_taken g.kind refused.ask refused.answer ≡ true =
+      taken g.kind laws refused.ask refused.position refused.argument l.before refused.answer on.last made l.step in
       let clash : true ≡ false = sym t ∙ refused.refused in
       absurd (cc)
   no_reply es w w' c start path on (inr wide) =
-      let made = each_event g ps laws sound closed c start.kind start.start Open (es ++ (SendCommand wide.ask wide.position wide.argument, Answered answers.Sent) ∷ []) (wide.next answers.Sent) es (SendCommand wide.ask wide.position wide.argument) (Answered answers.Sent) [] on.last refl on.steps in
-      let small : wide.argument < 2 ^ 32 = narrow g.kind wide.ask wide.position wide.argument on.last made.host laws.asks_address made.fine made.honest.profile in
+      let made = each_event g ps laws sound closed c start.kind start.start Open
+      (es ++ (SendCommand wide.ask wide.position wide.argument, Answered answers.Sent) ∷ []) (wide.next answers.Sent) es
+      (SendCommand wide.ask wide.position wide.argument) (Answered answers.Sent) [] on.last refl on.steps in
+      let small : wide.argument < 2 ^ 32 =
+      narrow g.kind wide.ask wide.position wide.argument on.last made.host laws.asks_address made.fine made.honest.profile in
       let big = wide.wide in
       absurd (omega (arith, small, big))
 
@@ -150,12 +164,15 @@ pub record HasCertificate (g : Flow) (most : ℕ) : Type 0 where
   pub closed : Closed g points
   pub bound : most ≡ bound_of g points
 
-module _ {S : Type 0} (steps : Steps S) (card : S → Option Card) (keeps : KeepsTables steps card) (g : Flow) (most : ℕ) (sound : IsSound g) (has : ∥ HasCertificate g most ∥₁) where
-  beside_card : (e : Ending) (es : List Pair) (s s' : S) (c : Card) → ShowsStart card g.kind s c → Path g.kind g.places e (begin g) es → Moved g.kind steps s es s' → HasCertificate g most → OnCard card most e es c s'
+module _ {S : Type 0} (steps : Steps S) (card : S → Option Card) (keeps : KeepsTables steps card) (g : Flow) (most : ℕ) (sound : IsSound g)
+    (has : ∥ HasCertificate g most ∥₁) where
+  beside_card : (e : Ending) (es : List Pair) (s s' : S) (c : Card) → ShowsStart card g.kind s c → Path g.kind g.places e (begin g) es →
+      Moved g.kind steps s es s' → HasCertificate g most → OnCard card most e es c s'
   beside_card e es s s' c start path moved h =
       subst (λ n. OnCard card n e es c s') (sym h.bound) (on_card steps card keeps g h.points (laws_of g.kind) sound h.closed e es s s' c start path moved)
 
-  never_reply : (es : List Pair) (w w' : World S) (c : Card) → ShowsStart card g.kind w.port c → Path g.kind g.places Open (begin g) es → Moved g.kind steps w.port es w'.port → Because faults.Reply g es w w' → HasCertificate g most → ⊥
+  never_reply : (es : List Pair) (w w' : World S) (c : Card) → ShowsStart card g.kind w.port c → Path g.kind g.places Open (begin g) es →
+      Moved g.kind steps w.port es w'.port → Because faults.Reply g es w w' → HasCertificate g most → ⊥
   never_reply es w w' c start path moved because h =
       no_reply steps card keeps g h.points (laws_of g.kind) sound h.closed es w w' c start path
       (on_card steps card keeps g h.points (laws_of g.kind) sound h.closed Open es w.port w'.port c start path moved) because

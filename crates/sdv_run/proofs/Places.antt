@@ -44,7 +44,8 @@ keeps_at (q ∷ ps) zero p all here =
     subst (λ q. keeps_limits q ≡ true) e (one_of (keeps_limits q) (all_keep_limits ps) all).0
 keeps_at (q ∷ ps) (suc i) p all here = keeps_at ps i p (one_of (keeps_limits q) (all_keep_limits ps) all).1 here
 
-few_at : (ps : List Place) (i : ℕ) (p : Place) → all_keep_limits ps ≡ true → slice_get ps i ≡ Some p → (node_keeps_limits p.node ≡ true) × (length p.most ≤ max_loops)
+few_at : (ps : List Place) (i : ℕ) (p : Place) → all_keep_limits ps ≡ true → slice_get ps i ≡ Some p →
+    (node_keeps_limits p.node ≡ true) × (length p.most ≤ max_loops)
 few_at ps i p all here =
     let keeps = one_of (node_keeps_limits p.node) (nat_le (length p.most) max_loops) (keeps_at ps i p all here) in
     (keeps.0, leb-true (length p.most) max_loops keeps.1)
@@ -58,7 +59,8 @@ module _ (k : Kind) (g : List Place) where
   abbrev pub StandsAt : ℕ → Stand → Type 0
   StandsAt n s = (p : Place) × (slice_get g s.point ≡ Some p) × WhereverTo (Lasts k g (n - 1)) (node_move k p.node s.turns s.host)
 
-  found : (n : ℕ) (s : Stand) (o : Option Place) → slice_get g s.point ≡ o → WhereverTo (Lasts k g n) (move k o s.turns s.host) → (p : Place) × (slice_get g s.point ≡ Some p) × WhereverTo (Lasts k g n) (node_move k p.node s.turns s.host)
+  found : (n : ℕ) (s : Stand) (o : Option Place) → slice_get g s.point ≡ o → WhereverTo (Lasts k g n) (move k o s.turns s.host) →
+      (p : Place) × (slice_get g s.point ≡ Some p) × WhereverTo (Lasts k g n) (node_move k p.node s.turns s.host)
   found n s None here lasts = absurd lasts
   found n s (Some p) here lasts = (p, here, lasts)
 
@@ -66,7 +68,8 @@ module _ (k : Kind) (g : List Place) where
   stands_at zero s lasts = absurd lasts
   stands_at (suc n) s lasts =
       let e : n ≡ suc n - 1 = omega arith in
-      subst (λ m. (p : Place) × (slice_get g s.point ≡ Some p) × WhereverTo (Lasts k g m) (node_move k p.node s.turns s.host)) e (found n s (slice_get g s.point) refl lasts)
+      subst (λ m. (p : Place) × (slice_get g s.point ≡ Some p) × WhereverTo (Lasts k g m) (node_move k p.node s.turns s.host)) e
+      (found n s (slice_get g s.point) refl lasts)
 
   -- It leads to where it sits again.
   module _ (most : List ℕ) where
@@ -77,7 +80,8 @@ module _ (k : Kind) (g : List Place) where
     either_lands true t u p q = p
     either_lands false t u p q = q
 
-    way_lands : (ws : List Fork) (other : Target) (returned : Return) → EachFork ws (Lands g most) → Lands g most Same other → Lands g most Same (way_of k ws other returned)
+    way_lands : (ws : List Fork) (other : Target) (returned : Return) → EachFork ws (Lands g most) → Lands g most Same other →
+        Lands g most Same (way_of k ws other returned)
     way_lands [] other returned each o = o
     way_lands (w ∷ ws) other returned each o =
         either_lands (all_pass k w.guards returned) w.target (way_of k ws other returned) each.0 (way_lands ws other returned each.1 o)
@@ -88,7 +92,9 @@ module _ (k : Kind) (g : List Place) where
 
     sits_on : (node : Node) (ts : List ℕ) (h : Host) → InBox ts most → EachTarget node (Lands g most) → Onward Sits (node_move k node ts h)
     sits_on (sends c ways other) ts h box each =
-        with_onward Sits (position_of_command h c.address) (λ position. Does (command_deed k c h position) h (λ returned h'. arrive (way_of k ways other returned) ts h')) (λ n returned after. lands (way_of k ways other returned) ts after (way_lands ways other returned each.0 each.1) box)
+        with_onward Sits (position_of_command h c.address)
+        (λ position. Does (command_deed k c h position) h (λ returned h'. arrive (way_of k ways other returned) ts h'))
+        (λ n returned after. lands (way_of k ways other returned) ts after (way_lands ways other returned each.0 each.1) box)
     sits_on (phases p well other) ts h box each = λ returned after.
         lands (if passes k WentWell returned then well else other) ts after (either_lands (passes k WentWell returned) well other each.0 each.1) box
     sits_on (lets l t) ts h box each =
@@ -121,7 +127,8 @@ with_end_fits (Some n) on f = f n
 
 end_fits : (k : Kind) (node : Node) (ts : List ℕ) (h : Host) → node_keeps_limits node ≡ true → EndFits (node_move k node ts h)
 end_fits k (sends c ways other) ts h keeps =
-    with_end_fits (position_of_command h c.address) (λ position. Does (command_deed k c h position) h (λ returned h'. arrive (way_of k ways other returned) ts h')) (λ n. tt)
+    with_end_fits (position_of_command h c.address)
+    (λ position. Does (command_deed k c h position) h (λ returned h'. arrive (way_of k ways other returned) ts h')) (λ n. tt)
 end_fits k (phases p well other) ts h keeps = tt
 end_fits k (lets l t) ts h keeps = with_end_fits (value_of_let k h l) (λ n. Goes (arrive t ts (with_number h l.target n))) (λ n. tt)
 end_fits k (tests c holds other) ts h keeps = tt
@@ -136,9 +143,11 @@ end_fits k (stops Finished) ts h keeps = tt
 end_fits k (stops (Failed name)) ts h keeps = leb-true (length name) max_name keeps
 end_fits k (stops Open) ts h keeps = tt
 
-pub narrow : (k : Kind) (g : List Place) (n : ℕ) (m : Move) → all_keep_limits g ≡ true → WhereverTo (Lasts k g n) m → Onward (Sits k g) m → EndFits m → IsNarrow m
+pub narrow : (k : Kind) (g : List Place) (n : ℕ) (m : Move) → all_keep_limits g ≡ true → WhereverTo (Lasts k g n) m → Onward (Sits k g) m → EndFits m →
+    IsNarrow m
 narrow k g n (Goes next) limits lasts sits fits = short_at k g n next limits lasts sits
-narrow k g n (Does deed before next) limits lasts sits fits = λ returned after. short_at k g n (next returned after) limits (lasts returned after) (sits returned after)
+narrow k g n (Does deed before next) limits lasts sits fits =
+    λ returned after. short_at k g n (next returned after) limits (lasts returned after) (sits returned after)
 narrow k g n (Halts Fell) limits lasts sits fits = absurd lasts
 narrow k g n (Halts Broke) limits lasts sits fits = absurd lasts
 narrow k g n (Halts Finished) limits lasts sits fits = tt
@@ -152,13 +161,15 @@ pub record Ready (k : Kind) (g : List Place) (n : ℕ) (s : Stand) (p : Place) :
   pub lasts : WhereverTo (Lasts k g (n - 1)) (node_move k p.node s.turns s.host)
   pub sits : Onward (Sits k g) (node_move k p.node s.turns s.host)
 
-pub ready : (f : Flow) (n : ℕ) (s : Stand) (p : Place) → IsSound f → Lasts f.kind f.places n s → Sits f.kind f.places s → slice_get f.places s.point ≡ Some p → Ready f.kind f.places n s p
+pub ready : (f : Flow) (n : ℕ) (s : Stand) (p : Place) → IsSound f → Lasts f.kind f.places n s → Sits f.kind f.places s → slice_get f.places s.point ≡ Some p →
+    Ready f.kind f.places n s p
 ready f n s p sound lasts sits here =
     let k = f.kind in
     let g = f.places in
     let there = stands_at k g n s lasts in
     let same : there.0 ≡ p = cc in
-    let more : WhereverTo (Lasts k g (n - 1)) (node_move k p.node s.turns s.host) = subst (λ q. WhereverTo (Lasts k g (n - 1)) (node_move k q.node s.turns s.host)) same there.2 in
+    let more : WhereverTo (Lasts k g (n - 1)) (node_move k p.node s.turns s.host) =
+    subst (λ q. WhereverTo (Lasts k g (n - 1)) (node_move k q.node s.turns s.host)) same there.2 in
     let keeps = few_at g s.point p sound.limits here in
     let on = sits_on k g p.most p.node s.turns s.host (sits p here) (sound.nested.lands s.point p here) in
     record {

@@ -67,7 +67,8 @@ module _ {S : Type 0} (steps : Steps S) (f : Flow) (room : ℕ) (start : World S
       subst (λ n. SoFar n s start) (sym same_steps) (subst (λ s. SoFar f.steps s start) (sym same_stand) (begins sound))
 
   -- a path on from where the run stands is one from its start
-  onward : (n : ℕ) (s : Stand) (w : World S) (so : SoFar n s w) (m : Move) (e : Ending) (rest : List Pair) → move_from f.kind f.places s ≡ m → Follows f.kind e (Path f.kind f.places e) m rest → Path f.kind f.places e (begin f) (so.events ++ rest)
+  onward : (n : ℕ) (s : Stand) (w : World S) (so : SoFar n s w) (m : Move) (e : Ending) (rest : List Pair) → move_from f.kind f.places s ≡ m →
+      Follows f.kind e (Path f.kind f.places e) m rest → Path f.kind f.places e (begin f) (so.events ++ rest)
   onward n s w so m e rest at follows =
       so.leads e rest (roll f.kind f.places e s rest (inr (subst (λ m. Follows f.kind e (Path f.kind f.places e) m rest) (sym at) follows)))
 
@@ -79,7 +80,8 @@ module _ {S : Type 0} (steps : Steps S) (f : Flow) (room : ℕ) (start : World S
   pub here_is : (s : Stand) (p : Place) → slice_get f.places s.point ≡ Some p → move_from f.kind f.places s ≡ node_move f.kind p.node s.turns s.host
   here_is s p here = ap (λ o. move f.kind o s.turns s.host) here
 
-  pub goes_on : (n : ℕ) (s s' : Stand) (w w' : World S) (p : Place) → IsSound f → AnnounceAtMost f.places room → slice_get f.places s.point ≡ Some p → SoFar n s w → Leads f.kind steps (node_move f.kind p.node s.turns s.host) w w' s' → SoFar (n - 1) s' w'
+  pub goes_on : (n : ℕ) (s s' : Stand) (w w' : World S) (p : Place) → IsSound f → AnnounceAtMost f.places room → slice_get f.places s.point ≡ Some p →
+      SoFar n s w → Leads f.kind steps (node_move f.kind p.node s.turns s.host) w w' s' → SoFar (n - 1) s' w'
   goes_on n s s' w w' p sound few here so leads =
       let k = f.kind in
       let m = node_move k p.node s.turns s.host in
@@ -89,7 +91,8 @@ module _ {S : Type 0} (steps : Steps S) (f : Flow) (room : ℕ) (start : World S
         events = so.events ++ made.events;
         happened = happened_more k steps so.events made.events start w w' so.happened made.happened;
         written = written_more k steps so.events made.events start w w' so.written made.written;
-        leads = λ e rest path. subst (λ es. Path k f.places e (begin f) es) (sym (append_assoc so.events made.events rest)) (onward n s w so m e (made.events ++ rest) (here_is s p here) (made.leads e rest path));
+        leads = λ e rest path. subst (λ es. Path k f.places e (begin f) es) (sym (append_assoc so.events made.events rest))
+            (onward n s w so m e (made.events ++ rest) (here_is s p here) (made.leads e rest path));
         lasts = led_to k steps (Lasts k f.places (n - 1)) m w w' s' now.lasts leads;
         sits = led_onward k steps (Sits k f.places) m w w' s' now.sits leads;
         in_room = announced_after k steps room p.node s.turns s.host (few s.point p here) so.in_room w w' s' leads;
@@ -99,9 +102,11 @@ module _ {S : Type 0} (steps : Steps S) (f : Flow) (room : ℕ) (start : World S
 
   whole_walk : (n : ℕ) (s : Stand) (w : World S) (so : SoFar n s w) (last : Ending) → move_from f.kind f.places s ≡ Halts last → IsWalk f last so.events
   whole_walk n s w so last at =
-      is_walk f last so.events (subst (λ es. Path f.kind f.places last (begin f) es) (append-nil so.events) (onward n s w so (Halts last) last [] at (refl, refl)))
+      is_walk f last so.events
+      (subst (λ es. Path f.kind f.places last (begin f) es) (append-nil so.events) (onward n s w so (Halts last) last [] at (refl, refl)))
 
-  pub ends_well : (n : ℕ) (s : Stand) (w : World S) (end : End) (t : Option (List ℕ)) → SoFar n s w → move_from f.kind f.places s ≡ Halts (ending_of end) → Appends w.trace t (end_line end) → Ended steps f end start (record { port = w.port; input = w.input; out = w.out; trace = t })
+  pub ends_well : (n : ℕ) (s : Stand) (w : World S) (end : End) (t : Option (List ℕ)) → SoFar n s w → move_from f.kind f.places s ≡ Halts (ending_of end) →
+      Appends w.trace t (end_line end) → Ended steps f end start (record { port = w.port; input = w.input; out = w.out; trace = t })
   ends_well n s w end t so at printed = record {
     events = so.events;
     happened = record { port = so.happened.port; input = so.happened.input };
@@ -110,7 +115,8 @@ module _ {S : Type 0} (steps : Steps S) (f : Flow) (room : ℕ) (start : World S
     trace = appends_more start.trace w.trace t (lines so.events) (end_line end) so.written.trace printed;
   }
 
-  pub ends_cut : (n : ℕ) (s : Stand) (w : World S) (end : End) (t : Option (List ℕ)) → SoFar n s w → move_from f.kind f.places s ≡ Halts (ending_of end) → AppendsPart w.trace t (end_line end) → Stopped steps f Trace start (record { port = w.port; input = w.input; out = w.out; trace = t })
+  pub ends_cut : (n : ℕ) (s : Stand) (w : World S) (end : End) (t : Option (List ℕ)) → SoFar n s w → move_from f.kind f.places s ≡ Halts (ending_of end) →
+      AppendsPart w.trace t (end_line end) → Stopped steps f Trace start (record { port = w.port; input = w.input; out = w.out; trace = t })
   ends_cut n s w end t so at part = record {
     events = so.events;
     happened = record { port = so.happened.port; input = so.happened.input };
@@ -125,21 +131,27 @@ module _ {S : Type 0} (steps : Steps S) (f : Flow) (room : ℕ) (start : World S
 
   -- STOPPED BEFORE THE END
 
-  module _ (n : ℕ) (s : Stand) (w w' : World S) (so : SoFar n s w) (deed : Deed) (before : Host) (next : Return → Host → Stand) (at : move_from f.kind f.places s ≡ Does deed before next) where
+  module _ (n : ℕ) (s : Stand) (w w' : World S) (so : SoFar n s w) (deed : Deed) (before : Host) (next : Return → Host → Stand)
+      (at : move_from f.kind f.places s ≡ Does deed before next) where
     -- the event may come next
-    comes_next : (event : ScriptEvent) (returned : Return) → IsDeed deed event → MayReturn event returned → Path f.kind f.places Open (begin f) (so.events ++ (event, returned) ∷ [])
+    comes_next : (event : ScriptEvent) (returned : Return) → IsDeed deed event → MayReturn event returned →
+        Path f.kind f.places Open (begin f) (so.events ++ (event, returned) ∷ [])
     comes_next event returned is may =
-        onward n s w so (Does deed before next) Open ((event, returned) ∷ []) at (event, returned, [], is, may, refl, open_here f.kind f.places (next returned (host_after f.kind event returned before)))
+        onward n s w so (Does deed before next) Open ((event, returned) ∷ []) at
+        (event, returned, [], is, may, refl, open_here f.kind f.places (next returned (host_after f.kind event returned before)))
 
     came : (event : ScriptEvent) (returned : Return) → IsDeed deed event → MayReturn event returned → IsWalk f Open (so.events ++ (event, returned) ∷ [])
     came event returned is may = is_walk f Open (so.events ++ (event, returned) ∷ []) (comes_next event returned is may)
 
     -- one more event happened
-    one_more : (event : ScriptEvent) (returned : Return) → steps w.port (call_of f.kind event) returned w'.port → w.input ≡ given_by event ++ w'.input → Happened f.kind steps (so.events ++ (event, returned) ∷ []) start w'
+    one_more : (event : ScriptEvent) (returned : Return) → steps w.port (call_of f.kind event) returned w'.port → w.input ≡ given_by event ++ w'.input →
+        Happened f.kind steps (so.events ++ (event, returned) ∷ []) start w'
     one_more event returned step input =
-        happened_more f.kind steps so.events ((event, returned) ∷ []) start w w' so.happened (record { port = (w'.port, step, refl); input = input ∙ ap (λ l. l ++ w'.input) (sym (append-nil (given_by event))) })
+        happened_more f.kind steps so.events ((event, returned) ∷ []) start w w' so.happened
+        (record { port = (w'.port, step, refl); input = input ∙ ap (λ l. l ++ w'.input) (sym (append-nil (given_by event))) })
 
-    too_wide : (ask : Ask) (position argument : ℕ) → IsDeed deed (SendCommand ask position argument) → (2 ^ 32 ≤ argument) × (w' ≡ w) → Stopped steps f Reply start w'
+    too_wide : (ask : Ask) (position argument : ℕ) → IsDeed deed (SendCommand ask position argument) → (2 ^ 32 ≤ argument) × (w' ≡ w) →
+        Stopped steps f Reply start w'
     too_wide ask position argument is p = record {
       events = so.events;
       happened = subst (λ w. Happened f.kind steps so.events start w) (sym p.1) so.happened;
@@ -154,7 +166,9 @@ module _ {S : Type 0} (steps : Steps S) (f : Flow) (room : ℕ) (start : World S
       });
     }
 
-    is_refused : (ask : Ask) (position argument : ℕ) → IsDeed deed (SendCommand ask position argument) → (answer : Answer) × steps w.port (call_of f.kind (SendCommand ask position argument)) (Answered answer) w'.port × (is_taken f.kind ask answer ≡ false) × (w' ≡ record w { port = w'.port }) → Stopped steps f Reply start w'
+    is_refused : (ask : Ask) (position argument : ℕ) → IsDeed deed (SendCommand ask position argument) →
+        (answer : Answer) × steps w.port (call_of f.kind (SendCommand ask position argument)) (Answered answer) w'.port × (is_taken f.kind ask answer ≡ false)
+        × (w' ≡ record w { port = w'.port }) → Stopped steps f Reply start w'
     is_refused ask position argument is p = record {
       events = so.events ++ (SendCommand ask position argument, Answered p.0) ∷ [];
       happened = one_more (SendCommand ask position argument) (Answered p.0) p.1 (sym (ap (λ w. w.input) p.3));
@@ -174,7 +188,8 @@ module _ {S : Type 0} (steps : Steps S) (f : Flow) (room : ℕ) (start : World S
       });
     }
 
-    too_short : (count : ℕ) → ((blocks : List Block) → length blocks ≡ count → IsDeed deed (GiveBlocks blocks)) → (length w.input < count) × (w' ≡ w) → Stopped steps f Input start w'
+    too_short : (count : ℕ) → ((blocks : List Block) → length blocks ≡ count → IsDeed deed (GiveBlocks blocks)) → (length w.input < count) × (w' ≡ w) →
+        Stopped steps f Input start w'
     too_short count is p = record {
       events = so.events;
       happened = subst (λ w. Happened f.kind steps so.events start w) (sym p.1) so.happened;
@@ -187,7 +202,9 @@ module _ {S : Type 0} (steps : Steps S) (f : Flow) (room : ℕ) (start : World S
       };
     }
 
-    output_fails : (count : ℕ) → IsDeed deed (ReceiveBlocks count) → (blocks : List Block) × (length blocks ≡ count) × steps w.port (call_of f.kind (ReceiveBlocks count)) (BlocksIn ends.Ok blocks) w'.port × AppendsPart w.out w'.out (concat blocks) × (w' ≡ record w { port = w'.port; out = w'.out }) → Stopped steps f Output start w'
+    output_fails : (count : ℕ) → IsDeed deed (ReceiveBlocks count) →
+        (blocks : List Block) × (length blocks ≡ count) × steps w.port (call_of f.kind (ReceiveBlocks count)) (BlocksIn ends.Ok blocks) w'.port
+        × AppendsPart w.out w'.out (concat blocks) × (w' ≡ record w { port = w'.port; out = w'.out }) → Stopped steps f Output start w'
     output_fails count is p =
         let blocks = p.0 in
         let event = ReceiveBlocks (length blocks) in
@@ -205,7 +222,9 @@ module _ {S : Type 0} (steps : Steps S) (f : Flow) (room : ℕ) (start : World S
           };
         }
 
-    trace_fails : (event : ScriptEvent) × (returned : Return) × IsDeed deed event × MayReturn event returned × steps w.port (call_of f.kind event) returned w'.port × (w.input ≡ given_by event ++ w'.input) × Appends w.out w'.out (received_by returned) × AppendsPart w.trace w'.trace (line_of event returned) → Stopped steps f Trace start w'
+    trace_fails : (event : ScriptEvent) × (returned : Return) × IsDeed deed event × MayReturn event returned
+        × steps w.port (call_of f.kind event) returned w'.port × (w.input ≡ given_by event ++ w'.input) × Appends w.out w'.out (received_by returned)
+        × AppendsPart w.trace w'.trace (line_of event returned) → Stopped steps f Trace start w'
     trace_fails p =
         let event = p.0 in
         let returned = p.1 in
@@ -219,28 +238,37 @@ module _ {S : Type 0} (steps : Steps S) (f : Flow) (room : ℕ) (start : World S
             event = event;
             returned = returned;
             last = refl;
-            output = subst (λ l. Appends start.out w'.out l) (sym (received_more so.events ((event, returned) ∷ []))) (appends_more start.out w.out w'.out (received so.events) (received ((event, returned) ∷ [])) so.written.output blocks);
+            output = subst (λ l. Appends start.out w'.out l) (sym (received_more so.events ((event, returned) ∷ [])))
+                (appends_more start.out w.out w'.out (received so.events) (received ((event, returned) ∷ [])) so.written.output blocks);
             trace = breaks_off start.trace w.trace w'.trace (lines so.events) (line_of event returned) so.written.trace p.7;
           });
         }
 
-  either_reply : (n : ℕ) (s : Stand) (w w' : World S) (so : SoFar n s w) (ask : Ask) (position argument : ℕ) (before : Host) (next : Return → Host → Stand) (at : move_from f.kind f.places s ≡ Does (exactly (SendCommand ask position argument)) before next) → CutDeed Reply f.kind steps (exactly (SendCommand ask position argument)) w w' → Stopped steps f Reply start w'
-  either_reply n s w w' so ask position argument before next at (inl p) = too_wide n s w w' so (exactly (SendCommand ask position argument)) before next at ask position argument refl p
-  either_reply n s w w' so ask position argument before next at (inr p) = is_refused n s w w' so (exactly (SendCommand ask position argument)) before next at ask position argument refl p
+  either_reply : (n : ℕ) (s : Stand) (w w' : World S) (so : SoFar n s w) (ask : Ask) (position argument : ℕ) (before : Host) (next : Return → Host → Stand)
+      (at : move_from f.kind f.places s ≡ Does (exactly (SendCommand ask position argument)) before next) →
+      CutDeed Reply f.kind steps (exactly (SendCommand ask position argument)) w w' → Stopped steps f Reply start w'
+  either_reply n s w w' so ask position argument before next at (inl p) =
+      too_wide n s w w' so (exactly (SendCommand ask position argument)) before next at ask position argument refl p
+  either_reply n s w w' so ask position argument before next at (inr p) =
+      is_refused n s w w' so (exactly (SendCommand ask position argument)) before next at ask position argument refl p
 
   -- a move that was cut short
-  pub stops : (fault : RunFault) (n : ℕ) (s : Stand) (w w' : World S) (so : SoFar n s w) (m : Move) → move_from f.kind f.places s ≡ m → CutShort fault f.kind steps m w w' → Stopped steps f fault start w'
+  pub stops : (fault : RunFault) (n : ℕ) (s : Stand) (w w' : World S) (so : SoFar n s w) (m : Move) → move_from f.kind f.places s ≡ m →
+      CutShort fault f.kind steps m w w' → Stopped steps f fault start w'
   stops fault n s w w' so (Goes next) at p = absurd p
   stops fault n s w w' so (Halts last) at p = absurd p
-  stops Reply n s w w' so (Does (exactly (SendCommand ask position argument)) before next) at p = either_reply n s w w' so ask position argument before next at p
+  stops Reply n s w w' so (Does (exactly (SendCommand ask position argument)) before next) at p =
+      either_reply n s w w' so ask position argument before next at p
   stops Reply n s w w' so (Does (exactly (ReceiveBlocks count)) before next) at p = absurd p
   stops Reply n s w w' so (Does (exactly (ReceiveRegister count)) before next) at p = absurd p
   stops Reply n s w w' so (Does (exactly (GiveBlocks blocks)) before next) at p = absurd p
   stops Reply n s w w' so (Does (exactly AwaitReady) before next) at p = absurd p
   stops Reply n s w w' so (Does (giving count) before next) at p = absurd p
   stops Input n s w w' so (Does (exactly event) before next) at p = absurd p
-  stops Input n s w w' so (Does (giving count) before next) at p = too_short n s w w' so (giving count) before next at count (λ blocks len. (blocks, len, refl)) p
-  stops Output n s w w' so (Does (exactly (ReceiveBlocks count)) before next) at p = output_fails n s w w' so (exactly (ReceiveBlocks count)) before next at count refl p
+  stops Input n s w w' so (Does (giving count) before next) at p =
+      too_short n s w w' so (giving count) before next at count (λ blocks len. (blocks, len, refl)) p
+  stops Output n s w w' so (Does (exactly (ReceiveBlocks count)) before next) at p =
+      output_fails n s w w' so (exactly (ReceiveBlocks count)) before next at count refl p
   stops Output n s w w' so (Does (exactly (SendCommand ask position argument)) before next) at p = absurd p
   stops Output n s w w' so (Does (exactly (ReceiveRegister count)) before next) at p = absurd p
   stops Output n s w w' so (Does (exactly (GiveBlocks blocks)) before next) at p = absurd p
@@ -250,28 +278,33 @@ module _ {S : Type 0} (steps : Steps S) (f : Flow) (room : ℕ) (start : World S
   stops Memory n s w w' so (Does deed before next) at p = absurd p
 
 -- AT A POINT, for a host of the same kind
-module _ {S : Type 0} (steps : Steps S) (f : Flow) (room : ℕ) (start : World S) (n : ℕ) (s : Stand) (w : World S) (so : SoFar steps f room start n s w) (k : Kind) (same : k ≡ f.kind) (p : Place) (here : slice_get f.places s.point ≡ Some p) where
+module _ {S : Type 0} (steps : Steps S) (f : Flow) (room : ℕ) (start : World S) (n : ℕ) (s : Stand) (w : World S) (so : SoFar steps f room start n s w)
+    (k : Kind) (same : k ≡ f.kind) (p : Place) (here : slice_get f.places s.point ≡ Some p) where
   moves_so : (m : Move) → node_move k p.node s.turns s.host ≡ m → move_from f.kind f.places s ≡ m
   moves_so m e = here_is steps f room start s p here ∙ subst (λ k. node_move k p.node s.turns s.host ≡ m) same e
 
   pub may_move : IsSound f → Ready k f.places n s p
   may_move sound = subst (λ k. Ready k f.places n s p) (sym same) (ready f n s p sound so.lasts so.sits here)
 
-  pub moves_on : (w' : World S) (s' : Stand) → IsSound f → AnnounceAtMost f.places room → Leads k steps (node_move k p.node s.turns s.host) w w' s' → SoFar steps f room start (n - 1) s' w'
+  pub moves_on : (w' : World S) (s' : Stand) → IsSound f → AnnounceAtMost f.places room → Leads k steps (node_move k p.node s.turns s.host) w w' s' →
+      SoFar steps f room start (n - 1) s' w'
   moves_on w' s' sound few leads =
       goes_on steps f room start n s s' w w' p sound few here so (subst (λ k. Leads k steps (node_move k p.node s.turns s.host) w w' s') same leads)
 
-  pub finishes : (w' : World S) (end : End) (t : Option (List ℕ)) → (node_move k p.node s.turns s.host ≡ Halts (ending_of end)) × (w' ≡ w) → Appends w'.trace t (end_line end) → Ended steps f end start (record { port = w'.port; input = w'.input; out = w'.out; trace = t })
+  pub finishes : (w' : World S) (end : End) (t : Option (List ℕ)) → (node_move k p.node s.turns s.host ≡ Halts (ending_of end)) × (w' ≡ w) →
+      Appends w'.trace t (end_line end) → Ended steps f end start (record { port = w'.port; input = w'.input; out = w'.out; trace = t })
   finishes w' end t halts printed =
       ends_well steps f room start n s w' end t (subst (SoFar steps f room start n s) (sym halts.1) so) (moves_so (Halts (ending_of end)) halts.0) printed
 
-  pub finishes_cut : (w' : World S) (end : End) (t : Option (List ℕ)) → (node_move k p.node s.turns s.host ≡ Halts (ending_of end)) × (w' ≡ w) → AppendsPart w'.trace t (end_line end) → Stopped steps f Trace start (record { port = w'.port; input = w'.input; out = w'.out; trace = t })
+  pub finishes_cut : (w' : World S) (end : End) (t : Option (List ℕ)) → (node_move k p.node s.turns s.host ≡ Halts (ending_of end)) × (w' ≡ w) →
+      AppendsPart w'.trace t (end_line end) → Stopped steps f Trace start (record { port = w'.port; input = w'.input; out = w'.out; trace = t })
   finishes_cut w' end t halts part =
       ends_cut steps f room start n s w' end t (subst (SoFar steps f room start n s) (sym halts.1) so) (moves_so (Halts (ending_of end)) halts.0) part
 
   pub cut_short : (w' : World S) (fault : RunFault) → CutShort fault k steps (node_move k p.node s.turns s.host) w w' → Stopped steps f fault start w'
   cut_short w' fault cut =
-      stops steps f room start fault n s w w' so (node_move f.kind p.node s.turns s.host) (here_is steps f room start s p here) (subst (λ k. CutShort fault k steps (node_move k p.node s.turns s.host) w w') same cut)
+      stops steps f room start fault n s w w' so (node_move f.kind p.node s.turns s.host) (here_is steps f room start s p here)
+      (subst (λ k. CutShort fault k steps (node_move k p.node s.turns s.host) w w') same cut)
 
 -- without memory nothing happens
 pub no_memory : {S : Type 0} (steps : Steps S) (f : Flow) (w : World S) → Stopped steps f Memory w w

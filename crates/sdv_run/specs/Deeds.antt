@@ -27,7 +27,8 @@ use Rattle.sdv_run.specs.Run.{Steps, received_by}
 use Rattle.sdv_run.specs.Answers.{is_taken}
 
 -- A COMMAND: a run goes on with an answer that is taken, and prints it
-pub record Heard (k : Kind) (ask : Ask) (argument : ℕ) (answer : Answer) (h h' : Host) (t t' : Option (List ℕ)) : Type 0 where
+pub record Heard (k : Kind) (ask : Ask) (argument : ℕ) (answer : Answer) (h h' : Host)
+    (t t' : Option (List ℕ)) : Type 0 where
   pub taken : is_taken k ask answer ≡ true
   pub host : h' ≡ host_after_order (order_of k ask) answer h
   pub printed : Appends t t' (command_line (command_of ask argument) answer)
@@ -40,10 +41,12 @@ Unheard Trace k ask argument answer t t' =
 Unheard fault k ask argument answer t t' = ⊥
 
 -- a command is sent once
-abbrev pub Sends : {S : Type 0} → Kind → Steps S → Ask → ℕ → (s s' : S) → (h h' : Host) → (t t' : Option (List ℕ)) → Result Answer RunFault → Type 0
+abbrev pub Sends : {S : Type 0} → Kind → Steps S → Ask → ℕ → (s s' : S) → (h h' : Host) → (t t' : Option (List ℕ)) →
+    Result Answer RunFault → Type 0
 Sends k steps ask argument s s' h h' t t' result =
     (answer : Answer) × steps s (Exchange (command_of ask argument) (expect_of k ask)) (Answered answer) s'
-    × MatchResult result (λ a. (a ≡ answer) × Heard k ask argument answer h h' t t') (λ fault. Unheard fault k ask argument answer t t')
+    × MatchResult result (λ a. (a ≡ answer) × Heard k ask argument answer h h' t t')
+    (λ fault. Unheard fault k ask argument answer t t')
 
 -- PHASES AND WAITS: a run stops where the trace fails
 abbrev pub Unprinted : RunFault → (t t' : Option (List ℕ)) → (text : List ℕ) → Type 0
@@ -54,28 +57,34 @@ Unprinted fault t t' text = ⊥
 abbrev pub Unreceived : RunFault → DataEnd → List Block → (o o' t t' : Option (List ℕ)) → Type 0
 Unreceived Output end blocks o o' t t' = (end ≡ ends.Ok) × AppendsPart o o' (concat blocks) × (t' ≡ t)
 Unreceived Trace end blocks o o' t t' =
-    Appends o o' (received_by (BlocksIn end blocks)) × AppendsPart t t' (line_of (ReceiveBlocks (length blocks)) (BlocksIn end blocks))
+    Appends o o' (received_by (BlocksIn end blocks))
+    × AppendsPart t t' (line_of (ReceiveBlocks (length blocks)) (BlocksIn end blocks))
 Unreceived fault end blocks o o' t t' = ⊥
 
 -- one phase of blocks from the card, which are written where it ended well
-abbrev pub Receives : {S : Type 0} → Steps S → (count : ℕ) → (s s' : S) → (o o' t t' : Option (List ℕ)) → Result DataEnd RunFault → Type 0
+abbrev pub Receives : {S : Type 0} → Steps S → (count : ℕ) → (s s' : S) → (o o' t t' : Option (List ℕ)) →
+    Result DataEnd RunFault → Type 0
 Receives steps count s s' o o' t t' result =
     (end : DataEnd) × (blocks : List Block) × (length blocks ≡ count) × steps s (DataIn count) (BlocksIn end blocks) s'
     × MatchResult result
-    (λ e. (e ≡ end) × Appends o o' (received_by (BlocksIn end blocks)) × Appends t t' (line_of (ReceiveBlocks count) (BlocksIn end blocks)))
+    (λ e. (e ≡ end) × Appends o o' (received_by (BlocksIn end blocks))
+    × Appends t t' (line_of (ReceiveBlocks count) (BlocksIn end blocks)))
     (λ fault. Unreceived fault end blocks o o' t t')
 
 -- one phase of a register
-abbrev pub ReceivesRegister : {S : Type 0} → Kind → Steps S → (s s' : S) → (h h' : Host) → (t t' : Option (List ℕ)) → Result DataEnd RunFault → Type 0
+abbrev pub ReceivesRegister : {S : Type 0} → Kind → Steps S → (s s' : S) → (h h' : Host) → (t t' : Option (List ℕ)) →
+    Result DataEnd RunFault → Type 0
 ReceivesRegister k steps s s' h h' t t' result =
     (end : DataEnd) × (bytes : List ℕ) × (length bytes ≡ h.register_length)
     × steps s (DataInRegister h.register_length) (RegisterIn end bytes) s'
     × MatchResult result
-    (λ e. (e ≡ end) × (h' ≡ host_after k (ReceiveRegister h.register_length) (RegisterIn end bytes) h) × Appends t t' (line_of (ReceiveRegister h.register_length) (RegisterIn end bytes)))
+    (λ e. (e ≡ end) × (h' ≡ host_after k (ReceiveRegister h.register_length) (RegisterIn end bytes) h)
+    × Appends t t' (line_of (ReceiveRegister h.register_length) (RegisterIn end bytes)))
     (λ fault. Unprinted fault t t' (line_of (ReceiveRegister h.register_length) (RegisterIn end bytes)))
 
 -- one phase of blocks to the card
-abbrev pub Gives : {S : Type 0} → Steps S → List Block → (s s' : S) → (t t' : Option (List ℕ)) → Result DataEnd RunFault → Type 0
+abbrev pub Gives : {S : Type 0} → Steps S → List Block → (s s' : S) → (t t' : Option (List ℕ)) →
+    Result DataEnd RunFault → Type 0
 Gives steps blocks s s' t t' result =
     (end : DataEnd) × steps s (DataOut blocks) (BlocksOut end) s'
     × MatchResult result
@@ -102,7 +111,8 @@ ArgumentIs k c h (Err Reply) =
 ArgumentIs k c h (Err fault) = ⊥
 
 -- a command is sent once, and leads where its answer does
-abbrev pub SendsOn : {S : Type 0} → Kind → Steps S → Ask → ℕ → (Return → Target) → (s s' : S) → (turns : List ℕ) → (h : Host) → Stand → (t t' : Option (List ℕ)) → Result (Unit {0}) RunFault → Type 0
+abbrev pub SendsOn : {S : Type 0} → Kind → Steps S → Ask → ℕ → (Return → Target) → (s s' : S) → (turns : List ℕ) →
+    (h : Host) → Stand → (t t' : Option (List ℕ)) → Result (Unit {0}) RunFault → Type 0
 SendsOn k steps ask argument target s s' turns h stand t t' result =
     (answer : Answer) × steps s (Exchange (command_of ask argument) (expect_of k ask)) (Answered answer) s'
     × MatchResult result
@@ -116,17 +126,21 @@ abbrev pub target_by_end : Kind → (well other : Target) → Return → Target
 target_by_end k well other returned = if passes k WentWell returned then well else other
 
 -- where nothing is written but the trace
-abbrev pub PhaseGoesOn : {S : Type 0} → Kind → Steps S → ScriptEvent → (Return → Target) → (s s' : S) → (turns : List ℕ) → (h : Host) → Stand → (t t' : Option (List ℕ)) → Result (Unit {0}) RunFault → Type 0
+abbrev pub PhaseGoesOn : {S : Type 0} → Kind → Steps S → ScriptEvent → (Return → Target) → (s s' : S) →
+    (turns : List ℕ) → (h : Host) → Stand → (t t' : Option (List ℕ)) → Result (Unit {0}) RunFault → Type 0
 PhaseGoesOn k steps event target s s' turns h stand t t' result =
     (returned : Return) × MayReturn event returned × steps s (call_of k event) returned s'
     × MatchResult result
-    (λ _. (stand ≡ arrive (target returned) turns (host_after k event returned h)) × Appends t t' (line_of event returned))
+    (λ _. (stand ≡ arrive (target returned) turns (host_after k event returned h))
+    × Appends t t' (line_of event returned))
     (λ fault. Unprinted fault t t' (line_of event returned))
 
 -- where blocks are received
-abbrev pub BlocksGoOn : {S : Type 0} → Kind → Steps S → (count : ℕ) → (Return → Target) → (s s' : S) → (turns : List ℕ) → (h : Host) → Stand → (o o' t t' : Option (List ℕ)) → Result (Unit {0}) RunFault → Type 0
+abbrev pub BlocksGoOn : {S : Type 0} → Kind → Steps S → (count : ℕ) → (Return → Target) → (s s' : S) →
+    (turns : List ℕ) → (h : Host) → Stand → (o o' t t' : Option (List ℕ)) → Result (Unit {0}) RunFault → Type 0
 BlocksGoOn k steps count target s s' turns h stand o o' t t' result =
     (end : DataEnd) × (blocks : List Block) × (length blocks ≡ count) × steps s (DataIn count) (BlocksIn end blocks) s'
     × MatchResult result
-    (λ _. (stand ≡ arrive (target (BlocksIn end blocks)) turns h) × Appends o o' (received_by (BlocksIn end blocks)) × Appends t t' (line_of (ReceiveBlocks count) (BlocksIn end blocks)))
+    (λ _. (stand ≡ arrive (target (BlocksIn end blocks)) turns h) × Appends o o' (received_by (BlocksIn end blocks))
+    × Appends t t' (line_of (ReceiveBlocks count) (BlocksIn end blocks)))
     (λ fault. Unreceived fault end blocks o o' t t')

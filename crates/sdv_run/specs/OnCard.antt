@@ -1,5 +1,5 @@
--- A run over a port that SHOWS A CARD, of a script whose certificate is closed: its events are steps of that card, legal and
--- in bounds, and no more commands than were certified.
+-- A run over a port that SHOWS A CARD, of a script whose certificate is closed: its events are steps of that card,
+-- legal and in bounds, and no more commands than were certified.
 use Rattle.std.specs.Prelude.{◌≡◌, ◌≤◌, ℕ, List, Option, Result, Ok, Err}
 use Rattle.sdv_registers.specs.declared.kind.Kind.{Kind}
 use Rattle.sdv_card.specs.Card.{Card}
@@ -22,7 +22,8 @@ pub record ShowsStart {S : Type 0} (card : S → Option Card) (k : Kind) (s : S)
   pub start : IsAtStart c
 
 -- the events moved the card, step by step, and the port shows it as they left it
-pub record OnCard {S : Type 0} (card : S → Option Card) (most : ℕ) (e : Ending) (es : List Pair) (c : Card) (s' : S) : Type 0 where
+pub record OnCard {S : Type 0} (card : S → Option Card) (most : ℕ) (e : Ending) (es : List Pair) (c : Card)
+    (s' : S) : Type 0 where
   pub last : Card
   pub steps : StepsOf c es last
   pub shown : Shows card s' last
@@ -33,8 +34,12 @@ pub record OnCard {S : Type 0} (card : S → Option Card) (most : ℕ) (e : Endi
   pub ends : EndsWell e last
 
 -- A run as any, and beside the card that the port shows: no answer is refused, and no argument is too wide.
-abbrev pub RanBeside : {S : Type 0} → Steps S → (S → Option Card) → Flow → (most : ℕ) → (w w' : World S) → Result End RunFault → Type 0
+abbrev pub RanBeside : {S : Type 0} → Steps S → (S → Option Card) → Flow → (most : ℕ) → (w w' : World S) →
+    Result End RunFault → Type 0
 RanBeside steps card g most w w' (Ok end) =
-    (ran : Ended steps g end w w') × ((c : Card) → ShowsStart card g.kind w.port c → ∥ OnCard card most (ending_of end) ran.events c w'.port ∥₁)
+    (ran : Ended steps g end w w')
+    × ((c : Card) → ShowsStart card g.kind w.port c → ∥ OnCard card most (ending_of end) ran.events c w'.port ∥₁)
 RanBeside steps card g most w w' (Err fault) =
-    (ran : Stopped steps g fault w w') × ((c : Card) → ShowsStart card g.kind w.port c → ∥ OnCard card most Open ran.events c w'.port ∥₁ × (fault ≡ Reply → ⊥))
+    (ran : Stopped steps g fault w w')
+    × ((c : Card) → ShowsStart card g.kind w.port c → ∥ OnCard card most Open ran.events c w'.port ∥₁
+    × (fault ≡ Reply → ⊥))

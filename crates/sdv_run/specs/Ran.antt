@@ -67,14 +67,16 @@ pub record ArgumentIsTooWide {S : Type 0} (g : Flow) (es : List Pair) (w w' : Wo
   pub position : ℕ
   pub argument : ℕ
   pub wide : 2 ^ 32 ≤ argument
-  pub next : (answer : Answer) → Path g.kind g.places Open (begin g) (es ++ (SendCommand ask position argument, Answered answer) ∷ [])
+  pub next : (answer : Answer) →
+      Path g.kind g.places Open (begin g) (es ++ (SendCommand ask position argument, Answered answer) ∷ [])
   pub written : Written es w w'
 
 -- INPUT: the next event gives more blocks than are left of the input, and none was given.
 pub record InputIsShort {S : Type 0} (g : Flow) (es : List Pair) (w w' : World S) : Type 0 where
   pub count : ℕ
   pub short : length w'.input < count
-  pub next : (blocks : List Block) → length blocks ≡ count → (end : DataEnd) → Path g.kind g.places Open (begin g) (es ++ (GiveBlocks blocks, BlocksOut end) ∷ [])
+  pub next : (blocks : List Block) → length blocks ≡ count → (end : DataEnd) →
+      Path g.kind g.places Open (begin g) (es ++ (GiveBlocks blocks, BlocksOut end) ∷ [])
   pub written : Written es w w'
 
 -- OUTPUT: the output did not take all blocks of the last event, a phase that ended well and was not printed.

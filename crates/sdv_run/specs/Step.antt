@@ -1,4 +1,5 @@
--- One move of a run: what it does to the port, the input, the output and the trace, where it leads, and how it is cut short.
+-- One move of a run: what it does to the port, the input, the output and the trace, where it leads,
+-- and how it is cut short.
 use Rattle.std.specs.Prelude.{◌≡◌, ◌<◌, ◌≤◌, ◌^◌, ◌⊎◌, ◌++◌, ℕ, List, length, Option, Some, None, Result, Ok, Err, false}
 use Rattle.std.specs.List.{concat}
 use Rattle.std.specs.Io.KnownBytes.{Appends}
@@ -27,7 +28,8 @@ pub record World (S : Type 0) : Type 0 where
   pub trace : Option (List ℕ)
 
 -- an event was made, its blocks were written, and it was printed
-pub record Made {S : Type 0} (k : Kind) (steps : Steps S) (event : ScriptEvent) (returned : Return) (w w' : World S) : Type 0 where
+pub record Made {S : Type 0} (k : Kind) (steps : Steps S) (event : ScriptEvent) (returned : Return)
+    (w w' : World S) : Type 0 where
   pub fits : MayReturn event returned
   pub step : steps w.port (call_of k event) returned w'.port
   pub input : w.input ≡ given_by event ++ w'.input
@@ -53,7 +55,8 @@ CutDeed Reply k steps (exactly (SendCommand ask position argument)) w w' =
 CutDeed Input k steps (giving count) w w' = (length w.input < count) × (w' ≡ w)
 -- the output failed at the blocks of a phase that ended well
 CutDeed Output k steps (exactly (ReceiveBlocks count)) w w' =
-    (blocks : List Block) × (length blocks ≡ count) × steps w.port (call_of k (ReceiveBlocks count)) (BlocksIn ends.Ok blocks) w'.port
+    (blocks : List Block) × (length blocks ≡ count)
+    × steps w.port (call_of k (ReceiveBlocks count)) (BlocksIn ends.Ok blocks) w'.port
     × AppendsPart w.out w'.out (concat blocks) × (w' ≡ record w { port = w'.port; out = w'.out })
 -- the trace failed at the event's line
 CutDeed Trace k steps deed w w' =
@@ -67,7 +70,8 @@ CutShort fault k steps (Does deed before next) w w' = CutDeed fault k steps deed
 CutShort fault k steps m w w' = ⊥
 
 -- a move was made, ended the run, or was cut short
-abbrev pub Stepped : {S : Type 0} → Kind → Steps S → Move → (w w' : World S) → Stand → Result (Option End) RunFault → Type 0
+abbrev pub Stepped : {S : Type 0} → Kind → Steps S → Move → (w w' : World S) → Stand → Result (Option End) RunFault →
+    Type 0
 Stepped k steps m w w' stand (Ok None) = Leads k steps m w w' stand
 Stepped k steps m w w' stand (Ok (Some end)) = (m ≡ Halts (ending_of end)) × (w' ≡ w)
 Stepped k steps m w w' stand (Err fault) = CutShort fault k steps m w w'

@@ -14,9 +14,9 @@ use std::io::Write;
 
 /// Runs an accepted script over a port, as [`run_graph`] runs its graph.
 ///
-/// Where the port shows a card of the profile, of the script's kind, before its first command, the events of the run move
-/// that card step by step. Each is legal in the card's state and in bounds, at most [`Accepted::bound`] of them are
-/// commands, no answer is refused, and [`End::Done`] comes only with the card in the transfer state.
+/// Where the port shows a card of the profile, of the script's kind, before its first command, the events of the run
+/// move that card step by step. Each is legal in the card's state and in bounds, at most [`Accepted::bound`] of them
+/// are commands, no answer is refused, and [`End::Done`] comes only with the card in the transfer state.
 ///
 /// # Errors
 ///
@@ -29,7 +29,10 @@ pub fn run<P: CardPort, O: Write, T: Write>(
     out: &mut O,
     trace: &mut T,
 ) -> Result<End, RunFault>
-    ensures { (left : List Block) × RanBeside P.steps P.card accepted.now.graph accepted.now.bound (record { port = port.old; input = input.now; out = O.contents out.old; trace = T.contents trace.old }) (record { port = port.new; input = left; out = O.contents out.new; trace = T.contents trace.new }) result }
+    ensures { (left : List Block)
+        × RanBeside P.steps P.card accepted.now.graph accepted.now.bound
+        (record { port = port.old; input = input.now; out = O.contents out.old; trace = T.contents trace.old })
+        (record { port = port.new; input = left; out = O.contents out.new; trace = T.contents trace.new }) result }
 {
     let graph = accepted.graph();
     let _ = graph.first();

@@ -28,7 +28,8 @@ pub fn send<P: CardPort, T: Write>(
     trace: &mut T,
 ) -> Result<Answer, RunFault>
     requires { ask.now.index < 64 }
-    ensures sent { Sends host.old.kind P.steps ask.now argument port.old port.new (host_of host.old) (host_of host.new) (T.contents trace.old) (T.contents trace.new) result }
+    ensures sent { Sends host.old.kind P.steps ask.now argument port.old port.new (host_of host.old) (host_of host.new)
+        (T.contents trace.old) (T.contents trace.new) result }
     ensures kind { host.new.kind ≡ host.old.kind }
 {
     let order = order(host.kind, ask);
@@ -62,7 +63,8 @@ pub fn receive_blocks<P: CardPort, O: Write, T: Write>(
     out: &mut O,
     trace: &mut T,
 ) -> Result<DataEnd, RunFault>
-    ensures { Receives P.steps (length blocks.old) port.old port.new (O.contents out.old) (O.contents out.new) (T.contents trace.old) (T.contents trace.new) result }
+    ensures { Receives P.steps (length blocks.old) port.old port.new (O.contents out.old) (O.contents out.new)
+        (T.contents trace.old) (T.contents trace.new) result }
 {
     let end = port.data_in(blocks);
     if end == DataEnd::Ok {
@@ -106,7 +108,8 @@ pub fn receive_register<P: CardPort, T: Write>(
     port: &mut P,
     trace: &mut T,
 ) -> Result<DataEnd, RunFault>
-    ensures received { ReceivesRegister host.old.kind P.steps port.old port.new (host_of host.old) (host_of host.new) (T.contents trace.old) (T.contents trace.new) result }
+    ensures received { ReceivesRegister host.old.kind P.steps port.old port.new (host_of host.old) (host_of host.new)
+        (T.contents trace.old) (T.contents trace.new) result }
     ensures kind { host.new.kind ≡ host.old.kind }
 {
     let mut register = [0; 512];

@@ -22,13 +22,13 @@ use std::io::Write;
 /// Runs the script of a graph over a port, to its end.
 ///
 /// Phases to the card take the next blocks of `input`, also where they are cut. The blocks of each phase from the card
-/// that ends well are written to `out`, and then each event is printed to `trace`, with one last line for the end of the
-/// run.
+/// that ends well are written to `out`, and then each event is printed to `trace`, with one last
+/// line for the end of the run.
 ///
 /// # Errors
 ///
-/// - [`RunFault::Reply`]: an answer is damaged or of another kind than asked, or gives a CSD that cannot be read; or the
-///   next command's argument has more than 32 bits, and it is not sent.
+/// - [`RunFault::Reply`]: an answer is damaged or of another kind than asked, or gives a CSD that cannot be read; or
+///   the next command's argument has more than 32 bits, and it is not sent.
 /// - [`RunFault::Input`]: the next phase to the card needs more blocks than are left of `input`, and does not begin.
 /// - [`RunFault::Output`] and [`RunFault::Trace`]: the writer failed. The event has happened.
 /// - [`RunFault::Memory`]: before the first event. After that nothing is allocated.
@@ -40,7 +40,10 @@ pub fn run_graph<P: CardPort, O: Write, T: Write>(
     out: &mut O,
     trace: &mut T,
 ) -> Result<End, RunFault>
-    ensures { (left : List Block) × Ran P.steps graph.now (record { port = port.old; input = input.now; out = O.contents out.old; trace = T.contents trace.old }) (record { port = port.new; input = left; out = O.contents out.new; trace = T.contents trace.new }) result }
+    ensures { (left : List Block)
+        × Ran P.steps graph.now
+        (record { port = port.old; input = input.now; out = O.contents out.old; trace = T.contents trace.old })
+        (record { port = port.new; input = left; out = O.contents out.new; trace = T.contents trace.new }) result }
 {
     let mut standing = match at_start(alloc, graph) {
         Ok(standing) => standing,

@@ -51,8 +51,12 @@ pub fn send_and_go<P: CardPort, T: Write>(
     trace: &mut T,
 ) -> Result<(), RunFault>
     requires index { ask.now.index < 64 }
-    requires narrow { (returned : Return) → length (turns_at (way_of standing.old.host.kind (map fork_of ways.now) other returned) standing.old.turns.items) ≤ 4 }
-    ensures sent { SendsOn standing.old.host.kind P.steps ask.now argument (way_of standing.old.host.kind (map fork_of ways.now) other) port.old port.new standing.old.turns.items (host_of standing.old.host) (stand_of standing.new) (T.contents trace.old) (T.contents trace.new) result }
+    requires narrow { (returned : Return) →
+        length (turns_at (way_of standing.old.host.kind (map fork_of ways.now) other returned) standing.old.turns.items)
+        ≤ 4 }
+    ensures sent { SendsOn standing.old.host.kind P.steps ask.now argument
+        (way_of standing.old.host.kind (map fork_of ways.now) other) port.old port.new standing.old.turns.items
+        (host_of standing.old.host) (stand_of standing.new) (T.contents trace.old) (T.contents trace.new) result }
     ensures kind { standing.new.host.kind ≡ standing.old.host.kind }
 {
     match send(&mut standing.host, ask, argument, port, trace) {
@@ -80,7 +84,10 @@ pub fn receive_and_go<P: CardPort, O: Write, T: Write>(
 ) -> Result<(), RunFault>
     requires well { length (turns_at well standing.old.turns.items) ≤ 4 }
     requires other { length (turns_at other standing.old.turns.items) ≤ 4 }
-    ensures goes_on { BlocksGoOn standing.old.host.kind P.steps (length blocks.old) (target_by_end standing.old.host.kind well other) port.old port.new standing.old.turns.items (host_of standing.old.host) (stand_of standing.new) (O.contents out.old) (O.contents out.new) (T.contents trace.old) (T.contents trace.new) result }
+    ensures goes_on { BlocksGoOn standing.old.host.kind P.steps (length blocks.old)
+        (target_by_end standing.old.host.kind well other) port.old port.new standing.old.turns.items
+        (host_of standing.old.host) (stand_of standing.new) (O.contents out.old) (O.contents out.new)
+        (T.contents trace.old) (T.contents trace.new) result }
     ensures kind { standing.new.host.kind ≡ standing.old.host.kind }
 {
     match receive_blocks(blocks, port, out, trace) {
@@ -110,7 +117,10 @@ pub fn receive_register_and_go<P: CardPort, T: Write>(
 ) -> Result<(), RunFault>
     requires well { length (turns_at well standing.old.turns.items) ≤ 4 }
     requires other { length (turns_at other standing.old.turns.items) ≤ 4 }
-    ensures goes_on { PhaseGoesOn standing.old.host.kind P.steps (ReceiveRegister (host_of standing.old.host).register_length) (target_by_end standing.old.host.kind well other) port.old port.new standing.old.turns.items (host_of standing.old.host) (stand_of standing.new) (T.contents trace.old) (T.contents trace.new) result }
+    ensures goes_on { PhaseGoesOn standing.old.host.kind P.steps
+        (ReceiveRegister (host_of standing.old.host).register_length)
+        (target_by_end standing.old.host.kind well other) port.old port.new standing.old.turns.items
+        (host_of standing.old.host) (stand_of standing.new) (T.contents trace.old) (T.contents trace.new) result }
     ensures kind { standing.new.host.kind ≡ standing.old.host.kind }
 {
     match receive_register(&mut standing.host, port, trace) {
@@ -141,7 +151,9 @@ pub fn give_and_go<P: CardPort, T: Write>(
 ) -> Result<(), RunFault>
     requires well { length (turns_at well standing.old.turns.items) ≤ 4 }
     requires other { length (turns_at other standing.old.turns.items) ≤ 4 }
-    ensures goes_on { PhaseGoesOn standing.old.host.kind P.steps (GiveBlocks blocks.now) (target_by_end standing.old.host.kind well other) port.old port.new standing.old.turns.items (host_of standing.old.host) (stand_of standing.new) (T.contents trace.old) (T.contents trace.new) result }
+    ensures goes_on { PhaseGoesOn standing.old.host.kind P.steps (GiveBlocks blocks.now)
+        (target_by_end standing.old.host.kind well other) port.old port.new standing.old.turns.items
+        (host_of standing.old.host) (stand_of standing.new) (T.contents trace.old) (T.contents trace.new) result }
     ensures kind { standing.new.host.kind ≡ standing.old.host.kind }
 {
     match give_blocks(blocks, port, trace) {
@@ -171,7 +183,9 @@ pub fn await_and_go<P: CardPort, T: Write>(
 ) -> Result<(), RunFault>
     requires well { length (turns_at well standing.old.turns.items) ≤ 4 }
     requires other { length (turns_at other standing.old.turns.items) ≤ 4 }
-    ensures goes_on { PhaseGoesOn standing.old.host.kind P.steps AwaitReady (target_by_end standing.old.host.kind well other) port.old port.new standing.old.turns.items (host_of standing.old.host) (stand_of standing.new) (T.contents trace.old) (T.contents trace.new) result }
+    ensures goes_on { PhaseGoesOn standing.old.host.kind P.steps AwaitReady
+        (target_by_end standing.old.host.kind well other) port.old port.new standing.old.turns.items
+        (host_of standing.old.host) (stand_of standing.new) (T.contents trace.old) (T.contents trace.new) result }
     ensures kind { standing.new.host.kind ≡ standing.old.host.kind }
 {
     match await_ready(port, trace) {

@@ -31,8 +31,16 @@ fn send_point<P: CardPort, O: Write, T: Write>(
     trace: &mut T,
 ) -> Result<Option<End>, RunFault>
     requires index { command.now.ask.index < 64 }
-    requires narrow { IsNarrow (node_move standing.old.host.kind (sends command.now (map fork_of ways.now) other) standing.old.turns.items (host_of standing.old.host)) }
-    ensures stepped { (input : List Block) → Stepped standing.old.host.kind P.steps (node_move standing.old.host.kind (sends command.now (map fork_of ways.now) other) standing.old.turns.items (host_of standing.old.host)) (record { port = port.old; input = input; out = O.contents out.old; trace = T.contents trace.old }) (record { port = port.new; input = input; out = O.contents out.new; trace = T.contents trace.new }) (stand_of standing.new) result }
+    requires narrow { IsNarrow
+        (node_move standing.old.host.kind (sends command.now (map fork_of ways.now) other) standing.old.turns.items
+        (host_of standing.old.host)) }
+    ensures stepped { (input : List Block) →
+        Stepped standing.old.host.kind P.steps
+        (node_move standing.old.host.kind (sends command.now (map fork_of ways.now) other) standing.old.turns.items
+        (host_of standing.old.host))
+        (record { port = port.old; input = input; out = O.contents out.old; trace = T.contents trace.old })
+        (record { port = port.new; input = input; out = O.contents out.new; trace = T.contents trace.new })
+        (stand_of standing.new) result }
     ensures kind { standing.new.host.kind ≡ standing.old.host.kind }
 {
     let argument = match argument_of(&standing.host, command) {
@@ -55,8 +63,16 @@ fn wait_point<P: CardPort, O: Write, T: Write>(
     out: &mut O,
     trace: &mut T,
 ) -> Result<Option<End>, RunFault>
-    requires narrow { IsNarrow (node_move standing.old.host.kind (phases kinds.Wait well other) standing.old.turns.items (host_of standing.old.host)) }
-    ensures stepped { (input : List Block) → Stepped standing.old.host.kind P.steps (node_move standing.old.host.kind (phases kinds.Wait well other) standing.old.turns.items (host_of standing.old.host)) (record { port = port.old; input = input; out = O.contents out.old; trace = T.contents trace.old }) (record { port = port.new; input = input; out = O.contents out.new; trace = T.contents trace.new }) (stand_of standing.new) result }
+    requires narrow { IsNarrow
+        (node_move standing.old.host.kind (phases kinds.Wait well other) standing.old.turns.items
+        (host_of standing.old.host)) }
+    ensures stepped { (input : List Block) →
+        Stepped standing.old.host.kind P.steps
+        (node_move standing.old.host.kind (phases kinds.Wait well other) standing.old.turns.items
+        (host_of standing.old.host))
+        (record { port = port.old; input = input; out = O.contents out.old; trace = T.contents trace.old })
+        (record { port = port.new; input = input; out = O.contents out.new; trace = T.contents trace.new })
+        (stand_of standing.new) result }
     ensures kind { standing.new.host.kind ≡ standing.old.host.kind }
 {
     match await_and_go(well, other, standing, port, trace) {
@@ -74,8 +90,16 @@ fn register_point<P: CardPort, O: Write, T: Write>(
     out: &mut O,
     trace: &mut T,
 ) -> Result<Option<End>, RunFault>
-    requires narrow { IsNarrow (node_move standing.old.host.kind (phases kinds.ReceiveRegister well other) standing.old.turns.items (host_of standing.old.host)) }
-    ensures stepped { (input : List Block) → Stepped standing.old.host.kind P.steps (node_move standing.old.host.kind (phases kinds.ReceiveRegister well other) standing.old.turns.items (host_of standing.old.host)) (record { port = port.old; input = input; out = O.contents out.old; trace = T.contents trace.old }) (record { port = port.new; input = input; out = O.contents out.new; trace = T.contents trace.new }) (stand_of standing.new) result }
+    requires narrow { IsNarrow
+        (node_move standing.old.host.kind (phases kinds.ReceiveRegister well other) standing.old.turns.items
+        (host_of standing.old.host)) }
+    ensures stepped { (input : List Block) →
+        Stepped standing.old.host.kind P.steps
+        (node_move standing.old.host.kind (phases kinds.ReceiveRegister well other) standing.old.turns.items
+        (host_of standing.old.host))
+        (record { port = port.old; input = input; out = O.contents out.old; trace = T.contents trace.old })
+        (record { port = port.new; input = input; out = O.contents out.new; trace = T.contents trace.new })
+        (stand_of standing.new) result }
     ensures kind { standing.new.host.kind ≡ standing.old.host.kind }
 {
     match receive_register_and_go(well, other, standing, port, trace) {
@@ -95,8 +119,16 @@ fn receive_point<P: CardPort, O: Write, T: Write>(
     trace: &mut T,
 ) -> Result<Option<End>, RunFault>
     requires room { standing.old.host.announced ≤ length buffer.old }
-    requires narrow { IsNarrow (node_move standing.old.host.kind (phases kinds.ReceiveBlocks well other) standing.old.turns.items (host_of standing.old.host)) }
-    ensures stepped { (input : List Block) → Stepped standing.old.host.kind P.steps (node_move standing.old.host.kind (phases kinds.ReceiveBlocks well other) standing.old.turns.items (host_of standing.old.host)) (record { port = port.old; input = input; out = O.contents out.old; trace = T.contents trace.old }) (record { port = port.new; input = input; out = O.contents out.new; trace = T.contents trace.new }) (stand_of standing.new) result }
+    requires narrow { IsNarrow
+        (node_move standing.old.host.kind (phases kinds.ReceiveBlocks well other) standing.old.turns.items
+        (host_of standing.old.host)) }
+    ensures stepped { (input : List Block) →
+        Stepped standing.old.host.kind P.steps
+        (node_move standing.old.host.kind (phases kinds.ReceiveBlocks well other) standing.old.turns.items
+        (host_of standing.old.host))
+        (record { port = port.old; input = input; out = O.contents out.old; trace = T.contents trace.old })
+        (record { port = port.new; input = input; out = O.contents out.new; trace = T.contents trace.new })
+        (stand_of standing.new) result }
     ensures kind { standing.new.host.kind ≡ standing.old.host.kind }
 {
     let count = standing.host.announced as usize;
@@ -124,8 +156,15 @@ fn give_point<P: CardPort, O: Write, T: Write>(
     out: &mut O,
     trace: &mut T,
 ) -> Result<Option<End>, RunFault>
-    requires narrow { IsNarrow (node_move standing.old.host.kind (phases kinds.GiveBlocks well other) standing.old.turns.items (host_of standing.old.host)) }
-    ensures stepped { Stepped standing.old.host.kind P.steps (node_move standing.old.host.kind (phases kinds.GiveBlocks well other) standing.old.turns.items (host_of standing.old.host)) (record { port = port.old; input = input.old.now; out = O.contents out.old; trace = T.contents trace.old }) (record { port = port.new; input = input.new.now; out = O.contents out.new; trace = T.contents trace.new }) (stand_of standing.new) result }
+    requires narrow { IsNarrow
+        (node_move standing.old.host.kind (phases kinds.GiveBlocks well other) standing.old.turns.items
+        (host_of standing.old.host)) }
+    ensures stepped { Stepped standing.old.host.kind P.steps
+        (node_move standing.old.host.kind (phases kinds.GiveBlocks well other) standing.old.turns.items
+        (host_of standing.old.host))
+        (record { port = port.old; input = input.old.now; out = O.contents out.old; trace = T.contents trace.old })
+        (record { port = port.new; input = input.new.now; out = O.contents out.new; trace = T.contents trace.new })
+        (stand_of standing.new) result }
     ensures kind { standing.new.host.kind ≡ standing.old.host.kind }
 {
     let count = standing.host.announced as usize;
@@ -144,8 +183,8 @@ fn give_point<P: CardPort, O: Write, T: Write>(
 ///
 /// # Errors
 ///
-/// [`RunFault::Reply`] for an argument of more than 32 bits, before the command is sent, or for an answer that a run does
-/// not go on with; [`RunFault::Input`] where fewer blocks are left than are to be given, before the phase;
+/// [`RunFault::Reply`] for an argument of more than 32 bits, before the command is sent, or for an answer that a run
+/// does not go on with; [`RunFault::Input`] where fewer blocks are left than are to be given, before the phase;
 /// [`RunFault::Output`] and [`RunFault::Trace`] where the writer failed.
 pub fn step<P: CardPort, O: Write, T: Write>(
     action: &Action<'_>,
@@ -157,9 +196,14 @@ pub fn step<P: CardPort, O: Write, T: Write>(
     trace: &mut T,
 ) -> Result<Option<End>, RunFault>
     requires in_range { IsInRange action.now }
-    requires narrow { IsNarrow (node_move standing.old.host.kind (node_of action.now) standing.old.turns.items (host_of standing.old.host)) }
+    requires narrow { IsNarrow
+        (node_move standing.old.host.kind (node_of action.now) standing.old.turns.items (host_of standing.old.host)) }
     requires room { standing.old.host.announced ≤ length buffer.old }
-    ensures stepped { Stepped standing.old.host.kind P.steps (node_move standing.old.host.kind (node_of action.now) standing.old.turns.items (host_of standing.old.host)) (record { port = port.old; input = input.old.now; out = O.contents out.old; trace = T.contents trace.old }) (record { port = port.new; input = input.new.now; out = O.contents out.new; trace = T.contents trace.new }) (stand_of standing.new) result }
+    ensures stepped { Stepped standing.old.host.kind P.steps
+        (node_move standing.old.host.kind (node_of action.now) standing.old.turns.items (host_of standing.old.host))
+        (record { port = port.old; input = input.old.now; out = O.contents out.old; trace = T.contents trace.old })
+        (record { port = port.new; input = input.new.now; out = O.contents out.new; trace = T.contents trace.new })
+        (stand_of standing.new) result }
     ensures kind { standing.new.host.kind ≡ standing.old.host.kind }
 {
     match action {

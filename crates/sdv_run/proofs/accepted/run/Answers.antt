@@ -12,8 +12,20 @@ returns g c =
     let accepted = c.args.accepted.now in
     let port = g.met.P.CardPort in
     let left = c.run_graph.ensures.0 in
-    let before : World _ = record { port = c.args.port.now; input = c.args.input.now; out = g.O.Write.contents c.args.out.now; trace = g.T.Write.contents c.args.trace.now } in
-    let after : World _ = record { port = c.run_graph.new.port; input = left; out = g.O.Write.contents c.run_graph.new.out; trace = g.T.Write.contents c.run_graph.new.trace } in
+    let before : World _ = record {
+      port = c.args.port.now;
+      input = c.args.input.now;
+      out = g.O.Write.contents c.args.out.now;
+      trace =
+          g.T.Write.contents c.args.trace.now;
+    } in
+    let after : World _ = record {
+      port = c.run_graph.new.port;
+      input = left;
+      out = g.O.Write.contents c.run_graph.new.out;
+      trace =
+          g.T.Write.contents c.run_graph.new.trace;
+    } in
     let has : ∥ HasCertificate accepted.graph accepted.bound ∥₁ =
     ∥∥₁_map c.graph-graph.ensures.accepted (λ t. record { points = t.accepted.points; closed = t.accepted.closed; bound = t.accepted.bound }) in
     let sound : IsSound accepted.graph = subst (λ v. IsSound v) c.graph-graph.ensures.graph c.first.ensures.sound in

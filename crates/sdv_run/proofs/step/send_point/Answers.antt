@@ -16,4 +16,6 @@ send_and_go-requires-clause-narrow g c =
     let command = c.args.command.now in
     let ways = map fork_of c.args.ways.now in
     λ returned.
-    sent_narrow (position_of_command h command.address) c.in-Ok-Some.argument (argument_at k command h) (λ position. command_deed k command h position) h (λ returned h'. arrive (way_of k ways c.args.other returned) standing.turns.items h') (rw c.in-Ok-Some.field-0-is at c.in-Ok-Some.ensures) c.requires.narrow returned h
+    sent_narrow (position_of_command h command.address) c.in-Ok-Some.argument (argument_at k command h) (λ position. command_deed k command h position) h
+    (λ returned h'. arrive (way_of k ways c.args.other returned) standing.turns.items h')
+    (rw c.in-Ok-Some.field-0-is at c.in-Ok-Some.ensures) c.requires.narrow returned h
