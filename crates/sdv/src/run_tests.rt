@@ -76,6 +76,18 @@ send 13 { clean & state=tran { } else { fault wr } }
 done
 ";
 
+/// Behind a bring-up: forty blocks are written in one transfer, and read in another.
+const WRITES_FORTY: &str = "if cap >= 47 { } else { fault small }
+send 25 at by hc 7 count 40 { clean { } else { fault wr } }
+give { ok { } else { fault wr } }
+send 12 { clean { } else { fault wr } }
+loop 100 { wait { ok { break } else { } } } else { fault busy }
+send 13 { clean & state=tran { } else { fault wr } }
+send 18 at by hc 7 count 40 { clean { recv { ok { } else { fault rd } } } else { fault rd } }
+send 12 { clean { } else { fault rd } }
+done
+";
+
 const OVERFLOWS: &str = "card sd
 nums x
 let x = 1099511627776
@@ -254,6 +266,63 @@ fn reads_and_writes_images(rt: HostRuntime) -> Result<(), Fail> {
     );
     let written = four_blocks(alloc, [0, 0x77, 2, 0x5a])?;
     assert!(rt; fs::read(&rt, "run.image")?.as_slice() == written.as_slice());
+    Ok(())
+}
+
+/// Files that are images of as many blocks as the card has, and files that are none.
+#[test]
+fn takes_image_files(rt: HostRuntime) -> Result<(), Fail> {
+    fs::write(&rt, "run.card", BLOCK_CARD)?;
+    store_certified(&rt, BRING_UP)?;
+    let words = ["run", "run.sdv", "run.cert", "run.card", "run.image"];
+    let rows: [(usize, Expected<'_>); 4] = [
+        (524_288, prints(BROUGHT_UP)),
+        (523_776, says(1, "card fault ImageLength\n")),
+        (513, says(1, "card fault ImageLength\n")),
+        (0, says(1, "card fault ImageLength\n")),
+    ];
+    for (bytes, expected) in rows {
+        let zeros = vec![in rt.alloc(); 0; bytes]?;
+        fs::write(&rt, "run.image", zeros.as_slice())?;
+        expect(&rt, &words, expected);
+        assert!(rt; fs::read(&rt, "run.image")?.as_slice() == zeros.as_slice());
+    }
+    fs::remove_file(&rt, "run.image")?;
+    expect(&rt, &words, says(2, "cannot use run.image\n"));
+    fs::create_dir(&rt, "run.image")?;
+    expect(&rt, &words, says(2, "cannot use run.image\n"));
+    fs::remove_dir(&rt, "run.image")?;
+    Ok(())
+}
+
+/// A transfer of more blocks than an image keeps in buffers is in the file after the run, and no other block changed.
+#[test]
+fn stores_long_transfers(rt: HostRuntime) -> Result<(), Fail> {
+    let mut blocks = vec![in rt.alloc(); 0x11; 524_288]?;
+    let mut written = Vec::new(rt.alloc());
+    for number in 0..40u8 {
+        written.extend_from_slice(&[number; 512])?;
+    }
+    fs::write(&rt, "run.card", BLOCK_CARD)?;
+    fs::write(&rt, "run.image", blocks.as_slice())?;
+    fs::write(&rt, "run.in", written.as_slice())?;
+    store_certified(&rt, brought_up_and(&rt, WRITES_FORTY)?.as_str())?;
+    let words = [
+        "run",
+        "run.sdv",
+        "run.cert",
+        "run.card",
+        "run.image",
+        "--in",
+        "run.in",
+        "--out",
+        "run.out",
+    ];
+    let trace = trace_of(&rt, &words, 0)?;
+    assert!(rt; trace.contains("\nCMD25 00000007 R1 00000900\nOUT 40 ok\n"));
+    assert!(rt; fs::read(&rt, "run.out")?.as_slice() == written.as_slice());
+    blocks[7 * 512..47 * 512].copy_from_slice(&written);
+    assert!(rt; fs::read(&rt, "run.image")?.as_slice() == blocks.as_slice());
     Ok(())
 }
 

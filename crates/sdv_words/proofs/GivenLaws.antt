@@ -5,33 +5,25 @@ use Rattle.std.specs.Borrow.{Bor}
 use Rattle.std.specs.List.{AllByRecursion}
 use Rattle.clap.specs.Words.{Text}
 use Rattle.sdv_words.specs.CommandLine.{RunNames}
-use Rattle.sdv_words.specs.Files.{Files}
-use Rattle.sdv_words.specs.Run.{AreGiven, GivesImage, GivesInput, GivesSchedule, IsNew, IsUnread, IsUnusable, files_of, some_file}
+use Rattle.sdv_words.specs.Files.{CardImage, Files}
+use Rattle.sdv_words.specs.Run.{AreGiven, GivesImage, GivesInput, GivesSchedule, IsUnread, IsUnusable, IsUsed, files_of, some_file}
 use Rattle.sdv_words.specs.declared.fault.Fault.{Fault}
 use Rattle.sdv_words.specs.declared.fault.Fault.TheVariants.{File, Memory}
 use Rattle.sdv_words.specs.declared.given.Given.{Given}
 
 module _ (files : Files) where
-  -- the file gave bytes, or a new image is asked for
-  abbrev pub Gave : Text → Type 0
-  Gave name = (bytes : List ℕ) × (files.gives name bytes ⊎ ((blocks : ℕ) × IsNew name blocks))
+  pub text_gave : (name bytes : Text) → files.gives name bytes → IsUsed files name
+  text_gave name bytes given = inl (bytes, given)
 
-  pub text_gave : (name bytes : Text) → files.gives name bytes → Gave name
-  text_gave name bytes given = (bytes, inl given)
-
-  pub image_gave : (name bytes : Text) → GivesImage files name bytes → Gave name
-  image_gave name bytes (inl new) = (bytes, inr (new.0, new.1))
-  image_gave name bytes (inr given) = (bytes, inl given.1)
-
-  pub schedule_gave : (name : Option Text) (codes : List ℕ) → GivesSchedule files name codes → AllByRecursion Gave (some_file name)
+  pub schedule_gave : (name : Option Text) (codes : List ℕ) → GivesSchedule files name codes → AllByRecursion (IsUsed files) (some_file name)
   schedule_gave None codes given = tt
-  schedule_gave (Some file) codes given = ((given.0, inl given.1), tt)
+  schedule_gave (Some file) codes given = (inl (given.0, given.1), tt)
 
-  input_gave : (name : Option Text) (bytes : List ℕ) → GivesInput files name bytes → AllByRecursion Gave (some_file name)
+  input_gave : (name : Option Text) (bytes : List ℕ) → GivesInput files name bytes → AllByRecursion (IsUsed files) (some_file name)
   input_gave None bytes given = tt
-  input_gave (Some file) bytes given = ((bytes, inl given.0), tt)
+  input_gave (Some file) bytes given = (inl (bytes, given.0), tt)
 
-  both_gave : (xs ys : List Text) → AllByRecursion Gave xs → AllByRecursion Gave ys → AllByRecursion Gave (xs ++ ys)
+  both_gave : (xs ys : List Text) → AllByRecursion (IsUsed files) xs → AllByRecursion (IsUsed files) ys → AllByRecursion (IsUsed files) (xs ++ ys)
   both_gave [] ys front back = back
   both_gave (x ∷ xs) ys front back = (front.0, both_gave xs ys front.1 back)
 
@@ -39,16 +31,16 @@ module _ (files : Files) where
     abbrev pub four : List Text → List Text
     four more = names.script ∷ names.certificate ∷ names.card ∷ names.image ∷ more
 
-    pub four_gave : (script certificate card image : List ℕ) → files.gives names.script script → files.gives names.certificate certificate
+    pub four_gave : (script certificate card : List ℕ) (image : CardImage) → files.gives names.script script → files.gives names.certificate certificate
         → files.gives names.card card → GivesImage files names.image image
-        → (more : List Text) → AllByRecursion Gave more → AllByRecursion Gave (four more)
+        → (more : List Text) → AllByRecursion (IsUsed files) more → AllByRecursion (IsUsed files) (four more)
     four_gave script certificate card image s c d i more gave = (
       text_gave names.script script s,
       (
         text_gave names.certificate certificate c,
         (
           text_gave names.card card d,
-          (image_gave names.image image i, gave),
+          (inr (image, i), gave),
         ),
       ),
     )
@@ -67,7 +59,7 @@ module _ (files : Files) where
 
     -- what a fault at this file says
     pub unread : {T : Type 0} (earlier : List Text) (file : Bor Text) (later : List Text) → files_of names ≡ earlier ++ file.now ∷ later
-        → AllByRecursion Gave earlier → (fault : Fault) → (fault ≡ File file) ⊎ (fault ≡ Memory) → (r : Result T Fault) → IsErrAnd r (λ f. f ≡ fault)
+        → AllByRecursion (IsUsed files) earlier → (fault : Fault) → (fault ≡ File file) ⊎ (fault ≡ Memory) → (r : Result T Fault) → IsErrAnd r (λ f. f ≡ fault)
         → IfErr r (IsUnread files names)
     unread earlier file later place given fault why (Ok x) is = absurd is
     unread earlier file later place given fault (inl unusable) (Err f) is =
@@ -75,7 +67,7 @@ module _ (files : Files) where
     unread earlier file later place given fault (inr memory) (Err f) is = rw (is, memory) tt
 
     pub optional_unread : {T : Type 0} (name : Option (Bor Text)) (earlier later : List Text)
-        → ((file : Bor Text) → name ≡ Some file → files_of names ≡ earlier ++ file.now ∷ later) → AllByRecursion Gave earlier
+        → ((file : Bor Text) → name ≡ Some file → files_of names ≡ earlier ++ file.now ∷ later) → AllByRecursion (IsUsed files) earlier
         → (fault : Fault) → ((file : Bor Text) × (name ≡ Some file) × (fault ≡ File file)) ⊎ (fault ≡ Memory) → (r : Result T Fault)
         → IsErrAnd r (λ f. f ≡ fault) → IfErr r (IsUnread files names)
     optional_unread name earlier later place given fault why (Ok x) is = absurd is
@@ -84,7 +76,7 @@ module _ (files : Files) where
     optional_unread name earlier later place given fault (inr memory) (Err f) is = rw (is, memory) tt
 
     -- a file of the output that cannot be made or emptied
-    pub output_unusable : (given : Given) (image : List ℕ) (file : Text) → AreGiven files names given image → names.output ≡ Some file
+    pub output_unusable : (given : Given) (image : CardImage) (file : Text) → AreGiven files names given image → names.output ≡ Some file
         → IsUnusable files names file
     output_unusable given image file are is = record {
       earlier = four (some_file names.schedule ++ some_file names.input);

@@ -7,5 +7,6 @@ mod WordsGiven
 mod RunMaps
 mod RunLaws
 mod GivenLaws
+mod NewImageLaws
 pub mod OutputLaws
 pub mod StartLaws

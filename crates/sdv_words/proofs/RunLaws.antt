@@ -1,5 +1,5 @@
 -- What a run is given and what it leaves.
-use Rattle.std.proofs.Common.{arith, ◌≡◌, refl, ap, subst, sym, inl, inr, Some, None, IfSome, OnOk, ℕ, zero, suc, List, ◌∷◌, take, drop, Option, Result, Ok, Err, IfErr, IsErrAnd}
+use Rattle.std.proofs.Common.{arith, ◌≡◌, refl, ap, subst, sym, inl, inr, Some, None, IfSome, OnOk, ℕ, zero, suc, List, ◌∷◌, take, drop, Option, Result, Ok, Err, IfErr, IsErrAnd, ◌/◌}
 use Rattle.std.specs.Prelude.{string_bytes}
 use Rattle.std.specs.Simd.{first_chunks}
 use Rattle.std.specs.Borrow.{Bor}
@@ -8,10 +8,16 @@ use Rattle.std.specs.Io.KnownBytes.{Keeps}
 use Rattle.clap.specs.Words.{Text}
 use Rattle.sdv_card.specs.Card.{Block}
 use Rattle.sdv_check.specs.Verified.{Acceptance, IsAccepted}
+use Rattle.sdv_file_image.specs.FileImages.{failed_of, file_of}
+use Rattle.sdv_file_image.specs.Refused.{IsRefused as IsNoImage}
+use Rattle.sdv_file_image.specs.declared.block_file.BlockFile.{Ghosts as FileGhosts}
+use Rattle.sdv_file_image.specs.declared.file_image.FileImage.{FileImage}
+use Rattle.sdv_image.specs.Images.{HasFailed}
 use Rattle.sdv_image.specs.MemBlocks.{blocks_in}
 use Rattle.sdv_image.specs.declared.fault.SimFault.{SimFault}
 use Rattle.sdv_image.specs.declared.fault.SimFault.TheVariants.{Description, Capacity, ImageLength, ImageRead, Memory}
 use Rattle.sdv_image.specs.declared.image.Image.{Ghosts}
+use Rattle.sdv_description.specs.Gives.{Describes}
 use Rattle.sdv_description.specs.declared.card_desc.CardDesc.{CardDesc}
 use Rattle.sdv_behavior.specs.SimSteps.{SimState, SimSteps, card_shown}
 use Rattle.sdv_sim.specs.declared.sim.Sim.{Sim}
@@ -29,8 +35,8 @@ use Rattle.sdv_run.specs.Step.{World}
 use Rattle.sdv_run.specs.OnCard.{RanBeside}
 use Rattle.sdv_words.specs.Fault.{fault_of_card}
 use Rattle.sdv_words.specs.CommandLine.{RunNames}
-use Rattle.sdv_words.specs.Files.{Files}
-use Rattle.sdv_words.specs.Run.{AreGiven, EndsRun, FailsToKeep, HasNoCard, IsKept, Receives, RefusesRun, RunFails, StopsRun, answer_of}
+use Rattle.sdv_words.specs.Files.{CardImage, Files}
+use Rattle.sdv_words.specs.Run.{AreGiven, EndsRun, FailsToKeep, HasNoCard, IsKept, IsUnreadable, Receives, RefusesRun, RunFails, StopsRun, answer_of}
 use Rattle.sdv_words.specs.declared.fault.Fault.{Fault}
 use Rattle.sdv_words.specs.declared.fault.Fault.TheVariants.{File, Script, Certificate, Refused, Card, Memory as NoMemory}
 use Rattle.sdv_words.specs.declared.given.Given.{Given}
@@ -44,15 +50,23 @@ chunks_are_blocks zero bytes = refl
 chunks_are_blocks (suc n) bytes = ap (λ blocks. take 512 bytes ∷ blocks) (chunks_are_blocks n (drop 512 bytes))
 
 -- a script is accepted, and there is no card
-module _ {T : Type 0} (given : Given) (image : List ℕ) (a : Acceptance) (accepted : IsAccepted (string_bytes given.script) (string_bytes given.certificate) a) where
-  pub refused_card : (fault : SimFault) (r : Result T Fault) → HasNoCard given image fault → IsErrAnd r (λ f. f ≡ fault_of_card fault)
-      → IfErr r (RefusesRun given image)
+module _ {T : Type 0} (given : Given) (image : CardImage) (unread : Type 0) (a : Acceptance) (accepted : IsAccepted (string_bytes given.script) (string_bytes given.certificate) a) where
+  pub refused_card : (fault : SimFault) (r : Result T Fault) → HasNoCard given image unread fault → IsErrAnd r (λ f. f ≡ fault_of_card fault)
+      → IfErr r (RefusesRun given image unread)
   refused_card fault (Ok x) has is = absurd is
   refused_card Memory (Err f) has is = rw is tt
   refused_card Description (Err f) has is = rw is ((a, accepted), has)
   refused_card Capacity (Err f) has is = rw is ((a, accepted), has)
   refused_card ImageLength (Err f) has is = rw is ((a, accepted), has)
   refused_card ImageRead (Err f) has is = rw is ((a, accepted), has)
+
+  -- or there is no image
+  pub no_image : (desc : CardDesc) → Describes (string_bytes given.card) desc → (fault : SimFault) → IsNoImage image.bytes fault
+      → (r : Result T Fault) → IsErrAnd r (λ f. f ≡ fault_of_card fault) → IfErr r (RefusesRun given image unread)
+  no_image desc described ImageLength other r is = refused_card ImageLength r (inr (inl (desc, described, other, refl))) is
+  no_image desc described Memory other (Ok x) is = absurd is
+  no_image desc described Memory other (Err f) is = rw is tt
+  no_image desc described fault other r is = absurd other
 
 -- the port of a run, as its steps see it
 module _ {I : Type 0} {images : Ghosts I} where
@@ -73,18 +87,54 @@ module _ {I : Type 0} {images : Ghosts I} where
       subst (λ t. IsMade desc codes' shown' (state_of t)) (sym same)
       (subst (λ known. IsMade desc codes' known (state_of s)) same_shown (subst (λ c. IsMade desc c shown (state_of s)) same_codes made))
 
--- no call of an image in memory fails
-never_unread : {I : Type 0} (image : I) → IsUnread (λ _. 0) image → ⊥
+-- a failed call of an image is one of its file
+pub file_unread : {F : Type 0} {file : FileGhosts F} (image : FileImage F file) (f : F) → file_of image ≡ f → IsUnread failed_of image → IsUnread file.failed f
+file_unread {file = file} image f same unread = (file_of unread.0, subst (λ known. HasFailed (file.failed known) (failed_of unread.0)) same unread.1)
+
+-- no call of a new image fails
+pub never_unread : {I : Type 0} (image : I) → IsUnread (λ _. 0) image → ⊥
 never_unread image (after, inl rose) = absurd (omega (arith, rose))
 never_unread image (after, inr greatest) = absurd (omega (arith, greatest))
 
-pub always_read : {I : Type 0} (image : I) (codes : List ℕ) (size capacity : ℕ) (fault : SimFault) → IsRefused codes size capacity (IsUnread (λ _. 0) image) fault
-    → IsRefused codes size capacity ⊥ fault
-always_read image codes size capacity Description refused = refused
-always_read image codes size capacity ImageLength refused = refused
-always_read image codes size capacity ImageRead refused = absurd (never_unread image refused.1)
-always_read image codes size capacity Memory refused = refused
-always_read image codes size capacity Capacity refused = refused
+-- what a refusal says where a failed call says more
+module _ (U V : Type 0) (more : U → V) where
+  pub refused_so : (codes : List ℕ) (size capacity : ℕ) (fault : SimFault) → IsRefused codes size capacity U fault → IsRefused codes size capacity V fault
+  refused_so codes size capacity Description refused = refused
+  refused_so codes size capacity ImageLength refused = refused
+  refused_so codes size capacity ImageRead refused = (refused.0, more refused.1)
+  refused_so codes size capacity Memory refused = refused
+  refused_so codes size capacity Capacity refused = refused
+
+  no_card_so : (given : Given) (image : CardImage) (fault : SimFault) → HasNoCard given image U fault → HasNoCard given image V fault
+  no_card_so given image fault (inl none) = inl none
+  no_card_so given image fault (inr (inl other)) = inr (inl other)
+  no_card_so given image fault (inr (inr refused)) =
+      inr (inr (refused.0, refused.1, refused.2, refused_so given.codes.items (image.bytes / 512) refused.0.capacity fault refused.3))
+
+  refuses_so : (given : Given) (image : CardImage) (fault : Fault) → RefusesRun given image U fault → RefusesRun given image V fault
+  refuses_so given image (Script fault) refuses = refuses
+  refuses_so given image (Certificate fault) refuses = refuses
+  refuses_so given image (Refused fault) refuses = refuses
+  refuses_so given image (Card fault) refuses = (refuses.0, no_card_so given image fault refuses.1)
+  refuses_so given image NoMemory refuses = refuses
+  refuses_so given image _ refuses = absurd refuses
+
+-- nothing was run, and so nothing is kept
+module _ (files : Files) (names : RunNames) (given : Given) (image : CardImage) (trace trace' : Option (List ℕ)) where
+  unkept : (fault : Fault) → RefusesRun given image (IsUnreadable files names.image) fault → Keeps trace trace'
+      → FailsToKeep files names given image fault trace trace'
+  unkept (File file) refuses kept = absurd refuses
+  unkept (Script fault) refuses kept = (refuses, kept)
+  unkept (Certificate fault) refuses kept = (refuses, kept)
+  unkept (Refused fault) refuses kept = (refuses, kept)
+  unkept (Card fault) refuses kept = (refuses, kept)
+  unkept NoMemory refuses kept = (refuses, kept)
+  unkept _ refuses kept = absurd refuses
+
+  pub refusal_unkept : {T : Type 0} (U : Type 0) → (U → IsUnreadable files names.image) → (fault : Fault) → RefusesRun given image U fault
+      → Keeps trace trace' → (r : Result T Fault) → IsErrAnd r (λ f. f ≡ fault) → IfErr r (λ f. FailsToKeep files names given image f trace trace')
+  refusal_unkept U more fault refuses kept (Ok x) is = absurd is
+  refusal_unkept U more fault refuses kept (Err f) is = rw is (unkept fault (refuses_so U (IsUnreadable files names.image) more given image fault refuses) kept)
 
 -- what comes of what was opened
 pub opened_of : {S : Type 0} (o : Option S) (fault : Fault) (s : S) (P : S → Type 0) → Ok s ≡ ok_or o fault → IfSome o P → P s
@@ -96,8 +146,8 @@ unopened None fault f is = cc
 unopened (Some x) fault f is = absurd (cc is)
 
 -- THE END of a run, for what the files gave
-module _ (files : Files) (names : RunNames) (given : Given) (image : List ℕ) (are : AreGiven files names given image) (trace trace' : Option (List ℕ)) where
-  fails_of : (fault : Fault) → FailsToKeep names given image fault trace trace' → RunFails files names fault trace trace'
+module _ (files : Files) (names : RunNames) (given : Given) (image : CardImage) (are : AreGiven files names given image) (trace trace' : Option (List ℕ)) where
+  fails_of : (fault : Fault) → FailsToKeep files names given image fault trace trace' → RunFails files names fault trace trace'
   fails_of (File file) fails = inr (record { given = given; image = image; are_given = are; lost = fails.0; is_file = inl fails.1 })
   fails_of (Script fault) fails = record { given = given; image = image; are_given = are; refused = fails.0; kept = fails.1 }
   fails_of (Certificate fault) fails = record { given = given; image = image; are_given = are; refused = fails.0; kept = fails.1 }
@@ -106,7 +156,7 @@ module _ (files : Files) (names : RunNames) (given : Given) (image : List ℕ) (
   fails_of NoMemory fails = fails.1
   fails_of _ fails = absurd fails.0
 
-  pub kept_fails : {T : Type 0} (fault : Fault) (r : Result T Fault) → FailsToKeep names given image fault trace trace' → IsErrAnd r (λ f. f ≡ fault)
+  pub kept_fails : {T : Type 0} (fault : Fault) (r : Result T Fault) → FailsToKeep files names given image fault trace trace' → IsErrAnd r (λ f. f ≡ fault)
       → IfErr r (λ f. RunFails files names f trace trace')
   kept_fails fault (Ok x) fails is = absurd is
   kept_fails fault (Err f) fails is = rw is (fails_of fault fails)
@@ -125,7 +175,7 @@ module _ (files : Files) (names : RunNames) (given : Given) (image : List ℕ) (
     given = given;
     image = image;
     are_given = are;
-    lost = record { image' = kept.image'; result = end; out = out; out' = out'; run = kept.run };
+    lost = record { blocks' = kept.blocks'; result = end; out = out; out' = out'; run = kept.run };
     is_file = inr output;
   })
 

@@ -7,5 +7,7 @@ pub mod BatchWords
 pub mod Explain
 pub mod Certify
 pub mod Files
+pub mod NewImages
 pub mod Run
+pub mod RunImages
 pub mod Answer

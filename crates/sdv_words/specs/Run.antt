@@ -1,10 +1,11 @@
 -- What the program does at `run`: beside which card it runs which script, what it prints, and what its files take.
-use Rattle.std.specs.Prelude.{◌≡◌, ◌≢◌, ◌<◌, ◌*◌, ◌-◌, ◌/◌, ◌%◌, ◌^◌, ◌⊎◌, ◌==◌, ◌&&◌, ◌||◌, Bool, ℕ, List, [], ◌∷◌, ◌++◌, Option, Some, None, Result, Ok, Err, codes, length, nat_le, replicate, string_bytes, if◌then◌else◌}
+use Rattle.std.specs.Prelude.{◌≡◌, ◌≢◌, ◌<◌, ◌*◌, ◌-◌, ◌/◌, ◌%◌, ◌^◌, ◌⊎◌, ◌==◌, ◌&&◌, ◌||◌, Bool, ℕ, List, [], ◌∷◌, ◌++◌, Option, Some, None, Result, Ok, Err, codes, length, nat_le, string_bytes, if◌then◌else◌}
 use Rattle.std.specs.Io.KnownBytes.{Keeps}
 use Rattle.std.specs.Borrow.{Bor}
 use Rattle.std.specs.List.{AllByRecursion}
 use Rattle.clap.specs.Words.{Text}
 use Rattle.sdv_card.specs.Card.{Block}
+use Rattle.sdv_image.specs.Images.{zeros}
 use Rattle.sdv_image.specs.MemBlocks.{blocks_in}
 use Rattle.sdv_image.specs.declared.fault.SimFault.{SimFault}
 use Rattle.sdv_image.specs.declared.fault.SimFault.TheVariants as cards
@@ -26,7 +27,7 @@ use Rattle.sdv_words.specs.declared.given.Given.{Given}
 use Rattle.sdv_words.specs.Check.{Refuses}
 use Rattle.sdv_words.specs.CommandLine.{RunNames}
 use Rattle.sdv_words.specs.Fault.{fault_of_run}
-use Rattle.sdv_words.specs.Files.{Files}
+use Rattle.sdv_words.specs.Files.{CardImage, Files, image_of}
 use Rattle.sdv_words.specs.Number.{IsNumber, value_of}
 
 -- SCHEDULES: a digit from 0 to 6 for each event; spaces and ends of lines are nothing, and any other byte is no digit
@@ -51,15 +52,16 @@ pub record IsNew (name : Text) (blocks : ℕ) : Type 0 where
   pub value : value_of number ≡ blocks
   pub fits : blocks < 2 ^ 32
 
-abbrev pub zeros_of : (blocks : ℕ) → List ℕ
-zeros_of blocks = replicate (blocks * 512) 0
+abbrev pub new_image : (blocks : ℕ) → CardImage
+new_image blocks = image_of (blocks * 512) (Some (zeros blocks))
 
 -- THE FILES of a run
 
--- the blocks of the image are those of a file, or they are new
-abbrev pub GivesImage : Files → (name : Text) → (bytes : List ℕ) → Type 0
-GivesImage files name bytes =
-    ((blocks : ℕ) × IsNew name blocks × (bytes ≡ zeros_of blocks)) ⊎ (((blocks : ℕ) → ¬ IsNew name blocks) × files.gives name bytes)
+-- the image is that of a file, or it is new
+abbrev pub GivesImage : Files → (name : Text) → CardImage → Type 0
+GivesImage files name image =
+    ((blocks : ℕ) × IsNew name blocks × (image ≡ new_image blocks))
+    ⊎ (((blocks : ℕ) → ¬ IsNew name blocks) × files.images.opened name image)
 
 abbrev pub GivesSchedule : Files → Option Text → (codes : List ℕ) → Type 0
 GivesSchedule files None codes = codes ≡ []
@@ -70,8 +72,8 @@ abbrev pub GivesInput : Files → Option Text → (bytes : List ℕ) → Type 0
 GivesInput files None bytes = bytes ≡ []
 GivesInput files (Some file) bytes = files.gives file bytes × (length bytes % 512 ≡ 0)
 
--- the files of these names gave these texts and bytes
-pub record AreGiven (files : Files) (names : RunNames) (given : Given) (image : List ℕ) : Type 0 where
+-- the files of these names gave these texts and bytes, and this image
+pub record AreGiven (files : Files) (names : RunNames) (given : Given) (image : CardImage) : Type 0 where
   pub script : files.gives names.script (string_bytes given.script)
   pub certificate : files.gives names.certificate (string_bytes given.certificate)
   pub card : files.gives names.card (string_bytes given.card)
@@ -85,46 +87,50 @@ abbrev pub blocks_of : (bytes : List ℕ) → List Block
 blocks_of bytes = blocks_in (length bytes / 512) bytes
 
 -- The script, which was verified with its certificate, ran beside the card of the description over the image, with the
--- schedule and the input blocks. `image'` is what the card's blocks are after it.
-pub record IsRun (given : Given) (image image' : List ℕ) (result : Result End RunFault) (out out' trace trace' : Option (List ℕ)) : Type 0 where
+-- schedule and the input blocks. `blocks'` is what is known of the card's blocks after it.
+pub record IsRun (given : Given) (image : CardImage) (blocks' : Option (List Block)) (result : Result End RunFault) (out out' trace trace' : Option (List ℕ)) : Type 0 where
   pub acceptance : Acceptance
   pub accepted : IsAccepted (string_bytes given.script) (string_bytes given.certificate) acceptance
   pub desc : CardDesc
   pub described : Describes (string_bytes given.card) desc
-  pub whole : length image % 512 ≡ 0
+  pub whole : image.bytes % 512 ≡ 0
   pub card : SimState
-  pub made : IsMade desc given.codes.items (Some (blocks_of image)) card
+  pub made : IsMade desc given.codes.items image.blocks card
   pub card' : SimState
-  pub blocks : card'.blocks ≡ Some (blocks_of image')
+  pub blocks : card'.blocks ≡ blocks'
   pub left : List Block
   pub ran : RanBeside (ControllerSteps SimSteps) card_shown acceptance.graph acceptance.bound
       (record { port = card; input = blocks_of given.input.items; out = out; trace = trace })
       (record { port = card'; input = left; out = out'; trace = trace' }) result
 
--- there is no simulated card, for this reason: that of the description, of the image, or of the schedule beside them; an
--- image in memory is always read
-abbrev pub HasNoCard : Given → (image : List ℕ) → SimFault → Type 0
-HasNoCard given image fault =
+-- there is no simulated card, for this reason: that of the description, of the image, or of the schedule beside them, or
+-- that the image was not read
+abbrev pub HasNoCard : Given → CardImage → (unread : Type 0) → SimFault → Type 0
+HasNoCard given image unread fault =
     IsNoCard (string_bytes given.card) fault
-    ⊎ (((desc : CardDesc) × Describes (string_bytes given.card) desc × (length image % 512 ≢ 0) × (fault ≡ cards.ImageLength))
-    ⊎ ((desc : CardDesc) × Describes (string_bytes given.card) desc × (length image % 512 ≡ 0)
-    × IsRefused given.codes.items (length image / 512) desc.capacity ⊥ fault))
+    ⊎ (((desc : CardDesc) × Describes (string_bytes given.card) desc × (image.bytes % 512 ≢ 0) × (fault ≡ cards.ImageLength))
+    ⊎ ((desc : CardDesc) × Describes (string_bytes given.card) desc × (image.bytes % 512 ≡ 0)
+    × IsRefused given.codes.items (image.bytes / 512) desc.capacity unread fault))
 
 -- why nothing was run; want of memory says nothing
-abbrev pub RefusesRun : Given → (image : List ℕ) → Fault → Type 0
-RefusesRun given image (Script fault) = Refuses (string_bytes given.script) (string_bytes given.certificate) (Script fault)
-RefusesRun given image (Certificate fault) = Refuses (string_bytes given.script) (string_bytes given.certificate) (Certificate fault)
-RefusesRun given image (Refused fault) = Refuses (string_bytes given.script) (string_bytes given.certificate) (Refused fault)
-RefusesRun given image (Card fault) =
-    ((a : Acceptance) × IsAccepted (string_bytes given.script) (string_bytes given.certificate) a) × HasNoCard given image fault
-RefusesRun given image Memory = Unit {0}
-RefusesRun given image fault = ⊥
+abbrev pub RefusesRun : Given → CardImage → (unread : Type 0) → Fault → Type 0
+RefusesRun given image unread (Script fault) = Refuses (string_bytes given.script) (string_bytes given.certificate) (Script fault)
+RefusesRun given image unread (Certificate fault) = Refuses (string_bytes given.script) (string_bytes given.certificate) (Certificate fault)
+RefusesRun given image unread (Refused fault) = Refuses (string_bytes given.script) (string_bytes given.certificate) (Refused fault)
+RefusesRun given image unread (Card fault) =
+    ((a : Acceptance) × IsAccepted (string_bytes given.script) (string_bytes given.certificate) a) × HasNoCard given image unread fault
+RefusesRun given image unread Memory = Unit {0}
+RefusesRun given image unread fault = ⊥
+
+-- a call of an image failed: it is that of a file, and never a new one
+abbrev pub IsUnreadable : Files → (name : Text) → Type 0
+IsUnreadable files name = ((blocks : ℕ) → ¬ IsNew name blocks) × files.images.failed name
 
 -- WHAT THE FILES TAKE
 
--- the file of the image took the card's blocks; those of a new image are dropped
-abbrev pub StoresImage : Files → (name : Text) → (bytes : List ℕ) → Type 0
-StoresImage files name bytes = ((blocks : ℕ) × IsNew name blocks) ⊎ files.stored name bytes
+-- the file of the image was closed with the card's blocks; those of a new image are dropped
+abbrev pub StoresImage : Files → (name : Text) → Option (List Block) → Type 0
+StoresImage files name blocks = ((count : ℕ) × IsNew name count) ⊎ files.images.closed name blocks
 
 abbrev pub Receives : Files → Option Text → (bytes : List ℕ) → Type 0
 Receives files None bytes = Unit {0}
@@ -132,16 +138,16 @@ Receives files (Some file) bytes = files.received file bytes
 
 -- THE END
 
--- The run took place, and the file of the image took the card's blocks.
-pub record IsKept (files : Files) (names : RunNames) (given : Given) (image : List ℕ) (result : Result End RunFault) (out out' trace trace' : Option (List ℕ)) : Type 0 where
-  pub image' : List ℕ
-  pub run : IsRun given image image' result out out' trace trace'
-  pub stored : StoresImage files names.image image'
+-- The run took place, and the file of the image was closed with the card's blocks.
+pub record IsKept (files : Files) (names : RunNames) (given : Given) (image : CardImage) (result : Result End RunFault) (out out' trace trace' : Option (List ℕ)) : Type 0 where
+  pub blocks' : Option (List Block)
+  pub run : IsRun given image blocks' result out out' trace trace'
+  pub stored : StoresImage files names.image blocks'
 
 -- The run came to this end. The file of the output took the blocks of its phases that ended well.
 pub record EndsRun (files : Files) (names : RunNames) (end : End) (trace trace' : Option (List ℕ)) : Type 0 where
   pub given : Given
-  pub image : List ℕ
+  pub image : CardImage
   pub are_given : AreGiven files names given image
   pub out : Option (List ℕ)
   pub out' : Option (List ℕ)
@@ -151,24 +157,24 @@ pub record EndsRun (files : Files) (names : RunNames) (end : End) (trace trace' 
 -- The run stopped before its end.
 pub record StopsRun (files : Files) (names : RunNames) (fault : RunFault) (trace trace' : Option (List ℕ)) : Type 0 where
   pub given : Given
-  pub image : List ℕ
+  pub image : CardImage
   pub are_given : AreGiven files names given image
   pub out : Option (List ℕ)
   pub out' : Option (List ℕ)
   pub kept : IsKept files names given image (Err fault) out out' trace trace'
 
 -- The run took place, and then a file did not take all that it had to.
-pub record IsLost (given : Given) (image : List ℕ) (trace trace' : Option (List ℕ)) : Type 0 where
-  pub image' : List ℕ
+pub record IsLost (given : Given) (image : CardImage) (trace trace' : Option (List ℕ)) : Type 0 where
+  pub blocks' : Option (List Block)
   pub result : Result End RunFault
   pub out : Option (List ℕ)
   pub out' : Option (List ℕ)
-  pub run : IsRun given image image' result out out' trace trace'
+  pub run : IsRun given image blocks' result out out' trace trace'
 
 -- It was the file of the image or of the output.
 pub record IsNotKept (files : Files) (names : RunNames) (file : Text) (trace trace' : Option (List ℕ)) : Type 0 where
   pub given : Given
-  pub image : List ℕ
+  pub image : CardImage
   pub are_given : AreGiven files names given image
   pub lost : IsLost given image trace trace'
   pub is_file : (file ≡ names.image) ⊎ (Some file ≡ names.output)
@@ -176,9 +182,9 @@ pub record IsNotKept (files : Files) (names : RunNames) (file : Text) (trace tra
 -- There was no run.
 pub record HasNoRun (files : Files) (names : RunNames) (fault : Fault) (trace trace' : Option (List ℕ)) : Type 0 where
   pub given : Given
-  pub image : List ℕ
+  pub image : CardImage
   pub are_given : AreGiven files names given image
-  pub refused : RefusesRun given image fault
+  pub refused : RefusesRun given image (IsUnreadable files names.image) fault
   pub kept : Keeps trace trace'
 
 -- what the program answers to a run that came out so
@@ -188,9 +194,10 @@ answer_of (Ok (ends.Fault name)) = Err Named
 answer_of (Err fault) = Err (fault_of_run fault)
 
 -- the file of the image did not take the card's blocks, or there was no run
-abbrev pub FailsToKeep : RunNames → Given → (image : List ℕ) → Fault → (trace trace' : Option (List ℕ)) → Type 0
-FailsToKeep names given image (File file) trace trace' = IsLost given image trace trace' × (file.now ≡ names.image)
-FailsToKeep names given image fault trace trace' = RefusesRun given image fault × Keeps trace trace'
+abbrev pub FailsToKeep : Files → RunNames → Given → CardImage → Fault → (trace trace' : Option (List ℕ)) → Type 0
+FailsToKeep files names given image (File file) trace trace' = IsLost given image trace trace' × (file.now ≡ names.image)
+FailsToKeep files names given image fault trace trace' =
+    RefusesRun given image (IsUnreadable files names.image) fault × Keeps trace trace'
 
 -- THE FILES, in the order in which they are read; that of the output is made or emptied after them
 
@@ -201,14 +208,19 @@ some_file (Some file) = file ∷ []
 abbrev pub files_of : RunNames → List Text
 files_of names = (names.script ∷ names.certificate ∷ names.card ∷ names.image ∷ []) ++ (some_file names.schedule ++ (some_file names.input ++ some_file names.output))
 
--- The file cannot be used, and each that comes before it gave its bytes, but for a new image.
+-- the file gave bytes, or was opened as an image, or it is none, but a new image
+abbrev pub IsUsed : Files → (name : Text) → Type 0
+IsUsed files name =
+    ((bytes : List ℕ) × files.gives name bytes) ⊎ ((image : CardImage) × GivesImage files name image)
+
+-- The file cannot be used, and each that comes before it was.
 pub record IsUnusable (files : Files) (names : RunNames) (file : Text) : Type 0 where
   pub earlier : List Text
   pub later : List Text
   pub place : files_of names ≡ earlier ++ file ∷ later
-  pub given : AllByRecursion (λ name. (bytes : List ℕ) × (files.gives name bytes ⊎ ((blocks : ℕ) × IsNew name blocks))) earlier
+  pub given : AllByRecursion (IsUsed files) earlier
 
--- what a fault says of files that were not all read
+-- what a fault says of files that were not all used
 abbrev pub IsUnread : Files → RunNames → Fault → Type 0
 IsUnread files names (File file) = IsUnusable files names file.now
 IsUnread files names Memory = Unit {0}

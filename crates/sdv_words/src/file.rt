@@ -1,8 +1,12 @@
-//! Files by their names: their texts and bytes, and what is written to them.
+//! Files by their names: their texts and bytes, what is written to them, and images that they hold.
 ghost use Rattle.std.specs.Prelude.{◌≡◌, ◌^◌, ◌≤◌, ◌⊎◌, length, List, ℕ, Err, IfErr, IfOk, IfSome, string_bytes, true};
 ghost use Rattle.std.specs.Io.KnownBytes.{Appends};
+ghost use Rattle.sdv_image.specs.Images.{HasFailed};
+ghost use Rattle.sdv_words.specs.Files.{ImageFiles, image_of};
 
 use crate::fault::Fault;
+use crate::seek_file::SeekFile;
+use sdv_file_image::BlockFile;
 use std::alloc::{AllocError, Global};
 use std::fs::{self, OpenOptions};
 use std::io::{ErrorKind, Read, Write};
@@ -13,6 +17,9 @@ pub trait Store {
     /// What takes the bytes of a file that was made or emptied.
     type Sink: Write + Drop;
 
+    /// A file that is read and written block by block.
+    type Image: BlockFile + Drop;
+
     /// The file of this name may give these bytes.
     ghost gives: { Self → List ℕ → List ℕ → Type 0 };
 
@@ -22,16 +29,23 @@ pub trait Store {
     /// The file of this name was made or emptied, and took these bytes then.
     ghost received: { Self → List ℕ → List ℕ → Type 0 };
 
-    /// The file of this name took these bytes, from its first byte on.
-    ghost stored: { Self → List ℕ → List ℕ → Type 0 };
+    /// What files hold as images.
+    ghost stored: { Self → ImageFiles };
 
     /// The bytes of a file. None where the file cannot be opened or read, or does not end.
     fn bytes_of(&self, alloc: Global, file: &str) -> Result<Option<Vec<u8>>, AllocError>
         ensures { IfOk result (λ found. IfSome found (λ bytes. gives self.now file.now bytes.items)) };
 
-    /// Writes these bytes over those of a file, from its first byte on. False where it did not take all of them.
-    fn store(&self, file: &str, bytes: &[u8]) -> bool
-        ensures { result ≡ true → stored self.now file.now bytes.now };
+    /// Opens a file whose blocks are read and written. None where that cannot be done.
+    fn open_image(&self, file: &str) -> Option<Self::Image>
+        ensures opened { IfSome result (λ image. (stored self.now).opened file.now
+            (image_of (Self.Image.byte_count image) (Self.Image.blocks image))) }
+        ensures failed { IfSome result (λ image. (after : Self.Image)
+            → HasFailed (Self.Image.failed image) (Self.Image.failed after) → (stored self.now).failed file.now) };
+
+    /// Closes a file after its blocks were read and written. False where it did not take all that was written.
+    fn close_image(&self, file: &str, image: Self::Image) -> bool
+        ensures { result ≡ true → (stored self.now).closed file.now (Self.Image.blocks image) };
 
     /// Makes a file, or empties it. None where that cannot be done.
     fn create(&self, file: &str) -> Option<Self::Sink>
@@ -77,15 +91,17 @@ pub struct MachineFiles<'a, R: Files>(pub &'a R);
 impl<'a, R: Files> Store for MachineFiles<'a, R> {
     type Sink = R::File;
 
-    ghost use Rattle.sdv_words.specs.Files.{any_bytes, any_sink};
+    type Image = SeekFile<R::File>;
+
+    ghost use Rattle.sdv_words.specs.Files.{any_bytes, any_images, any_sink};
 
     ghost gives = { λ _. any_bytes };
 
     ghost opened = { λ _. any_sink };
 
-    ghost stored = { λ _. any_bytes };
-
     ghost received = { λ _. any_bytes };
+
+    ghost stored = { λ _. any_images };
 
     fn bytes_of(&self, alloc: Global, file: &str) -> Result<Option<Vec<u8>>, AllocError> {
         match fs::open(self.0, file) {
@@ -94,11 +110,13 @@ impl<'a, R: Files> Store for MachineFiles<'a, R> {
         }
     }
 
-    fn store(&self, file: &str, bytes: &[u8]) -> bool {
-        match OpenOptions::new().write(true).open(self.0, file) {
-            Ok(mut file) => file.write_all(bytes).is_ok(),
-            Err(_) => false,
-        }
+    fn open_image(&self, file: &str) -> Option<SeekFile<R::File>> {
+        let file = OpenOptions::new().read(true).write(true).open(self.0, file);
+        SeekFile::new(file.ok()?).ok()
+    }
+
+    fn close_image(&self, _file: &str, image: SeekFile<R::File>) -> bool {
+        image.close().is_ok()
     }
 
     fn create(&self, file: &str) -> Option<R::File> {

@@ -3,11 +3,13 @@ ghost use Rattle.std.specs.Prelude.{◌≡◌, ◌⊎◌, ℕ, IfErr, IfOk, Matc
 ghost use Rattle.sdv_words.specs.CommandLine.{names_of};
 ghost use Rattle.sdv_words.specs.Files.{store_of};
 ghost use Rattle.sdv_words.specs.Run.{AreGiven, GivesImage, GivesInput, GivesSchedule, IsNew, IsOptional, IsUnread};
-ghost use Rattle.sdv_words.specs.Run.{code_of, schedule_codes};
+ghost use Rattle.sdv_words.specs.Run.{code_of, new_image, schedule_codes};
+ghost use Rattle.sdv_words.specs.RunImages.{IsOfName, image_given};
 
 use crate::fault::Fault;
 use crate::file::{Store, bytes_in, text_in};
 use crate::line::RunFiles;
+use crate::new_image::NewImage;
 use crate::number::number_of;
 use std::alloc::{AllocError, Global};
 
@@ -24,7 +26,16 @@ pub struct Given {
     pub input: Vec<u8>,
 }
 
-/// Reads the files of a run, in the order of their names, and gives the bytes of the image beside the rest.
+/// The image that a run is given.
+#[derive(Debug, Drop)]
+pub enum GivenImage<I> {
+    /// A new one.
+    New(NewImage),
+    /// That of a file, which was opened.
+    File(I),
+}
+
+/// Reads the files of a run, in the order of their names, and opens that of the image, which is given beside the rest.
 ///
 /// # Errors
 ///
@@ -33,9 +44,11 @@ pub fn given_by<'a, S: Store>(
     alloc: Global,
     files: &S,
     names: &RunFiles<'a>,
-) -> Result<(Given, Vec<u8>), Fault<'a>>
-    ensures given { IfOk result (λ read.
-        AreGiven (store_of S.gives S.stored S.received files.now) (names_of names.now) read.0 read.1.items) }
+) -> Result<(Given, GivenImage<S::Image>), Fault<'a>>
+    ensures given { IfOk result (λ read. AreGiven (store_of S.gives S.stored S.received files.now) (names_of names.now)
+        read.0 (image_given S.Image.byte_count S.Image.blocks read.1)) }
+    ensures image { IfOk result (λ read. IsOfName S.Image.failed (store_of S.gives S.stored S.received files.now)
+        names.now.image.now read.1) }
     ensures refused { IfErr result (IsUnread (store_of S.gives S.stored S.received files.now) (names_of names.now)) }
 {
     let script = text_in(alloc, files, names.script)?;
@@ -54,16 +67,25 @@ pub fn given_by<'a, S: Store>(
     Ok((given, image))
 }
 
-/// The bytes of an image: those of its file, or zeros where the name asks for a new one.
-fn image_in<'a, S: Store>(alloc: Global, files: &S, name: &'a str) -> Result<Vec<u8>, Fault<'a>>
-    ensures given { IfOk result (λ bytes.
-        GivesImage (store_of S.gives S.stored S.received files.now) name.entry.now bytes.items) }
+/// The image of a file, or zeros where the name asks for a new one.
+fn image_in<'a, S: Store>(
+    alloc: Global,
+    files: &S,
+    name: &'a str,
+) -> Result<GivenImage<S::Image>, Fault<'a>>
+    ensures given { IfOk result (λ image. GivesImage (store_of S.gives S.stored S.received files.now) name.entry.now
+        (image_given S.Image.byte_count S.Image.blocks image)) }
+    ensures image { IfOk result
+        (IsOfName S.Image.failed (store_of S.gives S.stored S.received files.now) name.entry.now) }
     ensures refused { IfErr result
         (λ fault. (fault ≡ Fault.File name.entry) ⊎ (fault ≡ Fault.Memory)) }
 {
     match new_blocks(name) {
-        Some(blocks) => Ok(vec![in alloc; 0; blocks as usize * 512]?),
-        None => bytes_in(alloc, files, name),
+        Some(blocks) => Ok(GivenImage::New(NewImage::of_zeros(alloc, blocks)?)),
+        None => {
+            let file = files.open_image(name).ok_or(Fault::File(name))?;
+            Ok(GivenImage::File(file))
+        }
     }
 }
 

@@ -2,34 +2,38 @@
 ghost use Rattle.std.specs.Prelude.{◌≡◌, OnOk, IfErr, IfOk};
 ghost use Rattle.std.specs.Io.KnownBytes.{Keeps};
 ghost use Rattle.sdv_words.specs.CommandLine.{names_of};
-ghost use Rattle.sdv_words.specs.Files.{store_of};
-ghost use Rattle.sdv_words.specs.Run.{EndsRun, FailsToKeep, IsKept, IsRun, RefusesRun, RunFails, StoresImage, answer_of};
+ghost use Rattle.sdv_file_image.specs.FileImages.{shown_of};
+ghost use Rattle.sdv_sim.specs.Made.{IsUnread};
+ghost use Rattle.sdv_words.specs.Files.{image_of, store_of};
+ghost use Rattle.sdv_words.specs.Run.{EndsRun, FailsToKeep, IsKept, IsRun, RefusesRun, RunFails, answer_of};
+ghost use Rattle.sdv_words.specs.RunImages.{IsOfName, image_given};
 ghost use Rattle.sdv_run.specs.declared.end.End.TheVariants.{Done};
 ghost use Rattle.sdv_words.specs.declared.fault.Fault.{Fault};
 
 use crate::fault::Fault;
 use crate::file::Store;
-use crate::given::{Given, given_by, new_blocks};
+use crate::given::{Given, GivenImage, given_by};
 use crate::line::RunFiles;
 use sdv_check::verify;
 use sdv_controller::Controller;
+use sdv_file_image::{BlockFile, FileImage};
 use sdv_run::{End, RunFault, run};
-use sdv_sim::{CardDesc, MemImage, Sim};
+use sdv_sim::{CardDesc, Sim};
 use std::alloc::Global;
 use std::io::{self, Write};
 
 /// How a run came out.
 #[derive(Debug, Drop)]
-pub struct Outcome {
+pub struct Outcome<F: BlockFile> {
     pub end: Result<End, RunFault>,
-    /// The bytes of the card's blocks after the run.
-    pub image: Vec<u8>,
+    /// The card's blocks after the run. Those that changed are not all written back.
+    pub image: FileImage<F>,
 }
 
 /// Runs the script of a file, which is verified with the certificate of another, beside the simulated card of a
 /// description over an image, and prints the trace. The blocks that it receives go to the file of the output, which is
-/// made or emptied before anything is verified. After the run, whatever its end, the card's blocks are written over the
-/// file of the image; those of a new image are dropped.
+/// made or emptied before anything is verified. The file of the image is read and written block by block as the card is, and
+/// has all of the card's blocks after the run, whatever its end; those of a new image are dropped.
 ///
 /// # Errors
 ///
@@ -63,69 +67,89 @@ pub fn run_files<'a, S: Store, T: Write>(
     }
 }
 
-/// Runs what was given, and then writes the card's blocks over the file of the image, whatever the end of the run.
+/// Runs what was given, and then writes back what the file of the image has not got yet, whatever the end of the run.
 fn run_kept<'a, S: Store, O: Write, T: Write>(
     alloc: Global,
     files: &S,
     names: &RunFiles<'a>,
     given: &Given,
-    image: Vec<u8>,
+    image: GivenImage<S::Image>,
     out: &mut O,
     trace: &mut T,
 ) -> Result<Result<End, RunFault>, Fault<'a>>
+    requires { IsOfName S.Image.failed (store_of S.gives S.stored S.received files.now) names.now.image.now image }
     ensures kept { IfOk result (λ end. IsKept (store_of S.gives S.stored S.received files.now)
-        (names_of names.now) given.now image.items end
+        (names_of names.now) given.now (image_given S.Image.byte_count S.Image.blocks image) end
         (O.contents out.old) (O.contents out.new) (T.contents trace.old) (T.contents trace.new)) }
-    ensures fails { IfErr result (λ fault. FailsToKeep (names_of names.now) given.now image.items fault
+    ensures fails { IfErr result (λ fault. FailsToKeep (store_of S.gives S.stored S.received files.now)
+        (names_of names.now) given.now (image_given S.Image.byte_count S.Image.blocks image) fault
         (T.contents trace.old) (T.contents trace.new)) }
 {
-    let outcome = run_given(alloc, given, image, out, trace)?;
-    store_image(files, names.image, outcome.image.as_slice())?;
-    Ok(outcome.end)
-}
-
-/// Writes the card's blocks over the file of the image, but drops those of a new image.
-fn store_image<'a, S: Store>(files: &S, name: &'a str, bytes: &[u8]) -> Result<(), Fault<'a>>
-    ensures stored { OnOk result
-        (StoresImage (store_of S.gives S.stored S.received files.now) name.entry.now bytes.now) }
-    ensures refused { IfErr result (λ fault. fault ≡ Fault.File name.entry) }
-{
-    match new_blocks(name) {
-        Some(_) => Ok(()),
-        None if files.store(name, bytes) => Ok(()),
-        None => Err(Fault::File(name)),
+    match image {
+        GivenImage::New(image) => {
+            let outcome = run_given(alloc, given, image, out, trace)?;
+            Ok(outcome.end)
+        }
+        GivenImage::File(file) => {
+            let Outcome { end, image } = run_given(alloc, given, file, out, trace)?;
+            close_image(files, names.image, image)?;
+            Ok(end)
+        }
     }
 }
 
-/// Verifies a script with its certificate, and runs it beside the card of a description over the blocks of an image.
+/// Writes all blocks that changed back to the file of the image, and closes it.
+fn close_image<'a, S: Store>(
+    files: &S,
+    name: &'a str,
+    image: FileImage<S::Image>,
+) -> Result<(), Fault<'a>>
+    ensures closed { OnOk result ((S.stored files.now).closed name.entry.now (shown_of image)) }
+    ensures refused { IfErr result (λ fault. fault ≡ Fault.File name.entry) }
+{
+    let is_closed = match image.finish() {
+        Ok(file) => files.close_image(name, file),
+        Err(_) => false,
+    };
+    if is_closed {
+        Ok(())
+    } else {
+        Err(Fault::File(name))
+    }
+}
+
+/// Verifies a script with its certificate, and runs it beside the card of a description over the image of a file, whose
+/// blocks are read and written as the card's are. The image that is given back has to be finished.
 ///
 /// # Errors
 ///
-/// The first of these; nothing was sent or printed then.
+/// The first of these; nothing was sent or printed then, and the file was dropped, its blocks unchanged.
 ///
 /// - [`Fault::Script`], [`Fault::Certificate`], [`Fault::Refused`]: the script is not accepted.
 /// - [`Fault::Card`]: there is no card by the description, over the image, with the schedule.
 /// - [`Fault::Memory`]: memory was refused.
-pub fn run_given<O: Write, T: Write>(
+pub fn run_given<F: BlockFile + Drop, O: Write, T: Write>(
     alloc: Global,
     given: &Given,
-    image: Vec<u8>,
+    file: F,
     out: &mut O,
     trace: &mut T,
-) -> Result<Outcome, Fault<'static>>
-    ensures ran { IfOk result (λ outcome. IsRun given.now image.items outcome.image.items outcome.end
+) -> Result<Outcome<F>, Fault<'static>>
+    ensures ran { IfOk result (λ outcome. IsRun given.now (image_of (F.byte_count file) (F.blocks file))
+        (shown_of outcome.image) outcome.end
         (O.contents out.old) (O.contents out.new) (T.contents trace.old) (T.contents trace.new)) }
-    ensures refused { IfErr result (RefusesRun given.now image.items) }
+    ensures refused { IfErr result
+        (RefusesRun given.now (image_of (F.byte_count file) (F.blocks file)) (IsUnread F.failed file)) }
     ensures quiet { IfErr result (λ _. Keeps (T.contents trace.old) (T.contents trace.new)) }
 {
     let accepted = verify(alloc, given.script.as_str(), given.certificate.as_str())?;
     let desc = CardDesc::parse(given.card.as_str())?;
-    let image = MemImage::from_bytes(image)?;
+    let image = FileImage::new(alloc, file)?;
     let sim = Sim::new(alloc, desc, image, given.codes.as_slice())?;
     let mut port = Controller::new(sim);
     let (input, _) = given.input.as_slice().as_chunks::<512>();
     let end = run(alloc, &accepted, &mut port, input, out, trace);
-    let image = port.into_wire().into_image().into_bytes();
+    let image = port.into_wire().into_image();
     Ok(Outcome { end, image })
 }
 

@@ -3,6 +3,7 @@ use Rattle.std.specs.Prelude.{string_bytes}
 use Rattle.sdv_words.specs.CommandLine.{names_of}
 use Rattle.sdv_words.specs.Files.{Files, store_of}
 use Rattle.sdv_words.specs.Run.{some_file}
+use Rattle.sdv_words.specs.RunImages.{image_given}
 use Rattle.sdv_words.proofs.GivenLaws.{four, four_gave, input_place, optional_unread, schedule_gave, text_gave, unread}
 use Rattle.sdv_words.proofs.given.given_by.Goals as goal
 
@@ -50,7 +51,8 @@ returns-in_err-codes-clause-refused g c =
     optional_unread files names c.args.names.now.schedule (four files names []) (some_file names.input ++ some_file names.output)
     (λ file is. ap (λ name. four files names [] ++ (some_file (option_map (λ f. f.now) name) ++ (some_file names.input ++ some_file names.output))) is)
     (four_gave files names (string_bytes c.in_ok-script.script) (string_bytes c.in_ok-certificate.certificate) (string_bytes c.in_ok-card.card)
-    c.in_ok-image.image.items c.in_ok-script.ensures.given c.in_ok-certificate.ensures.given c.in_ok-card.ensures.given c.in_ok-image.ensures.given [] tt)
+    (image_given g.S.Image.BlockFile.byte_count g.S.Image.BlockFile.blocks c.in_ok-image.image) c.in_ok-script.ensures.given
+    c.in_ok-certificate.ensures.given c.in_ok-card.ensures.given c.in_ok-image.ensures.given [] tt)
     c.in_err-codes.field-0.0 c.in_err-codes.ensures.refused c.from_residual-in_err-codes.result c.from_residual-in_err-codes.ensures.1
 
 pub returns-in_err-input-clause-refused : goal.returns-in_err-input-clause-refused
@@ -60,6 +62,7 @@ returns-in_err-input-clause-refused g c =
     optional_unread files names c.args.names.now.input (four files names (some_file names.schedule)) (some_file names.output)
     (λ file is. input_place files names names.schedule names.input file.now (some_file names.output) (ap (option_map (λ f. f.now)) is))
     (four_gave files names (string_bytes c.in_ok-script.script) (string_bytes c.in_ok-certificate.certificate) (string_bytes c.in_ok-card.card)
-    c.in_ok-image.image.items c.in_ok-script.ensures.given c.in_ok-certificate.ensures.given c.in_ok-card.ensures.given c.in_ok-image.ensures.given (some_file names.schedule)
+    (image_given g.S.Image.BlockFile.byte_count g.S.Image.BlockFile.blocks c.in_ok-image.image) c.in_ok-script.ensures.given
+    c.in_ok-certificate.ensures.given c.in_ok-card.ensures.given c.in_ok-image.ensures.given (some_file names.schedule)
     (schedule_gave files names.schedule c.in_ok-codes.codes.items c.in_ok-codes.ensures.given))
     c.in_err-input.field-0.0 c.in_err-input.ensures.refused c.from_residual-in_err-input.result c.from_residual-in_err-input.ensures.1

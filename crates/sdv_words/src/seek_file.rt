@@ -1,0 +1,88 @@
+//! A file of the machine, read and written block by block.
+
+ghost use Rattle.std.specs.Prelude.{None};
+
+use sdv_file_image::BlockFile;
+use sdv_image::ImageFault;
+use std::io::{self, Read, Seek, SeekFrom, Write};
+
+/// A file that a position is set in. Nothing is claimed of its blocks, since anyone may write it.
+#[derive(Drop)]
+pub struct SeekFile<F> {
+    file: F,
+    bytes: u64,
+    failures: u64,
+}
+
+impl<F: Read + Write + Seek + Drop> SeekFile<F> {
+    /// A file, of which as many bytes are used as it has now.
+    ///
+    /// # Errors
+    ///
+    /// Where it has no end that a position can be set to, as a pipe.
+    pub fn new(file: F) -> io::Result<SeekFile<F>> {
+        let mut file = file;
+        let bytes = seek(&mut file, SeekFrom::End(0))?;
+        Ok(SeekFile {
+            file,
+            bytes,
+            failures: 0,
+        })
+    }
+
+    /// Ends what was written to it.
+    pub fn close(self) -> io::Result<()> {
+        let mut file = self.file;
+        file.flush()
+    }
+}
+
+fn seek<F: Seek>(file: &mut F, place: SeekFrom) -> io::Result<u64> {
+    file.seek(place)
+}
+
+fn read_block<F: Read + Seek>(file: &mut F, place: u64, block: &mut [u8; 512]) -> io::Result<()> {
+    seek(file, SeekFrom::Start(place.saturating_mul(512)))?;
+    file.read_exact(block)
+}
+
+fn write_block<F: Write + Seek>(file: &mut F, place: u64, block: &[u8; 512]) -> io::Result<()> {
+    seek(file, SeekFrom::Start(place.saturating_mul(512)))?;
+    file.write_all(block)
+}
+
+impl<F: Read + Write + Seek> BlockFile for SeekFile<F> {
+    ghost byte_count = { λ file. file.bytes };
+
+    ghost blocks = { λ _. None };
+
+    ghost failed = { λ file. file.failures };
+
+    fn bytes(&self) -> u64 {
+        self.bytes
+    }
+
+    fn read_at(&mut self, place: u64, block: &mut [u8; 512]) -> Result<(), ImageFault> {
+        match read_block(&mut self.file, place, block) {
+            Ok(()) => Ok(()),
+            Err(_) => {
+                self.failures = self.failures.saturating_add(1);
+                Err(ImageFault)
+            }
+        }
+    }
+
+    fn write_at(&mut self, place: u64, block: &[u8; 512]) -> Result<(), ImageFault> {
+        match write_block(&mut self.file, place, block) {
+            Ok(()) => Ok(()),
+            Err(_) => {
+                self.failures = self.failures.saturating_add(1);
+                Err(ImageFault)
+            }
+        }
+    }
+
+    fn failures(&self) -> u64 {
+        self.failures
+    }
+}
