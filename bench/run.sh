@@ -3,12 +3,12 @@
 # of the same bytes on the same file.
 #
 # The transfers of 64 blocks are batches of `sdv batch`: a script has at most 4,096 statements and 65,536 bytes, so each run
-# writes or reads 4 MiB, with 64 requests, and eight runs in a row make the 32 MiB. Single blocks are as many statements as
+# writes or reads 4 MiB, with 128 requests, and eight runs in a row make the 32 MiB. Single blocks are as many statements as
 # blocks, so there one script goes through the card in a loop, from its last block to its first, with the statements of a batch.
 #
 # The least time of five is taken, of all runs with their starts, checks and bring-ups. With valgrind on the path it also says
-# how many instructions a block takes: the difference between a batch with 63 requests and one without, which does not depend
-# on what else the machine does.
+# how many instructions a block takes: the difference between a batch of two requests and one of the first alone, which does
+# not depend on what else the machine does.
 set -eu
 top=$(cd "$(dirname "$0")/.." && pwd)
 export PATH="/opt/rattle/bin:$PATH"
@@ -35,8 +35,8 @@ batches() {
 batches write
 batches read
 
-# singles NAME STATEMENTS: a script that goes through the card with them, block by block. The certificate knows that a block is
-# one of the card because every number that is less than one of the card is.
+# singles NAME STATEMENTS: a script that goes through the card with them, block by block. It goes down: a number that is less than
+# that of a block is that of a block too, and the certificate says so.
 singles() {
     {
         sed 's/^nums cap$/nums cap x/; /^done$/d' "$top/examples/sd_bring_up.sdv"
@@ -70,12 +70,6 @@ least() {
         if [ -z "$best" ] || [ "$taken" -lt "$best" ]; then best=$taken; fi
     done
     echo "$best"
-}
-
-# rate NAME COMMAND: megabytes a second.
-rate() {
-    taken=$(least "$2")
-    echo "$1: $((blocks * 512 / taken)) MB/s"
 }
 
 # compared NAME MANY ONE DD

@@ -20,11 +20,15 @@ mod tests;
 
 use sdv_words::progress::{Below, Counted, Progress};
 use sdv_words::start::start;
+use std::fs;
 use std::io::{self, IsTerminal};
 use std::process::ExitCode;
 use std::rt::Env;
 
 fn main(rt: HostRuntime) -> ExitCode {
+    // A standard stream that is closed leaves its number to the next file that is opened, which would then be written as
+    // that stream. A folder takes the number instead: nothing can be written to it.
+    let _streams = [fs::open(&rt, "/"), fs::open(&rt, "/"), fs::open(&rt, "/")];
     let words = words_of(&rt);
     // a trace on the terminal shows by itself how far the run is
     let is_shown = rt.stderr().is_terminal() && !rt.stdout().is_terminal();

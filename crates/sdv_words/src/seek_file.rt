@@ -11,6 +11,8 @@ use std::io::{self, Read, Seek, SeekFrom, Write};
 pub struct SeekFile<F> {
     file: F,
     bytes: u64,
+    /// The block that the file's position is at, where that is known.
+    next: Option<u64>,
     failures: u64,
 }
 
@@ -26,6 +28,7 @@ impl<F: Read + Write + Seek + Drop> SeekFile<F> {
         Ok(SeekFile {
             file,
             bytes,
+            next: None,
             failures: 0,
         })
     }
@@ -41,13 +44,31 @@ fn seek<F: Seek>(file: &mut F, place: SeekFrom) -> io::Result<u64> {
     file.seek(place)
 }
 
-fn read_block<F: Read + Seek>(file: &mut F, place: u64, block: &mut [u8; 512]) -> io::Result<()> {
-    seek(file, SeekFrom::Start(place.saturating_mul(512)))?;
+/// Sets the position to a block, where it is not there.
+fn move_to<F: Seek>(file: &mut F, next: Option<u64>, place: u64) -> io::Result<()> {
+    if next != Some(place) {
+        seek(file, SeekFrom::Start(place.saturating_mul(512)))?;
+    }
+    Ok(())
+}
+
+fn read_block<F: Read + Seek>(
+    file: &mut F,
+    next: Option<u64>,
+    place: u64,
+    block: &mut [u8; 512],
+) -> io::Result<()> {
+    move_to(file, next, place)?;
     file.read_exact(block)
 }
 
-fn write_block<F: Write + Seek>(file: &mut F, place: u64, block: &[u8; 512]) -> io::Result<()> {
-    seek(file, SeekFrom::Start(place.saturating_mul(512)))?;
+fn write_block<F: Write + Seek>(
+    file: &mut F,
+    next: Option<u64>,
+    place: u64,
+    block: &[u8; 512],
+) -> io::Result<()> {
+    move_to(file, next, place)?;
     file.write_all(block)
 }
 
@@ -63,9 +84,13 @@ impl<F: Read + Write + Seek> BlockFile for SeekFile<F> {
     }
 
     fn read_at(&mut self, place: u64, block: &mut [u8; 512]) -> Result<(), ImageFault> {
-        match read_block(&mut self.file, place, block) {
-            Ok(()) => Ok(()),
+        match read_block(&mut self.file, self.next, place, block) {
+            Ok(()) => {
+                self.next = place.checked_add(1);
+                Ok(())
+            }
             Err(_) => {
+                self.next = None;
                 self.failures = self.failures.saturating_add(1);
                 Err(ImageFault)
             }
@@ -73,9 +98,13 @@ impl<F: Read + Write + Seek> BlockFile for SeekFile<F> {
     }
 
     fn write_at(&mut self, place: u64, block: &[u8; 512]) -> Result<(), ImageFault> {
-        match write_block(&mut self.file, place, block) {
-            Ok(()) => Ok(()),
+        match write_block(&mut self.file, self.next, place, block) {
+            Ok(()) => {
+                self.next = place.checked_add(1);
+                Ok(())
+            }
             Err(_) => {
+                self.next = None;
                 self.failures = self.failures.saturating_add(1);
                 Err(ImageFault)
             }
