@@ -2,7 +2,7 @@
 _sdv() {
     local word=${COMP_WORDS[COMP_CWORD]} before=${COMP_WORDS[COMP_CWORD - 1]}
     if [ "$COMP_CWORD" -eq 1 ]; then
-        mapfile -t COMPREPLY < <(compgen -W "frame certify check run batch explain" -- "$word")
+        mapfile -t COMPREPLY < <(compgen -W "frame certify check run batch explain graph print --help --version" -- "$word")
         return
     fi
     case ${COMP_WORDS[1]} in
@@ -16,7 +16,7 @@ _sdv() {
             mapfile -t COMPREPLY < <(compgen -f -- "$word")
         fi
         ;;
-    certify | check | explain) mapfile -t COMPREPLY < <(compgen -f -- "$word") ;;
+    certify | check | explain | graph | print) mapfile -t COMPREPLY < <(compgen -f -- "$word") ;;
     esac
 }
 complete -o filenames -F _sdv sdv

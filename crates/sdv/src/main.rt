@@ -6,6 +6,8 @@ mod certify_tests;
 #[cfg(test)]
 mod check_tests;
 #[cfg(test)]
+mod graph_tests;
+#[cfg(test)]
 mod long_tests;
 #[cfg(test)]
 mod progress_tests;

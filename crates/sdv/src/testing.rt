@@ -34,7 +34,7 @@ done
 
 /// What it says of words that are none of its lines.
 pub const USAGE: &str =
-    "usage: sdv frame INDEX ARG | sdv certify SCRIPT | sdv check SCRIPT CERT | sdv run SCRIPT CERT CARD IMAGE [SCHEDULE] [--in FILE] [--out FILE] | sdv batch KIND REQUESTS | sdv explain SCRIPT\n";
+    "usage: sdv frame INDEX ARG | sdv certify SCRIPT | sdv check SCRIPT CERT | sdv run SCRIPT CERT CARD IMAGE [SCHEDULE] [--in FILE] [--out FILE] | sdv batch KIND REQUESTS | sdv explain SCRIPT | sdv graph SCRIPT | sdv print SCRIPT\n";
 
 /// What the program has to answer.
 #[derive(Clone, Copy, Debug)]

@@ -79,7 +79,7 @@ fn prints_batches(rt: HostRuntime) -> Result<(), Fail> {
 
 #[test]
 fn refuses_other_words(rt: HostRuntime) {
-    let rows: [&[&str]; 29] = [
+    let rows: [&[&str]; 30] = [
         &[],
         &["frame"],
         &["frame", "0"],
@@ -107,8 +107,9 @@ fn refuses_other_words(rt: HostRuntime) {
         &["batch", "sd", "read 0"],
         &["batch", "sd", "erase 0 1"],
         &["help"],
-        &["--help"],
+        &["--help", "frame"],
         &["frame", "-h"],
+        &["graph"],
     ];
     for (row, words) in rows.iter().enumerate() {
         let mut out = Vec::new(rt.alloc());

@@ -2,3 +2,4 @@ pub mod EdgeLaws
 pub mod FoundLaws
 pub mod ExplainedLaws
 pub mod StandLaws
+mod HeadingLaws

@@ -1,67 +1,120 @@
 //! Statements of scripts, and what is seen of their events, in words.
 
+ghost use Rattle.std.specs.Prelude.{◌≡◌, ◌++◌, OnOk};
+ghost use Rattle.sdv_graph.specs.Graph.{node_of};
+ghost use Rattle.sdv_explain.specs.Statements.{address_if_any, address_words, aim_words, atom_words, change_words, command_words};
+ghost use Rattle.sdv_explain.specs.Statements.{condition_words, count_words, let_words, more_words, name_at, phase_words, position_words};
+ghost use Rattle.sdv_explain.specs.Statements.{statement_words, unit_words};
+
 use crate::outline::Outline;
 use crate::shapes::numbered_state_word;
 use crate::text::{Text, put, put_number, put_numbered};
-use sdv_card::{Aim, Seen};
+use sdv_card::{Aim, Ask, Seen};
 use sdv_graph::{Action, Address, Atom, Change, Command, Condition, Let, Phase, Position, Unit};
 use std::alloc::AllocError;
 
 /// Adds the name in a place.
-fn put_name(text: &mut Text, names: &[&[u8]], place: usize) -> Result<(), AllocError> {
+fn put_name(text: &mut Text, names: &[&[u8]], place: usize) -> Result<(), AllocError>
+    ensures { OnOk result (text.new.items ≡ text.old.items ++ name_at names.now place) }
+{
     match names.get(place) {
         Some(name) => text.extend_from_slice(name),
         None => put(text, "?"),
     }
 }
 
-fn put_position(text: &mut Text, position: Position, outline: &Outline) -> Result<(), AllocError> {
+/// Adds what is added to a number, if anything is.
+fn put_more(text: &mut Text, more: Option<u64>) -> Result<(), AllocError>
+    ensures { OnOk result (text.new.items ≡ text.old.items ++ more_words more) }
+{
+    match more {
+        Some(number) => put_numbered(text, " + ", number, ""),
+        None => Ok(()),
+    }
+}
+
+fn put_position(text: &mut Text, position: Position, outline: &Outline) -> Result<(), AllocError>
+    ensures { OnOk result (text.new.items ≡ text.old.items ++ position_words outline.now position) }
+{
     match position {
         Position::Number(number) => put_number(text, number),
-        Position::Variable(variable, None) => put_name(text, &outline.numbers, variable),
-        Position::Variable(variable, Some(more)) => {
+        Position::Variable(variable, more) => {
             put_name(text, &outline.numbers, variable)?;
-            put_numbered(text, " + ", more, "")
+            put_more(text, more)
+        }
+    }
+}
+
+fn put_unit(text: &mut Text, unit: Unit, outline: &Outline) -> Result<(), AllocError>
+    ensures { OnOk result (text.new.items ≡ text.old.items ++ unit_words outline.now unit) }
+{
+    match unit {
+        Unit::Block => put(text, "at block "),
+        Unit::Byte => put(text, "at byte "),
+        Unit::By(flag) => {
+            put(text, "at by ")?;
+            put_name(text, &outline.flags, flag)?;
+            put(text, " ")
         }
     }
 }
 
 /// Adds an address.
-pub fn put_address(
-    text: &mut Text,
-    address: &Address,
-    outline: &Outline,
-) -> Result<(), AllocError> {
-    match address.unit {
-        Unit::Block => put(text, "at block ")?,
-        Unit::Byte => put(text, "at byte ")?,
-        Unit::By(flag) => {
-            put(text, "at by ")?;
-            put_name(text, &outline.flags, flag)?;
-            put(text, " ")?;
-        }
-    }
+pub fn put_address(text: &mut Text, address: &Address, outline: &Outline) -> Result<(), AllocError>
+    ensures { OnOk result (text.new.items ≡ text.old.items ++ address_words outline.now address.now) }
+{
+    put_unit(text, address.unit, outline)?;
     put_position(text, address.position, outline)
 }
 
-/// Adds a command: its index, and what it is written with.
-fn put_command(text: &mut Text, command: &Command, outline: &Outline) -> Result<(), AllocError> {
-    let ask = &command.ask;
-    put_numbered(text, "CMD", u64::from(ask.index), "")?;
-    if let (7, Aim::Plain) = (ask.index, ask.aim) {
-        put(text, " none")?;
+/// What CMD7 is written with, where it has another argument than the card's address.
+fn aim_words(ask: &Ask) -> &'static str
+    ensures { result.now ≡ aim_words ask.now }
+{
+    match (ask.index, ask.aim) {
+        (7, Aim::Plain) => " none",
+        _ => "",
     }
-    if let Some(address) = &command.address {
-        put(text, " ")?;
-        put_address(text, address, outline)?;
+}
+
+fn put_address_if_any(
+    text: &mut Text,
+    address: &Option<Address>,
+    outline: &Outline,
+) -> Result<(), AllocError>
+    ensures { OnOk result (text.new.items ≡ text.old.items ++ address_if_any outline.now address.now) }
+{
+    match address {
+        Some(address) => {
+            put(text, " ")?;
+            put_address(text, address, outline)
+        }
+        None => Ok(()),
     }
+}
+
+fn put_announced(text: &mut Text, ask: &Ask) -> Result<(), AllocError>
+    ensures { OnOk result (text.new.items ≡ text.old.items ++ count_words ask.now) }
+{
     match ask.index {
         18 | 23 | 25 => put_numbered(text, " count ", u64::from(ask.count), ""),
         _ => Ok(()),
     }
 }
 
-fn phase_words(phase: Phase) -> &'static str {
+/// Adds a command: its index, and what it is written with.
+fn put_command(text: &mut Text, command: &Command, outline: &Outline) -> Result<(), AllocError>
+    ensures { OnOk result (text.new.items ≡ text.old.items ++ command_words outline.now command.now) }
+{
+    put_numbered(text, "CMD", u64::from(command.ask.index), "")?;
+    put(text, aim_words(&command.ask))?;
+    put_address_if_any(text, &command.address, outline)?;
+    put_announced(text, &command.ask)
+}
+
+fn phase_words(phase: Phase) -> &'static str
+    ensures { result.now ≡ phase_words phase }
+{
     match phase {
         Phase::ReceiveBlocks => "recv",
         Phase::ReceiveRegister => "recv reg",
@@ -70,29 +123,40 @@ fn phase_words(phase: Phase) -> &'static str {
     }
 }
 
-fn put_let(text: &mut Text, set: &Let, outline: &Outline) -> Result<(), AllocError> {
-    put(text, "let ")?;
-    put_name(text, &outline.numbers, set.target)?;
-    put(text, " = ")?;
-    match set.atom {
-        Atom::Number(number) => put_number(text, number)?,
-        Atom::Variable(variable) => put_name(text, &outline.numbers, variable)?,
-        Atom::CsdBlocks => put(text, "csd.blocks")?,
-        Atom::ExtBlocks => put(text, "ext.blocks")?,
+fn put_atom(text: &mut Text, atom: Atom, outline: &Outline) -> Result<(), AllocError>
+    ensures { OnOk result (text.new.items ≡ text.old.items ++ atom_words outline.now atom) }
+{
+    match atom {
+        Atom::Number(number) => put_number(text, number),
+        Atom::Variable(variable) => put_name(text, &outline.numbers, variable),
+        Atom::CsdBlocks => put(text, "csd.blocks"),
+        Atom::ExtBlocks => put(text, "ext.blocks"),
     }
-    match set.change {
+}
+
+fn put_change(text: &mut Text, change: Change) -> Result<(), AllocError>
+    ensures { OnOk result (text.new.items ≡ text.old.items ++ change_words change) }
+{
+    match change {
         Change::Same => Ok(()),
         Change::Plus(number) => put_numbered(text, " + ", number, ""),
         Change::Minus(number) => put_numbered(text, " - ", number, ""),
     }
 }
 
-fn put_condition(
-    text: &mut Text,
-    condition: Condition,
-    outline: &Outline,
-) -> Result<(), AllocError> {
-    put(text, "if ")?;
+fn put_let(text: &mut Text, set: &Let, outline: &Outline) -> Result<(), AllocError>
+    ensures { OnOk result (text.new.items ≡ text.old.items ++ let_words outline.now set.now) }
+{
+    put(text, "let ")?;
+    put_name(text, &outline.numbers, set.target)?;
+    put(text, " = ")?;
+    put_atom(text, set.atom, outline)?;
+    put_change(text, set.change)
+}
+
+fn put_condition(text: &mut Text, condition: Condition, outline: &Outline) -> Result<(), AllocError>
+    ensures { OnOk result (text.new.items ≡ text.old.items ++ condition_words outline.now condition) }
+{
     match condition {
         Condition::Flag(flag) => put_name(text, &outline.flags, flag),
         Condition::AtLeast(variable, number) => {
@@ -111,12 +175,17 @@ pub fn put_statement(
     text: &mut Text,
     action: &Action<'_>,
     outline: &Outline,
-) -> Result<(), AllocError> {
+) -> Result<(), AllocError>
+    ensures { OnOk result (text.new.items ≡ text.old.items ++ statement_words outline.now (node_of action.now)) }
+{
     match action {
         Action::Send(command, _, _) => put_command(text, command, outline),
         Action::Phase(phase, _, _) => put(text, phase_words(*phase)),
         Action::Let(set, _) => put_let(text, set, outline),
-        Action::If(condition, _, _) => put_condition(text, *condition, outline),
+        Action::If(condition, _, _) => {
+            put(text, "if ")?;
+            put_condition(text, *condition, outline)
+        }
         Action::Flag(flag, on, _) => {
             put(text, if *on { "set " } else { "clear " })?;
             put_name(text, &outline.flags, *flag)

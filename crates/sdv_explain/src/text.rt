@@ -1,6 +1,6 @@
 //! Texts that are put together piece by piece.
 
-ghost use Rattle.std.specs.Prelude.{◌≡◌, ◌++◌, OnOk};
+ghost use Rattle.std.specs.Prelude.{◌≡◌, ◌++◌, OnOk, decimal};
 
 use itoa::Buffer;
 use std::alloc::AllocError;
@@ -16,7 +16,9 @@ pub fn put(text: &mut Text, words: &str) -> Result<(), AllocError>
 }
 
 /// Adds a number, in decimal digits.
-pub fn put_number(text: &mut Text, number: u64) -> Result<(), AllocError> {
+pub fn put_number(text: &mut Text, number: u64) -> Result<(), AllocError>
+    ensures { OnOk result (text.new.items ≡ text.old.items ++ decimal number) }
+{
     let mut buffer = Buffer::new();
     put(text, buffer.format(number))
 }
@@ -27,7 +29,9 @@ pub fn put_numbered(
     before: &str,
     number: u64,
     after: &str,
-) -> Result<(), AllocError> {
+) -> Result<(), AllocError>
+    ensures { OnOk result (text.new.items ≡ text.old.items ++ (before.now ++ (decimal number ++ after.now))) }
+{
     put(text, before)?;
     put_number(text, number)?;
     put(text, after)

@@ -12,7 +12,7 @@ use Rattle.clap.specs.Takes.{is_given}
 use Rattle.clap.specs.Faults.{entered_fault, level_fault}
 use Rattle.sdv_words.proofs.WordsGiven.{HasNoDefaults, TakesOneWord, given_text, leaf_given, subcommand_given}
 use Rattle.clap.specs.Words.{App, Kinds, Row, Shape, Text, built, fault_of, first_of, is_simple, is_simple_and_free, matches_of, subcommand_of, takes}
-use Rattle.sdv_words.specs.CommandLine.{Request, batch_of, batch_request, explain, explain_request, certify, certify_request, check_of, check_request, command_line, frame_of, frame_request, meaning_of, request_in, request_of, request_without, run_of, run_request}
+use Rattle.sdv_words.specs.CommandLine.{Request, batch_of, batch_request, explain, explain_request, graph, graph_request, print, print_request, certify, certify_request, check_of, check_request, command_line, frame_of, frame_request, meaning_of, request_in, request_of, request_without, run_of, run_request}
 use Rattle.sdv_words.specs.declared.line.Line.{Line}
 use Rattle.sdv_words.specs.declared.line.LineFault.{LineFault}
 use Rattle.sdv_words.specs.declared.line.LineFault.TheVariants.{Usage, Memory}
@@ -89,6 +89,12 @@ batch_shape = unwrap_or (slice_get (built command_line).subs 4) (built command_l
 abbrev explain_shape : Shape
 explain_shape = unwrap_or (slice_get (built command_line).subs 5) (built command_line).top
 
+abbrev graph_shape : Shape
+graph_shape = unwrap_or (slice_get (built command_line).subs 6) (built command_line).top
+
+abbrev print_shape : Shape
+print_shape = unwrap_or (slice_get (built command_line).subs 7) (built command_line).top
+
 frame_one_word : AllByRecursion TakesOneWord frame_shape.rules
 frame_one_word = (inl (refl, refl), (inl (refl, refl), (inr refl, tt)))
 
@@ -124,6 +130,18 @@ explain_one_word = (inl (refl, refl), (inr refl, tt))
 
 explain_no_defaults : HasNoDefaults explain_shape.rules
 explain_no_defaults = (refl, (refl, tt))
+
+graph_one_word : AllByRecursion TakesOneWord graph_shape.rules
+graph_one_word = (inl (refl, refl), (inr refl, tt))
+
+graph_no_defaults : HasNoDefaults graph_shape.rules
+graph_no_defaults = (refl, (refl, tt))
+
+print_one_word : AllByRecursion TakesOneWord print_shape.rules
+print_one_word = (inl (refl, refl), (inr refl, tt))
+
+print_no_defaults : HasNoDefaults print_shape.rules
+print_no_defaults = (refl, (refl, tt))
 
 one_given : (a : Bool) → (not a || false) ≡ false → a ≡ true
 one_given true none = refl
@@ -172,6 +190,14 @@ one_to_explain : (script : Option Text) → is_some script ≡ true → is_some 
 one_to_explain (Some script) s = refl
 one_to_explain None s = cc
 
+one_to_draw : (script : Option Text) → is_some script ≡ true → is_some (option_map graph script) ≡ true
+one_to_draw (Some script) s = refl
+one_to_draw None s = cc
+
+one_to_print : (script : Option Text) → is_some script ≡ true → is_some (option_map print script) ≡ true
+one_to_print (Some script) s = refl
+one_to_print None s = cc
+
 frame_given : (words : List Text) → level_fault frame_shape [] nothing_held words false [] ≡ [] → is_some (frame_request (rows_after frame_shape.rules [] words)) ≡ true
 frame_given words none =
     let rows = rows_after frame_shape.rules [] words in
@@ -215,29 +241,43 @@ explain_given words none =
     let given = leaf_given explain_shape words explain_one_word explain_no_defaults none in
     one_to_explain (first_of (codes "SCRIPT") rows) (given_text (codes "SCRIPT") rows given.0 (one_given (is_given (codes "SCRIPT") rows) given.1))
 
+graph_given : (words : List Text) → level_fault graph_shape [] nothing_held words false [] ≡ [] → is_some (graph_request (rows_after graph_shape.rules [] words)) ≡ true
+graph_given words none =
+    let rows = rows_after graph_shape.rules [] words in
+    let given = leaf_given graph_shape words graph_one_word graph_no_defaults none in
+    one_to_draw (first_of (codes "SCRIPT") rows) (given_text (codes "SCRIPT") rows given.0 (one_given (is_given (codes "SCRIPT") rows) given.1))
+
+print_given : (words : List Text) → level_fault print_shape [] nothing_held words false [] ≡ [] → is_some (print_request (rows_after print_shape.rules [] words)) ≡ true
+print_given words none =
+    let rows = rows_after print_shape.rules [] words in
+    let given = leaf_given print_shape words print_one_word print_no_defaults none in
+    one_to_print (first_of (codes "SCRIPT") rows) (given_text (codes "SCRIPT") rows given.0 (one_given (is_given (codes "SCRIPT") rows) given.1))
+
 entered_given : (stop : Option (Text × List Text)) → is_some (entered (built command_line) stop) ≡ true → entered_fault (built command_line) stop ≡ []
     → is_some (option_and_then request_in (entered (built command_line) stop)) ≡ true
 entered_given None has none = cc
 entered_given (Some p) has none =
     go (answers_to p.0 (label_of frame_shape)) (answers_to p.0 (label_of certify_shape)) (answers_to p.0 (label_of check_shape)) (answers_to p.0 (label_of run_shape))
-    (answers_to p.0 (label_of batch_shape)) (answers_to p.0 (label_of explain_shape)) has none
+    (answers_to p.0 (label_of batch_shape)) (answers_to p.0 (label_of explain_shape)) (answers_to p.0 (label_of graph_shape)) (answers_to p.0 (label_of print_shape)) has none
   where
-    found : (is_frame is_certify is_check is_run is_batch is_explain : Bool) → Option Shape
-    found is_frame is_certify is_check is_run is_batch is_explain =
+    found : (is_frame is_certify is_check is_run is_batch is_explain is_graph is_print : Bool) → Option Shape
+    found is_frame is_certify is_check is_run is_batch is_explain is_graph is_print =
         cond is_frame (Some frame_shape) (cond is_certify (Some certify_shape) (cond is_check (Some check_shape) (cond is_run (Some run_shape)
-        (cond is_batch (Some batch_shape) (cond is_explain (Some explain_shape) None)))))
+        (cond is_batch (Some batch_shape) (cond is_explain (Some explain_shape) (cond is_graph (Some graph_shape) (cond is_print (Some print_shape) None)))))))
 
-    go : (is_frame is_certify is_check is_run is_batch is_explain : Bool)
-        → is_some (option_map (λ s. rows_at s p.1) (found is_frame is_certify is_check is_run is_batch is_explain)) ≡ true
-        → option_map_or (λ s. level_fault s [] nothing_held p.1 false []) (found is_frame is_certify is_check is_run is_batch is_explain) [] ≡ []
-        → is_some (option_and_then request_in (option_map (λ s. rows_at s p.1) (found is_frame is_certify is_check is_run is_batch is_explain))) ≡ true
-    go true is_certify is_check is_run is_batch is_explain has none = frame_given p.1 none
-    go false true is_check is_run is_batch is_explain has none = certify_given p.1 none
-    go false false true is_run is_batch is_explain has none = check_given p.1 none
-    go false false false true is_batch is_explain has none = run_given p.1 none
-    go false false false false true is_explain has none = batch_given p.1 none
-    go false false false false false true has none = explain_given p.1 none
-    go false false false false false false has none = cc
+    go : (is_frame is_certify is_check is_run is_batch is_explain is_graph is_print : Bool)
+        → is_some (option_map (λ s. rows_at s p.1) (found is_frame is_certify is_check is_run is_batch is_explain is_graph is_print)) ≡ true
+        → option_map_or (λ s. level_fault s [] nothing_held p.1 false []) (found is_frame is_certify is_check is_run is_batch is_explain is_graph is_print) [] ≡ []
+        → is_some (option_and_then request_in (option_map (λ s. rows_at s p.1) (found is_frame is_certify is_check is_run is_batch is_explain is_graph is_print))) ≡ true
+    go true is_certify is_check is_run is_batch is_explain is_graph is_print has none = frame_given p.1 none
+    go false true is_check is_run is_batch is_explain is_graph is_print has none = certify_given p.1 none
+    go false false true is_run is_batch is_explain is_graph is_print has none = check_given p.1 none
+    go false false false true is_batch is_explain is_graph is_print has none = run_given p.1 none
+    go false false false false true is_explain is_graph is_print has none = batch_given p.1 none
+    go false false false false false true is_graph is_print has none = explain_given p.1 none
+    go false false false false false false true is_print has none = graph_given p.1 none
+    go false false false false false false false true has none = print_given p.1 none
+    go false false false false false false false false has none = cc
 
 -- the words mean a request
 meaning_given : (words : List Text) → fault_of command_line words ≡ [] → is_some (meaning_of words) ≡ true

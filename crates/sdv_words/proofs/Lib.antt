@@ -8,5 +8,6 @@ mod RunMaps
 mod RunLaws
 mod GivenLaws
 mod NewImageLaws
+mod PrintLaws
 pub mod OutputLaws
 pub mod StartLaws

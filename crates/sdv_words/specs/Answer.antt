@@ -1,5 +1,5 @@
 -- What the program answers to the words that it was called with.
-use Rattle.std.specs.Prelude.{◌≡◌, ◌≢◌, ◌⊎◌, ℕ, List, Option, Some}
+use Rattle.std.specs.Prelude.{◌≡◌, ◌≢◌, ◌⊎◌, ℕ, List, Option, Some, None}
 use Rattle.std.specs.Io.KnownBytes.{Appends, Keeps}
 use Rattle.sdv_text.specs.Written.{AppendsPart}
 use Rattle.clap.specs.Words.{Text}
@@ -10,8 +10,11 @@ use Rattle.sdv_words.specs.declared.fault.Fault.TheVariants.{Usage, Unserved, Ou
 use Rattle.sdv_words.specs.Certify.{CertifiesFile, CertifiesFileInPart, UncertifiesFile}
 use Rattle.sdv_words.specs.Check.{AcceptsFiles, AcceptsFilesInPart, RefusesFiles}
 use Rattle.sdv_words.specs.BatchWords.{PrintsBatch, PrintsBatchInPart, RefusesBatch}
-use Rattle.sdv_words.specs.CommandLine.{RunNames, frame, certify, check, run, batch, explain, meaning_of}
+use Rattle.sdv_words.specs.CommandLine.{RunNames, frame, certify, check, run, batch, explain, graph, print, meaning_of}
 use Rattle.sdv_words.specs.Explain.{ExplainsFile, ExplainFileFails}
+use Rattle.sdv_words.specs.Graph.{DrawsFile, GraphFileFails}
+use Rattle.sdv_words.specs.Print.{PrintsFile, PrintsFileInPart, UnprintsFile}
+use Rattle.sdv_words.specs.Page.{PrintsPage, PrintsPageInPart, page_of}
 use Rattle.sdv_words.specs.Fault.{Says, status_of}
 use Rattle.sdv_words.specs.Files.{Files}
 use Rattle.sdv_words.specs.Run.{EndsRun, RunFails}
@@ -139,6 +142,48 @@ pub record AnswersExplainInPart (gives : (file text : Text) → Type 0) (words :
   pub meaning : meaning_of words ≡ Some (explain script_file)
   pub fails : ExplainFileFails gives script_file Output before after
 
+-- DRAWINGS
+
+-- the words ask for the drawing of a script
+pub record AsksDrawing (words : List Text) : Type 0 where
+  pub script_file : Text
+  pub meaning : meaning_of words ≡ Some (graph script_file)
+
+abbrev pub AsksNoDrawing : List Text → Type 0
+AsksNoDrawing words = (script : Text) → meaning_of words ≢ Some (graph script)
+
+-- the words ask for it, the script has a certificate, and its drawing was printed
+pub record AnswersGraph (gives : (file text : Text) → Type 0) (words : List Text) (before after : Option (List ℕ)) : Type 0 where
+  pub script_file : Text
+  pub meaning : meaning_of words ≡ Some (graph script_file)
+  pub draws : DrawsFile gives script_file before after
+
+-- the words ask for it, and the output failed
+pub record AnswersGraphInPart (gives : (file text : Text) → Type 0) (words : List Text) (before after : Option (List ℕ)) : Type 0 where
+  pub script_file : Text
+  pub meaning : meaning_of words ≡ Some (graph script_file)
+  pub fails : GraphFileFails gives script_file Output before after
+
+-- PRINTED SCRIPTS
+
+-- the words ask for the tokens of a script, and those of what the file gave were printed
+pub record AnswersPrint (gives : (file text : Text) → Type 0) (words : List Text) (before after : Option (List ℕ)) : Type 0 where
+  pub script_file : Text
+  pub meaning : meaning_of words ≡ Some (print script_file)
+  pub prints : PrintsFile gives script_file before after
+
+-- the words ask for them, and a part of those of what the file gave was printed
+pub record AnswersPrintInPart (gives : (file text : Text) → Type 0) (words : List Text) (before after : Option (List ℕ)) : Type 0 where
+  pub script_file : Text
+  pub meaning : meaning_of words ≡ Some (print script_file)
+  pub prints : PrintsFileInPart gives script_file before after
+
+-- the words ask for them, and of the file is so what the fault says
+pub record RefusesPrint (gives : (file text : Text) → Type 0) (words : List Text) (fault : Fault) : Type 0 where
+  pub script_file : Text
+  pub meaning : meaning_of words ≡ Some (print script_file)
+  pub refuses : UnprintsFile gives script_file fault
+
 -- BATCHES
 
 -- the words ask for the script of requests, and it was printed
@@ -164,47 +209,69 @@ pub record RefusesRequests (words : List Text) (fault : Fault) : Type 0 where
 
 -- ANSWERS
 
--- the words ask for no frame, for no certificate, for no check, for no run, for no explanation and for no batch
+-- the words ask for nothing that may be printed in part or whole where it is refused: for no run, for no explanation and for no
+-- drawing
+pub record AsksQuiet (words : List Text) : Type 0 where
+  pub no_run : AsksNoRun words
+  pub no_explanation : AsksNoExplanation words
+  pub no_drawing : AsksNoDrawing words
+
+-- the words ask for no page and for no command of the program
 pub record AsksNothing (words : List Text) : Type 0 where
   pub no_frame : (c : Command) → ¬ AsksFrame words c
   pub no_certificate : (script : Text) → meaning_of words ≢ Some (certify script)
   pub no_check : (script certificate : Text) → meaning_of words ≢ Some (check script certificate)
-  pub no_run : AsksNoRun words
-  pub no_explanation : AsksNoExplanation words
+  pub quiet : AsksQuiet words
   pub no_batch : (kind requests : Text) → meaning_of words ≢ Some (batch kind requests)
+  pub no_print : (script : Text) → meaning_of words ≢ Some (print script)
+  pub no_page : page_of words ≡ None
 
 abbrev pub Answers : Files → List Text → (before after : Option (List ℕ)) → Type 0
 Answers files words before after =
     AnswersFrame words before after ⊎ (AnswersCertify files.gives words before after ⊎ (AnswersCheck files.gives words before after
-    ⊎ (AnswersRun files words before after ⊎ (AnswersBatch words before after ⊎ AnswersExplain files.gives words before after))))
+    ⊎ (AnswersRun files words before after ⊎ (AnswersBatch words before after ⊎ (AnswersExplain files.gives words before after
+    ⊎ (AnswersGraph files.gives words before after ⊎ (AnswersPrint files.gives words before after ⊎ PrintsPage words before after)))))))
 
 -- what was asked for was printed in part, and not all of it
 abbrev pub AnswersInPart : Files → List Text → (before after : Option (List ℕ)) → Type 0
 AnswersInPart files words before after =
     AnswersFrameInPart words before after ⊎ (AnswersCertifyInPart files.gives words before after
     ⊎ (AnswersCheckInPart files.gives words before after
-    ⊎ (AnswersBatchInPart words before after ⊎ AnswersExplainInPart files.gives words before after)))
+    ⊎ (AnswersBatchInPart words before after ⊎ (AnswersExplainInPart files.gives words before after
+    ⊎ (AnswersGraphInPart files.gives words before after ⊎ (AnswersPrintInPart files.gives words before after
+    ⊎ PrintsPageInPart words before after))))))
 
--- the words ask for a certificate or a check, and of the files is so what the fault says
+-- the words ask for a certificate, a check or a script's tokens, and of the files is so what the fault says
 abbrev pub RefusesScript : Files → List Text → Fault → Type 0
-RefusesScript files words fault = RefusesCertify files.gives words fault ⊎ RefusesCheck files.gives words fault
+RefusesScript files words fault =
+    RefusesCertify files.gives words fault ⊎ (RefusesCheck files.gives words fault ⊎ RefusesPrint files.gives words fault)
 
--- what a fault says of the words; of a run and of an explanation it is said below
+-- the words ask for an explanation or for a drawing
+abbrev pub AsksTold : List Text → Type 0
+AsksTold words = AsksExplanation words ⊎ AsksDrawing words
+
+-- the words ask for a page
+abbrev pub AsksPage : List Text → Type 0
+AsksPage words = (page : Text) × (page_of words ≡ Some page)
+
+-- what a fault says of the words; of a run, of an explanation and of a drawing it is said below
 abbrev pub IsFaultOf : Files → List Text → Fault → Type 0
 IsFaultOf files words Usage = AsksNothing words ⊎ RefusesRequests words Usage
-IsFaultOf files words Output = ((c : Command) × AsksFrame words c) ⊎ (RefusesScript files words Output ⊎ (RefusesRequests words Output ⊎ AsksExplanation words))
+IsFaultOf files words Output =
+    ((c : Command) × AsksFrame words c) ⊎ (RefusesScript files words Output ⊎ (RefusesRequests words Output ⊎ (AsksTold words ⊎ AsksPage words)))
 IsFaultOf files words (Unserved fault) = RefusesRequests words (Unserved fault)
 IsFaultOf files words Memory = Unit {0}
-IsFaultOf files words fault = RefusesScript files words fault ⊎ (AsksRun words ⊎ AsksExplanation words)
+IsFaultOf files words fault = RefusesScript files words fault ⊎ (AsksRun words ⊎ AsksTold words)
 
 -- REFUSALS
 
--- what a fault leaves standard output as: as it was, but where a run or an explanation was asked for
+-- what a fault leaves standard output as: as it was, but where a run, an explanation or a drawing was asked for
 pub record Left (files : Files) (words : List Text) (fault : Fault) (before after : Option (List ℕ)) : Type 0 where
-  pub kept : AsksNoRun words → AsksNoExplanation words → Keeps before after
+  pub kept : AsksQuiet words → Keeps before after
   -- and of a run it is so what the fault says
   pub of_run : (names : RunNames) → meaning_of words ≡ Some (run names) → RunFails files names fault before after
   pub of_explanation : (script : Text) → meaning_of words ≡ Some (explain script) → ExplainFileFails files.gives script fault before after
+  pub of_drawing : (script : Text) → meaning_of words ≡ Some (graph script) → GraphFileFails files.gives script fault before after
 
 -- what is known of standard output after a fault
 abbrev pub Leaves : Files → List Text → Fault → (before after : Option (List ℕ)) → Type 0

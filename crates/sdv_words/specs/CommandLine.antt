@@ -5,7 +5,7 @@ use Rattle.std.specs.Str.{bytes_eq}
 use Rattle.clap.specs.Words.{App, Kinds, Row, Rule, Shape, Text, fault_of, first_of, new_app}
 use Rattle.clap.specs.Words.{new_rule, subcommand_of, with_rule, with_subcommand}
 use Rattle.sdv_words.specs.declared.line.Line.{Line}
-use Rattle.sdv_words.specs.declared.line.Line.TheVariants.{Frame, Certify, Check, Run, Batch, Explain}
+use Rattle.sdv_words.specs.declared.line.Line.TheVariants.{Frame, Certify, Check, Run, Batch, Explain, Graph, Print}
 use Rattle.sdv_words.specs.declared.line.RunFiles.{RunFiles}
 
 -- a word that stands by its place, and may not be left out
@@ -35,6 +35,14 @@ batch_command =
 abbrev pub explain_command : App
 explain_command = with_rule (new_app (codes "explain")) (required (codes "SCRIPT"))
 
+-- `graph SCRIPT`
+abbrev pub graph_command : App
+graph_command = with_rule (new_app (codes "graph")) (required (codes "SCRIPT"))
+
+-- `print SCRIPT`
+abbrev pub print_command : App
+print_command = with_rule (new_app (codes "print")) (required (codes "SCRIPT"))
+
 -- a word behind another one, which names it
 abbrev pub option : (id long : Text) → Rule
 option id long = record (new_rule id) { long = Some long }
@@ -62,8 +70,9 @@ program_shape = record (new_app (codes "sdv")).top {
 -- `sdv`, and its commands
 abbrev pub command_line : App
 command_line =
-    with_subcommand (with_subcommand (with_subcommand (with_subcommand (with_subcommand (with_subcommand (record { top = program_shape; subs = [] })
-    frame_command.top) certify_command.top) check_command.top) run_command.top) batch_command.top) explain_command.top
+    with_subcommand (with_subcommand (with_subcommand (with_subcommand (with_subcommand (with_subcommand (with_subcommand (with_subcommand
+    (record { top = program_shape; subs = [] })
+    frame_command.top) certify_command.top) check_command.top) run_command.top) batch_command.top) explain_command.top) graph_command.top) print_command.top
 
 -- the files of a run, by their names
 pub record RunNames : Type 0 where
@@ -83,6 +92,8 @@ pub data Request : Type 0 where
   run : RunNames → Request
   batch : (kind requests : Text) → Request
   explain : Text → Request
+  graph : Text → Request
+  print : Text → Request
 
 abbrev pub names_of : RunFiles → RunNames
 names_of files = record {
@@ -103,6 +114,8 @@ request_of (Check script certificate) = check script.now certificate.now
 request_of (Run files) = run (names_of files)
 request_of (Batch kind requests) = batch kind.now requests.now
 request_of (Explain script) = explain script.now
+request_of (Graph script) = graph script.now
+request_of (Print script) = print script.now
 
 abbrev pub frame_of : Option Text → Option Text → Option Request
 frame_of (Some index) (Some argument) = Some (frame index argument)
@@ -127,6 +140,14 @@ check_request matched = check_of (first_of (codes "SCRIPT") matched) (first_of (
 -- the request in what clap matched for the words of `explain`
 abbrev pub explain_request : List Row → Option Request
 explain_request matched = option_map explain (first_of (codes "SCRIPT") matched)
+
+-- the request in what clap matched for the words of `graph`
+abbrev pub graph_request : List Row → Option Request
+graph_request matched = option_map graph (first_of (codes "SCRIPT") matched)
+
+-- the request in what clap matched for the words of `print`
+abbrev pub print_request : List Row → Option Request
+print_request matched = option_map print (first_of (codes "SCRIPT") matched)
 
 abbrev pub batch_of : Option Text → Option Text → Option Request
 batch_of (Some kind) (Some requests) = Some (batch kind requests)
@@ -156,6 +177,8 @@ request_in used =
     else if bytes_eq used.0 (codes "run") then run_request used.1
     else if bytes_eq used.0 (codes "batch") then batch_request used.1
     else if bytes_eq used.0 (codes "explain") then explain_request used.1
+    else if bytes_eq used.0 (codes "graph") then graph_request used.1
+    else if bytes_eq used.0 (codes "print") then print_request used.1
     else None
 
 -- the same, by the kinds of fault that clap finds in the words: there is no request where there are

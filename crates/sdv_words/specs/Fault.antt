@@ -103,7 +103,7 @@ run_fault_name runs.Trace = codes "Trace"
 run_fault_name runs.Memory = codes "Memory"
 
 abbrev pub usage : Text
-usage = codes "usage: sdv frame INDEX ARG | sdv certify SCRIPT | sdv check SCRIPT CERT | sdv run SCRIPT CERT CARD IMAGE [SCHEDULE] [--in FILE] [--out FILE] | sdv batch KIND REQUESTS | sdv explain SCRIPT"
+usage = codes "usage: sdv frame INDEX ARG | sdv certify SCRIPT | sdv check SCRIPT CERT | sdv run SCRIPT CERT CARD IMAGE [SCHEDULE] [--in FILE] [--out FILE] | sdv batch KIND REQUESTS | sdv explain SCRIPT | sdv graph SCRIPT | sdv print SCRIPT"
 
 abbrev pub named_line : (words name : Text) → Text
 named_line words name = words ++ (name ++ 10 ∷ [])

@@ -5,6 +5,9 @@ pub mod Fault
 pub mod Check
 pub mod BatchWords
 pub mod Explain
+pub mod Graph
+pub mod Print
+pub mod Page
 pub mod Certify
 pub mod Files
 pub mod NewImages

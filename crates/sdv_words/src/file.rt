@@ -84,7 +84,11 @@ pub fn text_in<'a, S: Store>(alloc: Global, files: &S, file: &'a str) -> Result<
     String::from_utf8(bytes).map_err(|_| Fault::File(file))
 }
 
-/// The files of a machine, of which nothing is claimed.
+/// The file of standard input.
+const STANDARD_INPUT: &str = "/dev/stdin";
+
+/// The files of a machine, of which nothing is claimed. The name `-` stands for standard input where a file is read, and for no
+/// file where one is written.
 #[derive(Clone, Copy)]
 pub struct MachineFiles<'a, R: Files>(pub &'a R);
 
@@ -104,6 +108,7 @@ impl<'a, R: Files> Store for MachineFiles<'a, R> {
     ghost stored = { λ _. any_images };
 
     fn bytes_of(&self, alloc: Global, file: &str) -> Result<Option<Vec<u8>>, AllocError> {
+        let file = if file == "-" { STANDARD_INPUT } else { file };
         match fs::open(self.0, file) {
             Ok(mut file) => bytes_within(alloc, LIMIT, &mut file),
             Err(_) => Ok(None),
@@ -120,6 +125,9 @@ impl<'a, R: Files> Store for MachineFiles<'a, R> {
     }
 
     fn create(&self, file: &str) -> Option<R::File> {
+        if file == "-" {
+            return None;
+        }
         fs::create(self.0, file).ok()
     }
 

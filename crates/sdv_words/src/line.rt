@@ -7,8 +7,9 @@ ghost use Rattle.clap.specs.Words.{subcommand_rows_of, takes};
 ghost use Rattle.clap.specs.Walk.{texts};
 ghost use Rattle.clap.specs.declared.error.kind.ErrorKind.TheVariants.{OutOfMemory};
 ghost use Rattle.sdv_words.specs.CommandLine.{batch_command, batch_request, explain_command, explain_request};
+ghost use Rattle.sdv_words.specs.CommandLine.{graph_command, graph_request, print_command, print_request};
 ghost use Rattle.sdv_words.specs.CommandLine.{certify_command, certify_request, check_command, check_request, command_line};
-ghost use Rattle.sdv_words.specs.CommandLine.{frame_command, frame_request, meaning_of, request_in, request_of};
+ghost use Rattle.sdv_words.specs.CommandLine.{frame_command, frame_request, meaning_of, program_shape, request_in, request_of};
 ghost use Rattle.sdv_words.specs.CommandLine.{run_command, run_files_command, run_request};
 
 use clap::error::ErrorKind;
@@ -18,7 +19,7 @@ use thiserror::Error;
 
 /// How the program is called.
 pub const USAGE: &str =
-    "usage: sdv frame INDEX ARG | sdv certify SCRIPT | sdv check SCRIPT CERT | sdv run SCRIPT CERT CARD IMAGE [SCHEDULE] [--in FILE] [--out FILE] | sdv batch KIND REQUESTS | sdv explain SCRIPT";
+    "usage: sdv frame INDEX ARG | sdv certify SCRIPT | sdv check SCRIPT CERT | sdv run SCRIPT CERT CARD IMAGE [SCHEDULE] [--in FILE] [--out FILE] | sdv batch KIND REQUESTS | sdv explain SCRIPT | sdv graph SCRIPT | sdv print SCRIPT";
 
 /// A command of the program, with the texts of its words.
 #[derive(Clone, Copy, Debug, PartialEq, Eq)]
@@ -44,6 +45,14 @@ pub enum Line<'a> {
     },
     /// The explanation of the script in this file.
     Explain {
+        script: &'a str,
+    },
+    /// The drawing of the graph of the script in this file.
+    Graph {
+        script: &'a str,
+    },
+    /// The tokens of the script in this file.
+    Print {
         script: &'a str,
     },
     /// The run of the script in these files beside a simulated card.
@@ -111,20 +120,29 @@ pub fn line_of<'a>(alloc: Global, words: &'a [&'a str]) -> Result<Line<'a>, Line
     line_in(&matches).ok_or(LineFault::Usage)
 }
 
-// `sdv` as clap knows it.
-fn program_command<'a>(alloc: Global) -> Result<Command<'a>, AllocError>
-    ensures { IfOk result (λ command. app_of command ≡ command_line) }
+// `sdv` as clap knows it, without its commands.
+fn top_command<'a>(alloc: Global) -> Command<'a>
+    ensures { app_of result ≡ record { top = program_shape; subs = [] } }
 {
     Command::new(alloc, "sdv")
         .no_binary_name(true)
         .subcommand_required(true)
         .disable_help_subcommand(true)
+}
+
+// `sdv` as clap knows it.
+fn program_command<'a>(alloc: Global) -> Result<Command<'a>, AllocError>
+    ensures { IfOk result (λ command. app_of command ≡ command_line) }
+{
+    top_command(alloc)
         .subcommand(frame_command(alloc)?)?
         .subcommand(certify_command(alloc)?)?
         .subcommand(check_command(alloc)?)?
         .subcommand(run_command(alloc)?)?
         .subcommand(batch_command(alloc)?)?
-        .subcommand(explain_command(alloc)?)
+        .subcommand(explain_command(alloc)?)?
+        .subcommand(graph_command(alloc)?)?
+        .subcommand(print_command(alloc)?)
 }
 
 fn frame_command<'a>(alloc: Global) -> Result<Command<'a>, AllocError>
@@ -155,6 +173,20 @@ fn explain_command<'a>(alloc: Global) -> Result<Command<'a>, AllocError>
 {
     let script = Arg::new(alloc, "SCRIPT").required(true);
     Command::new(alloc, "explain").arg(script)
+}
+
+fn graph_command<'a>(alloc: Global) -> Result<Command<'a>, AllocError>
+    ensures { IfOk result (λ command. app_of command ≡ graph_command) }
+{
+    let script = Arg::new(alloc, "SCRIPT").required(true);
+    Command::new(alloc, "graph").arg(script)
+}
+
+fn print_command<'a>(alloc: Global) -> Result<Command<'a>, AllocError>
+    ensures { IfOk result (λ command. app_of command ≡ print_command) }
+{
+    let script = Arg::new(alloc, "SCRIPT").required(true);
+    Command::new(alloc, "print").arg(script)
 }
 
 fn batch_command<'a>(alloc: Global) -> Result<Command<'a>, AllocError>
@@ -201,6 +233,8 @@ fn line_in<'a>(matches: &ArgMatches<'a>) -> Option<Line<'a>>
         ("run", matches) => run_line(matches),
         ("batch", matches) => batch_line(matches),
         ("explain", matches) => explain_line(matches),
+        ("graph", matches) => graph_line(matches),
+        ("print", matches) => print_line(matches),
         _ => None,
     }
 }
@@ -236,6 +270,20 @@ fn explain_line<'a>(matches: &ArgMatches<'a>) -> Option<Line<'a>>
 {
     let script = matches.get_str("SCRIPT")?;
     Some(Line::Explain { script })
+}
+
+fn graph_line<'a>(matches: &ArgMatches<'a>) -> Option<Line<'a>>
+    ensures { option_map request_of result ≡ graph_request (rows_of (found_of matches.now)) }
+{
+    let script = matches.get_str("SCRIPT")?;
+    Some(Line::Graph { script })
+}
+
+fn print_line<'a>(matches: &ArgMatches<'a>) -> Option<Line<'a>>
+    ensures { option_map request_of result ≡ print_request (rows_of (found_of matches.now)) }
+{
+    let script = matches.get_str("SCRIPT")?;
+    Some(Line::Print { script })
 }
 
 fn batch_line<'a>(matches: &ArgMatches<'a>) -> Option<Line<'a>>

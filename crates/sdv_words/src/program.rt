@@ -1,12 +1,13 @@
 //! The program over its words and its two output streams.
-ghost use Rattle.std.specs.Prelude.{◌≡◌, ◌≢◌, ◌⊎◌, IfErr, OnOk};
+ghost use Rattle.std.specs.Prelude.{◌≡◌, ◌≢◌, ◌⊎◌, IfErr, None, OnOk};
 ghost use Rattle.std.specs.Io.KnownBytes.{Keeps};
 ghost use Rattle.clap.specs.Walk.{texts};
-ghost use Rattle.sdv_words.specs.Answer.{Answers, AsksFrame, AsksNoExplanation, AsksNoRun, AsksNothing, EndsBy, IsFaultOf, Leaves, PrintsFrame};
+ghost use Rattle.sdv_words.specs.Answer.{Answers, AsksFrame, AsksNothing, AsksQuiet, EndsBy, IsFaultOf, Leaves, PrintsFrame};
 ghost use Rattle.sdv_words.specs.Answer.{PrintsFrameInPart, RefusesFrame};
 ghost use Rattle.sdv_words.specs.Files.{any_files, store_of};
 ghost use Rattle.sdv_words.specs.Fault.{status_of};
 ghost use Rattle.sdv_words.specs.Number.{Writes};
+ghost use Rattle.sdv_words.specs.Page.{page_of};
 ghost use Rattle.sdv_frames.specs.declared.command.Command.{Command};
 
 use crate::batch::print_batch;
@@ -16,7 +17,10 @@ use crate::explain::explain_file;
 use crate::fault::Fault;
 use crate::file::{MachineFiles, Store};
 use crate::frame::{command_of, write_frame};
+use crate::graph::graph_file;
 use crate::line::{Line, line_of};
+use crate::page::{page_of, print_page};
+use crate::print::print_file;
 use crate::run::run_files;
 use std::alloc::Global;
 use std::io::Write;
@@ -42,7 +46,7 @@ pub fn program<R: Files + AllocGlobal, O: Write, E: Write>(
 
     ensures nothing_asked { AsksNothing (texts words.now)
         → Keeps (O.contents out.old) (O.contents out.new) }
-    ensures refused { AsksNoRun (texts words.now) → AsksNoExplanation (texts words.now) → result ≡ 1
+    ensures refused { AsksQuiet (texts words.now) → result ≡ 1
         → Keeps (O.contents out.old) (O.contents out.new) }
     ensures output_failed { (c : Command) → AsksFrame (texts words.now) c → result ≡ 2
         → Keeps (E.contents err.old) (E.contents err.new) }
@@ -54,13 +58,36 @@ pub fn program<R: Files + AllocGlobal, O: Write, E: Write>(
     }
 }
 
-/// Answers a line of the program from these files.
+/// Answers a line of the program from these files. A line that is one word and asks for help or for the version is answered by
+/// that page.
 pub fn answer<'a, S: Store, O: Write>(
     alloc: Global,
     files: &S,
     words: &'a [&'a str],
     out: &mut O,
 ) -> Result<(), Fault<'a>>
+    ensures ok { OnOk result
+        (Answers (store_of S.gives S.stored S.received files.now) (texts words.now)
+        (O.contents out.old) (O.contents out.new)) }
+    ensures faults { IfErr result (IsFaultOf (store_of S.gives S.stored S.received files.now) (texts words.now)) }
+    ensures left { IfErr result (λ fault.
+        Leaves (store_of S.gives S.stored S.received files.now) (texts words.now) fault
+        (O.contents out.old) (O.contents out.new)) }
+{
+    match page_of(words) {
+        Some(page) => print_page(page, out),
+        None => answer_line(alloc, files, words, out),
+    }
+}
+
+/// Answers a line of the program that is no word for a page.
+fn answer_line<'a, S: Store, O: Write>(
+    alloc: Global,
+    files: &S,
+    words: &'a [&'a str],
+    out: &mut O,
+) -> Result<(), Fault<'a>>
+    requires { page_of (texts words.now) ≡ None }
     ensures ok { OnOk result
         (Answers (store_of S.gives S.stored S.received files.now) (texts words.now)
         (O.contents out.old) (O.contents out.new)) }
@@ -78,6 +105,8 @@ pub fn answer<'a, S: Store, O: Write>(
         } => check_files(alloc, files, script, certificate, out),
         Line::Run(names) => run_files(alloc, files, names, out),
         Line::Explain { script } => explain_file(alloc, files, script, out),
+        Line::Graph { script } => graph_file(alloc, files, script, out),
+        Line::Print { script } => print_file(alloc, files, script, out),
         Line::Batch { kind, requests } => print_batch(alloc, kind, requests, out),
     }
 }

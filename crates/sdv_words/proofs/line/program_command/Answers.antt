@@ -1,10 +1,10 @@
-use Rattle.std.proofs.Common.{◌≡◌, ◌∙◌, ap, ap₂, rules, refl, [], Bool, true, false, not, ◌&&◌}
+use Rattle.std.proofs.Common.{◌≡◌, ◌∙◌, ap, ap₂, refl, [], Bool, true, false, not, ◌&&◌}
 use Rattle.std.proofs.lemmas.Result.{IfOk-weaker}
 use Rattle.clap.specs.Walk.{is_empty}
 use Rattle.clap.specs.Words.{App, app_of, with_subcommand}
 use Rattle.clap.specs.declared.builder.command.Command.{Command}
 use Rattle.clap.specs.declared.builder.command.Command.TheViews.{out-Command}
-use Rattle.sdv_words.specs.CommandLine.{batch_command, explain_command, certify_command, check_command, frame_command, program_shape, run_command}
+use Rattle.sdv_words.specs.CommandLine.{batch_command, explain_command, certify_command, check_command, frame_command, graph_command, print_command, program_shape, run_command}
 use Rattle.sdv_words.proofs.line.program_command.Goals as goal
 
 no_global : (a b g rest : Bool) → (a && (not b && (not g && rest))) ≡ true → g ≡ false
@@ -21,7 +21,7 @@ no_globals c a is plain =
 
 pub returns : goal.returns
 returns c =
-    let top : app_of c.disable_help_subcommand.result ≡ record { top = program_shape; subs = [] } = search rules in
+    let top : app_of c.top_command.result ≡ record { top = program_shape; subs = [] } = c.top_command.ensures in
     let frame : app_of c.in_ok-frame_command.field-0 ≡ frame_command = c.in_ok-frame_command.ensures in
     let certify : app_of c.in_ok-certify_command.field-0 ≡ certify_command = c.in_ok-certify_command.ensures in
     let check : app_of c.in_ok-check_command.field-0 ≡ check_command = c.in_ok-check_command.ensures in
@@ -33,5 +33,9 @@ returns c =
     let batch : app_of c.in_ok-batch_command.field-0 ≡ batch_command = c.in_ok-batch_command.ensures in
     let fifth = c.in_ok-subcommand-5.ensures.shape (no_globals _ _ batch refl) ∙ ap₂ with_subcommand fourth (ap (λ (a : App). a.top) batch) in
     let explain : app_of c.in_ok-explain_command.field-0 ≡ explain_command = c.in_ok-explain_command.ensures in
-    IfOk-weaker c.subcommand-6.result _ _
-    (λ command added. added.shape (no_globals _ _ explain refl) ∙ ap₂ with_subcommand fifth (ap (λ (a : App). a.top) explain)) c.subcommand-6.ensures
+    let sixth = c.in_ok-subcommand-6.ensures.shape (no_globals _ _ explain refl) ∙ ap₂ with_subcommand fifth (ap (λ (a : App). a.top) explain) in
+    let graph : app_of c.in_ok-graph_command.field-0 ≡ graph_command = c.in_ok-graph_command.ensures in
+    let seventh = c.in_ok-subcommand-7.ensures.shape (no_globals _ _ graph refl) ∙ ap₂ with_subcommand sixth (ap (λ (a : App). a.top) graph) in
+    let print : app_of c.in_ok-print_command.field-0 ≡ print_command = c.in_ok-print_command.ensures in
+    IfOk-weaker c.subcommand-8.result _ _
+    (λ command added. added.shape (no_globals _ _ print refl) ∙ ap₂ with_subcommand seventh (ap (λ (a : App). a.top) print)) c.subcommand-8.ensures

@@ -1,100 +1,27 @@
-use Rattle.std.proofs.Common.{◌≡◌, ◌∙◌, Err, Some, ap}
+use Rattle.std.proofs.Common.{◌≡◌, ◌∙◌, ℕ, List, Some, Bor, ap, option_map, sym}
 use Rattle.clap.specs.Walk.{texts}
-use Rattle.sdv_words.specs.CommandLine.{batch, explain, certify, check, frame, meaning_of, names_of, request_of, run}
 use Rattle.sdv_words.specs.Files.{store_of}
-use Rattle.sdv_words.proofs.AnswerLaws.{faults_of_explain, left_of_explain, faults_of_batch, faults_of_certify, faults_of_check, faults_of_frame, faults_of_line, faults_of_run, left_of_batch, left_of_certify, left_of_check, left_of_frame, left_of_line, left_of_run}
+use Rattle.sdv_words.specs.Page.{page_of}
+use Rattle.sdv_words.proofs.AnswerLaws.{answered_page, faults_of_page, left_of_page}
 use Rattle.sdv_words.proofs.program.answer.Goals as goal
 
-pub returns-in_err-index-clause-faults : goal.returns-in_err-index-clause-faults
-returns-in_err-index-clause-faults g c =
-    faults_of_line (store_of g.S.Store.gives g.S.Store.stored g.S.Store.received c.args.files.now) (texts c.args.words.now) c.in_err-index.field-0.0 c.from_residual.result c.from_residual.ensures.1
-    (λ is. c.in_err-index.ensures.usage (ap Err is))
+pub returns-in-Some-clause-ok : goal.returns-in-Some-clause-ok
+returns-in-Some-clause-ok g c =
+    let asked : page_of (texts c.args.words.now) ≡ Some c.in-Some.page.now =
+    sym c.page_of.ensures ∙ ap (option_map (λ (page : Bor (List ℕ)). page.now)) c.in-Some.is in
+    answered_page (store_of g.S.Store.gives g.S.Store.stored g.S.Store.received c.args.files.now) (texts c.args.words.now) c.in-Some.page.now asked
+    c.print_page.result _ _ c.print_page.ensures.printed
 
-pub returns-in-Frame-clause-faults : goal.returns-in-Frame-clause-faults
-returns-in-Frame-clause-faults g c =
-    let meaning : meaning_of (texts c.args.words.now) ≡ Some (frame c.in-Frame.index.now c.in-Frame.argument.now) =
-    c.in_ok-index.ensures.ok ∙ ap (λ line. Some (request_of line)) c.in-Frame.is in
-    faults_of_frame (store_of g.S.Store.gives g.S.Store.stored g.S.Store.received c.args.files.now) (texts c.args.words.now) c.in-Frame.index.now c.in-Frame.argument.now meaning c.answer_frame.result
-    c.answer_frame.ensures.refused
+pub returns-in-Some-clause-faults : goal.returns-in-Some-clause-faults
+returns-in-Some-clause-faults g c =
+    let asked : page_of (texts c.args.words.now) ≡ Some c.in-Some.page.now =
+    sym c.page_of.ensures ∙ ap (option_map (λ (page : Bor (List ℕ)). page.now)) c.in-Some.is in
+    faults_of_page (store_of g.S.Store.gives g.S.Store.stored g.S.Store.received c.args.files.now) (texts c.args.words.now) c.in-Some.page.now asked
+    c.print_page.result c.print_page.ensures.fault
 
-pub returns-in-Certify-clause-faults : goal.returns-in-Certify-clause-faults
-returns-in-Certify-clause-faults g c =
-    let meaning : meaning_of (texts c.args.words.now) ≡ Some (certify c.in-Certify.script.now) =
-    c.in_ok-index.ensures.ok ∙ ap (λ line. Some (request_of line)) c.in-Certify.is in
-    faults_of_certify (store_of g.S.Store.gives g.S.Store.stored g.S.Store.received c.args.files.now) (texts c.args.words.now) c.in-Certify.script.now meaning c.certify_file.result
-    c.certify_file.ensures.refused
-
-pub returns-in-Check-clause-faults : goal.returns-in-Check-clause-faults
-returns-in-Check-clause-faults g c =
-    let meaning : meaning_of (texts c.args.words.now) ≡ Some (check c.in-Check.script.now c.in-Check.certificate.now) =
-    c.in_ok-index.ensures.ok ∙ ap (λ line. Some (request_of line)) c.in-Check.is in
-    faults_of_check (store_of g.S.Store.gives g.S.Store.stored g.S.Store.received c.args.files.now) (texts c.args.words.now) c.in-Check.script.now c.in-Check.certificate.now meaning c.check_files.result
-    c.check_files.ensures.refused
-
-pub returns-in_err-index-clause-left : goal.returns-in_err-index-clause-left
-returns-in_err-index-clause-left g c =
-    left_of_line (store_of g.S.Store.gives g.S.Store.stored g.S.Store.received c.args.files.now) (texts c.args.words.now) c.in_err-index.field-0.0
-    c.from_residual.result (g.O.Write.contents c.args.out.now) c.from_residual.ensures.1 (λ is. c.in_err-index.ensures.usage (ap Err is))
-
-pub returns-in-Frame-clause-left : goal.returns-in-Frame-clause-left
-returns-in-Frame-clause-left g c =
-    let meaning : meaning_of (texts c.args.words.now) ≡ Some (frame c.in-Frame.index.now c.in-Frame.argument.now) =
-    c.in_ok-index.ensures.ok ∙ ap (λ line. Some (request_of line)) c.in-Frame.is in
-    left_of_frame (store_of g.S.Store.gives g.S.Store.stored g.S.Store.received c.args.files.now) (texts c.args.words.now) c.in-Frame.index.now
-    c.in-Frame.argument.now meaning c.answer_frame.result _ _ c.answer_frame.ensures.quiet c.answer_frame.ensures.part
-
-pub returns-in-Certify-clause-left : goal.returns-in-Certify-clause-left
-returns-in-Certify-clause-left g c =
-    let meaning : meaning_of (texts c.args.words.now) ≡ Some (certify c.in-Certify.script.now) =
-    c.in_ok-index.ensures.ok ∙ ap (λ line. Some (request_of line)) c.in-Certify.is in
-    left_of_certify (store_of g.S.Store.gives g.S.Store.stored g.S.Store.received c.args.files.now) (texts c.args.words.now) c.in-Certify.script.now meaning
-    c.certify_file.result _ _ c.certify_file.ensures.quiet c.certify_file.ensures.part
-
-pub returns-in-Check-clause-left : goal.returns-in-Check-clause-left
-returns-in-Check-clause-left g c =
-    let meaning : meaning_of (texts c.args.words.now) ≡ Some (check c.in-Check.script.now c.in-Check.certificate.now) =
-    c.in_ok-index.ensures.ok ∙ ap (λ line. Some (request_of line)) c.in-Check.is in
-    left_of_check (store_of g.S.Store.gives g.S.Store.stored g.S.Store.received c.args.files.now) (texts c.args.words.now) c.in-Check.script.now
-    c.in-Check.certificate.now meaning c.check_files.result _ _ c.check_files.ensures.quiet c.check_files.ensures.part
-
-pub returns-in-Run-clause-faults : goal.returns-in-Run-clause-faults
-returns-in-Run-clause-faults g c =
-    let meaning : meaning_of (texts c.args.words.now) ≡ Some (run (names_of c.in-Run.names)) =
-    c.in_ok-index.ensures.ok ∙ ap (λ line. Some (request_of line)) c.in-Run.is in
-    faults_of_run (store_of g.S.Store.gives g.S.Store.stored g.S.Store.received c.args.files.now) (texts c.args.words.now) (names_of c.in-Run.names) meaning _ _
-    c.run_files.result c.run_files.ensures.fails
-
-pub returns-in-Run-clause-left : goal.returns-in-Run-clause-left
-returns-in-Run-clause-left g c =
-    let meaning : meaning_of (texts c.args.words.now) ≡ Some (run (names_of c.in-Run.names)) =
-    c.in_ok-index.ensures.ok ∙ ap (λ line. Some (request_of line)) c.in-Run.is in
-    left_of_run (store_of g.S.Store.gives g.S.Store.stored g.S.Store.received c.args.files.now) (texts c.args.words.now) (names_of c.in-Run.names) meaning _ _
-    c.run_files.result c.run_files.ensures.fails
-
-pub returns-in-Batch-clause-faults : goal.returns-in-Batch-clause-faults
-returns-in-Batch-clause-faults g c =
-    let meaning : meaning_of (texts c.args.words.now) ≡ Some (batch c.in-Batch.kind.now c.in-Batch.requests.now) =
-    c.in_ok-index.ensures.ok ∙ ap (λ line. Some (request_of line)) c.in-Batch.is in
-    faults_of_batch (store_of g.S.Store.gives g.S.Store.stored g.S.Store.received c.args.files.now) (texts c.args.words.now) c.in-Batch.kind.now c.in-Batch.requests.now meaning c.print_batch.result
-    c.print_batch.ensures.refused
-
-pub returns-in-Batch-clause-left : goal.returns-in-Batch-clause-left
-returns-in-Batch-clause-left g c =
-    let meaning : meaning_of (texts c.args.words.now) ≡ Some (batch c.in-Batch.kind.now c.in-Batch.requests.now) =
-    c.in_ok-index.ensures.ok ∙ ap (λ line. Some (request_of line)) c.in-Batch.is in
-    left_of_batch (store_of g.S.Store.gives g.S.Store.stored g.S.Store.received c.args.files.now) (texts c.args.words.now) c.in-Batch.kind.now
-    c.in-Batch.requests.now meaning c.print_batch.result _ _ c.print_batch.ensures.quiet c.print_batch.ensures.part
-
-pub returns-in-Explain-clause-faults : goal.returns-in-Explain-clause-faults
-returns-in-Explain-clause-faults g c =
-    let meaning : meaning_of (texts c.args.words.now) ≡ Some (explain c.in-Explain.script.now) =
-    c.in_ok-index.ensures.ok ∙ ap (λ line. Some (request_of line)) c.in-Explain.is in
-    faults_of_explain (store_of g.S.Store.gives g.S.Store.stored g.S.Store.received c.args.files.now) (texts c.args.words.now) c.in-Explain.script.now meaning _ _
-    c.explain_file.result c.explain_file.ensures.fails
-
-pub returns-in-Explain-clause-left : goal.returns-in-Explain-clause-left
-returns-in-Explain-clause-left g c =
-    let meaning : meaning_of (texts c.args.words.now) ≡ Some (explain c.in-Explain.script.now) =
-    c.in_ok-index.ensures.ok ∙ ap (λ line. Some (request_of line)) c.in-Explain.is in
-    left_of_explain (store_of g.S.Store.gives g.S.Store.stored g.S.Store.received c.args.files.now) (texts c.args.words.now) c.in-Explain.script.now meaning _ _
-    c.explain_file.result c.explain_file.ensures.fails
+pub returns-in-Some-clause-left : goal.returns-in-Some-clause-left
+returns-in-Some-clause-left g c =
+    let asked : page_of (texts c.args.words.now) ≡ Some c.in-Some.page.now =
+    sym c.page_of.ensures ∙ ap (option_map (λ (page : Bor (List ℕ)). page.now)) c.in-Some.is in
+    left_of_page (store_of g.S.Store.gives g.S.Store.stored g.S.Store.received c.args.files.now) (texts c.args.words.now) c.in-Some.page.now asked
+    c.print_page.result _ _ c.print_page.ensures.fault c.print_page.ensures.part

@@ -13,7 +13,7 @@ returns-in-Ok-clause-nothing_asked g c = λ nothing. absurd (no_answer any_files
 
 pub returns-in-Err-clause-nothing_asked : goal.returns-in-Err-clause-nothing_asked
 returns-in-Err-clause-nothing_asked g c = λ nothing.
-    left_kept any_files (texts c.args.words.now) c.in-Err.fault (g.O.Write.contents c.args.out.now) (g.O.Write.contents c.answer.new.out) nothing.no_run nothing.no_explanation
+    left_kept any_files (texts c.args.words.now) c.in-Err.fault (g.O.Write.contents c.args.out.now) (g.O.Write.contents c.answer.new.out) nothing.quiet
     (no_output any_files (texts c.args.words.now) c.in-Err.fault nothing c.in-Err.ensures.faults) c.in-Err.ensures.left
 
 pub returns-in-Err-clause-output_failed : goal.returns-in-Err-clause-output_failed
@@ -23,9 +23,9 @@ returns-in-Err-clause-output_failed g c = λ command asked status.
     nothing_said _ _ (subst (λ (fault : Fault). Says fault (g.E.Write.contents c.args.err.now) (g.E.Write.contents c.report.new.err)) output c.report.ensures.said)
 
 pub returns-in-Err-clause-refused : goal.returns-in-Err-clause-refused
-returns-in-Err-clause-refused g c = λ none unexplained status.
+returns-in-Err-clause-refused g c = λ quiet status.
     let one : status_of c.in-Err.fault ≡ 1 = search rules in
-    left_kept any_files (texts c.args.words.now) c.in-Err.fault (g.O.Write.contents c.args.out.now) (g.O.Write.contents c.answer.new.out) none unexplained (other_status c.in-Err.fault 1 one (λ same. absurd (omega (arith, same)))) c.in-Err.ensures.left
+    left_kept any_files (texts c.args.words.now) c.in-Err.fault (g.O.Write.contents c.args.out.now) (g.O.Write.contents c.answer.new.out) quiet (other_status c.in-Err.fault 1 one (λ same. absurd (omega (arith, same)))) c.in-Err.ensures.left
 
 pub returns-in-Err-clause-no_memory : goal.returns-in-Err-clause-no_memory
 returns-in-Err-clause-no_memory g c = λ status.

@@ -28,7 +28,7 @@ returns-in-Err g c = record {
     c.report.ensures.status,
     record {
       is_so = tt;
-      left = record { kept = λ _ _. keeps_same _; of_run = λ _ _. keeps_same _; of_explanation = λ _ _. keeps_same _ };
+      left = record { kept = λ _. keeps_same _; of_run = λ _ _. keeps_same _; of_explanation = λ _ _. keeps_same _; of_drawing = λ _ _. keeps_same _ };
       said = c.report.ensures.said;
     },
   );

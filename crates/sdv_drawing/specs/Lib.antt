@@ -1,0 +1,3 @@
+pub mod Guards
+pub mod Drawing
+pub mod Drawn
