@@ -1,6 +1,6 @@
 //! Checks of scripts and certificates in files, and in memory.
 use crate::testing::{CERTIFICATE, Expected, SMALLEST, expect, expect_check, prints, says};
-use sdv_words::file::{Store, bytes_within};
+use sdv_faults::{Store, bytes_within};
 use sdv_words::program::{answer, program};
 use std::alloc::{AllocError, Global};
 use std::fs;
@@ -14,7 +14,7 @@ struct Pair;
 impl Store for Pair {
     type Sink = Full;
 
-    ghost use Rattle.sdv_words.specs.Files.{any_bytes, any_sink};
+    ghost use Rattle.sdv_faults.specs.Files.{any_bytes, any_sink};
 
     ghost gives = { λ _. any_bytes };
 

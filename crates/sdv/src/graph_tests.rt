@@ -80,10 +80,7 @@ fn prints_files(rt: HostRuntime) -> Result<(), Fail> {
             prints("card sd send 0 { else { } } fault stop \n"),
         ),
         // what is refused by the writer has tokens too
-        (
-            ILLEGAL,
-            prints("card sd send 7 { else { } } fault stop \n"),
-        ),
+        (ILLEGAL, prints("card sd send 7 { else { } } fault stop \n")),
         (
             "card sd\nsend 16 @\n",
             says(1, "script fault Token line 2\n"),
@@ -165,9 +162,7 @@ fn writes_to_no_dash(rt: HostRuntime) -> Result<(), Fail> {
     fs::write(&rt, script, SMALLEST)?;
     fs::write(&rt, certificate, crate::testing::CERTIFICATE)?;
     fs::write(&rt, card, "card sd\n")?;
-    let words = [
-        "run", script, certificate, card, "new:1", "--out", "-",
-    ];
+    let words = ["run", script, certificate, card, "new:1", "--out", "-"];
     expect(&rt, &words, says(2, "cannot use -\n"));
     for file in [script, certificate, card] {
         fs::remove_file(&rt, file)?;

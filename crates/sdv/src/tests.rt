@@ -1,12 +1,11 @@
 //! The program over writers in memory, and over one that takes nothing.
 use crate::testing::{USAGE, expect, says};
+use sdv_faults::Fault;
 use sdv_frames::Command;
+use sdv_line::{Line, LineFault, line_of, number_of};
 use sdv_run::RunFault;
 use sdv_sim::SimFault;
-use sdv_words::fault::Fault;
 use sdv_words::frame::{command_of, write_frame};
-use sdv_words::line::{Line, LineFault, line_of};
-use sdv_words::number::number_of;
 use sdv_words::program::program;
 use std::io::{self, Write};
 use std::str;

@@ -9,19 +9,19 @@ use Rattle.sdv_words.specs.Page.{page_of}
 use Rattle.sdv_words.specs.Print.{PrintsFileInPart, UnprintsFile}
 use Rattle.sdv_words.specs.Certify.{CertifiesFileInPart, UncertifiesFile}
 use Rattle.sdv_words.specs.Check.{AcceptsFilesInPart, RefusesFiles}
-use Rattle.sdv_words.specs.CommandLine.{Request, RunNames, command_line, frame, certify, check, run, batch, explain, graph, print, meaning_of}
-use Rattle.sdv_words.specs.Files.{Files}
-use Rattle.sdv_words.specs.Run.{RunFails}
+use Rattle.sdv_line.specs.CommandLine.{Request, RunNames, command_line, frame, certify, check, run, batch, explain, graph, print, meaning_of}
+use Rattle.sdv_faults.specs.Files.{Files}
+use Rattle.sdv_run_command.specs.Run.{RunFails}
 use Rattle.std.specs.Io.KnownBytes.{Appends, Keeps}
 use Rattle.sdv_text.specs.Written.{AppendsPart}
-use Rattle.sdv_words.specs.Fault.{fault_of_line, status_of}
-use Rattle.sdv_words.specs.Number.{Writes}
-use Rattle.sdv_words.proofs.CommandLineLaws.{meaning-fault}
-use Rattle.sdv_words.proofs.StartLaws.{keeps_same}
-use Rattle.sdv_words.specs.declared.line.LineFault.{LineFault}
-use Rattle.sdv_words.specs.declared.line.LineFault.TheVariants as line_fault
-use Rattle.sdv_words.specs.declared.fault.Fault.{Fault}
-use Rattle.sdv_words.specs.declared.fault.Fault.TheVariants.{Usage, File, Script, Certificate, Refused, Uncertified, Unserved, Card, Run, Named, Output, Memory}
+use Rattle.sdv_faults.specs.Fault.{fault_of_line, status_of}
+use Rattle.sdv_line.specs.Number.{Writes}
+use Rattle.sdv_line.proofs.CommandLineLaws.{meaning-fault}
+use Rattle.sdv_faults.proofs.StartLaws.{keeps_same}
+use Rattle.sdv_line.specs.declared.line.LineFault.{LineFault}
+use Rattle.sdv_line.specs.declared.line.LineFault.TheVariants as line_fault
+use Rattle.sdv_faults.specs.declared.fault.Fault.{Fault}
+use Rattle.sdv_faults.specs.declared.fault.Fault.TheVariants.{Usage, File, Script, Certificate, Refused, Uncertified, Unserved, Card, Run, Named, Output, Memory}
 use Rattle.sdv_frames.specs.declared.command.Command.{Command}
 
 -- ---- words

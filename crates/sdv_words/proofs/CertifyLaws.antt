@@ -18,10 +18,10 @@ use Rattle.sdv_certify.specs.Assembled.{CertificateOf, ClosedFor, RefusedFor}
 use Rattle.sdv_certify.specs.declared.fault.CertifyFault.{CertifyFault}
 use Rattle.sdv_certify.specs.declared.fault.CertifyFault.TheVariants as certifies
 use Rattle.sdv_words.specs.Certify.{Certifies, CertifiesInPart, IsTextOfScript, IsCertificateOfText, Uncertifies}
-use Rattle.sdv_words.specs.Fault.{fault_of_certify}
-use Rattle.sdv_words.specs.declared.fault.Fault.{Fault}
-use Rattle.sdv_words.specs.declared.fault.Fault.TheVariants.{Output}
-use Rattle.sdv_words.proofs.OutputLaws.{whole, in_part, if_err}
+use Rattle.sdv_faults.specs.Fault.{fault_of_certify}
+use Rattle.sdv_faults.specs.declared.fault.Fault.{Fault}
+use Rattle.sdv_faults.specs.declared.fault.Fault.TheVariants.{Output}
+use Rattle.sdv_faults.proofs.OutputLaws.{whole, in_part, if_err}
 
 -- a graph of the text is one of the script, since a text has one tree
 graph_of_script : (text : Text) (s : Tree) (g : Flow) → IsTextOfScript text s → IsGraphOfText text g → IsGraphOf (shown s).names (shown s).body g

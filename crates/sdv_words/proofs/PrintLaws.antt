@@ -6,8 +6,8 @@ use Rattle.clap.specs.Words.{Text}
 use Rattle.sdv_text.specs.Written.{AppendsPart, Writes}
 use Rattle.sdv_script.specs.Printed.{printed}
 use Rattle.sdv_words.specs.Print.{IsScriptText, PrintsScript, PrintsScriptInPart, Unprints}
-use Rattle.sdv_words.specs.declared.fault.Fault.{Fault}
-use Rattle.sdv_words.specs.declared.fault.Fault.TheVariants.{Output}
+use Rattle.sdv_faults.specs.declared.fault.Fault.{Fault}
+use Rattle.sdv_faults.specs.declared.fault.Fault.TheVariants.{Output}
 
 module _ {E : Type 0} (text same_text : Text) (same : same_text ≡ text) (is : IsScriptText text) (before after : Option (List ℕ)) where
   pub printed_whole : (w : Result (Unit {0}) E) (r : Result (Unit {0}) Fault) → is_ok r ≡ is_ok w → Writes before after w (printed same_text)

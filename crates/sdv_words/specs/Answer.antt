@@ -5,22 +5,22 @@ use Rattle.sdv_text.specs.Written.{AppendsPart}
 use Rattle.clap.specs.Words.{Text}
 use Rattle.sdv_frames.specs.Frame.{IsCommandFrame}
 use Rattle.sdv_frames.specs.declared.command.Command.{Command}
-use Rattle.sdv_words.specs.declared.fault.Fault.{Fault}
-use Rattle.sdv_words.specs.declared.fault.Fault.TheVariants.{Usage, Unserved, Output, Memory}
+use Rattle.sdv_faults.specs.declared.fault.Fault.{Fault}
+use Rattle.sdv_faults.specs.declared.fault.Fault.TheVariants.{Usage, Unserved, Output, Memory}
 use Rattle.sdv_words.specs.Certify.{CertifiesFile, CertifiesFileInPart, UncertifiesFile}
 use Rattle.sdv_words.specs.Check.{AcceptsFiles, AcceptsFilesInPart, RefusesFiles}
 use Rattle.sdv_words.specs.BatchWords.{PrintsBatch, PrintsBatchInPart, RefusesBatch}
-use Rattle.sdv_words.specs.CommandLine.{RunNames, frame, certify, check, run, batch, explain, graph, print, meaning_of}
+use Rattle.sdv_line.specs.CommandLine.{RunNames, frame, certify, check, run, batch, explain, graph, print, meaning_of}
 use Rattle.sdv_words.specs.Explain.{ExplainsFile, ExplainFileFails}
 use Rattle.sdv_words.specs.Graph.{DrawsFile, GraphFileFails}
 use Rattle.sdv_words.specs.Print.{PrintsFile, PrintsFileInPart, UnprintsFile}
 use Rattle.sdv_words.specs.Page.{PrintsPage, PrintsPageInPart, page_of}
-use Rattle.sdv_words.specs.Fault.{Says, status_of}
-use Rattle.sdv_words.specs.Files.{Files}
-use Rattle.sdv_words.specs.Run.{EndsRun, RunFails}
+use Rattle.sdv_faults.specs.Fault.{Says, status_of}
+use Rattle.sdv_faults.specs.Files.{Files}
+use Rattle.sdv_run_command.specs.Run.{EndsRun, RunFails}
 use Rattle.sdv_run.specs.declared.end.End.TheVariants.{Done}
 use Rattle.sdv_words.specs.FrameText.{frame_text}
-use Rattle.sdv_words.specs.Number.{Writes}
+use Rattle.sdv_line.specs.Number.{Writes}
 
 -- FRAMES
 

@@ -17,9 +17,9 @@ use Rattle.sdv_block.specs.declared.request.Request.{Request as Blocks}
 use Rattle.sdv_block.specs.declared.request.Request.TheVariants.{Read, Write}
 use Rattle.sdv_block.specs.Batch.{batch_refusal}
 use Rattle.sdv_block.specs.BatchText.{batch_script}
-use Rattle.sdv_words.specs.Number.{IsNumber, value_of}
-use Rattle.sdv_words.specs.declared.fault.Fault.{Fault}
-use Rattle.sdv_words.specs.declared.fault.Fault.TheVariants.{Usage, Unserved, Output, Memory}
+use Rattle.sdv_line.specs.Number.{IsNumber, value_of}
+use Rattle.sdv_faults.specs.declared.fault.Fault.{Fault}
+use Rattle.sdv_faults.specs.declared.fault.Fault.TheVariants.{Usage, Unserved, Output, Memory}
 
 abbrev pub kind_named : Text → Option Kind
 kind_named word = if bytes_eq word (codes "sd") then Some Sd else (if bytes_eq word (codes "emmc") then Some Emmc else None)

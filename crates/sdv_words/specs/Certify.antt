@@ -14,8 +14,8 @@ use Rattle.sdv_check.specs.Verified.{IsGraphOfText, IsNoScript}
 use Rattle.sdv_certify.specs.declared.fault.CertifyFault.{CertifyFault}
 use Rattle.sdv_certify.specs.declared.fault.CertifyFault.TheVariants.{Memory as NoMemory}
 use Rattle.sdv_certify.specs.Assembled.{CertificateOf, RefusedFor}
-use Rattle.sdv_words.specs.declared.fault.Fault.{Fault}
-use Rattle.sdv_words.specs.declared.fault.Fault.TheVariants.{File, Script, Uncertified, Output, Memory}
+use Rattle.sdv_faults.specs.declared.fault.Fault.{Fault}
+use Rattle.sdv_faults.specs.declared.fault.Fault.TheVariants.{File, Script, Uncertified, Output, Memory}
 
 -- TEXTS
 

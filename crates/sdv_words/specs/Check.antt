@@ -5,9 +5,10 @@ use Rattle.sdv_text.specs.Written.{AppendsPart}
 use Rattle.clap.specs.Words.{Text}
 use Rattle.sdv_script.specs.Graph.{Flow}
 use Rattle.sdv_check.specs.Headline.{EachRunOf}
-use Rattle.sdv_check.specs.Verified.{Acceptance, IsAccepted, IsGraphOfText, IsNoCertificate, IsNoScript, IsOpen}
-use Rattle.sdv_words.specs.declared.fault.Fault.{Fault}
-use Rattle.sdv_words.specs.declared.fault.Fault.TheVariants.{File, Script, Certificate, Refused, Output, Memory}
+use Rattle.sdv_check.specs.Verified.{Acceptance, IsAccepted}
+use Rattle.sdv_faults.specs.Refused.{Refuses}
+use Rattle.sdv_faults.specs.declared.fault.Fault.{Fault}
+use Rattle.sdv_faults.specs.declared.fault.Fault.TheVariants.{File, Script, Certificate, Refused, Output, Memory}
 
 -- TEXTS
 
@@ -27,15 +28,6 @@ pub record AcceptsInPart (script certificate : Text) (before after : Option (Lis
   pub acceptance : Acceptance
   pub accepted : IsAccepted script certificate acceptance
   pub printed : AppendsPart before after (accepted_text acceptance.bound)
-
--- what a fault says of the texts; want of memory says nothing
-abbrev pub Refuses : (script certificate : Text) → Fault → Type 0
-Refuses script certificate (Script fault) = IsNoScript script
-Refuses script certificate (Certificate fault) = ((g : Flow) × IsGraphOfText script g) × IsNoCertificate certificate
-Refuses script certificate (Refused fault) = IsOpen script certificate fault
-Refuses script certificate Output = (a : Acceptance) × IsAccepted script certificate a
-Refuses script certificate Memory = Unit {0}
-Refuses script certificate fault = ⊥
 
 -- FILES, where a file of a name may give a text
 

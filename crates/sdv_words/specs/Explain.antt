@@ -9,8 +9,8 @@ use Rattle.sdv_explain.specs.declared.explaining.Explanation.{Explanation}
 use Rattle.sdv_explain.specs.declared.explaining.Refusal.{Refusal}
 use Rattle.sdv_explain.specs.declared.fault.ExplainFault.TheVariants as explains
 use Rattle.sdv_explain.specs.Explained.{Explains, Unexplained}
-use Rattle.sdv_words.specs.declared.fault.Fault.{Fault}
-use Rattle.sdv_words.specs.declared.fault.Fault.TheVariants.{File, Script, Uncertified, Output, Memory}
+use Rattle.sdv_faults.specs.declared.fault.Fault.{Fault}
+use Rattle.sdv_faults.specs.declared.fault.Fault.TheVariants.{File, Script, Uncertified, Output, Memory}
 
 -- TEXTS
 

@@ -7,8 +7,8 @@ use Rattle.sdv_certify.specs.declared.fault.CertifyFault.{CertifyFault}
 use Rattle.sdv_check.specs.Verified.{IsNoScript}
 use Rattle.sdv_drawing.specs.declared.drawing.Drawing.{Drawing}
 use Rattle.sdv_drawing.specs.Drawn.{Draws}
-use Rattle.sdv_words.specs.declared.fault.Fault.{Fault}
-use Rattle.sdv_words.specs.declared.fault.Fault.TheVariants.{File, Script, Uncertified, Output, Memory}
+use Rattle.sdv_faults.specs.declared.fault.Fault.{Fault}
+use Rattle.sdv_faults.specs.declared.fault.Fault.TheVariants.{File, Script, Uncertified, Output, Memory}
 
 -- TEXTS
 

@@ -1,7 +1,4 @@
-pub mod CommandLine
-pub mod Number
 pub mod FrameText
-pub mod Fault
 pub mod Check
 pub mod BatchWords
 pub mod Explain
@@ -9,8 +6,4 @@ pub mod Graph
 pub mod Print
 pub mod Page
 pub mod Certify
-pub mod Files
-pub mod NewImages
-pub mod Run
-pub mod RunImages
 pub mod Answer

@@ -6,8 +6,8 @@ use Rattle.sdv_text.specs.Written.{AppendsPart}
 use Rattle.sdv_script.specs.Printed.{printed}
 use Rattle.sdv_script.specs.Script.{IsScript, Parsed}
 use Rattle.sdv_check.specs.Verified.{IsNoScript}
-use Rattle.sdv_words.specs.declared.fault.Fault.{Fault}
-use Rattle.sdv_words.specs.declared.fault.Fault.TheVariants.{File, Script, Output, Memory}
+use Rattle.sdv_faults.specs.declared.fault.Fault.{Fault}
+use Rattle.sdv_faults.specs.declared.fault.Fault.TheVariants.{File, Script, Output, Memory}
 
 -- TEXTS
 

@@ -4,11 +4,11 @@ ghost use Rattle.std.specs.Prelude.{IfNone};
 ghost use Rattle.std.specs.Io.KnownBytes.{Keeps};
 ghost use Rattle.sdv_words.specs.BatchWords.{AreRequests, IsRequest, NoRequest, NoRequests, PrintsBatch, PrintsBatchInPart};
 ghost use Rattle.sdv_words.specs.BatchWords.{RefusesBatch, kind_named};
-ghost use Rattle.sdv_words.specs.declared.fault.Fault.{Fault};
+ghost use Rattle.sdv_faults.specs.declared.fault.Fault.{Fault};
 
-use crate::fault::Fault;
-use crate::number::number_of;
 use sdv_block::{Request, batch};
+use sdv_faults::Fault;
+use sdv_line::number_of;
 use sdv_registers::Kind;
 use sdv_text::write_text;
 use std::alloc::Global;

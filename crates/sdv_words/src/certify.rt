@@ -3,11 +3,10 @@ ghost use Rattle.std.specs.Prelude.{◌≡◌, ◌≢◌, OnOk, IfErr, Err};
 ghost use Rattle.std.specs.Io.KnownBytes.{Keeps};
 ghost use Rattle.sdv_words.specs.Certify.{Certifies, CertifiesFile, CertifiesFileInPart, CertifiesInPart, Uncertifies};
 ghost use Rattle.sdv_words.specs.Certify.{UncertifiesFile};
-ghost use Rattle.sdv_words.specs.declared.fault.Fault.{Fault};
+ghost use Rattle.sdv_faults.specs.declared.fault.Fault.{Fault};
 
-use crate::fault::Fault;
-use crate::file::{Store, text_in};
 use sdv_certify::{certify, write};
+use sdv_faults::{Fault, Store, text_in};
 use sdv_script::parse;
 use std::alloc::Global;
 use std::io::Write;

@@ -2,14 +2,14 @@
 ghost use Rattle.std.specs.Prelude.{◌≡◌, ◌≢◌, OnOk, IfErr, Err};
 ghost use Rattle.std.specs.Io.KnownBytes.{Keeps};
 ghost use Rattle.sdv_text.specs.Written.{Writes};
-ghost use Rattle.sdv_words.specs.Check.{Accepts, AcceptsInPart, AcceptsFiles, AcceptsFilesInPart, Refuses, RefusesFiles};
+ghost use Rattle.sdv_words.specs.Check.{Accepts, AcceptsInPart, AcceptsFiles, AcceptsFilesInPart, RefusesFiles};
+ghost use Rattle.sdv_faults.specs.Refused.{Refuses};
 ghost use Rattle.sdv_words.specs.Check.{accepted_text};
-ghost use Rattle.sdv_words.specs.declared.fault.Fault.{Fault};
+ghost use Rattle.sdv_faults.specs.declared.fault.Fault.{Fault};
 
-use crate::fault::Fault;
-use crate::file::{Store, text_in};
 use itoa::Buffer;
 use sdv_check::verify;
+use sdv_faults::{Fault, Store, text_in};
 use sdv_text::write_texts;
 use std::alloc::Global;
 use std::io::{self, Write};

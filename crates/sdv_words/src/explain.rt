@@ -1,11 +1,10 @@
 //! `explain SCRIPT`: what is known at each point of a script, and why it is refused where it is.
 ghost use Rattle.std.specs.Prelude.{◌≡◌, None, OnOk, IfErr};
 ghost use Rattle.sdv_words.specs.Explain.{ExplainFails, ExplainFileFails, ExplainsFile, PrintsExplanation};
-ghost use Rattle.sdv_words.specs.declared.fault.Fault.{Fault};
+ghost use Rattle.sdv_faults.specs.declared.fault.Fault.{Fault};
 
-use crate::fault::Fault;
-use crate::file::{Store, text_in};
 use sdv_explain::{Explanation, explain};
+use sdv_faults::{Fault, Store, text_in};
 use sdv_text::write_text;
 use std::alloc::Global;
 use std::io::Write;

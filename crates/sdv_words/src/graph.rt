@@ -1,11 +1,10 @@
 //! `graph SCRIPT`: the graph of a script, in the language of Graphviz.
 ghost use Rattle.std.specs.Prelude.{◌≡◌, None, OnOk, IfErr};
 ghost use Rattle.sdv_words.specs.Graph.{DrawsFile, GraphFails, GraphFileFails, PrintsDrawing};
-ghost use Rattle.sdv_words.specs.declared.fault.Fault.{Fault};
+ghost use Rattle.sdv_faults.specs.declared.fault.Fault.{Fault};
 
-use crate::fault::Fault;
-use crate::file::{Store, text_in};
 use sdv_drawing::{Drawing, draw};
+use sdv_faults::{Fault, Store, text_in};
 use sdv_text::write_text;
 use std::alloc::Global;
 use std::io::Write;

@@ -7,7 +7,7 @@ ghost use Rattle.std.specs.Io.KnownBytes.{Appends};
 ghost use Rattle.sdv_text.specs.Written.{AppendsPart};
 ghost use Rattle.sdv_words.specs.Page.{page_named, page_of};
 
-use crate::fault::Fault;
+use sdv_faults::Fault;
 use sdv_text::write_text;
 use std::io::Write;
 

@@ -2,10 +2,9 @@
 ghost use Rattle.std.specs.Prelude.{◌≡◌, ◌≢◌, OnOk, IfErr};
 ghost use Rattle.std.specs.Io.KnownBytes.{Keeps};
 ghost use Rattle.sdv_words.specs.Print.{PrintsFile, PrintsFileInPart, PrintsScript, PrintsScriptInPart, Unprints, UnprintsFile};
-ghost use Rattle.sdv_words.specs.declared.fault.Fault.{Fault};
+ghost use Rattle.sdv_faults.specs.declared.fault.Fault.{Fault};
 
-use crate::fault::Fault;
-use crate::file::{Store, text_in};
+use sdv_faults::{Fault, Store, text_in};
 use sdv_script::parse;
 use std::alloc::Global;
 use std::io::Write;

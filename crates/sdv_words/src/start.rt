@@ -4,11 +4,11 @@ ghost use Rattle.std.specs.IoError.{error_kind};
 ghost use Rattle.std.specs.Io.KnownBytes.{Keeps};
 ghost use Rattle.clap.specs.Walk.{texts};
 ghost use Rattle.sdv_words.specs.Answer.{Ends};
-ghost use Rattle.sdv_words.specs.Files.{any_files};
-ghost use Rattle.sdv_words.specs.Fault.{Says, fault_of_words, status_of};
+ghost use Rattle.sdv_faults.specs.Files.{any_files};
+ghost use Rattle.sdv_faults.specs.Fault.{Says, fault_of_words, status_of};
 
-use crate::fault::Fault;
 use crate::program::program;
+use sdv_faults::Fault;
 use std::alloc::{AllocError, Global};
 use std::io::{self, ErrorKind, Write};
 use std::rt::Files;

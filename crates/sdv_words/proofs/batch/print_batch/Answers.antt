@@ -2,8 +2,8 @@ use Rattle.std.proofs.Common.{◌≡◌, ℕ, List, Some, rules, subst}
 use Rattle.sdv_text.specs.Written.{AppendsPart}
 use Rattle.sdv_block.specs.BatchText.{batch_script}
 use Rattle.sdv_words.specs.BatchWords.{AreWords, AreRequests, AsksBatch, PrintsBatchInPart, kind_named}
-use Rattle.sdv_words.specs.declared.fault.Fault.TheVariants.{Output}
-use Rattle.sdv_words.proofs.OutputLaws.{in_part, if_err}
+use Rattle.sdv_faults.specs.declared.fault.Fault.TheVariants.{Output}
+use Rattle.sdv_faults.proofs.OutputLaws.{in_part, if_err}
 use Rattle.sdv_words.proofs.batch.print_batch.Goals as goal
 
 pub returns-clause-part : goal.returns-clause-part

@@ -1,7 +1,7 @@
 use Rattle.std.proofs.Common.{◌≡◌, ◌+◌, ◌*◌, ◌∷◌, ◌++◌, [], arith, rules}
 use Rattle.std.proofs.lemmas.Result.{err_from_is_err_and}
 use Rattle.sdv_words.specs.BatchWords.{word, IsRequest, NoRequest}
-use Rattle.sdv_words.specs.declared.fault.Fault.TheVariants.{Usage}
+use Rattle.sdv_faults.specs.declared.fault.Fault.TheVariants.{Usage}
 use Rattle.sdv_words.proofs.BatchWordsLaws.{one_more, all_so_far, none_here}
 use Rattle.sdv_words.proofs.batch.requests_of.Goals as goal
 

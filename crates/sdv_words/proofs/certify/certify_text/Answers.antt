@@ -1,6 +1,6 @@
 use Rattle.std.proofs.Common.{◌≡◌, rules, IfErr}
 use Rattle.sdv_words.specs.Certify.{IsCertificateOfText}
-use Rattle.sdv_words.specs.declared.fault.Fault.TheVariants.{Output}
+use Rattle.sdv_faults.specs.declared.fault.Fault.TheVariants.{Output}
 use Rattle.sdv_words.proofs.CertifyLaws.{certificate_of_text, output_failed, refused_of_text, written_in_part, written_whole}
 use Rattle.sdv_words.proofs.certify.certify_text.Goals as goal
 

@@ -1,10 +1,11 @@
 use Rattle.std.proofs.Common.{◌≡◌, rules, Result, Ok, Err, IfErr}
 use Rattle.clap.specs.Words.{Text}
 use Rattle.sdv_text.specs.Written.{AppendsPart, Writes}
-use Rattle.sdv_words.specs.Check.{AcceptsInPart, Refuses, accepted_text}
-use Rattle.sdv_words.specs.declared.fault.Fault.{Fault}
-use Rattle.sdv_words.specs.declared.fault.Fault.TheVariants.{Output}
-use Rattle.sdv_words.proofs.OutputLaws.{if_err, in_part}
+use Rattle.sdv_words.specs.Check.{AcceptsInPart, accepted_text}
+use Rattle.sdv_faults.specs.Refused.{Refuses}
+use Rattle.sdv_faults.specs.declared.fault.Fault.{Fault}
+use Rattle.sdv_faults.specs.declared.fault.Fault.TheVariants.{Output}
+use Rattle.sdv_faults.proofs.OutputLaws.{if_err, in_part}
 use Rattle.sdv_words.proofs.check.check_texts.Goals as goal
 
 output_alone : {T : Type 0} (script certificate : Text) (r : Result T Fault) → IfErr r (λ fault. fault ≡ Output) → Refuses script certificate Output

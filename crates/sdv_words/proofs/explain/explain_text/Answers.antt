@@ -4,7 +4,7 @@ use Rattle.std.specs.Io.KnownBytes.{Appends}
 use Rattle.sdv_text.specs.Written.{AppendsPart}
 use Rattle.sdv_explain.specs.Explained.{Explains}
 use Rattle.sdv_words.specs.Explain.{refused_by}
-use Rattle.sdv_words.proofs.OutputLaws.{written, written_in_part}
+use Rattle.sdv_faults.proofs.OutputLaws.{written, written_in_part}
 use Rattle.sdv_words.proofs.explain.explain_text.Goals as goal
 
 pub returns-then-is_err-clause-fails : goal.returns-then-is_err-clause-fails

@@ -3,7 +3,7 @@ use Rattle.std.specs.Prelude.{is_err}
 use Rattle.std.specs.Io.KnownBytes.{Appends}
 use Rattle.sdv_text.specs.Written.{AppendsPart}
 use Rattle.sdv_drawing.specs.Drawn.{Draws}
-use Rattle.sdv_words.proofs.OutputLaws.{written, written_in_part}
+use Rattle.sdv_faults.proofs.OutputLaws.{written, written_in_part}
 use Rattle.sdv_words.proofs.graph.graph_text.Goals as goal
 
 pub returns-then-is_err-clause-fails : goal.returns-then-is_err-clause-fails

@@ -1,7 +1,7 @@
 use Rattle.std.proofs.Common.{◌≡◌, ℕ, List, IfErr, OnOk, rules, subst}
 use Rattle.std.specs.Io.KnownBytes.{Appends}
 use Rattle.sdv_text.specs.Written.{AppendsPart}
-use Rattle.sdv_words.proofs.OutputLaws.{in_part, whole}
+use Rattle.sdv_faults.proofs.OutputLaws.{in_part, whole}
 use Rattle.sdv_words.proofs.page.print_page.Goals as goal
 
 pub returns-clause-printed : goal.returns-clause-printed

@@ -1,6 +1,6 @@
 use Rattle.std.proofs.Common.{IfErr, rules, ◌≡◌}
 use Rattle.sdv_script.specs.Shown.{shown}
-use Rattle.sdv_words.specs.declared.fault.Fault.TheVariants.{Output}
+use Rattle.sdv_faults.specs.declared.fault.Fault.TheVariants.{Output}
 use Rattle.sdv_words.specs.Print.{IsScriptText}
 use Rattle.sdv_words.proofs.PrintLaws.{printed_in_part, printed_whole, unprinted}
 use Rattle.sdv_words.proofs.print.print_text.Goals as goal

@@ -1,6 +1,6 @@
 use Rattle.std.proofs.Common.{◌≡◌, ◌∙◌, ℕ, List, Some, Bor, ap, option_map, sym}
 use Rattle.clap.specs.Walk.{texts}
-use Rattle.sdv_words.specs.Files.{store_of}
+use Rattle.sdv_faults.specs.Files.{store_of}
 use Rattle.sdv_words.specs.Page.{page_of}
 use Rattle.sdv_words.proofs.AnswerLaws.{answered_page, faults_of_page, left_of_page}
 use Rattle.sdv_words.proofs.program.answer.Goals as goal

@@ -1,7 +1,7 @@
 use Rattle.std.proofs.Common.{◌≡◌, ◌∙◌, Err, Some, ap}
 use Rattle.clap.specs.Walk.{texts}
-use Rattle.sdv_words.specs.CommandLine.{batch, explain, certify, check, frame, graph, meaning_of, names_of, print, request_of, run}
-use Rattle.sdv_words.specs.Files.{store_of}
+use Rattle.sdv_line.specs.CommandLine.{batch, explain, certify, check, frame, graph, meaning_of, names_of, print, request_of, run}
+use Rattle.sdv_faults.specs.Files.{store_of}
 use Rattle.sdv_words.proofs.AnswerLaws.{faults_of_explain, left_of_explain, faults_of_graph, left_of_graph, faults_of_print, left_of_print, faults_of_batch, faults_of_certify, faults_of_check, faults_of_frame, faults_of_line, faults_of_run, left_of_batch, left_of_certify, left_of_check, left_of_frame, left_of_line, left_of_run}
 use Rattle.sdv_words.proofs.program.answer_line.Goals as goal
 

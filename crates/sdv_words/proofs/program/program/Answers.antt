@@ -1,11 +1,11 @@
 use Rattle.std.proofs.Common.{◌≡◌, arith, rules, subst}
 use Rattle.clap.specs.Walk.{texts}
-use Rattle.sdv_words.specs.Files.{any_files}
-use Rattle.sdv_words.specs.Fault.{Says, status_of}
-use Rattle.sdv_words.specs.declared.fault.Fault.{Fault}
-use Rattle.sdv_words.specs.declared.fault.Fault.TheVariants.{Output}
+use Rattle.sdv_faults.specs.Files.{any_files}
+use Rattle.sdv_faults.specs.Fault.{Says, status_of}
+use Rattle.sdv_faults.specs.declared.fault.Fault.{Fault}
+use Rattle.sdv_faults.specs.declared.fault.Fault.TheVariants.{Output}
 use Rattle.sdv_words.proofs.AnswerLaws.{frame_output, left_kept, memory_kept, no_answer, no_output, other_status}
-use Rattle.sdv_words.proofs.OutputLaws.{nothing_said}
+use Rattle.sdv_faults.proofs.OutputLaws.{nothing_said}
 use Rattle.sdv_words.proofs.program.program.Goals as goal
 
 pub returns-in-Ok-clause-nothing_asked : goal.returns-in-Ok-clause-nothing_asked

@@ -2,9 +2,9 @@ use Rattle.std.proofs.Common.{◌≡◌, ◌∙◌, ap, map, drop}
 use Rattle.std.specs.Prelude.{string_bytes}
 use Rattle.clap.specs.Walk.{texts}
 use Rattle.sdv_words.specs.Answer.{Ends}
-use Rattle.sdv_words.specs.Files.{any_files}
-use Rattle.sdv_words.specs.declared.fault.Fault.TheVariants.{Memory}
-use Rattle.sdv_words.proofs.StartLaws.{keeps_same, map_but_the_first}
+use Rattle.sdv_faults.specs.Files.{any_files}
+use Rattle.sdv_faults.specs.declared.fault.Fault.TheVariants.{Memory}
+use Rattle.sdv_faults.proofs.StartLaws.{keeps_same, map_but_the_first}
 use Rattle.sdv_words.proofs.start.start_on.Goals as goal
 
 pub returns-in-Ok : goal.returns-in-Ok

@@ -1,0 +1,377 @@
+//! Why the program ends without its answer, and the line that says so.
+ghost use Rattle.std.specs.Prelude.{◌≡◌};
+ghost use Rattle.std.specs.Int.{w64, to_be_bytes};
+ghost use Rattle.hex.specs.Hex.{encode_lower};
+ghost use Rattle.sdv_text.specs.Written.{Writes};
+ghost use Rattle.sdv_faults.specs.Fault.{Says, certificate_line, fault_line, illegal_line, kind_name, numbered_line, plain_line};
+ghost use Rattle.sdv_faults.specs.Fault.{block_fault_name, named_line, refusal_line, run_fault_name, sim_fault_name, status_of, uncertified_line};
+
+use itoa::Buffer;
+use sdv_block::BlockFault;
+use sdv_card::Shape;
+use sdv_certify::CertifyFault;
+use sdv_check::{CertFault, CheckFault, VerifyFault};
+use sdv_explain::ExplainFault;
+use sdv_line::{LineFault, USAGE};
+use sdv_run::RunFault;
+use sdv_script::{FaultKind, ScriptFault};
+use sdv_sim::SimFault;
+use sdv_text::write_texts;
+use std::alloc::AllocError;
+use std::io::{self, Write};
+
+/// Why the program ends without its answer.
+#[derive(Clone, Copy, Debug, PartialEq, Eq)]
+pub enum Fault<'a> {
+    /// The words are no line of the program, or one of them is no number in its range.
+    Usage,
+    /// The file with this name cannot be opened or read, does not end, or is not UTF-8.
+    File(&'a str),
+    /// The text of a script is none.
+    Script(ScriptFault),
+    /// The text of a certificate is none within the limits.
+    Certificate(CertFault),
+    /// The certificate is not closed for the script.
+    Refused(CheckFault),
+    /// The script has no certificate.
+    Uncertified(CertifyFault),
+    /// There is no script that serves the requests.
+    Unserved(BlockFault),
+    /// There is no simulated card by the description, the schedule and the image.
+    Card(SimFault),
+    /// The run of a script stopped before its end.
+    Run(RunFault),
+    /// The run of a script ended in a fault that the script names; its trace says so.
+    Named,
+    /// Standard output took not all of the answer.
+    Output,
+    /// Memory ran out.
+    Memory,
+}
+
+impl<'a> From<LineFault> for Fault<'a> {
+    ghost use Rattle.sdv_faults.specs.Fault.{fault_of_line};
+
+    ghost from_gives = { λ fault f. f ≡ fault_of_line fault };
+
+    fn from(fault: LineFault) -> Fault<'a> {
+        match fault {
+            LineFault::Usage => Fault::Usage,
+            LineFault::Memory => Fault::Memory,
+        }
+    }
+}
+
+impl<'a> From<ScriptFault> for Fault<'a> {
+    ghost use Rattle.sdv_faults.specs.Fault.{fault_of_script};
+
+    ghost from_gives = { λ fault f. f ≡ fault_of_script fault.kind fault };
+
+    fn from(fault: ScriptFault) -> Fault<'a> {
+        match fault.kind {
+            FaultKind::Memory => Fault::Memory,
+            _ => Fault::Script(fault),
+        }
+    }
+}
+
+impl<'a> From<CertifyFault> for Fault<'a> {
+    ghost use Rattle.sdv_faults.specs.Fault.{fault_of_certify};
+
+    ghost from_gives = { λ fault f. f ≡ fault_of_certify fault };
+
+    fn from(fault: CertifyFault) -> Fault<'a> {
+        match fault {
+            CertifyFault::Memory => Fault::Memory,
+            _ => Fault::Uncertified(fault),
+        }
+    }
+}
+
+impl<'a> From<VerifyFault> for Fault<'a> {
+    ghost use Rattle.sdv_faults.specs.Fault.{fault_of_verify};
+
+    ghost from_gives = { λ fault f. f ≡ fault_of_verify fault };
+
+    fn from(fault: VerifyFault) -> Fault<'a> {
+        match fault {
+            VerifyFault::Script(fault) => Fault::Script(fault),
+            VerifyFault::Certificate(fault) => Fault::Certificate(fault),
+            VerifyFault::Check(fault) => Fault::Refused(fault),
+            VerifyFault::Memory => Fault::Memory,
+        }
+    }
+}
+
+impl<'a> From<ExplainFault> for Fault<'a> {
+    ghost use Rattle.sdv_faults.specs.Fault.{fault_of_explain};
+
+    ghost from_gives = { λ fault f. f ≡ fault_of_explain fault };
+
+    fn from(fault: ExplainFault) -> Fault<'a> {
+        match fault {
+            ExplainFault::Script(fault) => Fault::Script(fault),
+            ExplainFault::TooMany => Fault::Uncertified(CertifyFault::TooMany),
+            ExplainFault::Memory => Fault::Memory,
+        }
+    }
+}
+
+impl<'a> From<BlockFault> for Fault<'a> {
+    ghost use Rattle.sdv_faults.specs.Fault.{fault_of_block};
+
+    ghost from_gives = { λ fault f. f ≡ fault_of_block fault };
+
+    fn from(fault: BlockFault) -> Fault<'a> {
+        match fault {
+            BlockFault::Memory => Fault::Memory,
+            _ => Fault::Unserved(fault),
+        }
+    }
+}
+
+impl<'a> From<SimFault> for Fault<'a> {
+    ghost use Rattle.sdv_faults.specs.Fault.{fault_of_card};
+
+    ghost from_gives = { λ fault f. f ≡ fault_of_card fault };
+
+    fn from(fault: SimFault) -> Fault<'a> {
+        match fault {
+            SimFault::Memory => Fault::Memory,
+            _ => Fault::Card(fault),
+        }
+    }
+}
+
+impl<'a> From<RunFault> for Fault<'a> {
+    ghost use Rattle.sdv_faults.specs.Fault.{fault_of_run};
+
+    ghost from_gives = { λ fault f. f ≡ fault_of_run fault };
+
+    fn from(fault: RunFault) -> Fault<'a> {
+        match fault {
+            RunFault::Memory => Fault::Memory,
+            _ => Fault::Run(fault),
+        }
+    }
+}
+
+impl<'a> From<AllocError> for Fault<'a> {
+    ghost use Rattle.sdv_faults.specs.declared.fault.Fault.TheVariants.{Memory};
+
+    ghost from_gives = { λ _ f. f ≡ Memory };
+
+    fn from(_error: AllocError) -> Fault<'a> {
+        Fault::Memory
+    }
+}
+
+impl<'a> Fault<'a> {
+    /// The exit status that the program ends with.
+    fn status(self) -> u8
+        ensures { result ≡ status_of self.entry }
+    {
+        match self {
+            Fault::Script(_) | Fault::Certificate(_) | Fault::Refused(_) | Fault::Uncertified(_) =>
+                1,
+            Fault::Unserved(_) | Fault::Card(_) | Fault::Run(_) | Fault::Named => 1,
+            Fault::Usage | Fault::File(_) | Fault::Output => 2,
+            Fault::Memory => 3,
+        }
+    }
+
+    /// Says on a line what is wrong, but nothing of a failed output, nor of a fault that the trace of a run says.
+    ///
+    /// # Errors
+    ///
+    /// The writer's error. Then a part of the line is written, and not all of it.
+    pub fn say<E: Write>(self, err: &mut E) -> io::Result<()>
+        ensures { Writes (E.contents err.old) (E.contents err.new) result (fault_line self.entry) }
+    {
+        match self {
+            Fault::Usage => say_plain(USAGE, err),
+            Fault::File(file) => write_texts(err, &[b"cannot use ", file.as_bytes(), b"\n"]),
+            Fault::Script(fault) => say_script(fault, err),
+            Fault::Certificate(fault) => say_certificate(fault, err),
+            Fault::Refused(fault) => say_refusal(fault, err),
+            Fault::Uncertified(fault) => say_uncertified(fault, err),
+            Fault::Unserved(fault) => say_named("refused ", block_fault_name(fault), err),
+            Fault::Card(fault) => say_named("card fault ", sim_fault_name(fault), err),
+            Fault::Run(fault) => say_named("run fault ", run_fault_name(fault), err),
+            Fault::Named | Fault::Output => Ok(()),
+            Fault::Memory => say_plain("out of memory", err),
+        }
+    }
+
+    /// Says on standard error what is wrong, and answers the exit status. Where standard error fails too, a part of the
+    /// line is missing, or all of it.
+    pub fn report<E: Write>(self, err: &mut E) -> u8
+        ensures status { result ≡ status_of self.entry }
+        ensures said { Says self.entry (E.contents err.old) (E.contents err.new) }
+    {
+        let _ = self.say(err);
+        self.status()
+    }
+}
+
+fn kind_name(kind: FaultKind) -> &'static str
+    ensures { result.now ≡ kind_name kind }
+{
+    match kind {
+        FaultKind::Token => "Token",
+        FaultKind::Syntax => "Syntax",
+        FaultKind::Name => "Name",
+        FaultKind::Command => "Command",
+        FaultKind::Argument => "Argument",
+        FaultKind::Guard => "Guard",
+        FaultKind::Limit => "Limit",
+        FaultKind::NoEnd => "NoEnd",
+        FaultKind::Memory => "Memory",
+    }
+}
+
+fn block_fault_name(fault: BlockFault) -> &'static str
+    ensures { result.now ≡ block_fault_name fault }
+{
+    match fault {
+        BlockFault::Empty => "Empty",
+        BlockFault::Range => "Range",
+        BlockFault::Limit => "Limit",
+        BlockFault::Certify(_) => "Certify",
+        BlockFault::Verify(_) => "Verify",
+        BlockFault::Run(_) => "Run",
+        BlockFault::Memory => "Memory",
+    }
+}
+
+fn sim_fault_name(fault: SimFault) -> &'static str
+    ensures { result.now ≡ sim_fault_name fault }
+{
+    match fault {
+        SimFault::Description => "Description",
+        SimFault::Capacity => "Capacity",
+        SimFault::ImageLength => "ImageLength",
+        SimFault::ImageRead => "ImageRead",
+        SimFault::Memory => "Memory",
+    }
+}
+
+fn run_fault_name(fault: RunFault) -> &'static str
+    ensures { result.now ≡ run_fault_name fault }
+{
+    match fault {
+        RunFault::Reply => "Reply",
+        RunFault::Input => "Input",
+        RunFault::Output => "Output",
+        RunFault::Trace => "Trace",
+        RunFault::Memory => "Memory",
+    }
+}
+
+fn say_named<E: Write>(words: &str, name: &str, err: &mut E) -> io::Result<()>
+    ensures { Writes (E.contents err.old) (E.contents err.new) result (named_line words.now name.now) }
+{
+    write_texts(err, &[words.as_bytes(), name.as_bytes(), b"\n"])
+}
+
+fn say_plain<E: Write>(words: &str, err: &mut E) -> io::Result<()>
+    ensures { Writes (E.contents err.old) (E.contents err.new) result (plain_line words.now) }
+{
+    write_texts(err, &[words.as_bytes(), b"\n"])
+}
+
+fn say_number<E: Write>(words: &str, number: u64, err: &mut E) -> io::Result<()>
+    ensures { Writes (E.contents err.old) (E.contents err.new) result (numbered_line words.now number) }
+{
+    let mut digits = Buffer::new();
+    write_texts(
+        err,
+        &[words.as_bytes(), digits.format(number).as_bytes(), b"\n"],
+    )
+}
+
+fn say_script<E: Write>(fault: ScriptFault, err: &mut E) -> io::Result<()>
+    ensures { Writes (E.contents err.old) (E.contents err.new) result (fault_line (Fault.Script fault)) }
+{
+    let mut digits = Buffer::new();
+    let name = kind_name(fault.kind).as_bytes();
+    let line = digits.format(fault.line).as_bytes();
+    write_texts(err, &[b"script fault ", name, b" line ", line, b"\n"])
+}
+
+fn say_certificate<E: Write>(fault: CertFault, err: &mut E) -> io::Result<()>
+    ensures { Writes (E.contents err.old) (E.contents err.new) result (certificate_line fault) }
+{
+    match fault {
+        CertFault::Header => say_plain("certificate fault Header", err),
+        CertFault::Syntax { line } => say_number(
+            "certificate fault Syntax line ",
+            u64::from(line),
+            err,
+        ),
+        CertFault::Order { line } => say_number(
+            "certificate fault Order line ",
+            u64::from(line),
+            err,
+        ),
+        CertFault::Limit => say_plain("certificate fault Limit", err),
+        CertFault::Memory => say_plain("certificate fault Memory", err),
+    }
+}
+
+fn say_refusal<E: Write>(fault: CheckFault, err: &mut E) -> io::Result<()>
+    ensures { Writes (E.contents err.old) (E.contents err.new) result (refusal_line fault) }
+{
+    match fault {
+        CheckFault::Points => say_plain("refused Points", err),
+        CheckFault::Start => say_plain("refused Start", err),
+        CheckFault::Illegal(point) => say_number("refused Illegal point ", point as u64, err),
+        CheckFault::Address(point) => say_number("refused Address point ", point as u64, err),
+        CheckFault::Shape(point) => say_number("refused Shape point ", point as u64, err),
+        CheckFault::Number(point) => say_number("refused Number point ", point as u64, err),
+        CheckFault::Bound(point) => say_number("refused Bound point ", point as u64, err),
+        CheckFault::EndState(point) => say_number("refused EndState point ", point as u64, err),
+    }
+}
+
+fn say_uncertified<E: Write>(fault: CertifyFault, err: &mut E) -> io::Result<()>
+    ensures { Writes (E.contents err.old) (E.contents err.new) result (uncertified_line fault) }
+{
+    match fault {
+        CertifyFault::Illegal { point, shape } => say_illegal(point, shape, err),
+        CertifyFault::Address { point } => say_number("refused Address point ", point as u64, err),
+        CertifyFault::EndState { point } => say_number(
+            "refused EndState point ",
+            point as u64,
+            err,
+        ),
+        CertifyFault::TooMany => say_plain("refused TooMany", err),
+        CertifyFault::Memory => say_plain("refused Memory", err),
+    }
+}
+
+fn say_illegal<E: Write>(point: usize, shape: Shape, err: &mut E) -> io::Result<()>
+    ensures { Writes (E.contents err.old) (E.contents err.new) result (illegal_line point shape) }
+{
+    let mut digits = Buffer::new();
+    let point = digits.format(point as u64).as_bytes();
+    write_texts(
+        err,
+        &[
+            b"refused Illegal point ",
+            point,
+            b" shape ",
+            &digits_of(shape),
+            b"\n",
+        ],
+    )
+}
+
+/// The sixteen hexadecimal digits of a shape's code.
+fn digits_of(shape: Shape) -> [u8; 16]
+    ensures { result ≡ encode_lower (to_be_bytes w64 shape.0) }
+{
+    let mut digits = [0; 16];
+    hex::encode_to_slice(shape.0.to_be_bytes(), &mut digits).unwrap();
+    digits
+}

@@ -1,0 +1,4 @@
+pub mod RunMaps
+pub mod RunLaws
+pub mod GivenLaws
+pub mod NewImageLaws

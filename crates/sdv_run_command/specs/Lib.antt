@@ -1,0 +1,3 @@
+pub mod NewImages
+pub mod Run
+pub mod RunImages

@@ -1,0 +1,239 @@
+-- What the program does at `run`: beside which card it runs which script, what it prints, and what its files take.
+use Rattle.std.specs.Prelude.{◌≡◌, ◌≢◌, ◌<◌, ◌*◌, ◌-◌, ◌/◌, ◌%◌, ◌^◌, ◌⊎◌, ◌==◌, ◌&&◌, ◌||◌, Bool, ℕ, List, [], ◌∷◌, ◌++◌, Option, Some, None, Result, Ok, Err, codes, length, nat_le, string_bytes, if◌then◌else◌}
+use Rattle.std.specs.Io.KnownBytes.{Keeps}
+use Rattle.std.specs.Borrow.{Bor}
+use Rattle.std.specs.List.{AllByRecursion}
+use Rattle.clap.specs.Words.{Text}
+use Rattle.sdv_card.specs.Card.{Block}
+use Rattle.sdv_image.specs.Images.{zeros}
+use Rattle.sdv_image.specs.MemBlocks.{blocks_in}
+use Rattle.sdv_image.specs.declared.fault.SimFault.{SimFault}
+use Rattle.sdv_image.specs.declared.fault.SimFault.TheVariants as cards
+use Rattle.sdv_description.specs.declared.card_desc.CardDesc.{CardDesc}
+use Rattle.sdv_description.specs.Gives.{Describes}
+use Rattle.sdv_description.specs.Gives.{Refuses as IsNoCard}
+use Rattle.sdv_behavior.specs.SimSteps.{SimState, SimSteps, card_shown}
+use Rattle.sdv_sim.specs.Made.{IsMade, IsRefused}
+use Rattle.sdv_controller.specs.Controlled.{ControllerSteps}
+use Rattle.sdv_check.specs.Verified.{Acceptance, IsAccepted}
+use Rattle.sdv_run.specs.declared.end.End.{End}
+use Rattle.sdv_run.specs.declared.end.End.TheVariants as ends
+use Rattle.sdv_run.specs.declared.fault.RunFault.{RunFault}
+use Rattle.sdv_run.specs.Run.{received}
+use Rattle.sdv_run.specs.OnCard.{RanBeside}
+use Rattle.sdv_faults.specs.declared.fault.Fault.{Fault}
+use Rattle.sdv_faults.specs.declared.fault.Fault.TheVariants.{File, Script, Certificate, Refused, Card, Run, Named, Memory}
+use Rattle.sdv_run_command.specs.declared.given.Given.{Given}
+use Rattle.sdv_faults.specs.Refused.{Refuses}
+use Rattle.sdv_line.specs.CommandLine.{RunNames}
+use Rattle.sdv_faults.specs.Fault.{fault_of_run}
+use Rattle.sdv_faults.specs.Files.{CardImage, Files, image_of}
+use Rattle.sdv_line.specs.Number.{IsNumber, value_of}
+
+-- SCHEDULES: a digit from 0 to 6 for each event; spaces and ends of lines are nothing, and any other byte is no digit
+
+abbrev pub is_space : (byte : ℕ) → Bool
+is_space byte = (byte == 32) || ((byte == 13) || (byte == 10))
+
+-- 9 is no value of a schedule
+abbrev pub code_of : (byte : ℕ) → ℕ
+code_of byte = if nat_le 48 byte && nat_le byte 54 then byte - 48 else 9
+
+abbrev pub schedule_codes : (bytes : List ℕ) → List ℕ
+schedule_codes [] = []
+schedule_codes (byte ∷ bytes) = if is_space byte then schedule_codes bytes else code_of byte ∷ schedule_codes bytes
+
+-- NEW IMAGES: `new:` and a number of blocks, which are all zeros
+
+pub record IsNew (name : Text) (blocks : ℕ) : Type 0 where
+  pub number : Text
+  pub named : name ≡ codes "new:" ++ number
+  pub is_number : IsNumber number
+  pub value : value_of number ≡ blocks
+  pub fits : blocks < 2 ^ 32
+
+abbrev pub new_image : (blocks : ℕ) → CardImage
+new_image blocks = image_of (blocks * 512) (Some (zeros blocks))
+
+-- THE FILES of a run
+
+-- the image is that of a file, or it is new
+abbrev pub GivesImage : Files → (name : Text) → CardImage → Type 0
+GivesImage files name image =
+    ((blocks : ℕ) × IsNew name blocks × (image ≡ new_image blocks))
+    ⊎ (((blocks : ℕ) → ¬ IsNew name blocks) × files.images.opened name image)
+
+abbrev pub GivesSchedule : Files → Option Text → (codes : List ℕ) → Type 0
+GivesSchedule files None codes = codes ≡ []
+GivesSchedule files (Some file) codes = (bytes : List ℕ) × files.gives file bytes × (codes ≡ schedule_codes bytes)
+
+-- the blocks that a script gives are whole
+abbrev pub GivesInput : Files → Option Text → (bytes : List ℕ) → Type 0
+GivesInput files None bytes = bytes ≡ []
+GivesInput files (Some file) bytes = files.gives file bytes × (length bytes % 512 ≡ 0)
+
+-- the files of these names gave these texts and bytes, and this image
+pub record AreGiven (files : Files) (names : RunNames) (given : Given) (image : CardImage) : Type 0 where
+  pub script : files.gives names.script (string_bytes given.script)
+  pub certificate : files.gives names.certificate (string_bytes given.certificate)
+  pub card : files.gives names.card (string_bytes given.card)
+  pub of_image : GivesImage files names.image image
+  pub schedule : GivesSchedule files names.schedule given.codes.items
+  pub input : GivesInput files names.input given.input.items
+
+-- THE RUN
+
+abbrev pub blocks_of : (bytes : List ℕ) → List Block
+blocks_of bytes = blocks_in (length bytes / 512) bytes
+
+-- The script, which was verified with its certificate, ran beside the card of the description over the image, with the
+-- schedule and the input blocks. `blocks'` is what is known of the card's blocks after it.
+pub record IsRun (given : Given) (image : CardImage) (blocks' : Option (List Block)) (result : Result End RunFault) (out out' trace trace' : Option (List ℕ)) : Type 0 where
+  pub acceptance : Acceptance
+  pub accepted : IsAccepted (string_bytes given.script) (string_bytes given.certificate) acceptance
+  pub desc : CardDesc
+  pub described : Describes (string_bytes given.card) desc
+  pub whole : image.bytes % 512 ≡ 0
+  pub card : SimState
+  pub made : IsMade desc given.codes.items image.blocks card
+  pub card' : SimState
+  pub blocks : card'.blocks ≡ blocks'
+  pub left : List Block
+  pub ran : RanBeside (ControllerSteps SimSteps) card_shown acceptance.graph acceptance.bound
+      (record { port = card; input = blocks_of given.input.items; out = out; trace = trace })
+      (record { port = card'; input = left; out = out'; trace = trace' }) result
+
+-- there is no simulated card, for this reason: that of the description, of the image, or of the schedule beside them, or
+-- that the image was not read
+abbrev pub HasNoCard : Given → CardImage → (unread : Type 0) → SimFault → Type 0
+HasNoCard given image unread fault =
+    IsNoCard (string_bytes given.card) fault
+    ⊎ (((desc : CardDesc) × Describes (string_bytes given.card) desc × (image.bytes % 512 ≢ 0) × (fault ≡ cards.ImageLength))
+    ⊎ ((desc : CardDesc) × Describes (string_bytes given.card) desc × (image.bytes % 512 ≡ 0)
+    × IsRefused given.codes.items (image.bytes / 512) desc.capacity unread fault))
+
+-- why nothing was run; want of memory says nothing
+abbrev pub RefusesRun : Given → CardImage → (unread : Type 0) → Fault → Type 0
+RefusesRun given image unread (Script fault) = Refuses (string_bytes given.script) (string_bytes given.certificate) (Script fault)
+RefusesRun given image unread (Certificate fault) = Refuses (string_bytes given.script) (string_bytes given.certificate) (Certificate fault)
+RefusesRun given image unread (Refused fault) = Refuses (string_bytes given.script) (string_bytes given.certificate) (Refused fault)
+RefusesRun given image unread (Card fault) =
+    ((a : Acceptance) × IsAccepted (string_bytes given.script) (string_bytes given.certificate) a) × HasNoCard given image unread fault
+RefusesRun given image unread Memory = Unit {0}
+RefusesRun given image unread fault = ⊥
+
+-- a call of an image failed: it is that of a file, and never a new one
+abbrev pub IsUnreadable : Files → (name : Text) → Type 0
+IsUnreadable files name = ((blocks : ℕ) → ¬ IsNew name blocks) × files.images.failed name
+
+-- WHAT THE FILES TAKE
+
+-- the file of the image was closed with the card's blocks; those of a new image are dropped
+abbrev pub StoresImage : Files → (name : Text) → Option (List Block) → Type 0
+StoresImage files name blocks = ((count : ℕ) × IsNew name count) ⊎ files.images.closed name blocks
+
+abbrev pub Receives : Files → Option Text → (bytes : List ℕ) → Type 0
+Receives files None bytes = Unit {0}
+Receives files (Some file) bytes = files.received file bytes
+
+-- THE END
+
+-- The run took place, and the file of the image was closed with the card's blocks.
+pub record IsKept (files : Files) (names : RunNames) (given : Given) (image : CardImage) (result : Result End RunFault) (out out' trace trace' : Option (List ℕ)) : Type 0 where
+  pub blocks' : Option (List Block)
+  pub run : IsRun given image blocks' result out out' trace trace'
+  pub stored : StoresImage files names.image blocks'
+
+-- The run came to this end. The file of the output took the blocks of its phases that ended well.
+pub record EndsRun (files : Files) (names : RunNames) (end : End) (trace trace' : Option (List ℕ)) : Type 0 where
+  pub given : Given
+  pub image : CardImage
+  pub are_given : AreGiven files names given image
+  pub out : Option (List ℕ)
+  pub out' : Option (List ℕ)
+  pub kept : IsKept files names given image (Ok end) out out' trace trace'
+  pub output : Receives files names.output (received kept.run.ran.0.events)
+
+-- The run stopped before its end.
+pub record StopsRun (files : Files) (names : RunNames) (fault : RunFault) (trace trace' : Option (List ℕ)) : Type 0 where
+  pub given : Given
+  pub image : CardImage
+  pub are_given : AreGiven files names given image
+  pub out : Option (List ℕ)
+  pub out' : Option (List ℕ)
+  pub kept : IsKept files names given image (Err fault) out out' trace trace'
+
+-- The run took place, and then a file did not take all that it had to.
+pub record IsLost (given : Given) (image : CardImage) (trace trace' : Option (List ℕ)) : Type 0 where
+  pub blocks' : Option (List Block)
+  pub result : Result End RunFault
+  pub out : Option (List ℕ)
+  pub out' : Option (List ℕ)
+  pub run : IsRun given image blocks' result out out' trace trace'
+
+-- It was the file of the image or of the output.
+pub record IsNotKept (files : Files) (names : RunNames) (file : Text) (trace trace' : Option (List ℕ)) : Type 0 where
+  pub given : Given
+  pub image : CardImage
+  pub are_given : AreGiven files names given image
+  pub lost : IsLost given image trace trace'
+  pub is_file : (file ≡ names.image) ⊎ (Some file ≡ names.output)
+
+-- There was no run.
+pub record HasNoRun (files : Files) (names : RunNames) (fault : Fault) (trace trace' : Option (List ℕ)) : Type 0 where
+  pub given : Given
+  pub image : CardImage
+  pub are_given : AreGiven files names given image
+  pub refused : RefusesRun given image (IsUnreadable files names.image) fault
+  pub kept : Keeps trace trace'
+
+-- what the program answers to a run that came out so
+abbrev pub answer_of : Result End RunFault → Result (Unit {0}) Fault
+answer_of (Ok ends.Done) = Ok tt
+answer_of (Ok (ends.Fault name)) = Err Named
+answer_of (Err fault) = Err (fault_of_run fault)
+
+-- the file of the image did not take the card's blocks, or there was no run
+abbrev pub FailsToKeep : Files → RunNames → Given → CardImage → Fault → (trace trace' : Option (List ℕ)) → Type 0
+FailsToKeep files names given image (File file) trace trace' = IsLost given image trace trace' × (file.now ≡ names.image)
+FailsToKeep files names given image fault trace trace' =
+    RefusesRun given image (IsUnreadable files names.image) fault × Keeps trace trace'
+
+-- THE FILES, in the order in which they are read; that of the output is made or emptied after them
+
+abbrev pub some_file : Option Text → List Text
+some_file None = []
+some_file (Some file) = file ∷ []
+
+abbrev pub files_of : RunNames → List Text
+files_of names = (names.script ∷ names.certificate ∷ names.card ∷ names.image ∷ []) ++ (some_file names.schedule ++ (some_file names.input ++ some_file names.output))
+
+-- the file gave bytes, or was opened as an image, or it is none, but a new image
+abbrev pub IsUsed : Files → (name : Text) → Type 0
+IsUsed files name =
+    ((bytes : List ℕ) × files.gives name bytes) ⊎ ((image : CardImage) × GivesImage files name image)
+
+-- The file cannot be used, and each that comes before it was.
+pub record IsUnusable (files : Files) (names : RunNames) (file : Text) : Type 0 where
+  pub earlier : List Text
+  pub later : List Text
+  pub place : files_of names ≡ earlier ++ file ∷ later
+  pub given : AllByRecursion (IsUsed files) earlier
+
+-- what a fault says of files that were not all used
+abbrev pub IsUnread : Files → RunNames → Fault → Type 0
+IsUnread files names (File file) = IsUnusable files names file.now
+IsUnread files names Memory = Unit {0}
+IsUnread files names fault = ⊥
+
+-- a file that need not be there is, and cannot be used; or memory is wanting
+abbrev pub IsOptional : Option (Bor Text) → Fault → Type 0
+IsOptional name fault = ((file : Bor Text) × (name ≡ Some file) × (fault ≡ File file)) ⊎ (fault ≡ Memory)
+
+-- FAULTS: what each says of a run, and of what was printed
+abbrev pub RunFails : Files → RunNames → Fault → (trace trace' : Option (List ℕ)) → Type 0
+RunFails files names (File file) trace trace' = (IsUnusable files names file.now × Keeps trace trace') ⊎ IsNotKept files names file.now trace trace'
+RunFails files names (Run fault) trace trace' = StopsRun files names fault trace trace'
+RunFails files names Named trace trace' = (end : End) × (end ≢ ends.Done) × EndsRun files names end trace trace'
+RunFails files names Memory trace trace' = Keeps trace trace'
+RunFails files names fault trace trace' = HasNoRun files names fault trace trace'

@@ -1,0 +1,20 @@
+-- The image that a run is given, as code has it: a new one, or a file that was opened.
+use Rattle.std.specs.Prelude.{ℕ, List, Option}
+use Rattle.clap.specs.Words.{Text}
+use Rattle.sdv_card.specs.Card.{Block}
+use Rattle.sdv_sim.specs.Made.{IsUnread}
+use Rattle.sdv_faults.specs.Files.{CardImage, Files, image_of}
+use Rattle.sdv_run_command.specs.NewImages.{blocks_of_new, bytes_of_new}
+use Rattle.sdv_run_command.specs.Run.{IsNew}
+use Rattle.sdv_run_command.specs.declared.given.GivenImage.{GivenImage}
+use Rattle.sdv_run_command.specs.declared.given.GivenImage.TheVariants.{New, File}
+
+module _ {I : Type 0} (bytes_of : I → ℕ) (blocks_of : I → Option (List Block)) where
+  abbrev pub image_given : GivenImage I → CardImage
+  image_given (New image) = image_of (bytes_of_new image) (blocks_of_new image)
+  image_given (File image) = image_of (bytes_of image) (blocks_of image)
+
+-- it is new exactly where the name asks for that, and else a file whose calls fail only where the store says so
+abbrev pub IsOfName : {I : Type 0} → (failed : I → ℕ) → Files → (name : Text) → GivenImage I → Type 0
+IsOfName failed files name (New image) = (blocks : ℕ) × IsNew name blocks
+IsOfName failed files name (File image) = ((blocks : ℕ) → ¬ IsNew name blocks) × (IsUnread failed image → files.images.failed name)

@@ -1,0 +1,158 @@
+//! What a run is given: the texts and bytes of its files.
+ghost use Rattle.std.specs.Prelude.{◌≡◌, ◌⊎◌, ℕ, IfErr, IfOk, MatchOption, option_map};
+ghost use Rattle.sdv_line.specs.CommandLine.{names_of};
+ghost use Rattle.sdv_faults.specs.Files.{store_of};
+ghost use Rattle.sdv_run_command.specs.Run.{AreGiven, GivesImage, GivesInput, GivesSchedule, IsNew, IsOptional, IsUnread};
+ghost use Rattle.sdv_run_command.specs.Run.{code_of, new_image, schedule_codes};
+ghost use Rattle.sdv_run_command.specs.RunImages.{IsOfName, image_given};
+
+use crate::new_image::NewImage;
+use sdv_faults::{Fault, Store, bytes_in, text_in};
+use sdv_line::{RunFiles, number_of};
+use std::alloc::{AllocError, Global};
+
+/// The texts and bytes that a run is given, but for the image.
+#[derive(Debug, Drop)]
+pub struct Given {
+    pub script: String,
+    pub certificate: String,
+    /// The description of the card.
+    pub card: String,
+    /// The values of the schedule, one for each event.
+    pub codes: Vec<u8>,
+    /// The blocks that the script gives, one after another.
+    pub input: Vec<u8>,
+}
+
+/// The image that a run is given.
+#[derive(Debug, Drop)]
+pub enum GivenImage<I> {
+    /// A new one.
+    New(NewImage),
+    /// That of a file, which was opened.
+    File(I),
+}
+
+/// Reads the files of a run, in the order of their names, and opens that of the image, which is given beside the rest.
+///
+/// # Errors
+///
+/// [`Fault::File`]: the file cannot be used; all before it could. [`Fault::Memory`]: memory was refused.
+pub fn given_by<'a, S: Store>(
+    alloc: Global,
+    files: &S,
+    names: &RunFiles<'a>,
+) -> Result<(Given, GivenImage<S::Image>), Fault<'a>>
+    ensures given { IfOk result (λ read. AreGiven (store_of S.gives S.stored S.received files.now) (names_of names.now)
+        read.0 (image_given S.Image.byte_count S.Image.blocks read.1)) }
+    ensures image { IfOk result (λ read. IsOfName S.Image.failed (store_of S.gives S.stored S.received files.now)
+        names.now.image.now read.1) }
+    ensures refused { IfErr result (IsUnread (store_of S.gives S.stored S.received files.now) (names_of names.now)) }
+{
+    let script = text_in(alloc, files, names.script)?;
+    let certificate = text_in(alloc, files, names.certificate)?;
+    let card = text_in(alloc, files, names.card)?;
+    let image = image_in(alloc, files, names.image)?;
+    let codes = codes_in(alloc, files, names.schedule)?;
+    let input = input_in(alloc, files, names.input)?;
+    let given = Given {
+        script,
+        certificate,
+        card,
+        codes,
+        input,
+    };
+    Ok((given, image))
+}
+
+/// The image of a file, or zeros where the name asks for a new one.
+fn image_in<'a, S: Store>(
+    alloc: Global,
+    files: &S,
+    name: &'a str,
+) -> Result<GivenImage<S::Image>, Fault<'a>>
+    ensures given { IfOk result (λ image. GivesImage (store_of S.gives S.stored S.received files.now) name.entry.now
+        (image_given S.Image.byte_count S.Image.blocks image)) }
+    ensures image { IfOk result
+        (IsOfName S.Image.failed (store_of S.gives S.stored S.received files.now) name.entry.now) }
+    ensures refused { IfErr result
+        (λ fault. (fault ≡ Fault.File name.entry) ⊎ (fault ≡ Fault.Memory)) }
+{
+    match new_blocks(name) {
+        Some(blocks) => Ok(GivenImage::New(NewImage::of_zeros(alloc, blocks)?)),
+        None => {
+            let file = files.open_image(name).ok_or(Fault::File(name))?;
+            Ok(GivenImage::File(file))
+        }
+    }
+}
+
+/// How many blocks a new image is to have, where a name asks for one.
+pub fn new_blocks(name: &str) -> Option<u32>
+    ensures { MatchOption result ((blocks : ℕ) → ¬ IsNew name.now blocks) (IsNew name.now) }
+{
+    number_of(name.strip_prefix("new:")?)
+}
+
+/// The values of a schedule; without one there are none.
+fn codes_in<'a, S: Store>(
+    alloc: Global,
+    files: &S,
+    name: Option<&'a str>,
+) -> Result<Vec<u8>, Fault<'a>>
+    ensures given { IfOk result (λ codes. GivesSchedule (store_of S.gives S.stored S.received files.now)
+        (option_map (λ file. file.now) name.entry) codes.items) }
+    ensures refused { IfErr result (IsOptional name.entry) }
+{
+    match name {
+        None => Ok(Vec::new(alloc)),
+        Some(file) => {
+            let bytes = bytes_in(alloc, files, file)?;
+            Ok(codes_of(alloc, bytes.as_slice())?)
+        }
+    }
+}
+
+/// The values that the bytes of a schedule write: a digit from 0 to 6 is a value, a space and an end of a line are none,
+/// and any other byte is 9, which is no value.
+pub fn codes_of(alloc: Global, bytes: &[u8]) -> Result<Vec<u8>, AllocError>
+    ensures { IfOk result (λ codes. codes.items ≡ schedule_codes bytes.now) }
+{
+    let mut codes = Vec::new(alloc);
+    for byte in bytes {
+        match *byte {
+            b' ' | b'\r' | b'\n' => {}
+            digit => codes.push(code_of(digit))?,
+        }
+    }
+    Ok(codes)
+}
+
+fn code_of(byte: u8) -> u8
+    ensures { result ≡ code_of byte }
+{
+    match byte {
+        b'0'..=b'6' => byte - b'0',
+        _ => 9,
+    }
+}
+
+/// The bytes of the blocks that the script gives; without a file there are none.
+fn input_in<'a, S: Store>(
+    alloc: Global,
+    files: &S,
+    name: Option<&'a str>,
+) -> Result<Vec<u8>, Fault<'a>>
+    ensures given { IfOk result (λ bytes. GivesInput (store_of S.gives S.stored S.received files.now)
+        (option_map (λ file. file.now) name.entry) bytes.items) }
+    ensures refused { IfErr result (IsOptional name.entry) }
+{
+    let Some(file) = name else {
+        return Ok(Vec::new(alloc));
+    };
+    let bytes = bytes_in(alloc, files, file)?;
+    if bytes.len() % 512 != 0 {
+        return Err(Fault::File(file));
+    }
+    Ok(bytes)
+}

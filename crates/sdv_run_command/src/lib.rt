@@ -1,0 +1,13 @@
+//! The program's command `run`: a verified script beside a simulated card.
+//!
+//! Begin at `specs/Run.antt`, which says what a run is given by its files, beside which card it runs, how it ends, and what
+//! its files take.
+#![tactic(auto)]
+
+mod given;
+mod new_image;
+mod run;
+
+pub use given::{Given, GivenImage, codes_of, given_by, new_blocks};
+pub use new_image::NewImage;
+pub use run::{Outcome, run_files, run_given};

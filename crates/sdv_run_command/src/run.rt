@@ -1,0 +1,163 @@
+//! `run SCRIPT CERT CARD IMAGE [SCHEDULE] [--in FILE] [--out FILE]`: a verified script beside a simulated card.
+ghost use Rattle.std.specs.Prelude.{◌≡◌, OnOk, IfErr, IfOk};
+ghost use Rattle.std.specs.Io.KnownBytes.{Keeps};
+ghost use Rattle.sdv_line.specs.CommandLine.{names_of};
+ghost use Rattle.sdv_file_image.specs.FileImages.{shown_of};
+ghost use Rattle.sdv_sim.specs.Made.{IsUnread};
+ghost use Rattle.sdv_faults.specs.Files.{image_of, store_of};
+ghost use Rattle.sdv_run_command.specs.Run.{EndsRun, FailsToKeep, IsKept, IsRun, RefusesRun, RunFails, answer_of};
+ghost use Rattle.sdv_run_command.specs.RunImages.{IsOfName, image_given};
+ghost use Rattle.sdv_run.specs.declared.end.End.TheVariants.{Done};
+ghost use Rattle.sdv_faults.specs.declared.fault.Fault.{Fault};
+
+use crate::given::{Given, GivenImage, given_by};
+use sdv_check::verify;
+use sdv_controller::Controller;
+use sdv_faults::{Fault, Store};
+use sdv_file_image::{BlockFile, FileImage};
+use sdv_line::RunFiles;
+use sdv_run::{End, RunFault, run};
+use sdv_sim::{CardDesc, Sim};
+use std::alloc::Global;
+use std::io::{self, Write};
+
+/// How a run came out.
+#[derive(Debug, Drop)]
+pub struct Outcome<F: BlockFile> {
+    pub end: Result<End, RunFault>,
+    /// The card's blocks after the run. Those that changed are not all written back.
+    pub image: FileImage<F>,
+}
+
+/// Runs the script of a file, which is verified with the certificate of another, beside the simulated card of a
+/// description over an image, and prints the trace. The blocks that it receives go to the file of the output, which is
+/// made or emptied before anything is verified. The file of the image is read and written block by block as the card is, and
+/// has all of the card's blocks after the run, whatever its end; those of a new image are dropped.
+///
+/// # Errors
+///
+/// - [`Fault::File`]: a file cannot be used; then nothing was run or printed. Or the file of the image or of the output
+///   did not take all that it had to; then the run had come to its end.
+/// - The faults of [`run_given`].
+/// - [`Fault::Named`]: the script ended in a fault that it names. The trace is whole.
+/// - [`Fault::Run`]: the run stopped before its end.
+pub fn run_files<'a, S: Store, T: Write>(
+    alloc: Global,
+    files: &S,
+    names: RunFiles<'a>,
+    trace: &mut T,
+) -> Result<(), Fault<'a>>
+    ensures done { OnOk result (EndsRun (store_of S.gives S.stored S.received files.now)
+        (names_of names.entry) Done (T.contents trace.old) (T.contents trace.new)) }
+    ensures fails { IfErr result (λ fault. RunFails (store_of S.gives S.stored S.received files.now)
+        (names_of names.entry) fault (T.contents trace.old) (T.contents trace.new)) }
+{
+    let (given, image) = given_by(alloc, files, &names)?;
+    match names.output {
+        None => end_of(run_kept(alloc, files, &names, &given, image, &mut io::sink(), trace)?),
+        Some(file) => {
+            let mut sink = files.create(file).ok_or(Fault::File(file))?;
+            let end = run_kept(alloc, files, &names, &given, image, &mut sink, trace)?;
+            if !files.finish(file, sink) {
+                return Err(Fault::File(file));
+            }
+            end_of(end)
+        }
+    }
+}
+
+/// Runs what was given, and then writes back what the file of the image has not got yet, whatever the end of the run.
+fn run_kept<'a, S: Store, O: Write, T: Write>(
+    alloc: Global,
+    files: &S,
+    names: &RunFiles<'a>,
+    given: &Given,
+    image: GivenImage<S::Image>,
+    out: &mut O,
+    trace: &mut T,
+) -> Result<Result<End, RunFault>, Fault<'a>>
+    requires { IsOfName S.Image.failed (store_of S.gives S.stored S.received files.now) names.now.image.now image }
+    ensures kept { IfOk result (λ end. IsKept (store_of S.gives S.stored S.received files.now)
+        (names_of names.now) given.now (image_given S.Image.byte_count S.Image.blocks image) end
+        (O.contents out.old) (O.contents out.new) (T.contents trace.old) (T.contents trace.new)) }
+    ensures fails { IfErr result (λ fault. FailsToKeep (store_of S.gives S.stored S.received files.now)
+        (names_of names.now) given.now (image_given S.Image.byte_count S.Image.blocks image) fault
+        (T.contents trace.old) (T.contents trace.new)) }
+{
+    match image {
+        GivenImage::New(image) => {
+            let outcome = run_given(alloc, given, image, out, trace)?;
+            Ok(outcome.end)
+        }
+        GivenImage::File(file) => {
+            let Outcome { end, image } = run_given(alloc, given, file, out, trace)?;
+            close_image(files, names.image, image)?;
+            Ok(end)
+        }
+    }
+}
+
+/// Writes all blocks that changed back to the file of the image, and closes it.
+fn close_image<'a, S: Store>(
+    files: &S,
+    name: &'a str,
+    image: FileImage<S::Image>,
+) -> Result<(), Fault<'a>>
+    ensures closed { OnOk result ((S.stored files.now).closed name.entry.now (shown_of image)) }
+    ensures refused { IfErr result (λ fault. fault ≡ Fault.File name.entry) }
+{
+    let is_closed = match image.finish() {
+        Ok(file) => files.close_image(name, file),
+        Err(_) => false,
+    };
+    if is_closed {
+        Ok(())
+    } else {
+        Err(Fault::File(name))
+    }
+}
+
+/// Verifies a script with its certificate, and runs it beside the card of a description over the image of a file, whose
+/// blocks are read and written as the card's are. The image that is given back has to be finished.
+///
+/// # Errors
+///
+/// The first of these; nothing was sent or printed then, and the file was dropped, its blocks unchanged.
+///
+/// - [`Fault::Script`], [`Fault::Certificate`], [`Fault::Refused`]: the script is not accepted.
+/// - [`Fault::Card`]: there is no card by the description, over the image, with the schedule.
+/// - [`Fault::Memory`]: memory was refused.
+pub fn run_given<F: BlockFile + Drop, O: Write, T: Write>(
+    alloc: Global,
+    given: &Given,
+    file: F,
+    out: &mut O,
+    trace: &mut T,
+) -> Result<Outcome<F>, Fault<'static>>
+    ensures ran { IfOk result (λ outcome. IsRun given.now (image_of (F.byte_count file) (F.blocks file))
+        (shown_of outcome.image) outcome.end
+        (O.contents out.old) (O.contents out.new) (T.contents trace.old) (T.contents trace.new)) }
+    ensures refused { IfErr result
+        (RefusesRun given.now (image_of (F.byte_count file) (F.blocks file)) (IsUnread F.failed file)) }
+    ensures quiet { IfErr result (λ _. Keeps (T.contents trace.old) (T.contents trace.new)) }
+{
+    let accepted = verify(alloc, given.script.as_str(), given.certificate.as_str())?;
+    let desc = CardDesc::parse(given.card.as_str())?;
+    let image = FileImage::new(alloc, file)?;
+    let sim = Sim::new(alloc, desc, image, given.codes.as_slice())?;
+    let mut port = Controller::new(sim);
+    let (input, _) = given.input.as_slice().as_chunks::<512>();
+    let end = run(alloc, &accepted, &mut port, input, out, trace);
+    let image = port.into_wire().into_image();
+    Ok(Outcome { end, image })
+}
+
+/// What the program answers, by how a run came out.
+fn end_of(end: Result<End, RunFault>) -> Result<(), Fault<'static>>
+    ensures { result ≡ answer_of end }
+{
+    match end? {
+        End::Done => Ok(()),
+        End::Fault(_) => Err(Fault::Named),
+    }
+}
