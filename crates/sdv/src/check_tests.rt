@@ -1,6 +1,7 @@
 //! Checks of scripts and certificates in files, and in memory.
 use crate::testing::{CERTIFICATE, Expected, SMALLEST, expect, expect_check, prints, says};
 use sdv_faults::{Store, bytes_within};
+use sdv_run_command::NewImage;
 use sdv_words::program::{answer, program};
 use std::alloc::{AllocError, Global};
 use std::fs;
@@ -14,7 +15,9 @@ struct Pair;
 impl Store for Pair {
     type Sink = Full;
 
-    ghost use Rattle.sdv_faults.specs.Files.{any_bytes, any_sink};
+    type Image = NewImage;
+
+    ghost use Rattle.sdv_faults.specs.Files.{any_bytes, any_images, any_sink};
 
     ghost gives = { λ _. any_bytes };
 
@@ -22,7 +25,7 @@ impl Store for Pair {
 
     ghost received = { λ _. any_bytes };
 
-    ghost stored = { λ _. any_bytes };
+    ghost stored = { λ _. any_images };
 
     fn bytes_of(&self, alloc: Global, file: &str) -> Result<Option<Vec<u8>>, AllocError> {
         let text = if file == "script" {
@@ -35,7 +38,11 @@ impl Store for Pair {
         Ok(Some(bytes))
     }
 
-    fn store(&self, _file: &str, _bytes: &[u8]) -> bool {
+    fn open_image(&self, _file: &str) -> Option<NewImage> {
+        None
+    }
+
+    fn close_image(&self, _file: &str, _image: NewImage) -> bool {
         false
     }
 
