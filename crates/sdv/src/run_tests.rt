@@ -295,10 +295,15 @@ fn takes_image_files(rt: HostRuntime) -> Result<(), Fail> {
     Ok(())
 }
 
+/// So many bytes of an image that nothing wrote.
+fn filled(alloc: Global, count: usize) -> Result<Vec<u8>, AllocError> {
+    vec![in alloc; 0x11; count]
+}
+
 /// A transfer of more blocks than an image keeps in buffers is in the file after the run, and no other block changed.
 #[test]
 fn stores_long_transfers(rt: HostRuntime) -> Result<(), Fail> {
-    let blocks = vec![in rt.alloc(); 0x11; 524_288]?;
+    let blocks = filled(rt.alloc(), 524_288)?;
     let mut written = Vec::new(rt.alloc());
     for number in 0..40u8 {
         written.extend_from_slice(&[number; 512])?;
@@ -321,9 +326,9 @@ fn stores_long_transfers(rt: HostRuntime) -> Result<(), Fail> {
     let trace = trace_of(&rt, &words, 0)?;
     assert!(rt; trace.contains("\nCMD25 00000007 R1 00000900\nOUT 40 ok\n"));
     assert!(rt; fs::read(&rt, "run.out")?.as_slice() == written.as_slice());
-    let mut changed = vec![in rt.alloc(); 0x11; 3_584]?;
+    let mut changed = filled(rt.alloc(), 3_584)?;
     changed.extend_from_slice(written.as_slice())?;
-    changed.extend_from_slice(vec![in rt.alloc(); 0x11; 500_224]?.as_slice())?;
+    changed.extend_from_slice(filled(rt.alloc(), 500_224)?.as_slice())?;
     assert!(rt; fs::read(&rt, "run.image")?.as_slice() == changed.as_slice());
     Ok(())
 }
