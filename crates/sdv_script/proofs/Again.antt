@@ -87,10 +87,12 @@ flag_at names f fit lt = place_at 0 [] names.flags f fit.flags_new lt ∙ ap (λ
 number_at : (names : Declared) (x : ℕ) → NamesFit names → x < length names.numbers → place_of (get_or names.numbers x []) names.numbers ≡ Some x
 number_at names x fit lt = place_at 0 names.flags names.numbers x fit.numbers_new lt ∙ ap (λ (j : ℕ). Some j) (omega arith)
 
-pub flag-again : (names : Declared) (f : ℕ) (others : List Token) → NamesFit names → f < length names.flags → read_flag names (flag_name names f ∷ others) ≡ Some (f, others)
+pub flag-again : (names : Declared) (f : ℕ) (others : List Token) → NamesFit names → f < length names.flags
+    → read_flag names (flag_name names f ∷ others) ≡ Some (f, others)
 flag-again names f others fit lt = bind_is _ _ _ _ (flag_at names f fit lt) refl
 
-number_name-again : (names : Declared) (x : ℕ) (others : List Token) → NamesFit names → x < length names.numbers → read_number_name names (number_name names x ∷ others) ≡ Some (x, others)
+number_name-again : (names : Declared) (x : ℕ) (others : List Token) → NamesFit names → x < length names.numbers
+    → read_number_name names (number_name names x ∷ others) ≡ Some (x, others)
 number_name-again names x others fit lt = bind_is _ _ _ _ (number_at names x fit lt) refl
 
 -- NUMBERS
@@ -109,7 +111,8 @@ IsCalm (Mark sign.Plus ∷ ts) = ⊥
 IsCalm (Mark sign.Minus ∷ ts) = ⊥
 IsCalm ts = Unit {0}
 
-unit-again : (names : Declared) (u : AddressUnit) (others : List Token) → NamesFit names → UnitFits names u → read_unit names (unit_written names u others) ≡ Some (u, others)
+unit-again : (names : Declared) (u : AddressUnit) (others : List Token) → NamesFit names → UnitFits names u
+    → read_unit names (unit_written names u others) ≡ Some (u, others)
 unit-again names units.Block others fit ok = refl
 unit-again names units.Byte others fit ok = refl
 unit-again names (units.By f) others fit ok = bind_is _ _ _ _ (flag-again names f others fit ok) refl
@@ -118,13 +121,15 @@ no_sum : (x : ℕ) (others : List Token) → IsCalm others → read_sum x others
 no_sum x (Mark sign.Plus ∷ ts) calm = absurd calm
 no_sum x ts calm = refl
 
-position-again : (names : Declared) (p : Position) (others : List Token) → NamesFit names → PositionFits names p → IsCalm others → read_position names (position_written names p others) ≡ Some (p, others)
+position-again : (names : Declared) (p : Position) (others : List Token) → NamesFit names → PositionFits names p → IsCalm others
+    → read_position names (position_written names p others) ≡ Some (p, others)
 position-again names (positions.Number n) others fit ok calm = bind_is _ _ _ _ (figure-again n others ok) refl
 position-again names (positions.Variable x None) others fit ok calm = bind_is _ _ _ _ (number_name-again names x others fit ok) (no_sum x others calm)
 position-again names (positions.Variable x (Some k)) others fit ok calm =
     bind_is _ _ _ _ (number_name-again names x _ fit ok.0) (bind_is _ _ _ _ (figure-again k others ok.1) refl)
 
-address-again : (names : Declared) (a : Address) (others : List Token) → NamesFit names → AddressFits names (Some a) → IsCalm others → read_address names (address_written names a others) ≡ Some (a, others)
+address-again : (names : Declared) (a : Address) (others : List Token) → NamesFit names → AddressFits names (Some a) → IsCalm others
+    → read_address names (address_written names a others) ≡ Some (a, others)
 address-again names a others fit ok calm =
     bind_is _ _ _ _ (unit-again names a.unit _ fit ok.0) (bind_is _ _ _ _ (position-again names a.position others fit ok.1 calm) refl)
 
@@ -135,7 +140,8 @@ same_command : (c : Command) (ask : Ask) (address : Option Address) → c.ask �
 unfolding with_parts
 same_command c ask address p q = rw (← p, ← q) refl
 
-made : (c : Command) (ask : Ask) (address : Option Address) (others : List Token) → c.ask ≡ ask → c.address ≡ address → ◌≡◌ {A = Read Command} (Some (record { ask = ask; address = address }, others)) (Some (c, others))
+made : (c : Command) (ask : Ask) (address : Option Address) (others : List Token) → c.ask ≡ ask → c.address ≡ address
+    → ◌≡◌ {A = Read Command} (Some (record { ask = ask; address = address }, others)) (Some (c, others))
 unfolding with_parts
 made c ask address others p q = ap (λ (d : Command). Some (d, others)) (same_command c ask address p q)
 
@@ -144,13 +150,17 @@ select-again : (c : Command) (aim : Aim) (r : List Token) → c.ask ≡ ask_with
 select-again c Rca r p q = made c (ask_with c.ask.index Rca 0 0) None _ p q
 select-again c Plain r p q = made c (ask_with c.ask.index Plain 0 0) None _ p q
 
-addressed-again : (names : Declared) (c : Command) (address : Option Address) (count : ℕ) (r : List Token) → NamesFit names → c.ask ≡ ask_with c.ask.index Plain 0 count → c.address ≡ address → AddressFits names address
+addressed-again : (names : Declared) (c : Command) (address : Option Address) (count : ℕ) (r : List Token) → NamesFit names
+    → c.ask ≡ ask_with c.ask.index Plain 0 count → c.address ≡ address → AddressFits names address
     → read_form names c.ask.index (Addressed count) (address_if_any names address (Mark sign.OpenBrace ∷ r)) ≡ Some (c, Mark sign.OpenBrace ∷ r)
 addressed-again names c None count r fit p q ok = absurd ok
-addressed-again names c (Some a) count r fit p q ok = bind_is _ _ _ _ (address-again names a (Mark sign.OpenBrace ∷ r) fit ok tt) (made c (ask_with c.ask.index Plain 0 count) (Some a) _ p q)
+addressed-again names c (Some a) count r fit p q ok = bind_is _ _ _ _ (address-again names a (Mark sign.OpenBrace ∷ r) fit ok tt)
+    (made c (ask_with c.ask.index Plain 0 count) (Some a) _ p q)
 
-counted-again : (names : Declared) (c : Command) (address : Option Address) (r : List Token) → NamesFit names → c.ask ≡ ask_with c.ask.index Plain 0 c.ask.count → c.address ≡ address → AddressFits names address → 1 ≤ c.ask.count → c.ask.count ≤ 65535
-    → read_counted names c.ask.index (address_if_any names address (Key word.Count ∷ Number c.ask.count ∷ Mark sign.OpenBrace ∷ r)) ≡ Some (c, Mark sign.OpenBrace ∷ r)
+counted-again : (names : Declared) (c : Command) (address : Option Address) (r : List Token) → NamesFit names → c.ask ≡ ask_with c.ask.index Plain 0 c.ask.count
+    → c.address ≡ address → AddressFits names address → 1 ≤ c.ask.count → c.ask.count ≤ 65535
+    → read_counted names c.ask.index (address_if_any names address (Key word.Count ∷ Number c.ask.count ∷ Mark sign.OpenBrace ∷ r))
+    ≡ Some (c, Mark sign.OpenBrace ∷ r)
 counted-again names c None r fit p q ok ge le = absurd ok
 counted-again names c (Some a) r fit p q ok ge le =
     bind_is _ _ _ _ (address-again names a (Key word.Count ∷ Number c.ask.count ∷ Mark sign.OpenBrace ∷ r) fit ok tt)
@@ -172,7 +182,8 @@ any_form-again : (names : Declared) (o : Option Form) (c : Command) (r : List To
 any_form-again names None c r fit ok = absurd ok
 any_form-again names (Some form) c r fit ok = form-again names form c r fit ok
 
-pub command-again : (names : Declared) (c : Command) (r : List Token) → NamesFit names → CommandFits names c → read_command names (command_written names c (Mark sign.OpenBrace ∷ r)) ≡ Some (c, Mark sign.OpenBrace ∷ r)
+pub command-again : (names : Declared) (c : Command) (r : List Token) → NamesFit names → CommandFits names c
+    → read_command names (command_written names c (Mark sign.OpenBrace ∷ r)) ≡ Some (c, Mark sign.OpenBrace ∷ r)
 command-again names c r fit ok = any_form-again names (form_of names.kind c.ask.index) c r fit ok
 
 -- GUARDS
@@ -202,7 +213,8 @@ state-again states.Rcv = refl
 state-again states.Prg = refl
 state-again states.Dis = refl
 
-guard-again : (order : Option Order) (g : Guard) (others : List Token) → fits_order g order ≡ true → read_guard order (guard_written g others) ≡ Some (g, others)
+guard-again : (order : Option Order) (g : Guard) (others : List Token) → fits_order g order ≡ true
+    → read_guard order (guard_written g others) ≡ Some (g, others)
 guard-again order guards.Timeout others e = test_is _ _ _ e refl
 guard-again order guards.Answer others e = test_is _ _ _ e refl
 guard-again order guards.Clean others e = test_is _ _ _ e refl
@@ -215,15 +227,18 @@ guard-again order (guards.State s) others e =
     test_is _ _ _ (idle_suits s order e) (bind_is _ _ _ _ (bind_is _ _ _ _ (state-again s) refl) refl)
 guard-again order guards.Ok others e = absurd (ok_suits_not order e)
 
-guards_from : (gs : List Guard) (order : Option Order) (before : List Guard) (r : List Token) → GuardsFit order gs → read_guards order before (guards_written gs (Mark sign.OpenBrace ∷ r)) ≡ Some (before ++ gs, Mark sign.OpenBrace ∷ r)
+guards_from : (gs : List Guard) (order : Option Order) (before : List Guard) (r : List Token) → GuardsFit order gs
+    → read_guards order before (guards_written gs (Mark sign.OpenBrace ∷ r)) ≡ Some (before ++ gs, Mark sign.OpenBrace ∷ r)
 guards_from [] order before r ok = absurd ok
 guards_from (g ∷ []) order before r ok = read_guards-is order before _ ∙ bind_is _ _ _ _ (guard-again order g (Mark sign.OpenBrace ∷ r) ok) refl
 guards_from (g ∷ h ∷ gs) order before r ok =
     read_guards-is order before _
     ∙ bind_is _ _ _ _ (guard-again order g (Mark sign.And ∷ guards_written (h ∷ gs) (Mark sign.OpenBrace ∷ r)) ok.0)
-    (guards_from (h ∷ gs) order (before ++ g ∷ []) r ok.1 ∙ ap (λ (all : List Guard). Some (all, Mark sign.OpenBrace ∷ r)) (append_assoc before (g ∷ []) (h ∷ gs)))
+    (guards_from (h ∷ gs) order (before ++ g ∷ []) r ok.1
+    ∙ ap (λ (all : List Guard). Some (all, Mark sign.OpenBrace ∷ r)) (append_assoc before (g ∷ []) (h ∷ gs)))
 
-pub guards-again : (order : Option Order) (gs : List Guard) (r : List Token) → GuardsFit order gs → read_guards order [] (guards_written gs (Mark sign.OpenBrace ∷ r)) ≡ Some (gs, Mark sign.OpenBrace ∷ r)
+pub guards-again : (order : Option Order) (gs : List Guard) (r : List Token) → GuardsFit order gs
+    → read_guards order [] (guards_written gs (Mark sign.OpenBrace ∷ r)) ≡ Some (gs, Mark sign.OpenBrace ∷ r)
 guards-again order gs r ok = guards_from gs order [] r ok
 
 -- VALUES AND CONDITIONS
@@ -238,7 +253,8 @@ change-again changes.Same others ok calm = no_change others calm
 change-again (changes.Plus k) others ok calm = bind_is _ _ _ _ (figure-again k others ok) refl
 change-again (changes.Minus k) others ok calm = bind_is _ _ _ _ (figure-again k others ok) refl
 
-atom-again : (names : Declared) (a : Atom) (others : List Token) → NamesFit names → AtomFits names a → read_atom names (atom_written names a others) ≡ Some (a, others)
+atom-again : (names : Declared) (a : Atom) (others : List Token) → NamesFit names → AtomFits names a
+    → read_atom names (atom_written names a others) ≡ Some (a, others)
 atom-again names (atoms.Number n) others fit ok = bind_is _ _ _ _ (figure-again n others ok) refl
 atom-again names (atoms.Variable x) others fit ok = bind_is _ _ _ _ (number_name-again names x others fit ok) refl
 atom-again names atoms.CsdBlocks others fit ok = refl
@@ -248,7 +264,8 @@ atom-again names atoms.ExtBlocks others fit ok = test_is _ _ _ ok refl
 abbrev pub let_rest : Declared → Let → List Token → List Token
 let_rest names l others = number_name names l.target ∷ Mark sign.Equals ∷ atom_written names l.atom (change_written l.change others)
 
-pub let-again : (names : Declared) (l : Let) (others : List Token) → NamesFit names → LetFits names l → IsCalm others → read_let names (let_rest names l others) ≡ Some (l, others)
+pub let-again : (names : Declared) (l : Let) (others : List Token) → NamesFit names → LetFits names l → IsCalm others
+    → read_let names (let_rest names l others) ≡ Some (l, others)
 let-again names l others fit ok calm =
     bind_is _ _ _ _ (number_name-again names l.target _ fit ok.0)
     (bind_is _ _ _ _ (atom-again names l.atom _ fit ok.1) (bind_is _ _ _ _ (change-again l.change others ok.2 calm) refl))
@@ -256,10 +273,12 @@ let-again names l others fit ok calm =
 no_flag : (names : Declared) (x : ℕ) → NamesFit names → x < length names.numbers → place_of (get_or names.numbers x []) names.flags ≡ None
 no_flag names x fit lt = new_at names.flags names.numbers x fit.numbers_new lt
 
-number_condition : (names : Declared) (x : ℕ) (ts : List Token) → NamesFit names → x < length names.numbers → read_condition names (number_name names x ∷ ts) ≡ read_test x ts
+number_condition : (names : Declared) (x : ℕ) (ts : List Token) → NamesFit names → x < length names.numbers
+    → read_condition names (number_name names x ∷ ts) ≡ read_test x ts
 number_condition names x ts fit lt = rw (no_flag names x fit lt, number_at names x fit lt) refl
 
-pub condition-again : (names : Declared) (c : Condition) (others : List Token) → NamesFit names → ConditionFits names c → read_condition names (condition_written names c others) ≡ Some (c, others)
+pub condition-again : (names : Declared) (c : Condition) (others : List Token) → NamesFit names → ConditionFits names c
+    → read_condition names (condition_written names c others) ≡ Some (c, others)
 condition-again names (conditions.Flag f) others fit ok = rw (flag_at names f fit ok) refl
 condition-again names (conditions.AtLeast x k) others fit ok = number_condition names x _ fit ok.0 ∙ bind_is _ _ _ _ (figure-again k others ok.1) refl
 condition-again names (conditions.Below x k) others fit ok = number_condition names x _ fit ok.0 ∙ bind_is _ _ _ _ (figure-again k others ok.1) refl

@@ -89,14 +89,18 @@ RowAgain names blocks depth b = (others : List Token) (begun : ℕ) → Closes o
 open_again : (depth : Depth) (ts : List Token) → HasRoom depth → after_open depth (Mark sign.OpenBrace ∷ ts) ≡ Some (deeper depth, ts)
 open_again depth ts room = test_is _ _ _ (lt-ltb depth.braces max_braces room) refl
 
-block-again : (names : Declared) (blocks : Blocks) (depth : Depth) (b : Statements) (others : List Token) (begun : ℕ) → HasRoom depth → RowAgain names blocks (deeper depth) b → begun + statements_count b ≤ max_statements
-    → read_block blocks depth (progress_to (Mark sign.OpenBrace ∷ statements_written names b (Mark sign.CloseBrace ∷ others)) begun) ≡ Some (b, progress_to others (begun + statements_count b))
+block-again : (names : Declared) (blocks : Blocks) (depth : Depth) (b : Statements) (others : List Token) (begun : ℕ) → HasRoom depth
+    → RowAgain names blocks (deeper depth) b → begun + statements_count b ≤ max_statements
+    → read_block blocks depth (progress_to (Mark sign.OpenBrace ∷ statements_written names b (Mark sign.CloseBrace ∷ others)) begun)
+    ≡ Some (b, progress_to others (begun + statements_count b))
 block-again names blocks depth b others begun room again le =
     bind_is _ _ _ _ (open_again depth _ room) (bind_is _ _ _ _ (again (Mark sign.CloseBrace ∷ others) begun tt le) refl)
 
-branches-again : (names : Declared) (blocks : Blocks) (inside depth : Depth) (a b : Statements) (others : List Token) (begun : ℕ) → HasRoom inside → HasRoom depth → RowAgain names blocks (deeper inside) a → RowAgain names blocks (deeper depth) b
+branches-again : (names : Declared) (blocks : Blocks) (inside depth : Depth) (a b : Statements) (others : List Token) (begun : ℕ) → HasRoom inside
+    → HasRoom depth → RowAgain names blocks (deeper inside) a → RowAgain names blocks (deeper depth) b
     → begun + (statements_count a + statements_count b) ≤ max_statements
-    → read_branches blocks inside depth (progress_to (Mark sign.OpenBrace ∷ statements_written names a (Mark sign.CloseBrace ∷ Key word.Else ∷ Mark sign.OpenBrace ∷ statements_written names b (Mark sign.CloseBrace ∷ others))) begun)
+    → read_branches blocks inside depth (progress_to (Mark sign.OpenBrace ∷ statements_written names a
+    (Mark sign.CloseBrace ∷ Key word.Else ∷ Mark sign.OpenBrace ∷ statements_written names b (Mark sign.CloseBrace ∷ others))) begun)
     ≡ Some ((a, b), progress_to others (begun + statements_count a + statements_count b))
 branches-again names blocks inside depth a b others begun room other_room first_again second_again le =
     bind_is _ _ _ _ (block-again names blocks inside a _ begun room first_again (omega arith))
@@ -111,28 +115,35 @@ StatementAgain names blocks ways depth s = (others : List Token) (begun : ℕ) �
 at_end : (s : Statement) (others : List Token) (m n : ℕ) → m ≡ n → ◌≡◌ {A = Reading Statement} (Some (s, progress_to others m)) (Some (s, progress_to others n))
 at_end s others m n e = ap (λ (k : ℕ). Some (s, progress_to others k)) e
 
-begin_again : (blocks : Blocks) (ways : WaysOf) (names : Declared) (depth : Depth) (begun : ℕ) (x r : Reading Statement) → begun < max_statements → x ≡ r → cond (nat_lt begun max_statements) x None ≡ r
+begin_again : (blocks : Blocks) (ways : WaysOf) (names : Declared) (depth : Depth) (begun : ℕ) (x r : Reading Statement) → begun < max_statements → x ≡ r
+    → cond (nat_lt begun max_statements) x None ≡ r
 begin_again blocks ways names depth begun x r lt e = test_is _ _ _ (lt-ltb begun max_statements lt) e
 
-ends-again : (names : Declared) (blocks : Blocks) (depth : Depth) (p : Phase) (a b : Statements) (others : List Token) (begun : ℕ) → HasRoom depth → HasRoom (deeper depth)
-    → RowAgain names blocks (deeper (deeper depth)) a → RowAgain names blocks (deeper (deeper depth)) b → begun + 1 + (statements_count a + statements_count b) ≤ max_statements
+ends-again : (names : Declared) (blocks : Blocks) (depth : Depth) (p : Phase) (a b : Statements) (others : List Token) (begun : ℕ) → HasRoom depth
+    → HasRoom (deeper depth)
+    → RowAgain names blocks (deeper (deeper depth)) a → RowAgain names blocks (deeper (deeper depth)) b
+    → begun + 1 + (statements_count a + statements_count b) ≤ max_statements
     → read_phase blocks depth p (progress_to (Mark sign.OpenBrace ∷ Key word.Ok ∷ Mark sign.OpenBrace ∷ statements_written names a (Mark sign.CloseBrace
     ∷ Key word.Else ∷ Mark sign.OpenBrace ∷ statements_written names b (Mark sign.CloseBrace ∷ Mark sign.CloseBrace ∷ others))) (begun + 1))
     ≡ Some (phase p a b, progress_to others (begun + (1 + (statements_count a + statements_count b))))
 ends-again names blocks depth p a b others begun room inner first_again second_again le =
     bind_is _ _ _ _
     (bind_is _ _ _ _ (open_again depth _ room)
-    (bind_is _ _ _ _ (branches-again names blocks (deeper depth) (deeper depth) a b (Mark sign.CloseBrace ∷ others) (begun + 1) inner inner first_again second_again le) refl))
+    (bind_is _ _ _ _ (branches-again names blocks (deeper depth) (deeper depth) a b (Mark sign.CloseBrace ∷ others)
+    (begun + 1) inner inner first_again second_again le) refl))
     (at_end (phase p a b) others _ _ (omega arith))
 
 phase-again : (names : Declared) (blocks : Blocks) (ways : WaysOf) (depth : Depth) (p : Phase) (a b : Statements) → HasRoom depth → HasRoom (deeper depth)
     → RowAgain names blocks (deeper (deeper depth)) a → RowAgain names blocks (deeper (deeper depth)) b → StatementAgain names blocks ways depth (phase p a b)
 phase-again names blocks ways depth phases.ReceiveBlocks a b room inner one two others begun calm le =
-    begin_again blocks ways names depth begun _ _ (omega arith) (ends-again names blocks depth phases.ReceiveBlocks a b others begun room inner one two (omega arith))
+    begin_again blocks ways names depth begun _ _ (omega arith)
+    (ends-again names blocks depth phases.ReceiveBlocks a b others begun room inner one two (omega arith))
 phase-again names blocks ways depth phases.ReceiveRegister a b room inner one two others begun calm le =
-    begin_again blocks ways names depth begun _ _ (omega arith) (ends-again names blocks depth phases.ReceiveRegister a b others begun room inner one two (omega arith))
+    begin_again blocks ways names depth begun _ _ (omega arith)
+    (ends-again names blocks depth phases.ReceiveRegister a b others begun room inner one two (omega arith))
 phase-again names blocks ways depth phases.GiveBlocks a b room inner one two others begun calm le =
-    begin_again blocks ways names depth begun _ _ (omega arith) (ends-again names blocks depth phases.GiveBlocks a b others begun room inner one two (omega arith))
+    begin_again blocks ways names depth begun _ _ (omega arith)
+    (ends-again names blocks depth phases.GiveBlocks a b others begun room inner one two (omega arith))
 phase-again names blocks ways depth phases.Wait a b room inner one two others begun calm le =
     begin_again blocks ways names depth begun _ _ (omega arith) (ends-again names blocks depth phases.Wait a b others begun room inner one two (omega arith))
 
@@ -163,41 +174,50 @@ not_else blocks ways depth order (g ∷ h ∷ gs) others begun ok = guard_not_el
 mutual
   unfolding read_statements
 
-  pub statements-again : (b : Statements) (left : ℕ) (names : Declared) (depth : Depth) → NamesFit names → StatementsFit names depth b → statements_rank b ≤ left → RowAgain names (read_statements left names) depth b
+  pub statements-again : (b : Statements) (left : ℕ) (names : Declared) (depth : Depth) → NamesFit names → StatementsFit names depth b
+      → statements_rank b ≤ left → RowAgain names (read_statements left names) depth b
   statements-again nothing zero names depth fit ok rank others begun c le = absurd (omega arith)
   statements-again nothing (suc left) names depth fit ok rank others begun c le =
       rw (closes_true others c) (ap (λ (k : ℕ). Some (nothing, progress_to others k)) (omega arith))
   statements-again (first s rest) zero names depth fit ok rank others begun c le = absurd (omega arith)
   statements-again (first s rest) (suc left) names depth fit ok rank others begun c le =
       rw (statement_calm names s (statements_written names rest others)).1
-      (bind_is _ _ _ _ (statement-again s left names depth fit ok.0 (omega arith) (statements_written names rest others) begun (rows_calm names rest others c) (omega arith))
+      (bind_is _ _ _ _ (statement-again s left names depth fit ok.0 (omega arith) (statements_written names rest others) begun (rows_calm names rest others c)
+      (omega arith))
       (bind_is _ _ _ _ (statements-again rest left names depth fit ok.1 (omega arith) others (begun + statement_count s) c (omega arith))
       (ap (λ (k : ℕ). Some (first s rest, progress_to others k)) (omega arith))))
 
-  pub ways-again : (w : Ways) (left : ℕ) (names : Declared) (depth : Depth) (order : Option Order) → NamesFit names → WaysFit names depth order w → ways_rank w ≤ left → WaysAgain names (read_ways left names) depth order w
+  pub ways-again : (w : Ways) (left : ℕ) (names : Declared) (depth : Depth) (order : Option Order) → NamesFit names → WaysFit names depth order w
+      → ways_rank w ≤ left → WaysAgain names (read_ways left names) depth order w
   ways-again (otherwise b) zero names depth order fit ok rank others begun le = absurd (omega arith)
   ways-again (otherwise b) (suc left) names depth order fit ok rank others begun le =
-      bind_is _ _ _ _ (block-again names (read_statements left names) depth b others begun ok.0 (statements-again b left names (deeper depth) fit ok.1 (omega arith)) le) refl
+      bind_is _ _ _ _ (block-again names (read_statements left names) depth b others begun ok.0
+      (statements-again b left names (deeper depth) fit ok.1 (omega arith)) le) refl
   ways-again (way gs b rest) zero names depth order fit ok rank others begun le = absurd (omega arith)
   ways-again (way gs b rest) (suc left) names depth order fit ok rank others begun le =
       not_else (read_statements left names) (read_ways left names) depth order gs _ begun ok.0
       ∙ bind_is _ _ _ _ (bind_is _ _ _ _ (guards-again order gs _ ok.0)
-      (bind_is _ _ _ _ (block-again names (read_statements left names) depth b (ways_written names rest others) begun ok.1 (statements-again b left names (deeper depth) fit ok.2 (omega arith)) (omega arith)) refl))
+      (bind_is _ _ _ _ (block-again names (read_statements left names) depth b (ways_written names rest others) begun ok.1
+      (statements-again b left names (deeper depth) fit ok.2 (omega arith)) (omega arith)) refl))
       (bind_is _ _ _ _ (ways-again rest left names depth order fit ok.3 (omega arith) others (begun + statements_count b) (omega arith))
       (ap (λ (k : ℕ). Some (way gs b rest, progress_to others k)) (omega arith)))
 
-  pub statement-again : (s : Statement) (left : ℕ) (names : Declared) (depth : Depth) → NamesFit names → StatementFits names depth s → statement_rank s ≤ left → StatementAgain names (read_statements left names) (read_ways left names) depth s
+  pub statement-again : (s : Statement) (left : ℕ) (names : Declared) (depth : Depth) → NamesFit names → StatementFits names depth s → statement_rank s ≤ left
+      → StatementAgain names (read_statements left names) (read_ways left names) depth s
   statement-again (send c w) left names depth fit ok rank others begun calm le =
       begin_again (read_statements left names) (read_ways left names) names depth begun _ _ (omega arith)
       (bind_is _ _ _ _ (command-again names c _ fit ok.0)
       (bind_is _ _ _ _ (open_again depth _ ok.1)
-      (bind_is _ _ _ _ (ways-again w left names (deeper depth) (order_of names.kind c.ask) fit ok.2 rank (Mark sign.CloseBrace ∷ others) (begun + 1) (omega arith))
+      (bind_is _ _ _ _ (ways-again w left names (deeper depth) (order_of names.kind c.ask) fit ok.2 rank (Mark sign.CloseBrace ∷ others) (begun + 1)
+      (omega arith))
       (at_end (send c w) others _ _ (omega arith)))))
   statement-again (phase p a b) left names depth fit ok rank others begun calm le =
       phase-again names (read_statements left names) (read_ways left names) depth p a b ok.0 ok.1
-      (statements-again a left names (deeper (deeper depth)) fit ok.2 (omega arith)) (statements-again b left names (deeper (deeper depth)) fit ok.3 (omega arith)) others begun calm le
+      (statements-again a left names (deeper (deeper depth)) fit ok.2 (omega arith))
+      (statements-again b left names (deeper (deeper depth)) fit ok.3 (omega arith)) others begun calm le
   statement-again (setting l) left names depth fit ok rank others begun calm le =
-      begin_again (read_statements left names) (read_ways left names) names depth begun _ _ (omega arith) (bind_is _ _ _ _ (let-again names l others fit ok calm) refl)
+      begin_again (read_statements left names) (read_ways left names) names depth begun _ _ (omega arith)
+      (bind_is _ _ _ _ (let-again names l others fit ok calm) refl)
   statement-again (choice c a b) left names depth fit ok rank others begun calm le =
       begin_again (read_statements left names) (read_ways left names) names depth begun _ _ (omega arith)
       (bind_is _ _ _ _ (condition-again names c _ fit ok.0)
@@ -205,15 +225,18 @@ mutual
       (statements-again a left names (deeper depth) fit ok.2 (omega arith)) (statements-again b left names (deeper depth) fit ok.3 (omega arith)) (omega arith))
       (at_end (choice c a b) others _ _ (omega arith))))
   statement-again (set f) left names depth fit ok rank others begun calm le =
-      begin_again (read_statements left names) (read_ways left names) names depth begun _ _ (omega arith) (bind_is _ _ _ _ (flag-again names f others fit ok) refl)
+      begin_again (read_statements left names) (read_ways left names) names depth begun _ _ (omega arith)
+      (bind_is _ _ _ _ (flag-again names f others fit ok) refl)
   statement-again (clear f) left names depth fit ok rank others begun calm le =
-      begin_again (read_statements left names) (read_ways left names) names depth begun _ _ (omega arith) (bind_is _ _ _ _ (flag-again names f others fit ok) refl)
+      begin_again (read_statements left names) (read_ways left names) names depth begun _ _ (omega arith)
+      (bind_is _ _ _ _ (flag-again names f others fit ok) refl)
   statement-again (turns n a b) left names depth fit ok rank others begun calm le =
       begin_again (read_statements left names) (read_ways left names) names depth begun _ _ (omega arith)
       (test_is _ _ _ (lt-ltb depth.loops max_loops ok.2)
       (bind_is _ _ _ _ (count-again n _ ok.0 ok.1)
       (bind_is _ _ _ _ (branches-again names (read_statements left names) (in_loop depth) depth a b others (begun + 1) ok.3 ok.3
-      (statements-again a left names (deeper (in_loop depth)) fit ok.4 (omega arith)) (statements-again b left names (deeper depth) fit ok.5 (omega arith)) (omega arith))
+      (statements-again a left names (deeper (in_loop depth)) fit ok.4 (omega arith)) (statements-again b left names (deeper depth) fit ok.5 (omega arith))
+      (omega arith))
       (at_end (turns n a b) others _ _ (omega arith)))))
   statement-again break left names depth fit ok rank others begun calm le =
       test_is _ _ _ (both_true _ _ (lt-ltb 0 depth.loops ok) (lt-ltb begun max_statements (omega arith))) refl

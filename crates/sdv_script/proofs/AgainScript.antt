@@ -115,7 +115,8 @@ phase_longer phases.GiveBlocks ts = omega arith
 phase_longer phases.Wait ts = omega arith
 
 mutual
-  statements_deep : (b : Statements) (names : Declared) (others : List Token) → length others + statements_rank b ≤ length (statements_written names b others) + 1
+  statements_deep : (b : Statements) (names : Declared) (others : List Token)
+      → length others + statements_rank b ≤ length (statements_written names b others) + 1
   statements_deep nothing names others = omega arith
   statements_deep (first s rest) names others =
       let one = statement_deep s names (statements_written names rest others) in
@@ -140,7 +141,8 @@ mutual
   statement_deep (phase p a b) names others =
       let one = phase_longer p (Mark sign.OpenBrace ∷ Key word.Ok ∷ Mark sign.OpenBrace ∷ statements_written names a (Mark sign.CloseBrace
       ∷ Key word.Else ∷ Mark sign.OpenBrace ∷ statements_written names b (Mark sign.CloseBrace ∷ Mark sign.CloseBrace ∷ others))) in
-      let two = statements_deep a names (Mark sign.CloseBrace ∷ Key word.Else ∷ Mark sign.OpenBrace ∷ statements_written names b (Mark sign.CloseBrace ∷ Mark sign.CloseBrace ∷ others)) in
+      let two = statements_deep a names (Mark sign.CloseBrace ∷ Key word.Else ∷ Mark sign.OpenBrace ∷ statements_written names b
+      (Mark sign.CloseBrace ∷ Mark sign.CloseBrace ∷ others)) in
       let three = statements_deep b names (Mark sign.CloseBrace ∷ Mark sign.CloseBrace ∷ others) in
       omega arith
   statement_deep (setting l) names others =
@@ -150,13 +152,15 @@ mutual
   statement_deep (choice c a b) names others =
       let one = condition_longer names c (Mark sign.OpenBrace ∷ statements_written names a (Mark sign.CloseBrace
       ∷ Key word.Else ∷ Mark sign.OpenBrace ∷ statements_written names b (Mark sign.CloseBrace ∷ others))) in
-      let two = statements_deep a names (Mark sign.CloseBrace ∷ Key word.Else ∷ Mark sign.OpenBrace ∷ statements_written names b (Mark sign.CloseBrace ∷ others)) in
+      let two = statements_deep a names (Mark sign.CloseBrace ∷ Key word.Else ∷ Mark sign.OpenBrace ∷ statements_written names b
+      (Mark sign.CloseBrace ∷ others)) in
       let three = statements_deep b names (Mark sign.CloseBrace ∷ others) in
       omega arith
   statement_deep (set f) names others = omega arith
   statement_deep (clear f) names others = omega arith
   statement_deep (turns n a b) names others =
-      let two = statements_deep a names (Mark sign.CloseBrace ∷ Key word.Else ∷ Mark sign.OpenBrace ∷ statements_written names b (Mark sign.CloseBrace ∷ others)) in
+      let two = statements_deep a names (Mark sign.CloseBrace ∷ Key word.Else ∷ Mark sign.OpenBrace ∷ statements_written names b
+      (Mark sign.CloseBrace ∷ others)) in
       let three = statements_deep b names (Mark sign.CloseBrace ∷ others) in
       omega arith
   statement_deep break names others = omega arith
@@ -169,7 +173,8 @@ test_none : (t : Bool) (k : ℕ) (later : Option ℕ) → cond t (Some k) later 
 test_none true k later e = absurd cc
 test_none false k later e = (refl, e)
 
-none_in_front : (k : ℕ) (name : List ℕ) (xs ys : List (List ℕ)) → place_from k name (xs ++ ys) ≡ None → (place_from k name xs ≡ None) × (place_of name ys ≡ None)
+none_in_front : (k : ℕ) (name : List ℕ) (xs ys : List (List ℕ)) → place_from k name (xs ++ ys) ≡ None
+    → (place_from k name xs ≡ None) × (place_of name ys ≡ None)
 unfolding place_from
 none_in_front k name [] ys e = (refl, none_from k 0 name ys e)
 none_in_front k name (x ∷ xs) ys e =
@@ -180,7 +185,8 @@ none_in_front k name (x ∷ xs) ys e =
 is_none_true : {A : Type 0} (o : Option A) → o ≡ None → is_none o ≡ true
 is_none_true o e = rw e refl
 
-new_name : (earlier names : List (List ℕ)) (limit : ℕ) (n : List ℕ) → place_of n (earlier ++ names) ≡ None → length n ≤ max_name → length names < limit → name_is_new earlier names limit n ≡ true
+new_name : (earlier names : List (List ℕ)) (limit : ℕ) (n : List ℕ) → place_of n (earlier ++ names) ≡ None → length n ≤ max_name → length names < limit
+    → name_is_new earlier names limit n ≡ true
 new_name earlier names limit n e short lt =
     let p = none_in_front 0 n earlier names e in
     both_true _ _ (both_true _ _ (both_true _ _ (is_none_true _ p.0) (is_none_true _ p.1)) (lt-ltb (length names) limit lt)) (le-leb (length n) max_name short)
@@ -191,19 +197,22 @@ Follows w [] = Unit {0}
 Follows w (Key k ∷ ts) = may_follow w (Key k ∷ ts) ≡ true
 Follows w ts = ⊥
 
-end-again : (w : Bool) (earlier names : List (List ℕ)) (limit : ℕ) (others : List Token) → Follows w others → 0 < length names → read_names w earlier names limit others ≡ Some (names, others)
+end-again : (w : Bool) (earlier names : List (List ℕ)) (limit : ℕ) (others : List Token) → Follows w others → 0 < length names
+    → read_names w earlier names limit others ≡ Some (names, others)
 end-again w earlier names limit [] f some = test_is _ _ _ (both_true _ _ (lt-ltb 0 (length names) some) refl) refl
 end-again w earlier names limit (Key k ∷ ts) f some = test_is _ _ _ (both_true _ _ (lt-ltb 0 (length names) some) f) refl
 end-again w earlier names limit ts f some = absurd f
 
-names-again : (later : List (List ℕ)) (w : Bool) (earlier names : List (List ℕ)) (limit : ℕ) (others : List Token) → AreNew (earlier ++ names) later → length names + length later ≤ limit → 0 < length names + length later → Follows w others
+names-again : (later : List (List ℕ)) (w : Bool) (earlier names : List (List ℕ)) (limit : ℕ) (others : List Token) → AreNew (earlier ++ names) later
+    → length names + length later ≤ limit → 0 < length names + length later → Follows w others
     → read_names w earlier names limit (names_written later others) ≡ Some (names ++ later, others)
 names-again [] w earlier names limit others new few some f =
     end-again w earlier names limit others f (omega arith) ∙ ap (λ (ns : List (List ℕ)). Some (ns, others)) (sym (append-nil names))
 names-again (n ∷ ns) w earlier names limit others new few some f =
     let grown : length (names ++ n ∷ []) ≡ length names + 1 = length-append names (n ∷ []) in
     test_is _ _ _ (new_name earlier names limit n new.0 new.1 (omega arith))
-    (names-again ns w earlier (names ++ n ∷ []) limit others (subst (λ (before : List (List ℕ)). AreNew before ns) (append_assoc earlier names (n ∷ [])) new.2) (omega arith) (omega arith) f
+    (names-again ns w earlier (names ++ n ∷ []) limit others (subst (λ (before : List (List ℕ)). AreNew before ns) (append_assoc earlier names (n ∷ [])) new.2)
+    (omega arith) (omega arith) f
     ∙ ap (λ (all : List (List ℕ)). Some (all, others)) (append_assoc names (n ∷ []) ns))
 
 -- WHAT STATEMENTS BEGIN WITH
@@ -237,16 +246,20 @@ rows_open names (first s rest) = statement_opens names s (statements_written nam
 
 -- DECLARED NAMES
 
-nums-again : (numbers flags : List (List ℕ)) (ts : List Token) → Opens ts → AreNew flags numbers → length numbers ≤ max_numbers → read_nums flags (list_written word.Nums numbers ts) ≡ Some (numbers, ts)
+nums-again : (numbers flags : List (List ℕ)) (ts : List Token) → Opens ts → AreNew flags numbers → length numbers ≤ max_numbers
+    → read_nums flags (list_written word.Nums numbers ts) ≡ Some (numbers, ts)
 nums-again [] flags ts opens new few = opens.no_nums flags
 nums-again (n ∷ ns) flags ts opens new few =
-    names-again (n ∷ ns) false flags [] max_numbers ts (subst (λ (before : List (List ℕ)). AreNew before (n ∷ ns)) (sym (append-nil flags)) new) (omega arith) (omega arith) (opens.follows false)
+    names-again (n ∷ ns) false flags [] max_numbers ts (subst (λ (before : List (List ℕ)). AreNew before (n ∷ ns)) (sym (append-nil flags)) new) (omega arith)
+    (omega arith) (opens.follows false)
 
-nums_follow : (numbers : List (List ℕ)) (ts : List Token) → Opens ts → Follows true (list_written word.Nums numbers ts) × (read_flags (list_written word.Nums numbers ts) ≡ Some ([], list_written word.Nums numbers ts))
+nums_follow : (numbers : List (List ℕ)) (ts : List Token) → Opens ts
+    → Follows true (list_written word.Nums numbers ts) × (read_flags (list_written word.Nums numbers ts) ≡ Some ([], list_written word.Nums numbers ts))
 nums_follow [] ts opens = (opens.follows true, opens.no_flags)
 nums_follow (n ∷ ns) ts opens = (refl, refl)
 
-flags-again : (flags : List (List ℕ)) (ts : List Token) → Follows true ts × (read_flags ts ≡ Some ([], ts)) → AreNew [] flags → length flags ≤ max_flags → read_flags (list_written word.Flags flags ts) ≡ Some (flags, ts)
+flags-again : (flags : List (List ℕ)) (ts : List Token) → Follows true ts × (read_flags ts ≡ Some ([], ts)) → AreNew [] flags → length flags ≤ max_flags
+    → read_flags (list_written word.Flags flags ts) ≡ Some (flags, ts)
 flags-again [] ts opens new few = opens.1
 flags-again (n ∷ ns) ts opens new few = names-again (n ∷ ns) true [] [] max_flags ts new (omega arith) (omega arith) opens.0
 
@@ -273,12 +286,14 @@ list_longer : (k : Keyword) (ns : List (List ℕ)) (ts : List Token) → length 
 list_longer k [] ts = omega arith
 list_longer k (n ∷ ns) ts = let rest = names_longer (n ∷ ns) ts in omega arith
 
-body-again : (names : Declared) (body : Statements) → ScriptFits names body → statements_rank body ≤ max_bytes → read_body names (statements_written names body []) ≡ Some (names, body)
+body-again : (names : Declared) (body : Statements) → ScriptFits names body → statements_rank body ≤ max_bytes
+    → read_body names (statements_written names body []) ≡ Some (names, body)
 body-again names body fits rank =
     bind_is _ _ _ _ (statements-again body max_bytes names start fits.names_fit fits.statements_fit rank [] 0 tt (omega (arith, fits.few))) (rw fits.ends refl)
 
 -- what is written of a script is read again
-pub script-again : (names : Declared) (body : Statements) → ScriptFits names body → length (script_written names body) ≤ max_bytes → read_script (script_written names body) ≡ Some (names, body)
+pub script-again : (names : Declared) (body : Statements) → ScriptFits names body → length (script_written names body) ≤ max_bytes
+    → read_script (script_written names body) ≡ Some (names, body)
 unfolding read_script
 script-again names body fits small =
     let rows = statements_written names body [] in

@@ -27,7 +27,8 @@ alone : (k : Kind) (p : Place) → PlaceAsks k p → Asking k (p ∷ [])
 alone k p is = All-cons (PlaceAsks k) p [] is (none_asks k)
 
 mutual
-  statements_ask : (names : Declared) (depth : Depth) (b : Statements) → StatementsFit names depth b → (at : ℕ) (next brk : Target) (most : List ℕ) → Asking names.kind (points_of_statements b at next brk most)
+  statements_ask : (names : Declared) (depth : Depth) (b : Statements) → StatementsFit names depth b → (at : ℕ) (next brk : Target) (most : List ℕ)
+      → Asking names.kind (points_of_statements b at next brk most)
   statements_ask names depth nothing fits at next brk most = none_asks names.kind
   statements_ask names depth (first s rest) fits at next brk most =
       let mid = at + statement_count s in
@@ -35,7 +36,8 @@ mutual
       (statement_asks names depth s fits.0 at (entry rest mid next) brk most)
       (statements_ask names depth rest fits.1 mid next brk most)
 
-  ways_ask : (names : Declared) (depth : Depth) (order : Option Order) (w : Ways) → WaysFit names depth order w → (at : ℕ) (next brk : Target) (most : List ℕ) → Asking names.kind (points_of_ways w at next brk most)
+  ways_ask : (names : Declared) (depth : Depth) (order : Option Order) (w : Ways) → WaysFit names depth order w → (at : ℕ) (next brk : Target) (most : List ℕ)
+      → Asking names.kind (points_of_ways w at next brk most)
   ways_ask names depth order (otherwise b) fits at next brk most = statements_ask names (deeper depth) b fits.1 at next brk most
   ways_ask names depth order (way gs b rest) fits at next brk most =
       let mid = at + statements_count b in
@@ -43,9 +45,11 @@ mutual
       (statements_ask names (deeper depth) b fits.2 at next brk most)
       (ways_ask names depth order rest fits.3 mid next brk most)
 
-  statement_asks : (names : Declared) (depth : Depth) (s : Statement) → StatementFits names depth s → (at : ℕ) (next brk : Target) (most : List ℕ) → Asking names.kind (points_of_statement s at next brk most)
+  statement_asks : (names : Declared) (depth : Depth) (s : Statement) → StatementFits names depth s → (at : ℕ) (next brk : Target) (most : List ℕ)
+      → Asking names.kind (points_of_statement s at next brk most)
   statement_asks names depth (send c ways) fits at next brk most =
-      All-cons (PlaceAsks names.kind) (place (sends c (forks ways (at + 1) next) (other_of ways (at + 1) next)) most) (points_of_ways ways (at + 1) next brk most)
+      All-cons (PlaceAsks names.kind) (place (sends c (forks ways (at + 1) next) (other_of ways (at + 1) next)) most)
+      (points_of_ways ways (at + 1) next brk most)
       (command_asks names c fits.0) (ways_ask names (deeper depth) (order_of names.kind c.ask) ways fits.2 (at + 1) next brk most)
   statement_asks names depth (phase p a b) fits at next brk most =
       let mid = at + 1 + statements_count a in

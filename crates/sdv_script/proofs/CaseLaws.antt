@@ -34,7 +34,8 @@ ahead_more cs c (Some w) = ap (λ (all : Ways). Some (all, w.1)) (before_more cs
 pub before_last : (front cs : List Case) (c : Case) (others : Ways) → cs ≡ front ++ option_to_list (Some c)
     → before (map guarded_of front) (way c.guards.items (statements_of (box_value c.block)) others) ≡ before (map guarded_of cs) others
 before_last front cs c others e =
-    sym (ap (λ (ds : List Case). before (map guarded_of ds) others) e ∙ ap (λ (ds : List Guarded). before ds others) (map-append guarded_of front (c ∷ [])) ∙ before_more (map guarded_of front) (guarded_of c) others)
+    sym (ap (λ (ds : List Case). before (map guarded_of ds) others) e ∙ ap (λ (ds : List Guarded). before ds others) (map-append guarded_of front (c ∷ []))
+    ∙ before_more (map guarded_of front) (guarded_of c) others)
 
 else_stands : (blocks : Blocks) (ways : WaysOf) (depth : Depth) (order : Option Order) (ts rest : List Token) (begun : ℕ) → after_else ts ≡ Some rest
     → more_ways blocks ways depth order ts begun ≡ last_way blocks depth (progress_to rest begun)
@@ -47,12 +48,14 @@ no_else blocks ways depth order (Key word.Else ∷ ts) begun e = absurd (cc)
 no_else blocks ways depth order ts begun e = refl
 
 -- the last case is read
-pub ways_end : (n m : ℕ) (names : Declared) (depth : Depth) (order : Option Order) (at : Progress) (rest : List Token) → n ≡ suc m → after_else at.tokens ≡ Some rest
+pub ways_end : (n m : ℕ) (names : Declared) (depth : Depth) (order : Option Order) (at : Progress) (rest : List Token) → n ≡ suc m
+    → after_else at.tokens ≡ Some rest
     → read_ways n names depth order at ≡ last_way (read_statements m names) depth (progress_to rest at.begun)
 ways_end n m names depth order at rest same e =
     ways_more n m names depth order at same ∙ else_stands (read_statements m names) (read_ways m names) depth order at.tokens rest at.begun e
 
-case_read : (blocks : Blocks) (ways : WaysOf) (depth : Depth) (order : Option Order) (at after : Progress) (c : Guarded) → read_case blocks depth order at ≡ Some (c, after)
+case_read : (blocks : Blocks) (ways : WaysOf) (depth : Depth) (order : Option Order) (at after : Progress) (c : Guarded)
+    → read_case blocks depth order at ≡ Some (c, after)
     → next_way blocks ways depth order at ≡ (ways depth order after >>= λ w. Some (way c.0 c.1 w.0, w.1))
 case_read blocks ways depth order at after c e = rw e refl
 
@@ -62,12 +65,14 @@ pub ways_go_on : (n m : ℕ) (names : Declared) (depth : Depth) (order : Option 
 ways_go_on n m names depth order at same none =
     ways_more n m names depth order at same ∙ no_else (read_statements m names) (read_ways m names) depth order at.tokens at.begun none
 
-pub ahead_goes_on : (cs : List Guarded) (c : Guarded) (n m : ℕ) (names : Declared) (depth : Depth) (order : Option Order) (at after : Progress) → n ≡ suc m → after_else at.tokens ≡ None
+pub ahead_goes_on : (cs : List Guarded) (c : Guarded) (n m : ℕ) (names : Declared) (depth : Depth) (order : Option Order) (at after : Progress) → n ≡ suc m
+    → after_else at.tokens ≡ None
     → read_case (read_statements m names) depth order at ≡ Some (c, after)
     → ahead (cs ++ c ∷ []) (read_ways m names depth order after) ≡ ahead cs (read_ways n names depth order at)
 ahead_goes_on cs c n m names depth order at after same none e =
     ahead_more cs c (read_ways m names depth order after)
-    ∙ ap (λ (r : Reading Ways). ahead cs r) (sym (ways_go_on n m names depth order at same none ∙ case_read (read_statements m names) (read_ways m names) depth order at after c e))
+    ∙ ap (λ (r : Reading Ways). ahead cs r) (sym (ways_go_on n m names depth order at same none
+    ∙ case_read (read_statements m names) (read_ways m names) depth order at after c e))
 
 -- the last case is read, and stands behind those that were read
 pub ahead_ends : (cs : List Guarded) (n m : ℕ) (names : Declared) (depth : Depth) (order : Option Order) (at next after : Progress) (w all : Ways) → n ≡ suc m
@@ -91,7 +96,8 @@ last_fails (stop.Fault what) cs n m names depth order at next same e begun fails
     ∙ ap (λ (b : ℕ). last_way (read_statements m names) depth (progress_to next.tokens b)) (sym begun)
     ∙ fails)
 
-next_fails : (blocks : Blocks) (ways : WaysOf) (depth : Depth) (order : Option Order) (at : Progress) → read_case blocks depth order at ≡ None → next_way blocks ways depth order at ≡ None
+next_fails : (blocks : Blocks) (ways : WaysOf) (depth : Depth) (order : Option Order) (at : Progress) → read_case blocks depth order at ≡ None
+    → next_way blocks ways depth order at ≡ None
 next_fails blocks ways depth order at e = rw e refl
 
 -- nothing is read where another case is none
@@ -100,8 +106,10 @@ pub case_fails : (stopped : Stop) (cs : List Guarded) (n m : ℕ) (names : Decla
     → Fails stopped (ahead cs (read_ways n names depth order at))
 case_fails stop.Memory cs n m names depth order at same none fails = tt
 case_fails (stop.Fault what) cs n m names depth order at same none fails =
-    ap (λ (r : Reading Ways). ahead cs r) (ways_go_on n m names depth order at same none ∙ next_fails (read_statements m names) (read_ways m names) depth order at fails)
+    ap (λ (r : Reading Ways). ahead cs r) (ways_go_on n m names depth order at same none
+    ∙ next_fails (read_statements m names) (read_ways m names) depth order at fails)
 
 -- nothing is read where no level is left
-pub no_level_left : (cs : List Guarded) (n : ℕ) (names : Declared) (depth : Depth) (order : Option Order) (at : Progress) → n ≡ 0 → ahead cs (read_ways n names depth order at) ≡ None
+pub no_level_left : (cs : List Guarded) (n : ℕ) (names : Declared) (depth : Depth) (order : Option Order) (at : Progress) → n ≡ 0
+    → ahead cs (read_ways n names depth order at) ≡ None
 no_level_left cs n names depth order at e = ap (λ (r : Reading Ways). ahead cs r) (ways_none n names depth order at e)

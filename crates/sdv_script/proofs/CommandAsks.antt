@@ -55,11 +55,13 @@ module _ (c : Command) where
   sd_line n aim argument count order = line_of Sd sd_order sd_table n c.ask aim argument count order
 
   emmc_line : (n : ℕ) (aim : Aim) (argument count : ℕ) (order : Order)
-      → emmc_order (ask_with n aim argument count) ≡ Some order → c.ask ≡ ask_with c.ask.index aim argument count → eqb c.ask.index n ≡ true → IsAsked Emmc c.ask
+      → emmc_order (ask_with n aim argument count) ≡ Some order → c.ask ≡ ask_with c.ask.index aim argument count → eqb c.ask.index n ≡ true
+      → IsAsked Emmc c.ask
   emmc_line n aim argument count order = line_of Emmc emmc_order emmc_table n c.ask aim argument count order
 
   sd_bare : c.ask ≡ ask_with c.ask.index Plain 0 0
-      → ((c.ask.index == 0) || (c.ask.index == 2) || (c.ask.index == 3) || (c.ask.index == 8) || (c.ask.index == 12) || (c.ask.index == 16) || (c.ask.index == 38) || (c.ask.index == 51)) ≡ true
+      → ((c.ask.index == 0) || (c.ask.index == 2) || (c.ask.index == 3) || (c.ask.index == 8) || (c.ask.index == 12) || (c.ask.index == 16)
+      || (c.ask.index == 38) || (c.ask.index == 51)) ≡ true
       → IsAsked Sd c.ask
   sd_bare parts =
       or_cases _ _ (or_cases _ _ (or_cases _ _ (or_cases _ _ (or_cases _ _ (or_cases _ _ (or_cases _ _
@@ -73,7 +75,8 @@ module _ (c : Command) where
       (sd_line 51 Plain 0 0 orders.SendScr refl parts)
 
   emmc_bare : c.ask ≡ ask_with c.ask.index Plain 0 0
-      → ((c.ask.index == 0) || (c.ask.index == 1) || (c.ask.index == 2) || (c.ask.index == 3) || (c.ask.index == 8) || (c.ask.index == 12) || (c.ask.index == 16)) ≡ true
+      → ((c.ask.index == 0) || (c.ask.index == 1) || (c.ask.index == 2) || (c.ask.index == 3) || (c.ask.index == 8) || (c.ask.index == 12)
+      || (c.ask.index == 16)) ≡ true
       → IsAsked Emmc c.ask
   emmc_bare parts =
       or_cases _ _ (or_cases _ _ (or_cases _ _ (or_cases _ _ (or_cases _ _ (or_cases _ _

@@ -35,7 +35,8 @@ names = record { kind = Sd; flags = []; numbers = codes "x" ∷ [] }
 abbrev script : Statements
 script =
     first (send (record { ask = reset; address = None }) (otherwise nothing)) (
-    first (turns 2 (first (send (record { ask = interface_condition; address = None }) (way (Echo ∷ []) (first break nothing) (otherwise nothing))) nothing) (first (fault (codes "mute")) nothing)) (
+    first (turns 2 (first (send (record { ask = interface_condition; address = None }) (way (Echo ∷ []) (first break nothing) (otherwise nothing))) nothing)
+    (first (fault (codes "mute")) nothing)) (
     first (setting (record { target = 0; atom = atoms.Number 8; change = changes.Same })) (
     first (setting (record { target = 0; atom = atoms.Variable 0; change = changes.Minus 9 })) (
     first done nothing))))

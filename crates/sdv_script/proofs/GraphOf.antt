@@ -20,17 +20,21 @@ neither false b p q = q
 mutual
   no_break : (names : Declared) (d : Depth) (b : Statements) → d.loops ≡ 0 → StatementsFit names d b → statements_break b ≡ false
   no_break names d nothing z fit = refl
-  no_break names d (first s rest) z fit = neither (statement_breaks s) (statements_break rest) (no_break_first names d s z fit.0) (no_break names d rest z fit.1)
+  no_break names d (first s rest) z fit = neither (statement_breaks s) (statements_break rest) (no_break_first names d s z fit.0)
+      (no_break names d rest z fit.1)
 
   no_break_ways : (names : Declared) (d : Depth) (order : Option Order) (c : Ways) → d.loops ≡ 0 → WaysFit names d order c → ways_break c ≡ false
   no_break_ways names d order (otherwise b) z fit = no_break names (deeper d) b z fit.1
-  no_break_ways names d order (way guards b rest) z fit = neither (statements_break b) (ways_break rest) (no_break names (deeper d) b z fit.2) (no_break_ways names d order rest z fit.3)
+  no_break_ways names d order (way guards b rest) z fit =
+      neither (statements_break b) (ways_break rest) (no_break names (deeper d) b z fit.2) (no_break_ways names d order rest z fit.3)
 
   no_break_first : (names : Declared) (d : Depth) (s : Statement) → d.loops ≡ 0 → StatementFits names d s → statement_breaks s ≡ false
   no_break_first names d (send c ways) z fit = no_break_ways names (deeper d) (order_of names.kind c.ask) ways z fit.2
-  no_break_first names d (phase p a b) z fit = neither (statements_break a) (statements_break b) (no_break names (deeper (deeper d)) a z fit.2) (no_break names (deeper (deeper d)) b z fit.3)
+  no_break_first names d (phase p a b) z fit = neither (statements_break a) (statements_break b) (no_break names (deeper (deeper d)) a z fit.2)
+      (no_break names (deeper (deeper d)) b z fit.3)
   no_break_first names d (setting l) z fit = refl
-  no_break_first names d (choice c a b) z fit = neither (statements_break a) (statements_break b) (no_break names (deeper d) a z fit.2) (no_break names (deeper d) b z fit.3)
+  no_break_first names d (choice c a b) z fit = neither (statements_break a) (statements_break b) (no_break names (deeper d) a z fit.2)
+      (no_break names (deeper d) b z fit.3)
   no_break_first names d (set f) z fit = refl
   no_break_first names d (clear f) z fit = refl
   no_break_first names d (turns n a b) z fit = no_break names (deeper d) b z fit.5
@@ -43,7 +47,8 @@ inside names b fits = no_break names (record { braces = 0; loops = 0 }) b refl f
 
 -- a script can be run
 pub can_run : (names : Declared) (b : Statements) → ScriptFits names b → CanRun b
-can_run names b fits = record { inside = inside names b fits; ends = fits.ends; few = fits.few; moves = few_moves names b fits; limits = points_keep_limits names b fits }
+can_run names b fits =
+    record { inside = inside names b fits; ends = fits.ends; few = fits.few; moves = few_moves names b fits; limits = points_keep_limits names b fits }
 
 -- and suits its kind
 pub suits_kind : (names : Declared) (b : Statements) → ScriptFits names b → SuitsKind names.kind b

@@ -26,11 +26,13 @@ after_and-shortens : (ts : List Token) → IfSome (after_and ts) (λ rest. lengt
 after_and-shortens (Mark sign.And ∷ ts) = omega arith
 after_and-shortens ts = tt
 
-if_same : (f g : List Token → Read (List Guard)) (gs : List Guard) (ts : List Token) (o : Option (List Token)) → IfSome o (λ rest. f rest ≡ g rest) → more_if f gs ts o ≡ more_if g gs ts o
+if_same : (f g : List Token → Read (List Guard)) (gs : List Guard) (ts : List Token) (o : Option (List Token)) → IfSome o (λ rest. f rest ≡ g rest)
+    → more_if f gs ts o ≡ more_if g gs ts o
 if_same f g gs ts None same = refl
 if_same f g gs ts (Some rest) same = same
 
-more_same : (f g : List Token → Read (List Guard)) (gs : List Guard) (ts : List Token) → ((rest : List Token) → length rest < length ts → f rest ≡ g rest) → more_guards f gs ts ≡ more_guards g gs ts
+more_same : (f g : List Token → Read (List Guard)) (gs : List Guard) (ts : List Token) → ((rest : List Token) → length rest < length ts → f rest ≡ g rest)
+    → more_guards f gs ts ≡ more_guards g gs ts
 more_same f g gs ts same = if_same f g gs ts (after_and ts) (IfSome-map (after_and ts) _ _ (after_and-shortens ts) same)
 
 -- GUARDS
@@ -111,7 +113,8 @@ pub bind_same : {A B : Type 0} (o : Option A) (f g : A → Option B) (P : A → 
 bind_same None f g P p same = refl
 bind_same (Some a) f g P p same = same a p
 
-within_same : (m n : ℕ) (order : Option Order) (before : List Guard) (ts : List Token) → length ts ≤ m → length ts ≤ n → guards_within m order before ts ≡ guards_within n order before ts
+within_same : (m n : ℕ) (order : Option Order) (before : List Guard) (ts : List Token) → length ts ≤ m → length ts ≤ n
+    → guards_within m order before ts ≡ guards_within n order before ts
 unfolding guards_within
 within_same zero zero order before ts p q = refl
 within_same zero (suc n) order before [] p q = refl
@@ -124,7 +127,8 @@ within_same (suc m) (suc n) order before ts p q =
     more_same (guards_within m order (before ++ g.0 ∷ [])) (guards_within n order (before ++ g.0 ∷ [])) (before ++ g.0 ∷ []) g.1
     (λ rest lt. within_same m n order (before ++ g.0 ∷ []) rest (omega arith) (omega arith)))
 
-first_within : (n : ℕ) (order : Option Order) (before : List Guard) (ts : List Token) → length ts ≤ suc n → guards_within (suc n) order before ts ≡ guards_by (read_guards order) before (read_guard order ts)
+first_within : (n : ℕ) (order : Option Order) (before : List Guard) (ts : List Token) → length ts ≤ suc n
+    → guards_within (suc n) order before ts ≡ guards_by (read_guards order) before (read_guard order ts)
 unfolding guards_within read_guards
 first_within n order before ts le =
     bind_same (read_guard order ts) _ _ _ (read_guard-took order ts) (λ g took.
@@ -133,26 +137,32 @@ first_within n order before ts le =
     (λ rest lt. within_same n (length rest) order (before ++ g.0 ∷ []) rest (omega arith) (omega arith)))
 
 -- the first guard, and those after it
-pub read_guards-is : (order : Option Order) (before : List Guard) (ts : List Token) → read_guards order before ts ≡ guards_by (read_guards order) before (read_guard order ts)
+pub read_guards-is : (order : Option Order) (before : List Guard) (ts : List Token)
+    → read_guards order before ts ≡ guards_by (read_guards order) before (read_guard order ts)
 unfolding read_guards
-read_guards-is order before ts = within_same (length ts) (suc (length ts)) order before ts (omega arith) (omega arith) ∙ first_within (length ts) order before ts (omega arith)
+read_guards-is order before ts = within_same (length ts) (suc (length ts)) order before ts (omega arith) (omega arith)
+    ∙ first_within (length ts) order before ts (omega arith)
 
 -- FOR THE LOOP that reads guards
 
-pub guards_go_on : (order : Option Order) (before : List Guard) (ts : List Token) (g : Guard) (after rest : List Token) → read_guard order ts ≡ Some (g, after) → after_and after ≡ Some rest → read_guards order (before ++ g ∷ []) rest ≡ read_guards order before ts
+pub guards_go_on : (order : Option Order) (before : List Guard) (ts : List Token) (g : Guard) (after rest : List Token) → read_guard order ts ≡ Some (g, after)
+    → after_and after ≡ Some rest → read_guards order (before ++ g ∷ []) rest ≡ read_guards order before ts
 guards_go_on order before ts g after rest e f = sym (read_guards-is order before ts ∙ rw (e, f) refl)
 
-pub guards_shrink : (order : Option Order) (ts : List Token) (g : Guard) (after rest : List Token) → read_guard order ts ≡ Some (g, after) → after_and after ≡ Some rest → length rest < length ts
+pub guards_shrink : (order : Option Order) (ts : List Token) (g : Guard) (after rest : List Token) → read_guard order ts ≡ Some (g, after)
+    → after_and after ≡ Some rest → length rest < length ts
 guards_shrink order ts g after rest e f =
     let took : GuardTook order ts (g, after) = subst (λ (o : Read Guard). IfSome o (GuardTook order ts)) e (read_guard-took order ts) in
     let less = took_shortens order ts (g, after) took in
     let one : length rest < length after = subst (λ (o : Option (List Token)). IfSome o (λ r. length r < length after)) f (after_and-shortens after) in
     omega arith
 
-pub guards_end : (order : Option Order) (before : List Guard) (ts : List Token) (g : Guard) (after : List Token) → read_guard order ts ≡ Some (g, after) → after_and after ≡ None → read_guards order before ts ≡ Some (before ++ g ∷ [], after)
+pub guards_end : (order : Option Order) (before : List Guard) (ts : List Token) (g : Guard) (after : List Token) → read_guard order ts ≡ Some (g, after)
+    → after_and after ≡ None → read_guards order before ts ≡ Some (before ++ g ∷ [], after)
 guards_end order before ts g after e f = read_guards-is order before ts ∙ rw (e, f) refl
 
-pub guards_fail : (e : Stop) (order : Option Order) (before : List Guard) (ts : List Token) → Fails e (read_guard order ts) → Fails e (read_guards order before ts)
+pub guards_fail : (e : Stop) (order : Option Order) (before : List Guard) (ts : List Token) → Fails e (read_guard order ts)
+    → Fails e (read_guards order before ts)
 guards_fail stop.Memory order before ts h = tt
 guards_fail (stop.Fault what) order before ts h = read_guards-is order before ts ∙ rw h refl
 
@@ -167,30 +177,37 @@ some_of f o a e = rw e refl
 abbrev pub GuardsTook : Option Order → List Guard → List Token → List Guard × List Token → Type 0
 GuardsTook order before ts x = (later : List Guard) × (x.0 ≡ before ++ later) × (ts ≡ guards_written later x.1) × GuardsFit order later
 
-one_guard : (order : Option Order) (before : List Guard) (ts : List Token) (g : Guard × List Token) → GuardTook order ts g → GuardsTook order before ts (before ++ g.0 ∷ [], g.1)
+one_guard : (order : Option Order) (before : List Guard) (ts : List Token) (g : Guard × List Token) → GuardTook order ts g
+    → GuardsTook order before ts (before ++ g.0 ∷ [], g.1)
 one_guard order before ts g took = (g.0 ∷ [], refl, took.parts, took.fits)
 
 after_and-took : (ts : List Token) → IfSome (after_and ts) (λ r. ts ≡ Mark sign.And ∷ r)
 after_and-took (Mark sign.And ∷ ts) = refl
 after_and-took ts = tt
 
-several_guards : (order : Option Order) (before : List Guard) (ts r : List Token) (g : Guard × List Token) (x : List Guard × List Token) → GuardTook order ts g → g.1 ≡ Mark sign.And ∷ r → GuardsTook order (before ++ g.0 ∷ []) r x → GuardsTook order before ts x
+several_guards : (order : Option Order) (before : List Guard) (ts r : List Token) (g : Guard × List Token) (x : List Guard × List Token) → GuardTook order ts g
+    → g.1 ≡ Mark sign.And ∷ r → GuardsTook order (before ++ g.0 ∷ []) r x → GuardsTook order before ts x
 several_guards order before ts r g x took e ([], same, parts, fits) = absurd fits
 several_guards order before ts r g x took e (h ∷ hs, same, parts, fits) =
     (g.0 ∷ h ∷ hs, same ∙ append_assoc before (g.0 ∷ []) (h ∷ hs), rw (took.parts, e, parts) refl, (took.fits, fits))
 
-guards_within-took : (n : ℕ) (order : Option Order) (before : List Guard) (ts : List Token) → IfSome (guards_within n order before ts) (GuardsTook order before ts)
+guards_within-took : (n : ℕ) (order : Option Order) (before : List Guard) (ts : List Token)
+    → IfSome (guards_within n order before ts) (GuardsTook order before ts)
 unfolding guards_within
 guards_within-took zero order before ts = tt
 guards_within-took (suc n) order before ts =
     IfSome-bind (read_guard order ts) _ _ _ (read_guard-took order ts) (λ g took.
-    more_took (guards_within n order (before ++ g.0 ∷ [])) order before ts g took (after_and g.1) (after_and-took g.1) (guards_within-took n order (before ++ g.0 ∷ [])))
+    more_took (guards_within n order (before ++ g.0 ∷ [])) order before ts g took (after_and g.1) (after_and-took g.1)
+    (guards_within-took n order (before ++ g.0 ∷ [])))
   where
-    more_took : (further : List Token → Read (List Guard)) (order : Option Order) (before : List Guard) (ts : List Token) (g : Guard × List Token) → GuardTook order ts g → (o : Option (List Token)) → IfSome o (λ r. g.1 ≡ Mark sign.And ∷ r)
-        → ((rest : List Token) → IfSome (further rest) (GuardsTook order (before ++ g.0 ∷ []) rest)) → IfSome (more_if further (before ++ g.0 ∷ []) g.1 o) (GuardsTook order before ts)
+    more_took : (further : List Token → Read (List Guard)) (order : Option Order) (before : List Guard) (ts : List Token) (g : Guard × List Token)
+        → GuardTook order ts g → (o : Option (List Token)) → IfSome o (λ r. g.1 ≡ Mark sign.And ∷ r)
+        → ((rest : List Token) → IfSome (further rest) (GuardsTook order (before ++ g.0 ∷ []) rest))
+        → IfSome (more_if further (before ++ g.0 ∷ []) g.1 o) (GuardsTook order before ts)
     more_took further order before ts g took None e take = one_guard order before ts g took
     more_took further order before ts g took (Some r) e take = IfSome-map (further r) _ _ (take r) (λ x p. several_guards order before ts r g x took e p)
 
 pub read_guards-took : (order : Option Order) (ts : List Token) → IfSome (read_guards order [] ts) (λ x. (ts ≡ guards_written x.0 x.1) × GuardsFit order x.0)
 unfolding read_guards
-read_guards-took order ts = IfSome-map (guards_within (length ts) order [] ts) _ _ (guards_within-took (length ts) order [] ts) (λ x p. (rw p.1 p.2, rw p.1 p.3))
+read_guards-took order ts = IfSome-map (guards_within (length ts) order [] ts) _ _ (guards_within-took (length ts) order [] ts)
+    (λ x p. (rw p.1 p.2, rw p.1 p.3))

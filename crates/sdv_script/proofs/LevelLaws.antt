@@ -5,7 +5,8 @@ use Rattle.sdv_script.specs.declared.depth.Depth.{Depth}
 use Rattle.sdv_graph.specs.Tree.{Declared}
 use Rattle.sdv_script.specs.Reading.{Progress, read_statements, read_ways, more_statements, more_ways}
 
-pub statements_more : (n m : ℕ) (names : Declared) (depth : Depth) (at : Progress) → n ≡ suc m → read_statements n names depth at ≡ more_statements (read_statements m names) (read_ways m names) names depth at
+pub statements_more : (n m : ℕ) (names : Declared) (depth : Depth) (at : Progress) → n ≡ suc m
+    → read_statements n names depth at ≡ more_statements (read_statements m names) (read_ways m names) names depth at
 unfolding read_statements
 statements_more n m names depth at e = rw e refl
 
@@ -13,7 +14,8 @@ pub statements_none : (n : ℕ) (names : Declared) (depth : Depth) (at : Progres
 unfolding read_statements
 statements_none n names depth at e = rw e refl
 
-pub ways_more : (n m : ℕ) (names : Declared) (depth : Depth) (order : Option Order) (at : Progress) → n ≡ suc m → read_ways n names depth order at ≡ more_ways (read_statements m names) (read_ways m names) depth order at.tokens at.begun
+pub ways_more : (n m : ℕ) (names : Declared) (depth : Depth) (order : Option Order) (at : Progress) → n ≡ suc m
+    → read_ways n names depth order at ≡ more_ways (read_statements m names) (read_ways m names) depth order at.tokens at.begun
 unfolding read_ways
 ways_more n m names depth order at e = rw e refl
 

@@ -10,6 +10,7 @@ pub mod NameLaws
 mod OneGraph
 pub mod PieceLaws
 pub mod PrintedLaws
+pub mod RowLaws
 pub mod WhereRead
 pub mod Written
 pub mod ScriptLaws

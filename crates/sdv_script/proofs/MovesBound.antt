@@ -44,24 +44,36 @@ unfolding power
 loop_bound n a b m k r le x y = of_loop n a b m k (power r) le (power_pos r) x y
 
 mutual
-  statements_bound : (names : Declared) (d : Depth) (r : ℕ) (b : Statements) → d.loops + r ≡ 4 → StatementsFit names d b → statements_moves b ≤ statements_count b * power r
+  statements_bound : (names : Declared) (d : Depth) (r : ℕ) (b : Statements) → d.loops + r ≡ 4 → StatementsFit names d b
+      → statements_moves b ≤ statements_count b * power r
   statements_bound names d r nothing z fit = omega arith
-  statements_bound names d r (first s rest) z fit = both (statement_moves s) (statements_moves rest) (statement_count s) (statements_count rest) (power r) (statement_bound names d r s z fit.0) (statements_bound names d r rest z fit.1)
+  statements_bound names d r (first s rest) z fit = both (statement_moves s) (statements_moves rest) (statement_count s) (statements_count rest) (power r)
+      (statement_bound names d r s z fit.0) (statements_bound names d r rest z fit.1)
 
-  ways_bound : (names : Declared) (d : Depth) (r : ℕ) (order : Option Order) (c : Ways) → d.loops + r ≡ 4 → WaysFit names d order c → ways_moves c ≤ ways_count c * power r
+  ways_bound : (names : Declared) (d : Depth) (r : ℕ) (order : Option Order) (c : Ways) → d.loops + r ≡ 4 → WaysFit names d order c
+      → ways_moves c ≤ ways_count c * power r
   ways_bound names d r order (otherwise b) z fit = statements_bound names (deeper d) r b z fit.1
-  ways_bound names d r order (way guards b rest) z fit = both (statements_moves b) (ways_moves rest) (statements_count b) (ways_count rest) (power r) (statements_bound names (deeper d) r b z fit.2) (ways_bound names d r order rest z fit.3)
+  ways_bound names d r order (way guards b rest) z fit =
+      both (statements_moves b) (ways_moves rest) (statements_count b) (ways_count rest) (power r) (statements_bound names (deeper d) r b z fit.2)
+      (ways_bound names d r order rest z fit.3)
 
-  statement_bound : (names : Declared) (d : Depth) (r : ℕ) (s : Statement) → d.loops + r ≡ 4 → StatementFits names d s → statement_moves s ≤ statement_count s * power r
-  statement_bound names d r (send c ways) z fit = with_one (ways_moves ways) (ways_count ways) (power r) (power_pos r) (ways_bound names (deeper d) r (order_of names.kind c.ask) ways z fit.2)
-  statement_bound names d r (phase p a b) z fit = with_one (statements_moves a + statements_moves b) (statements_count a + statements_count b) (power r) (power_pos r) (both (statements_moves a) (statements_moves b) (statements_count a) (statements_count b) (power r) (statements_bound names (deeper (deeper d)) r a z fit.2) (statements_bound names (deeper (deeper d)) r b z fit.3))
+  statement_bound : (names : Declared) (d : Depth) (r : ℕ) (s : Statement) → d.loops + r ≡ 4 → StatementFits names d s
+      → statement_moves s ≤ statement_count s * power r
+  statement_bound names d r (send c ways) z fit = with_one (ways_moves ways) (ways_count ways) (power r) (power_pos r)
+      (ways_bound names (deeper d) r (order_of names.kind c.ask) ways z fit.2)
+  statement_bound names d r (phase p a b) z fit = with_one (statements_moves a + statements_moves b) (statements_count a + statements_count b) (power r)
+      (power_pos r) (both (statements_moves a) (statements_moves b) (statements_count a) (statements_count b) (power r)
+      (statements_bound names (deeper (deeper d)) r a z fit.2) (statements_bound names (deeper (deeper d)) r b z fit.3))
   statement_bound names d r (setting l) z fit = alone (power r) (power_pos r)
-  statement_bound names d r (choice c a b) z fit = with_one (statements_moves a + statements_moves b) (statements_count a + statements_count b) (power r) (power_pos r) (both (statements_moves a) (statements_moves b) (statements_count a) (statements_count b) (power r) (statements_bound names (deeper d) r a z fit.2) (statements_bound names (deeper d) r b z fit.3))
+  statement_bound names d r (choice c a b) z fit = with_one (statements_moves a + statements_moves b) (statements_count a + statements_count b) (power r)
+      (power_pos r) (both (statements_moves a) (statements_moves b) (statements_count a) (statements_count b) (power r)
+      (statements_bound names (deeper d) r a z fit.2) (statements_bound names (deeper d) r b z fit.3))
   statement_bound names d r (set f) z fit = alone (power r) (power_pos r)
   statement_bound names d r (clear f) z fit = alone (power r) (power_pos r)
   statement_bound names d zero (turns n a b) z fit = absurd (omega (arith, z, fit.2))
   statement_bound names d (suc r) (turns n a b) z fit =
-      loop_bound n (statements_moves a) (statements_moves b) (statements_count a) (statements_count b) r fit.1 (statements_bound names (deeper (in_loop d)) r a (omega (arith, z)) fit.4) (statements_bound names (deeper d) (suc r) b z fit.5)
+      loop_bound n (statements_moves a) (statements_moves b) (statements_count a) (statements_count b) r fit.1
+      (statements_bound names (deeper (in_loop d)) r a (omega (arith, z)) fit.4) (statements_bound names (deeper d) (suc r) b z fit.5)
   statement_bound names d r break z fit = alone (power r) (power_pos r)
   statement_bound names d r done z fit = alone (power r) (power_pos r)
   statement_bound names d r (fault name) z fit = alone (power r) (power_pos r)

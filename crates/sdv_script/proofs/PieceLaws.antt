@@ -50,6 +50,7 @@ piece_list-there (read.Mark s) piece others there = refl
 piece_list-there read.Stray piece others there = refl
 piece_list-there read.End piece others there = absurd there
 
-pub pieces_some : (t : Read) (text : List ℕ) → 0 < length text → IsThere t → piece_list t (take (first_found text).1 text) (pieces (drop (first_found text).1 text)) ≡ pieces_by pieces text
+pub pieces_some : (t : Read) (text : List ℕ) → 0 < length text → IsThere t
+    → piece_list t (take (first_found text).1 text) (pieces (drop (first_found text).1 text)) ≡ pieces_by pieces text
 pieces_some t [] lt there = absurd (omega arith)
 pieces_some t (b ∷ bs) lt there = piece_list-there t _ _ there

@@ -66,50 +66,67 @@ index_small names c fits =
     let asked = command_asks names c fits in
     subst (λ (n : ℕ). n < 64) (sym (of_ask names.kind c.ask asked.0 asked.1.line).index) (order_small asked.0)
 
-first_keeps : (node : Node) (most : List ℕ) (rest : List Place) → node_keeps_limits node ≡ true → length most ≤ max_loops → all_keep_limits rest ≡ true → all_keep_limits (place node most ∷ rest) ≡ true
+first_keeps : (node : Node) (most : List ℕ) (rest : List Place) → node_keeps_limits node ≡ true → length most ≤ max_loops → all_keep_limits rest ≡ true
+    → all_keep_limits (place node most ∷ rest) ≡ true
 first_keeps node most rest n m r =
-    both (keeps_limits (place node most)) (all_keep_limits rest) (both (node_keeps_limits node) (nat_le (length most) max_loops) n (le-leb (length most) max_loops m)) r
+    both (keeps_limits (place node most)) (all_keep_limits rest)
+    (both (node_keeps_limits node) (nat_le (length most) max_loops) n (le-leb (length most) max_loops m)) r
 
 module _ (names : Declared) (few : length names.flags ≤ max_flags) where
   mutual
-    statements_keep : (d : Depth) (b : Statements) (at : ℕ) (next brk : Target) (most : List ℕ) → d.loops ≤ max_loops → length most ≤ d.loops → StatementsFit names d b → all_keep_limits (points_of_statements b at next brk most) ≡ true
+    statements_keep : (d : Depth) (b : Statements) (at : ℕ) (next brk : Target) (most : List ℕ) → d.loops ≤ max_loops → length most ≤ d.loops
+        → StatementsFit names d b → all_keep_limits (points_of_statements b at next brk most) ≡ true
     statements_keep d nothing at next brk most l m fit = refl
     statements_keep d (first s rest) at next brk most l m fit =
         let mid = at + statement_count s in
         let to = entry rest mid next in
-        all_append (points_of_statement s at to brk most) (points_of_statements rest mid next brk most) (statement_keeps d s at to brk most l m fit.0) (statements_keep d rest mid next brk most l m fit.1)
+        all_append (points_of_statement s at to brk most) (points_of_statements rest mid next brk most) (statement_keeps d s at to brk most l m fit.0)
+        (statements_keep d rest mid next brk most l m fit.1)
 
-    ways_keep : (d : Depth) (order : Option Order) (c : Ways) (at : ℕ) (next brk : Target) (most : List ℕ) → d.loops ≤ max_loops → length most ≤ d.loops → WaysFit names d order c → all_keep_limits (points_of_ways c at next brk most) ≡ true
+    ways_keep : (d : Depth) (order : Option Order) (c : Ways) (at : ℕ) (next brk : Target) (most : List ℕ) → d.loops ≤ max_loops → length most ≤ d.loops
+        → WaysFit names d order c → all_keep_limits (points_of_ways c at next brk most) ≡ true
     ways_keep d order (otherwise b) at next brk most l m fit = statements_keep (deeper d) b at next brk most l m fit.1
     ways_keep d order (way guards b rest) at next brk most l m fit =
         let mid = at + statements_count b in
-        all_append (points_of_statements b at next brk most) (points_of_ways rest mid next brk most) (statements_keep (deeper d) b at next brk most l m fit.2) (ways_keep d order rest mid next brk most l m fit.3)
+        all_append (points_of_statements b at next brk most) (points_of_ways rest mid next brk most) (statements_keep (deeper d) b at next brk most l m fit.2)
+        (ways_keep d order rest mid next brk most l m fit.3)
 
-    statement_keeps : (d : Depth) (s : Statement) (at : ℕ) (next brk : Target) (most : List ℕ) → d.loops ≤ max_loops → length most ≤ d.loops → StatementFits names d s → all_keep_limits (points_of_statement s at next brk most) ≡ true
+    statement_keeps : (d : Depth) (s : Statement) (at : ℕ) (next brk : Target) (most : List ℕ) → d.loops ≤ max_loops → length most ≤ d.loops
+        → StatementFits names d s → all_keep_limits (points_of_statement s at next brk most) ≡ true
     statement_keeps d (send c ways) at next brk most l m fit =
-        first_keeps (sends c (forks ways (at + 1) next) (other_of ways (at + 1) next)) most (points_of_ways ways (at + 1) next brk most) (lt-ltb c.ask.index 64 (index_small names c fit.0)) (omega (arith, l, m)) (ways_keep (deeper d) (order_of names.kind c.ask) ways (at + 1) next brk most l m fit.2)
+        first_keeps (sends c (forks ways (at + 1) next) (other_of ways (at + 1) next)) most (points_of_ways ways (at + 1) next brk most)
+        (lt-ltb c.ask.index 64 (index_small names c fit.0)) (omega (arith, l, m))
+        (ways_keep (deeper d) (order_of names.kind c.ask) ways (at + 1) next brk most l m fit.2)
     statement_keeps d (phase p a b) at next brk most l m fit =
         let mid = at + 1 + statements_count a in
         let one = points_of_statements a (at + 1) next brk most in
         let two = points_of_statements b mid next brk most in
-        first_keeps (phases p (entry a (at + 1) next) (entry b mid next)) most (one ++ two) refl (omega (arith, l, m)) (all_append one two (statements_keep (deeper (deeper d)) a (at + 1) next brk most l m fit.2) (statements_keep (deeper (deeper d)) b mid next brk most l m fit.3))
+        first_keeps (phases p (entry a (at + 1) next) (entry b mid next)) most (one ++ two) refl (omega (arith, l, m))
+        (all_append one two (statements_keep (deeper (deeper d)) a (at + 1) next brk most l m fit.2)
+        (statements_keep (deeper (deeper d)) b mid next brk most l m fit.3))
     statement_keeps d (setting s) at next brk most l m fit = first_keeps (lets s next) most [] refl (omega (arith, l, m)) refl
     statement_keeps d (choice c a b) at next brk most l m fit =
         let mid = at + 1 + statements_count a in
         let one = points_of_statements a (at + 1) next brk most in
         let two = points_of_statements b mid next brk most in
-        first_keeps (tests c (entry a (at + 1) next) (entry b mid next)) most (one ++ two) refl (omega (arith, l, m)) (all_append one two (statements_keep (deeper d) a (at + 1) next brk most l m fit.2) (statements_keep (deeper d) b mid next brk most l m fit.3))
-    statement_keeps d (set f) at next brk most l m fit = first_keeps (flags f true next) most [] (lt-ltb f max_flags (omega (arith, fit, few))) (omega (arith, l, m)) refl
-    statement_keeps d (clear f) at next brk most l m fit = first_keeps (flags f false next) most [] (lt-ltb f max_flags (omega (arith, fit, few))) (omega (arith, l, m)) refl
+        first_keeps (tests c (entry a (at + 1) next) (entry b mid next)) most (one ++ two) refl (omega (arith, l, m))
+        (all_append one two (statements_keep (deeper d) a (at + 1) next brk most l m fit.2) (statements_keep (deeper d) b mid next brk most l m fit.3))
+    statement_keeps d (set f) at next brk most l m fit =
+        first_keeps (flags f true next) most [] (lt-ltb f max_flags (omega (arith, fit, few))) (omega (arith, l, m)) refl
+    statement_keeps d (clear f) at next brk most l m fit =
+        first_keeps (flags f false next) most [] (lt-ltb f max_flags (omega (arith, fit, few))) (omega (arith, l, m)) refl
     statement_keeps d (turns n a b) at next brk most l m fit =
         let mid = at + 1 + statements_count a in
         let inner = (n - 1) ∷ most in
         let one = points_of_statements a (at + 1) (again at) (outside next) inner in
         let two = points_of_statements b mid next brk most in
-        first_keeps (heads n (entry a (at + 1) (again at)) (outside (entry b mid next))) (n ∷ most) (one ++ two) refl (omega (arith, m, fit.2)) (all_append one two (statements_keep (deeper (in_loop d)) a (at + 1) (again at) (outside next) inner (omega (arith, fit.2)) (omega (arith, m)) fit.4) (statements_keep (deeper d) b mid next brk most l m fit.5))
+        first_keeps (heads n (entry a (at + 1) (again at)) (outside (entry b mid next))) (n ∷ most) (one ++ two) refl (omega (arith, m, fit.2))
+        (all_append one two (statements_keep (deeper (in_loop d)) a (at + 1) (again at) (outside next) inner (omega (arith, fit.2))
+        (omega (arith, m)) fit.4) (statements_keep (deeper d) b mid next brk most l m fit.5))
     statement_keeps d break at next brk most l m fit = first_keeps (jumps brk) most [] refl (omega (arith, l, m)) refl
     statement_keeps d done at next brk most l m fit = first_keeps (stops Finished) most [] refl (omega (arith, l, m)) refl
-    statement_keeps d (fault name) at next brk most l m fit = first_keeps (stops (Failed name)) most [] (le-leb (length name) max_name fit) (omega (arith, l, m)) refl
+    statement_keeps d (fault name) at next brk most l m fit =
+        first_keeps (stops (Failed name)) most [] (le-leb (length name) max_name fit) (omega (arith, l, m)) refl
 
 pub points_keep_limits : (names : Declared) (b : Statements) → ScriptFits names b → all_keep_limits (points_of b) ≡ true
 points_keep_limits names b fits =

@@ -37,7 +37,8 @@ guards_of order [] fit = absurd fit
 guards_of order (g ∷ []) fit = both (fits_order g order) true fit refl
 guards_of order (g ∷ h ∷ gs) fit = both (fits_order g order) (guards_suit order (h ∷ gs)) fit.0 (guards_of order (h ∷ gs) fit.1)
 
-forks_of : (names : Declared) (d : Depth) (order : Option Order) (c : Ways) (at : ℕ) (next : Target) → WaysFit names d order c → forks_suit order (forks c at next) ≡ true
+forks_of : (names : Declared) (d : Depth) (order : Option Order) (c : Ways) (at : ℕ) (next : Target) → WaysFit names d order c
+    → forks_suit order (forks c at next) ≡ true
 forks_of names d order (otherwise b) at next fit = refl
 forks_of names d order (way guards b rest) at next fit =
     both (guards_suit order guards) (forks_suit order (forks rest (at + statements_count b) next)) (guards_of order guards fit.0)
@@ -47,7 +48,8 @@ ext_csd_suits : (k : Kind) → has_ext_csd k ≡ true → atom_suits k atoms.Ext
 ext_csd_suits Sd has = absurd cc
 ext_csd_suits Emmc has = refl
 
-other_suits : (k : Kind) → ((n : ℕ) → atom_suits k (atoms.Number n) ≡ true) × ((x : ℕ) → atom_suits k (atoms.Variable x) ≡ true) × (atom_suits k atoms.CsdBlocks ≡ true)
+other_suits : (k : Kind) → ((n : ℕ) → atom_suits k (atoms.Number n) ≡ true) × ((x : ℕ) → atom_suits k (atoms.Variable x) ≡ true)
+    × (atom_suits k atoms.CsdBlocks ≡ true)
 other_suits Sd = (λ n. refl, λ x. refl, refl)
 other_suits Emmc = (λ n. refl, λ x. refl, refl)
 
@@ -59,34 +61,45 @@ atom_of names atoms.ExtBlocks fit = ext_csd_suits names.kind fit
 
 module _ (names : Declared) where
   mutual
-    statements_suit : (d : Depth) (b : Statements) (at : ℕ) (next brk : Target) (most : List ℕ) → StatementsFit names d b → all_suit names.kind (points_of_statements b at next brk most) ≡ true
+    statements_suit : (d : Depth) (b : Statements) (at : ℕ) (next brk : Target) (most : List ℕ) → StatementsFit names d b
+        → all_suit names.kind (points_of_statements b at next brk most) ≡ true
     statements_suit d nothing at next brk most fit = refl
     statements_suit d (first s rest) at next brk most fit =
         let mid = at + statement_count s in
         let to = entry rest mid next in
-        all_append names.kind (points_of_statement s at to brk most) (points_of_statements rest mid next brk most) (statement_suits d s at to brk most fit.0) (statements_suit d rest mid next brk most fit.1)
+        all_append names.kind (points_of_statement s at to brk most) (points_of_statements rest mid next brk most) (statement_suits d s at to brk most fit.0)
+        (statements_suit d rest mid next brk most fit.1)
 
-    ways_suit : (d : Depth) (order : Option Order) (c : Ways) (at : ℕ) (next brk : Target) (most : List ℕ) → WaysFit names d order c → all_suit names.kind (points_of_ways c at next brk most) ≡ true
+    ways_suit : (d : Depth) (order : Option Order) (c : Ways) (at : ℕ) (next brk : Target) (most : List ℕ) → WaysFit names d order c
+        → all_suit names.kind (points_of_ways c at next brk most) ≡ true
     ways_suit d order (otherwise b) at next brk most fit = statements_suit (deeper d) b at next brk most fit.1
     ways_suit d order (way guards b rest) at next brk most fit =
         let mid = at + statements_count b in
-        all_append names.kind (points_of_statements b at next brk most) (points_of_ways rest mid next brk most) (statements_suit (deeper d) b at next brk most fit.2) (ways_suit d order rest mid next brk most fit.3)
+        all_append names.kind (points_of_statements b at next brk most) (points_of_ways rest mid next brk most)
+        (statements_suit (deeper d) b at next brk most fit.2) (ways_suit d order rest mid next brk most fit.3)
 
-    statement_suits : (d : Depth) (s : Statement) (at : ℕ) (next brk : Target) (most : List ℕ) → StatementFits names d s → all_suit names.kind (points_of_statement s at next brk most) ≡ true
+    statement_suits : (d : Depth) (s : Statement) (at : ℕ) (next brk : Target) (most : List ℕ) → StatementFits names d s
+        → all_suit names.kind (points_of_statement s at next brk most) ≡ true
     statement_suits d (send c ways) at next brk most fit =
-        both (forks_suit (order_of names.kind c.ask) (forks ways (at + 1) next)) (all_suit names.kind (points_of_ways ways (at + 1) next brk most)) (forks_of names (deeper d) (order_of names.kind c.ask) ways (at + 1) next fit.2) (ways_suit (deeper d) (order_of names.kind c.ask) ways (at + 1) next brk most fit.2)
+        both (forks_suit (order_of names.kind c.ask) (forks ways (at + 1) next)) (all_suit names.kind (points_of_ways ways (at + 1) next brk most))
+        (forks_of names (deeper d) (order_of names.kind c.ask) ways (at + 1) next fit.2)
+        (ways_suit (deeper d) (order_of names.kind c.ask) ways (at + 1) next brk most fit.2)
     statement_suits d (phase p a b) at next brk most fit =
         let mid = at + 1 + statements_count a in
-        all_append names.kind (points_of_statements a (at + 1) next brk most) (points_of_statements b mid next brk most) (statements_suit (deeper (deeper d)) a (at + 1) next brk most fit.2) (statements_suit (deeper (deeper d)) b mid next brk most fit.3)
+        all_append names.kind (points_of_statements a (at + 1) next brk most) (points_of_statements b mid next brk most)
+        (statements_suit (deeper (deeper d)) a (at + 1) next brk most fit.2) (statements_suit (deeper (deeper d)) b mid next brk most fit.3)
     statement_suits d (setting l) at next brk most fit = both (atom_suits names.kind l.atom) true (atom_of names l.atom fit.1) refl
     statement_suits d (choice c a b) at next brk most fit =
         let mid = at + 1 + statements_count a in
-        all_append names.kind (points_of_statements a (at + 1) next brk most) (points_of_statements b mid next brk most) (statements_suit (deeper d) a (at + 1) next brk most fit.2) (statements_suit (deeper d) b mid next brk most fit.3)
+        all_append names.kind (points_of_statements a (at + 1) next brk most) (points_of_statements b mid next brk most)
+        (statements_suit (deeper d) a (at + 1) next brk most fit.2) (statements_suit (deeper d) b mid next brk most fit.3)
     statement_suits d (set f) at next brk most fit = refl
     statement_suits d (clear f) at next brk most fit = refl
     statement_suits d (turns n a b) at next brk most fit =
         let mid = at + 1 + statements_count a in
-        all_append names.kind (points_of_statements a (at + 1) (again at) (outside next) ((n - 1) ∷ most)) (points_of_statements b mid next brk most) (statements_suit (deeper (in_loop d)) a (at + 1) (again at) (outside next) ((n - 1) ∷ most) fit.4) (statements_suit (deeper d) b mid next brk most fit.5)
+        all_append names.kind (points_of_statements a (at + 1) (again at) (outside next) ((n - 1) ∷ most)) (points_of_statements b mid next brk most)
+        (statements_suit (deeper (in_loop d)) a (at + 1) (again at) (outside next) ((n - 1) ∷ most) fit.4)
+        (statements_suit (deeper d) b mid next brk most fit.5)
     statement_suits d break at next brk most fit = refl
     statement_suits d done at next brk most fit = refl
     statement_suits d (fault name) at next brk most fit = refl

@@ -51,7 +51,8 @@ piece_steady test read text others fails =
     = ap (λ (w : List ℕ). take_while test (w ++ 32 ∷ others)) (taken_is test text) ∙ run_ends test 32 others text fails in
     piece_is test read (take (run test text) text ++ 32 ∷ others) ∙ ap (λ (w : List ℕ). spelled read w) same ∙ sym (piece_is test read text)
 
-steady_if : (t : Bool) (f g : List ℕ → Found) (text others : List ℕ) → Steady f text others → Steady g text others → Steady (λ x. cond t (f x) (g x)) text others
+steady_if : (t : Bool) (f g : List ℕ → Found) (text others : List ℕ) → Steady f text others → Steady g text others
+    → Steady (λ x. cond t (f x) (g x)) text others
 steady_if true f g text others p q = p
 steady_if false f g text others p q = q
 
@@ -116,7 +117,8 @@ figure_or_sign b text = cond (is_digit b) (piece figure (run is_joined text) tex
 found_steady : (b : ℕ) (bs others : List ℕ) → Steady (found_at b) (b ∷ bs) others
 found_steady b bs others =
     steady_if (is_lower b) (λ t. piece word (run goes_on t) t) (figure_or_sign b) (b ∷ bs) others (piece_steady goes_on word (b ∷ bs) others refl) (
-    steady_if (is_digit b) (λ t. piece figure (run is_joined t) t) (sign_at b) (b ∷ bs) others (piece_steady is_joined figure (b ∷ bs) others refl) (sign_steady b bs others))
+    steady_if (is_digit b) (λ t. piece figure (run is_joined t) t) (sign_at b) (b ∷ bs) others (piece_steady is_joined figure (b ∷ bs) others refl)
+    (sign_steady b bs others))
 
 kept : (n b : ℕ) (bs others : List ℕ) → 1 ≤ n → take n (b ∷ bs) ++ others ≡ b ∷ (take (n - 1) bs ++ others)
 kept zero b bs others one = absurd (omega arith)
@@ -197,7 +199,8 @@ pieces_space text = pieces_is (32 ∷ text) ∙ ap (λ (t : List ℕ). pieces_by
 tokens_head : (b : ℕ) (bs : List ℕ) → gap_step false b ≡ None → tokens (b ∷ bs) ≡ (first_found (b ∷ bs)).0 ∷ tokens (drop (first_found (b ∷ bs)).1 (b ∷ bs))
 tokens_head b bs e = tokens_is (b ∷ bs) ∙ ap (λ (t : List ℕ). tokens_by tokens t) (gap_here b bs e)
 
-pieces_head : (b : ℕ) (bs : List ℕ) → gap_step false b ≡ None → pieces (b ∷ bs) ≡ take (first_found (b ∷ bs)).1 (b ∷ bs) ∷ pieces (drop (first_found (b ∷ bs)).1 (b ∷ bs))
+pieces_head : (b : ℕ) (bs : List ℕ) → gap_step false b ≡ None
+    → pieces (b ∷ bs) ≡ take (first_found (b ∷ bs)).1 (b ∷ bs) ∷ pieces (drop (first_found (b ∷ bs)).1 (b ∷ bs))
 pieces_head b bs e = pieces_is (b ∷ bs) ∙ ap (λ (t : List ℕ). pieces_by pieces t) (gap_here b bs e)
 
 -- a piece, a space and others
@@ -232,7 +235,8 @@ tokens_piece p others f is =
 pieces_piece : (p others : List ℕ) (f : Found) → Piece p others f → pieces (p ++ 32 ∷ others) ≡ p ∷ pieces others
 pieces_piece p others f is =
     let all = p ++ 32 ∷ others in
-    subst (λ (t : List ℕ). pieces t ≡ take (first_found t).1 t ∷ pieces (drop (first_found t).1 t)) (sym is.there.2) (pieces_head is.there.0 is.there.1 is.there.3)
+    subst (λ (t : List ℕ). pieces t ≡ take (first_found t).1 t ∷ pieces (drop (first_found t).1 t)) (sym is.there.2)
+    (pieces_head is.there.0 is.there.1 is.there.3)
     ∙ ap (λ (g : Found). take g.1 all ∷ pieces (drop g.1 all)) is.same
     ∙ ap (λ (t : List ℕ). take f.1 all ∷ pieces t) (piece_dropped p others f is)
     ∙ ap (λ (q : List ℕ). q ∷ pieces (32 ∷ others)) (piece_taken p others f is)
@@ -247,7 +251,8 @@ record ReadsBy (text gapless : List ℕ) : Type 0 where
   pub tokens_by_same : tokens text ≡ tokens_by tokens gapless
   pub pieces_by_same : pieces text ≡ pieces_by pieces gapless
 
-printed_by : (text : List ℕ) → ((b : ℕ) (bs : List ℕ) → text ≡ b ∷ bs → gap_step false b ≡ None) → ((rest : List ℕ) → length rest < length text → Reads (printed rest) rest)
+printed_by : (text : List ℕ) → ((b : ℕ) (bs : List ℕ) → text ≡ b ∷ bs → gap_step false b ≡ None)
+    → ((rest : List ℕ) → length rest < length text → Reads (printed rest) rest)
     → ReadsBy (printed_pieces (pieces_by pieces text)) text
 printed_by [] begins later =
     record {

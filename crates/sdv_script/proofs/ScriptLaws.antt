@@ -14,7 +14,8 @@ use Rattle.sdv_script.proofs.AgainScript.{script-again}
 abbrev some_whole : Whole → Option Whole
 some_whole w = Some w
 
-pub is_script : (text : List ℕ) (names : Declared) (body : Statements) → length text ≤ max_bytes → read_script (tokens text) ≡ Some (names, body) → IsScript (record { text = text; names = names; body = body })
+pub is_script : (text : List ℕ) (names : Declared) (body : Statements) → length text ≤ max_bytes → read_script (tokens text) ≡ Some (names, body)
+    → IsScript (record { text = text; names = names; body = body })
 is_script text names body small e =
     let took : (tokens text ≡ script_written names body) × ScriptFits names body
     = subst (λ (o : Option Whole). IfSome o (λ w. (tokens text ≡ script_written w.0 w.1) × ScriptFits w.0 w.1)) e (script-took (tokens text)) in
@@ -39,8 +40,10 @@ pub one_tree_lem : (s t : Parsed) → IsScript s → IsScript t → s.text ≡ t
 one_tree_lem s t is it same =
     let few = length-tokens s.text in
     let also = length-tokens t.text in
-    let first : read_script (tokens s.text) ≡ Some (s.names, s.body) = rw is.written (script-again s.names s.body is.fits (omega (arith, ap length is.written, is.small))) in
-    let second : read_script (tokens t.text) ≡ Some (t.names, t.body) = rw it.written (script-again t.names t.body it.fits (omega (arith, ap length it.written, it.small))) in
+    let first : read_script (tokens s.text) ≡ Some (s.names, s.body) =
+    rw is.written (script-again s.names s.body is.fits (omega (arith, ap length is.written, is.small))) in
+    let second : read_script (tokens t.text) ≡ Some (t.names, t.body) =
+    rw it.written (script-again t.names t.body it.fits (omega (arith, ap length it.written, it.small))) in
     let both : some_whole (s.names, s.body) ≡ some_whole (t.names, t.body) = sym first ∙ ap (λ (text : List ℕ). read_script (tokens text)) same ∙ second in
     let whole = some_once _ _ both in
     (ap (λ (w : Whole). w.0) whole, ap (λ (w : Whole). w.1) whole)

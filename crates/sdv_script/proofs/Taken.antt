@@ -83,7 +83,8 @@ placed_later k i name n ns p =
     let e : i - k ≡ suc (i - suc k) = omega (arith, p.0) in
     (omega (arith, p.0), omega (arith, p.0, p.1), rw e p.2)
 
-placed_test : (t : Bool) (k : ℕ) (name n : List ℕ) (ns : List (List ℕ)) (later : Option ℕ) → (t ≡ true → n ≡ name) → IfSome later (Placed (suc k) name ns) → IfSome (cond t (Some k) later) (Placed k name (n ∷ ns))
+placed_test : (t : Bool) (k : ℕ) (name n : List ℕ) (ns : List (List ℕ)) (later : Option ℕ) → (t ≡ true → n ≡ name) → IfSome later (Placed (suc k) name ns)
+    → IfSome (cond t (Some k) later) (Placed k name (n ∷ ns))
 placed_test true k name n ns later same rest = placed_first k name n ns (same refl)
 placed_test false k name n ns later same rest = IfSome-map later _ _ rest (λ i p. placed_later k i name n ns p)
 
@@ -93,14 +94,17 @@ placed k name [] = tt
 placed k name (n ∷ ns) = placed_test (bytes_eq n name) k name n ns _ (bytes_eq-Decides n name).0 (placed (suc k) name ns)
 
 pub place-took : (name : List ℕ) (names : List (List ℕ)) → IfSome (place_of name names) (λ i. (i < length names) × (get_or names i [] ≡ name))
-place-took name names = IfSome-map (place_of name names) _ _ (placed 0 name names) (λ i p. let z : i - 0 ≡ i = omega arith in (omega (arith, p.1), subst (λ (j : ℕ). get_or names j [] ≡ name) z p.2))
+place-took name names = IfSome-map (place_of name names) _ _ (placed 0 name names)
+    (λ i p. let z : i - 0 ≡ i = omega arith in (omega (arith, p.1), subst (λ (j : ℕ). get_or names j [] ≡ name) z p.2))
 
 pub flag-took : (names : Declared) (ts : List Token) → IfSome (read_flag names ts) (λ x. (ts ≡ flag_name names x.0 ∷ x.1) × (x.0 < length names.flags))
 flag-took names (Name n ∷ ts) = IfSome-bind (place_of n names.flags) _ _ _ (place-took n names.flags) (λ f p. (ap (λ (m : List ℕ). Name m ∷ ts) (sym p.1), p.0))
 flag-took names ts = tt
 
-number_name-took : (names : Declared) (ts : List Token) → IfSome (read_number_name names ts) (λ x. (ts ≡ number_name names x.0 ∷ x.1) × (x.0 < length names.numbers))
-number_name-took names (Name n ∷ ts) = IfSome-bind (place_of n names.numbers) _ _ _ (place-took n names.numbers) (λ f p. (ap (λ (m : List ℕ). Name m ∷ ts) (sym p.1), p.0))
+number_name-took : (names : Declared) (ts : List Token) → IfSome (read_number_name names ts)
+    (λ x. (ts ≡ number_name names x.0 ∷ x.1) × (x.0 < length names.numbers))
+number_name-took names (Name n ∷ ts) = IfSome-bind (place_of n names.numbers) _ _ _ (place-took n names.numbers)
+    (λ f p. (ap (λ (m : List ℕ). Name m ∷ ts) (sym p.1), p.0))
 number_name-took names ts = tt
 
 -- COMMANDS
@@ -111,11 +115,13 @@ unit-took names (Key word.Byte ∷ ts) = (refl, tt)
 unit-took names (Key word.By ∷ ts) = IfSome-bind (read_flag names ts) _ _ _ (flag-took names ts) (λ f p. (rw p.0 refl, p.1))
 unit-took names ts = tt
 
-sum-took : (names : Declared) (x : ℕ) (ts : List Token) → x < length names.numbers → IfSome (read_sum x ts) (λ p. (number_name names x ∷ ts ≡ position_written names p.0 p.1) × PositionFits names p.0)
+sum-took : (names : Declared) (x : ℕ) (ts : List Token) → x < length names.numbers
+    → IfSome (read_sum x ts) (λ p. (number_name names x ∷ ts ≡ position_written names p.0 p.1) × PositionFits names p.0)
 sum-took names x (Mark sign.Plus ∷ ts) lt = IfSome-bind (read_figure ts) _ _ _ (figure-took ts) (λ k p. (rw p.0 refl, (lt, p.1)))
 sum-took names x ts lt = (refl, lt)
 
-named_position-took : (names : Declared) (ts : List Token) → IfSome (read_number_name names ts >>= λ x. read_sum x.0 x.1) (λ p. (ts ≡ position_written names p.0 p.1) × PositionFits names p.0)
+named_position-took : (names : Declared) (ts : List Token)
+    → IfSome (read_number_name names ts >>= λ x. read_sum x.0 x.1) (λ p. (ts ≡ position_written names p.0 p.1) × PositionFits names p.0)
 named_position-took names ts =
     IfSome-bind (read_number_name names ts) _ _ _ (number_name-took names ts) (λ x p.
     IfSome-map (read_sum x.0 x.1) _ _ (sum-took names x.0 x.1 p.1) (λ q r. (p.0 ∙ r.0, r.1)))
@@ -168,16 +174,20 @@ form-took names index Counted ts = counted-took names index ts
 form-took names index Preset ts = preset-took names index ts
 form-took names index Erase ts = erase-took names index ts
 
-joined : (names : Declared) (n i : ℕ) (o : Option Form) (form : Form) (ts rest : List Token) (c : Command) → i ≡ n → o ≡ Some form → ts ≡ form_written form names c rest → Number n ∷ ts ≡ Number i ∷ form_if_any o names c rest
+joined : (names : Declared) (n i : ℕ) (o : Option Form) (form : Form) (ts rest : List Token) (c : Command) → i ≡ n → o ≡ Some form
+    → ts ≡ form_written form names c rest → Number n ∷ ts ≡ Number i ∷ form_if_any o names c rest
 joined names n i o form ts rest c p q e = rw (p, q, e) refl
 
 fits_as : (names : Declared) (o : Option Form) (form : Form) (c : Command) → o ≡ Some form → FormFits names (Some form) c → FormFits names o c
 fits_as names o form c e p = rw e p
 
-written_as : (names : Declared) (n : ℕ) (form : Form) (ts : List Token) (c : Command × List Token) → form_of names.kind n ≡ Some form → Commanded names form n ts c → (Number n ∷ ts ≡ command_written names c.0 c.1) × CommandFits names c.0
+written_as : (names : Declared) (n : ℕ) (form : Form) (ts : List Token) (c : Command × List Token) → form_of names.kind n ≡ Some form
+    → Commanded names form n ts c → (Number n ∷ ts ≡ command_written names c.0 c.1) × CommandFits names c.0
 written_as names n form ts c e p =
-    let same : form_of names.kind c.0.ask.index ≡ Some form = ap (λ (k : ℕ). form_of names.kind k) p.2 ∙ e in
-    (joined names n c.0.ask.index (form_of names.kind c.0.ask.index) form ts c.1 c.0 p.2 same p.0, fits_as names (form_of names.kind c.0.ask.index) form c.0 same p.1)
+    let same : form_of names.kind c.0.ask.index ≡ Some form = ap (λ (k : ℕ). form_of names.kind k) p.2 ∙ e in (
+      joined names n c.0.ask.index (form_of names.kind c.0.ask.index) form ts c.1 c.0 p.2 same p.0,
+      fits_as names (form_of names.kind c.0.ask.index) form c.0 same p.1,
+    )
 
 pub command-took : (names : Declared) (ts : List Token) → IfSome (read_command names ts) (λ c. (ts ≡ command_written names c.0 c.1) × CommandFits names c.0)
 command-took names (Number n ∷ ts) =
@@ -187,7 +197,8 @@ command-took names ts = tt
 
 -- VALUES AND CONDITIONS
 
-named_atom-took : (names : Declared) (ts : List Token) → IfSome {T = Atom × List Token} (read_number_name names ts >>= λ x. Some (atoms.Variable x.0, x.1)) (λ a. (ts ≡ atom_written names a.0 a.1) × AtomFits names a.0)
+named_atom-took : (names : Declared) (ts : List Token) → IfSome {T = Atom × List Token} (read_number_name names ts >>= λ x. Some (atoms.Variable x.0, x.1))
+    (λ a. (ts ≡ atom_written names a.0 a.1) × AtomFits names a.0)
 named_atom-took names ts = IfSome-bind (read_number_name names ts) _ _ _ (number_name-took names ts) (λ x p. (p.0, p.1))
 
 atom-took : (names : Declared) (ts : List Token) → IfSome (read_atom names ts) (λ a. (ts ≡ atom_written names a.0 a.1) × AtomFits names a.0)
@@ -209,18 +220,22 @@ let-took names ts =
     IfSome-bind (read_change a.1) _ _ _ (change-took a.1) (λ c s.
     (rw (p.0, e, q.0, s.0) refl, (p.1, q.1, s.1))))))
 
-test-took : (names : Declared) (x : ℕ) (ts : List Token) → x < length names.numbers → IfSome (read_test x ts) (λ c. (number_name names x ∷ ts ≡ condition_written names c.0 c.1) × ConditionFits names c.0)
+test-took : (names : Declared) (x : ℕ) (ts : List Token) → x < length names.numbers
+    → IfSome (read_test x ts) (λ c. (number_name names x ∷ ts ≡ condition_written names c.0 c.1) × ConditionFits names c.0)
 test-took names x (Mark sign.AtLeast ∷ ts) lt = IfSome-bind (read_figure ts) _ _ _ (figure-took ts) (λ k p. (rw p.0 refl, (lt, p.1)))
 test-took names x (Mark sign.Below ∷ ts) lt = IfSome-bind (read_figure ts) _ _ _ (figure-took ts) (λ k p. (rw p.0 refl, (lt, p.1)))
 test-took names x ts lt = tt
 
-condition_by-took : (names : Declared) (n : List ℕ) (f x : Option ℕ) (ts : List Token) → IfSome f (λ i. (i < length names.flags) × (get_or names.flags i [] ≡ n)) → IfSome x (λ i. (i < length names.numbers) × (get_or names.numbers i [] ≡ n)) → IfSome (condition_by f x ts) (λ c. (Name n ∷ ts ≡ condition_written names c.0 c.1) × ConditionFits names c.0)
+condition_by-took : (names : Declared) (n : List ℕ) (f x : Option ℕ) (ts : List Token)
+    → IfSome f (λ i. (i < length names.flags) × (get_or names.flags i [] ≡ n)) → IfSome x (λ i. (i < length names.numbers) × (get_or names.numbers i [] ≡ n))
+    → IfSome (condition_by f x ts) (λ c. (Name n ∷ ts ≡ condition_written names c.0 c.1) × ConditionFits names c.0)
 condition_by-took names n (Some f) x ts p q = (ap (λ (m : List ℕ). Name m ∷ ts) (sym p.1), p.0)
 condition_by-took names n None (Some x) ts p q =
     IfSome-map (read_test x ts) _ _ (test-took names x ts q.0) (λ c r. (ap (λ (m : List ℕ). Name m ∷ ts) (sym q.1) ∙ r.0, r.1))
 condition_by-took names n None None ts p q = tt
 
-pub condition-took : (names : Declared) (ts : List Token) → IfSome (read_condition names ts) (λ c. (ts ≡ condition_written names c.0 c.1) × ConditionFits names c.0)
+pub condition-took : (names : Declared) (ts : List Token)
+    → IfSome (read_condition names ts) (λ c. (ts ≡ condition_written names c.0 c.1) × ConditionFits names c.0)
 condition-took names (Name n ∷ ts) = condition_by-took names n _ _ ts (place-took n names.flags) (place-took n names.numbers)
 condition-took names ts = tt
 

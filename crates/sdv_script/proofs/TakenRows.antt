@@ -44,7 +44,8 @@ record BlockTook (names : Declared) (depth : Depth) (at : Progress) (x : Stateme
   began : Began at.begun x.1.begun (statements_count x.0)
 
 record PairTook (names : Declared) (inside depth : Depth) (at : Progress) (x : Pair × Progress) : Type 0 where
-  parts : at.tokens ≡ Mark sign.OpenBrace ∷ statements_written names x.0.0 (Mark sign.CloseBrace ∷ Key word.Else ∷ Mark sign.OpenBrace ∷ statements_written names x.0.1 (Mark sign.CloseBrace ∷ x.1.tokens))
+  parts : at.tokens ≡ Mark sign.OpenBrace ∷ statements_written names x.0.0
+      (Mark sign.CloseBrace ∷ Key word.Else ∷ Mark sign.OpenBrace ∷ statements_written names x.0.1 (Mark sign.CloseBrace ∷ x.1.tokens))
   room : HasRoom inside
   other_room : HasRoom depth
   fits : StatementsFit names (deeper inside) x.0.0
@@ -64,7 +65,8 @@ RowsTake names blocks = (depth : Depth) (at : Progress) → IfSome (blocks depth
 abbrev WaysTake : Declared → WaysOf → Type 0
 WaysTake names ways = (depth : Depth) (order : Option Order) (at : Progress) → IfSome (ways depth order at) (WaysTook names depth order at)
 
-block-took : (names : Declared) (blocks : Blocks) → RowsTake names blocks → (depth : Depth) (at : Progress) → IfSome (read_block blocks depth at) (BlockTook names depth at)
+block-took : (names : Declared) (blocks : Blocks) → RowsTake names blocks → (depth : Depth) (at : Progress)
+    → IfSome (read_block blocks depth at) (BlockTook names depth at)
 block-took names blocks take depth at =
     IfSome-bind (after_open depth at.tokens) _ _ _ (after_open-took depth at.tokens) (λ o p.
     IfSome-bind (blocks o.0 (progress_to o.1 at.begun)) _ _ _ (take o.0 (progress_to o.1 at.begun)) (λ b q.
@@ -76,7 +78,8 @@ block-took names blocks take depth at =
       began = q.began;
     })))
 
-branches-took : (names : Declared) (blocks : Blocks) → RowsTake names blocks → (inside depth : Depth) (at : Progress) → IfSome (read_branches blocks inside depth at) (PairTook names inside depth at)
+branches-took : (names : Declared) (blocks : Blocks) → RowsTake names blocks → (inside depth : Depth) (at : Progress)
+    → IfSome (read_branches blocks inside depth at) (PairTook names inside depth at)
 branches-took names blocks take inside depth at =
     IfSome-bind (read_block blocks inside at) _ _ _ (block-took names blocks take inside at) (λ a p.
     IfSome-bind (after_else a.1.tokens) _ _ _ (after_else-took a.1.tokens) (λ r e.
@@ -99,22 +102,31 @@ closed_nothing ts names depth begun = record { parts = refl; fits = tt; began = 
 
 abbrev Ended : Declared → Depth → Progress → Pair × Progress → Type 0
 Ended names depth at x =
-    (at.tokens ≡ Mark sign.OpenBrace ∷ Key word.Ok ∷ Mark sign.OpenBrace ∷ statements_written names x.0.0 (Mark sign.CloseBrace ∷ Key word.Else ∷ Mark sign.OpenBrace ∷ statements_written names x.0.1 (Mark sign.CloseBrace ∷ Mark sign.CloseBrace ∷ x.1.tokens)))
+    (at.tokens ≡ Mark sign.OpenBrace ∷ Key word.Ok ∷ Mark sign.OpenBrace ∷ statements_written names x.0.0
+    (Mark sign.CloseBrace ∷ Key word.Else ∷ Mark sign.OpenBrace ∷ statements_written names x.0.1
+    (Mark sign.CloseBrace ∷ Mark sign.CloseBrace ∷ x.1.tokens)))
     × (HasRoom depth × HasRoom (deeper depth) × StatementsFit names (deeper (deeper depth)) x.0.0 × StatementsFit names (deeper (deeper depth)) x.0.1)
     × Began at.begun x.1.begun (statements_count x.0.0 + statements_count x.0.1)
 
-ends-took : (names : Declared) (blocks : Blocks) → RowsTake names blocks → (depth : Depth) (at : Progress) → IfSome (read_ends blocks depth at) (Ended names depth at)
+ends-took : (names : Declared) (blocks : Blocks) → RowsTake names blocks → (depth : Depth) (at : Progress)
+    → IfSome (read_ends blocks depth at) (Ended names depth at)
 ends-took names blocks take depth at =
     IfSome-bind (after_open depth at.tokens) _ _ _ (after_open-took depth at.tokens) (λ o p.
     IfSome-bind (after_ok o.1) _ _ _ (after_ok-took o.1) (λ r e.
     IfSome-bind (read_branches blocks o.0 o.0 (progress_to r at.begun)) _ _ _ (branches-took names blocks take o.0 o.0 (progress_to r at.begun)) (λ ab q.
     IfSome-bind (after_close ab.1.tokens) _ _ _ (after_close-took ab.1.tokens) (λ s f. (
       rw (p.0, e, q.parts, f) refl,
-      (p.2, subst (λ (d : Depth). HasRoom d) p.1 q.room, subst (λ (d : Depth). StatementsFit names (deeper d) ab.0.0) p.1 q.fits, subst (λ (d : Depth). StatementsFit names (deeper d) ab.0.1) p.1 q.other_fits),
+      (
+        p.2,
+        subst (λ (d : Depth). HasRoom d) p.1 q.room,
+        subst (λ (d : Depth). StatementsFit names (deeper d) ab.0.0) p.1 q.fits,
+        subst (λ (d : Depth). StatementsFit names (deeper d) ab.0.1) p.1 q.other_fits,
+      ),
       q.began,
     )))))
 
-phase-took : (names : Declared) (blocks : Blocks) → RowsTake names blocks → (depth : Depth) (p : Phase) (k : Keyword) (at : Progress) (ts : List Token) → Key k ∷ ts ≡ phase_written p at.tokens
+phase-took : (names : Declared) (blocks : Blocks) → RowsTake names blocks → (depth : Depth) (p : Phase) (k : Keyword) (at : Progress) (ts : List Token)
+    → Key k ∷ ts ≡ phase_written p at.tokens
     → IfSome (read_phase blocks depth p at) (AfterTook names depth k (progress_to ts at.begun))
 phase-took names blocks take depth p k at ts e =
     IfSome-bind (read_ends blocks depth at) _ _ _ (ends-took names blocks take depth at) (λ ab q.
@@ -125,11 +137,13 @@ phase-took names blocks take depth p k at ts e =
       few = q.2.few;
     })
 
-send-took : (names : Declared) (ways : WaysOf) → WaysTake names ways → (depth : Depth) (at : Progress) → IfSome (read_send ways names depth at) (AfterTook names depth word.Send at)
+send-took : (names : Declared) (ways : WaysOf) → WaysTake names ways → (depth : Depth) (at : Progress)
+    → IfSome (read_send ways names depth at) (AfterTook names depth word.Send at)
 send-took names ways take depth at =
     IfSome-bind (read_command names at.tokens) _ _ _ (command-took names at.tokens) (λ c p.
     IfSome-bind (after_open depth c.1) _ _ _ (after_open-took depth c.1) (λ o q.
-    IfSome-bind (ways o.0 (order_of names.kind c.0.ask) (progress_to o.1 at.begun)) _ _ _ (take o.0 (order_of names.kind c.0.ask) (progress_to o.1 at.begun)) (λ w r.
+    IfSome-bind (ways o.0 (order_of names.kind c.0.ask) (progress_to o.1 at.begun)) _ _ _ (take o.0 (order_of names.kind c.0.ask) (progress_to o.1 at.begun))
+    (λ w r.
     IfSome-bind (after_close w.1.tokens) _ _ _ (after_close-took w.1.tokens) (λ s e.
     record {
       parts = rw (p.0, q.0, r.parts, e) refl;
@@ -138,10 +152,12 @@ send-took names ways take depth at =
       few = r.began.few;
     }))))
 
-if-took : (names : Declared) (blocks : Blocks) → RowsTake names blocks → (depth : Depth) (at : Progress) → IfSome (read_if blocks names depth at) (AfterTook names depth word.If at)
+if-took : (names : Declared) (blocks : Blocks) → RowsTake names blocks → (depth : Depth) (at : Progress)
+    → IfSome (read_if blocks names depth at) (AfterTook names depth word.If at)
 if-took names blocks take depth at =
     IfSome-bind (read_condition names at.tokens) _ _ _ (condition-took names at.tokens) (λ c p.
-    IfSome-bind (read_branches blocks depth depth (progress_to c.1 at.begun)) _ _ _ (branches-took names blocks take depth depth (progress_to c.1 at.begun)) (λ ab q.
+    IfSome-bind (read_branches blocks depth depth (progress_to c.1 at.begun)) _ _ _ (branches-took names blocks take depth depth (progress_to c.1 at.begun))
+    (λ ab q.
     record {
       parts = rw (p.0, q.parts) refl;
       fits = (p.1, q.room, q.fits, q.other_fits);
@@ -149,11 +165,13 @@ if-took names blocks take depth at =
       few = q.began.few;
     }))
 
-loop-took : (names : Declared) (blocks : Blocks) → RowsTake names blocks → (depth : Depth) (at : Progress) → IfSome (read_loop blocks depth at) (AfterTook names depth word.Loop at)
+loop-took : (names : Declared) (blocks : Blocks) → RowsTake names blocks → (depth : Depth) (at : Progress)
+    → IfSome (read_loop blocks depth at) (AfterTook names depth word.Loop at)
 loop-took names blocks take depth at =
     IfSome-test (nat_lt depth.loops max_loops) _ _ (λ e.
     IfSome-bind (read_count at.tokens) _ _ _ (count-took at.tokens) (λ n p.
-    IfSome-bind (read_branches blocks (in_loop depth) depth (progress_to n.1 at.begun)) _ _ _ (branches-took names blocks take (in_loop depth) depth (progress_to n.1 at.begun)) (λ ab q.
+    IfSome-bind (read_branches blocks (in_loop depth) depth (progress_to n.1 at.begun)) _ _ _
+    (branches-took names blocks take (in_loop depth) depth (progress_to n.1 at.begun)) (λ ab q.
     record {
       parts = rw (p.0, q.parts) refl;
       fits = (p.1, p.2, ltb-true depth.loops max_loops e, q.room, q.fits, q.other_fits);
@@ -165,7 +183,8 @@ one_more : (begun : ℕ) → begun + 1 ≡ begun + 1
 one_more begun = refl
 
 flag_statement-took : (names : Declared) (depth : Depth) (k : Keyword) (make : ℕ → Statement) (at : Progress)
-    → ((f : ℕ) (ts : List Token) → statement_written names (make f) ts ≡ Key k ∷ Name (get_or names.flags f []) ∷ ts) → ((f : ℕ) → f < length names.flags → StatementFits names depth (make f)) → ((f : ℕ) → statement_count (make f) ≡ 1)
+    → ((f : ℕ) (ts : List Token) → statement_written names (make f) ts ≡ Key k ∷ Name (get_or names.flags f []) ∷ ts)
+    → ((f : ℕ) → f < length names.flags → StatementFits names depth (make f)) → ((f : ℕ) → statement_count (make f) ≡ 1)
     → IfSome (moved make at.begun (read_flag names at.tokens)) (AfterTook names depth k at)
 flag_statement-took names depth k make at written fits one =
     IfSome-bind (read_flag names at.tokens) _ _ _ (flag-took names at.tokens) (λ f p.
@@ -176,19 +195,24 @@ flag_statement-took names depth k make at written fits one =
       few = λ le. le;
     })
 
-let_statement-took : (names : Declared) (depth : Depth) (at : Progress) → IfSome (moved setting at.begun (read_let names at.tokens)) (AfterTook names depth word.Let at)
+let_statement-took : (names : Declared) (depth : Depth) (at : Progress)
+    → IfSome (moved setting at.begun (read_let names at.tokens)) (AfterTook names depth word.Let at)
 let_statement-took names depth at =
     IfSome-bind (read_let names at.tokens) _ _ _ (let-took names at.tokens) (λ l p. record { parts = p.0; fits = p.1; counted = refl; few = λ le. le })
 
-fault_statement-took : (names : Declared) (depth : Depth) (at : Progress) → IfSome (moved fault at.begun (read_fault at.tokens)) (AfterTook names depth word.Fault at)
+fault_statement-took : (names : Declared) (depth : Depth) (at : Progress)
+    → IfSome (moved fault at.begun (read_fault at.tokens)) (AfterTook names depth word.Fault at)
 fault_statement-took names depth at =
     IfSome-bind (read_fault at.tokens) _ _ _ (fault-took at.tokens) (λ n p. record { parts = rw p.0 refl; fits = p.1; counted = refl; few = λ le. le })
 
-receive_statement-took : (names : Declared) (blocks : Blocks) → RowsTake names blocks → (depth : Depth) (at : Progress) → IfSome (read_receive at.tokens >>= λ p. read_phase blocks depth p.0 (progress_to p.1 at.begun)) (AfterTook names depth word.Recv at)
+receive_statement-took : (names : Declared) (blocks : Blocks) → RowsTake names blocks → (depth : Depth) (at : Progress)
+    → IfSome (read_receive at.tokens >>= λ p. read_phase blocks depth p.0 (progress_to p.1 at.begun)) (AfterTook names depth word.Recv at)
 receive_statement-took names blocks take depth at =
-    IfSome-bind (read_receive at.tokens) _ _ _ (receive-took at.tokens) (λ p e. phase-took names blocks take depth p.0 word.Recv (progress_to p.1 at.begun) at.tokens e)
+    IfSome-bind (read_receive at.tokens) _ _ _ (receive-took at.tokens)
+    (λ p e. phase-took names blocks take depth p.0 word.Recv (progress_to p.1 at.begun) at.tokens e)
 
-after-took : (names : Declared) (blocks : Blocks) (ways : WaysOf) → RowsTake names blocks → WaysTake names ways → (depth : Depth) (k : Keyword) (at : Progress) → starts k depth ≡ true → IfSome (read_after blocks ways names depth k at) (AfterTook names depth k at)
+after-took : (names : Declared) (blocks : Blocks) (ways : WaysOf) → RowsTake names blocks → WaysTake names ways → (depth : Depth) (k : Keyword) (at : Progress)
+    → starts k depth ≡ true → IfSome (read_after blocks ways names depth k at) (AfterTook names depth k at)
 after-took names blocks ways rows take depth word.Send at e = send-took names ways take depth at
 after-took names blocks ways rows take depth word.Recv at e = receive_statement-took names blocks rows depth at
 after-took names blocks ways rows take depth word.Give at e = phase-took names blocks rows depth phases.GiveBlocks word.Give at at.tokens refl
@@ -210,17 +234,20 @@ record StatementTook (names : Declared) (depth : Depth) (ts : List Token) (begun
   fits : StatementFits names depth x.0
   began : Began begun x.1.begun (statement_count x.0)
 
-statement-took : (names : Declared) (blocks : Blocks) (ways : WaysOf) → RowsTake names blocks → WaysTake names ways → (depth : Depth) (ts : List Token) (begun : ℕ) → IfSome (read_statement blocks ways names depth ts begun) (StatementTook names depth ts begun)
+statement-took : (names : Declared) (blocks : Blocks) (ways : WaysOf) → RowsTake names blocks → WaysTake names ways
+    → (depth : Depth) (ts : List Token) (begun : ℕ) → IfSome (read_statement blocks ways names depth ts begun) (StatementTook names depth ts begun)
 statement-took names blocks ways rows take depth (Key k ∷ ts) begun =
     IfSome-test (starts k depth && nat_lt begun max_statements) _ _ (λ e.
     let p = both (starts k depth) (nat_lt begun max_statements) e in
     let lt = ltb-true begun max_statements p.1 in
-    IfSome-map (read_after blocks ways names depth k (progress_to ts (begun + 1))) _ _ (after-took names blocks ways rows take depth k (progress_to ts (begun + 1)) p.0) (λ x q.
+    IfSome-map (read_after blocks ways names depth k (progress_to ts (begun + 1))) _ _
+    (after-took names blocks ways rows take depth k (progress_to ts (begun + 1)) p.0) (λ x q.
     record { parts = q.parts; fits = q.fits; began = record { counted = omega (arith, q.counted); few = λ le. q.few (omega (arith, lt)) } }))
 statement-took names blocks ways rows take depth ts begun = tt
 
 more_rows-took : (names : Declared) (blocks : Blocks) (ways : WaysOf) → RowsTake names blocks → WaysTake names ways → (depth : Depth) (at : Progress) (c : Bool)
-    → IfSome (cond c (Some (nothing, at)) (read_statement blocks ways names depth at.tokens at.begun >>= λ s. blocks depth s.1 >>= λ rest. Some (first s.0 rest.0, rest.1))) (RowTook names depth at)
+    → IfSome (cond c (Some (nothing, at)) (read_statement blocks ways names depth at.tokens at.begun >>= λ s. blocks depth s.1
+    >>= λ rest. Some (first s.0 rest.0, rest.1))) (RowTook names depth at)
 more_rows-took names blocks ways rows take depth at true = closed_nothing at.tokens names depth at.begun
 more_rows-took names blocks ways rows take depth at false =
     IfSome-bind (read_statement blocks ways names depth at.tokens at.begun) _ _ _ (statement-took names blocks ways rows take depth at.tokens at.begun) (λ s p.
@@ -233,7 +260,8 @@ more_rows-took names blocks ways rows take depth at false =
 
 -- WAYS
 
-last_way-took : (names : Declared) (blocks : Blocks) → RowsTake names blocks → (depth : Depth) (order : Option Order) (ts : List Token) (begun : ℕ) → IfSome (last_way blocks depth (progress_to ts begun)) (WaysTook names depth order (progress_to (Key word.Else ∷ ts) begun))
+last_way-took : (names : Declared) (blocks : Blocks) → RowsTake names blocks → (depth : Depth) (order : Option Order) (ts : List Token) (begun : ℕ)
+    → IfSome (last_way blocks depth (progress_to ts begun)) (WaysTook names depth order (progress_to (Key word.Else ∷ ts) begun))
 last_way-took names blocks rows depth order ts begun =
     IfSome-bind (read_block blocks depth (progress_to ts begun)) _ _ _ (block-took names blocks rows depth (progress_to ts begun)) (λ b p.
     record { parts = rw p.parts refl; fits = (p.room, p.fits); began = p.began })
@@ -243,13 +271,15 @@ record CaseTook (names : Declared) (depth : Depth) (order : Option Order) (at : 
   fits : GuardsFit order x.0.0 × HasRoom depth × StatementsFit names (deeper depth) x.0.1
   began : Began at.begun x.1.begun (statements_count x.0.1)
 
-case-took : (names : Declared) (blocks : Blocks) → RowsTake names blocks → (depth : Depth) (order : Option Order) (at : Progress) → IfSome (read_case blocks depth order at) (CaseTook names depth order at)
+case-took : (names : Declared) (blocks : Blocks) → RowsTake names blocks → (depth : Depth) (order : Option Order) (at : Progress)
+    → IfSome (read_case blocks depth order at) (CaseTook names depth order at)
 case-took names blocks rows depth order at =
     IfSome-bind (read_guards order [] at.tokens) _ _ _ (read_guards-took order at.tokens) (λ gs p.
     IfSome-bind (read_block blocks depth (progress_to gs.1 at.begun)) _ _ _ (block-took names blocks rows depth (progress_to gs.1 at.begun)) (λ b q.
     record { parts = rw (p.0, q.parts) refl; fits = (p.1, q.room, q.fits); began = q.began }))
 
-next_way-took : (names : Declared) (blocks : Blocks) (ways : WaysOf) → RowsTake names blocks → WaysTake names ways → (depth : Depth) (order : Option Order) (at : Progress) → IfSome (next_way blocks ways depth order at) (WaysTook names depth order at)
+next_way-took : (names : Declared) (blocks : Blocks) (ways : WaysOf) → RowsTake names blocks → WaysTake names ways
+    → (depth : Depth) (order : Option Order) (at : Progress) → IfSome (next_way blocks ways depth order at) (WaysTook names depth order at)
 next_way-took names blocks ways rows take depth order at =
     IfSome-bind (read_case blocks depth order at) _ _ _ (case-took names blocks rows depth order at) (λ c p.
     IfSome-bind (ways depth order c.1) _ _ _ (take depth order c.1) (λ w r.
@@ -259,7 +289,9 @@ next_way-took names blocks ways rows take depth order at =
       began = Began-then _ _ _ _ _ p.began r.began;
     }))
 
-more_ways-took : (names : Declared) (blocks : Blocks) (ways : WaysOf) → RowsTake names blocks → WaysTake names ways → (depth : Depth) (order : Option Order) (ts : List Token) (begun : ℕ) → IfSome (more_ways blocks ways depth order ts begun) (WaysTook names depth order (progress_to ts begun))
+more_ways-took : (names : Declared) (blocks : Blocks) (ways : WaysOf) → RowsTake names blocks → WaysTake names ways
+    → (depth : Depth) (order : Option Order) (ts : List Token) (begun : ℕ)
+    → IfSome (more_ways blocks ways depth order ts begun) (WaysTook names depth order (progress_to ts begun))
 more_ways-took names blocks ways rows take depth order (Key word.Else ∷ ts) begun = last_way-took names blocks rows depth order ts begun
 more_ways-took names blocks ways rows take depth order ts begun = next_way-took names blocks ways rows take depth order (progress_to ts begun)
 
@@ -268,8 +300,10 @@ mutual
 
   pub statements-took : (left : ℕ) (names : Declared) → RowsTake names (read_statements left names)
   statements-took zero names depth at = tt
-  statements-took (suc left) names depth at = more_rows-took names (read_statements left names) (read_ways left names) (statements-took left names) (ways-took left names) depth at (closes at.tokens)
+  statements-took (suc left) names depth at = more_rows-took names (read_statements left names) (read_ways left names) (statements-took left names)
+      (ways-took left names) depth at (closes at.tokens)
 
   pub ways-took : (left : ℕ) (names : Declared) → WaysTake names (read_ways left names)
   ways-took zero names depth order at = tt
-  ways-took (suc left) names depth order at = more_ways-took names (read_statements left names) (read_ways left names) (statements-took left names) (ways-took left names) depth order at.tokens at.begun
+  ways-took (suc left) names depth order at = more_ways-took names (read_statements left names) (read_ways left names) (statements-took left names)
+      (ways-took left names) depth order at.tokens at.begun

@@ -49,14 +49,17 @@ record NamesTook (earlier names : List (List ℕ)) (limit : ℕ) (ts : List Toke
   few : length names ≤ limit → length x.0 ≤ limit
   some : 0 < length x.0
 
-no_more : (earlier names : List (List ℕ)) (limit : ℕ) (ts : List Token) (f : Bool) → (nat_lt 0 (length names) && f) ≡ true → NamesTook earlier names limit ts (names, ts)
+no_more : (earlier names : List (List ℕ)) (limit : ℕ) (ts : List Token) (f : Bool) → (nat_lt 0 (length names) && f) ≡ true
+    → NamesTook earlier names limit ts (names, ts)
 no_more earlier names limit ts f e =
     record { later = []; all = sym (append-nil names); parts = refl; new = tt; few = λ le. le; some = ltb-true 0 (length names) (both _ f e).0 }
 
-names_end : (w : Bool) (earlier names : List (List ℕ)) (limit : ℕ) (ts : List Token) → IfSome {T = List (List ℕ) × List Token} (cond (nat_lt 0 (length names) && may_follow w ts) (Some (names, ts)) None) (NamesTook earlier names limit ts)
+names_end : (w : Bool) (earlier names : List (List ℕ)) (limit : ℕ) (ts : List Token)
+    → IfSome {T = List (List ℕ) × List Token} (cond (nat_lt 0 (length names) && may_follow w ts) (Some (names, ts)) None) (NamesTook earlier names limit ts)
 names_end w earlier names limit ts = IfSome-given (nat_lt 0 (length names) && may_follow w ts) _ _ (λ e. no_more earlier names limit ts (may_follow w ts) e)
 
-one_name : (earlier names : List (List ℕ)) (limit : ℕ) (n : List ℕ) (ts : List Token) (x : List (List ℕ) × List Token) → name_is_new earlier names limit n ≡ true → NamesTook earlier (names ++ n ∷ []) limit ts x → NamesTook earlier names limit (Name n ∷ ts) x
+one_name : (earlier names : List (List ℕ)) (limit : ℕ) (n : List ℕ) (ts : List Token) (x : List (List ℕ) × List Token)
+    → name_is_new earlier names limit n ≡ true → NamesTook earlier (names ++ n ∷ []) limit ts x → NamesTook earlier names limit (Name n ∷ ts) x
 one_name earlier names limit n ts x e took =
     let p = both _ (nat_le (length n) max_name) e in
     let q = both _ (nat_lt (length names) limit) p.0 in
@@ -76,13 +79,16 @@ one_name earlier names limit n ts x e took =
       some = took.some;
     }
 
-names-took : (ts : List Token) (w : Bool) (earlier names : List (List ℕ)) (limit : ℕ) → IfSome (read_names w earlier names limit ts) (NamesTook earlier names limit ts)
+names-took : (ts : List Token) (w : Bool) (earlier names : List (List ℕ)) (limit : ℕ)
+    → IfSome (read_names w earlier names limit ts) (NamesTook earlier names limit ts)
 names-took (Name n ∷ ts) w earlier names limit =
     IfSome-test (name_is_new earlier names limit n) _ _ (λ e.
-    IfSome-map (read_names w earlier (names ++ n ∷ []) limit ts) _ _ (names-took ts w earlier (names ++ n ∷ []) limit) (λ x p. one_name earlier names limit n ts x e p))
+    IfSome-map (read_names w earlier (names ++ n ∷ []) limit ts) _ _ (names-took ts w earlier (names ++ n ∷ []) limit)
+    (λ x p. one_name earlier names limit n ts x e p))
 names-took ts w earlier names limit = names_end w earlier names limit ts
 
-flags_listed : (ts : List Token) (x : List (List ℕ) × List Token) → NamesTook [] [] max_flags ts x → (Key word.Flags ∷ ts ≡ list_written word.Flags x.0 x.1) × AreNew [] x.0 × (length x.0 ≤ max_flags)
+flags_listed : (ts : List Token) (x : List (List ℕ) × List Token) → NamesTook [] [] max_flags ts x
+    → (Key word.Flags ∷ ts ≡ list_written word.Flags x.0 x.1) × AreNew [] x.0 × (length x.0 ≤ max_flags)
 flags_listed ts ([], rest) took = absurd (omega (arith, took.some))
 flags_listed ts (n ∷ ns, rest) took = (
   ap (λ (r : List Token). Key word.Flags ∷ r) (took.parts ∙ ap (λ (l : List (List ℕ)). names_written l rest) (sym took.all)),
@@ -94,7 +100,8 @@ flags-took : (ts : List Token) → IfSome (read_flags ts) (λ x. (ts ≡ list_wr
 flags-took (Key word.Flags ∷ ts) = IfSome-map (read_names true [] [] max_flags ts) _ _ (names-took ts true [] [] max_flags) (flags_listed ts)
 flags-took ts = (refl, tt, omega arith)
 
-nums_listed : (flags : List (List ℕ)) (ts : List Token) (x : List (List ℕ) × List Token) → NamesTook flags [] max_numbers ts x → (Key word.Nums ∷ ts ≡ list_written word.Nums x.0 x.1) × AreNew flags x.0 × (length x.0 ≤ max_numbers)
+nums_listed : (flags : List (List ℕ)) (ts : List Token) (x : List (List ℕ) × List Token) → NamesTook flags [] max_numbers ts x
+    → (Key word.Nums ∷ ts ≡ list_written word.Nums x.0 x.1) × AreNew flags x.0 × (length x.0 ≤ max_numbers)
 nums_listed flags ts ([], rest) took = absurd (omega (arith, took.some))
 nums_listed flags ts (n ∷ ns, rest) took = (
   ap (λ (r : List Token). Key word.Nums ∷ r) (took.parts ∙ ap (λ (l : List (List ℕ)). names_written l rest) (sym took.all)),
@@ -102,11 +109,14 @@ nums_listed flags ts (n ∷ ns, rest) took = (
   took.few (omega arith),
 )
 
-nums-took : (flags : List (List ℕ)) (ts : List Token) → IfSome (read_nums flags ts) (λ x. (ts ≡ list_written word.Nums x.0 x.1) × AreNew flags x.0 × (length x.0 ≤ max_numbers))
-nums-took flags (Key word.Nums ∷ ts) = IfSome-map (read_names false flags [] max_numbers ts) _ _ (names-took ts false flags [] max_numbers) (nums_listed flags ts)
+nums-took : (flags : List (List ℕ)) (ts : List Token) → IfSome (read_nums flags ts)
+    (λ x. (ts ≡ list_written word.Nums x.0 x.1) × AreNew flags x.0 × (length x.0 ≤ max_numbers))
+nums-took flags (Key word.Nums ∷ ts) = IfSome-map (read_names false flags [] max_numbers ts) _ _ (names-took ts false flags [] max_numbers)
+    (nums_listed flags ts)
 nums-took flags ts = (refl, tt, omega arith)
 
-declared-took : (ts : List Token) → IfSome (read_declared ts) (λ d. (ts ≡ Key (kind_word d.0.kind) ∷ list_written word.Flags d.0.flags (list_written word.Nums d.0.numbers d.1)) × NamesFit d.0)
+declared-took : (ts : List Token) → IfSome (read_declared ts)
+    (λ d. (ts ≡ Key (kind_word d.0.kind) ∷ list_written word.Flags d.0.flags (list_written word.Nums d.0.numbers d.1)) × NamesFit d.0)
 declared-took ts =
     IfSome-bind (read_kind ts) _ _ _ (kind-took ts) (λ k e.
     IfSome-bind (read_flags k.1) _ _ _ (flags-took k.1) (λ f p.
@@ -124,12 +134,14 @@ record BodyTook (names : Declared) (ts : List Token) (w : Whole) : Type 0 where
   few : statements_count w.1 ≤ max_statements
   ends : statements_fall w.1 ≡ false
 
-falls_not : (names : Declared) (body : Statements) (ts : List Token) (t : Bool) → statements_fall body ≡ t → ts ≡ statements_written names body [] → StatementsFit names start body → statements_count body ≤ max_statements
+falls_not : (names : Declared) (body : Statements) (ts : List Token) (t : Bool) → statements_fall body ≡ t → ts ≡ statements_written names body []
+    → StatementsFit names start body → statements_count body ≤ max_statements
     → IfSome {T = Whole} (cond t None (Some (names, body))) (BodyTook names ts)
 falls_not names body ts true f e fits few = tt
 falls_not names body ts false f e fits few = record { same = refl; parts = e; fits = fits; few = few; ends = f }
 
-whole-took : (names : Declared) (body : Statements) (ts rest : List Token) → ts ≡ statements_written names body rest → StatementsFit names start body → statements_count body ≤ max_statements
+whole-took : (names : Declared) (body : Statements) (ts rest : List Token) → ts ≡ statements_written names body rest → StatementsFit names start body
+    → statements_count body ≤ max_statements
     → IfSome (whole_if names body rest) (BodyTook names ts)
 whole-took names body ts [] e fits few = falls_not names body ts (statements_fall body) refl e fits few
 whole-took names body ts (t ∷ rest) e fits few = tt
@@ -144,7 +156,8 @@ fits_whole : (names : Declared) (ts ts1 ts3 : List Token) (w : Whole) → ts ≡
     → (ts ≡ script_written w.0 w.1) × ScriptFits w.0 w.1
 fits_whole names ts ts1 ts3 w e f fit took =
     subst (λ (n : Declared). (ts ≡ script_written n w.1) × ScriptFits n w.1) (sym took.same) (
-      e ∙ ap (λ (r : List Token). Key word.Card ∷ r) (f ∙ ap (λ (r : List Token). Key (kind_word names.kind) ∷ list_written word.Flags names.flags (list_written word.Nums names.numbers r)) took.parts),
+      e ∙ ap (λ (r : List Token). Key word.Card ∷ r) (f ∙ ap
+          (λ (r : List Token). Key (kind_word names.kind) ∷ list_written word.Flags names.flags (list_written word.Nums names.numbers r)) took.parts),
       record { names_fit = fit; statements_fit = took.fits; few = took.few; ends = took.ends },
     )
 

@@ -27,13 +27,16 @@ capped base x y cap (d ∷ bs) b e =
     capped base (x * base + digit_value d) (y * base + digit_value d) cap bs b (capped_step base (digit_value d) x y cap b e)
 
 -- one more digit
-pub capped_more : (base before value i : ℕ) (digits : List ℕ) → 1 ≤ base → i < length digits → value ≡ min (before * base + digit_value (get_or digits i 0)) (2 ^ 40 + 1) → min (number_after base value (drop (i + 1) digits)) (2 ^ 40 + 1) ≡ min (number_after base before (drop i digits)) (2 ^ 40 + 1)
+pub capped_more : (base before value i : ℕ) (digits : List ℕ) → 1 ≤ base → i < length digits
+    → value ≡ min (before * base + digit_value (get_or digits i 0)) (2 ^ 40 + 1)
+    → min (number_after base value (drop (i + 1) digits)) (2 ^ 40 + 1) ≡ min (number_after base before (drop i digits)) (2 ^ 40 + 1)
 unfolding number_after
 capped_more base before value i digits b lt e =
     rw (add-one, drop-cons digits i 0) (capped base value (before * base + digit_value (get_or digits i 0)) (2 ^ 40 + 1) (drop (suc i) digits) b (omega arith))
 
 -- no more digits
-pub capped_end : (base before i : ℕ) (digits : List ℕ) → length digits ≤ i → before ≤ 2 ^ 40 + 1 → min (number_after base before (drop i digits)) (2 ^ 40 + 1) ≡ before
+pub capped_end : (base before i : ℕ) (digits : List ℕ) → length digits ≤ i → before ≤ 2 ^ 40 + 1
+    → min (number_after base before (drop i digits)) (2 ^ 40 + 1) ≡ before
 unfolding number_after
 capped_end base before i digits le small = rw (drop_of_length-le digits le) (omega arith)
 

@@ -11,7 +11,8 @@ use Rattle.sdv_script.specs.declared.token.Token.TheVariants as read
 use Rattle.sdv_script.specs.TokenView.{token_of, list_of, IsThere}
 use Rattle.sdv_script.specs.Tokens.{Mark, Stray, gap_step, gap_from, Token, Found, is_lower, is_digit, goes_on, is_joined, run, sign_at, first_found, after_gap, tokens_by, first_tokens, tokens}
 
-gap_from-le : (step : Option Bool) (b : ℕ) (bs : List ℕ) → ((c : Bool) → length (after_gap c bs) ≤ length bs) → length (gap_from step (b ∷ bs) (λ c. after_gap c bs)) ≤ suc (length bs)
+gap_from-le : (step : Option Bool) (b : ℕ) (bs : List ℕ) → ((c : Bool) → length (after_gap c bs) ≤ length bs)
+    → length (gap_from step (b ∷ bs) (λ c. after_gap c bs)) ≤ suc (length bs)
 gap_from-le None b bs shorter = omega arith
 gap_from-le (Some c) b bs shorter = omega (arith, shorter c)
 
@@ -121,7 +122,8 @@ pub tokens_none : (text : List ℕ) → length text ≡ 0 → tokens_by tokens t
 tokens_none text e = tokens_by-nil tokens text (omega arith)
 
 -- where a token that was read is the first
-pub tokens_some : (t : Read) (text : List ℕ) → 0 < length text → IsThere t → token_of t ≡ (first_found text).0 → list_of t (tokens (drop (first_found text).1 text)) ≡ tokens_by tokens text
+pub tokens_some : (t : Read) (text : List ℕ) → 0 < length text → IsThere t → token_of t ≡ (first_found text).0
+    → list_of t (tokens (drop (first_found text).1 text)) ≡ tokens_by tokens text
 tokens_some t [] lt there e = absurd (omega arith)
 tokens_some t (b ∷ bs) lt there e = list_of-there t (tokens (drop (first_found (b ∷ bs)).1 (b ∷ bs))) there ∙ rw e refl
 
@@ -134,7 +136,8 @@ from_cons c text b bs e = rw e refl
 pub gap_stops : (c : Bool) (i : ℕ) (text : List ℕ) → i < length text → gap_step c (get_or text i 0) ≡ None → after_gap c (drop i text) ≡ drop i text
 gap_stops c i text lt e = from_cons c (drop i text) (get_or text i 0) (drop (suc i) text) (drop-cons text i 0 lt) ∙ rw e refl
 
-pub gap_goes_on : (c c' : Bool) (i : ℕ) (text : List ℕ) → i < length text → gap_step c (get_or text i 0) ≡ Some c' → after_gap c' (drop (i + 1) text) ≡ after_gap c (drop i text)
+pub gap_goes_on : (c c' : Bool) (i : ℕ) (text : List ℕ) → i < length text → gap_step c (get_or text i 0) ≡ Some c'
+    → after_gap c' (drop (i + 1) text) ≡ after_gap c (drop i text)
 gap_goes_on c c' i text lt e = rw add-one (sym (from_cons c (drop i text) (get_or text i 0) (drop (suc i) text) (drop-cons text i 0 lt) ∙ rw e refl))
 
 pub gap_end : (c : Bool) (text : List ℕ) → after_gap c (drop (length text) text) ≡ []

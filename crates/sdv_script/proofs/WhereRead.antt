@@ -4,7 +4,8 @@ use Rattle.std.specs.Prelude.{IfSome, ◌&&◌}
 use Rattle.sdv_script.specs.Tokens.{Token}
 use Rattle.sdv_script.specs.Reading.{◌>>=◌}
 
-pub IfSome-bind : {A B : Type 0} (o : Option A) (f : A → Option B) (P : A → Type 0) (Q : B → Type 0) → IfSome o P → ((a : A) → P a → IfSome (f a) Q) → IfSome (o >>= f) Q
+pub IfSome-bind : {A B : Type 0} (o : Option A) (f : A → Option B) (P : A → Type 0) (Q : B → Type 0) → IfSome o P → ((a : A) → P a → IfSome (f a) Q)
+    → IfSome (o >>= f) Q
 IfSome-bind None f P Q p q = tt
 IfSome-bind (Some a) f P Q p q = q a p
 

@@ -14,7 +14,8 @@ either is form others = if is then Some form else others
 -- by the index; none where the kind has no such command
 abbrev pub sd_form : ℕ → Option Form
 sd_form n =
-    either ((n == 0) || (n == 2) || (n == 3) || (n == 8) || (n == 12) || (n == 16) || (n == 38) || (n == 51)) (Bare Plain) (
+    either ((n == 0) || (n == 2) || (n == 3) || (n == 8) || (n == 12) || (n == 16) || (n == 38) || (n == 51))
+    (Bare Plain) (
     either ((n == 9) || (n == 10) || (n == 13) || (n == 55)) (Bare Rca) (
     either (n == 7) Select (
     either (n == 41) Conditions (

@@ -134,7 +134,8 @@ change_written (changes.Minus k) others = Mark sign.Minus ∷ Number k ∷ other
 -- "let" num_name "=" atom [("+" | "-") number]
 abbrev pub let_written : Declared → Let → List Token → List Token
 let_written names l others =
-    Key word.Let ∷ number_name names l.target ∷ Mark sign.Equals ∷ atom_written names l.atom (change_written l.change others)
+    Key word.Let ∷ number_name names l.target ∷ Mark sign.Equals ∷ atom_written names l.atom
+    (change_written l.change others)
 
 -- num_name (">=" | "<") number | flag
 abbrev pub condition_written : Declared → Condition → List Token → List Token
@@ -159,17 +160,21 @@ abbrev mutual
 
   -- {guard {"&" guard} block} "else" block, with block = "{" {stmt} "}"
   pub ways_written : Declared → Ways → List Token → List Token
-  ways_written names (otherwise b) others = Key word.Else ∷ Mark sign.OpenBrace ∷ statements_written names b (Mark sign.CloseBrace ∷ others)
+  ways_written names (otherwise b) others =
+      Key word.Else ∷ Mark sign.OpenBrace ∷ statements_written names b (Mark sign.CloseBrace ∷ others)
   ways_written names (way gs b rest) others =
-      guards_written gs (Mark sign.OpenBrace ∷ statements_written names b (Mark sign.CloseBrace ∷ ways_written names rest others))
+      guards_written gs (Mark sign.OpenBrace ∷ statements_written names b
+      (Mark sign.CloseBrace ∷ ways_written names rest others))
 
   pub statement_written : Declared → Statement → List Token → List Token
   statement_written names (send c ways) others =
-      Key word.Send ∷ command_written names c (Mark sign.OpenBrace ∷ ways_written names ways (Mark sign.CloseBrace ∷ others))
+      Key word.Send ∷ command_written names c
+      (Mark sign.OpenBrace ∷ ways_written names ways (Mark sign.CloseBrace ∷ others))
   statement_written names (phase p a b) others =
       phase_written p (Mark sign.OpenBrace ∷ Key word.Ok
       ∷ Mark sign.OpenBrace ∷ statements_written names a (Mark sign.CloseBrace
-      ∷ Key word.Else ∷ Mark sign.OpenBrace ∷ statements_written names b (Mark sign.CloseBrace ∷ Mark sign.CloseBrace ∷ others)))
+      ∷ Key word.Else ∷ Mark sign.OpenBrace ∷ statements_written names b
+      (Mark sign.CloseBrace ∷ Mark sign.CloseBrace ∷ others)))
   statement_written names (setting l) others = let_written names l others
   statement_written names (choice c a b) others =
       Key word.If ∷ condition_written names c (
@@ -203,4 +208,5 @@ kind_word Emmc = word.Emmc
 -- script = "card" ("sd" | "emmc") ["flags" name {name}] ["nums" name {name}] {stmt}
 abbrev pub script_written : Declared → Statements → List Token
 script_written names body =
-    Key word.Card ∷ Key (kind_word names.kind) ∷ list_written word.Flags names.flags (list_written word.Nums names.numbers (statements_written names body []))
+    Key word.Card ∷ Key (kind_word names.kind) ∷ list_written word.Flags names.flags
+    (list_written word.Nums names.numbers (statements_written names body []))

@@ -55,7 +55,12 @@ keyword_text word.Dis = codes "dis"
 -- every reserved word
 abbrev pub keywords : List Keyword
 keywords =
-    word.Card ∷ word.Sd ∷ word.Emmc ∷ word.Flags ∷ word.Nums ∷ word.Send ∷ word.Else ∷ word.Recv ∷ word.Reg ∷ word.Give ∷ word.Wait ∷ word.Ok ∷ word.Let ∷ word.If ∷ word.Set ∷ word.Clear ∷ word.Loop ∷ word.Break ∷ word.Done ∷ word.Fault ∷ word.CsdBlocks ∷ word.ExtBlocks ∷ word.At ∷ word.Block ∷ word.Byte ∷ word.By ∷ word.Timeout ∷ word.Answer ∷ word.Clean ∷ word.Ready ∷ word.App ∷ word.Echo ∷ word.OcrReady ∷ word.OcrBlock ∷ word.State ∷ word.None ∷ word.Count ∷ word.Number ∷ word.Idle ∷ word.Ident ∷ word.Stby ∷ word.Tran ∷ word.Data ∷ word.Rcv ∷ word.Prg ∷ word.Dis ∷ []
+    word.Card ∷ word.Sd ∷ word.Emmc ∷ word.Flags ∷ word.Nums ∷ word.Send ∷ word.Else ∷ word.Recv ∷ word.Reg ∷ word.Give
+    ∷ word.Wait ∷ word.Ok ∷ word.Let ∷ word.If ∷ word.Set ∷ word.Clear ∷ word.Loop ∷ word.Break ∷ word.Done
+    ∷ word.Fault ∷ word.CsdBlocks ∷ word.ExtBlocks ∷ word.At ∷ word.Block ∷ word.Byte ∷ word.By ∷ word.Timeout
+    ∷ word.Answer ∷ word.Clean ∷ word.Ready ∷ word.App ∷ word.Echo ∷ word.OcrReady ∷ word.OcrBlock
+    ∷ word.State ∷ word.None ∷ word.Count ∷ word.Number ∷ word.Idle ∷ word.Ident ∷ word.Stby ∷ word.Tran
+    ∷ word.Data ∷ word.Rcv ∷ word.Prg ∷ word.Dis ∷ []
 
 -- a piece of text spells the reserved word
 abbrev pub is_text : Keyword → List ℕ → Bool

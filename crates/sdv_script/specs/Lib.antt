@@ -3,6 +3,7 @@ pub mod Commands
 pub mod Faults
 pub mod Grammar
 pub mod GuardedOf
+pub mod InRow
 pub mod Refusal
 pub mod Keywords
 pub mod OneGraph

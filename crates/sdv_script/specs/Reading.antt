@@ -138,7 +138,8 @@ read_position names ts = read_number_name names ts >>= λ x. read_sum x.0 x.1
 
 abbrev pub read_address : Declared → List Token → Read Address
 read_address names ts =
-    after_at ts >>= λ ts1. read_unit names ts1 >>= λ u. read_position names u.1 >>= λ p. Some (record { unit = u.0; position = p.0 }, p.1)
+    after_at ts >>= λ ts1. read_unit names ts1 >>= λ u. read_position names u.1
+    >>= λ p. Some (record { unit = u.0; position = p.0 }, p.1)
 
 abbrev pub bare_command : Ask → Command
 bare_command ask = record { ask = ask; address = None }
@@ -151,7 +152,8 @@ read_select index (Key word.None ∷ ts) = Some (bare_command (ask_with index Pl
 read_select index ts = Some (bare_command (ask_with index Rca 0 0), ts)
 
 abbrev pub read_conditions : ℕ → List Token → Read Command
-read_conditions index (Number n ∷ ts) = if is_conditions n then Some (bare_command (ask_with index Plain n 0), ts) else None
+read_conditions index (Number n ∷ ts) = if is_conditions n then Some
+    (bare_command (ask_with index Plain n 0), ts) else None
 read_conditions index ts = None
 
 abbrev pub read_counted : Declared → ℕ → List Token → Read Command
@@ -171,7 +173,8 @@ abbrev pub read_form : Declared → ℕ → Form → List Token → Read Command
 read_form names index (Bare aim) ts = Some (bare_command (ask_with index aim 0 0), ts)
 read_form names index Select ts = read_select index ts
 read_form names index Conditions ts = read_conditions index ts
-read_form names index (Addressed count) ts = read_address names ts >>= λ a. Some (addressed_command (ask_with index Plain 0 count) a.0, a.1)
+read_form names index (Addressed count) ts =
+    read_address names ts >>= λ a. Some (addressed_command (ask_with index Plain 0 count) a.0, a.1)
 read_form names index Counted ts = read_counted names index ts
 read_form names index Preset ts = read_preset index ts
 read_form names index Erase ts = read_erase index ts
@@ -223,7 +226,8 @@ read_guard order (Key word.State ∷ ts) = read_state_guard order ts
 read_guard order (Key k ∷ ts) = read_word_guard order k ts
 read_guard order ts = None
 
-abbrev pub more_if : (List Token → Read (List Guard)) → List Guard → List Token → Option (List Token) → Read (List Guard)
+abbrev pub more_if : (List Token → Read (List Guard)) → List Guard → List Token → Option (List Token)
+    → Read (List Guard)
 more_if further gs ts None = Some (gs, ts)
 more_if further gs ts (Some rest) = further rest
 
@@ -373,7 +377,8 @@ starts keyword depth = begins keyword
 -- a statement after its first word
 abbrev pub read_after : Blocks → WaysOf → Declared → Depth → Keyword → Progress → Reading Statement
 read_after blocks ways names depth word.Send at = read_send ways names depth at
-read_after blocks ways names depth word.Recv at = read_receive at.tokens >>= λ p. read_phase blocks depth p.0 (progress_to p.1 at.begun)
+read_after blocks ways names depth word.Recv at =
+    read_receive at.tokens >>= λ p. read_phase blocks depth p.0 (progress_to p.1 at.begun)
 read_after blocks ways names depth word.Give at = read_phase blocks depth phases.GiveBlocks at
 read_after blocks ways names depth word.Wait at = read_phase blocks depth phases.Wait at
 read_after blocks ways names depth word.Let at = moved setting at.begun (read_let names at.tokens)
@@ -388,7 +393,8 @@ read_after blocks ways names depth keyword at = None
 
 abbrev pub read_statement : Blocks → WaysOf → Declared → Depth → List Token → ℕ → Reading Statement
 read_statement blocks ways names depth (Key k ∷ ts) begun =
-    if starts k depth && nat_lt begun max_statements then read_after blocks ways names depth k (progress_to ts (begun + 1)) else None
+    if starts k depth && nat_lt begun max_statements then read_after blocks ways names depth k
+    (progress_to ts (begun + 1)) else None
 read_statement blocks ways names depth ts begun = None
 
 -- no further statement stands here
@@ -400,7 +406,8 @@ closes ts = false
 abbrev pub more_statements : Blocks → WaysOf → Declared → Depth → Progress → Reading Statements
 more_statements blocks ways names depth at =
     if closes at.tokens then Some (nothing, at)
-    else (read_statement blocks ways names depth at.tokens at.begun >>= λ s. blocks depth s.1 >>= λ rest. Some (first s.0 rest.0, rest.1))
+    else (read_statement blocks ways names depth at.tokens at.begun >>= λ s. blocks depth s.1
+    >>= λ rest. Some (first s.0 rest.0, rest.1))
 
 abbrev pub last_way : Blocks → Depth → Progress → Reading Ways
 last_way blocks depth at = read_block blocks depth at >>= λ b. Some (otherwise b.0, b.1)
@@ -408,7 +415,8 @@ last_way blocks depth at = read_block blocks depth at >>= λ b. Some (otherwise 
 -- guard {"&" guard} block
 abbrev pub read_case : Blocks → Depth → Option Order → Progress → Reading Guarded
 read_case blocks depth order at =
-    read_guards order [] at.tokens >>= λ gs. read_block blocks depth (progress_to gs.1 at.begun) >>= λ b. Some ((gs.0, b.0), b.1)
+    read_guards order [] at.tokens >>= λ gs. read_block blocks depth (progress_to gs.1 at.begun)
+    >>= λ b. Some ((gs.0, b.0), b.1)
 
 abbrev pub next_way : Blocks → WaysOf → Depth → Option Order → Progress → Reading Ways
 next_way blocks ways depth order at =
@@ -422,11 +430,13 @@ more_ways blocks ways depth order ts begun = next_way blocks ways depth order (p
 unfoldable mutual
   pub read_statements : ℕ → Declared → Depth → Progress → Reading Statements
   read_statements zero names depth at = None
-  read_statements (suc left) names depth at = more_statements (read_statements left names) (read_ways left names) names depth at
+  read_statements (suc left) names depth at =
+      more_statements (read_statements left names) (read_ways left names) names depth at
 
   pub read_ways : ℕ → Declared → Depth → Option Order → Progress → Reading Ways
   read_ways zero names depth order at = None
-  read_ways (suc left) names depth order at = more_ways (read_statements left names) (read_ways left names) depth order at.tokens at.begun
+  read_ways (suc left) names depth order at =
+      more_ways (read_statements left names) (read_ways left names) depth order at.tokens at.begun
 
 -- SCRIPTS
 
@@ -438,7 +448,8 @@ may_follow with_nums ts = true
 
 abbrev pub name_is_new : (earlier names : List (List ℕ)) → ℕ → List ℕ → Bool
 name_is_new earlier names limit n =
-    is_none (place_of n earlier) && is_none (place_of n names) && nat_lt (length names) limit && nat_le (length n) max_name
+    is_none (place_of n earlier) && is_none (place_of n names) && nat_lt (length names) limit && nat_le
+    (length n) max_name
 
 -- one name or more, after those that were read
 abbrev pub read_names : (with_nums : Bool) → (earlier names : List (List ℕ)) → ℕ → List Token → Read (List (List ℕ))

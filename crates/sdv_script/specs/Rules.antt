@@ -86,11 +86,15 @@ abbrev pub FormFits : Declared → Option Form → Command → Type 0
 FormFits names None c = ⊥
 FormFits names (Some (Bare aim)) c = (c.ask ≡ ask_with c.ask.index aim 0 0) × (c.address ≡ None)
 FormFits names (Some Select) c = (c.ask ≡ ask_with c.ask.index c.ask.aim 0 0) × (c.address ≡ None)
-FormFits names (Some Conditions) c = (c.ask ≡ ask_with c.ask.index Plain c.ask.argument 0) × IsTrue (is_conditions c.ask.argument) × (c.address ≡ None)
+FormFits names (Some Conditions) c = (c.ask ≡ ask_with c.ask.index Plain c.ask.argument 0)
+    × IsTrue (is_conditions c.ask.argument) × (c.address ≡ None)
 FormFits names (Some (Addressed count)) c = (c.ask ≡ ask_with c.ask.index Plain 0 count) × AddressFits names c.address
-FormFits names (Some Counted) c = (c.ask ≡ ask_with c.ask.index Plain 0 c.ask.count) × (1 ≤ c.ask.count) × (c.ask.count ≤ 65535) × AddressFits names c.address
-FormFits names (Some Preset) c = (c.ask ≡ ask_with c.ask.index Plain 0 c.ask.count) × (1 ≤ c.ask.count) × (c.ask.count ≤ 65535) × (c.address ≡ None)
-FormFits names (Some Erase) c = (c.ask ≡ ask_with c.ask.index Plain c.ask.argument 0) × IsTrue (is_erase c.ask.argument) × (c.address ≡ None)
+FormFits names (Some Counted) c = (c.ask ≡ ask_with c.ask.index Plain 0 c.ask.count) × (1 ≤ c.ask.count)
+    × (c.ask.count ≤ 65535) × AddressFits names c.address
+FormFits names (Some Preset) c = (c.ask ≡ ask_with c.ask.index Plain 0 c.ask.count) × (1 ≤ c.ask.count)
+    × (c.ask.count ≤ 65535) × (c.address ≡ None)
+FormFits names (Some Erase) c = (c.ask ≡ ask_with c.ask.index Plain c.ask.argument 0) × IsTrue (is_erase c.ask.argument)
+    × (c.address ≡ None)
 
 abbrev pub CommandFits : Declared → Command → Type 0
 CommandFits names c = FormFits names (form_of names.kind c.ask.index) c
@@ -146,10 +150,12 @@ abbrev mutual
   StatementFits names depth (send c ways) =
       CommandFits names c × HasRoom depth × WaysFit names (deeper depth) (order_of names.kind c.ask) ways
   StatementFits names depth (phase p a b) =
-      HasRoom depth × HasRoom (deeper depth) × StatementsFit names (deeper (deeper depth)) a × StatementsFit names (deeper (deeper depth)) b
+      HasRoom depth × HasRoom (deeper depth) × StatementsFit names (deeper (deeper depth)) a
+      × StatementsFit names (deeper (deeper depth)) b
   StatementFits names depth (setting l) = LetFits names l
   StatementFits names depth (choice c a b) =
-      ConditionFits names c × HasRoom depth × StatementsFit names (deeper depth) a × StatementsFit names (deeper depth) b
+      ConditionFits names c × HasRoom depth × StatementsFit names (deeper depth) a
+      × StatementsFit names (deeper depth) b
   StatementFits names depth (set f) = f < length names.flags
   StatementFits names depth (clear f) = f < length names.flags
   StatementFits names depth (turns n a b) =

@@ -86,12 +86,14 @@ number_token n = Number (min n (2 ^ 40 + 1))
 -- digits of a base, one or more
 abbrev pub digits_token : ℕ → List ℕ → Token
 digits_token base digits =
-    if nat_lt 0 (length digits) && list_all (has_value_below base) digits then number_token (number_after base 0 digits) else Stray
+    if nat_lt 0 (length digits) && list_all (has_value_below base) digits then number_token
+    (number_after base 0 digits) else Stray
 
 -- decimal digits, or `0x` and hexadecimal digits
 abbrev pub figure : List ℕ → Token
 figure text =
-    if (slice_index text 0 == 48) && (slice_index text 1 == 120) then digits_token 16 (drop 2 text) else digits_token 10 text
+    if (slice_index text 0 == 48) && (slice_index text 1 == 120) then digits_token 16
+    (drop 2 text) else digits_token 10 text
 
 -- WORDS
 

@@ -4,9 +4,10 @@
 
 ghost use Rattle.std.specs.Prelude.{◌≡◌, IfOk, map};
 ghost use Rattle.sdv_script.specs.Place.{tokens_at, names_of, progress_of};
-ghost use Rattle.sdv_graph.specs.Tree.{statements_of, ways_of, statement_of, before};
+ghost use Rattle.sdv_graph.specs.Tree.{nothing, statements_of, ways_of, statement_of, before};
+ghost use Rattle.sdv_script.specs.InRow.{in_row};
 ghost use Rattle.sdv_script.specs.GuardedOf.{guarded_of};
-ghost use Rattle.sdv_script.specs.Reading.{Gives, begins, starts, closes, more_statements, last_way, read_case, read_statement, read_after, read_send, read_phase, read_loop, read_branches, read_block, read_statements, read_ways};
+ghost use Rattle.sdv_script.specs.Reading.{Gives, begins, starts, closes, last_way, read_case, read_statement, read_after, read_send, read_phase, read_loop, read_branches, read_block, read_statements, read_ways};
 
 use crate::commands::command;
 use crate::cursor::Cursor;
@@ -29,7 +30,7 @@ pub const MAX_STATEMENTS: usize = 4096;
 /// A statement stands in at most so many loops' bodies.
 pub const MAX_LOOPS: usize = 4;
 
-/// Statements, up to what can begin none.
+/// Statements, up to what can begin none. Several thousand may stand in a row, too many for a recursion.
 #[cycle(blocks)]
 pub fn statements<'a>(
     alloc: Global,
@@ -41,29 +42,29 @@ pub fn statements<'a>(
     ensures { Gives (λ x. (statements_of x.0, progress_of x.1)) result
         (read_statements left (names_of names.now) depth (progress_of from.entry)) }
 {
-    match left.checked_sub(1) {
-        Some(left) => row(alloc, names, left, depth, from),
-        None => Err(Stop::Fault(from.at.fault(FaultKind::Limit))),
+    let mut read = Vec::new(alloc);
+    let mut from = from;
+    for left in (0..left).rev() {
+        if is_closed(from.at) {
+            return Ok((in_row(alloc, read)?, from));
+        }
+        let (next, after) = statement(alloc, names, left, depth, from)?;
+        read.push(next)?;
+        from = after;
     }
+    Err(Stop::Fault(from.at.fault(FaultKind::Limit)))
 }
 
-#[cycle(blocks)]
-fn row<'a>(
-    alloc: Global,
-    names: &Names<'a>,
-    left: usize,
-    depth: Depth,
-    from: Progress<'a>,
-) -> Result<(Block<'a>, Progress<'a>), Stop>
-    ensures { let names = names_of names.now in Gives (λ x. (statements_of x.0, progress_of x.1)) result
-        (more_statements (read_statements left names) (read_ways left names) names depth (progress_of from.entry)) }
+// Statements in a row.
+fn in_row<'a>(alloc: Global, statements: Vec<Stmt<'a>>) -> Result<Block<'a>, AllocError>
+    ensures { IfOk result (λ x. statements_of x ≡ in_row (map statement_of statements.entry.items) nothing) }
 {
-    if is_closed(from.at) {
-        return Ok((Block::Empty, from));
+    let mut statements = statements;
+    let mut row = Block::Empty;
+    while let Some(last) = statements.pop() {
+        row = Block::Then(last, Box::new(alloc, row)?);
     }
-    let (first, from) = statement(alloc, names, left, depth, from)?;
-    let (rest, from) = statements(alloc, names, left, depth, from)?;
-    Ok((Block::Then(first, Box::new(alloc, rest)?), from))
+    Ok(row)
 }
 
 // No further statement stands here.
@@ -82,7 +83,8 @@ fn statement<'a>(
     from: Progress<'a>,
 ) -> Result<(Stmt<'a>, Progress<'a>), Stop>
     ensures { let names = names_of names.now in Gives (λ x. (statement_of x.0, progress_of x.1)) result
-        (read_statement (read_statements left names) (read_ways left names) names depth (tokens_at from.entry.at) from.entry.begun) }
+        (read_statement (read_statements left names) (read_ways left names) names depth
+        (tokens_at from.entry.at) from.entry.begun) }
 {
     let Token::Key(keyword) = from.at.token else {
         return Err(Stop::Fault(from.at.fault(FaultKind::Syntax)));

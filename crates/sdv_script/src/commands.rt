@@ -38,7 +38,8 @@ fn written<'a>(
     form: Form,
     at: Cursor<'a>,
 ) -> Result<(Command, Cursor<'a>), Stop>
-    ensures { Gives (λ x. (x.0, tokens_at x.1)) result (read_form (names_of names.now) index form (tokens_at at.entry)) }
+    ensures { Gives (λ x. (x.0, tokens_at x.1)) result
+        (read_form (names_of names.now) index form (tokens_at at.entry)) }
 {
     match form {
         Form::Bare(aim) => Ok((bare(ask(index, aim, 0, 0)), at)),

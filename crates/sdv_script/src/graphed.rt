@@ -16,7 +16,8 @@ impl<'a> Script<'a> {
     /// The graph of the script: its paths are the script's walks, each run over it ends, and its loops are nested. It is
     /// refused only for want of memory.
     pub fn graph(&self, alloc: Global) -> Result<Graph<'a>, ScriptFault>
-        ensures { MatchResult result (λ g. IsGraphOf (shown self.now).names (shown self.now).body g) (λ f. f ≡ memory_fault) }
+        ensures { MatchResult result (λ g. IsGraphOf (shown self.now).names (shown self.now).body g)
+            (λ f. f ≡ memory_fault) }
     {
         match graph_of(alloc, &self.names, &self.body) {
             Ok(graph) => Ok(graph),

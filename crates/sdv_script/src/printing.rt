@@ -37,7 +37,8 @@ pub fn print<W: Write>(script: &Script<'_>, out: &mut W) -> Result<(), Error>
 /// What is printed of a script is a script with the same tree, where it is within the size limit; and printed again it
 /// stays the same.
 pub fn printed_tree()
-    ensures script { (s : Parsed) → IsScript s → length (printed s.text) ≤ max_bytes → IsScript (record s { text = printed s.text }) }
+    ensures script { (s : Parsed) → IsScript s → length (printed s.text) ≤ max_bytes
+        → IsScript (record s { text = printed s.text }) }
     ensures again { (text : List ℕ) → printed (printed text) ≡ printed text }
 {}
 

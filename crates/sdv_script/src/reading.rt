@@ -79,7 +79,8 @@ fn whole(alloc: Global, text: &str) -> Result<(Names<'_>, Block<'_>), Stop>
 
 // The statements of a script, up to the end of the text.
 fn body<'a>(alloc: Global, names: &Names<'a>, at: Cursor<'a>) -> Result<Block<'a>, Stop>
-    ensures { Gives (λ x. (names_of names.now, statements_of x)) result (read_body (names_of names.now) (tokens_at at.entry)) }
+    ensures { Gives (λ x. (names_of names.now, statements_of x)) result
+        (read_body (names_of names.now) (tokens_at at.entry)) }
 {
     let outside = Depth {
         braces: 0,

@@ -7,7 +7,8 @@ use Rattle.sdv_script.proofs.guards.guard_list.Goals as goal
 pub returns-in_err-first : goal.returns-in_err-first
 returns-in_err-first c =
     let p = err_from_is_err_and c.from_residual.result c.from_residual.ensures.1 in
-    rw (p.1, p.2, ← c.loop-guards.invariant) (guards_fail c.in_err-first.field-0.0 c.args.order c.loop-guards.guards.items (tokens_at c.loop-guards.at) c.in_err-first.ensures)
+    rw (p.1, p.2, ← c.loop-guards.invariant) (guards_fail c.in_err-first.field-0.0 c.args.order c.loop-guards.guards.items
+    (tokens_at c.loop-guards.at) c.in_err-first.ensures)
 
 pub loop-guards-smaller : goal.loop-guards-smaller
 loop-guards-smaller c =
@@ -17,11 +18,13 @@ loop-guards-smaller c =
 pub loop-guards-preserved : goal.loop-guards-preserved
 loop-guards-preserved c =
     rw c.in_ok-push.ensures.items
-    (guards_go_on c.args.order c.loop-guards.guards.items (tokens_at c.loop-guards.at) c.in_ok-first.first (tokens_at c.in_ok-first.after) (tokens_at c.in-Some.next) c.in_ok-first.ensures
+    (guards_go_on c.args.order c.loop-guards.guards.items (tokens_at c.loop-guards.at) c.in_ok-first.first (tokens_at c.in_ok-first.after)
+    (tokens_at c.in-Some.next) c.in_ok-first.ensures
     (sym c.in-Some.ensures) ∙ c.loop-guards.invariant)
 
 pub returns-in-None : goal.returns-in-None
 returns-in-None c =
     rw c.in_ok-push.ensures.items
-    (sym c.loop-guards.invariant ∙ guards_end c.args.order c.loop-guards.guards.items (tokens_at c.loop-guards.at) c.in_ok-first.first (tokens_at c.in_ok-first.after) c.in_ok-first.ensures
+    (sym c.loop-guards.invariant ∙ guards_end c.args.order c.loop-guards.guards.items (tokens_at c.loop-guards.at) c.in_ok-first.first
+    (tokens_at c.in_ok-first.after) c.in_ok-first.ensures
     (sym c.in-None.ensures))
