@@ -28,7 +28,8 @@ use Rattle.sdv_card.proofs.Members.{here, May-append_left, May-append_right, May
 use Rattle.sdv_card.proofs.TakenFields.{same_view}
 use Rattle.sdv_card.proofs.RowOutcomes.{AtRow, heard, timed_out, heard_taken, statuses_law, app_law, same_status_seen, status_cases, address_cases, bare_seen, unit_law, conditions_law, unaddressed_law, unseen_cases}
 
-status_law : (k : Kind) (order : Order) (row : Row) (argument : ℕ) (h : Host) (t u : Card) (answer : Answer) → CardStatus ≡ response_of row → AtRow k order row t →
+status_law : (k : Kind) (order : Order) (row : Row) (argument : ℕ) (h : Host) (t u : Card) (answer : Answer) → CardStatus ≡ response_of row
+    → AtRow k order row t →
     RowAnswer CardStatus order row argument t answer u →
     May (row_branches k order row CardStatus (view t h)) (branch (view u (heard order answer h)) (answer_seen k answer))
 status_law k order row argument h t u TimeOut is at a =
@@ -68,7 +69,8 @@ address_law k order row argument h t u answer e at a =
     (address_answer k order argument h t u answer (subst (λ r. AtRow k order r t) (sym e) at)
     (subst (λ r. RowAnswer NewAddress order r argument t answer u) (sym e) a))
 
-contents_law : (k : Kind) (order : Order) (row : Row) (argument : ℕ) (h : Host) (t u : Card) (answer : Answer) → Contents ≡ response_of row → AtRow k order row t →
+contents_law : (k : Kind) (order : Order) (row : Row) (argument : ℕ) (h : Host) (t u : Card) (answer : Answer) → Contents ≡ response_of row
+    → AtRow k order row t →
     RowAnswer Contents order row argument t answer u →
     May (row_branches k order row Contents (view t h)) (branch (view u (heard order answer h)) (answer_seen k answer))
 contents_law k order row argument h t u TimeOut is at a =
@@ -82,7 +84,8 @@ contents_law k order row argument h t u (Replied reply) is at a =
     (heard_taken k order row argument h t u (Replied reply) (λ e. let f : NewAddress ≡ Contents = e ∙ sym is in cc) at a.card)))
 contents_law k order row argument h t u answer is at a = absurd a
 
-conditions_answer : (k : Kind) (order : Order) (row : Row) (argument : ℕ) (h : Host) (t u : Card) (answer : Answer) → Conditions ≡ response_of row → AtRow k order row t →
+conditions_answer : (k : Kind) (order : Order) (row : Row) (argument : ℕ) (h : Host) (t u : Card) (answer : Answer) → Conditions ≡ response_of row
+    → AtRow k order row t →
     RowAnswer Conditions order row argument t answer u →
     May (row_branches k order row Conditions (view t h)) (branch (view u (heard order answer h)) (answer_seen k answer))
 conditions_answer k order row argument h t u TimeOut is at a =
@@ -105,7 +108,8 @@ absent_law k order row argument h t u Sent is at a =
     (heard_taken k order row argument h t u Sent (λ e. let f : NewAddress ≡ Absent = e ∙ sym is in cc) at a.card)
 absent_law k order row argument h t u answer is at a = absurd a
 
-not_addressed_law : (k : Kind) (order : Order) (row : Row) (argument : ℕ) (h : Host) (t u : Card) (answer : Answer) → NotAddressed ≡ response_of row → AtRow k order row t →
+not_addressed_law : (k : Kind) (order : Order) (row : Row) (argument : ℕ) (h : Host) (t u : Card) (answer : Answer) → NotAddressed ≡ response_of row
+    → AtRow k order row t →
     RowAnswer NotAddressed order row argument t answer u →
     May (row_branches k order row NotAddressed (view t h)) (branch (view u (heard order answer h)) (answer_seen k answer))
 not_addressed_law k order row argument h t u answer is at a =
@@ -113,7 +117,8 @@ not_addressed_law k order row argument h t u answer is at a =
     (unaddressed_law k order answer a.0)
     (May-map (λ v. branch v (unaddressed_seen order)) (unseen_cases k order row argument h t u answer is at a.1))
 
-row_law : (response : Response) (k : Kind) (order : Order) (row : Row) (argument : ℕ) (h : Host) (t u : Card) (answer : Answer) → response ≡ response_of row → AtRow k order row t →
+row_law : (response : Response) (k : Kind) (order : Order) (row : Row) (argument : ℕ) (h : Host) (t u : Card) (answer : Answer) → response ≡ response_of row
+    → AtRow k order row t →
     RowAnswer response order row argument t answer u →
     May (row_branches k order row response (view t h)) (branch (view u (heard order answer h)) (answer_seen k answer))
 row_law Absent k order row argument h t u answer is at a = absent_law k order row argument h t u answer is at a

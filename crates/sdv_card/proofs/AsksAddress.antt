@@ -10,7 +10,8 @@ use Rattle.sdv_card.proofs.RowsOfOrders.{order_index}
 use Rattle.sdv_card.proofs.OrdersOfAsks.{OfAsk, of_ask, blocks_at}
 
 -- by the index alone, where the command has no count
-at : (order : Order) (index count : ℕ) → index ≡ order_index order → order_blocks order ≡ blocks_at (order_index order) count → order_blocks order ≡ blocks_at index count
+at : (order : Order) (index count : ℕ) → index ≡ order_index order → order_blocks order ≡ blocks_at (order_index order) count
+    → order_blocks order ≡ blocks_at index count
 at order index count own e = subst (λ n. order_blocks order ≡ blocks_at n count) (sym own) e
 
 law : (k : Kind) (ask : Ask) (order : Order) → OfAsk k ask order → order_blocks order ≡ addressed_blocks ask

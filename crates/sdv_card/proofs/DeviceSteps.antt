@@ -72,7 +72,8 @@ conditions : (cs : List Block) →
     Happens (command 1 Plain 0x40ff8080 (Replied (R3 0xc0ff8080))) (device cs Idle None Nothing) (host 0 None) (device cs Ready None Nothing)
 unfolding order_of bits number_of
 conditions cs =
-    let both = happens _ 0x40ff8080 SendOpCond (Replied (R3 0xc0ff8080)) (device cs Idle None Nothing) (device cs Ready None Nothing) (host 0 None) refl refl (made refl)
+    let both = happens _ 0x40ff8080 SendOpCond (Replied (R3 0xc0ff8080)) (device cs Idle None Nothing) (device cs Ready None Nothing) (host 0 None) refl refl
+    (made refl)
     (record { target = Ready; has_row = first; length = refl; erase = refl; preset = refl })
     (record {
       is_word = lit< tt;
@@ -88,7 +89,8 @@ identification : (cs : List Block) →
     Happens (command 2 Plain 0 (Replied (R2 device_cid))) (device cs Ready None Nothing) (host 0 None) (device cs Ident None Nothing)
 unfolding order_of
 identification cs =
-    let both = happens _ 0 AllSendCid (Replied (R2 device_cid)) (device cs Ready None Nothing) (device cs Ident None Nothing) (host 0 None) refl refl (made refl)
+    let both = happens _ 0 AllSendCid (Replied (R2 device_cid)) (device cs Ready None Nothing) (device cs Ident None Nothing) (host 0 None) refl refl
+    (made refl)
     (record { target = Ident; has_row = first; length = refl; erase = refl; preset = refl })
     (record {
       shown = refl;
@@ -101,7 +103,8 @@ address : (cs : List Block) →
     Happens (command 3 Plain 0x00010000 (Replied (R1 3 0x500))) (device cs Ident None Nothing) (host 0 None) (device cs Stby (Some 1) Nothing)
 unfolding order_of bits number_of
 address cs =
-    let both = happens _ 0x00010000 SetRelativeAddress (Replied (R1 3 0x500)) (device cs Ident None Nothing) (device cs Stby (Some 1) Nothing) (host 0 None) refl refl (made refl)
+    let both = happens _ 0x00010000 SetRelativeAddress (Replied (R1 3 0x500)) (device cs Ident None Nothing) (device cs Stby (Some 1) Nothing)
+    (host 0 None) refl refl (made refl)
     (record { target = Stby; has_row = first; length = refl; erase = refl; preset = refl })
     (record {
       is_word = lit< tt;
@@ -117,7 +120,8 @@ specific_data : (cs : List Block) →
     Happens (command 9 Rca 0x00010000 (Replied (R2 device_csd))) (device cs Stby (Some 1) Nothing) (host 1 None) (device cs Stby (Some 1) Nothing)
 unfolding order_of
 specific_data cs =
-    let both = happens _ 0x00010000 SendCsd (Replied (R2 device_csd)) (device cs Stby (Some 1) Nothing) (device cs Stby (Some 1) Nothing) (host 1 None) refl refl (made refl)
+    let both = happens _ 0x00010000 SendCsd (Replied (R2 device_csd)) (device cs Stby (Some 1) Nothing) (device cs Stby (Some 1) Nothing)
+    (host 1 None) refl refl (made refl)
     (record { target = Stby; has_row = first; length = refl; erase = refl; preset = refl })
     (record {
       shown = refl;
@@ -130,7 +134,8 @@ selection : (cs : List Block) →
     Happens (command 7 Rca 0x00010000 (Replied (R1 7 0x700))) (device cs Stby (Some 1) Nothing) (host 1 (Some device_csd)) (device cs Tran (Some 1) Nothing)
 unfolding order_of bits number_of
 selection cs =
-    let both = happens _ 0x00010000 SelectCard (Replied (R1 7 0x700)) (device cs Stby (Some 1) Nothing) (device cs Tran (Some 1) Nothing) (host 1 (Some device_csd)) refl refl (made refl)
+    let both = happens _ 0x00010000 SelectCard (Replied (R1 7 0x700)) (device cs Stby (Some 1) Nothing) (device cs Tran (Some 1) Nothing)
+    (host 1 (Some device_csd)) refl refl (made refl)
     (record { target = Tran; has_row = first; length = refl; erase = refl; preset = refl })
     (record {
       is_word = lit< tt;
@@ -138,7 +143,8 @@ selection cs =
       state = refl;
       app = tt;
       error = no_error _ _ _ refl refl;
-      card = inl (taken Cmd7Addressed 0x00010000 cs Stby Tran (Some 1) (Some 1) Nothing first refl first refl refl refl first refl (no_blocks _ _ refl refl) refl);
+      card = inl (taken Cmd7Addressed 0x00010000 cs Stby Tran (Some 1) (Some 1) Nothing first refl first refl refl refl first refl
+          (no_blocks _ _ refl refl) refl);
     }) in
     record { made = made refl; legal = both.0; bounds = tt; step = both.1 }
 
@@ -146,7 +152,8 @@ block_length : (cs : List Block) →
     Happens (command 16 Plain 512 (Replied (R1 16 0x900))) (device cs Tran (Some 1) Nothing) (host 1 (Some device_csd)) (device cs Tran (Some 1) Nothing)
 unfolding order_of bits number_of
 block_length cs =
-    let both = happens _ 512 SetBlockLength (Replied (R1 16 0x900)) (device cs Tran (Some 1) Nothing) (device cs Tran (Some 1) Nothing) (host 1 (Some device_csd)) refl refl (made refl)
+    let both = happens _ 512 SetBlockLength (Replied (R1 16 0x900)) (device cs Tran (Some 1) Nothing) (device cs Tran (Some 1) Nothing)
+    (host 1 (Some device_csd)) refl refl (made refl)
     (record { target = Tran; has_row = first; length = refl; erase = refl; preset = refl })
     (record {
       is_word = lit< tt;
@@ -162,7 +169,8 @@ extended_data : (cs : List Block) →
     Happens (command 8 Plain 0 (Replied (R1 8 0x900))) (device cs Tran (Some 1) Nothing) (host 1 (Some device_csd)) (device cs Data (Some 1) ExtCsdDue)
 unfolding order_of bits number_of
 extended_data cs =
-    let both = happens _ 0 SendExtCsd (Replied (R1 8 0x900)) (device cs Tran (Some 1) Nothing) (device cs Data (Some 1) ExtCsdDue) (host 1 (Some device_csd)) refl refl (made refl)
+    let both = happens _ 0 SendExtCsd (Replied (R1 8 0x900)) (device cs Tran (Some 1) Nothing) (device cs Data (Some 1) ExtCsdDue)
+    (host 1 (Some device_csd)) refl refl (made refl)
     (record { target = Data; has_row = first; length = refl; erase = refl; preset = refl })
     (record {
       is_word = lit< tt;
@@ -188,15 +196,49 @@ register_phase cs = record {
 csd_fits : IsRegister 15 device_csd
 csd_fits = record {
   size = refl;
-  bytes_fit = bytes_fit device_csd
-      (lit< tt, (lit< tt, (lit< tt, (lit< tt, (lit< tt, (lit< tt, (lit< tt, (lit< tt, (lit< tt, (lit< tt, (lit< tt, (lit< tt, (lit< tt, (lit< tt, (lit< tt, tt)))))))))))))));
+  bytes_fit = bytes_fit device_csd (
+    lit< tt,
+    (
+      lit< tt,
+      (
+        lit< tt,
+        (
+          lit< tt,
+          (
+            lit< tt,
+            (
+              lit< tt,
+              (lit< tt, (lit< tt, (lit< tt, (lit< tt, (lit< tt, (lit< tt, (lit< tt, (lit< tt, (lit< tt, tt))))))))),
+            ),
+          ),
+        ),
+      ),
+    ),
+  );
 }
 
 cid_fits : IsRegister 15 device_cid
 cid_fits = record {
   size = refl;
-  bytes_fit = bytes_fit device_cid
-      (lit< tt, (lit< tt, (lit< tt, (lit< tt, (lit< tt, (lit< tt, (lit< tt, (lit< tt, (lit< tt, (lit< tt, (lit< tt, (lit< tt, (lit< tt, (lit< tt, (lit< tt, tt)))))))))))))));
+  bytes_fit = bytes_fit device_cid (
+    lit< tt,
+    (
+      lit< tt,
+      (
+        lit< tt,
+        (
+          lit< tt,
+          (
+            lit< tt,
+            (
+              lit< tt,
+              (lit< tt, (lit< tt, (lit< tt, (lit< tt, (lit< tt, (lit< tt, (lit< tt, (lit< tt, (lit< tt, tt))))))))),
+            ),
+          ),
+        ),
+      ),
+    ),
+  );
 }
 
 ext_csd_fits : IsRegister 512 device_ext_csd

@@ -88,11 +88,13 @@ module _ (cs : List Block) (n : ℕ) where
     error = refl;
     card = inl (record {
       rca = refl;
-      card = taken Cmd3Sd argument Ident Stby None (Some 0x1234) false false (here refl) refl (here refl) (0x1234, refl, lit< tt, lit< tt) refl refl (here refl) refl (no_blocks _ _ refl refl) refl;
+      card = taken Cmd3Sd argument Ident Stby None (Some 0x1234) false false (here refl) refl (here refl) (0x1234, refl, lit< tt, lit< tt) refl refl
+          (here refl) refl (no_blocks _ _ refl refl) refl;
     });
   }
 
-  pub addressed_again : (argument : ℕ) → Comes SendRelativeAddress argument (card Stby (Some 0x1234) false) (Replied (R6 0x12340700)) (card Stby (Some 0x1234) false)
+  pub addressed_again : (argument : ℕ) → Comes SendRelativeAddress argument (card Stby (Some 0x1234) false) (Replied (R6 0x12340700))
+      (card Stby (Some 0x1234) false)
   unfolding bits number_of
   addressed_again argument = record {
     is_word = lit< tt;
@@ -100,7 +102,8 @@ module _ (cs : List Block) (n : ℕ) where
     error = refl;
     card = inl (record {
       rca = refl;
-      card = taken Cmd3Sd argument Stby Stby (Some 0x1234) (Some 0x1234) false false (there (here refl)) refl (here refl) (0x1234, refl, lit< tt, lit< tt) refl refl (here refl) refl (no_blocks _ _ refl refl) refl;
+      card = taken Cmd3Sd argument Stby Stby (Some 0x1234) (Some 0x1234) false false (there (here refl)) refl (here refl)
+          (0x1234, refl, lit< tt, lit< tt) refl refl (here refl) refl (no_blocks _ _ refl refl) refl;
     });
   }
 
@@ -113,10 +116,13 @@ module _ (cs : List Block) (n : ℕ) where
   }
 
   -- ACMD41, with which the card gets ready or not yet
-  pub goes_ready : (high : Bool) (argument : ℕ) → IsTrue (may_reach (Acmd41 high) true Ready) → Taken (Acmd41 high) argument (card Idle None true) (card Ready None false)
-  goes_ready high argument may = taken (Acmd41 high) argument Idle Ready None None true false (here refl) may (here refl) refl refl refl (here refl) refl (no_blocks _ _ refl refl) refl
+  pub goes_ready : (high : Bool) (argument : ℕ) → IsTrue (may_reach (Acmd41 high) true Ready)
+      → Taken (Acmd41 high) argument (card Idle None true) (card Ready None false)
+  goes_ready high argument may = taken (Acmd41 high) argument Idle Ready None None true false (here refl) may (here refl) refl refl refl (here refl) refl
+      (no_blocks _ _ refl refl) refl
 
-  pub is_ready : (high : Bool) (argument : ℕ) → IsTrue (may_reach (Acmd41 high) true Ready) → Comes (SdSendOpCond high) argument (card Idle None true) (Replied (R3 0xc0ff8000)) (card Ready None false)
+  pub is_ready : (high : Bool) (argument : ℕ) → IsTrue (may_reach (Acmd41 high) true Ready)
+      → Comes (SdSendOpCond high) argument (card Idle None true) (Replied (R3 0xc0ff8000)) (card Ready None false)
   unfolding bits number_of
   is_ready high argument may = record {
     is_word = lit< tt;
@@ -127,14 +133,16 @@ module _ (cs : List Block) (n : ℕ) where
     error = refl;
   }
 
-  pub not_ready : (high : Bool) (argument : ℕ) → IsTrue (may_reach (Acmd41 high) true Idle) → Comes (SdSendOpCond high) argument (card Idle None true) (Replied (R3 0x00ff8000)) (card Idle None false)
+  pub not_ready : (high : Bool) (argument : ℕ) → IsTrue (may_reach (Acmd41 high) true Idle)
+      → Comes (SdSendOpCond high) argument (card Idle None true) (Replied (R3 0x00ff8000)) (card Idle None false)
   unfolding bits number_of
   not_ready high argument may = record {
     is_word = lit< tt;
     windows = refl;
     ready = refl;
     unit = λ r. absurd (let f : false ≡ true = r in cc);
-    card = taken (Acmd41 high) argument Idle Idle None None true false (there (here refl)) may (here refl) refl refl refl (here refl) refl (no_blocks _ _ refl refl) refl;
+    card = taken (Acmd41 high) argument Idle Idle None None true false (there (here refl)) may (here refl) refl refl refl (here refl) refl
+        (no_blocks _ _ refl refl) refl;
     error = refl;
   }
 
@@ -147,11 +155,13 @@ module _ (cs : List Block) (n : ℕ) where
     state = refl;
     app = refl;
     error = no_error _ _ _ refl refl;
-    card = inl (taken Cmd55 argument Idle Idle None None app true (here refl) refl (there (here refl)) refl refl refl (here refl) refl (no_blocks _ _ refl refl) refl);
+    card = inl (taken Cmd55 argument Idle Idle None None app true (here refl) refl (there (here refl)) refl refl refl (here refl) refl
+        (no_blocks _ _ refl refl) refl);
   }
 
   -- to the card's own address
-  pub application_stby : (app : Bool) (argument : ℕ) → SettledAnswer (By Cmd55) AppCommand argument (card Stby (Some 0x1234) app) (Replied (R1 55 0x720)) (card Stby (Some 0x1234) true)
+  pub application_stby : (app : Bool) (argument : ℕ) → SettledAnswer (By Cmd55) AppCommand argument (card Stby (Some 0x1234) app) (Replied (R1 55 0x720))
+      (card Stby (Some 0x1234) true)
   unfolding bits number_of
   application_stby app argument = record {
     is_word = lit< tt;
@@ -159,5 +169,6 @@ module _ (cs : List Block) (n : ℕ) where
     state = refl;
     app = refl;
     error = no_error _ _ _ refl refl;
-    card = inl (taken Cmd55 argument Stby Stby (Some 0x1234) (Some 0x1234) app true (there (here refl)) refl (there (here refl)) refl refl refl (here refl) refl (no_blocks _ _ refl refl) refl);
+    card = inl (taken Cmd55 argument Stby Stby (Some 0x1234) (Some 0x1234) app true (there (here refl)) refl (there (here refl)) refl refl refl (here refl) refl
+        (no_blocks _ _ refl refl) refl);
   }

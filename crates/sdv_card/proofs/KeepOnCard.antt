@@ -65,9 +65,11 @@ record Announced (c : Card) (row : Row) (position argument : ℕ) : Type 0 where
 taken_on_card : (row : Row) (position argument : ℕ) (c t u : Card) → SameCard c t → SameCard c u → Taken row argument t u →
     Announced c row position argument → TransferOnCard t → TransferOnCard u
 taken_on_card Cmd17 position argument c t u ct cu m within on due = within_same c u position argument 1 cu (within.some 1 refl) (within.within 1 refl) m.blocks
-taken_on_card (Cmd18 n) position argument c t u ct cu m within on due = within_same c u position argument n cu (within.some n refl) (within.within n refl) m.blocks
+taken_on_card (Cmd18 n) position argument c t u ct cu m within on due =
+    within_same c u position argument n cu (within.some n refl) (within.within n refl) m.blocks
 taken_on_card Cmd24 position argument c t u ct cu m within on due = within_same c u position argument 1 cu (within.some 1 refl) (within.within 1 refl) m.blocks
-taken_on_card (Cmd25 n) position argument c t u ct cu m within on due = within_same c u position argument n cu (within.some n refl) (within.within n refl) m.blocks
+taken_on_card (Cmd25 n) position argument c t u ct cu m within on due =
+    within_same c u position argument n cu (within.some n refl) (within.within n refl) m.blocks
 taken_on_card Cmd0 position argument c t u ct cu m within on due = absurd (no_due _ u.transfer refl m.transfer due)
 taken_on_card Cmd8Emmc position argument c t u ct cu m within on due = absurd (no_due _ u.transfer refl m.transfer due)
 taken_on_card Cmd12 position argument c t u ct cu m within on due = absurd (no_due _ u.transfer refl m.transfer due)
@@ -86,7 +88,8 @@ settled_on_card c t (inl e) on = subst (λ v. TransferOnCard v) e on
 settled_on_card c t (inr x) on = λ due. absurd (no_due _ t.transfer refl (ap (λ v. v.transfer) x.2) due)
 
 -- the blocks that the ask addresses are on the card
-asked_within : (ask : Ask) (position argument n : ℕ) (c : Card) → addressed_blocks ask ≡ Some n → BlocksWithin (addressed_blocks ask) c position argument → Within c position argument n
+asked_within : (ask : Ask) (position argument n : ℕ) (c : Card) → addressed_blocks ask ≡ Some n → BlocksWithin (addressed_blocks ask) c position argument
+    → Within c position argument n
 asked_within ask position argument n c e w = subst (λ o. BlocksWithin o c position argument) e w
 
 moved_on_card : (end : DataEnd) (c u : Card) → Moved end c u → TransferOnCard u

@@ -187,7 +187,8 @@ exchange_pair k ask order argument c u h answer pair e x =
     (λ row by. subst (λ n. n < 65536) (same_count (says order t.app m row by)) (of_ask k ask order e).count)
     (settled_is_card c t pair.card x.settled) came)
     ((settled_same c t x.settled).kind ∙ (became_same way argument t u came).kind) refl
-    (rca_after way order argument t u answer h.rca (ignored_rca order t.app m h.rca) (λ row by. (says order t.app m row by).rca answer h.rca) x.answered pair.rca)
+    (rca_after way order argument t u answer h.rca (ignored_rca order t.app m h.rca)
+    (λ row by. (says order t.app m row by).rca answer h.rca) x.answered pair.rca)
 
 pub steps_keep_pairs : (k : Kind) → StepsKeepPairs k
 steps_keep_pairs k (SendCommand ask position argument) c h (Answered answer) u pair made s =

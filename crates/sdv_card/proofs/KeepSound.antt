@@ -256,7 +256,8 @@ only_ext_csd SdStatusDue app preset c fits due = absurd (let e : false ≡ true 
 only_ext_csd ExtCsdDue app preset c fits due = refl
 only_ext_csd x app preset c fits due = absurd (let e : false ≡ true = due in cc)
 
-whole_register : (register bytes : List ℕ) → length register ≡ 512 → length bytes ≡ 512 → take (length register) bytes ≡ take (length bytes) register → bytes ≡ register
+whole_register : (register bytes : List ℕ) → length register ≡ 512 → length bytes ≡ 512 → take (length register) bytes ≡ take (length bytes) register
+    → bytes ≡ register
 whole_register register bytes long read e =
     sym (take_all (length register) bytes (omega (arith, long, read))) ∙ (e ∙ take_all (length bytes) register (omega (arith, long, read)))
 
@@ -288,7 +289,8 @@ steps_keep_sound k (SendCommand ask position argument) c h (Answered answer) u p
     (became_same way argument t u (became way s.order argument t u answer s.exchange.answered))
     (subst (λ o. SettledLegal (card_takes t o argument) t) same_order (legal.settled t s.exchange.settled)) s.exchange.answered)
 steps_keep_sound k (ReceiveBlocks count) c h (BlocksIn end blocks) u pair made legal s sound =
-    calm_sound c u h h (steps_keep_same k (ReceiveBlocks count) c (BlocksIn end blocks) u pair.kind s) (moved_blocks end c u s.moved) (moved_register end c u s.moved)
+    calm_sound c u h h (steps_keep_same k (ReceiveBlocks count) c (BlocksIn end blocks) u pair.kind s) (moved_blocks end c u s.moved)
+    (moved_register end c u s.moved)
     sound.csd (λ emmc bytes e. sound.ext_csd bytes emmc e)
 steps_keep_sound k (ReceiveRegister count) c h (RegisterIn end bytes) u pair made legal s sound =
     calm_sound c u h (record h { ext_csd = ext_csd_known count end bytes h.ext_csd })
@@ -298,7 +300,8 @@ steps_keep_sound k (ReceiveRegister count) c h (RegisterIn end bytes) u pair mad
     (only_ext_csd c.transfer c.app c.preset c (subst (λ v. kind_fits v c.transfer c.app c.preset ≡ true) emmc pair.card.kind_rules) s.due)
     s.size s.truth (λ b e. sound.ext_csd b emmc e))
 steps_keep_sound k (GiveBlocks blocks) c h (BlocksOut end) u pair made legal s sound =
-    calm_sound c u h h (steps_keep_same k (GiveBlocks blocks) c (BlocksOut end) u pair.kind s) (written_blocks end c u s.moved) (written_register end c u s.moved)
+    calm_sound c u h h (steps_keep_same k (GiveBlocks blocks) c (BlocksOut end) u pair.kind s) (written_blocks end c u s.moved)
+    (written_register end c u s.moved)
     sound.csd (λ emmc bytes e. sound.ext_csd bytes emmc e)
 steps_keep_sound k AwaitReady c h (Waited end) u pair made legal s sound =
     subst (λ v. Sound v h) s.card (record { csd = sound.csd; ext_csd = sound.ext_csd; blocks = sound.blocks; register = sound.register })

@@ -90,7 +90,8 @@ below_more n h = omega arith
 
 -- a line with any count from 1 to 65,535
 counted : (k : Kind) (ask : Ask) (index : ℕ) (order : ℕ → Order) → has_order k (order ask.count) ≡ true → index ≡ order_index (order ask.count) →
-    (IsCount ask.count ask.count → WritesCount (order ask.count) ask.count) → WritesArgument (order ask.count) 0 → is_counted ask index ≡ true → LineOf k ask (order ask.count)
+    (IsCount ask.count ask.count → WritesCount (order ask.count) ask.count) → WritesArgument (order ask.count) 0 → is_counted ask index ≡ true
+    → LineOf k ask (order ask.count)
 counted k ask index order has own_index own_count own_argument i =
     let is : is_line ask index Plain 0 ask.count ≡ true = and_left _ _ (and_left _ _ i) in
     record {
@@ -99,7 +100,8 @@ counted k ask index order has own_index own_count own_argument i =
       argument = subst (WritesArgument (order ask.count)) (sym (line_argument ask index Plain 0 ask.count is)) own_argument;
       count = own_count (record {
         same = refl;
-        some = leb-true 1 ask.count (and_right (is_line ask index Plain 0 ask.count) _ (and_left (is_line ask index Plain 0 ask.count && nat_le 1 ask.count) _ i));
+        some = leb-true 1 ask.count (and_right (is_line ask index Plain 0 ask.count) _
+            (and_left (is_line ask index Plain 0 ask.count && nat_le 1 ask.count) _ i));
         most = below_more ask.count (leb-true ask.count 65535 (and_right (is_line ask index Plain 0 ask.count && nat_le 1 ask.count) _ i));
       });
     }
@@ -124,8 +126,10 @@ sd_line ask order e =
     line Sd ask order (is_line ask 32 Plain 0 0) EraseBlockStart _ (written Sd ask 32 Plain 0 0 EraseBlockStart refl refl refl refl) e (λ e.
     line Sd ask order (is_line ask 33 Plain 0 0) EraseBlockEnd _ (written Sd ask 33 Plain 0 0 EraseBlockEnd refl refl refl refl) e (λ e.
     line Sd ask order (is_line ask 38 Plain 0 0) Erase _ (written Sd ask 38 Plain 0 0 Erase refl refl (lit≤ tt) refl) e (λ e.
-    line Sd ask order (is_line ask 41 Plain 0x00ff8000 0) (SdSendOpCond false) _ (written Sd ask 41 Plain 0x00ff8000 0 (SdSendOpCond false) refl refl refl refl) e (λ e.
-    line Sd ask order (is_line ask 41 Plain 0x40ff8000 0) (SdSendOpCond true) _ (written Sd ask 41 Plain 0x40ff8000 0 (SdSendOpCond true) refl refl refl refl) e (λ e.
+    line Sd ask order (is_line ask 41 Plain 0x00ff8000 0) (SdSendOpCond false) _
+    (written Sd ask 41 Plain 0x00ff8000 0 (SdSendOpCond false) refl refl refl refl) e (λ e.
+    line Sd ask order (is_line ask 41 Plain 0x40ff8000 0) (SdSendOpCond true) _ (written Sd ask 41 Plain 0x40ff8000 0 (SdSendOpCond true) refl refl refl refl) e
+    (λ e.
     line Sd ask order (is_line ask 51 Plain 0 0) SendScr _ (written Sd ask 51 Plain 0 0 SendScr refl refl refl refl) e (λ e.
     line Sd ask order (is_line ask 55 Rca 0 0) AppCommand _ (written Sd ask 55 Rca 0 0 AppCommand refl refl refl refl) e (λ e.
     absurd (cc)))))))))))))))))))))))
@@ -182,7 +186,8 @@ some_one e = cc
 at_index : (index own count n : ℕ) → index ≡ own → blocks_at own count ≡ Some n → blocks_at index count ≡ Some n
 at_index index own count n is e = subst (λ i. blocks_at i count ≡ Some n) (sym is) e
 
-announced_blocks : (order : Order) (index count n : ℕ) → index ≡ order_index order → WritesCount order count → order_announces order ≡ Some n → blocks_at index count ≡ Some n
+announced_blocks : (order : Order) (index count n : ℕ) → index ≡ order_index order → WritesCount order count → order_announces order ≡ Some n
+    → blocks_at index count ≡ Some n
 announced_blocks ReadSingleBlock index count n is w e = at_index _ _ _ _ is (ap Some w ∙ e)
 announced_blocks WriteBlock index count n is w e = at_index _ _ _ _ is (ap Some w ∙ e)
 announced_blocks (ReadMultipleBlock m) index count n is w e = at_index _ _ _ _ is (ap Some w.same ∙ e)

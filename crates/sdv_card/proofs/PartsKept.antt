@@ -93,10 +93,12 @@ kind_taken Sd Cmd8Emmc x app app' p p' a b m e f = absurd m
 kind_taken Emmc Cmd8Emmc x app app' p p' a b m e f = f
 kind_taken k Cmd17 x app app' p p' a b m e f = kind_of_blocks k ReadDue app' p' refl f
 kind_taken k (Cmd18 n) x app app' p p' a b m e f =
-    either (λ y. kind_fits k y app' p' ≡ true) (p == 0) OpenReadDue ReadDue (kind_of_blocks k OpenReadDue app' p' refl f) (kind_of_blocks k ReadDue app' p' refl f)
+    either (λ y. kind_fits k y app' p' ≡ true) (p == 0) OpenReadDue ReadDue (kind_of_blocks k OpenReadDue app' p' refl f)
+    (kind_of_blocks k ReadDue app' p' refl f)
 kind_taken k Cmd24 x app app' p p' a b m e f = kind_of_blocks k WriteDue app' p' refl f
 kind_taken k (Cmd25 n) x app app' p p' a b m e f =
-    either (λ y. kind_fits k y app' p' ≡ true) (p == 0) OpenWriteDue WriteDue (kind_of_blocks k OpenWriteDue app' p' refl f) (kind_of_blocks k WriteDue app' p' refl f)
+    either (λ y. kind_fits k y app' p' ≡ true) (p == 0) OpenWriteDue WriteDue (kind_of_blocks k OpenWriteDue app' p' refl f)
+    (kind_of_blocks k WriteDue app' p' refl f)
 kind_taken Sd Acmd13 x app app' p p' a b m e f = f
 kind_taken Emmc Acmd13 x app app' p p' a b m e f = absurd m
 kind_taken Sd Acmd51 x app app' p p' a b m e f = f
@@ -125,7 +127,8 @@ announced_small Cmd24 argument t u count small b = subst (λ n. n < 65536) b.cou
 announced_small (Cmd25 n) argument t u count small b = subst (λ n. n < 65536) b.count_is count
 announced_small row argument t u count small b = subst (λ n. n < 65536) b.count_is small
 
-pub contents_kept : (row : Row) (capacity : ℕ) (contents after : List Block) → ContentsAfter row capacity contents after → AreBlocks capacity contents → AreBlocks capacity after
+pub contents_kept : (row : Row) (capacity : ℕ) (contents after : List Block) → ContentsAfter row capacity contents after → AreBlocks capacity contents
+    → AreBlocks capacity after
 contents_kept Cmd38 capacity contents after m b = m
 contents_kept row capacity contents after m b = subst (λ v. AreBlocks capacity v) m b
 

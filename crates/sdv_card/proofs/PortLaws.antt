@@ -16,7 +16,8 @@ shows_none_keeps steps s s' k event c h returned shown fine step = absurd (none_
 inner : {C S : Type 0} (part : C → S) (card : S → Option Card) (s : C) (c : Card) → Shows (λ x. card (part x)) s c → Shows card (part s) c
 inner part card s c shown = record { shown = shown.shown; shows = shown.shows; same = shown.same; count = shown.count }
 
-outer : {C S : Type 0} (part : C → S) (card : S → Option Card) (s' : C) (event : ScriptEvent) (c : Card) (returned : Return) → Kept card event c returned (part s') → Kept (λ x. card (part x)) event c returned s'
+outer : {C S : Type 0} (part : C → S) (card : S → Option Card) (s' : C) (event : ScriptEvent) (c : Card) (returned : Return)
+    → Kept card event c returned (part s') → Kept (λ x. card (part x)) event c returned s'
 outer part card s' event c returned kept = record {
   after = kept.after;
   step = kept.step;

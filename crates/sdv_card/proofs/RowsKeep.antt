@@ -102,7 +102,8 @@ sd_table Cmd10 a b m =
 sd_table Cmd12 a b m = at_move Cmd12 ((Data to Tran) ∷ (Rcv to Prg) ∷ []) a b stop_rows m
 sd_table Cmd13 a b m =
     at_move Cmd13 (unchanged (Stby ∷ Tran ∷ Data ∷ Rcv ∷ Prg ∷ Dis ∷ [])) a b
-    (each_unchanged Cmd13 (λ s. record { address = λ rca after r a. same_address s rca after r a; transfer = λ p x e. e }) (Stby ∷ Tran ∷ Data ∷ Rcv ∷ Prg ∷ Dis ∷ [])) m
+    (each_unchanged Cmd13 (λ s. record { address = λ rca after r a. same_address s rca after r a; transfer = λ p x e. e })
+    (Stby ∷ Tran ∷ Data ∷ Rcv ∷ Prg ∷ Dis ∷ [])) m
 sd_table Cmd16 a b m =
     at_move Cmd16 (unchanged (Tran ∷ [])) a b
     (each_unchanged Cmd16 (λ s. record { address = λ rca after r a. same_address s rca after r a; transfer = λ p x e. e }) (Tran ∷ [])) m
@@ -136,7 +137,8 @@ sd_table Cmd38 a b m =
     at_move Cmd38 ((Tran to Prg) ∷ []) a b (record { address = λ rca after r a. same_address Prg rca after r a; transfer = λ p x e. e }, tt) m
 sd_table Cmd55 a b m =
     at_move Cmd55 (unchanged (Idle ∷ Stby ∷ Tran ∷ Data ∷ Rcv ∷ Prg ∷ Dis ∷ [])) a b
-    (each_unchanged Cmd55 (λ s. record { address = λ rca after r a. same_address s rca after r a; transfer = λ p x e. e }) (Idle ∷ Stby ∷ Tran ∷ Data ∷ Rcv ∷ Prg ∷ Dis ∷ [])) m
+    (each_unchanged Cmd55 (λ s. record { address = λ rca after r a. same_address s rca after r a; transfer = λ p x e. e })
+    (Idle ∷ Stby ∷ Tran ∷ Data ∷ Rcv ∷ Prg ∷ Dis ∷ [])) m
 sd_table Acmd13 a b m =
     at_move Acmd13 ((Tran to Data) ∷ []) a b (record { address = λ rca after r a. same_address Data rca after r a; transfer = λ p x e. refl }, tt) m
 sd_table (Acmd41 high) a b m =

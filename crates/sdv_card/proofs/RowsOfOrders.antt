@@ -250,7 +250,8 @@ ignored_rca SetRelativeAddress false matched n e = absurd (cc)
 ignored_rca order app matched n e = refl
 
 -- a host waits in vain for a response to an order that a card may ignore
-pub ignored_waits : (order : Order) (app matched : Bool) (index : ℕ) → taken_as_of order app matched ≡ Ignored → AnswerExpected (order_expect order index) TimeOut
+pub ignored_waits : (order : Order) (app matched : Bool) (index : ℕ) → taken_as_of order app matched ≡ Ignored
+    → AnswerExpected (order_expect order index) TimeOut
 ignored_waits GoIdleState app matched index e = absurd (cc)
 ignored_waits DeselectCards true matched index e = absurd (cc)
 ignored_waits DeselectCards false matched index e = absurd (cc)

@@ -20,7 +20,8 @@ append_nil (x ∷ xs) = ap (λ v. x ∷ v) (append_nil xs)
 pub each_more : {A B : Type 0} → (xs : List A) (i : ℕ) (d : A) (f : A → List B) → i < length xs →
     each (take (i + 1) xs) f ≡ each (take i xs) f ++ f (get_or xs i d)
 each_more xs i d f h =
-    ap (λ v. each v f) (take_more xs i d h) ∙ (each-append (take i xs) (get_or xs i d ∷ []) f ∙ ap (λ v. each (take i xs) f ++ v) (append_nil (f (get_or xs i d))))
+    ap (λ v. each v f) (take_more xs i d h) ∙ (each-append (take i xs) (get_or xs i d ∷ []) f
+    ∙ ap (λ v. each (take i xs) f ++ v) (append_nil (f (get_or xs i d))))
 
 -- map of one more element
 pub map_more : {A B : Type 0} → (xs : List A) (i : ℕ) (d : A) (f : A → B) → i < length xs →

@@ -95,7 +95,8 @@ application cs =
 conditions : (cs : List Block) → Happens (ask_conditions (Replied (R3 0xc0ff8000))) (card cs Idle None true) (host 0 None) (card cs Ready None false)
 unfolding order_of bits number_of
 conditions cs =
-    let both = happens _ 0x40ff8000 (SdSendOpCond true) (Replied (R3 0xc0ff8000)) (card cs Idle None true) (card cs Ready None false) (host 0 None) refl refl (made refl)
+    let both = happens _ 0x40ff8000 (SdSendOpCond true) (Replied (R3 0xc0ff8000)) (card cs Idle None true) (card cs Ready None false) (host 0 None) refl refl
+    (made refl)
     (record { target = Ready; has_row = first; length = refl; erase = refl; preset = refl })
     (example.is_ready cs 0 true 0x40ff8000 refl) in
     record { made = made refl; legal = both.0; bounds = tt; step = both.1 }
@@ -119,27 +120,33 @@ identification cs =
 address : (cs : List Block) → Happens (command 3 Plain 0 (Replied (R6 0x12340500))) (card cs Ident None false) (host 0 None) (card cs Stby (Some 0x1234) false)
 unfolding order_of bits number_of
 address cs =
-    let both = happens _ 0 SendRelativeAddress (Replied (R6 0x12340500)) (card cs Ident None false) (card cs Stby (Some 0x1234) false) (host 0 None) refl refl (made refl)
+    let both = happens _ 0 SendRelativeAddress (Replied (R6 0x12340500)) (card cs Ident None false) (card cs Stby (Some 0x1234) false) (host 0 None) refl refl
+    (made refl)
     (record { target = Stby; has_row = first; length = refl; erase = refl; preset = refl })
     (example.addressed cs 0 0) in
     record { made = made refl; legal = both.0; bounds = tt; step = both.1 }
 
-specific_data : (cs : List Block) → Happens (command 9 Rca 0x12340000 (Replied (R2 example_csd))) (card cs Stby (Some 0x1234) false) (host 0x1234 None) (card cs Stby (Some 0x1234) false)
+specific_data : (cs : List Block) → Happens (command 9 Rca 0x12340000 (Replied (R2 example_csd))) (card cs Stby (Some 0x1234) false) (host 0x1234 None)
+    (card cs Stby (Some 0x1234) false)
 unfolding order_of
 specific_data cs =
-    let both = happens _ 0x12340000 SendCsd (Replied (R2 example_csd)) (card cs Stby (Some 0x1234) false) (card cs Stby (Some 0x1234) false) (host 0x1234 None) refl refl (made refl)
+    let both = happens _ 0x12340000 SendCsd (Replied (R2 example_csd)) (card cs Stby (Some 0x1234) false) (card cs Stby (Some 0x1234) false)
+    (host 0x1234 None) refl refl (made refl)
     (record { target = Stby; has_row = first; length = refl; erase = refl; preset = refl })
     (record {
       shown = refl;
       error = refl;
-      card = example.taken cs 0 Cmd9 0x12340000 Stby Stby (Some 0x1234) (Some 0x1234) false false first refl first refl refl refl first refl (no_blocks _ _ refl refl) refl;
+      card = example.taken cs 0 Cmd9 0x12340000 Stby Stby (Some 0x1234) (Some 0x1234) false false first refl first refl refl refl first refl
+          (no_blocks _ _ refl refl) refl;
     }) in
     record { made = made refl; legal = both.0; bounds = tt; step = both.1 }
 
-selection : (cs : List Block) → Happens (command 7 Rca 0x12340000 (Replied (R1 7 0x700))) (card cs Stby (Some 0x1234) false) (host 0x1234 (Some example_csd)) (card cs Tran (Some 0x1234) false)
+selection : (cs : List Block) → Happens (command 7 Rca 0x12340000 (Replied (R1 7 0x700))) (card cs Stby (Some 0x1234) false) (host 0x1234 (Some example_csd))
+    (card cs Tran (Some 0x1234) false)
 unfolding order_of bits number_of
 selection cs =
-    let both = happens _ 0x12340000 SelectCard (Replied (R1 7 0x700)) (card cs Stby (Some 0x1234) false) (card cs Tran (Some 0x1234) false) (host 0x1234 (Some example_csd)) refl refl (made refl)
+    let both = happens _ 0x12340000 SelectCard (Replied (R1 7 0x700)) (card cs Stby (Some 0x1234) false) (card cs Tran (Some 0x1234) false)
+    (host 0x1234 (Some example_csd)) refl refl (made refl)
     (record { target = Tran; has_row = first; length = refl; erase = refl; preset = refl })
     (record {
       is_word = lit< tt;
@@ -147,14 +154,17 @@ selection cs =
       state = refl;
       app = tt;
       error = no_error _ _ _ refl refl;
-      card = inl (example.taken cs 0 Cmd7Addressed 0x12340000 Stby Tran (Some 0x1234) (Some 0x1234) false false first refl first refl refl refl first refl (no_blocks _ _ refl refl) refl);
+      card = inl (example.taken cs 0 Cmd7Addressed 0x12340000 Stby Tran (Some 0x1234) (Some 0x1234) false false first refl first refl refl refl first refl
+          (no_blocks _ _ refl refl) refl);
     }) in
     record { made = made refl; legal = both.0; bounds = tt; step = both.1 }
 
-block_length : (cs : List Block) → Happens (command 16 Plain 512 (Replied (R1 16 0x900))) (card cs Tran (Some 0x1234) false) (host 0x1234 (Some example_csd)) (card cs Tran (Some 0x1234) false)
+block_length : (cs : List Block) → Happens (command 16 Plain 512 (Replied (R1 16 0x900))) (card cs Tran (Some 0x1234) false) (host 0x1234 (Some example_csd))
+    (card cs Tran (Some 0x1234) false)
 unfolding order_of bits number_of
 block_length cs =
-    let both = happens _ 512 SetBlockLength (Replied (R1 16 0x900)) (card cs Tran (Some 0x1234) false) (card cs Tran (Some 0x1234) false) (host 0x1234 (Some example_csd)) refl refl (made refl)
+    let both = happens _ 512 SetBlockLength (Replied (R1 16 0x900)) (card cs Tran (Some 0x1234) false) (card cs Tran (Some 0x1234) false)
+    (host 0x1234 (Some example_csd)) refl refl (made refl)
     (record { target = Tran; has_row = first; length = refl; erase = refl; preset = refl })
     (record {
       is_word = lit< tt;
@@ -162,7 +172,8 @@ block_length cs =
       state = refl;
       app = tt;
       error = no_error _ _ _ refl refl;
-      card = inl (example.taken cs 0 Cmd16 512 Tran Tran (Some 0x1234) (Some 0x1234) false false first refl first refl refl refl first refl (no_blocks _ _ refl refl) refl);
+      card = inl (example.taken cs 0 Cmd16 512 Tran Tran (Some 0x1234) (Some 0x1234) false false first refl first refl refl refl first refl
+          (no_blocks _ _ refl refl) refl);
     }) in
     record { made = made refl; legal = both.0; bounds = tt; step = both.1 }
 
@@ -174,15 +185,49 @@ bytes_fit xs h = All-from_recursion IsByte xs h
 csd_fits : IsRegister 15 example_csd
 csd_fits = record {
   size = refl;
-  bytes_fit = bytes_fit example_csd
-      (lit< tt, (lit< tt, (lit< tt, (lit< tt, (lit< tt, (lit< tt, (lit< tt, (lit< tt, (lit< tt, (lit< tt, (lit< tt, (lit< tt, (lit< tt, (lit< tt, (lit< tt, tt)))))))))))))));
+  bytes_fit = bytes_fit example_csd (
+    lit< tt,
+    (
+      lit< tt,
+      (
+        lit< tt,
+        (
+          lit< tt,
+          (
+            lit< tt,
+            (
+              lit< tt,
+              (lit< tt, (lit< tt, (lit< tt, (lit< tt, (lit< tt, (lit< tt, (lit< tt, (lit< tt, (lit< tt, tt))))))))),
+            ),
+          ),
+        ),
+      ),
+    ),
+  );
 }
 
 cid_fits : IsRegister 15 example_cid
 cid_fits = record {
   size = refl;
-  bytes_fit = bytes_fit example_cid
-      (lit< tt, (lit< tt, (lit< tt, (lit< tt, (lit< tt, (lit< tt, (lit< tt, (lit< tt, (lit< tt, (lit< tt, (lit< tt, (lit< tt, (lit< tt, (lit< tt, (lit< tt, tt)))))))))))))));
+  bytes_fit = bytes_fit example_cid (
+    lit< tt,
+    (
+      lit< tt,
+      (
+        lit< tt,
+        (
+          lit< tt,
+          (
+            lit< tt,
+            (
+              lit< tt,
+              (lit< tt, (lit< tt, (lit< tt, (lit< tt, (lit< tt, (lit< tt, (lit< tt, (lit< tt, (lit< tt, tt))))))))),
+            ),
+          ),
+        ),
+      ),
+    ),
+  );
 }
 
 scr_fits : IsRegister 8 example_scr
@@ -305,7 +350,8 @@ programming_ends cs =
             state = refl;
             app = tt;
             error = no_error _ _ _ refl refl;
-            card = inl (example.taken cs 0 Cmd13 0x12340000 Tran Tran (Some 0x1234) (Some 0x1234) false false second refl first refl refl refl first refl (no_blocks _ _ refl refl) refl);
+            card = inl (example.taken cs 0 Cmd13 0x12340000 Tran Tran (Some 0x1234) (Some 0x1234) false false second refl first refl refl refl first refl
+                (no_blocks _ _ refl refl) refl);
           };
         };
       };
@@ -316,15 +362,18 @@ programming_ends cs =
         (record { target = Prg; has_row = record { one = inr (inr (inr (inr (inl refl)))) }; length = refl; erase = refl; preset = refl })
     either t (inr own) = subst (λ v. SettledLegal (card_takes v SendStatus 0x12340000) v) own.2 (after own.0 own.1)
       where
-        after : (s : State) → Some Tran ≡ Some s → SettledLegal (card_takes (record (selected_card cs) { state = s }) SendStatus 0x12340000) (record (selected_card cs) { state = s })
-        after s e = subst (λ v. SettledLegal (card_takes (record (selected_card cs) { state = v }) SendStatus 0x12340000) (record (selected_card cs) { state = v }))
+        after : (s : State) → Some Tran ≡ Some s → SettledLegal (card_takes (record (selected_card cs) { state = s }) SendStatus 0x12340000)
+            (record (selected_card cs) { state = s })
+        after s e = subst (λ v. SettledLegal (card_takes (record (selected_card cs) { state = v }) SendStatus 0x12340000)
+            (record (selected_card cs) { state = v }))
             (let same : Tran ≡ s = cc in same)
             (record { target = Tran; has_row = second; length = refl; erase = refl; preset = refl })
 
 pub doubt_stays : DoubtStays
 unfolding order_of bits number_of
 doubt_stays cs =
-    let both = happens _ 0x12340000 SelectCard (Replied (R1 7 0x80600)) (card cs Stby (Some 0x1234) false) (card cs Stby (Some 0x1234) false) example_host refl refl (made refl)
+    let both = happens _ 0x12340000 SelectCard (Replied (R1 7 0x80600)) (card cs Stby (Some 0x1234) false)
+    (card cs Stby (Some 0x1234) false) example_host refl refl (made refl)
     (record { target = Tran; has_row = first; length = refl; erase = refl; preset = refl })
     (record {
       is_word = lit< tt;
@@ -335,7 +384,17 @@ doubt_stays cs =
       card = inr (
         refl,
         record {
-          same = record { kind = refl; version = refl; block_unit = refl; capacity = refl; csd = refl; cid = refl; ext_csd = refl; scr = refl; sd_status = refl };
+          same = record {
+            kind = refl;
+            version = refl;
+            block_unit = refl;
+            capacity = refl;
+            csd = refl;
+            cid = refl;
+            ext_csd = refl;
+            scr = refl;
+            sd_status = refl;
+          };
           state = refl;
           app = refl;
           erase = first;

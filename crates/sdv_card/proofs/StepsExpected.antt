@@ -64,7 +64,8 @@ steps_are_expected k (SendCommand ask position argument) c (Answered answer) u k
     let m : Bool = matches t.rca (argument / 65536) in
     let e : order_of k ask ≡ Some s.order = subst (λ v. order_of v ask ≡ Some s.order) (sym kind) s.asks.line in
     let expected : AnswerExpected (order_expect s.order (order_index s.order)) answer =
-    settled_waits (card_takes t s.order argument) s.order argument t u answer (ignored_waits s.order t.app m (order_index s.order)) (says s.order t.app m) s.exchange.answered in
+    settled_waits (card_takes t s.order argument) s.order argument t u answer (ignored_waits s.order t.app m (order_index s.order))
+    (says s.order t.app m) s.exchange.answered in
     subst (λ o. AnswerExpected (expect_or_nothing o ask.index) answer) (sym e)
     (subst (λ n. AnswerExpected (order_expect s.order n) answer) (sym (of_ask k ask s.order e).index) expected)
 steps_are_expected k (ReceiveBlocks count) c (BlocksIn end blocks) u kind s = s.size

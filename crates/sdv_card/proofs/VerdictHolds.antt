@@ -89,7 +89,8 @@ answer_agrees : (k : Kind) (guard : Guard) (order : Order) (answer : Answer) →
 answer_agrees k guard order (Damaged fault) fit f = absurd f
 answer_agrees k WentWell order answer fit f = absurd (let g : false ≡ true = fit in cc)
 answer_agrees k Clean order (Replied (R1 index word)) fit f =
-    clean_agrees (in_doubt (R1 index word)) (is_clean k (R1 index word)) (state_field word) (app_of index word) (λ d. met_wider word (clean_mask k) doubt_mask (part_of_clean k) d)
+    clean_agrees (in_doubt (R1 index word)) (is_clean k (R1 index word)) (state_field word) (app_of index word)
+    (λ d. met_wider word (clean_mask k) doubt_mask (part_of_clean k) d)
 answer_agrees k Clean order (Replied (R6 word)) fit f =
     clean_agrees (in_doubt (R6 word)) (is_clean k (R6 word)) (state_field word) None (λ d. met_wider word clean_mask_r6 doubt_mask_r6 refl d)
 answer_agrees k ReadyForData order (Replied (R1 index word)) fit f = tt
@@ -119,7 +120,8 @@ answer_holds k guard order answer fit f =
 
 -- A PHASE AND A WAIT
 
-went_well : (k : Kind) (event : ScriptEvent) (returned : Return) (v : Verdict) → Agree (passes k WentWell returned) v → v ≡ verdict WentWell (seen_of k returned) →
+went_well : (k : Kind) (event : ScriptEvent) (returned : Return) (v : Verdict) → Agree (passes k WentWell returned) v
+    → v ≡ verdict WentWell (seen_of k returned) →
     VerdictHolds k WentWell returned
 went_well k event returned v agree e =
     let at : Agree (passes k WentWell returned) (verdict WentWell (seen_of k returned)) = subst (λ w. Agree (passes k WentWell returned) w) e agree in
@@ -137,8 +139,10 @@ verdicts_hold k guard (SendCommand ask position argument) c h (Answered answer) 
     (λ row by. says s.order s.exchange.settled_card.app (matches s.exchange.settled_card.rca (argument / 65536)) row by) s.exchange.answered)
 verdicts_hold k guard (ReceiveBlocks count) c h (BlocksIn Ok blocks) u pair fit s = phase_holds k (ReceiveBlocks count) (BlocksIn Ok blocks) refl guard fit
 verdicts_hold k guard (ReceiveBlocks count) c h (BlocksIn Cut blocks) u pair fit s = phase_holds k (ReceiveBlocks count) (BlocksIn Cut blocks) refl guard fit
-verdicts_hold k guard (ReceiveRegister count) c h (RegisterIn Ok bytes) u pair fit s = phase_holds k (ReceiveRegister count) (RegisterIn Ok bytes) refl guard fit
-verdicts_hold k guard (ReceiveRegister count) c h (RegisterIn Cut bytes) u pair fit s = phase_holds k (ReceiveRegister count) (RegisterIn Cut bytes) refl guard fit
+verdicts_hold k guard (ReceiveRegister count) c h (RegisterIn Ok bytes) u pair fit s =
+    phase_holds k (ReceiveRegister count) (RegisterIn Ok bytes) refl guard fit
+verdicts_hold k guard (ReceiveRegister count) c h (RegisterIn Cut bytes) u pair fit s =
+    phase_holds k (ReceiveRegister count) (RegisterIn Cut bytes) refl guard fit
 verdicts_hold k guard (GiveBlocks blocks) c h (BlocksOut Ok) u pair fit s = phase_holds k (GiveBlocks blocks) (BlocksOut Ok) refl guard fit
 verdicts_hold k guard (GiveBlocks blocks) c h (BlocksOut Cut) u pair fit s = phase_holds k (GiveBlocks blocks) (BlocksOut Cut) refl guard fit
 verdicts_hold k guard AwaitReady c h (Waited Over) u pair fit s = phase_holds k AwaitReady (Waited Over) refl guard fit

@@ -1,7 +1,7 @@
 -- Which responses a card gives, by the settled card t before the row and the card u after it.
--- SD Physical Layer Simplified Specification, sections 4.9 (responses), 4.10.1 (card status), 4.2.3.1 (ACMD41) and 5.1 (OCR);
--- JESD84-B51, sections 6.12, 6.13, 6.4 and 7.1. What a doubt leaves open is this project's profile. All bits of which
--- nothing is said here are free.
+-- SD Physical Layer Simplified Specification, sections 4.9 (responses), 4.10.1 (card status), 4.2.3.1 (ACMD41) and 5.1
+-- (OCR); JESD84-B51, sections 6.12, 6.13, 6.4 and 7.1. What a doubt leaves open is this project's profile. All bits of
+-- which nothing is said here are free.
 use Rattle.std.specs.Prelude.{◌≡◌, ◌<◌, ◌⊎◌, ◌%◌, ◌^◌, ◌&&◌, not, Bool, true, IsTrue, ℕ, Some, if◌then◌else◌}
 use Rattle.sdv_registers.specs.Status.{state as state_field, is_app_cmd, rca as published_rca}
 use Rattle.sdv_registers.specs.Ocr.{is_powered_up, ccs, access_mode, voltage_windows}

@@ -111,12 +111,14 @@ bring_up = before_conditions (ask_conditions (Replied (R3 0xc0ff8000)) ∷ after
 -- it happens at a card of the profile, from the start to the transfer state
 pub record BringUpHappens : Type 0 where
   pub start : (contents : List Block) → AreBlocks 1024 contents → IsAtStart (example_card contents)
-  pub all : (contents : List Block) → AllHappen bring_up (example_card contents) (host_at_start 0) (selected_card contents)
+  pub all : (contents : List Block) → AllHappen bring_up (example_card contents) (host_at_start 0)
+      (selected_card contents)
 
 -- the answer of the operating conditions is lost, and the card goes to ready state unheard
 abbrev pub LostAnswerHappens : Type 0
 LostAnswerHappens = (contents : List Block) →
-    AllHappen (before_conditions (ask_conditions TimeOut ∷ [])) (example_card contents) (host_at_start 0) (record (example_card contents) { state = Ready })
+    AllHappen (before_conditions (ask_conditions TimeOut ∷ [])) (example_card contents) (host_at_start 0)
+    (record (example_card contents) { state = Ready })
 
 -- the host that brought the card up
 abbrev pub example_host : Host
@@ -125,17 +127,21 @@ example_host = record (host_at_start 0) { rca = 0x1234; csd = Some example_csd }
 -- programming is done before a command arrives, and the status shows transfer state
 abbrev pub ProgrammingEnds : Type 0
 ProgrammingEnds = (contents : List Block) →
-    Happens (command 13 Rca 0x12340000 (Replied (R1 13 0x900))) (record (selected_card contents) { state = Prg }) example_host (selected_card contents)
+    Happens (command 13 Rca 0x12340000 (Replied (R1 13 0x900)))
+    (record (selected_card contents) { state = Prg }) example_host (selected_card contents)
 
 -- the status of a selection shows an error (bit 19), and the card stayed in stand-by state
 abbrev pub DoubtStays : Type 0
 DoubtStays = (contents : List Block) →
-    Happens (command 7 Rca 0x12340000 (Replied (R1 7 0x80600))) (record (selected_card contents) { state = Stby }) example_host (record (selected_card contents) { state = Stby })
+    Happens (command 7 Rca 0x12340000 (Replied (R1 7 0x80600)))
+    (record (selected_card contents) { state = Stby }) example_host
+    (record (selected_card contents) { state = Stby })
 
 -- a read of one block is over, and the card may have gone to transfer state, where CMD12 is not legal
 abbrev pub StopIsNotLegal : Type 0
 StopIsNotLegal = (contents : List Block) →
-    EventLegal (SendCommand (record { index = 12; aim = Plain; argument = 0; count = 0 }) 0 0) (record (selected_card contents) { state = Data; transfer = ReadOver }) → ⊥
+    EventLegal (SendCommand (record { index = 12; aim = Plain; argument = 0; count = 0 }) 0 0)
+    (record (selected_card contents) { state = Data; transfer = ReadOver }) → ⊥
 
 -- a read of the block at this position, with this argument
 abbrev pub read_at : (position argument : ℕ) → ScriptEvent

@@ -37,7 +37,8 @@ bool_number true = 1
 -- 13 match, 19..16 the script's flags, 47..32 preset count
 unfoldable pub code_of : Fields → ℕ
 code_of f =
-    state_number f.state + 16 * transfer_number f.transfer + 256 * erase_number f.erase + 1024 * bool_number f.block_unit
+    state_number f.state + 16 * transfer_number f.transfer + 256 * erase_number f.erase + 1024
+    * bool_number f.block_unit
     + 2048 * bool_number f.length_512 + 4096 * bool_number f.app + 8192 * bool_number f.matched
     + 65536 * f.flags + 4294967296 * f.preset
 
@@ -46,9 +47,12 @@ state_of n = if n == 0 then Idle else (if n == 1 then Ready else (if n == 2 then
     if n == 4 then Tran else (if n == 5 then Data else (if n == 6 then Rcv else (if n == 7 then Prg else Dis)))))))
 
 abbrev pub transfer_of : ℕ → Transfer
-transfer_of n = if n == 0 then Nothing else (if n == 1 then ReadDue else (if n == 2 then OpenReadDue else (if n == 3 then ScrDue else (
-    if n == 4 then SdStatusDue else (if n == 5 then ExtCsdDue else (if n == 6 then ReadOver else (if n == 7 then OpenReadOver else (
-    if n == 8 then WriteDue else (if n == 9 then OpenWriteDue else (if n == 10 then WriteOver else OpenWriteOver))))))))))
+transfer_of n = if n == 0 then Nothing else
+    (if n == 1 then ReadDue else (if n == 2 then OpenReadDue else (if n == 3 then ScrDue else (
+    if n == 4 then SdStatusDue else (if n == 5 then ExtCsdDue else
+    (if n == 6 then ReadOver else (if n == 7 then OpenReadOver else (
+    if n == 8 then WriteDue else (if n == 9 then OpenWriteDue else
+    (if n == 10 then WriteOver else OpenWriteOver))))))))))
 
 abbrev pub erase_of : ℕ → EraseStage
 erase_of n = if n == 0 then Outside else (if n == 1 then Begun else Both)

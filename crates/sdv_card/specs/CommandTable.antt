@@ -90,8 +90,8 @@ order_of Emmc ask = emmc_order ask
 pub record Asks (k : Kind) (ask : Ask) (order : Order) : Type 0 where
   pub line : order_of k ask ≡ Some order
 
--- What is sent as the argument of an order, by the ask's own argument, the relative card address that the host holds, and
--- the address of a block in the card's unit.
+-- What is sent as the argument of an order, by the ask's own argument, the relative card address that the host holds,
+-- and the address of a block in the card's unit.
 abbrev pub order_argument : Order → (argument rca address : ℕ) → ℕ
 order_argument SelectCard argument rca address = 65536 * rca
 order_argument SendCsd argument rca address = 65536 * rca

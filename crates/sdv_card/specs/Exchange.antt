@@ -1,6 +1,6 @@
 -- One command and what comes of it: the exchanges that a card makes.
--- SD Physical Layer Simplified Specification, sections 4.6 (error conditions) and 4.12 (timings); JESD84-B51, section 6.8.
--- Which commands and responses are lost, and what a loss leaves, is this project's profile.
+-- SD Physical Layer Simplified Specification, sections 4.6 (error conditions) and 4.12 (timings); JESD84-B51, section
+-- 6.8. Which commands and responses are lost, and what a loss leaves, is this project's profile.
 use Rattle.std.specs.Prelude.{◌≡◌, ◌⊎◌, ◌/◌, false, ℕ}
 use Rattle.sdv_card.specs.declared.command.Order.{Order}
 use Rattle.sdv_card.specs.declared.command.Order.TheVariants.{DeselectCards}
@@ -60,7 +60,8 @@ unaddressed_answer order = TimeOut
 abbrev pub RowAnswer : Response → Order → Row → ℕ → Card → Answer → Card → Type 0
 RowAnswer Absent order row argument t Sent u = Reset row argument t u
 RowAnswer Absent order row argument t answer u = ⊥
-RowAnswer NotAddressed order row argument t answer u = (unaddressed_answer order ≡ answer) × ((t ≡ u) ⊎ TakenUnseen row argument t u)
+RowAnswer NotAddressed order row argument t answer u =
+    (unaddressed_answer order ≡ answer) × ((t ≡ u) ⊎ TakenUnseen row argument t u)
 RowAnswer response order row argument t TimeOut u = Lost response row argument t u
 RowAnswer response order row argument t (Reply reply) u = Agrees response row argument t reply u
 RowAnswer response order row argument t answer u = ⊥

@@ -71,5 +71,6 @@ ext_csd_known count Cut bytes ext_csd = ext_csd
 -- the host after an event, by what it returned
 abbrev pub host_after : Kind → ScriptEvent → Return → Host → Host
 host_after k (SendCommand ask position argument) (Answered answer) h = host_after_order (order_of k ask) answer h
-host_after k (ReceiveRegister count) (RegisterIn end bytes) h = record h { ext_csd = ext_csd_known count end bytes h.ext_csd }
+host_after k (ReceiveRegister count) (RegisterIn end bytes) h =
+    record h { ext_csd = ext_csd_known count end bytes h.ext_csd }
 host_after k event returned h = h

@@ -7,7 +7,8 @@ use Rattle.sdv_card.specs.CommandTable.{argument_of}
 use Rattle.sdv_card.specs.ScriptEvent.{ScriptEvent, SendCommand, ReceiveBlocks, ReceiveRegister, GiveBlocks, AwaitReady}
 use Rattle.sdv_card.specs.Host.{Host}
 
--- what is sent with an ask: the host's relative card address, or the address of some block, or what the command table says
+-- what is sent with an ask: the host's relative card address, or the address of some block, or what the command table
+-- says
 pub record ArgumentFits (k : Kind) (ask : Ask) (argument : ℕ) (h : Host) : Type 0 where
   pub address : ℕ
   pub same : argument ≡ argument_of k ask h.rca address

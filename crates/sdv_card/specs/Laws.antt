@@ -67,7 +67,8 @@ HasOutcome k = (code : ℕ) (event : Event) → IsTrue (legal_code k code event)
 abbrev pub StepsAreOutcomes : Kind → Type 0
 StepsAreOutcomes k = (event : ScriptEvent) (c : Card) (h : Host) (returned : Return) (u : Card) →
     IsPair k c h → Makes k event h → EventLegal event c → Step event c returned u →
-    May (outcomes_code k (pair_code c h) (event_of event)) (outcome_of (branch (view u (host_after k event returned h)) (seen_of k returned)))
+    May (outcomes_code k (pair_code c h) (event_of event))
+    (outcome_of (branch (view u (host_after k event returned h)) (seen_of k returned)))
 
 -- what each step returns is what the host waits for
 abbrev pub StepsAreExpected : Kind → Type 0
@@ -81,12 +82,14 @@ StepsKeepPairs k = (event : ScriptEvent) (c : Card) (h : Host) (returned : Retur
 
 -- a step changes neither the size of a card nor its registers
 abbrev pub StepsKeepSame : Kind → Type 0
-StepsKeepSame k = (event : ScriptEvent) (c : Card) (returned : Return) (u : Card) → k ≡ c.kind → Step event c returned u → SameCard c u
+StepsKeepSame k = (event : ScriptEvent) (c : Card) (returned : Return) (u : Card) → k ≡ c.kind → Step event c returned u
+    → SameCard c u
 
 -- a legal step keeps what the host knows true
 abbrev pub StepsKeepSound : Kind → Type 0
 StepsKeepSound k = (event : ScriptEvent) (c : Card) (h : Host) (returned : Return) (u : Card) →
-    IsPair k c h → Makes k event h → EventLegal event c → Step event c returned u → Sound c h → Sound u (host_after k event returned h)
+    IsPair k c h → Makes k event h → EventLegal event c → Step event c returned u → Sound c h
+    → Sound u (host_after k event returned h)
 
 -- a legal step in bounds keeps the blocks of a transfer on the card
 abbrev pub StepsKeepOnCard : Kind → Type 0

@@ -69,8 +69,8 @@ EventLegal AwaitReady c = IsTrue (wait_legal c.state)
 
 -- IN BOUNDS
 
--- the argument is the address of the block at this position, in the card's own unit, and the card has so many blocks from
--- there on
+-- the argument is the address of the block at this position, in the card's own unit, and the card has so many blocks
+-- from there on
 pub record Within (c : Card) (position argument count : ℕ) : Type 0 where
   pub unit : argument ≡ (if c.block_unit then position else 512 * position)
   pub room : position + count ≤ c.capacity

@@ -22,7 +22,8 @@ use Rattle.sdv_card.specs.Outcomes.{settled}
 -- a settled t has the row, and meets its conditions
 abbrev pub row_legal : Kind → Row → Fields → Bool
 row_legal k row t =
-    has_some (targets (rows k row) t.state) && length_allows row t.length_512 && erase_allows row t.erase && preset_allows row t.preset
+    has_some (targets (rows k row) t.state) && length_allows row t.length_512 && erase_allows row t.erase
+    && preset_allows row t.preset
 
 abbrev pub settled_legal : Kind → Fields → TakenAs → Bool
 settled_legal k t Forbidden = false

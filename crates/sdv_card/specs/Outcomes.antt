@@ -57,13 +57,16 @@ abbrev pub with_matches : Fields → List Bool → List ℕ → List Fields
 with_matches t matches presets = each matches (λ matched. with_presets (record t { matched = matched }) presets)
 
 abbrev pub with_lengths : Fields → (lengths matches : List Bool) → List ℕ → List Fields
-with_lengths t lengths matches presets = each lengths (λ length. with_matches (record t { length_512 = length }) matches presets)
+with_lengths t lengths matches presets = each lengths
+    (λ length. with_matches (record t { length_512 = length }) matches presets)
 
 abbrev pub with_apps : Fields → (apps lengths matches : List Bool) → List ℕ → List Fields
-with_apps t apps lengths matches presets = each apps (λ app. with_lengths (record t { app = app }) lengths matches presets)
+with_apps t apps lengths matches presets =
+    each apps (λ app. with_lengths (record t { app = app }) lengths matches presets)
 
 abbrev pub with_states : Fields → List State → (apps lengths matches : List Bool) → List ℕ → List Fields
-with_states t states apps lengths matches presets = each states (λ state. with_apps (record t { state = state }) apps lengths matches presets)
+with_states t states apps lengths matches presets =
+    each states (λ state. with_apps (record t { state = state }) apps lengths matches presets)
 
 abbrev pub with_erases : Fields → List EraseStage → List Bool → List ℕ → List Fields
 with_erases t erases matches presets = each erases (λ erase. with_matches (record t { erase = erase }) matches presets)
@@ -77,7 +80,8 @@ taken k row known t =
 
 -- STAYED: a settled t that lost its application flag, with each match of a list
 abbrev pub stayed : Kind → Row → List Bool → Fields → List Fields
-stayed k row matches t = with_erases (record t { app = false }) (erase_stayed row t.erase) matches (preset_kept k t.preset)
+stayed k row matches t = with_erases (record t { app = false }) (erase_stayed row t.erase) matches
+    (preset_kept k t.preset)
 
 -- with a status or an address as response a card may have stayed
 abbrev pub lost_stayed : Kind → Response → Row → Fields → List Fields
@@ -121,10 +125,13 @@ unaddressed_seen order = TimeOut
 abbrev pub row_branches : Kind → Order → Row → Response → Fields → List Branch
 row_branches k order row Absent t = with_seen Sent (taken k row true t)
 row_branches k order row NotAddressed t = with_seen (unaddressed_seen order) (t ∷ taken k row true t)
-row_branches k order row CardStatus t = with_seen TimeOut (lost k CardStatus row t) ++ statuses row t (taken k row true t) (stayed k row (t.matched ∷ []) t)
-row_branches k order row NewAddress t = with_seen TimeOut (lost k NewAddress row t) ++ statuses row t (taken k row true t) (stayed k row (matched_stayed t.state) t)
+row_branches k order row CardStatus t = with_seen TimeOut (lost k CardStatus row t) ++ statuses row t
+    (taken k row true t) (stayed k row (t.matched ∷ []) t)
+row_branches k order row NewAddress t = with_seen TimeOut (lost k NewAddress row t) ++ statuses row t
+    (taken k row true t) (stayed k row (matched_stayed t.state) t)
 row_branches k order row Contents t = with_seen TimeOut (lost k Contents row t) ++ with_seen Bare (taken k row true t)
-row_branches k order row Conditions t = with_seen TimeOut (lost k Conditions row t) ++ with_conditions (taken k row true t)
+row_branches k order row Conditions t = with_seen TimeOut (lost k Conditions row t) ++ with_conditions
+    (taken k row true t)
 
 -- what may follow an order at a settled t
 abbrev pub settled_branches : Kind → Order → Fields → TakenAs → List Branch

@@ -42,8 +42,8 @@ count_known ReadDue = true
 count_known WriteDue = true
 count_known transfer = false
 
--- The card that a port shows, but for the announced count of an open transfer, which no frame carries: that is the count of
--- the script's events.
+-- The card that a port shows, but for the announced count of an open transfer, which no frame carries: that is the
+-- count of the script's events.
 pub record Shows {S : Type 0} (card : S → Option Card) (s : S) (c : Card) : Type 0 where
   pub shown : Card
   pub shows : card s ≡ Some shown
@@ -59,12 +59,14 @@ pub record IsFine (k : Kind) (event : ScriptEvent) (c : Card) (h : Host) : Type 
   pub on_card : TransferOnCard c
 
 -- what a call did is a step of the card, and the port shows the card after it
-pub record Kept {S : Type 0} (card : S → Option Card) (event : ScriptEvent) (c : Card) (returned : Return) (s' : S) : Type 0 where
+pub record Kept {S : Type 0} (card : S → Option Card) (event : ScriptEvent) (c : Card) (returned : Return)
+    (s' : S) : Type 0 where
   pub after : Card
   pub step : Step event c returned after
   pub shown : Shows card s' after
 
--- Where a port shows a card, the call of each legal event in bounds is a step of that card. Of other events nothing is known.
+-- Where a port shows a card, the call of each legal event in bounds is a step of that card. Of other events nothing is
+-- known.
 abbrev pub KeepsTables : {S : Type 0} → (S → Call → Return → S → Type 0) → (S → Option Card) → Type 0
 KeepsTables steps card =
     (s s' : _) (k : Kind) (event : ScriptEvent) (c : Card) (h : Host) (returned : Return) →

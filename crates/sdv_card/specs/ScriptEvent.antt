@@ -10,8 +10,8 @@ use Rattle.sdv_card.specs.declared.answer.WaitEnd.{WaitEnd}
 use Rattle.sdv_card.specs.Card.{Block}
 
 pub data ScriptEvent : Type 0 where
-  -- A command with the blocks that it announces, the position that the script gives, in blocks, and the argument that is
-  -- sent: whole numbers without a bound. The position of a command without an address is 0.
+  -- A command with the blocks that it announces, the position that the script gives, in blocks, and the argument that
+  -- is sent: whole numbers without a bound. The position of a command without an address is 0.
   SendCommand : (ask : Ask) (position argument : ℕ) → ScriptEvent
   -- a phase of so many blocks from the card
   ReceiveBlocks : (count : ℕ) → ScriptEvent

@@ -21,7 +21,8 @@ app_of index word = if index == 55 then Some (is_app_cmd word) else None
 abbrev pub reply_seen : Kind → Reply → Seen
 reply_seen k (R1 index word) = Status (state_field word) (in_doubt (R1 index word)) (app_of index word)
 reply_seen k (R2 bytes) = Bare
-reply_seen k (R3 word) = Ocr (is_powered_up word) (if is_powered_up word then Some (is_block_addressed k word) else None)
+reply_seen k (R3 word) = Ocr (is_powered_up word)
+    (if is_powered_up word then Some (is_block_addressed k word) else None)
 reply_seen k (R6 word) = Status (state_field word) (in_doubt (R6 word)) None
 reply_seen k (R7 word) = Bare
 

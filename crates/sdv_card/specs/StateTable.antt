@@ -24,7 +24,8 @@ unchanged (s ∷ rest) = (s to s) ∷ unchanged rest
 
 -- every state to one
 abbrev pub every_to : State → List Move
-every_to t = (Idle to t) ∷ (Ready to t) ∷ (Ident to t) ∷ (Stby to t) ∷ (Tran to t) ∷ (Data to t) ∷ (Rcv to t) ∷ (Prg to t) ∷ (Dis to t) ∷ []
+every_to t = (Idle to t) ∷ (Ready to t) ∷ (Ident to t) ∷ (Stby to t) ∷ (Tran to t) ∷ (Data to t) ∷ (Rcv to t)
+    ∷ (Prg to t) ∷ (Dis to t) ∷ []
 
 -- the state table of SD cards
 abbrev pub sd_rows : Row → List Move

@@ -49,7 +49,11 @@ pub right_of : (f g : Form) → AtMost g (greater f g)
 right_of f g = record { base = omega arith; each = λ i. omega (arith, greatest_at f.each g.each i) }
 
 pub both_of : (f g h : Form) → AtMost f h → AtMost g h → AtMost (greater f g) h
-both_of f g h p q = record { base = omega (arith, p.base, q.base); each = λ i. (let a = p.each i in let b = q.each i in omega (arith, a, b, greatest_at f.each g.each i)) }
+both_of f g h p q = record {
+  base = omega (arith, p.base, q.base);
+  each = λ i. (let a = p.each i in let b = q.each i in
+      omega (arith, a, b, greatest_at f.each g.each i));
+}
 
 -- a form that there may not be
 abbrev pub Below : Option Form → Option Form → Type 0
@@ -174,7 +178,8 @@ seq_at u v after out h = record {
 
 -- so many commands first
 later_base : (n : ℕ) (f b e : Option ℕ) (a k : ℕ) → (is_some f || is_some b || is_some e) ≡ true
-    → n + max (base_of f a) (max (base_of b k) (base_of e 0)) ≤ max (base_of (plus (Some n) f) a) (max (base_of (plus (Some n) b) k) (base_of (plus (Some n) e) 0))
+    → n + max (base_of f a) (max (base_of b k) (base_of e 0))
+    ≤ max (base_of (plus (Some n) f) a) (max (base_of (plus (Some n) b) k) (base_of (plus (Some n) e) 0))
 later_base n None None None a k h = absurd (cc)
 later_base n (Some x) None None a k h = omega arith
 later_base n None (Some y) None a k h = omega arith
@@ -187,7 +192,8 @@ later_base n (Some x) (Some y) (Some z) a k h = omega arith
 abbrev pub paid : ℕ → Form → Form
 paid n f = record f { base = n + f.base }
 
-later_each : (n : ℕ) (w : Spans) (a k : List ℕ) → greatest (each_of (plus (Some n) w.on) a) (each_of (plus (Some n) w.leave) k) ≡ greatest (each_of w.on a) (each_of w.leave k)
+later_each : (n : ℕ) (w : Spans) (a k : List ℕ) → greatest (each_of (plus (Some n) w.on) a) (each_of (plus (Some n) w.leave) k)
+    ≡ greatest (each_of w.on a) (each_of w.leave k)
 later_each n w a k = rw (each_plus n w.on a, each_plus n w.leave k) refl
 
 pub later_at : (n : ℕ) (w : Spans) (after out : Form) → Has w → AtMost (paid n (form_at w after out)) (form_at (later n w) after out)
@@ -245,7 +251,8 @@ turn_base : (f b e : Option ℕ) (h a : ℕ) → max (base_of b a) (base_of e 0)
 turn_base None b e h a p = omega arith
 turn_base (Some n) b e h a p = omega arith
 
-turn_each : (f b : Option ℕ) (gr a : List ℕ) (i : ℕ) → ((i : ℕ) → get_or (each_of b a) i 0 ≤ get_or gr i 0) → get_or (greatest (each_of f (or_zero f ∷ gr)) (each_of b (0 ∷ a))) i 0 ≤ get_or (or_zero f ∷ gr) i 0
+turn_each : (f b : Option ℕ) (gr a : List ℕ) (i : ℕ) → ((i : ℕ) → get_or (each_of b a) i 0 ≤ get_or gr i 0)
+    → get_or (greatest (each_of f (or_zero f ∷ gr)) (each_of b (0 ∷ a))) i 0 ≤ get_or (or_zero f ∷ gr) i 0
 turn_each None None gr a i h = omega arith
 turn_each None (Some m) gr a zero h = omega arith
 turn_each None (Some m) gr a (suc i) h = h i
@@ -262,7 +269,8 @@ turn_pays u other after t ts =
     let e : worth (form_at u h (inside after)) (t ∷ ts) ≤ worth more (t ∷ ts) =
     worth_at_most (form_at u h (inside after)) more (t ∷ ts) (record {
       base = turn_base u.on u.leave u.stop h.base after.base (omega arith);
-      each = λ i. turn_each u.on u.leave (last_turn u other after).each after.each i (λ j. omega (arith, greatest_at other.each (each_of u.leave after.each) j));
+      each = λ i. turn_each u.on u.leave (last_turn u other after).each after.each i
+          (λ j. omega (arith, greatest_at other.each (each_of u.leave after.each) j));
     }) in
     let f : or_zero u.on * suc t ≡ or_zero u.on * t + or_zero u.on = grind arith in
     omega (arith, e, f)
@@ -270,6 +278,7 @@ turn_pays u other after t ts =
 -- the else block
 pub other_pays : (u : Spans) (other after : Form) (ts : List ℕ) → worth other ts ≤ worth (head_form u (last_turn u other after)) (0 ∷ ts)
 other_pays u other after ts =
-    let d : turns_cost other.each ts ≤ turns_cost (last_turn u other after).each ts = cost_at_most other.each (last_turn u other after).each ts (λ i. omega (arith, greatest_at other.each (each_of u.leave after.each) i)) in
+    let d : turns_cost other.each ts ≤ turns_cost (last_turn u other after).each ts =
+    cost_at_most other.each (last_turn u other after).each ts (λ i. omega (arith, greatest_at other.each (each_of u.leave after.each) i)) in
     let z : or_zero u.on * 0 ≡ 0 = omega arith in
     omega (arith, d, z)

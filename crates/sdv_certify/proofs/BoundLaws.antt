@@ -34,7 +34,8 @@ room_send c x after out few e = omega (arith, few, base_at_same x (form_ways c a
 
 -- LISTS
 
-three : (old one two new fs gs : List Form) (h : Form) → new ≡ two ++ h ∷ [] → two ≡ one ++ reverse fs → one ≡ old ++ reverse gs → new ≡ old ++ reverse (h ∷ (fs ++ gs))
+three : (old one two new fs gs : List Form) (h : Form) → new ≡ two ++ h ∷ [] → two ≡ one ++ reverse fs → one ≡ old ++ reverse gs
+    → new ≡ old ++ reverse (h ∷ (fs ++ gs))
 three old one two new fs gs h e f g =
     let b = reverse gs in
     let a = reverse fs in
@@ -43,8 +44,10 @@ three old one two new fs gs h e f g =
     left ∙ append_assoc (old ++ b) a (h ∷ []) ∙ append_assoc old b (a ++ h ∷ []) ∙ sym (ap (λ l. old ++ l) (turned ∙ append_assoc b a (h ∷ [])))
 
 -- the forms of two parts, the later ones first, and then the one before them
-pub forms_three : (old one two new : List Form) (h k : Form) (fs gs : List Form) → new ≡ two ++ h ∷ [] → map full_form two ≡ map full_form one ++ reverse (map full_form fs)
-    → map full_form one ≡ map full_form old ++ reverse (map full_form gs) → full_form h ≡ full_form k → map full_form new ≡ map full_form old ++ reverse (map full_form (k ∷ (fs ++ gs)))
+pub forms_three : (old one two new : List Form) (h k : Form) (fs gs : List Form) → new ≡ two ++ h ∷ []
+    → map full_form two ≡ map full_form one ++ reverse (map full_form fs)
+    → map full_form one ≡ map full_form old ++ reverse (map full_form gs) → full_form h ≡ full_form k
+    → map full_form new ≡ map full_form old ++ reverse (map full_form (k ∷ (fs ++ gs)))
 forms_three old one two new h k fs gs e f g same =
     let pushed : map full_form new ≡ map full_form two ++ full_form h ∷ [] = ap (map full_form) e ∙ map-append full_form two (h ∷ []) in
     three (map full_form old) (map full_form one) (map full_form two) (map full_form new) (map full_form fs) (map full_form gs) (full_form h) pushed f g
@@ -52,7 +55,8 @@ forms_three old one two new h k fs gs e f g same =
     ∙ ap (λ x. map full_form old ++ reverse (x ∷ map full_form (fs ++ gs))) same
 
 pub forms_first : (s : Statement) (r : Statements) (x after out : Option Form) (old mid new : List Form) → in_full x ≡ in_full (form_statements r after out)
-    → map full_form new ≡ map full_form mid ++ reverse (map full_form (forms_of_statement s x out)) → map full_form mid ≡ map full_form old ++ reverse (map full_form (forms_of_statements r after out))
+    → map full_form new ≡ map full_form mid ++ reverse (map full_form (forms_of_statement s x out))
+    → map full_form mid ≡ map full_form old ++ reverse (map full_form (forms_of_statements r after out))
     → map full_form new ≡ map full_form old ++ reverse (map full_form (forms_of_statements (first s r) after out))
 forms_first s r x after out old mid new same e f =
     let then = form_statements r after out in
@@ -74,14 +78,16 @@ pub record LoopParts (a b : Statements) (after out : Option Form) (u : Spans) (o
   pub behind_is : full_form behind ≡ full_form (leads_to after)
   pub last_is : full_form last ≡ full_form (last_turn u other behind)
 
-module _ (a b : Statements) (after out : Option Form) (u : Spans) (o : Option Form) (other behind last : Form) (parts : LoopParts a b after out u o other behind last) where
+module _ (a b : Statements) (after out : Option Form) (u : Spans) (o : Option Form) (other behind last : Form)
+    (parts : LoopParts a b after out u o other behind last) where
   whole : Form
   whole = last_turn (spans_statements a) (leads_to (form_statements b after out)) (leads_to after)
 
   pub last_whole : full_form last ≡ full_form (last_turn (spans_statements a) (leads_to (form_statements b after out)) (leads_to after))
   last_whole =
       parts.last_is
-      ∙ last_same u other (leads_to (form_statements b after out)) behind (leads_to after) (parts.other_is ∙ leads_same o (form_statements b after out) parts.before) parts.behind_is
+      ∙ last_same u other (leads_to (form_statements b after out)) behind (leads_to after)
+      (parts.other_is ∙ leads_same o (form_statements b after out) parts.before) parts.behind_is
       ∙ ap (λ v. full_form (last_turn v (leads_to (form_statements b after out)) (leads_to after))) parts.spans
 
   pub head_whole : (h : Form) → full_form h ≡ full_form (head_form u last) → full_form h ≡ full_form (form_of_loop a b after out)
@@ -96,7 +102,8 @@ module _ (a b : Statements) (after out : Option Form) (u : Spans) (o : Option Fo
 
   pub room_before : (n : ℕ) → statement_moves (turns n a b) + max (base_at after) (base_at out) < 2 ^ 128 → last.base + or_zero u.on * n < 2 ^ 128
   room_before n few =
-      let whole : (before_loop n u last).base ≡ (form_before (turns n a b) after out).base = base_same (before_loop n u last) (form_before (turns n a b) after out) (before_whole n (before_loop n u last) refl) in
+      let whole : (before_loop n u last).base ≡ (form_before (turns n a b) after out).base =
+      base_same (before_loop n u last) (form_before (turns n a b) after out) (before_whole n (before_loop n u last) refl) in
       let most = few_before (turns n a b) after out in
       let e : last.base + or_zero u.on * n ≤ statement_moves (turns n a b) + max (base_at after) (base_at out) = rw whole most in
       omega (arith, e, few)
@@ -109,7 +116,8 @@ module _ (a b : Statements) (after out : Option Form) (u : Spans) (o : Option Fo
       let z = few_head n a b after out one in
       omega (arith, few, z, x, y)
 
-  pub forms_loop : (n : ℕ) (h : Form) (i : Option Form) (old one two new : List Form) → full_form h ≡ full_form (head_form u last) → in_full i ≡ in_full (inside_too after)
+  pub forms_loop : (n : ℕ) (h : Form) (i : Option Form) (old one two new : List Form) → full_form h ≡ full_form (head_form u last)
+      → in_full i ≡ in_full (inside_too after)
       → new ≡ two ++ h ∷ [] → map full_form two ≡ map full_form one ++ reverse (map full_form (forms_of_statements a (Some h) i))
       → map full_form one ≡ map full_form old ++ reverse (map full_form (forms_of_statements b after out))
       → map full_form new ≡ map full_form old ++ reverse (map full_form (forms_of_statement (turns n a b) after out))
@@ -119,7 +127,8 @@ module _ (a b : Statements) (after out : Option Form) (u : Spans) (o : Option Fo
       let body' = body ∙ ap (λ l. map full_form one ++ reverse l) (same_of_statements a (Some h) (Some k) i (inside_too after) (ap Some same) f) in
       forms_three old one two new h k (forms_of_statements a (Some k) (inside_too after)) (forms_of_statements b after out) pushed body' other same
 
-pub room_last : (n : ℕ) (a b : Statements) (u : Spans) (after out : Option Form) (f : Form) → statement_moves (turns n a b) + max (base_at after) (base_at out) < 2 ^ 128
+pub room_last : (n : ℕ) (a b : Statements) (u : Spans) (after out : Option Form) (f : Form)
+    → statement_moves (turns n a b) + max (base_at after) (base_at out) < 2 ^ 128
     → u ≡ spans_statements a → full_form f ≡ full_form (leads_to after) → longest u + f.base < 2 ^ 128
 room_last n a b u after out f few e h =
     let x = base_same f (leads_to after) h in

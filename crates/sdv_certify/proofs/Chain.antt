@@ -52,7 +52,8 @@ most_has None None (Some e) g c d h = third (most None g) (most None c) d
     third None None None = refl
 most_has None None None g c d h = absurd (cc)
 
-later_has : (n : ℕ) (f b e : Option ℕ) → (is_some f || is_some b || is_some e) ≡ true → (is_some (plus (Some n) f) || is_some (plus (Some n) b) || is_some (plus (Some n) e)) ≡ true
+later_has : (n : ℕ) (f b e : Option ℕ) → (is_some f || is_some b || is_some e) ≡ true
+    → (is_some (plus (Some n) f) || is_some (plus (Some n) b) || is_some (plus (Some n) e)) ≡ true
 later_has n (Some f) b e h = refl
 later_has n None (Some b) e h = refl
 later_has n None None (Some e) h = refl

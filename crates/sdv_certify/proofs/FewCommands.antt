@@ -33,7 +33,8 @@ pub last_base : (u : Spans) (other after : Form) → (last_turn u other after).b
 last_base u other after = omega (arith, leave_base u.leave after.base, stop_base u.stop)
 
 mutual
-  pub few_statements : (b : Statements) (after out : Option Form) → base_at (form_statements b after out) ≤ statements_moves b + max (base_at after) (base_at out)
+  pub few_statements : (b : Statements) (after out : Option Form)
+      → base_at (form_statements b after out) ≤ statements_moves b + max (base_at after) (base_at out)
   few_statements nothing after out = omega arith
   few_statements (first s rest) after out =
       omega (arith, few_before s (form_statements rest after out) out, few_statements rest after out)

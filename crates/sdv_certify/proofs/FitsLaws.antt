@@ -45,24 +45,29 @@ atom_small names atoms.ExtBlocks h = tt
 
 module _ (names : Declared) (few : length names.flags ≤ 4) where
   mutual
-    statements_fit : (depth : Depth) (b : Statements) (at : ℕ) (next brk : Target) (most : List ℕ) → StatementsFit names depth b → EachNode (points_of_statements b at next brk most)
+    statements_fit : (depth : Depth) (b : Statements) (at : ℕ) (next brk : Target) (most : List ℕ) → StatementsFit names depth b
+        → EachNode (points_of_statements b at next brk most)
     statements_fit depth nothing at next brk most f = tt
     statements_fit depth (first s rest) at next brk most f =
         both (points_of_statement s at (entry rest (at + statement_count s) next) brk most) (points_of_statements rest (at + statement_count s) next brk most)
-        (statement_fits depth s at (entry rest (at + statement_count s) next) brk most f.0) (statements_fit depth rest (at + statement_count s) next brk most f.1)
+        (statement_fits depth s at (entry rest (at + statement_count s) next) brk most f.0)
+        (statements_fit depth rest (at + statement_count s) next brk most f.1)
 
-    ways_fit : (depth : Depth) (order : Option Order) (w : Ways) (at : ℕ) (next brk : Target) (most : List ℕ) → WaysFit names depth order w → EachNode (points_of_ways w at next brk most)
+    ways_fit : (depth : Depth) (order : Option Order) (w : Ways) (at : ℕ) (next brk : Target) (most : List ℕ) → WaysFit names depth order w
+        → EachNode (points_of_ways w at next brk most)
     ways_fit depth order (otherwise b) at next brk most f = statements_fit (deeper depth) b at next brk most f.1
     ways_fit depth order (way gs b rest) at next brk most f =
         both (points_of_statements b at next brk most) (points_of_ways rest (at + statements_count b) next brk most)
         (statements_fit (deeper depth) b at next brk most f.2) (ways_fit depth order rest (at + statements_count b) next brk most f.3)
 
-    statement_fits : (depth : Depth) (s : Statement) (at : ℕ) (next brk : Target) (most : List ℕ) → StatementFits names depth s → EachNode (points_of_statement s at next brk most)
+    statement_fits : (depth : Depth) (s : Statement) (at : ℕ) (next brk : Target) (most : List ℕ) → StatementFits names depth s
+        → EachNode (points_of_statement s at next brk most)
     statement_fits depth (send c ways) at next brk most f = (tt, ways_fit (deeper depth) (order_of names.kind c.ask) ways (at + 1) next brk most f.2)
     statement_fits depth (phase p a b) at next brk most f = (
       tt,
       both (points_of_statements a (at + 1) next brk most) (points_of_statements b (at + 1 + statements_count a) next brk most)
-          (statements_fit (deeper (deeper depth)) a (at + 1) next brk most f.2) (statements_fit (deeper (deeper depth)) b (at + 1 + statements_count a) next brk most f.3),
+          (statements_fit (deeper (deeper depth)) a (at + 1) next brk most f.2)
+          (statements_fit (deeper (deeper depth)) b (at + 1 + statements_count a) next brk most f.3),
     )
     statement_fits depth (setting l) at next brk most f = (atom_small names l.atom f.1, tt)
     statement_fits depth (choice c a b) at next brk most f = (
@@ -75,7 +80,8 @@ module _ (names : Declared) (few : length names.flags ≤ 4) where
     statement_fits depth (turns n a b) at next brk most f = (
       tt,
       both (points_of_statements a (at + 1) (again at) (outside next) ((n - 1) ∷ most)) (points_of_statements b (at + 1 + statements_count a) next brk most)
-          (statements_fit (deeper (in_loop depth)) a (at + 1) (again at) (outside next) ((n - 1) ∷ most) f.4) (statements_fit (deeper depth) b (at + 1 + statements_count a) next brk most f.5),
+          (statements_fit (deeper (in_loop depth)) a (at + 1) (again at) (outside next) ((n - 1) ∷ most) f.4)
+          (statements_fit (deeper depth) b (at + 1 + statements_count a) next brk most f.5),
     )
     statement_fits depth break at next brk most f = (tt, tt)
     statement_fits depth done at next brk most f = (tt, tt)
@@ -117,12 +123,14 @@ abbrev Same_flow : Flow → Flow → Type 0
 Same_flow a b = a ≡ b
 
 flow_same : (k l : Kind) (m n f h : ℕ) (ps qs : List Place) (t u : Target) (x y : ℕ) → k ≡ l → m ≡ n → f ≡ h → ps ≡ qs → t ≡ u → x ≡ y
-    → Same_flow (record { kind = k; numbers = m; flags = f; places = ps; first = t; steps = x }) (record { kind = l; numbers = n; flags = h; places = qs; first = u; steps = y })
+    → Same_flow (record { kind = k; numbers = m; flags = f; places = ps; first = t; steps = x })
+    (record { kind = l; numbers = n; flags = h; places = qs; first = u; steps = y })
 flow_same k l m n f h ps qs t u x y a b c d e g = cc
 
 pub one_graph : (p : Parsed) (g h : Flow) → IsGraphOf p.names p.body g → IsGraphOf p.names p.body h → g ≡ h
 one_graph p g h a b =
-    flow_same g.kind h.kind g.numbers h.numbers g.flags h.flags g.places h.places g.first h.first g.steps h.steps (a.kind_same ∙ sym b.kind_same) (a.numbers_same ∙ sym b.numbers_same)
+    flow_same g.kind h.kind g.numbers h.numbers g.flags h.flags g.places h.places g.first h.first g.steps h.steps (a.kind_same ∙ sym b.kind_same)
+    (a.numbers_same ∙ sym b.numbers_same)
     (a.flags_same ∙ sym b.flags_same) (a.places_same ∙ sym b.places_same) (a.first_same ∙ sym b.first_same) (a.steps_same ∙ sym b.steps_same)
 
 pub refused_of : (s : Script) (g : Flow) (why : CertifyFault) → IsGraphOf (shown s).names (shown s).body g → RefusedAs g why → IsRefused s why

@@ -83,7 +83,8 @@ inside_absorb : (x : Option Form) → in_full (inside_too x) ≡ in_full (inside
 inside_absorb None = refl
 inside_absorb (Some f) = ap (λ l. Some (form_is f.base (0 ∷ l))) (sym (first_fewer 3 f.each))
 
-each_absorb : (leave : Option ℕ) (xs ys : List ℕ) → first_of 4 (greatest xs (each_of leave ys)) ≡ first_of 4 (greatest (first_of 4 xs) (each_of leave (first_of 4 ys)))
+each_absorb : (leave : Option ℕ) (xs ys : List ℕ) → first_of 4 (greatest xs (each_of leave ys))
+    ≡ first_of 4 (greatest (first_of 4 xs) (each_of leave (first_of 4 ys)))
 each_absorb None xs ys =
     ap (first_of 4) (greatest_none xs) ∙ sym (first_twice 4 xs) ∙ ap (first_of 4) (sym (greatest_none (first_of 4 xs)))
 each_absorb (Some n) xs ys = greatest_absorb 4 xs ys
@@ -116,7 +117,8 @@ sends_same x x' e = sends_absorb x ∙ ap (λ o. full_form (sends_then o)) e ∙
 pub inside_same : (x x' : Option Form) → in_full x ≡ in_full x' → in_full (inside_too x) ≡ in_full (inside_too x')
 inside_same x x' e = inside_absorb x ∙ ap (λ o. in_full (inside_too o)) e ∙ sym (inside_absorb x')
 
-pub last_same : (u : Spans) (f f' g g' : Form) → full_form f ≡ full_form f' → full_form g ≡ full_form g' → full_form (last_turn u f g) ≡ full_form (last_turn u f' g')
+pub last_same : (u : Spans) (f f' g g' : Form) → full_form f ≡ full_form f' → full_form g ≡ full_form g'
+    → full_form (last_turn u f g) ≡ full_form (last_turn u f' g')
 last_same u f f' g g' e h =
     last_absorb u f g ∙ ap (λ x. full_form (last_turn u x (full_form g))) e ∙ ap (λ y. full_form (last_turn u (full_form f') y)) h ∙ sym (last_absorb u f' g')
 
@@ -128,6 +130,7 @@ before_same n u f f' e = before_absorb n u f ∙ ap (λ x. full_form (before_loo
 
 -- WHAT ARRAYS OF FOUR MAKE
 
-pub greatest_four : (xs ys : List ℕ) → max (get_or xs 0 0) (get_or ys 0 0) ∷ max (get_or xs 1 0) (get_or ys 1 0) ∷ max (get_or xs 2 0) (get_or ys 2 0) ∷ max (get_or xs 3 0) (get_or ys 3 0) ∷ [] ≡ first_of 4 (greatest xs ys)
+pub greatest_four : (xs ys : List ℕ) → max (get_or xs 0 0) (get_or ys 0 0) ∷ max (get_or xs 1 0) (get_or ys 1 0) ∷ max (get_or xs 2 0) (get_or ys 2 0) ∷ max
+    (get_or xs 3 0) (get_or ys 3 0) ∷ [] ≡ first_of 4 (greatest xs ys)
 greatest_four xs ys =
     sym (first_four (greatest xs ys) ∙ rw (greatest_at xs ys 0, greatest_at xs ys 1, greatest_at xs ys 2, greatest_at xs ys 3) refl)

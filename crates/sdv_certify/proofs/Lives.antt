@@ -93,11 +93,13 @@ mutual
   statement_length done live = refl
   statement_length (fault name) live = refl
 
-has_after : (g : List Bool) (at : ℕ) (b : Statements) (live : Bool) (rest : List Bool) → HasAt g at (lives_of_statements b live ++ rest) → HasAt g (at + statements_count b) rest
+has_after : (g : List Bool) (at : ℕ) (b : Statements) (live : Bool) (rest : List Bool) → HasAt g at (lives_of_statements b live ++ rest)
+    → HasAt g (at + statements_count b) rest
 has_after g at b live rest has =
     subst (λ l. HasAt g (at + l) rest) (lives_length b live) (has_back g at (lives_of_statements b live) rest has)
 
-has_after_first : (g : List Bool) (at : ℕ) (s : Statement) (live : Bool) (rest : List Bool) → HasAt g at (lives_of_statement s live ++ rest) → HasAt g (at + statement_count s) rest
+has_after_first : (g : List Bool) (at : ℕ) (s : Statement) (live : Bool) (rest : List Bool) → HasAt g at (lives_of_statement s live ++ rest)
+    → HasAt g (at + statement_count s) rest
 has_after_first g at s live rest has =
     subst (λ l. HasAt g (at + l) rest) (statement_length s live) (has_back g at (lives_of_statement s live) rest has)
 
@@ -137,7 +139,8 @@ module _ (g : List Bool) where
   start_stands (fault name) at live has e = here_live at live has.0 e
 
   -- where a run may come to a list, its first statement is live, or what follows where it has none
-  entry_stands : (b : Statements) (at : ℕ) (next : Target) (live : Bool) → HasAt g at (lives_of_statements b live) → live ≡ true → (statements_fall b ≡ true → Stands next) → Stands (entry b at next)
+  entry_stands : (b : Statements) (at : ℕ) (next : Target) (live : Bool) → HasAt g at (lives_of_statements b live) → live ≡ true
+      → (statements_fall b ≡ true → Stands next) → Stands (entry b at next)
   entry_stands nothing at next live has e nx = nx refl
   entry_stands (first s rest) at next live has e nx =
       start_stands s at live (has_front g at (lives_of_statement s live) (lives_of_statements rest (live && statement_falls s)) has) e
@@ -148,8 +151,10 @@ module _ (g : List Bool) where
   forks_stand (otherwise b) at next live has e nx = (tt, entry_stands b at next live has e nx)
   forks_stand (way guards b rest) at next live has e nx =
       let others = lives_of_ways rest live in
-      let one = entry_stands b at next live (has_front g at (lives_of_statements b live) others has) e (λ x. nx (or_left (statements_fall b) (ways_fall rest) x)) in
-      let more = forks_stand rest (at + statements_count b) next live (has_after g at b live others has) e (λ x. nx (or_right (statements_fall b) (ways_fall rest) x)) in
+      let one = entry_stands b at next live (has_front g at (lives_of_statements b live) others has) e
+      (λ x. nx (or_left (statements_fall b) (ways_fall rest) x)) in
+      let more = forks_stand rest (at + statements_count b) next live (has_after g at b live others has) e
+      (λ x. nx (or_right (statements_fall b) (ways_fall rest) x)) in
       ((one, more.0), more.1)
 
   -- two blocks, of which one is taken
@@ -174,7 +179,8 @@ module _ (g : List Bool) where
         let ls = lives_of_statement s live in
         let lr = lives_of_statements rest then in
         let back = has_after_first g at s live lr has in
-        let falls = λ (l : live ≡ true) (x : statement_falls s ≡ true) (y : statements_fall rest ≡ true). nx l (and_both (statement_falls s) (statements_fall rest) x y) in
+        let falls = λ (l : live ≡ true) (x : statement_falls s ≡ true) (y : statements_fall rest ≡ true). nx l
+        (and_both (statement_falls s) (statements_fall rest) x y) in
         all_lead_append (points_of_statement s at to brk most) (points_of_statements rest mid next brk most) ls lr
         (statement_leads s at to brk most live (has_front g at ls lr has)
         (λ l x. entry_stands rest mid next then back (and_both live (statement_falls s) l x) (λ y. falls l x y))
@@ -192,8 +198,10 @@ module _ (g : List Bool) where
         let lb = lives_of_statements b live in
         let lr = lives_of_ways rest live in
         all_lead_append (points_of_statements b at next brk most) (points_of_ways rest mid next brk most) lb lr
-        (statements_lead b at next brk most live (has_front g at lb lr has) (λ l x. nx l (or_left (statements_fall b) (ways_fall rest) x)) (λ l x. br l (or_left (statements_break b) (ways_break rest) x)))
-        (ways_lead rest mid next brk most live (has_after g at b live lr has) (λ l x. nx l (or_right (statements_fall b) (ways_fall rest) x)) (λ l x. br l (or_right (statements_break b) (ways_break rest) x)))
+        (statements_lead b at next brk most live (has_front g at lb lr has) (λ l x. nx l (or_left (statements_fall b) (ways_fall rest) x))
+        (λ l x. br l (or_left (statements_break b) (ways_break rest) x)))
+        (ways_lead rest mid next brk most live (has_after g at b live lr has) (λ l x. nx l (or_right (statements_fall b) (ways_fall rest) x))
+        (λ l x. br l (or_right (statements_break b) (ways_break rest) x)))
 
     statement_leads : (s : Statement) (at : ℕ) (next brk : Target) (most : List ℕ) (live : Bool) → HasAt g at (lives_of_statement s live)
         → (live ≡ true → statement_falls s ≡ true → Stands next) → (live ≡ true → statement_breaks s ≡ true → Stands brk)
@@ -208,8 +216,10 @@ module _ (g : List Bool) where
         let back = has_after g (at + 1) a live lb has.1 in (
           (λ l. blocks_stand a b (at + 1) next live has.1 l (nx l)),
           all_lead_append (points_of_statements a (at + 1) next brk most) (points_of_statements b mid next brk most) la lb
-              (statements_lead a (at + 1) next brk most live front (λ l x. nx l (or_left (statements_fall a) (statements_fall b) x)) (λ l x. br l (or_left (statements_break a) (statements_break b) x)))
-              (statements_lead b mid next brk most live back (λ l x. nx l (or_right (statements_fall a) (statements_fall b) x)) (λ l x. br l (or_right (statements_break a) (statements_break b) x))),
+              (statements_lead a (at + 1) next brk most live front (λ l x. nx l (or_left (statements_fall a) (statements_fall b) x))
+              (λ l x. br l (or_left (statements_break a) (statements_break b) x)))
+              (statements_lead b mid next brk most live back (λ l x. nx l (or_right (statements_fall a) (statements_fall b) x))
+              (λ l x. br l (or_right (statements_break a) (statements_break b) x))),
         )
     statement_leads (setting x) at next brk most live has nx br = ((λ l. nx l refl), tt)
     statement_leads (choice c a b) at next brk most live has nx br =
@@ -220,8 +230,10 @@ module _ (g : List Bool) where
         let back = has_after g (at + 1) a live lb has.1 in (
           (λ l. blocks_stand a b (at + 1) next live has.1 l (nx l)),
           all_lead_append (points_of_statements a (at + 1) next brk most) (points_of_statements b mid next brk most) la lb
-              (statements_lead a (at + 1) next brk most live front (λ l x. nx l (or_left (statements_fall a) (statements_fall b) x)) (λ l x. br l (or_left (statements_break a) (statements_break b) x)))
-              (statements_lead b mid next brk most live back (λ l x. nx l (or_right (statements_fall a) (statements_fall b) x)) (λ l x. br l (or_right (statements_break a) (statements_break b) x))),
+              (statements_lead a (at + 1) next brk most live front (λ l x. nx l (or_left (statements_fall a) (statements_fall b) x))
+              (λ l x. br l (or_left (statements_break a) (statements_break b) x)))
+              (statements_lead b mid next brk most live back (λ l x. nx l (or_right (statements_fall a) (statements_fall b) x))
+              (λ l x. br l (or_right (statements_break a) (statements_break b) x))),
         )
     statement_leads (set f) at next brk most live has nx br = ((λ l. nx l refl), tt)
     statement_leads (clear f) at next brk most live has nx br = ((λ l. nx l refl), tt)
@@ -235,7 +247,8 @@ module _ (g : List Bool) where
         let falls = λ (l : live ≡ true) (x : statements_fall b ≡ true). nx l (or_left (statements_fall b) (statements_break a) x) in (
           (λ l. (entry_stands a (at + 1) (again at) live front l (λ x. here_live at live has.0 l), entry_stands b mid next live back l (falls l))),
           all_lead_append (points_of_statements a (at + 1) (again at) (outside next) inner) (points_of_statements b mid next brk most) la lb
-              (statements_lead a (at + 1) (again at) (outside next) inner live front (λ l x. here_live at live has.0 l) (λ l x. nx l (or_right (statements_fall b) (statements_break a) x)))
+              (statements_lead a (at + 1) (again at) (outside next) inner live front (λ l x. here_live at live has.0 l)
+              (λ l x. nx l (or_right (statements_fall b) (statements_break a) x)))
               (statements_lead b mid next brk most live back falls br),
         )
     statement_leads break at next brk most live has nx br = ((λ l. br l refl), tt)
@@ -252,8 +265,10 @@ module _ (g : List Bool) where
   each_leads (q ∷ ps) (l ∷ ls) (suc i) p all e h = each_leads ps ls i p all.1 e h
 
 -- each target of a live point is a live point
-pub live_leads : (script : Statements) (i : ℕ) (p : Place) → CanRun script → slice_get (points_of script) i ≡ Some p → IsLive script i → EachTarget p.node (λ pass t. IsLive script t.to)
+pub live_leads : (script : Statements) (i : ℕ) (p : Place) → CanRun script → slice_get (points_of script) i ≡ Some p → IsLive script i
+    → EachTarget p.node (λ pass t. IsLive script t.to)
 live_leads b i p can here live =
     let g = lives_of b in
-    let all = statements_lead g b 0 (past b) (past b) [] true (has_all g []) (λ l x. absurd (not_both (statements_fall b) can.ends x)) (λ l x. absurd (not_both (statements_break b) can.inside x)) in
+    let all = statements_lead g b 0 (past b) (past b) [] true (has_all g []) (λ l x. absurd (not_both (statements_fall b) can.ends x))
+    (λ l x. absurd (not_both (statements_break b) can.inside x)) in
     each_leads g (points_of b) g i p all here live

@@ -73,12 +73,14 @@ mutual
 abbrev pub PointsTestNoNumber : Flow → Type 0
 PointsTestNoNumber g = (i : ℕ) (place : Place) → slice_get g.places i ≡ Some place → NodeTestsNoNumber place.node
 
-pub points_test_no_number : (names : Declared) (script : Statements) (g : Flow) → StatementsTestNoNumber script → IsGraphOf names script g → PointsTestNoNumber g
+pub points_test_no_number : (names : Declared) (script : Statements) (g : Flow) → StatementsTestNoNumber script → IsGraphOf names script g
+    → PointsTestNoNumber g
 points_test_no_number names script g h is i place here =
     each_at (points_of script) i place (of_statements script 0 (past script) (past script) [] h) (ap (λ l. slice_get l i) (sym is.places_same) ∙ here)
 
 -- a value that keeps is carried along an edge, whatever is known
-pub carried_on : {X : Type 0} (c : Change) (v : VarFacts) (carry : VarFacts → Numbers) → KeepsValue c → IfSome (option_map carry (changed_facts c v)) (λ after. X) → X
+pub carried_on : {X : Type 0} (c : Change) (v : VarFacts) (carry : VarFacts → Numbers) → KeepsValue c
+    → IfSome (option_map carry (changed_facts c v)) (λ after. X) → X
 carried_on Same v carry h x = x
 carried_on (Plus k) v carry h x = absurd h
 carried_on (Minus k) v carry h x = absurd h

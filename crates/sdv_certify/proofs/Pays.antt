@@ -89,11 +89,13 @@ mutual
   statement_length done after out = refl
   statement_length (fault name) after out = refl
 
-has_after : (g : List Form) (at : ℕ) (b : Statements) (after out : Option Form) (rest : List Form) → HasAt g at (forms_of_statements b after out ++ rest) → HasAt g (at + statements_count b) rest
+has_after : (g : List Form) (at : ℕ) (b : Statements) (after out : Option Form) (rest : List Form) → HasAt g at (forms_of_statements b after out ++ rest)
+    → HasAt g (at + statements_count b) rest
 has_after g at b after out rest has =
     subst (λ l. HasAt g (at + l) rest) (statements_length b after out) (has_back g at (forms_of_statements b after out) rest has)
 
-has_after_first : (g : List Form) (at : ℕ) (s : Statement) (after out : Option Form) (rest : List Form) → HasAt g at (forms_of_statement s after out ++ rest) → HasAt g (at + statement_count s) rest
+has_after_first : (g : List Form) (at : ℕ) (s : Statement) (after out : Option Form) (rest : List Form) → HasAt g at (forms_of_statement s after out ++ rest)
+    → HasAt g (at + statement_count s) rest
 has_after_first g at s after out rest has =
     subst (λ l. HasAt g (at + l) rest) (statement_length s after out) (has_back g at (forms_of_statement s after out) rest has)
 
@@ -130,7 +132,8 @@ module _ (g : List Form) where
   all_pay_append (p ∷ ps) qs [] gs a b = absurd a
   all_pay_append (p ∷ ps) qs (f ∷ fs) gs a b = (a.0, all_pay_append ps qs fs gs a.1 b)
 
-  lead_worth : (o : Option Form) (t : Target) → Leads o t → (h : Form) → slice_get g t.to ≡ Some h → (ts : List ℕ) → worth h (turns_at t ts) ≤ worth (leads_to o) ts
+  lead_worth : (o : Option Form) (t : Target) → Leads o t → (h : Form) → slice_get g t.to ≡ Some h → (ts : List ℕ)
+      → worth h (turns_at t ts) ≤ worth (leads_to o) ts
   lead_worth None t l h here ts = absurd (l h here)
   lead_worth (Some f) t l h here ts = l h here ts
 
@@ -144,7 +147,8 @@ module _ (g : List Form) where
   sent_falls None w t l b h here ts us e = absurd (l h here)
   sent_falls (Some f) None t l b h here ts us e = absurd b
   sent_falls (Some f) (Some f') t l b h here ts us e =
-      subst (λ us. worth h (turns_at t us) + 1 ≤ worth (sends_then (Some f')) ts) e (let x = l h here ts in let y = worth_at_most f f' ts b in omega (arith, x, y))
+      subst (λ us. worth h (turns_at t us) + 1 ≤ worth (sends_then (Some f')) ts) e
+      (let x = l h here ts in let y = worth_at_most f f' ts b in omega (arith, x, y))
 
   -- the form that stands here is the one that is found
   found : (i : ℕ) (f h : Form) (P : Form → Type 0) → slice_get g i ≡ Some f → slice_get g i ≡ Some h → P f → P h
@@ -161,7 +165,8 @@ module _ (g : List Form) where
       omega (arith, z, cost_none f.each)
   outside_some f t l h here (u ∷ ts) =
       let x : worth h (entered t.enter (left t.leave ts)) ≤ worth f ts = l h here ts in
-      let z : worth h (entered t.enter (left (t.leave + 1) (u ∷ ts))) ≤ worth f ts = subst (λ n. worth h (entered t.enter (left n (u ∷ ts))) ≤ worth f ts) (sym (add-one t.leave)) x in
+      let z : worth h (entered t.enter (left (t.leave + 1) (u ∷ ts))) ≤ worth f ts =
+      subst (λ n. worth h (entered t.enter (left n (u ∷ ts))) ≤ worth f ts) (sym (add-one t.leave)) x in
       omega (arith, z)
 
   outside_leads : (after : Option Form) (t : Target) → Leads after t → Leads (inside_too after) (outside t)
@@ -201,7 +206,8 @@ module _ (g : List Form) where
   enters n a b at after out here h there ts =
       found at (form_of_loop a b after out) h (λ h. worth h (n ∷ ts) ≤ worth (form_before (turns n a b) after out) ts) here there (omega arith)
 
-  start_leads : (s : Statement) (at : ℕ) (after out : Option Form) → HasAt g at (forms_of_statement s after out) → Leads (Some (form_before s after out)) (start_of s at)
+  start_leads : (s : Statement) (at : ℕ) (after out : Option Form) → HasAt g at (forms_of_statement s after out)
+      → Leads (Some (form_before s after out)) (start_of s at)
   start_leads (send c ways) at after out has = plain_leads (form_before (send c ways) after out) at has.0
   start_leads (phase p a b) at after out has = plain_leads (form_before (phase p a b) after out) at has.0
   start_leads (setting l) at after out has = plain_leads (leads_to after) at has.0
@@ -213,14 +219,16 @@ module _ (g : List Form) where
   start_leads done at after out has = plain_leads end_form at has.0
   start_leads (fault name) at after out has = plain_leads end_form at has.0
 
-  entry_leads : (b : Statements) (at : ℕ) (next : Target) (after out : Option Form) → HasAt g at (forms_of_statements b after out) → Leads after next → Leads (form_statements b after out) (entry b at next)
+  entry_leads : (b : Statements) (at : ℕ) (next : Target) (after out : Option Form) → HasAt g at (forms_of_statements b after out) → Leads after next
+      → Leads (form_statements b after out) (entry b at next)
   entry_leads nothing at next after out has nx = nx
   entry_leads (first s rest) at next after out has nx =
       let mid = form_statements rest after out in
       start_leads s at mid out (has_front g at (forms_of_statement s mid out) (forms_of_statements rest after out) has)
 
   -- the cases of a command lead to their blocks
-  forks_fall : (c : Ways) (at : ℕ) (next : Target) (after out w : Option Form) → HasAt g at (forms_of_ways c after out) → Leads after next → Below (form_ways c after out) w
+  forks_fall : (c : Ways) (at : ℕ) (next : Target) (after out w : Option Form) → HasAt g at (forms_of_ways c after out) → Leads after next
+      → Below (form_ways c after out) w
       → EachFork (forks c at next) (Falls g (sends_then w) 1) × Falls g (sends_then w) 1 Same (other_of c at next)
   forks_fall (otherwise b) at next after out w has nx below =
       (tt, sent_falls (form_statements b after out) w (entry b at next) (entry_leads b at next after out has nx) below)
@@ -234,7 +242,8 @@ module _ (g : List Form) where
       ((sent_falls x w (entry b at next) one (below_twice x (either_form x y) w (below_left x y) below), more.0), more.1)
 
   mutual
-    statements_pay : (b : Statements) (at : ℕ) (next brk : Target) (most : List ℕ) (after out : Option Form) → HasAt g at (forms_of_statements b after out) → Leads after next → Leads out brk
+    statements_pay : (b : Statements) (at : ℕ) (next brk : Target) (most : List ℕ) (after out : Option Form) → HasAt g at (forms_of_statements b after out)
+        → Leads after next → Leads out brk
         → AllPay (points_of_statements b at next brk most) (forms_of_statements b after out)
     statements_pay nothing at next brk most after out has nx br = tt
     statements_pay (first s rest) at next brk most after out has nx br =
@@ -248,7 +257,8 @@ module _ (g : List Form) where
         (statement_pays s at to brk most then out (has_front g at fs fr has) (entry_leads rest mid next after out back nx) br)
         (statements_pay rest mid next brk most after out back nx br)
 
-    ways_pay : (c : Ways) (at : ℕ) (next brk : Target) (most : List ℕ) (after out : Option Form) → HasAt g at (forms_of_ways c after out) → Leads after next → Leads out brk
+    ways_pay : (c : Ways) (at : ℕ) (next brk : Target) (most : List ℕ) (after out : Option Form) → HasAt g at (forms_of_ways c after out) → Leads after next
+        → Leads out brk
         → AllPay (points_of_ways c at next brk most) (forms_of_ways c after out)
     ways_pay (otherwise b) at next brk most after out has nx br = statements_pay b at next brk most after out has nx br
     ways_pay (way guards b rest) at next brk most after out has nx br =
@@ -259,10 +269,13 @@ module _ (g : List Form) where
         (statements_pay b at next brk most after out (has_front g at fb fr has) nx br)
         (ways_pay rest mid next brk most after out (has_after g at b after out fr has) nx br)
 
-    statement_pays : (s : Statement) (at : ℕ) (next brk : Target) (most : List ℕ) (after out : Option Form) → HasAt g at (forms_of_statement s after out) → Leads after next → Leads out brk
+    statement_pays : (s : Statement) (at : ℕ) (next brk : Target) (most : List ℕ) (after out : Option Form) → HasAt g at (forms_of_statement s after out)
+        → Leads after next → Leads out brk
         → AllPay (points_of_statement s at next brk most) (forms_of_statement s after out)
-    statement_pays (send c ways) at next brk most after out has nx br =
-        (forks_fall ways (at + 1) next after out (form_ways ways after out) has.1 nx (below_same (form_ways ways after out)), ways_pay ways (at + 1) next brk most after out has.1 nx br)
+    statement_pays (send c ways) at next brk most after out has nx br = (
+      forks_fall ways (at + 1) next after out (form_ways ways after out) has.1 nx (below_same (form_ways ways after out)),
+      ways_pay ways (at + 1) next brk most after out has.1 nx br,
+    )
     statement_pays (phase p a b) at next brk most after out has nx br =
         let mid = at + 1 + statements_count a in
         let fa = forms_of_statements a after out in
@@ -271,7 +284,10 @@ module _ (g : List Form) where
         let y = form_statements b after out in
         let front = has_front g (at + 1) fa fb has.1 in
         let back = has_after g (at + 1) a after out fb has.1 in (
-          (same_falls x (either_form x y) (entry a (at + 1) next) (entry_leads a (at + 1) next after out front nx) (below_left x y), same_falls y (either_form x y) (entry b mid next) (entry_leads b mid next after out back nx) (below_right x y)),
+          (
+            same_falls x (either_form x y) (entry a (at + 1) next) (entry_leads a (at + 1) next after out front nx) (below_left x y),
+            same_falls y (either_form x y) (entry b mid next) (entry_leads b mid next after out back nx) (below_right x y),
+          ),
           all_pay_append (points_of_statements a (at + 1) next brk most) (points_of_statements b mid next brk most) fa fb
               (statements_pay a (at + 1) next brk most after out front nx br) (statements_pay b mid next brk most after out back nx br),
         )
@@ -284,7 +300,10 @@ module _ (g : List Form) where
         let y = form_statements b after out in
         let front = has_front g (at + 1) fa fb has.1 in
         let back = has_after g (at + 1) a after out fb has.1 in (
-          (same_falls x (either_form x y) (entry a (at + 1) next) (entry_leads a (at + 1) next after out front nx) (below_left x y), same_falls y (either_form x y) (entry b mid next) (entry_leads b mid next after out back nx) (below_right x y)),
+          (
+            same_falls x (either_form x y) (entry a (at + 1) next) (entry_leads a (at + 1) next after out front nx) (below_left x y),
+            same_falls y (either_form x y) (entry b mid next) (entry_leads b mid next after out back nx) (below_right x y),
+          ),
           all_pay_append (points_of_statements a (at + 1) next brk most) (points_of_statements b mid next brk most) fa fb
               (statements_pay a (at + 1) next brk most after out front nx br) (statements_pay b mid next brk most after out back nx br),
         )
@@ -299,9 +318,13 @@ module _ (g : List Form) where
         let front = has_front g (at + 1) fa fb has.1 in
         let back = has_after g (at + 1) a (Some h) (inside_too after) fb has.1 in
         let head = plain_leads h at has.0 in (
-          (body_falls a b after out (entry a (at + 1) (again at)) (entry_leads a (at + 1) (again at) (Some h) (inside_too after) front head), else_falls a b after out (entry b mid next) (entry_leads b mid next after out back nx)),
+          (
+            body_falls a b after out (entry a (at + 1) (again at)) (entry_leads a (at + 1) (again at) (Some h) (inside_too after) front head),
+            else_falls a b after out (entry b mid next) (entry_leads b mid next after out back nx),
+          ),
           all_pay_append (points_of_statements a (at + 1) (again at) (outside next) inner) (points_of_statements b mid next brk most) fa fb
-              (statements_pay a (at + 1) (again at) (outside next) inner (Some h) (inside_too after) front head (outside_leads after next nx)) (statements_pay b mid next brk most after out back nx br),
+              (statements_pay a (at + 1) (again at) (outside next) inner (Some h) (inside_too after) front head (outside_leads after next nx))
+              (statements_pay b mid next brk most after out back nx br),
         )
     statement_pays break at next brk most after out has nx br = (same_falls out out brk br (below_same out), tt)
     statement_pays done at next brk most after out has nx br = (tt, tt)

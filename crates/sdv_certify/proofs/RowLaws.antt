@@ -31,7 +31,8 @@ greatest_assoc (x ∷ xs) (y ∷ ys) (z ∷ zs) =
 greater_assoc : (f g h : Form) → greater (greater f g) h ≡ greater f (greater g h)
 greater_assoc f g h =
     let e : max (max f.base g.base) h.base ≡ max f.base (max g.base h.base) = omega arith in
-    ap (λ v. form_is v (greatest (greatest f.each g.each) h.each)) e ∙ ap (λ l. form_is (max f.base (max g.base h.base)) l) (greatest_assoc f.each g.each h.each)
+    ap (λ v. form_is v (greatest (greatest f.each g.each) h.each)) e
+    ∙ ap (λ l. form_is (max f.base (max g.base h.base)) l) (greatest_assoc f.each g.each h.each)
 
 either_assoc : (x y z : Option Form) → either_form (either_form x y) z ≡ either_form x (either_form y z)
 either_assoc None y z = refl
@@ -57,15 +58,19 @@ ways_forms : (c : Ways) (after out : Option Form) → row_forms (blocks_of c) af
 ways_forms (otherwise b) after out = append-nil (forms_of_statements b after out)
 ways_forms (way guards b rest) after out = ap (λ l. forms_of_statements b after out ++ l) (ways_forms rest after out)
 
-before_last : (bs : List Statements) (b : Statements) (after out : Option Form) → row_before (bs ++ b ∷ []) after out ≡ either_form (row_before bs after out) (form_statements b after out)
+before_last : (bs : List Statements) (b : Statements) (after out : Option Form)
+    → row_before (bs ++ b ∷ []) after out ≡ either_form (row_before bs after out) (form_statements b after out)
 before_last [] b after out = either_none (form_statements b after out)
 before_last (d ∷ ds) b after out =
-    ap (either_form (form_statements d after out)) (before_last ds b after out) ∙ sym (either_assoc (form_statements d after out) (row_before ds after out) (form_statements b after out))
+    ap (either_form (form_statements d after out)) (before_last ds b after out)
+    ∙ sym (either_assoc (form_statements d after out) (row_before ds after out) (form_statements b after out))
 
-forms_last : (bs : List Statements) (b : Statements) (after out : Option Form) → row_forms (bs ++ b ∷ []) after out ≡ row_forms bs after out ++ forms_of_statements b after out
+forms_last : (bs : List Statements) (b : Statements) (after out : Option Form)
+    → row_forms (bs ++ b ∷ []) after out ≡ row_forms bs after out ++ forms_of_statements b after out
 forms_last [] b after out = append-nil (forms_of_statements b after out)
 forms_last (d ∷ ds) b after out =
-    ap (λ l. forms_of_statements d after out ++ l) (forms_last ds b after out) ∙ sym (append_assoc (forms_of_statements d after out) (row_forms ds after out) (forms_of_statements b after out))
+    ap (λ l. forms_of_statements d after out ++ l) (forms_last ds b after out)
+    ∙ sym (append_assoc (forms_of_statements d after out) (row_forms ds after out) (forms_of_statements b after out))
 
 -- each block is smaller than a size, its commands can be counted, and its loops have turns
 abbrev pub EachFits : (size behind : ℕ) → List Statements → Type 0
@@ -93,9 +98,11 @@ ways_fit size behind (way guards b rest) s m t =
 -- THE WALK FROM THE LAST BLOCK ON
 
 -- what is left of it
-pub record RowLeft (size : ℕ) (after out : Option Form) (all : Ways) (old : List Form) (blocks : List Statements) (before : Option Form) (forms : List Form) : Type 0 where
+pub record RowLeft (size : ℕ) (after out : Option Form) (all : Ways) (old : List Form) (blocks : List Statements) (before : Option Form)
+    (forms : List Form) : Type 0 where
   pub before_is : in_full (either_form (row_before blocks after out) before) ≡ in_full (form_ways all after out)
-  pub forms_are : map full_form forms ++ reverse (map full_form (row_forms blocks after out)) ≡ map full_form old ++ reverse (map full_form (forms_of_ways all after out))
+  pub forms_are : map full_form forms ++ reverse (map full_form (row_forms blocks after out))
+      ≡ map full_form old ++ reverse (map full_form (forms_of_ways all after out))
   pub fits : EachFits size (max (base_at after) (base_at out)) blocks
 
 pub row_begins : (size : ℕ) (after out : Option Form) (all : Ways) (old : List Form) (blocks : List Statements) → blocks ≡ blocks_of all → ways_size all ≤ size
@@ -107,7 +114,8 @@ row_begins size after out all old blocks e s m t =
       fits = ways_fit size (max (base_at after) (base_at out)) all s m t;
     })
 
-module _ (size : ℕ) (after out : Option Form) (all : Ways) (old : List Form) (front blocks : List Statements) (b : Statements) (before : Option Form) (forms : List Form)
+module _ (size : ℕ) (after out : Option Form) (all : Ways) (old : List Form) (front blocks : List Statements) (b : Statements) (before : Option Form)
+    (forms : List Form)
     (is : blocks ≡ front ++ b ∷ []) (left : RowLeft size after out all old blocks before forms) where
   turned : RowLeft size after out all old (front ++ b ∷ []) before forms
   turned = subst (λ bs. RowLeft size after out all old bs before forms) is left
@@ -115,7 +123,8 @@ module _ (size : ℕ) (after out : Option Form) (all : Ways) (old : List Form) (
   pub row_fits : BlockFits size (max (base_at after) (base_at out)) b
   row_fits = fits_last size (max (base_at after) (base_at out)) front b turned.fits
 
-  pub row_goes_on : (one next : Option Form) (more : List Form) → in_full one ≡ in_full (form_statements b after out) → in_full next ≡ in_full (either_form one before)
+  pub row_goes_on : (one next : Option Form) (more : List Form) → in_full one ≡ in_full (form_statements b after out)
+      → in_full next ≡ in_full (either_form one before)
       → map full_form more ≡ map full_form forms ++ reverse (map full_form (forms_of_statements b after out)) → RowLeft size after out all old front next more
   row_goes_on one next more e f g =
       let x = row_before front after out in
@@ -129,17 +138,21 @@ module _ (size : ℕ) (after out : Option Form) (all : Ways) (old : List Form) (
             ∙ turned.before_is;
         forms_are =
             ap (λ l. l ++ reverse fs) g ∙ append_assoc (map full_form forms) (reverse gs) (reverse fs)
-            ∙ ap (λ l. map full_form forms ++ l) (sym (ap reverse (ap (map full_form) (forms_last front b after out) ∙ map-append full_form (row_forms front after out) (forms_of_statements b after out)) ∙ reverse-append fs gs))
+            ∙ ap (λ l. map full_form forms ++ l) (sym (ap reverse
+            (ap (map full_form) (forms_last front b after out) ∙ map-append full_form (row_forms front after out) (forms_of_statements b after out))
+            ∙ reverse-append fs gs))
             ∙ turned.forms_are;
         fits = fits_front size (max (base_at after) (base_at out)) front b turned.fits;
       }
 
-pub row_forms_end : (size : ℕ) (after out : Option Form) (all : Ways) (old : List Form) (blocks : List Statements) (before : Option Form) (forms : List Form) → blocks ≡ []
+pub row_forms_end : (size : ℕ) (after out : Option Form) (all : Ways) (old : List Form) (blocks : List Statements) (before : Option Form) (forms : List Form)
+    → blocks ≡ []
     → RowLeft size after out all old blocks before forms → map full_form forms ≡ map full_form old ++ reverse (map full_form (forms_of_ways all after out))
 row_forms_end size after out all old blocks before forms e left =
     let l = subst (λ bs. RowLeft size after out all old bs before forms) e left in sym (append-nil (map full_form forms)) ∙ l.forms_are
 
-pub row_before_end : (size : ℕ) (after out : Option Form) (all : Ways) (old : List Form) (blocks : List Statements) (before : Option Form) (forms : List Form) → blocks ≡ []
+pub row_before_end : (size : ℕ) (after out : Option Form) (all : Ways) (old : List Form) (blocks : List Statements) (before : Option Form) (forms : List Form)
+    → blocks ≡ []
     → RowLeft size after out all old blocks before forms → in_full before ≡ in_full (form_ways all after out)
 row_before_end size after out all old blocks before forms e left =
     let l = subst (λ bs. RowLeft size after out all old bs before forms) e left in l.before_is

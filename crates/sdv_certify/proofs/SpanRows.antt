@@ -14,5 +14,6 @@ spans_same a b c d e f x y z = cc
 
 pub spans_assoc : (u v w : Spans) → either (either u v) w ≡ either u (either v w)
 spans_assoc u v w =
-    spans_same (most (most u.on v.on) w.on) (most (most u.leave v.leave) w.leave) (most (most u.stop v.stop) w.stop) (most u.on (most v.on w.on)) (most u.leave (most v.leave w.leave)) (most u.stop (most v.stop w.stop))
+    spans_same (most (most u.on v.on) w.on) (most (most u.leave v.leave) w.leave) (most (most u.stop v.stop) w.stop) (most u.on (most v.on w.on))
+    (most u.leave (most v.leave w.leave)) (most u.stop (most v.stop w.stop))
     (most_assoc u.on v.on w.on) (most_assoc u.leave v.leave w.leave) (most_assoc u.stop v.stop w.stop)

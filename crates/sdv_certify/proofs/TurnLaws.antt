@@ -67,7 +67,8 @@ script_few p is = ∥∥₁_elim is (hlevel props) (λ (s : IsScript p). few_mov
 map-reverse : (fs : List Form) → map full_form (reverse fs) ≡ reverse (map full_form fs)
 map-reverse [] = refl
 map-reverse (f ∷ fs) =
-    ap (map full_form) (reverse-append (f ∷ []) fs) ∙ map-append full_form (reverse fs) (f ∷ []) ∙ ap (λ l. l ++ full_form f ∷ []) (map-reverse fs) ∙ sym (reverse-append (full_form f ∷ []) (map full_form fs))
+    ap (map full_form) (reverse-append (f ∷ []) fs) ∙ map-append full_form (reverse fs) (f ∷ []) ∙ ap (λ l. l ++ full_form f ∷ []) (map-reverse fs)
+    ∙ sym (reverse-append (full_form f ∷ []) (map full_form fs))
 
 pub in_order : (fs gs hs : List Form) → map full_form fs ≡ reverse (map full_form gs) → hs ≡ reverse fs → map full_form hs ≡ map full_form gs
 in_order fs gs hs e h = ap (map full_form) h ∙ map-reverse fs ∙ ap reverse e ∙ reverse-reverse (map full_form gs)

@@ -12,10 +12,12 @@ use Rattle.sdv_certify.specs.Pieces.{number_text, gap_text, var_text, shape_text
 
 -- EACH PIECE, before what follows it
 
-each_is : {A : Type 0} (text : A → List ℕ) (written : A → List ℕ → List ℕ) → ((x : A) (others : List ℕ) → text x ++ others ≡ written x others) → (xs : List A) (others : List ℕ) → flat_map text xs ++ others ≡ each_written written xs others
+each_is : {A : Type 0} (text : A → List ℕ) (written : A → List ℕ → List ℕ) → ((x : A) (others : List ℕ) → text x ++ others ≡ written x others)
+    → (xs : List A) (others : List ℕ) → flat_map text xs ++ others ≡ each_written written xs others
 each_is text written same [] others = refl
 each_is text written same (x ∷ xs) others =
-    ap (λ (l : List ℕ). l ++ others) (flat_map-cons text x xs) ∙ append_assoc (text x) (flat_map text xs) others ∙ same x (flat_map text xs ++ others) ∙ ap (written x) (each_is text written same xs others)
+    ap (λ (l : List ℕ). l ++ others) (flat_map-cons text x xs) ∙ append_assoc (text x) (flat_map text xs) others ∙ same x (flat_map text xs ++ others)
+    ∙ ap (written x) (each_is text written same xs others)
 
 gap_is : (gap : Option ℕ) (others : List ℕ) → gap_text gap ++ others ≡ gap_written gap others
 gap_is None others = refl
@@ -23,19 +25,23 @@ gap_is (Some n) others = refl
 
 var_is : (v : VarFacts) (others : List ℕ) → var_text v ++ others ≡ var_written v others
 var_is v others =
-    ap (λ (l : List ℕ). codes " v" ++ l) (append_assoc (number_text v.lo) (number_text v.hi ++ gap_text v.gap) others ∙ ap (number_written v.lo) (append_assoc (number_text v.hi) (gap_text v.gap) others ∙ ap (number_written v.hi) (gap_is v.gap others)))
+    ap (λ (l : List ℕ). codes " v" ++ l) (append_assoc (number_text v.lo) (number_text v.hi ++ gap_text v.gap) others
+    ∙ ap (number_written v.lo) (append_assoc (number_text v.hi) (gap_text v.gap) others ∙ ap (number_written v.hi) (gap_is v.gap others)))
 
-bound_is : (place : ℕ) (p : PointFacts) (others : List ℕ) → bound_text place p ++ others ≡ codes "p" ++ number_written place (codes " b" ++ number_written p.base (each_written number_written p.turns.items others))
+bound_is : (place : ℕ) (p : PointFacts) (others : List ℕ)
+    → bound_text place p ++ others ≡ codes "p" ++ number_written place (codes " b" ++ number_written p.base (each_written number_written p.turns.items others))
 bound_is place p others =
     let turns = flat_map number_text p.turns.items in
     ap (λ (l : List ℕ). codes "p" ++ l) (append_assoc (number_text place) (codes " b" ++ (number_text p.base ++ flat_map number_text p.turns.items)) others
     ∙ ap (λ (l : List ℕ). number_written place (codes " b" ++ l)) (append_assoc (number_text p.base) (flat_map number_text p.turns.items) others
     ∙ ap (number_written p.base) (each_is number_text number_written (λ x rest. refl) p.turns.items others)))
 
-numbers_is : (p : PointFacts) (others : List ℕ) → numbers_text p ++ others ≡ codes " m" ++ number_written p.facts.numbers.m (each_written var_written p.facts.numbers.vars.items (codes " s" ++ others))
+numbers_is : (p : PointFacts) (others : List ℕ) → numbers_text p ++ others
+    ≡ codes " m" ++ number_written p.facts.numbers.m (each_written var_written p.facts.numbers.vars.items (codes " s" ++ others))
 numbers_is p others =
     ap (λ (l : List ℕ). codes " m" ++ l) (append_assoc (number_text p.facts.numbers.m) (flat_map var_text p.facts.numbers.vars.items ++ codes " s") others
-    ∙ ap (number_written p.facts.numbers.m) (append_assoc (flat_map var_text p.facts.numbers.vars.items) (codes " s") others ∙ each_is var_text var_written var_is p.facts.numbers.vars.items (codes " s" ++ others)))
+    ∙ ap (number_written p.facts.numbers.m) (append_assoc (flat_map var_text p.facts.numbers.vars.items) (codes " s") others
+    ∙ each_is var_text var_written var_is p.facts.numbers.vars.items (codes " s" ++ others)))
 
 line_is : (place : ℕ) (p : PointFacts) (others : List ℕ) → line_text place p ++ others ≡ point_written place p others
 line_is place p others =
@@ -54,15 +60,18 @@ lines_are place (p ∷ ps) = line_is place p (lines_text (suc place) ps) ∙ ap 
 -- the whole text
 pub text_is : (c : List PointFacts) → text_of c ≡ title_text (length c) ++ lines_text 0 c
 text_is c =
-    sym (ap (λ (l : List ℕ). codes "sdv-cert 1\npoints" ++ l) (append_assoc (number_text (length c)) (10 ∷ []) (lines_text 0 c) ∙ ap (λ (l : List ℕ). number_written (length c) (10 ∷ l)) (lines_are 0 c)))
+    sym (ap (λ (l : List ℕ). codes "sdv-cert 1\npoints" ++ l)
+    (append_assoc (number_text (length c)) (10 ∷ []) (lines_text 0 c) ∙ ap (λ (l : List ℕ). number_written (length c) (10 ∷ l)) (lines_are 0 c)))
 
 -- ONE MORE PIECE: what is written, and all that is to be written
 
-pub one_more : (old mid new : Option (List ℕ)) (all written piece rest : List ℕ) → all ≡ written ++ (piece ++ rest) → Appends old mid written → Appends mid new piece
+pub one_more : (old mid new : Option (List ℕ)) (all written piece rest : List ℕ) → all ≡ written ++ (piece ++ rest) → Appends old mid written
+    → Appends mid new piece
     → (w : List ℕ) × (all ≡ w ++ rest) × Appends old new w
 one_more old mid new all written piece rest e p q = (written ++ piece, e ∙ sym (append_assoc written piece rest), appends_more old mid new written piece p q)
 
-pub one_failed : (old mid new : Option (List ℕ)) (all written piece rest : List ℕ) → all ≡ written ++ (piece ++ rest) → Appends old mid written → AppendsPart mid new piece → AppendsPart old new all
+pub one_failed : (old mid new : Option (List ℕ)) (all written piece rest : List ℕ) → all ≡ written ++ (piece ++ rest) → Appends old mid written
+    → AppendsPart mid new piece → AppendsPart old new all
 one_failed old mid new all written piece rest e p q = rw e (part_after old mid new written (piece ++ rest) p (part_before mid new piece rest q))
 
 pub last_shape : (xs : List Shape) (i : ℕ) (d : Shape) → i < length xs → shapes_text (drop i xs) ≡ shape_text (get_or xs i d) ++ shapes_text (drop (i + 1) xs)
@@ -75,7 +84,8 @@ last_shape xs i d lt =
 pub no_shape : (xs : List Shape) (i : ℕ) → length xs ≤ i → shapes_text (drop i xs) ≡ 10 ∷ []
 no_shape xs i le = ap shapes_text (drop_of_length-le xs le)
 
-pub next_line : (ps : List PointFacts) (i : ℕ) (p : PointFacts) → i < length ps → p ≡ get_or ps i p → lines_text i (drop i ps) ≡ line_text i p ++ lines_text (i + 1) (drop (i + 1) ps)
+pub next_line : (ps : List PointFacts) (i : ℕ) (p : PointFacts) → i < length ps → p ≡ get_or ps i p
+    → lines_text i (drop i ps) ≡ line_text i p ++ lines_text (i + 1) (drop (i + 1) ps)
 next_line ps i p lt e =
     ap (lines_text i) (drop-cons ps i p lt) ∙ ap (λ (q : PointFacts). line_text i q ++ lines_text (suc i) (drop (suc i) ps)) (sym e) ∙ rw add-one refl
 
@@ -94,12 +104,15 @@ title_made a b c d n e0 e1 e2 e3 =
     let second : c ≡ codes "sdv-cert 1\npoints" ++ number_text n = e2 ∙ ap (λ (l : List ℕ). l ++ number_text n) first in
     e3 ∙ ap (λ (l : List ℕ). l ++ 10 ∷ []) second ∙ append_assoc (codes "sdv-cert 1\npoints") (number_text n) (10 ∷ [])
 
-pub front_made : (a b c : List ℕ) (place : ℕ) (p : PointFacts) → a ≡ [] → b ≡ a ++ bound_text place p → c ≡ b ++ numbers_text p → c ≡ bound_text place p ++ numbers_text p
+pub front_made : (a b c : List ℕ) (place : ℕ) (p : PointFacts) → a ≡ [] → b ≡ a ++ bound_text place p → c ≡ b ++ numbers_text p
+    → c ≡ bound_text place p ++ numbers_text p
 front_made a b c place p e0 e1 e2 = e2 ∙ ap (λ (l : List ℕ). l ++ numbers_text p) (e1 ∙ ap (λ (l : List ℕ). l ++ bound_text place p) e0)
 
-pub title_failed : {E : Type 0} (r : Result (Unit {0}) E) (old new : Option (List ℕ)) (c : List PointFacts) → IsErr r → AppendsPart old new (title_text (length c)) → Writes old new r (text_of c)
+pub title_failed : {E : Type 0} (r : Result (Unit {0}) E) (old new : Option (List ℕ)) (c : List PointFacts) → IsErr r
+    → AppendsPart old new (title_text (length c)) → Writes old new r (text_of c)
 title_failed r old new c err h =
-    failed r old new (text_of c) err (subst (λ (l : List ℕ). AppendsPart old new l) (sym (text_is c)) (part_before old new (title_text (length c)) (lines_text 0 c) h))
+    failed r old new (text_of c) err (subst (λ (l : List ℕ). AppendsPart old new l) (sym (text_is c))
+    (part_before old new (title_text (length c)) (lines_text 0 c) h))
 
 pub all_written : (old new : Option (List ℕ)) (all written rest : List ℕ) → all ≡ written ++ rest → rest ≡ [] → Appends old new written → Appends old new all
 all_written old new all written rest e none p =
@@ -128,21 +141,25 @@ pub line_begins : (known : Option (List ℕ)) (line : List ℕ) (place : ℕ) (p
     → Held (line_text place p) known known line (shapes_text p.facts.shapes)
 line_begins known line place p e = ([], ap (λ (l : List ℕ). l ++ shapes_text p.facts.shapes) (sym e), appends_none known)
 
-pub one_held : (all : List ℕ) (old mid new : Option (List ℕ)) (line left more piece rest : List ℕ) → Held all old mid line (piece ++ rest) → PassesOn mid new line left
+pub one_held : (all : List ℕ) (old mid new : Option (List ℕ)) (line left more piece rest : List ℕ) → Held all old mid line (piece ++ rest)
+    → PassesOn mid new line left
     → more ≡ left ++ piece → Held all old new more rest
 one_held all old mid new line left more piece rest h p e = (
   h.0 ++ p.0,
   h.1
       ∙ ap (λ (l : List ℕ). h.0 ++ (l ++ (piece ++ rest))) p.1
-      ∙ ap (λ (l : List ℕ). h.0 ++ l) (append_assoc p.0 left (piece ++ rest) ∙ ap (λ (l : List ℕ). p.0 ++ l) (sym (append_assoc left piece rest) ∙ ap (λ (l : List ℕ). l ++ rest) (sym e)))
+      ∙ ap (λ (l : List ℕ). h.0 ++ l) (append_assoc p.0 left (piece ++ rest)
+      ∙ ap (λ (l : List ℕ). p.0 ++ l) (sym (append_assoc left piece rest) ∙ ap (λ (l : List ℕ). l ++ rest) (sym e)))
       ∙ sym (append_assoc h.0 p.0 (more ++ rest)),
   appends_more old mid new h.0 p.0 h.2 p.2,
 )
 
-pub line_failed : (all : List ℕ) (old mid new : Option (List ℕ)) (line rest : List ℕ) → Held all old mid line rest → AppendsPart mid new line → AppendsPart old new all
+pub line_failed : (all : List ℕ) (old mid new : Option (List ℕ)) (line rest : List ℕ) → Held all old mid line rest → AppendsPart mid new line
+    → AppendsPart old new all
 line_failed all old mid new line rest h q = one_failed old mid new all h.0 line rest h.1 h.2 q
 
-pub line_ends : {E : Type 0} (r : Result (Unit {0}) E) (all : List ℕ) (old mid new : Option (List ℕ)) (line whole : List ℕ) → Held all old mid line (10 ∷ []) → whole ≡ line ++ 10 ∷ []
+pub line_ends : {E : Type 0} (r : Result (Unit {0}) E) (all : List ℕ) (old mid new : Option (List ℕ)) (line whole : List ℕ) → Held all old mid line (10 ∷ [])
+    → whole ≡ line ++ 10 ∷ []
     → Writes mid new r whole → Writes old new r all
 line_ends r all old mid new line whole h e p =
     subst (λ (l : List ℕ). Writes old new r l) (ap (λ (l : List ℕ). h.0 ++ l) e ∙ sym h.1) (then_more r old mid new h.0 whole h.2 p)

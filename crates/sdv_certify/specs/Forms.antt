@@ -78,7 +78,8 @@ abbrev pub inside_too : Option Form → Option Form
 inside_too None = None
 inside_too (Some f) = Some (inside f)
 
--- BEFORE A PART: `after` is the form at its end, and `out` that behind a `break`; there is none where that leads nowhere
+-- BEFORE A PART: `after` is the form at its end, and `out` that behind a `break`; there is none where that leads
+-- nowhere
 
 abbrev mutual
   pub form_statements : Statements → (after out : Option Form) → Option Form
@@ -91,13 +92,16 @@ abbrev mutual
 
   pub form_before : Statement → (after out : Option Form) → Form
   form_before (send c ways) after out = sends_then (form_ways ways after out)
-  form_before (phase p a b) after out = leads_to (either_form (form_statements a after out) (form_statements b after out))
+  form_before (phase p a b) after out = leads_to
+      (either_form (form_statements a after out) (form_statements b after out))
   form_before (setting l) after out = leads_to after
-  form_before (choice c a b) after out = leads_to (either_form (form_statements a after out) (form_statements b after out))
+  form_before (choice c a b) after out = leads_to
+      (either_form (form_statements a after out) (form_statements b after out))
   form_before (set f) after out = leads_to after
   form_before (clear f) after out = leads_to after
   form_before (turns n a b) after out =
-      before_loop n (spans_statements a) (last_turn (spans_statements a) (leads_to (form_statements b after out)) (leads_to after))
+      before_loop n (spans_statements a) (last_turn (spans_statements a) (leads_to (form_statements b after out))
+      (leads_to after))
   form_before break after out = leads_to out
   form_before done after out = end_form
   form_before (fault name) after out = end_form
@@ -107,7 +111,8 @@ abbrev mutual
 -- at the head of a loop, with this body and this else block
 abbrev pub form_of_loop : (body other : Statements) → (after out : Option Form) → Form
 form_of_loop a b after out =
-    head_form (spans_statements a) (last_turn (spans_statements a) (leads_to (form_statements b after out)) (leads_to after))
+    head_form (spans_statements a) (last_turn (spans_statements a) (leads_to (form_statements b after out))
+    (leads_to after))
 
 abbrev mutual
   pub forms_of_statements : Statements → (after out : Option Form) → List Form
@@ -131,7 +136,8 @@ abbrev mutual
   -- a body's end leads back to the head, and a `break` behind the loop
   forms_of_statement (turns n a b) after out =
       form_of_loop a b after out
-      ∷ (forms_of_statements a (Some (form_of_loop a b after out)) (inside_too after) ++ forms_of_statements b after out)
+      ∷ (forms_of_statements a (Some (form_of_loop a b after out))
+      (inside_too after) ++ forms_of_statements b after out)
   forms_of_statement break after out = leads_to out ∷ []
   forms_of_statement done after out = end_form ∷ []
   forms_of_statement (fault name) after out = end_form ∷ []

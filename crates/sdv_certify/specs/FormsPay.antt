@@ -17,7 +17,8 @@ worth f ts = f.base + turns_cost f.each ts
 -- to a point with one of these forms; past the last one nothing is asked
 abbrev pub Falls : List Form → (source : Form) → (sent : ℕ) → Pass → Target → Type 0
 Falls forms f sent pass t =
-    (g : Form) → slice_get forms t.to ≡ Some g → (ts us : List ℕ) → Turned pass ts us → worth g (turns_at t us) + sent ≤ worth f ts
+    (g : Form) → slice_get forms t.to ≡ Some g → (ts us : List ℕ) → Turned pass ts us
+    → worth g (turns_at t us) + sent ≤ worth f ts
 
 -- each point's form pays for each of its targets
 abbrev pub FormsPay : Statements → Type 0
@@ -35,11 +36,13 @@ pub record HasForm (f : Form) (place : Place) (p : PointFacts) : Type 0 where
 -- each point of a certificate has its form
 pub record HasForms (script : Statements) (ps : List PointFacts) : Type 0 where
   pub count : length ps ≡ length (points_of script)
-  pub each : (i : ℕ) (place : Place) (p : PointFacts) → slice_get (points_of script) i ≡ Some place → slice_get ps i ≡ Some p
+  pub each : (i : ℕ) (place : Place) (p : PointFacts) → slice_get (points_of script) i ≡ Some place
+      → slice_get ps i ≡ Some p
       → (f : Form) × (slice_get (forms_of script) i ≡ Some f) × HasForm f place p
 
 -- the bounds of a certificate fall along each edge
 abbrev pub BoundsFall : Statements → List PointFacts → Type 0
 BoundsFall script ps =
     (i : ℕ) (place : Place) (p : PointFacts) → slice_get (points_of script) i ≡ Some place → slice_get ps i ≡ Some p
-    → EachTarget place.node (λ pass t. ((q : PointFacts) → slice_get ps t.to ≡ Some q → BoundFalls p q place.most (commands_of place.node) pass t))
+    → EachTarget place.node (λ pass t. ((q : PointFacts) → slice_get ps t.to ≡ Some q
+    → BoundFalls p q place.most (commands_of place.node) pass t))

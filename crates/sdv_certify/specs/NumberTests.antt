@@ -1,5 +1,5 @@
--- Which scripts are WITHOUT NUMBER TESTS: no `if` compares a number, and no `let` adds to a value or takes from it, which
--- would test the range of the result. What is known of numbers then closes no way.
+-- Which scripts are WITHOUT NUMBER TESTS: no `if` compares a number, and no `let` adds to a value or takes from it,
+-- which would test the range of the result. What is known of numbers then closes no way.
 use Rattle.sdv_script.specs.declared.script.Script.{Script}
 use Rattle.sdv_graph.specs.declared.tree.Change.{Change}
 use Rattle.sdv_graph.specs.declared.tree.Change.TheVariants.{Same, Plus, Minus}

@@ -22,10 +22,12 @@ shape_text s = 32 ∷ encode_lower (to_be_bytes w64 s.0)
 
 -- the line of a point before its shapes
 abbrev pub bound_text : (place : ℕ) → PointFacts → List ℕ
-bound_text place p = codes "p" ++ (number_text place ++ (codes " b" ++ (number_text p.base ++ flat_map number_text p.turns.items)))
+bound_text place p = codes "p" ++ (number_text place
+    ++ (codes " b" ++ (number_text p.base ++ flat_map number_text p.turns.items)))
 
 abbrev pub numbers_text : PointFacts → List ℕ
-numbers_text p = codes " m" ++ (number_text p.facts.numbers.m ++ (flat_map var_text p.facts.numbers.vars.items ++ codes " s"))
+numbers_text p = codes " m" ++ (number_text p.facts.numbers.m
+    ++ (flat_map var_text p.facts.numbers.vars.items ++ codes " s"))
 
 -- and from there on
 abbrev pub shapes_text : List Shape → List ℕ

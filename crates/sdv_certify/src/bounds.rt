@@ -41,10 +41,14 @@ fn put_block(
     after: Option<Form>,
     out: Option<Form>,
 ) -> Result<Option<Form>, AllocError>
-    requires few { statements_moves (statements_of block.now) + max (leads_to after).base (leads_to out).base < 2 ^ 128 }
+    requires few { statements_moves (statements_of block.now) + max (leads_to after).base (leads_to out).base
+        < 2 ^ 128 }
     requires turns { StatementsTurn (statements_of block.now) }
-    ensures before { IfOk result (λ before. in_full before ≡ in_full (form_statements (statements_of block.now) after out)) }
-    ensures forms { OnOk result (map full_form forms.new.items ≡ map full_form forms.old.items ++ reverse (map full_form (forms_of_statements (statements_of block.now) after out))) }
+    ensures before { IfOk result (λ before. in_full before
+        ≡ in_full (form_statements (statements_of block.now) after out)) }
+    ensures forms { OnOk result (map full_form forms.new.items
+        ≡ map full_form forms.old.items ++ reverse
+        (map full_form (forms_of_statements (statements_of block.now) after out))) }
 {
     match block {
         Block::Empty => Ok(after),
@@ -87,7 +91,8 @@ fn put_cases(
     requires few { ways_moves (ways_of cases.now) + max (leads_to after).base (leads_to out).base < 2 ^ 128 }
     requires turns { WaysTurn (ways_of cases.now) }
     ensures before { IfOk result (λ before. in_full before ≡ in_full (form_ways (ways_of cases.now) after out)) }
-    ensures forms { OnOk result (map full_form forms.new.items ≡ map full_form forms.old.items ++ reverse (map full_form (forms_of_ways (ways_of cases.now) after out))) }
+    ensures forms { OnOk result (map full_form forms.new.items
+        ≡ map full_form forms.old.items ++ reverse (map full_form (forms_of_ways (ways_of cases.now) after out))) }
 {
     let mut blocks = blocks_of(alloc, cases)?;
     let mut before = None;
@@ -108,8 +113,11 @@ fn put_stmt(
 ) -> Result<Form, AllocError>
     requires few { statement_moves (statement_of stmt.now) + max (leads_to after).base (leads_to out).base < 2 ^ 128 }
     requires turns { StatementTurns (statement_of stmt.now) }
-    ensures before { IfOk result (λ before. full_form before ≡ full_form (form_before (statement_of stmt.now) after out)) }
-    ensures forms { OnOk result (map full_form forms.new.items ≡ map full_form forms.old.items ++ reverse (map full_form (forms_of_statement (statement_of stmt.now) after out))) }
+    ensures before { IfOk result (λ before. full_form before
+        ≡ full_form (form_before (statement_of stmt.now) after out)) }
+    ensures forms { OnOk result (map full_form forms.new.items
+        ≡ map full_form forms.old.items ++ reverse
+        (map full_form (forms_of_statement (statement_of stmt.now) after out))) }
 {
     match stmt {
         Stmt::Send(_, cases) => {
@@ -201,7 +209,8 @@ pub fn bound_forms(alloc: Global, script: &Script<'_>) -> Result<Vec<Form>, Cert
     ensures forms { IfOk result (λ forms. forms.items ≡ map full_form (forms_of (shown script.now).body)) }
     ensures limits { IfOk result (λ forms. All FormInLimits forms.items) }
     ensures refused { IfErr result (λ e. e ≢ CertifyFault.Memory → e ≡ CertifyFault.TooMany) }
-    ensures too_many { IfErr result (λ e. e ≡ CertifyFault.TooMany → All FormInLimits (map full_form (forms_of (shown script.now).body)) → ⊥) }
+    ensures too_many { IfErr result (λ e. e ≡ CertifyFault.TooMany
+        → All FormInLimits (map full_form (forms_of (shown script.now).body)) → ⊥) }
 {
     let mut forms = Vec::new(alloc);
     let Ok(_) = put_block(alloc, &mut forms, script.body(), None, None) else {

@@ -5,7 +5,8 @@
 //! bound form. `specs/Family.antt` says what passes over the points reach, `specs/Ways.antt` what is carried along edges,
 //! and `specs/Refusal.antt` what script is refused. `specs/Forms.antt` defines the bounds of points, by the syntax alone,
 //! and `specs/FormsPay.antt` says that they fall along each edge as a certificate's should; `bound_forms` computes them.
-//! `survey` answers the same points of a script that may have no certificate. `write` writes the text of a certificate, which stands in `sdv_facts/specs/CertificateText.antt`.
+//! `survey` answers the same points of a script that may have no certificate. `write` writes the text of a certificate,
+//! which stands in `sdv_facts/specs/CertificateText.antt`.
 //! `facts_of_shapes` and `join_facts` compute the sets and joins of `sdv_facts/specs/Joins.antt`.
 #![tactic(auto)]
 

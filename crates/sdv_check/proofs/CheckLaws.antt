@@ -32,7 +32,8 @@ pub record Here (g : List Place) (ps : List PointFacts) (i : ℕ) (place : Place
 pub none_below : (P : Place → PointFacts → Type 0) (g : List Place) (ps : List PointFacts) → EachBelow g ps 0 P
 none_below P g ps i place p lt here known = absurd (omega arith)
 
-pub below_next : (P : Place → PointFacts → Type 0) (g : List Place) (ps : List PointFacts) (i : ℕ) (place : Place) (p : PointFacts) → Here g ps i place p → EachBelow g ps i P → P place p → EachBelow g ps (i + 1) P
+pub below_next : (P : Place → PointFacts → Type 0) (g : List Place) (ps : List PointFacts) (i : ℕ) (place : Place) (p : PointFacts) → Here g ps i place p
+    → EachBelow g ps i P → P place p → EachBelow g ps (i + 1) P
 below_next P g ps i place p h below q j other r lt here known =
     elim (cases_eq j i) [
       | inl e ↦
@@ -65,44 +66,52 @@ pub flags_fit : (g : List Place) (i : ℕ) (place : Place) → all_keep_limits g
 flags_fit [] i place keep here = absurd (cc)
 flags_fit (x ∷ xs) zero place keep here =
     let same : x ≡ place = some_same here in
-    flag_small place.node (first_of (node_keeps_limits place.node) _ (subst (λ v. keeps_limits v ≡ true) same (first_of (keeps_limits x) (all_keep_limits xs) keep)))
+    flag_small place.node (first_of (node_keeps_limits place.node) _
+    (subst (λ v. keeps_limits v ≡ true) same (first_of (keeps_limits x) (all_keep_limits xs) keep)))
 flags_fit (x ∷ xs) (suc i) place keep here = flags_fit xs i place (second_of (keeps_limits x) (all_keep_limits xs) keep) here
 
 -- POINTS
 
-pub match_all : (g : Flow) (ps : List PointFacts) → length ps ≡ length g.places → EachBelow g.places ps (length g.places) (PointMatches g) → IsTrue true ↔ PointsMatch g ps
+pub match_all : (g : Flow) (ps : List PointFacts) → length ps ≡ length g.places → EachBelow g.places ps (length g.places) (PointMatches g)
+    → IsTrue true ↔ PointsMatch g ps
 match_all g ps len below =
     ((λ u. record { count = len; each = λ i place p here known. below i place p (slice_get_within g.places i place here) here known }), (λ m. refl))
 
-pub match_not : (g : Flow) (ps : List PointFacts) (i : ℕ) (place : Place) (p : PointFacts) (r : Bool) → Here g.places ps i place p → (IsTrue r ↔ PointMatches g place p) → r ≡ false → IsTrue false ↔ PointsMatch g ps
+pub match_not : (g : Flow) (ps : List PointFacts) (i : ℕ) (place : Place) (p : PointFacts) (r : Bool) → Here g.places ps i place p
+    → (IsTrue r ↔ PointMatches g place p) → r ≡ false → IsTrue false ↔ PointsMatch g ps
 match_not g ps i place p r h test bad = ((λ e. absurd (cc)), (λ m. let t : r ≡ true = test.1 (m.each i place p h.here h.known) in cc))
 
 -- how many number variables a point has
-pub variables_of : (g : Flow) (ps : List PointFacts) (i : ℕ) (p : PointFacts) → PointsMatch g ps → slice_get ps i ≡ Some p → length p.facts.numbers.vars.items ≡ g.numbers
+pub variables_of : (g : Flow) (ps : List PointFacts) (i : ℕ) (p : PointFacts) → PointsMatch g ps → slice_get ps i ≡ Some p
+    → length p.facts.numbers.vars.items ≡ g.numbers
 variables_of g ps i p m there =
     let lt : i < length g.places = subst (λ n. i < n) m.count (slice_get_within ps i p there) in
     let place = place_there g.places i lt in
     (m.each i place.0 p place.1 there).variables
 
 -- every point has as many number variables
-pub same_variables : (g : Flow) (ps : List PointFacts) (i : ℕ) (place : Place) (p : PointFacts) → PointsMatch g ps → Here g.places ps i place p → (j : ℕ) (q : PointFacts) → slice_get ps j ≡ Some q →
+pub same_variables : (g : Flow) (ps : List PointFacts) (i : ℕ) (place : Place) (p : PointFacts) → PointsMatch g ps → Here g.places ps i place p
+    → (j : ℕ) (q : PointFacts) → slice_get ps j ≡ Some q →
     length q.facts.numbers.vars.items ≡ length p.facts.numbers.vars.items
 same_variables g ps i place p m h j q there =
     variables_of g ps j q m there ∙ sym (variables_of g ps i p m h.known)
 
 -- THE ANSWER
 
-pub all_closed : (g : Flow) (ps : List PointFacts) → PointsMatch g ps → StartCovers g ps → EachBelow g.places ps (length g.places) (PointClosed g.kind ps) → Closed g ps
+pub all_closed : (g : Flow) (ps : List PointFacts) → PointsMatch g ps → StartCovers g ps → EachBelow g.places ps (length g.places) (PointClosed g.kind ps)
+    → Closed g ps
 all_closed g ps m s below = record {
   points = m;
   start = s;
   each = λ i place p here known. below i place p (slice_get_within g.places i place here) here known;
 }
 
-pub fails_here : (g : Flow) (ps : List PointFacts) (i : ℕ) (place : Place) (p : PointFacts) (clause : Clause) → Here g.places ps i place p → EachBelow g.places ps i (PointClosed g.kind ps) → FirstFails clause g.kind ps place p → FailsAt g ps clause i
+pub fails_here : (g : Flow) (ps : List PointFacts) (i : ℕ) (place : Place) (p : PointFacts) (clause : Clause) → Here g.places ps i place p
+    → EachBelow g.places ps i (PointClosed g.kind ps) → FirstFails clause g.kind ps place p → FailsAt g ps clause i
 fails_here g ps i place p clause h below f = record { before = below; place = place; here = h.here; facts = p; known = h.known; fails = f }
 
-pub fails : (g : Flow) (ps : List PointFacts) (clause : Clause) (i : ℕ) → PointsMatch g ps → StartCovers g ps → FailsAt g ps clause i → Fails g ps (fault_of clause i)
+pub fails : (g : Flow) (ps : List PointFacts) (clause : Clause) (i : ℕ) → PointsMatch g ps → StartCovers g ps → FailsAt g ps clause i
+    → Fails g ps (fault_of clause i)
 fails g ps clauses.Illegal i m s f = (m, s, f)
 fails g ps clauses.Address i m s f = (m, s, f)
 fails g ps clauses.Shape i m s f = (m, s, f)

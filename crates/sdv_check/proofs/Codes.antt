@@ -46,12 +46,14 @@ code_again : (n : ℕ) → n < 2 ^ 64 → code_of (encode_lower (to_be_bytes w64
 code_again n lt =
     let bytes = eight n in
     let len = length-encode_with lower_digits (to_be_bytes w64 n) in
-    let sized : decode_sized (encode_lower (to_be_bytes w64 n)) 8 ≡ Ok (to_be_bytes w64 n) = decode_sized-twice (encode_lower (to_be_bytes w64 n)) 8 (omega (arith, len)) ∙ decode_of-encode_lower (to_be_bytes w64 n) bytes in
+    let sized : decode_sized (encode_lower (to_be_bytes w64 n)) 8 ≡ Ok (to_be_bytes w64 n) =
+    decode_sized-twice (encode_lower (to_be_bytes w64 n)) 8 (omega (arith, len)) ∙ decode_of-encode_lower (to_be_bytes w64 n) bytes in
     let value = from_be_bytes-to_be_bytes_8 n lt in
     ap (λ (b : Bool). cond b None (word_of (decode_sized (encode_lower (to_be_bytes w64 n)) 8))) (lower_again (to_be_bytes w64 n) bytes)
     ∙ ap word_of sized ∙ ap (λ (k : ℕ). Some k) value
 
-pub shape_takes : (bs : List ℕ) (s : Shape) (rest : List ℕ) → read_shape bs ≡ Some (s, rest) → (bs ≡ shape_written s rest) × (s.0 < 2 ^ 64) × (ends_item rest ≡ true)
+pub shape_takes : (bs : List ℕ) (s : Shape) (rest : List ℕ) → read_shape bs ≡ Some (s, rest)
+    → (bs ≡ shape_written s rest) × (s.0 < 2 ^ 64) × (ends_item rest ≡ true)
 unfolding read_shape
 shape_takes bs s rest e =
     let a = bind_some (after (32 ∷ []) bs) (λ r. cond (nat_lt (length r) 16) None (code_item (take 16 r) (drop 16 r))) (s, rest) e in
@@ -62,7 +64,9 @@ shape_takes bs s rest e =
     let code : c.0 ≡ s.0 = ap (λ (x : Shape × List ℕ). x.0.0) same in
     let others : drop 16 a.0 ≡ rest = ap (λ (x : Shape × List ℕ). x.1) same in
     let k = code_takes (take 16 a.0) c.0 c.1 in (
-      after_takes (32 ∷ []) bs a.0 a.1 ∙ ap (λ (l : List ℕ). 32 ∷ l) (sym (take-append-drop 16 a.0) ∙ ap (λ (l : List ℕ). l ++ drop 16 a.0) k.0 ∙ ap (λ (n : ℕ). encode_lower (to_be_bytes w64 n) ++ drop 16 a.0) code ∙ ap (λ (l : List ℕ). encode_lower (to_be_bytes w64 s.0) ++ l) others),
+      after_takes (32 ∷ []) bs a.0 a.1 ∙ ap (λ (l : List ℕ). 32 ∷ l)
+          (sym (take-append-drop 16 a.0) ∙ ap (λ (l : List ℕ). l ++ drop 16 a.0) k.0 ∙ ap (λ (n : ℕ). encode_lower (to_be_bytes w64 n) ++ drop 16 a.0) code
+          ∙ ap (λ (l : List ℕ). encode_lower (to_be_bytes w64 s.0) ++ l) others),
       rw (← code) k.1,
       rw (← others) t.0,
     )
@@ -76,9 +80,11 @@ shape_again s rest lt end =
     let enough : nat_lt (length (encode_lower (to_be_bytes w64 s.0) ++ rest)) 16 ≡ false = le-ltb _ _ (omega arith) in
     let code = code_again s.0 lt in
     let item : code_item (encode_lower (to_be_bytes w64 s.0)) rest ≡ Some (s, rest) = rw (code, end) refl in
-    let cut : code_item (take 16 (encode_lower (to_be_bytes w64 s.0) ++ rest)) (drop 16 (encode_lower (to_be_bytes w64 s.0) ++ rest)) ≡ code_item (encode_lower (to_be_bytes w64 s.0)) rest =
+    let cut : code_item (take 16 (encode_lower (to_be_bytes w64 s.0) ++ rest)) (drop 16 (encode_lower (to_be_bytes w64 s.0) ++ rest))
+    ≡ code_item (encode_lower (to_be_bytes w64 s.0)) rest =
     rw (take_at (encode_lower (to_be_bytes w64 s.0)) rest 16 len, drop_at (encode_lower (to_be_bytes w64 s.0)) rest 16 len) refl in
-    ap (λ (b : Bool). cond b None (code_item (take 16 (encode_lower (to_be_bytes w64 s.0) ++ rest)) (drop 16 (encode_lower (to_be_bytes w64 s.0) ++ rest)))) enough ∙ cut ∙ item
+    ap (λ (b : Bool). cond b None (code_item (take 16 (encode_lower (to_be_bytes w64 s.0) ++ rest))
+    (drop 16 (encode_lower (to_be_bytes w64 s.0) ++ rest)))) enough ∙ cut ∙ item
 
 -- RISING
 
@@ -86,7 +92,8 @@ pub record IsNext (last : Option Shape) (s : Shape) : Type 0 where
   pub above : is_above last s ≡ true
   pub fits : s.0 < 2 ^ 64
 
-pub rising_takes : (last : Option Shape) (bs : List ℕ) (s : Shape) (rest : List ℕ) → read_rising last bs ≡ Some (s, rest) → (bs ≡ shape_written s rest) × IsNext last s
+pub rising_takes : (last : Option Shape) (bs : List ℕ) (s : Shape) (rest : List ℕ) → read_rising last bs ≡ Some (s, rest)
+    → (bs ≡ shape_written s rest) × IsNext last s
 unfolding read_rising
 rising_takes last bs s rest e =
     let a = bind_some (read_shape bs) (λ x. cond (is_above last x.0) (Some x) None) (s, rest) e in
@@ -95,6 +102,7 @@ rising_takes last bs s rest e =
     let k = shape_takes bs s rest (a.1 ∙ ap (λ (x : Shape × List ℕ). Some x) same) in
     (k.0, record { above = rw (← ap (λ (x : Shape × List ℕ). x.0) same) t.0; fits = k.1 })
 
-pub rising_again : (last : Option Shape) (s : Shape) (rest : List ℕ) → IsNext last s → ends_item rest ≡ true → read_rising last (shape_written s rest) ≡ Some (s, rest)
+pub rising_again : (last : Option Shape) (s : Shape) (rest : List ℕ) → IsNext last s → ends_item rest ≡ true
+    → read_rising last (shape_written s rest) ≡ Some (s, rest)
 unfolding read_rising
 rising_again last s rest next end = rw (shape_again s rest next.fits end, next.above) refl

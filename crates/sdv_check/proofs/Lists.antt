@@ -40,15 +40,18 @@ module _ {A : Type 0} (begins : List ℕ → Bool) (item : Option A → List ℕ
   abbrev pub left : (room : ℕ) → List A → Option A → List ℕ → Read (List A)
   left room front last bs = with_front front (read_each begins item (room - length front) last bs)
 
-  pub each_more : (room : ℕ) (front : List A) (last : Option A) (bs : List ℕ) (x : A) (after : List ℕ) (total : Read (List A)) → begins bs ≡ true → length front < room → item last bs ≡ Some (x, after)
+  pub each_more : (room : ℕ) (front : List A) (last : Option A) (bs : List ℕ) (x : A) (after : List ℕ) (total : Read (List A)) → begins bs ≡ true
+      → length front < room → item last bs ≡ Some (x, after)
       → left room front last bs ≡ total → left room (front ++ x ∷ []) (Some x) after ≡ total
   unfolding read_each
   each_more room front last bs x after total on lt e so_far =
       let more : room - length front ≡ suc (room - length (front ++ x ∷ [])) = omega (arith, length-append front (x ∷ [])) in
-      let one : left room front last bs ≡ left room (front ++ x ∷ []) (Some x) after = rw (more, on, e) (regroup front x (read_each begins item (room - length (front ++ x ∷ [])) (Some x) after)) in
+      let one : left room front last bs ≡ left room (front ++ x ∷ []) (Some x) after =
+      rw (more, on, e) (regroup front x (read_each begins item (room - length (front ++ x ∷ [])) (Some x) after)) in
       sym one ∙ so_far
 
-  pub each_full : (room : ℕ) (front : List A) (last : Option A) (bs : List ℕ) (total : Read (List A)) → begins bs ≡ true → room ≤ length front → left room front last bs ≡ total → total ≡ None
+  pub each_full : (room : ℕ) (front : List A) (last : Option A) (bs : List ℕ) (total : Read (List A)) → begins bs ≡ true → room ≤ length front
+      → left room front last bs ≡ total → total ≡ None
   unfolding read_each
   each_full room front last bs total on le so_far =
       let none : room - length front ≡ 0 = omega arith in
@@ -60,7 +63,8 @@ module _ {A : Type 0} (begins : List ℕ → Bool) (item : Option A → List ℕ
   stops zero last bs on e = rw on refl
   stops (suc room) last bs on e = rw (on, e) refl
 
-  pub each_fails : (f : CertFault) (room : ℕ) (front : List A) (last : Option A) (bs : List ℕ) (total : Read (List A)) → begins bs ≡ true → Fails f (item last bs) → left room front last bs ≡ total → Fails f total
+  pub each_fails : (f : CertFault) (room : ℕ) (front : List A) (last : Option A) (bs : List ℕ) (total : Read (List A)) → begins bs ≡ true
+      → Fails f (item last bs) → left room front last bs ≡ total → Fails f total
   each_fails f room front last bs total on e so_far =
       fails_with f (item last bs) total e (λ none. sym so_far ∙ ap (with_front front) (stops (room - length front) last bs on none))
 
@@ -69,7 +73,8 @@ module _ {A : Type 0} (begins : List ℕ → Bool) (item : Option A → List ℕ
   ends_at zero last bs off = rw off refl
   ends_at (suc room) last bs off = rw off refl
 
-  pub each_done : (room : ℕ) (front : List A) (last : Option A) (bs : List ℕ) (total : Read (List A)) → begins bs ≡ false → left room front last bs ≡ total → total ≡ Some (front, bs)
+  pub each_done : (room : ℕ) (front : List A) (last : Option A) (bs : List ℕ) (total : Read (List A)) → begins bs ≡ false → left room front last bs ≡ total
+      → total ≡ Some (front, bs)
   each_done room front last bs total off so_far =
       sym so_far ∙ ap (with_front front) (ends_at (room - length front) last bs off) ∙ ap (λ (l : List A). Some (l, bs)) (append-nil front)
 
@@ -97,14 +102,16 @@ module _ {A : Type 0} (begins : List ℕ → Bool) (item : Option A → List ℕ
               let same = some_is (a.0.0 ∷ b.0.0, b.0.1) (xs, rest) b.2 in
               let first = takes last bs a.0.0 a.0.1 a.1 in
               let more = each_takes takes room (Some a.0.0) a.0.1 b.0.0 b.0.1 b.1 in
-              subst (λ (y : List A × List ℕ). (bs ≡ each_written written y.0 y.1) × (length y.0 ≤ suc room) × Each Q last y.0) same (first.0 ∙ ap (written a.0.0) more.0, omega (arith, more.1), (first.1, more.2))
+              subst (λ (y : List A × List ℕ). (bs ≡ each_written written y.0 y.1) × (length y.0 ≤ suc room) × Each Q last y.0) same
+              (first.0 ∙ ap (written a.0.0) more.0, omega (arith, more.1), (first.1, more.2))
           | inr off ↦
               let e' = rw off at e in
               let same = some_is ([], bs) (xs, rest) e' in
               subst (λ (y : List A × List ℕ). (bs ≡ each_written written y.0 y.1) × (length y.0 ≤ suc room) × Each Q last y.0) same (refl, omega arith, tt)
         ]
 
-    pub each_ends : ((x : A) (rest : List ℕ) → ends_item (written x rest) ≡ true) → (xs : List A) (rest : List ℕ) → ends_item rest ≡ true → ends_item (each_written written xs rest) ≡ true
+    pub each_ends : ((x : A) (rest : List ℕ) → ends_item (written x rest) ≡ true) → (xs : List A) (rest : List ℕ) → ends_item rest ≡ true
+        → ends_item (each_written written xs rest) ≡ true
     each_ends ends [] rest end = end
     each_ends ends (x ∷ xs) rest end = ends x (each_written written xs rest)
 

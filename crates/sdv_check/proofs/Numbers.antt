@@ -24,7 +24,8 @@ capped x y cap [] e = e
 capped x y cap (d ∷ bs) e = capped (x * 10 + (d - 48)) (y * 10 + (d - 48)) cap bs (capped_step (d - 48) x y cap e)
 
 -- one more digit
-pub capped_more : (before value i : ℕ) (digits : List ℕ) → i < length digits → value ≡ min (before * 10 + (get_or digits i 0 - 48)) (2 ^ 40 + 1) → min (number_after value (drop (i + 1) digits)) (2 ^ 40 + 1) ≡ min (number_after before (drop i digits)) (2 ^ 40 + 1)
+pub capped_more : (before value i : ℕ) (digits : List ℕ) → i < length digits → value ≡ min (before * 10 + (get_or digits i 0 - 48)) (2 ^ 40 + 1)
+    → min (number_after value (drop (i + 1) digits)) (2 ^ 40 + 1) ≡ min (number_after before (drop i digits)) (2 ^ 40 + 1)
 unfolding number_after
 capped_more before value i digits lt e =
     rw (add-one, drop-cons digits i 0) (capped value (before * 10 + (get_or digits i 0 - 48)) (2 ^ 40 + 1) (drop (suc i) digits) (omega arith))
@@ -93,10 +94,12 @@ figure_takes bs n rest e =
     let small : number_after 0 (take (run is_digit bs) bs) ≤ 2 ^ 40 = leb-true _ _ q.0 in
     let plain = plain_parts (take (run is_digit bs) bs) tests.0 in
     let digits : all_ascii_digits (take (run is_digit bs) bs) ≡ true = rw (run_is bs) (front_digits bs) in
-    let spelled : decimal (number_after 0 (take (run is_digit bs) bs)) ≡ take (run is_digit bs) bs = decimal-digits_value own (take (run is_digit bs) bs) digits plain.0 plain.1 (omega arith) in
+    let spelled : decimal (number_after 0 (take (run is_digit bs) bs)) ≡ take (run is_digit bs) bs =
+    decimal-digits_value own (take (run is_digit bs) bs) digits plain.0 plain.1 (omega arith) in
     let number : number_after 0 (take (run is_digit bs) bs) ≡ n = ap (λ (x : ℕ × List ℕ). x.0) same in
     let others : drop (run is_digit bs) bs ≡ rest = ap (λ (x : ℕ × List ℕ). x.1) same in (
-      sym (take-append-drop (run is_digit bs) bs) ∙ ap (λ (l : List ℕ). l ++ drop (run is_digit bs) bs) (sym spelled) ∙ ap (λ (k : ℕ). decimal k ++ drop (run is_digit bs) bs) number ∙ ap (λ (l : List ℕ). decimal n ++ l) others,
+      sym (take-append-drop (run is_digit bs) bs) ∙ ap (λ (l : List ℕ). l ++ drop (run is_digit bs) bs) (sym spelled)
+          ∙ ap (λ (k : ℕ). decimal k ++ drop (run is_digit bs) bs) number ∙ ap (λ (l : List ℕ). decimal n ++ l) others,
       omega arith,
       rw (← others) tests.1,
     )
@@ -107,11 +110,13 @@ figure_again n rest le end =
     let count : run is_digit (decimal n ++ rest) ≡ length (decimal n) = run_is (decimal n ++ rest) ∙ run_again (decimal n) rest (digits_decimal own n lt) end in
     let value : number_after 0 (decimal n) ≡ n = digits_value-decimal own n lt in
     let small : nat_le n (2 ^ 40) ≡ true = le-leb n (2 ^ 40) le in
-    let front : figure (take (run is_digit (decimal n ++ rest)) (decimal n ++ rest)) (drop (run is_digit (decimal n ++ rest)) (decimal n ++ rest)) ≡ figure (decimal n) rest =
+    let front : figure (take (run is_digit (decimal n ++ rest)) (decimal n ++ rest)) (drop (run is_digit (decimal n ++ rest)) (decimal n ++ rest))
+    ≡ figure (decimal n) rest =
     rw (take_at (decimal n) rest _ (sym count), drop_at (decimal n) rest _ (sym count)) refl in
     front ∙ rw (plain_decimal n lt, end, value, small) refl
 
-pub number_takes : (bs : List ℕ) (n : ℕ) (rest : List ℕ) → read_number bs ≡ Some (n, rest) → (bs ≡ number_written n rest) × (n ≤ 2 ^ 40) × (ends_item rest ≡ true)
+pub number_takes : (bs : List ℕ) (n : ℕ) (rest : List ℕ) → read_number bs ≡ Some (n, rest)
+    → (bs ≡ number_written n rest) × (n ≤ 2 ^ 40) × (ends_item rest ≡ true)
 unfolding read_number
 number_takes bs n rest e =
     let a = bind_some (after (32 ∷ []) bs) read_figure (n, rest) e in

@@ -30,18 +30,21 @@ use Rattle.sdv_check.specs.Asked.{RuleAt, RuleOf, AskedAt}
 -- LISTS
 
 -- a test of each element, which fails at one
-pub fails_at : {A : Type 0} (P : A → Type 0) (xs : List A) (i : ℕ) (d : A) (r : Bool) → i < length xs → (IsTrue r ↔ P (get_or xs i d)) → r ≡ false → IsTrue false ↔ ((x : A) → May xs x → P x)
+pub fails_at : {A : Type 0} (P : A → Type 0) (xs : List A) (i : ℕ) (d : A) (r : Bool) → i < length xs → (IsTrue r ↔ P (get_or xs i d)) → r ≡ false
+    → IsTrue false ↔ ((x : A) → May xs x → P x)
 fails_at P xs i d r lt test bad = ((λ e. absurd (cc)), (λ all. let t : r ≡ true = test.1 (all (get_or xs i d) (May-at xs i d (get_or xs i d) lt refl)) in cc))
 
 -- what holds of each element so far, and of the next
-pub each_more : {A : Type 0} → (P : A → Type 0) (xs : List A) (i : ℕ) (d : A) → i < length xs → ((x : A) → May (take i xs) x → P x) → P (get_or xs i d) → (x : A) → May (take (i + 1) xs) x → P x
+pub each_more : {A : Type 0} → (P : A → Type 0) (xs : List A) (i : ℕ) (d : A) → i < length xs → ((x : A) → May (take i xs) x → P x) → P (get_or xs i d)
+    → (x : A) → May (take (i + 1) xs) x → P x
 each_more P xs i d h n e x m =
     elim (May-push_cases (take i xs) (get_or xs i d) x (subst (λ v. May v x) (take_more xs i d h) m)) [ inl k ↦ n x k | inr f ↦ subst P f e ]
 
 -- RULES
 
 -- rules of an edge whose target has facts
-pub rules_there : (r : Rules) (ps : List PointFacts) (place : Place) (p q : PointFacts) (pass : Pass) (t : Target) (s : Shape) (ns : Numbers) (b : Bool) → slice_get ps t.to ≡ Some q →
+pub rules_there : (r : Rules) (ps : List PointFacts) (place : Place) (p q : PointFacts) (pass : Pass) (t : Target) (s : Shape) (ns : Numbers) (b : Bool)
+    → slice_get ps t.to ≡ Some q →
     (IsTrue b ↔ RuleAt r place p q pass t s ns) → IsTrue b ↔ RuleOf r ps place p pass t s ns
 rules_there rules.Shape ps place p q pass t s ns b there test = rw there test
 rules_there rules.Number ps place p q pass t s ns b there test = rw there test
@@ -64,7 +67,8 @@ module _ (k : Kind) (ps : List PointFacts) (place : Place) (p : PointFacts) wher
       let AB : Rule = λ pass t s ns. A pass t s ns × B pass t s ns in
       let all = edges_both k p.facts place.node s AB C (edges_both k p.facts place.node s A B (closed.shape s m) (closed.number s m)) (closed.bound s m) in (
         closed.legal s m,
-        edges_map (λ pass t s ns. AB pass t s ns × C pass t s ns) (RuleOf rules.All ps place p) (λ pass t s ns r. (r.0.0, r.0.1, r.1)) k p.facts place.node s all,
+        edges_map (λ pass t s ns. AB pass t s ns × C pass t s ns) (RuleOf rules.All ps place p)
+            (λ pass t s ns r. (r.0.0, r.0.1, r.1)) k p.facts place.node s all,
         closed.end_state s m,
       )
 
@@ -79,7 +83,8 @@ module _ (k : Kind) (ps : List PointFacts) (place : Place) (p : PointFacts) wher
   }
 
   -- one pass decides all clauses
-  pub closed_at_once : (a b : Bool) → (IsTrue a ↔ ClauseHolds AddressOff k ps place p) → (IsTrue b ↔ ((s : Shape) → May p.facts.shapes s → AskedAt asks.All k ps place p s)) →
+  pub closed_at_once : (a b : Bool) → (IsTrue a ↔ ClauseHolds AddressOff k ps place p)
+      → (IsTrue b ↔ ((s : Shape) → May p.facts.shapes s → AskedAt asks.All k ps place p s)) →
       (a ≡ true × b ≡ true) ↔ PointClosed k ps place p
   closed_at_once a b address all =
       ((λ both. apart (address.0 both.0) (all.0 both.1)), (λ closed. (address.1 closed.address, all.1 (together closed))))

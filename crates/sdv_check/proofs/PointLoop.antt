@@ -13,11 +13,13 @@ with_points front read = read >>= λ x. Some (front ++ x.0, x.1)
 abbrev pub points_left : (count place room : ℕ) → List PointFacts → List ℕ → Read (List PointFacts)
 points_left count place room front bs = with_points front (read_points (count - place) place room bs)
 
-regroup : (front : List PointFacts) (p : PointFacts) (read : Read (List PointFacts)) → with_points front (read >>= λ ps. Some (p ∷ ps.0, ps.1)) ≡ with_points (front ++ p ∷ []) read
+regroup : (front : List PointFacts) (p : PointFacts) (read : Read (List PointFacts))
+    → with_points front (read >>= λ ps. Some (p ∷ ps.0, ps.1)) ≡ with_points (front ++ p ∷ []) read
 regroup front p (Some ps) = ap (λ (l : List PointFacts). Some (l, ps.1)) (sym (append_assoc front (p ∷ []) ps.0))
 regroup front p None = refl
 
-pub points_more : (count place room : ℕ) (front : List PointFacts) (bs : List ℕ) (p : PointFacts) (after : List ℕ) (total : Read (List PointFacts)) → place < count → read_point place room bs ≡ Some (p, after)
+pub points_more : (count place room : ℕ) (front : List PointFacts) (bs : List ℕ) (p : PointFacts) (after : List ℕ) (total : Read (List PointFacts))
+    → place < count → read_point place room bs ≡ Some (p, after)
     → points_left count place room front bs ≡ total → points_left count (place + 1) (room - length p.facts.shapes) (front ++ p ∷ []) after ≡ total
 unfolding read_points
 points_more count place room front bs p after total lt e so_far =
@@ -33,11 +35,13 @@ fails_at count place room bs lt e =
     let more : count - place ≡ suc (count - (place + 1)) = omega arith in
     rw (more, e) refl
 
-pub points_fail : (f : CertFault) (count place room : ℕ) (front : List PointFacts) (bs : List ℕ) (total : Read (List PointFacts)) → place < count → Fails f (read_point place room bs) → points_left count place room front bs ≡ total → Fails f total
+pub points_fail : (f : CertFault) (count place room : ℕ) (front : List PointFacts) (bs : List ℕ) (total : Read (List PointFacts)) → place < count
+    → Fails f (read_point place room bs) → points_left count place room front bs ≡ total → Fails f total
 points_fail f count place room front bs total lt e so_far =
     fails_with f (read_point place room bs) total e (λ none. sym so_far ∙ ap (with_points front) (fails_at count place room bs lt none))
 
-pub points_done : (count place room : ℕ) (front : List PointFacts) (bs : List ℕ) (total : Read (List PointFacts)) → count ≤ place → points_left count place room front bs ≡ total → total ≡ Some (front, bs)
+pub points_done : (count place room : ℕ) (front : List PointFacts) (bs : List ℕ) (total : Read (List PointFacts)) → count ≤ place
+    → points_left count place room front bs ≡ total → total ≡ Some (front, bs)
 unfolding read_points
 points_done count place room front bs total le so_far =
     let none : count - place ≡ 0 = omega arith in

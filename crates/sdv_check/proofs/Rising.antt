@@ -24,7 +24,8 @@ pub fitting : (last : Option Shape) (xs : List Shape) → Each IsNext last xs �
 fitting last [] e = tt
 fitting last (x ∷ xs) e = (e.0.fits, fitting (Some x) xs e.1)
 
-pub next_each : (last : Option Shape) (xs : List Shape) → AreRising xs → AllByRecursion (λ s. s.0 < 2 ^ 64) xs → AllByRecursion (λ s. is_above last s ≡ true) xs → Each IsNext last xs
+pub next_each : (last : Option Shape) (xs : List Shape) → AreRising xs → AllByRecursion (λ s. s.0 < 2 ^ 64) xs → AllByRecursion (λ s. is_above last s ≡ true) xs
+    → Each IsNext last xs
 next_each last [] rise fits above = tt
 next_each last (x ∷ xs) rise fits above =
     let others : AreRising xs = λ i j d lt within. rise (suc i) (suc j) d (omega arith) (omega arith) in

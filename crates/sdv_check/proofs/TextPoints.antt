@@ -34,9 +34,11 @@ first_digit : (ds rest : List ℕ) → all_ascii_digits ds ≡ true → 0 < leng
 first_digit [] rest all some = absurd (omega arith)
 first_digit (d ∷ ds) rest all some = (and_parts (is_digit d) (all_ascii_digits ds) all).0
 
-gap_from_takes : (o : Option (List ℕ)) (bs : List ℕ) (gap : Option ℕ) (rest : List ℕ) → after (codes " -") bs ≡ o → gap_from o bs ≡ Some (gap, rest) → (bs ≡ gap_written gap rest) × IfSome gap IsInLimits
+gap_from_takes : (o : Option (List ℕ)) (bs : List ℕ) (gap : Option ℕ) (rest : List ℕ) → after (codes " -") bs ≡ o → gap_from o bs ≡ Some (gap, rest)
+    → (bs ≡ gap_written gap rest) × IfSome gap IsInLimits
 gap_from_takes (Some r) bs gap rest e given =
-    subst (λ (y : Option ℕ × List ℕ). (bs ≡ gap_written y.0 y.1) × IfSome y.0 IsInLimits) (some_is (None, r) (gap, rest) given) (after_takes (codes " -") bs r e, tt)
+    subst (λ (y : Option ℕ × List ℕ). (bs ≡ gap_written y.0 y.1) × IfSome y.0 IsInLimits) (some_is (None, r) (gap, rest) given)
+    (after_takes (codes " -") bs r e, tt)
 gap_from_takes None bs gap rest e given =
     let a = bind_some (read_number bs) some_gap (gap, rest) given in
     let n = number_takes bs a.0.0 a.0.1 a.1 in
@@ -50,7 +52,8 @@ gap_again : (gap : Option ℕ) (rest : List ℕ) → IfSome gap IsInLimits → e
 unfolding read_gap
 gap_again None rest fits end = refl
 gap_again (Some n) rest fits end =
-    let none : after (codes " -") (number_written n rest) ≡ None = no_dash (decimal n) rest (decimal_digits n (omega arith)) (decimal_nonempty n (omega arith)) in
+    let none : after (codes " -") (number_written n rest) ≡ None =
+    no_dash (decimal n) rest (decimal_digits n (omega arith)) (decimal_nonempty n (omega arith)) in
     rw (none, number_again n rest fits end) refl
 
 gap_ends : (gap : Option ℕ) (rest : List ℕ) → ends_item (gap_written gap rest) ≡ true
@@ -71,48 +74,62 @@ var_takes bs v rest e =
     let gap = gap_takes c.0.1 d.0.0 d.0.1 d.1 in
     let written : bs ≡ var_written (record { lo = b.0.0; hi = c.0.0; gap = d.0.0 }) d.0.1 =
     after_takes (codes " v") bs a.0 a.1 ∙ ap (λ (l : List ℕ). codes " v" ++ l) (lo.0 ∙ ap (number_written b.0.0) (hi.0 ∙ ap (number_written c.0.0) gap.0)) in
-    subst (λ (y : VarFacts × List ℕ). (bs ≡ var_written y.0 y.1) × VarInLimits y.0) (some_is (record { lo = b.0.0; hi = c.0.0; gap = d.0.0 }, d.0.1) (v, rest) d.2)
+    subst (λ (y : VarFacts × List ℕ). (bs ≡ var_written y.0 y.1) × VarInLimits y.0)
+    (some_is (record { lo = b.0.0; hi = c.0.0; gap = d.0.0 }, d.0.1) (v, rest) d.2)
     (written, record { lo = lo.1; hi = hi.1; gap = gap.1 })
 
 var_again : (v : VarFacts) (rest : List ℕ) → VarInLimits v → ends_item rest ≡ true → read_var (var_written v rest) ≡ Some (v, rest)
 unfolding read_var
 var_again v rest fits end =
-    rw (number_again v.lo (number_written v.hi (gap_written v.gap rest)) fits.lo refl, number_again v.hi (gap_written v.gap rest) fits.hi (gap_ends v.gap rest), gap_again v.gap rest fits.gap end) refl
+    rw (
+      number_again v.lo (number_written v.hi (gap_written v.gap rest)) fits.lo refl,
+      number_again v.hi (gap_written v.gap rest) fits.hi (gap_ends v.gap rest),
+      gap_again v.gap rest fits.gap end,
+    ) refl
 
 -- LISTS
 
-turns_take : (bs ts rest : List ℕ) → read_turns bs ≡ Some (ts, rest) → (bs ≡ each_written number_written ts rest) × (length ts ≤ 4) × AllByRecursion IsInLimits ts
+turns_take : (bs ts rest : List ℕ) → read_turns bs ≡ Some (ts, rest)
+    → (bs ≡ each_written number_written ts rest) × (length ts ≤ 4) × AllByRecursion IsInLimits ts
 turns_take bs ts rest e =
-    let l = each_takes begins_number (λ last. read_number) number_written (λ last. IsInLimits) (λ last b x r h. let t = number_takes b x r h in (t.0, t.1)) 4 None bs ts rest e in
+    let l = each_takes begins_number (λ last. read_number) number_written (λ last. IsInLimits)
+    (λ last b x r h. let t = number_takes b x r h in (t.0, t.1)) 4 None bs ts rest e in
     (l.0, l.1, each_all IsInLimits None ts l.2)
 
-turns_again : (ts rest : List ℕ) → length ts ≤ 4 → AllByRecursion IsInLimits ts → ends_item rest ≡ true → begins_number rest ≡ false → read_turns (each_written number_written ts rest) ≡ Some (ts, rest)
+turns_again : (ts rest : List ℕ) → length ts ≤ 4 → AllByRecursion IsInLimits ts → ends_item rest ≡ true → begins_number rest ≡ false
+    → read_turns (each_written number_written ts rest) ≡ Some (ts, rest)
 turns_again ts rest le fits end off =
     each_again begins_number (λ last. read_number) number_written (λ last. IsInLimits) (λ last x r h ends. number_again x r h ends)
     (λ last x r h. first_digit (decimal x) r (decimal_digits x (omega arith)) (decimal_nonempty x (omega arith)))
     (λ x r. refl) 4 None ts rest (all_each IsInLimits None ts fits) le end off
 
-vars_take : (bs : List ℕ) (vs : List VarFacts) (rest : List ℕ) → read_vars bs ≡ Some (vs, rest) → (bs ≡ each_written var_written vs rest) × (length vs ≤ 8) × AllByRecursion VarInLimits vs
+vars_take : (bs : List ℕ) (vs : List VarFacts) (rest : List ℕ) → read_vars bs ≡ Some (vs, rest)
+    → (bs ≡ each_written var_written vs rest) × (length vs ≤ 8) × AllByRecursion VarInLimits vs
 vars_take bs vs rest e =
     let l = each_takes begins_var (λ last. read_var) var_written (λ last. VarInLimits) (λ last. var_takes) 8 None bs vs rest e in
     (l.0, l.1, each_all VarInLimits None vs l.2)
 
-vars_again : (vs : List VarFacts) (rest : List ℕ) → length vs ≤ 8 → AllByRecursion VarInLimits vs → ends_item rest ≡ true → begins_var rest ≡ false → read_vars (each_written var_written vs rest) ≡ Some (vs, rest)
+vars_again : (vs : List VarFacts) (rest : List ℕ) → length vs ≤ 8 → AllByRecursion VarInLimits vs → ends_item rest ≡ true → begins_var rest ≡ false
+    → read_vars (each_written var_written vs rest) ≡ Some (vs, rest)
 vars_again vs rest le fits end off =
-    each_again begins_var (λ last. read_var) var_written (λ last. VarInLimits) (λ last. var_again) (λ last x r h. refl) (λ x r. refl) 8 None vs rest (all_each VarInLimits None vs fits) le end off
+    each_again begins_var (λ last. read_var) var_written (λ last. VarInLimits) (λ last. var_again) (λ last x r h. refl) (λ x r. refl) 8 None vs rest
+    (all_each VarInLimits None vs fits) le end off
 
 pub record AreShapes (shapes : List Shape) : Type 0 where
   pub rises : AreRising shapes
   pub words : AllByRecursion (λ s. s.0 < 2 ^ 64) shapes
 
-pub shapes_take : (room : ℕ) (bs : List ℕ) (ss : List Shape) (rest : List ℕ) → read_shapes room bs ≡ Some (ss, rest) → (bs ≡ each_written shape_written ss rest) × (length ss ≤ room) × AreShapes ss
+pub shapes_take : (room : ℕ) (bs : List ℕ) (ss : List Shape) (rest : List ℕ) → read_shapes room bs ≡ Some (ss, rest)
+    → (bs ≡ each_written shape_written ss rest) × (length ss ≤ room) × AreShapes ss
 shapes_take room bs ss rest e =
     let l = each_takes begins_shape read_rising shape_written IsNext rising_takes room None bs ss rest e in
     (l.0, l.1, record { rises = rising None ss l.2; words = fitting None ss l.2 })
 
-shapes_again : (room : ℕ) (ss : List Shape) (rest : List ℕ) → length ss ≤ room → AreShapes ss → ends_item rest ≡ true → begins_shape rest ≡ false → read_shapes room (each_written shape_written ss rest) ≡ Some (ss, rest)
+shapes_again : (room : ℕ) (ss : List Shape) (rest : List ℕ) → length ss ≤ room → AreShapes ss → ends_item rest ≡ true → begins_shape rest ≡ false
+    → read_shapes room (each_written shape_written ss rest) ≡ Some (ss, rest)
 shapes_again room ss rest le fits end off =
-    each_again begins_shape read_rising shape_written IsNext rising_again (λ last x r h. refl) (λ x r. refl) room None ss rest (next_each None ss fits.rises fits.words (first_above ss)) le end off
+    each_again begins_shape read_rising shape_written IsNext rising_again (λ last x r h. refl) (λ x r. refl) room None ss rest
+    (next_each None ss fits.rises fits.words (first_above ss)) le end off
 
 -- LINES
 
@@ -137,8 +154,10 @@ numbers_take bs ns rest e =
     let c = bind_some (read_vars b.0.1) _ (ns, rest) b.2 in
     let m = number_takes a.0 b.0.0 b.0.1 b.1 in
     let vs = vars_take b.0.1 c.0.0 c.0.1 c.1 in
-    let limits : NumbersInLimits (record { m = b.0.0; vars = record { items = c.0.0 } }) = record { m = m.1; vars = All-from_recursion VarInLimits c.0.0 vs.2 } in
-    subst (λ (y : Numbers × List ℕ). (bs ≡ codes " m" ++ number_written y.0.m (each_written var_written y.0.vars.items y.1)) × NumbersInLimits y.0 × (length y.0.vars.items ≤ 8))
+    let limits : NumbersInLimits (record { m = b.0.0; vars = record { items = c.0.0 } }) =
+    record { m = m.1; vars = All-from_recursion VarInLimits c.0.0 vs.2 } in
+    subst (λ (y : Numbers × List ℕ). (bs ≡ codes " m" ++ number_written y.0.m (each_written var_written y.0.vars.items y.1)) × NumbersInLimits y.0
+    × (length y.0.vars.items ≤ 8))
     (some_is (record { m = b.0.0; vars = record { items = c.0.0 } }, c.0.1) (ns, rest) c.2)
     (after_takes (codes " m") bs a.0 a.1 ∙ ap (λ (l : List ℕ). codes " m" ++ l) (m.0 ∙ ap (number_written b.0.0) vs.0), limits, vs.1)
 
@@ -146,8 +165,12 @@ numbers_again : (ns : Numbers) (rest : List ℕ) → NumbersInLimits ns → leng
     → read_numbers (codes " m" ++ number_written ns.m (each_written var_written ns.vars.items rest)) ≡ Some (ns, rest)
 unfolding read_numbers
 numbers_again ns rest fits le end off =
-    let ends = each_ends begins_var (λ (last : Option VarFacts). read_var) var_written (λ (last : Option VarFacts). VarInLimits) (λ x r. refl) ns.vars.items rest end in
-    rw (number_again ns.m (each_written var_written ns.vars.items rest) fits.m ends, vars_again ns.vars.items rest le (recursion_from_All VarInLimits ns.vars.items fits.vars) end off) refl
+    let ends = each_ends begins_var (λ (last : Option VarFacts). read_var) var_written (λ (last : Option VarFacts). VarInLimits)
+    (λ x r. refl) ns.vars.items rest end in
+    rw (
+      number_again ns.m (each_written var_written ns.vars.items rest) fits.m ends,
+      vars_again ns.vars.items rest le (recursion_from_All VarInLimits ns.vars.items fits.vars) end off,
+    ) refl
 
 abbrev bound_written : (place base : ℕ) → List ℕ → List ℕ → List ℕ
 bound_written place base turns rest = codes "p" ++ number_written place (codes " b" ++ number_written base (each_written number_written turns rest))
@@ -164,18 +187,26 @@ bound_takes place bs bound rest e =
     let base = number_takes c.0 d.0.0 d.0.1 d.1 in
     let ts = turns_take d.0.1 f.0.0 f.0.1 f.1 in
     let written : bs ≡ bound_written place d.0.0 f.0.0 f.0.1 =
-    after_takes (codes "p") bs a.0 a.1 ∙ ap (λ (l : List ℕ). codes "p" ++ l) (place_takes place a.0 b.0 b.1 ∙ ap (number_written place) (after_takes (codes " b") b.0 c.0 c.1 ∙ ap (λ (l : List ℕ). codes " b" ++ l) (base.0 ∙ ap (number_written d.0.0) ts.0))) in
+    after_takes (codes "p") bs a.0 a.1 ∙ ap (λ (l : List ℕ). codes "p" ++ l)
+    (place_takes place a.0 b.0 b.1 ∙ ap (number_written place)
+    (after_takes (codes " b") b.0 c.0 c.1 ∙ ap (λ (l : List ℕ). codes " b" ++ l) (base.0 ∙ ap (number_written d.0.0) ts.0))) in
     subst (λ (y : (ℕ × List ℕ) × List ℕ). (bs ≡ bound_written place y.0.0 y.0.1 y.1) × IsInLimits y.0.0 × (length y.0.1 ≤ 4) × AllByRecursion IsInLimits y.0.1)
     (some_is ((d.0.0, f.0.0), f.0.1) (bound, rest) f.2) (written, base.1, ts.1, ts.2)
 
-bound_again : (place base : ℕ) (turns rest : List ℕ) → IsInLimits place → IsInLimits base → length turns ≤ 4 → AllByRecursion IsInLimits turns → ends_item rest ≡ true → begins_number rest ≡ false
+bound_again : (place base : ℕ) (turns rest : List ℕ) → IsInLimits place → IsInLimits base → length turns ≤ 4 → AllByRecursion IsInLimits turns
+    → ends_item rest ≡ true → begins_number rest ≡ false
     → read_bound place (bound_written place base turns rest) ≡ Some ((base, turns), rest)
 unfolding read_bound
 bound_again place base turns rest fits small le each end off =
     let ends = each_ends begins_number (λ (last : Option ℕ). read_number) number_written (λ (last : Option ℕ). IsInLimits) (λ x r. refl) turns rest end in
-    rw (place_again place (codes " b" ++ number_written base (each_written number_written turns rest)) fits refl, number_again base (each_written number_written turns rest) small ends, turns_again turns rest le each end off) refl
+    rw (
+      place_again place (codes " b" ++ number_written base (each_written number_written turns rest)) fits refl,
+      number_again base (each_written number_written turns rest) small ends,
+      turns_again turns rest le each end off,
+    ) refl
 
-point_takes : (place room : ℕ) (bs : List ℕ) (p : PointFacts) (rest : List ℕ) → read_point place room bs ≡ Some (p, rest) → (bs ≡ point_written place p rest) × (length p.facts.shapes ≤ room) × PointFits p
+point_takes : (place room : ℕ) (bs : List ℕ) (p : PointFacts) (rest : List ℕ) → read_point place room bs ≡ Some (p, rest)
+    → (bs ≡ point_written place p rest) × (length p.facts.shapes ≤ room) × PointFits p
 unfolding read_point
 point_takes place room bs p rest e =
     let a = bind_some (read_bound place bs) _ (p, rest) e in
@@ -188,24 +219,42 @@ point_takes place room bs p rest e =
     let ss = shapes_take room c.0 d.0.0 d.0.1 d.1 in
     let made : PointFacts = record { facts = record { shapes = d.0.0; numbers = b.0.0 }; base = a.0.0.0; turns = record { items = a.0.0.1 } } in
     let tail : b.0.1 ≡ codes " s" ++ each_written shape_written d.0.0 (10 ∷ f.0) =
-    after_takes (codes " s") b.0.1 c.0 c.1 ∙ ap (λ (l : List ℕ). codes " s" ++ l) (ss.0 ∙ ap (each_written shape_written d.0.0) (after_takes (10 ∷ []) d.0.1 f.0 f.1)) in
+    after_takes (codes " s") b.0.1 c.0 c.1 ∙ ap (λ (l : List ℕ). codes " s" ++ l)
+    (ss.0 ∙ ap (each_written shape_written d.0.0) (after_takes (10 ∷ []) d.0.1 f.0 f.1)) in
     let written : bs ≡ point_written place made f.0 =
-    bound.0 ∙ ap (bound_written place a.0.0.0 a.0.0.1) (ns.0 ∙ ap (λ (l : List ℕ). codes " m" ++ number_written b.0.0.m (each_written var_written b.0.0.vars.items l)) tail) in
+    bound.0 ∙ ap (bound_written place a.0.0.0 a.0.0.1) (ns.0
+    ∙ ap (λ (l : List ℕ). codes " m" ++ number_written b.0.0.m (each_written var_written b.0.0.vars.items l)) tail) in
     let limits : PointInLimits made = record { numbers = ns.1; base = bound.1; turns = All-from_recursion IsInLimits a.0.0.1 bound.3 } in
-    let fits : PointFits made = record { numbers = limits; loops = bound.2; vars = ns.2; rising = ss.2.rises; words = All-from_recursion (λ s. s.0 < 2 ^ 64) d.0.0 ss.2.words } in
+    let fits : PointFits made = record {
+      numbers = limits;
+      loops = bound.2;
+      vars = ns.2;
+      rising = ss.2.rises;
+      words = All-from_recursion
+          (λ s. s.0 < 2 ^ 64) d.0.0 ss.2.words;
+    } in
     subst (λ (y : PointFacts × List ℕ). (bs ≡ point_written place y.0 y.1) × (length y.0.facts.shapes ≤ room) × PointFits y.0)
     (some_is (made, f.0) (p, rest) f.2) (written, ss.1, fits)
 
-point_again : (place room : ℕ) (p : PointFacts) (rest : List ℕ) → IsInLimits place → length p.facts.shapes ≤ room → PointFits p → read_point place room (point_written place p rest) ≡ Some (p, rest)
+point_again : (place room : ℕ) (p : PointFacts) (rest : List ℕ) → IsInLimits place → length p.facts.shapes ≤ room → PointFits p
+    → read_point place room (point_written place p rest) ≡ Some (p, rest)
 unfolding read_point
 point_again place room p rest near le fits =
     let shapes : List ℕ = codes " s" ++ each_written shape_written p.facts.shapes (10 ∷ rest) in
-    let numbers : List ℕ = codes " m" ++ number_written p.facts.numbers.m (each_written var_written p.facts.numbers.vars.items (codes " s" ++ each_written shape_written p.facts.shapes (10 ∷ rest))) in
+    let numbers : List ℕ = codes " m" ++ number_written p.facts.numbers.m
+    (each_written var_written p.facts.numbers.vars.items (codes " s" ++ each_written shape_written p.facts.shapes (10 ∷ rest))) in
     let limits = fits.numbers in
     rw (
-      bound_again place p.base p.turns.items (codes " m" ++ number_written p.facts.numbers.m (each_written var_written p.facts.numbers.vars.items (codes " s" ++ each_written shape_written p.facts.shapes (10 ∷ rest)))) near limits.base fits.loops (recursion_from_All IsInLimits p.turns.items limits.turns) refl refl,
+      bound_again place p.base p.turns.items (codes " m" ++ number_written p.facts.numbers.m
+          (each_written var_written p.facts.numbers.vars.items
+          (codes " s" ++ each_written shape_written p.facts.shapes (10 ∷ rest)))) near limits.base fits.loops
+          (recursion_from_All IsInLimits p.turns.items limits.turns) refl refl,
       numbers_again p.facts.numbers (codes " s" ++ each_written shape_written p.facts.shapes (10 ∷ rest)) limits.numbers fits.vars refl refl,
-      shapes_again room p.facts.shapes (10 ∷ rest) le (record { rises = fits.rising; words = recursion_from_All (λ s. s.0 < 2 ^ 64) p.facts.shapes fits.words }) refl refl,
+      shapes_again room p.facts.shapes (10 ∷ rest) le (record {
+        rises = fits.rising;
+        words = recursion_from_All
+            (λ s. s.0 < 2 ^ 64) p.facts.shapes fits.words;
+      }) refl refl,
     ) refl
 
 -- ALL LINES
@@ -215,7 +264,8 @@ pub points_take : (count place room : ℕ) (bs : List ℕ) (ps : List PointFacts
 unfolding read_points
 points_take zero place room bs ps rest end e =
     let same = some_is ([], bs) (ps, rest) e in
-    subst (λ (y : List PointFacts × List ℕ). y.1 ≡ [] → (bs ≡ points_written place y.0) × (length y.0 ≡ 0) × (shape_count y.0 ≤ room) × AllByRecursion PointFits y.0) same (λ nothing. (nothing, refl, omega arith, tt)) end
+    subst (λ (y : List PointFacts × List ℕ). y.1 ≡ [] → (bs ≡ points_written place y.0) × (length y.0 ≡ 0) × (shape_count y.0 ≤ room)
+    × AllByRecursion PointFits y.0) same (λ nothing. (nothing, refl, omega arith, tt)) end
 points_take (suc count) place room bs ps rest end e =
     let a = bind_some (read_point place room bs) _ (ps, rest) e in
     let b = bind_some (read_points count (suc place) (room - length a.0.0.facts.shapes) a.0.1) _ (ps, rest) a.2 in
@@ -223,10 +273,12 @@ points_take (suc count) place room bs ps rest end e =
     let nothing : b.0.1 ≡ [] = ap (λ (y : List PointFacts × List ℕ). y.1) same ∙ end in
     let first = point_takes place room bs a.0.0 a.0.1 a.1 in
     let more = points_take count (suc place) (room - length a.0.0.facts.shapes) a.0.1 b.0.0 b.0.1 nothing b.1 in
-    subst (λ (y : List PointFacts × List ℕ). (bs ≡ points_written place y.0) × (length y.0 ≡ suc count) × (shape_count y.0 ≤ room) × AllByRecursion PointFits y.0) same
+    subst (λ (y : List PointFacts × List ℕ). (bs ≡ points_written place y.0) × (length y.0 ≡ suc count) × (shape_count y.0 ≤ room)
+    × AllByRecursion PointFits y.0) same
     (first.0 ∙ ap (point_written place a.0.0) more.0, ap suc more.1, omega (arith, first.1, more.2), (first.2, more.3))
 
-pub points_again : (place room : ℕ) (ps : List PointFacts) → place + length ps ≤ 4096 → shape_count ps ≤ room → AllByRecursion PointFits ps → read_points (length ps) place room (points_written place ps) ≡ Some (ps, [])
+pub points_again : (place room : ℕ) (ps : List PointFacts) → place + length ps ≤ 4096 → shape_count ps ≤ room → AllByRecursion PointFits ps
+    → read_points (length ps) place room (points_written place ps) ≡ Some (ps, [])
 unfolding read_points
 points_again place room [] near le fits = refl
 points_again place room (p ∷ ps) near le fits =

@@ -22,8 +22,11 @@ count_takes bs n rest e =
     let c = bind_some (after (10 ∷ []) b.0.1) (λ bs. Some (b.0.0, bs)) (n, rest) t.1 in
     let k = number_takes a.0 b.0.0 b.0.1 b.1 in
     let few : b.0.0 ≤ max_points = leb-true _ _ t.0 in
-    subst (λ (y : ℕ × List ℕ). (bs ≡ codes "points" ++ number_written y.0 (10 ∷ y.1)) × (y.0 ≤ max_points)) (some_is (b.0.0, c.0) (n, rest) c.2)
-    (after_takes (codes "points") bs a.0 a.1 ∙ ap (λ (l : List ℕ). codes "points" ++ l) (k.0 ∙ ap (number_written b.0.0) (after_takes (10 ∷ []) b.0.1 c.0 c.1)), few)
+    subst (λ (y : ℕ × List ℕ). (bs ≡ codes "points" ++ number_written y.0 (10 ∷ y.1)) × (y.0 ≤ max_points)) (some_is (b.0.0, c.0) (n, rest) c.2) (
+      after_takes (codes "points") bs a.0 a.1 ∙ ap (λ (l : List ℕ). codes "points" ++ l)
+          (k.0 ∙ ap (number_written b.0.0) (after_takes (10 ∷ []) b.0.1 c.0 c.1)),
+      few,
+    )
 
 count_again : (n : ℕ) (rest : List ℕ) → n ≤ max_points → read_count (codes "points" ++ number_written n (10 ∷ rest)) ≡ Some (n, rest)
 unfolding read_count
@@ -32,7 +35,8 @@ count_again n rest le = rw (number_again n (10 ∷ rest) (omega arith) refl, le-
 abbrev lines_written : List PointFacts → List ℕ
 lines_written c = codes "points" ++ number_written (length c) (10 ∷ points_written 0 c)
 
-lines_take : (bs : List ℕ) (c : List PointFacts) → read_lines bs ≡ Some c → (bs ≡ lines_written c) × (length c ≤ max_points) × (shape_count c ≤ max_shapes) × AllByRecursion PointFits c
+lines_take : (bs : List ℕ) (c : List PointFacts) → read_lines bs ≡ Some c
+    → (bs ≡ lines_written c) × (length c ≤ max_points) × (shape_count c ≤ max_shapes) × AllByRecursion PointFits c
 unfolding read_lines
 lines_take bs c e =
     let a = bind_some (read_count bs) _ c e in
@@ -41,12 +45,21 @@ lines_take bs c e =
     let nothing : b.0.1 ≡ [] = nil_from_length b.0.1 (eqb-true _ _ t.0) in
     let k = count_takes bs a.0.0 a.0.1 a.1 in
     let ps = points_take a.0.0 0 max_shapes a.0.1 b.0.0 b.0.1 nothing b.1 in
-    subst (λ (y : List PointFacts). (bs ≡ lines_written y) × (length y ≤ max_points) × (shape_count y ≤ max_shapes) × AllByRecursion PointFits y) (some_is b.0.0 c t.1)
-    (k.0 ∙ ap (λ (n : ℕ). codes "points" ++ number_written n (10 ∷ a.0.1)) (sym ps.1) ∙ ap (λ (l : List ℕ). codes "points" ++ number_written (length b.0.0) (10 ∷ l)) ps.0, omega (arith, ps.1, k.1), ps.2, ps.3)
+    subst (λ (y : List PointFacts). (bs ≡ lines_written y) × (length y ≤ max_points) × (shape_count y ≤ max_shapes) × AllByRecursion PointFits y)
+    (some_is b.0.0 c t.1) (
+      k.0 ∙ ap (λ (n : ℕ). codes "points" ++ number_written n (10 ∷ a.0.1)) (sym ps.1)
+          ∙ ap (λ (l : List ℕ). codes "points" ++ number_written (length b.0.0) (10 ∷ l)) ps.0,
+      omega (arith, ps.1, k.1),
+      ps.2,
+      ps.3,
+    )
 
 lines_again : (c : List PointFacts) → WithinLimits c → read_lines (lines_written c) ≡ Some c
 unfolding read_lines
-lines_again c within = rw (count_again (length c) (points_written 0 c) within.points, points_again 0 max_shapes c (omega (arith, within.points)) within.shapes within.each) refl
+lines_again c within = rw (
+  count_again (length c) (points_written 0 c) within.points,
+  points_again 0 max_shapes c (omega (arith, within.points)) within.shapes within.each,
+) refl
 
 pub text_takes : (bs : List ℕ) (c : List PointFacts) → read_text bs ≡ Some c → WithinLimits c × (bs ≡ text_of c)
 unfolding read_text

@@ -141,41 +141,57 @@ over n most cs (zero ∷ us) box = record { turns = zero ∷ us; box = (omega ar
 over n most cs (suc t ∷ us) box = absurd (omega (arith, box.0))
 
 before : (pass : Pass) (most m cs us : List ℕ) → most_after pass most ≡ Some m → InBox us m → Passes pass most cs us
-before Same most m cs us e box = let same : most ≡ m = cc in record { turns = us; box = subst (λ v. InBox us v) (sym same) box; turned = refl; value = omega arith }
+before Same most m cs us e box = let same : most ≡ m = cc in
+    record { turns = us; box = subst (λ v. InBox us v) (sym same) box; turned = refl; value = omega arith }
 before Again [] m cs us e box = absurd (cc)
 before Again (zero ∷ most) m cs us e box = absurd (cc)
 before Again (suc n ∷ most) m cs us e box = let same : (n ∷ most) ≡ m = cc in again n most cs us (subst (λ v. InBox us v) (sym same) box)
 before Over [] m cs us e box = absurd (cc)
 before Over (n ∷ most) m cs us e box = let same : (zero ∷ most) ≡ m = cc in over n most cs us (subst (λ v. InBox us v) (sym same) box)
 
-after : (pass : Pass) (most cs ts us : List ℕ) → InBox ts most → Turned pass ts us → (m : List ℕ) × (most_after pass most ≡ Some m) × InBox us m × (turns_cost cs ts ≡ turn_taken pass cs + turns_cost cs us)
+after : (pass : Pass) (most cs ts us : List ℕ) → InBox ts most → Turned pass ts us
+    → (m : List ℕ) × (most_after pass most ≡ Some m) × InBox us m × (turns_cost cs ts ≡ turn_taken pass cs + turns_cost cs us)
 after Same most cs ts us box e = (most, refl, subst (λ v. InBox v most) e box, subst (λ v. turns_cost cs ts ≡ 0 + turns_cost cs v) e (omega arith))
 after Again [] cs (t ∷ ts) us box e = absurd box
 after Again most cs [] us box e = absurd e
 after Again most cs (zero ∷ ts) us box e = absurd e
 after Again (zero ∷ most) cs (suc t ∷ ts) us box e = absurd (omega (arith, box.0))
-after Again (suc n ∷ most) cs (suc t ∷ ts) us box e = (n ∷ most, refl, subst (λ v. InBox v (n ∷ most)) e (omega (arith, box.0), box.1), subst (λ v. turns_cost cs (suc t ∷ ts) ≡ turn_taken Again cs + turns_cost cs v) e (again_value cs t ts))
+after Again (suc n ∷ most) cs (suc t ∷ ts) us box e = (
+  n ∷ most,
+  refl,
+  subst (λ v. InBox v (n ∷ most)) e (omega (arith, box.0), box.1),
+  subst (λ v. turns_cost cs (suc t ∷ ts) ≡ turn_taken Again cs + turns_cost cs v) e (again_value cs t ts),
+)
 after Over most cs [] us box e = absurd e
 after Over [] cs (t ∷ ts) us box e = absurd box
 after Over most cs (suc t ∷ ts) us box e = absurd e
-after Over (n ∷ most) cs (zero ∷ ts) us box e = (zero ∷ most, refl, subst (λ v. InBox v (zero ∷ most)) e (omega arith, box.1), subst (λ v. turns_cost cs (zero ∷ ts) ≡ 0 + turns_cost cs v) e (omega arith))
+after Over (n ∷ most) cs (zero ∷ ts) us box e = (
+  zero ∷ most,
+  refl,
+  subst (λ v. InBox v (zero ∷ most)) e (omega arith, box.1),
+  subst (λ v. turns_cost cs (zero ∷ ts) ≡ 0 + turns_cost cs v) e (omega arith),
+)
 
 -- THE CLAUSE
 
-pub worst_is_all : (p q : PointFacts) (most : List ℕ) (sent : ℕ) (pass : Pass) (t : Target) → FallsAtWorst p q most sent pass t → BoundFalls p q most sent pass t
+pub worst_is_all : (p q : PointFacts) (most : List ℕ) (sent : ℕ) (pass : Pass) (t : Target) → FallsAtWorst p q most sent pass t
+    → BoundFalls p q most sent pass t
 worst_is_all p q most sent pass t falls ts us box turned =
     let cs = costs p in
     let ct = costs q in
     let a = after pass most cs ts us box turned in
-    let w = subst (λ o. IfSome o (λ m. q.base + sent + entering t.enter ct + excess (inside t.enter ct) (left t.leave cs) (left t.leave m) ≤ p.base + turn_taken pass cs)) a.1 falls.worst in
+    let w = subst (λ o. IfSome o (λ m. q.base + sent + entering t.enter ct + excess (inside t.enter ct) (left t.leave cs) (left t.leave m)
+    ≤ p.base + turn_taken pass cs)) a.1 falls.worst in
     let l = left_cost t.leave cs us in
     let x = enough (inside t.enter ct) (left t.leave cs) (left t.leave a.0) (left t.leave us) (left_box t.leave us a.0 a.2) in
     let y = enter_cost t.enter ct (left t.leave us) in
     let z = a.3 in
     omega (arith, w, l, x, y, z)
 
-all_at : (p q : PointFacts) (most : List ℕ) (sent : ℕ) (pass : Pass) (t : Target) (o : Option (List ℕ)) → most_after pass most ≡ o → BoundFalls p q most sent pass t →
-    IfSome o (λ m. q.base + sent + entering t.enter (costs q) + excess (inside t.enter (costs q)) (left t.leave (costs p)) (left t.leave m) ≤ p.base + turn_taken pass (costs p))
+all_at : (p q : PointFacts) (most : List ℕ) (sent : ℕ) (pass : Pass) (t : Target) (o : Option (List ℕ)) → most_after pass most ≡ o
+    → BoundFalls p q most sent pass t →
+    IfSome o (λ m. q.base + sent + entering t.enter (costs q) + excess (inside t.enter (costs q)) (left t.leave (costs p)) (left t.leave m)
+    ≤ p.base + turn_taken pass (costs p))
 all_at p q most sent pass t None e f = tt
 all_at p q most sent pass t (Some m) e f =
     let cs = costs p in
@@ -194,7 +210,8 @@ all_at p q most sent pass t (Some m) e f =
 all_is_worst : (p q : PointFacts) (most : List ℕ) (sent : ℕ) (pass : Pass) (t : Target) → BoundFalls p q most sent pass t → FallsAtWorst p q most sent pass t
 all_is_worst p q most sent pass t f = record { worst = all_at p q most sent pass t (most_after pass most) refl f }
 
-pub falls_exactly : (p q : PointFacts) (most : List ℕ) (sent : ℕ) (pass : Pass) (t : Target) → FallsAtWorst p q most sent pass t ↔ BoundFalls p q most sent pass t
+pub falls_exactly : (p q : PointFacts) (most : List ℕ) (sent : ℕ) (pass : Pass) (t : Target)
+    → FallsAtWorst p q most sent pass t ↔ BoundFalls p q most sent pass t
 falls_exactly p q most sent pass t = (worst_is_all p q most sent pass t, all_is_worst p q most sent pass t)
 
 -- THE START
@@ -215,6 +232,7 @@ bound_begun p t =
     subst (λ us. p.base + entering t.enter (costs p) ≡ bound p (entered t.enter us)) (sym (none_left t.leave)) z
 
 -- the bound at point 0, with all turns of a loop that begins there
-pub bound_first : (ps : List PointFacts) (p : PointFacts) (t : Target) (n : ℕ) → slice_get ps 0 ≡ Some p → n ≡ entering t.enter (costs p) → p.base + n ≡ bound_at (slice_get ps 0) (turns_at t [])
+pub bound_first : (ps : List PointFacts) (p : PointFacts) (t : Target) (n : ℕ) → slice_get ps 0 ≡ Some p → n ≡ entering t.enter (costs p)
+    → p.base + n ≡ bound_at (slice_get ps 0) (turns_at t [])
 bound_first ps p t n there is =
     subst (λ o. p.base + n ≡ bound_at o (turns_at t [])) (sym there) (subst (λ m. p.base + m ≡ bound p (turns_at t [])) (sym is) (bound_begun p t))

@@ -39,13 +39,15 @@ abbrev pub RuleOf : Rules → List PointFacts → Place → PointFacts → Rule
 RuleOf rules.Shape ps place p = ShapeRule ps
 RuleOf rules.Number ps place p = NumberRule ps
 RuleOf rules.Bound ps place p = BoundRule ps place p
-RuleOf rules.All ps place p = λ pass t s ns. ShapeRule ps pass t s ns × NumberRule ps pass t s ns × BoundRule ps place p pass t s ns
+RuleOf rules.All ps place p = λ pass t s ns. ShapeRule ps pass t s ns × NumberRule ps pass t s ns
+    × BoundRule ps place p pass t s ns
 
 abbrev pub AskedAt : Asked → Kind → List PointFacts → Place → PointFacts → Shape → Type 0
 AskedAt asks.Legal k ps place p s = LegalAt k place.node s
 AskedAt (asks.Edges r) k ps place p s = EachEdge k p.facts place.node s (RuleOf r ps place p)
 AskedAt asks.EndState k ps place p s = EndsAt place.node s
-AskedAt asks.All k ps place p s = LegalAt k place.node s × EachEdge k p.facts place.node s (RuleOf rules.All ps place p) × EndsAt place.node s
+AskedAt asks.All k ps place p s = LegalAt k place.node s × EachEdge k p.facts place.node s (RuleOf rules.All ps place p)
+    × EndsAt place.node s
 
 -- the same of a source
 abbrev pub place_at : Source → Place
@@ -69,4 +71,5 @@ FlagFits node = Unit {0}
 
 -- what holds of each point before one, with its facts
 abbrev pub EachBelow : List Place → List PointFacts → ℕ → (Place → PointFacts → Type 0) → Type 0
-EachBelow g ps n P = (i : ℕ) (place : Place) (p : PointFacts) → i < n → slice_get g i ≡ Some place → slice_get ps i ≡ Some p → P place p
+EachBelow g ps n P = (i : ℕ) (place : Place) (p : PointFacts) → i < n → slice_get g i ≡ Some place
+    → slice_get ps i ≡ Some p → P place p

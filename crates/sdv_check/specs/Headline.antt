@@ -7,8 +7,9 @@ use Rattle.sdv_graph.specs.Walk.{Pair, Ending, Walk}
 use Rattle.sdv_facts.specs.Beside.{RunsEnd, RunsWell}
 
 pub record EachRun (s : Parsed) (most : ℕ) : Type 0 where
-  -- beside any card of the script's kind and of the profile, each event is legal and in bounds, no more commands than these are sent, the run ends in
-  -- `done` with the card in the transfer state, or in a fault, and an open run is the beginning of one that ends
+  -- beside any card of the script's kind and of the profile, each event is legal and in bounds, no more commands than
+  -- these are sent, the run ends in `done` with the card in the transfer state, or in a fault, and an open run is the
+  -- beginning of one that ends
   pub runs : RunsWell s.names.kind (Walk s.names.kind s.names s.body) most
   -- every run ends: it has no more events than the text has moves, each loop taken as often as it may be
   pub ends : RunsEnd (Walk s.names.kind s.names s.body) (statements_moves s.body)

@@ -116,7 +116,8 @@ abbrev pub code_item : (digits rest : List ℕ) → Read Shape
 code_item digits rest = code_of digits >>= λ code. if ends_item rest then Some (record { 0 = code }, rest) else None
 
 unfoldable pub read_shape : List ℕ → Read Shape
-read_shape bs = after (32 ∷ []) bs >>= λ rest. if nat_lt (length rest) 16 then None else code_item (take 16 rest) (drop 16 rest)
+read_shape bs = after (32 ∷ []) bs >>= λ rest. if nat_lt (length rest) 16 then None else code_item (take 16 rest)
+    (drop 16 rest)
 
 abbrev pub is_above : Option Shape → Shape → Bool
 is_above None s = true
@@ -146,7 +147,8 @@ abbrev pub begins_shape : List ℕ → Bool
 begins_shape bs = slice_index bs 0 == 32
 
 -- at most so many items, each read behind the one before
-unfoldable pub read_each : {A : Type 0} → (List ℕ → Bool) → (Option A → List ℕ → Read A) → (room : ℕ) → Option A → List ℕ → Read (List A)
+unfoldable pub read_each : {A : Type 0} → (List ℕ → Bool) → (Option A → List ℕ → Read A) → (room : ℕ) → Option A
+    → List ℕ → Read (List A)
 read_each begins item zero last bs = if begins bs then None else Some ([], bs)
 read_each begins item (suc room) last bs =
     if begins bs
@@ -193,7 +195,14 @@ read_point place room bs = do
   bs ← after (codes " s") numbers.1
   shapes ← read_shapes room bs
   bs ← after (10 ∷ []) shapes.1
-  Some (record { facts = record { shapes = shapes.0; numbers = numbers.0 }; base = bound.0.0; turns = record { items = bound.0.1 } }, bs)
+  Some (
+    record {
+      facts = record { shapes = shapes.0; numbers = numbers.0 };
+      base = bound.0.0;
+      turns = record { items = bound.0.1 };
+    },
+    bs,
+  )
 
 -- so many points, from a place on, with at most so many shapes
 unfoldable pub read_points : (count place room : ℕ) → List ℕ → Read (List PointFacts)

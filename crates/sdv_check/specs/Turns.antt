@@ -6,8 +6,8 @@ use Rattle.sdv_graph.specs.Nested.{Pass, Same, Again, Over}
 use Rattle.sdv_graph.specs.Path.{left}
 use Rattle.sdv_facts.specs.declared.certificate.PointFacts.{PointFacts}
 
--- the most by which a target's bound exceeds a source's over the loops that they share: all turns left where a turn costs
--- more at the target, and none where it does not
+-- the most by which a target's bound exceeds a source's over the loops that they share: all turns left where a turn
+-- costs more at the target, and none where it does not
 abbrev pub excess : (target source most : List ℕ) → ℕ
 excess ct cs [] = 0
 excess [] cs (n ∷ most) = 0
@@ -45,5 +45,6 @@ costs p = reverse p.turns.items
 -- the bound falls at the worst turns
 pub record FallsAtWorst (p q : PointFacts) (most : List ℕ) (sent : ℕ) (pass : Pass) (t : Target) : Type 0 where
   pub worst : IfSome (most_after pass most) (λ m.
-      q.base + sent + entering t.enter (costs q) + excess (inside t.enter (costs q)) (left t.leave (costs p)) (left t.leave m)
+      q.base + sent + entering t.enter (costs q) + excess (inside t.enter (costs q)) (left t.leave (costs p))
+      (left t.leave m)
       ≤ p.base + turn_taken pass (costs p))

@@ -68,7 +68,8 @@ pub record IsOpen (script certificate : List ℕ) (fault : CheckFault) : Type 0 
 abbrev pub Verified : (script certificate : List ℕ) → Result Acceptance VerifyFault → Type 0
 Verified script certificate (Ok a) = IsAccepted script certificate a
 Verified script certificate (Err (Script fault)) = IsNoScript script
-Verified script certificate (Err (Certificate fault)) = ((g : Flow) × IsGraphOfText script g) × IsNoCertificate certificate
+Verified script certificate (Err (Certificate fault)) =
+    ((g : Flow) × IsGraphOfText script g) × IsNoCertificate certificate
 Verified script certificate (Err (Check fault)) = IsOpen script certificate fault
 Verified script certificate (Err Memory) = Unit {0}
 

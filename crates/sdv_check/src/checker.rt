@@ -145,7 +145,8 @@ fn first_fault<T: CardTable>(
     requires limits { all_keep_limits graph.now.places ≡ true }
     requires matches { PointsMatch graph.now certificate.now }
     ensures { MatchOption result
-        (EachBelow graph.now.places certificate.now (length graph.now.places) (PointClosed graph.now.kind certificate.now))
+        (EachBelow graph.now.places certificate.now (length graph.now.places)
+        (PointClosed graph.now.kind certificate.now))
         (λ found. FailsAt graph.now certificate.now found.1 found.0) }
 {
     for number in 0..graph.len() {

@@ -69,7 +69,8 @@ fn shapes_hold<T: CardTable>(
 fn holds<T: CardTable>(asked: Asked, at: Source<'_, '_>) -> bool
     requires kind { T.kind ≡ at.kind }
     requires flag { FlagFits (place_at at).node }
-    ensures { IsTrue result ↔ ((s : Shape) → May at.entry.facts.now.facts.shapes s → AskedFrom asked T.kind at.entry s) }
+    ensures { IsTrue result ↔ ((s : Shape) → May at.entry.facts.now.facts.shapes s
+        → AskedFrom asked T.kind at.entry s) }
 {
     let set = numbers_set(at);
     shapes_hold::<T>(asked, at, &set, at.facts.facts.shapes())

@@ -53,5 +53,6 @@ pub struct Source<'g, 'a> {
     pub facts: &'g PointFacts,
     /// What the certificate says of each point, of as many number variables.
     pub certificate: &'g [PointFacts],
-    ghost same: { (i : ℕ) (q : PointFacts) → slice_get certificate.now i ≡ Some q → length q.facts.numbers.vars.items ≡ length facts.now.facts.numbers.vars.items },
+    ghost same: { (i : ℕ) (q : PointFacts) → slice_get certificate.now i ≡ Some q
+        → length q.facts.numbers.vars.items ≡ length facts.now.facts.numbers.vars.items },
 }

@@ -167,7 +167,8 @@ fn room_left(bound: u128, other: u128) -> Option<u128>
 
 /// The bound falls along an edge at the worst turns.
 fn falls_at_worst(at: Source<'_, '_>, there: &PointFacts, pass: Pass, target: Target) -> bool
-    ensures { IsTrue result ↔ FallsAtWorst at.entry.facts.now there.now (place_at at.entry).most (commands_of (place_at at.entry).node) (pass_of pass) target }
+    ensures { IsTrue result ↔ FallsAtWorst at.entry.facts.now there.now (place_at at.entry).most
+        (commands_of (place_at at.entry).node) (pass_of pass) target }
 {
     let (source, goal) = (costs(at.facts), costs(there));
     let facts = at.facts;
@@ -198,7 +199,8 @@ fn falls_at_worst(at: Source<'_, '_>, there: &PointFacts, pass: Pass, target: Ta
 
 /// The bound falls along an edge by the commands sent, for all turns that can be left.
 pub fn bound_falls(at: Source<'_, '_>, there: &PointFacts, pass: Pass, target: Target) -> bool
-    ensures { IsTrue result ↔ BoundFalls at.entry.facts.now there.now (place_at at.entry).most (commands_of (place_at at.entry).node) (pass_of pass) target }
+    ensures { IsTrue result ↔ BoundFalls at.entry.facts.now there.now (place_at at.entry).most
+        (commands_of (place_at at.entry).node) (pass_of pass) target }
 {
     falls_at_worst(at, there, pass, target)
 }

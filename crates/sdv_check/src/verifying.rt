@@ -12,7 +12,8 @@ use std::alloc::Global;
 
 /// The graph of the script that a text is.
 fn graph_of_text<'a>(alloc: Global, text: &'a str) -> Result<Graph<'a>, ScriptFault>
-    ensures { MatchResult result (λ g. IsGraphOfText text.entry.now g) (λ f. f.kind ≢ FaultKind.Memory → IsNoScript text.entry.now) }
+    ensures { MatchResult result (λ g. IsGraphOfText text.entry.now g)
+        (λ f. f.kind ≢ FaultKind.Memory → IsNoScript text.entry.now) }
 {
     match parse(alloc, text) {
         Ok(script) => script.graph(alloc),

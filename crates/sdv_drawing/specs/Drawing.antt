@@ -1,5 +1,5 @@
--- The DRAWING of a graph, in the language of Graphviz: a line for each point, in their order, and then a line for each edge,
--- point by point in the order of the edges of each.
+-- The DRAWING of a graph, in the language of Graphviz: a line for each point, in their order, and then a line for each
+-- edge, point by point in the order of the edges of each.
 use Rattle.std.specs.Prelude.{ℕ, suc, List, [], ◌∷◌, ◌++◌, map, flat_map, Bool, true, false, ◌==◌, ◌||◌, nat_lt, nat_le, length, Option, Some, None, codes, decimal, if◌then◌else◌}
 use Rattle.sdv_graph.specs.declared.graph.Target.{Target}
 use Rattle.sdv_graph.specs.Graph.{Flow}
@@ -21,8 +21,8 @@ abbrev pub numbered : {X : Type 0} → (line : ℕ → X → Text) → (first : 
 numbered line n [] = []
 numbered line n (x ∷ xs) = line n x ++ numbered line (suc n) xs
 
--- POINTS: a box with the line of the text, the number of the point and the words of the statement; the point for which the
--- script is refused is red, and says the clause that fails there
+-- POINTS: a box with the line of the text, the number of the point and the words of the statement; the point for which
+-- the script is refused is red, and says the clause that fails there
 
 abbrev pub clause_if : Bool → Text → Text
 clause_if true clause = clause
@@ -41,7 +41,8 @@ mark (c ∷ cs) = codes "\\nrefused " ++ ((c ∷ cs) ++ codes "\", color=red, fo
 
 abbrev pub point_front : (point line : ℕ) → Text
 point_front point line =
-    codes "    " ++ (decimal point ++ (codes " [label=\"line " ++ (decimal line ++ (codes ", point " ++ (decimal point ++ codes "\\n")))))
+    codes "    " ++ (decimal point ++ (codes " [label=\"line "
+    ++ (decimal line ++ (codes ", point " ++ (decimal point ++ codes "\\n")))))
 
 -- `    3 [label="line 7, point 3\nCMD55"];`
 abbrev pub point_line : Option CertifyFault → (point : ℕ) → Heading → Text
@@ -74,12 +75,16 @@ else_word [] = []
 else_word (w ∷ ws) = codes "else"
 
 abbrev pub edge_lines : (points from : ℕ) → Node → Text
-edge_lines points from (sends c ways other) = flat_map (case_line points from) ways ++ edge_line points from other (else_word ways)
-edge_lines points from (phases p well other) = edge_line points from well (codes "ok") ++ edge_line points from other (codes "else")
+edge_lines points from (sends c ways other) =
+    flat_map (case_line points from) ways ++ edge_line points from other (else_word ways)
+edge_lines points from (phases p well other) =
+    edge_line points from well (codes "ok") ++ edge_line points from other (codes "else")
 edge_lines points from (lets l t) = edge_line points from t []
-edge_lines points from (tests c met unmet) = edge_line points from met (codes "then") ++ edge_line points from unmet (codes "else")
+edge_lines points from (tests c met unmet) =
+    edge_line points from met (codes "then") ++ edge_line points from unmet (codes "else")
 edge_lines points from (flags flag on t) = edge_line points from t []
-edge_lines points from (heads count body other) = edge_line points from body (codes "turn") ++ edge_line points from other (codes "else")
+edge_lines points from (heads count body other) =
+    edge_line points from body (codes "turn") ++ edge_line points from other (codes "else")
 edge_lines points from (jumps t) = edge_line points from t []
 edge_lines points from (stops ending) = []
 
@@ -94,4 +99,5 @@ header = codes "digraph script {\n    node [shape=box, fontname=\"monospace\"];\
 -- of the points of a graph with these headings, of a script that is refused so
 abbrev pub drawing : List Place → List Heading → Option CertifyFault → Text
 drawing places headings refusal =
-    header ++ (numbered (point_line refusal) 0 headings ++ (numbered (edges_at (length places)) 0 places ++ codes "}\n"))
+    header ++ (numbered (point_line refusal) 0 headings
+    ++ (numbered (edges_at (length places)) 0 places ++ codes "}\n"))

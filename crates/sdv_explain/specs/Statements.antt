@@ -1,5 +1,5 @@
--- The FIRST WORDS of a statement: as scripts write it, with `CMD` before the index of a command, and without the arguments of
--- CMD41 and CMD38.
+-- The FIRST WORDS of a statement: as scripts write it, with `CMD` before the index of a command, and without the
+-- arguments of CMD41 and CMD38.
 use Rattle.std.specs.Prelude.{ℕ, List, [], ◌++◌, Bool, true, false, ◌==◌, ◌||◌, slice_get, Option, Some, None, codes, decimal, if◌then◌else◌}
 use Rattle.std.specs.Borrow.{Bor}
 use Rattle.sdv_card.specs.declared.event.Aim.{Aim}
@@ -100,12 +100,15 @@ change_words (Plus number) = codes " + " ++ decimal number
 change_words (Minus number) = codes " - " ++ decimal number
 
 abbrev pub let_words : Outline → Let → Text
-let_words names l = codes "let " ++ (name_at names.numbers.items l.target ++ (codes " = " ++ (atom_words names l.atom ++ change_words l.change)))
+let_words names l = codes "let " ++ (name_at names.numbers.items l.target
+    ++ (codes " = " ++ (atom_words names l.atom ++ change_words l.change)))
 
 abbrev pub condition_words : Outline → Condition → Text
 condition_words names (conditions.Flag flag) = name_at names.flags.items flag
-condition_words names (conditions.AtLeast variable number) = name_at names.numbers.items variable ++ (codes " >= " ++ decimal number)
-condition_words names (conditions.Below variable number) = name_at names.numbers.items variable ++ (codes " < " ++ decimal number)
+condition_words names (conditions.AtLeast variable number) =
+    name_at names.numbers.items variable ++ (codes " >= " ++ decimal number)
+condition_words names (conditions.Below variable number) =
+    name_at names.numbers.items variable ++ (codes " < " ++ decimal number)
 
 abbrev pub flag_word : (on : Bool) → Text
 flag_word true = codes "set "

@@ -60,7 +60,8 @@ pub fn explain(alloc: Global, text: &str) -> Result<Explanation, ExplainFault>
 /// What is known at each point of a script.
 fn known_of(alloc: Global, script: &Script<'_>) -> Result<Certificate, ExplainFault>
     ensures known { IfOk result (SurveyOf script.now) }
-    ensures refused { IfErr result (λ fault. fault ≡ ExplainFault.TooMany → RefusedFor script.now CertifyFault.TooMany) }
+    ensures refused { IfErr result (λ fault. fault ≡ ExplainFault.TooMany
+        → RefusedFor script.now CertifyFault.TooMany) }
     ensures others { IfErr result (λ fault. fault ≢ ExplainFault.TooMany → fault ≡ ExplainFault.Memory) }
 {
     match survey(alloc, script) {

@@ -51,7 +51,8 @@ fn put_heading(
     action: &Action<'_>,
     outline: &Outline<'_>,
 ) -> Result<(), AllocError>
-    ensures { OnOk result (map words_of headings.new.items ≡ map words_of headings.old.items ++ statement_words outline.now (node_of action.now) ∷ []) }
+    ensures { OnOk result (map words_of headings.new.items
+        ≡ map words_of headings.old.items ++ statement_words outline.now (node_of action.now) ∷ []) }
 {
     let mut words = Vec::new(alloc);
     put_statement(&mut words, action, outline)?;

@@ -34,7 +34,8 @@ either_true true b e = inl refl
 either_true false b e = inr e
 
 -- the unit that is sent is the card's
-unit_is : (k : Kind) (c : Card) (h : Host) (shapes : List Shape) (unit : AddressUnit) → IsPair k c h → May shapes (record { 0 = pair_code c h }) → unit_fits shapes unit ≡ true →
+unit_is : (k : Kind) (c : Card) (h : Host) (shapes : List Shape) (unit : AddressUnit) → IsPair k c h → May shapes (record { 0 = pair_code c h })
+    → unit_fits shapes unit ≡ true →
     sends_block h unit ≡ c.block_unit
 unit_is k c h shapes Block pair shape e = sym (all-member has_block_unit shapes _ e shape) ∙ unit_shown k c h pair
 unit_is k c h shapes Byte pair shape e = sym (negated _ (all-member (λ s. not (has_block_unit s)) shapes _ e shape)) ∙ unit_shown k c h pair
@@ -51,7 +52,8 @@ variable_room : (ns : Numbers) (c : Card) (h : Host) (x k n : ℕ) → NumbersHo
 variable_room ns c h x k n holds e =
     elim (either_true (gap_allows (var ns x).gap (k + n)) (nat_le ((var ns x).hi + k + n) ns.m) e) [
       | inl a ↦ let r : number h x + (k + n) ≤ c.capacity = gap_room (var ns x).gap (k + n) (number h x) c.capacity a (holds.each x).gap in omega arith
-      | inr a ↦ let le : (var ns x).hi + k + n ≤ ns.m = leb-true ((var ns x).hi + k + n) ns.m a in let l = holds.least in let u = (holds.each x).high in omega arith
+      | inr a ↦ let le : (var ns x).hi + k + n ≤ ns.m = leb-true ((var ns x).hi + k + n) ns.m a in let l = holds.least in let u = (holds.each x).high in
+          omega arith
     ]
 
 room : (ns : Numbers) (c : Card) (h : Host) (p : Position) (n : ℕ) → NumbersHold ns c h → position_fits ns p n ≡ true → position_of h p + n ≤ c.capacity

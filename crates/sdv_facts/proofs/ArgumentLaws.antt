@@ -17,7 +17,8 @@ use Rattle.sdv_card.proofs.OrdersOfAsks.{of_ask, argument_is_narrow}
 
 -- ADDRESSES
 
-by_capacity : (k : Kind) (unit : Bool) (argument position n capacity : ℕ) → 0 < n → argument ≡ (if unit then position else 512 * position) → position + n ≤ capacity → capacity ≤ most_blocks k unit → argument < 2 ^ 32
+by_capacity : (k : Kind) (unit : Bool) (argument position n capacity : ℕ) → 0 < n → argument ≡ (if unit then position else 512 * position)
+    → position + n ≤ capacity → capacity ≤ most_blocks k unit → argument < 2 ^ 32
 by_capacity Sd true argument position n capacity some is room most = omega arith
 by_capacity Sd false argument position n capacity some is room most = omega arith
 by_capacity Emmc true argument position n capacity some is room most = omega arith
@@ -33,7 +34,8 @@ below : (n : ℕ) → n < 65536 → n < 2 ^ 32
 below n small = omega arith
 
 -- ORDER BY ORDER
-module _ (k : Kind) (ask : Ask) (position argument : ℕ) (c : Card) (h : Host) (laws : AsksAddress k) (fine : IsFine k (SendCommand ask position argument) c h) (of : IsOfProfile c) (order : Order) (asked : order_of k ask ≡ Some order) where
+module _ (k : Kind) (ask : Ask) (position argument : ℕ) (c : Card) (h : Host) (laws : AsksAddress k) (fine : IsFine k (SendCommand ask position argument) c h)
+    (of : IsOfProfile c) (order : Order) (asked : order_of k ask ≡ Some order) where
   blocks : (n : ℕ) → order_blocks order ≡ Some n → 0 < n → argument < 2 ^ 32
   blocks n is some = at_address c position argument n of some (subst (λ o. BlocksWithin o c position argument) (sym (laws ask order asked) ∙ is) fine.bounds)
 
@@ -70,7 +72,9 @@ module _ (k : Kind) (ask : Ask) (position argument : ℕ) (c : Card) (h : Host) 
   settles (inl small) = subst (λ n. n < 2 ^ 32) (sym (fine.made.same ∙ ap (λ o. argument_or_none o ask.argument h.rca fine.made.address) asked)) small
   settles (inr small) = small
 
-pub narrow : (k : Kind) (ask : Ask) (position argument : ℕ) (c : Card) (h : Host) → AsksAddress k → IsFine k (SendCommand ask position argument) c h → IsOfProfile c → argument < 2 ^ 32
+pub narrow : (k : Kind) (ask : Ask) (position argument : ℕ) (c : Card) (h : Host) → AsksAddress k → IsFine k (SendCommand ask position argument) c h
+    → IsOfProfile c → argument < 2 ^ 32
 narrow k ask position argument c h laws fine of =
     let asked : order_of k ask ≡ Some fine.legal.order = subst (λ v. order_of v ask ≡ Some fine.legal.order) (sym fine.pair.kind) fine.legal.asks.line in
-    settles k ask position argument c h laws fine of fine.legal.order asked (small_order k ask position argument c h laws fine of fine.legal.order asked fine.legal.order refl)
+    settles k ask position argument c h laws fine of fine.legal.order asked
+    (small_order k ask position argument c h laws fine of fine.legal.order asked fine.legal.order refl)

@@ -31,26 +31,33 @@ on_both : {A : Type 0} (o : Option A) (P Q : A → Type 0) → IfSome o P → If
 on_both None P Q p q = tt
 on_both (Some x) P Q p q = (p, q)
 
-ways_both : (ws : List Fork) (other : Target) (seen : Seen) (P Q : Target → Type 0) → EachWay ws other seen P → EachWay ws other seen Q → EachWay ws other seen (λ t. P t × Q t)
+ways_both : (ws : List Fork) (other : Target) (seen : Seen) (P Q : Target → Type 0) → EachWay ws other seen P → EachWay ws other seen Q
+    → EachWay ws other seen (λ t. P t × Q t)
 ways_both [] other seen P Q p q = (p, q)
 ways_both (w ∷ ws) other seen P Q p q = (λ e. (p.0 e, q.0 e), λ e. ways_both ws other seen P Q (p.1 e) (q.1 e))
 
-outcomes_both : (k : Kind) (event : Event) (ways : List Fork) (other : Target) (ns : Numbers) (s : Shape) (P Q : Rule) → EachOutcome k event ways other ns s P → EachOutcome k event ways other ns s Q →
+outcomes_both : (k : Kind) (event : Event) (ways : List Fork) (other : Target) (ns : Numbers) (s : Shape) (P Q : Rule) → EachOutcome k event ways other ns s P
+    → EachOutcome k event ways other ns s Q →
     EachOutcome k event ways other ns s (λ p t s n. P p t s n × Q p t s n)
 outcomes_both k event ways other ns s P Q p q = λ l o m. ways_both ways other o.seen (λ t. P Same t o.shape ns) (λ t. Q Same t o.shape ns) (p l o m) (q l o m)
 
-test_both : (ns : Numbers) (holds fails : Test) (met unmet : Target) (s : Shape) (P Q : Rule) → EachTest ns holds fails met unmet s P → EachTest ns holds fails met unmet s Q →
+test_both : (ns : Numbers) (holds fails : Test) (met unmet : Target) (s : Shape) (P Q : Rule) → EachTest ns holds fails met unmet s P
+    → EachTest ns holds fails met unmet s Q →
     EachTest ns holds fails met unmet s (λ p t s n. P p t s n × Q p t s n)
-test_both ns holds fails met unmet s P Q p q =
-    (on_both (after_test ns holds) (λ n. P Same met s n) (λ n. Q Same met s n) p.0 q.0, on_both (after_test ns fails) (λ n. P Same unmet s n) (λ n. Q Same unmet s n) p.1 q.1)
+test_both ns holds fails met unmet s P Q p q = (
+  on_both (after_test ns holds) (λ n. P Same met s n) (λ n. Q Same met s n) p.0 q.0,
+  on_both (after_test ns fails) (λ n. P Same unmet s n) (λ n. Q Same unmet s n) p.1 q.1,
+)
 
-condition_both : (c : Condition) (met unmet : Target) (ns : Numbers) (s : Shape) (P Q : Rule) → EachCondition c met unmet ns s P → EachCondition c met unmet ns s Q →
+condition_both : (c : Condition) (met unmet : Target) (ns : Numbers) (s : Shape) (P Q : Rule) → EachCondition c met unmet ns s P
+    → EachCondition c met unmet ns s Q →
     EachCondition c met unmet ns s (λ p t s n. P p t s n × Q p t s n)
 condition_both (conditions.Flag flag) met unmet ns s P Q p q = (p, q)
 condition_both (conditions.AtLeast x n) met unmet ns s P Q p q = test_both ns (AtLeast x n) (Below x n) met unmet s P Q p q
 condition_both (conditions.Below x n) met unmet ns s P Q p q = test_both ns (Below x n) (AtLeast x n) met unmet s P Q p q
 
-pub edges_both : (k : Kind) (known : Known) (node : Node) (s : Shape) (P Q : Rule) → EachEdge k known node s P → EachEdge k known node s Q → EachEdge k known node s (λ p t s n. P p t s n × Q p t s n)
+pub edges_both : (k : Kind) (known : Known) (node : Node) (s : Shape) (P Q : Rule) → EachEdge k known node s P → EachEdge k known node s Q
+    → EachEdge k known node s (λ p t s n. P p t s n × Q p t s n)
 edges_both k known (sends c ways other) s P Q p q = outcomes_both k (Send c.ask) ways other known.numbers s P Q p q
 edges_both k known (phases ph well other) s P Q p q = outcomes_both k (event_of_phase ph) (well_or well) other known.numbers s P Q p q
 edges_both k known (lets l t) s P Q p q = on_both (after_let k known l) (λ n. P Same t s n) (λ n. Q Same t s n) p q
@@ -66,17 +73,23 @@ on_map : {A : Type 0} (o : Option A) (P Q : A → Type 0) → ((x : A) → P x �
 on_map None P Q f p = tt
 on_map (Some x) P Q f p = f x p
 
-ways_map : (ws : List Fork) (other : Target) (seen : Seen) (P Q : Target → Type 0) → ((t : Target) → P t → Q t) → EachWay ws other seen P → EachWay ws other seen Q
+ways_map : (ws : List Fork) (other : Target) (seen : Seen) (P Q : Target → Type 0) → ((t : Target) → P t → Q t) → EachWay ws other seen P
+    → EachWay ws other seen Q
 ways_map [] other seen P Q f p = f other p
 ways_map (w ∷ ws) other seen P Q f p = (λ e. f w.target (p.0 e), λ e. ways_map ws other seen P Q f (p.1 e))
 
 module _ (P Q : Rule) (f : (p : Pass) (t : Target) (s : Shape) (n : Numbers) → P p t s n → Q p t s n) where
-  outcomes_map : (k : Kind) (event : Event) (ways : List Fork) (other : Target) (ns : Numbers) (s : Shape) → EachOutcome k event ways other ns s P → EachOutcome k event ways other ns s Q
-  outcomes_map k event ways other ns s p = λ l o m. ways_map ways other o.seen (λ t. P Same t o.shape ns) (λ t. Q Same t o.shape ns) (λ t. f Same t o.shape ns) (p l o m)
+  outcomes_map : (k : Kind) (event : Event) (ways : List Fork) (other : Target) (ns : Numbers) (s : Shape) → EachOutcome k event ways other ns s P
+      → EachOutcome k event ways other ns s Q
+  outcomes_map k event ways other ns s p = λ l o m. ways_map ways other o.seen (λ t. P Same t o.shape ns) (λ t. Q Same t o.shape ns) (λ t. f Same t o.shape ns)
+      (p l o m)
 
-  test_map : (ns : Numbers) (holds fails : Test) (met unmet : Target) (s : Shape) → EachTest ns holds fails met unmet s P → EachTest ns holds fails met unmet s Q
-  test_map ns holds fails met unmet s p =
-      (on_map (after_test ns holds) (λ n. P Same met s n) (λ n. Q Same met s n) (λ n. f Same met s n) p.0, on_map (after_test ns fails) (λ n. P Same unmet s n) (λ n. Q Same unmet s n) (λ n. f Same unmet s n) p.1)
+  test_map : (ns : Numbers) (holds fails : Test) (met unmet : Target) (s : Shape) → EachTest ns holds fails met unmet s P
+      → EachTest ns holds fails met unmet s Q
+  test_map ns holds fails met unmet s p = (
+    on_map (after_test ns holds) (λ n. P Same met s n) (λ n. Q Same met s n) (λ n. f Same met s n) p.0,
+    on_map (after_test ns fails) (λ n. P Same unmet s n) (λ n. Q Same unmet s n) (λ n. f Same unmet s n) p.1,
+  )
 
   condition_map : (c : Condition) (met unmet : Target) (ns : Numbers) (s : Shape) → EachCondition c met unmet ns s P → EachCondition c met unmet ns s Q
   condition_map (conditions.Flag flag) met unmet ns s p = f _ _ _ _ p
@@ -108,10 +121,15 @@ module _ (L : Pass → Target → Type 0) where
   ways_targets [] other seen p q = q
   ways_targets (w ∷ ws) other seen p q = (λ e. p.0, λ e. ways_targets ws other seen p.1 q)
 
-  test_targets : (ns : Numbers) (holds fails : Test) (met unmet : Target) (s : Shape) → L Same met → L Same unmet → EachTest ns holds fails met unmet s (λ p t s n. L p t)
-  test_targets ns holds fails met unmet s p q = (on_all (after_test ns holds) (λ n. L Same met) (λ n. p), on_all (after_test ns fails) (λ n. L Same unmet) (λ n. q))
+  test_targets : (ns : Numbers) (holds fails : Test) (met unmet : Target) (s : Shape) → L Same met → L Same unmet
+      → EachTest ns holds fails met unmet s (λ p t s n. L p t)
+  test_targets ns holds fails met unmet s p q = (
+    on_all (after_test ns holds) (λ n. L Same met) (λ n. p),
+    on_all (after_test ns fails) (λ n. L Same unmet) (λ n. q),
+  )
 
-  condition_targets : (c : Condition) (met unmet : Target) (ns : Numbers) (s : Shape) → L Same met → L Same unmet → EachCondition c met unmet ns s (λ p t s n. L p t)
+  condition_targets : (c : Condition) (met unmet : Target) (ns : Numbers) (s : Shape) → L Same met → L Same unmet
+      → EachCondition c met unmet ns s (λ p t s n. L p t)
   condition_targets (conditions.Flag flag) met unmet ns s p q = chosen (has_flag s flag) met unmet (L Same) p q
   condition_targets (conditions.AtLeast x n) met unmet ns s p q = test_targets ns (AtLeast x n) (Below x n) met unmet s p q
   condition_targets (conditions.Below x n) met unmet ns s p q = test_targets ns (Below x n) (AtLeast x n) met unmet s p q
@@ -128,7 +146,8 @@ module _ (L : Pass → Target → Type 0) where
 
 -- ALL THAT IS KNOWN OF AN EDGE
 
-pub record Reaches (places : List Place) (ps : List PointFacts) (place : Place) (p : PointFacts) (pass : Pass) (t : Target) (s : Shape) (ns : Numbers) : Type 0 where
+pub record Reaches (places : List Place) (ps : List PointFacts) (place : Place) (p : PointFacts) (pass : Pass) (t : Target) (s : Shape)
+    (ns : Numbers) : Type 0 where
   pub facts : PointFacts
   pub known : slice_get ps t.to ≡ Some facts
   pub shape : May facts.facts.shapes s
@@ -136,14 +155,17 @@ pub record Reaches (places : List Place) (ps : List PointFacts) (place : Place) 
   pub bounds : BoundFalls p facts place.most (commands_of place.node) pass t
   pub lands : Lands places place.most pass t
 
-gathers : (places : List Place) (ps : List PointFacts) (place : Place) (p : PointFacts) (pass : Pass) (t : Target) (s : Shape) (ns : Numbers) (o : Option PointFacts) → slice_get ps t.to ≡ o →
-    MatchOption o ⊥ (λ q. May q.facts.shapes s) → IfSome o (λ q. Covers q.facts.numbers ns) → IfSome o (λ q. BoundFalls p q place.most (commands_of place.node) pass t) →
+gathers : (places : List Place) (ps : List PointFacts) (place : Place) (p : PointFacts) (pass : Pass) (t : Target) (s : Shape) (ns : Numbers)
+    (o : Option PointFacts) → slice_get ps t.to ≡ o →
+    MatchOption o ⊥ (λ q. May q.facts.shapes s) → IfSome o (λ q. Covers q.facts.numbers ns)
+    → IfSome o (λ q. BoundFalls p q place.most (commands_of place.node) pass t) →
     Lands places place.most pass t → Reaches places ps place p pass t s ns
 gathers places ps place p pass t s ns None e a b c l = absurd a
 gathers places ps place p pass t s ns (Some q) e a b c l = record { facts = q; known = e; shape = a; numbers = b; bounds = c; lands = l }
 
 -- the clauses of a point, as one thing known of each edge
-pub edges : (k : Kind) (places : List Place) (ps : List PointFacts) (place : Place) (p : PointFacts) (s : Shape) → PointClosed k ps place p → EachTarget place.node (Lands places place.most) → May p.facts.shapes s →
+pub edges : (k : Kind) (places : List Place) (ps : List PointFacts) (place : Place) (p : PointFacts) (s : Shape) → PointClosed k ps place p
+    → EachTarget place.node (Lands places place.most) → May p.facts.shapes s →
     EachEdge k p.facts place.node s (Reaches places ps place p)
 edges k places ps place p s closed lands m =
     let A : Rule = ShapeRule ps in

@@ -28,7 +28,8 @@ code_above : (f : Fields) → 65536 * f.flags ≤ code_of f
 unfolding code_of
 code_above f = omega arith
 
-put_in_code : (on to : Bool) (code flags step code' : ℕ) → (on ≡ true → step ≤ flags) → code' + 65536 * flags ≡ code + 65536 * put_bit on to flags step → 65536 * flags ≤ code → put_bit on to code (65536 * step) ≡ code'
+put_in_code : (on to : Bool) (code flags step code' : ℕ) → (on ≡ true → step ≤ flags) → code' + 65536 * flags ≡ code + 65536 * put_bit on to flags step
+    → 65536 * flags ≤ code → put_bit on to code (65536 * step) ≡ code'
 put_in_code true true code flags step code' low e le = omega arith
 put_in_code true false code flags step code' low e le = let l : step ≤ flags = low refl in omega arith
 put_in_code false true code flags step code' low e le = omega arith
@@ -48,8 +49,10 @@ pair_with_flag k c h f to pair lt =
     let on = is_flag_set h.flags f in
     let n = put_bit on to h.flags (2 ^ f) in
     let e : put_bit on to (pair_code c h) (65536 * 2 ^ f) ≡ pair_code c (with_flag h f to) =
-    put_in_code on to (pair_code c h) h.flags (2 ^ f) (code_of (record (view c h) { flags = n })) (flag_low h.flags f lt) (code_flags (view c h) n) (code_above (view c h)) in
-    ap (λ code. record { 0 = code }) (ap (λ v. put_bit v to (pair_code c h) (2 ^ (16 + f))) (flag_shown k c h pair f) ∙ ap (λ v. put_bit on to (pair_code c h) v) (power f lt) ∙ e)
+    put_in_code on to (pair_code c h) h.flags (2 ^ f) (code_of (record (view c h) { flags = n })) (flag_low h.flags f lt) (code_flags (view c h) n)
+    (code_above (view c h)) in
+    ap (λ code. record { 0 = code }) (ap (λ v. put_bit v to (pair_code c h) (2 ^ (16 + f))) (flag_shown k c h pair f)
+    ∙ ap (λ v. put_bit on to (pair_code c h) v) (power f lt) ∙ e)
 
 flags_small : (to on : Bool) (flags f : ℕ) → flags < 16 → f < 4 → is_flag_set flags f ≡ on → put_bit on to flags (2 ^ f) < 16
 flags_small true true flags f s lt e = s

@@ -61,7 +61,8 @@ module _ (k : Kind) (c : Card) (h : Host) (honest : IsHonest k c h) (shapes : Li
   csd_holds (Some bytes) m n is least e =
       let value : blocks k (bits_of bytes) ≡ n = cc in
       let of_card : blocks k (bits_of c.csd) ≡ n = ap (λ b. blocks k (bits_of b)) (sym (honest.sound.csd bytes is)) ∙ value in
-      register_holds (csd_tells k shapes) m c.capacity n least (subst (λ v. v ≤ 2 ^ 32) value (csd_small k bytes)) (λ tells. sym of_card ∙ csd_is_capacity tells)
+      register_holds (csd_tells k shapes) m c.capacity n least (subst (λ v. v ≤ 2 ^ 32) value (csd_small k bytes))
+      (λ tells. sym of_card ∙ csd_is_capacity tells)
 
   ext_csd_holds : (o : Option (List ℕ)) (m n : ℕ) → k ≡ Emmc → h.ext_csd ≡ o → m ≤ c.capacity → option_map sec_count o ≡ Some n →
       VarHolds c.capacity (register_facts (ext_csd_tells shapes) m) n
@@ -69,22 +70,30 @@ module _ (k : Kind) (c : Card) (h : Host) (honest : IsHonest k c h) (shapes : Li
   ext_csd_holds (Some bytes) m n kind is least e =
       let value : sec_count bytes ≡ n = cc in
       let of_card : sec_count c.ext_csd ≡ n = ap sec_count (sym (honest.sound.ext_csd bytes (sym honest.pair.kind ∙ kind) is)) ∙ value in
-      register_holds (ext_csd_tells shapes) m c.capacity n least (subst (λ v. v ≤ 2 ^ 32) value (sec_count_small bytes)) (λ tells. sym of_card ∙ ext_csd_is_capacity kind tells)
+      register_holds (ext_csd_tells shapes) m c.capacity n least (subst (λ v. v ≤ 2 ^ 32) value (sec_count_small bytes))
+      (λ tells. sym of_card ∙ ext_csd_is_capacity kind tells)
 
 emmc_alone : (k : Kind) → MayStandIn k ExtBlocks → k ≡ Emmc
 emmc_alone Sd m = absurd m
 emmc_alone Emmc m = refl
 
-atom_holds : (k : Kind) (c : Card) (h : Host) (known : Known) (a : Atom) (n : ℕ) → MayStandIn k a → IsHonest k c h → FactsHold known c h → value_of_atom k h a ≡ Some n →
+atom_holds : (k : Kind) (c : Card) (h : Host) (known : Known) (a : Atom) (n : ℕ) → MayStandIn k a → IsHonest k c h → FactsHold known c h
+    → value_of_atom k h a ≡ Some n →
     VarHolds c.capacity (atom_facts k known a) n
 atom_holds k c h known (Number m) n may honest holds e =
     let same : m ≡ n = cc in
-    record { low = omega arith; high = omega arith; gap = less_holds (Some known.numbers.m) m 0 n c.capacity (omega arith) (let l = holds.numbers.least in omega arith) }
+    record {
+      low = omega arith;
+      high = omega arith;
+      gap = less_holds (Some known.numbers.m) m 0 n c.capacity (omega arith)
+          (let l = holds.numbers.least in omega arith);
+    }
 atom_holds k c h known (Variable y) n may honest holds e =
     let same : number h y ≡ n = cc in
     subst (λ v. VarHolds c.capacity (var known.numbers y) v) same (holds.numbers.each y)
 atom_holds k c h known CsdBlocks n may honest holds e = csd_holds k c h honest known.shapes holds.shape h.csd known.numbers.m n refl holds.numbers.least e
-atom_holds k c h known ExtBlocks n may honest holds e = ext_csd_holds k c h honest known.shapes holds.shape h.ext_csd known.numbers.m n (emmc_alone k may) refl holds.numbers.least e
+atom_holds k c h known ExtBlocks n may honest holds e = ext_csd_holds k c h honest known.shapes holds.shape h.ext_csd known.numbers.m n
+    (emmc_alone k may) refl holds.numbers.least e
 
 -- CHANGES
 
@@ -122,7 +131,8 @@ minus_knows true capacity v y k n t h le e = record {
   gap = more_holds v.gap k y n capacity (omega arith) h.gap;
 }
 
-change_knows : (change : Change) (capacity : ℕ) (v : VarFacts) (y n : ℕ) → VarHolds capacity v y → changed change y ≡ Some n → Knows capacity (changed_facts change v) n
+change_knows : (change : Change) (capacity : ℕ) (v : VarFacts) (y n : ℕ) → VarHolds capacity v y → changed change y ≡ Some n
+    → Knows capacity (changed_facts change v) n
 change_knows Same capacity v y n h e = subst (λ m. VarHolds capacity v m) (in_range_is y n e).0 h
 change_knows (Plus k) capacity v y n h e =
     let r = in_range_is (y + k) n e in plus_knows (nat_le (v.lo + k) max_number) capacity v y k n refl h r.0 r.1
@@ -132,7 +142,8 @@ change_knows (Minus k) capacity v y n h e =
 value_knows : (k : Kind) (c : Card) (h : Host) (known : Known) (l : Let) (o : Option ℕ) (n : ℕ) → MayStandIn k l.atom → IsHonest k c h → FactsHold known c h →
     value_of_atom k h l.atom ≡ o → option_and_then (changed l.change) o ≡ Some n → Knows c.capacity (changed_facts l.change (atom_facts k known l.atom)) n
 value_knows k c h known l None n may honest holds is e = absurd (cc)
-value_knows k c h known l (Some y) n may honest holds is e = change_knows l.change c.capacity (atom_facts k known l.atom) y n (atom_holds k c h known l.atom y may honest holds is) e
+value_knows k c h known l (Some y) n may honest holds is e =
+    change_knows l.change c.capacity (atom_facts k known l.atom) y n (atom_holds k c h known l.atom y may honest holds is) e
 
 -- LET
 

@@ -18,7 +18,8 @@ short_below : (n : ℕ) (bs : Bits) → length bs ≤ n → number_of bs < 2 ^ n
 short_below n bs le = let small = number_of_below bs in let power : 2 ^ length bs ≤ 2 ^ n = pow_mono le in omega arith
 
 field_below : (top high low : ℕ) (bs : Bits) → field top high low bs < 2 ^ (high + 1 - low)
-field_below top high low bs = short_below (high + 1 - low) (take (high + 1 - low) (drop (top - high) bs)) (omega (arith, length-take (high + 1 - low) (drop (top - high) bs)))
+field_below top high low bs = short_below (high + 1 - low) (take (high + 1 - low) (drop (top - high) bs))
+    (omega (arith, length-take (high + 1 - low) (drop (top - high) bs)))
 
 layout_small : (l : Layout) (bs : Bits) → blocks_of l bs ≤ 2 ^ 32
 layout_small Version1 bs =
@@ -38,7 +39,8 @@ csd_small k csd = layout_small (layout k (bits_of csd)) (bits_of csd)
 pub sec_count_small : (register : List ℕ) → sec_count register ≤ 2 ^ 32
 sec_count_small register =
     let part = take 4 (drop 212 register) in
-    let small = short_below 32 (bits_of (reverse part)) (omega (arith, length-bits_of (reverse part), length-reverse part, length-take 4 (drop 212 register))) in
+    let small = short_below 32 (bits_of (reverse part)) (omega
+    (arith, length-bits_of (reverse part), length-reverse part, length-take 4 (drop 212 register))) in
     omega arith
 
 pub told_by_csd : (k : Kind) (unit : Bool) (csd ext_csd : List ℕ) → (k ≡ Emmc → unit ≡ false) → told_blocks k unit csd ext_csd ≡ blocks k (bits_of csd)

@@ -13,7 +13,8 @@ use Rattle.sdv_facts.proofs.SetLaws.{no_shape, shape_same, one_at, place_of}
 module _ (xs : List Shape) (rising : AreRising xs) (x : Shape) where
   comparisons_rise : IsNonDecreasingBy (λ s. ordering_index (nat_cmp s.0 x.0)) xs
   comparisons_rise = IsNonDecreasingBy-from_default (λ s. ordering_index (nat_cmp s.0 x.0)) xs no_shape (λ i j le within.
-      let rise : (get_or xs i no_shape).0 ≤ (get_or xs j no_shape).0 = grind (arith, rising i j no_shape, λ (same : i ≡ j). ap (λ k. (get_or xs k no_shape).0) same) in
+      let rise : (get_or xs i no_shape).0 ≤ (get_or xs j no_shape).0 =
+      grind (arith, rising i j no_shape, λ (same : i ≡ j). ap (λ k. (get_or xs k no_shape).0) same) in
       grind (arith, nat_tests))
 
   found_at : (i : ℕ) → IsSearchInRange (Ok i) (length xs) → IsBinarySearchResult (λ s. nat_cmp s.0 x.0) xs (Ok i) → May xs x

@@ -49,7 +49,8 @@ record WellMade (k : Kind) (most : ℕ) (e : Ending) (es : List Pair) (c : Card)
 
 good_of : (k : Kind) (most : ℕ) (e : Ending) (es : List Pair) (c : Card) → WellMade k most e es c → IsGood most e es c
 good_of k most e es c w = record {
-  allowed = λ front event returned back u is steps. (let m = w.made front event returned back u is steps in record { legal = m.fine.legal; bounds = m.fine.bounds });
+  allowed = λ front event returned back u is steps. (let m = w.made front event returned back u is steps in
+      record { legal = m.fine.legal; bounds = m.fine.bounds });
   sent = w.sent;
   ends = w.ends;
 }
@@ -101,9 +102,11 @@ may_return k AwaitReady returned e = e
 module _ (g : Flow) (ps : List PointFacts) (laws : Laws g.kind) (well : StepsWell g ps) where
   -- what holds of each run from where it stands
   abbrev Later : (n j : ℕ) → Ending → Type 0
-  Later n j e = (s : Stand) (es : List Pair) (c : Card) (at : Stands g ps s c) → PathWithin g.kind g.places e n s es → Lasts g.kind g.places j s → WellMade g.kind (bound at.facts s.turns) e es c
+  Later n j e = (s : Stand) (es : List Pair) (c : Card) (at : Stands g ps s c) → PathWithin g.kind g.places e n s es → Lasts g.kind g.places j s
+      → WellMade g.kind (bound at.facts s.turns) e es c
 
-  came : (most : ℕ) (e : Ending) (event : ScriptEvent) (returned : Return) (rest : List Pair) (c : Card) (h : Host) (next : Return → Host → Stand) → IsFine g.kind event c h → IsHonest g.kind c h →
+  came : (most : ℕ) (e : Ending) (event : ScriptEvent) (returned : Return) (rest : List Pair) (c : Card) (h : Host) (next : Return → Host → Stand)
+      → IsFine g.kind event c h → IsHonest g.kind c h →
       ((u : Card) → Step event c returned u → (a : Arrived g ps most (commands_in event) (next returned (host_after g.kind event returned h)) u)
       × WellMade g.kind (bound a.stands.facts (next returned (host_after g.kind event returned h)).turns) e rest u) →
       WellMade g.kind most e ((event, returned) ∷ rest) c
@@ -117,10 +120,12 @@ module _ (g : Flow) (ps : List PointFacts) (laws : Laws g.kind) (well : StepsWel
     ends = λ last steps. (later steps.0 steps.1).1.ends last steps.2;
   }
     where
-      made : (front : List Pair) (v : ScriptEvent) (r : Return) (back : List Pair) (u : Card) → (event, returned) ∷ rest ≡ front ++ (v, r) ∷ back → StepsOf c front u → IsMade g.kind v u
+      made : (front : List Pair) (v : ScriptEvent) (r : Return) (back : List Pair) (u : Card) → (event, returned) ∷ rest ≡ front ++ (v, r) ∷ back
+          → StepsOf c front u → IsMade g.kind v u
       made [] v r back u is steps =
           let both : (event, returned) ≡ (v, r) = cc in
-          subst (λ v. IsMade g.kind v u) (ap (λ (p : Pair). p.0) both) (subst (λ u. IsMade g.kind event u) steps (record { host = h; fine = fine; honest = honest }))
+          subst (λ v. IsMade g.kind v u) (ap (λ (p : Pair). p.0) both)
+          (subst (λ u. IsMade g.kind event u) steps (record { host = h; fine = fine; honest = honest }))
       made (p ∷ front) v r back u is steps =
           let same : (event, returned) ≡ p = cc in
           let others : rest ≡ front ++ (v, r) ∷ back = cc in
@@ -142,7 +147,8 @@ module _ (g : Flow) (ps : List PointFacts) (laws : Laws g.kind) (well : StepsWel
   honest_head (suc t ∷ ts) body other h c = tt
 
   honest_node : (node : Node) (ts : List ℕ) (h : Host) (c : Card) → IsHonest g.kind c h → HonestMove (node_move g.kind node ts h) c
-  honest_node (sends command ways other) ts h c hon = honest_with (position_of_command h command.address) (λ position. Does (command_deed g.kind command h position) h (λ returned h'. arrive (way_of g.kind ways other returned) ts h')) c (λ n. hon)
+  honest_node (sends command ways other) ts h c hon = honest_with (position_of_command h command.address)
+      (λ position. Does (command_deed g.kind command h position) h (λ returned h'. arrive (way_of g.kind ways other returned) ts h')) c (λ n. hon)
   honest_node (phases p well other) ts h c hon = hon
   honest_node (lets l t) ts h c hon = honest_with (value_of_let g.kind h l) (λ n. Goes (arrive t ts (with_number h l.target n))) c (λ n. tt)
   honest_node (tests x met unmet) ts h c hon = tt
@@ -154,7 +160,8 @@ module _ (g : Flow) (ps : List PointFacts) (laws : Laws g.kind) (well : StepsWel
   honest_at : (s : Stand) (c : Card) → Stands g ps s c → HonestMove (move_from g.kind g.places s) c
   honest_at s c at = subst (λ o. HonestMove (move g.kind o s.turns s.host) c) (sym at.here) (honest_node at.place.node s.turns s.host c at.honest)
 
-  followed : (m : Move) (most n j : ℕ) (e : Ending) (es : List Pair) (c : Card) → HonestMove m c → MovesWell g ps most m c → WhereverTo (Lasts g.kind g.places j) m → Follows g.kind e (PathWithin g.kind g.places e n) m es → Later n j e → WellMade g.kind most e es c
+  followed : (m : Move) (most n j : ℕ) (e : Ending) (es : List Pair) (c : Card) → HonestMove m c → MovesWell g ps most m c
+      → WhereverTo (Lasts g.kind g.places j) m → Follows g.kind e (PathWithin g.kind g.places e n) m es → Later n j e → WellMade g.kind most e es c
   followed (Goes next) most n j e es c hon a w f later = more_room g.kind (bound a.stands.facts next.turns) most e es c a.falls (later next es c a.stands f w)
   followed (Does deed h next) most n j e es c hon a w (event, returned, rest, is, may, same, on) later =
       let good = a event is in
@@ -216,8 +223,16 @@ module _ (g : Flow) (ps : List PointFacts) (laws : Laws g.kind) (well : StepsWel
         last = l.last;
         steps = (step.after, step.step, l.steps);
         moves = suc l.moves;
-        path = inr (subst (λ m. Follows g.kind l.end (PathWithin g.kind g.places l.end l.moves) m ((event, step.returned) ∷ l.more)) (sym is)
-            (event, step.returned, l.more, some.1, may_return g.kind event step.returned (laws.steps_are_expected event c step.returned step.after good.0.pair.kind step.step), refl {a = (event, step.returned) ∷ l.more}, l.path));
+        path = inr (subst (λ m. Follows g.kind l.end (PathWithin g.kind g.places l.end l.moves) m ((event, step.returned) ∷ l.more)) (sym is) (
+          event,
+          step.returned,
+          l.more,
+          some.1,
+          may_return g.kind event step.returned
+              (laws.steps_are_expected event c step.returned step.after good.0.pair.kind step.step),
+          refl {a = (event, step.returned) ∷ l.more},
+          l.path,
+        ));
       }
   ending (Halts last) most j s c is a w later =
       record {
@@ -245,9 +260,11 @@ module _ (g : Flow) (ps : List PointFacts) (laws : Laws g.kind) (well : StepsWel
     path : PathWithin g.kind g.places end moves s (es ++ more)
 
   abbrev Carries : (n j : ℕ) → Type 0
-  Carries n j = (s : Stand) (es : List Pair) (c last : Card) → Stands g ps s c → PathWithin g.kind g.places Open n s es → Lasts g.kind g.places j s → StepsOf c es last → CarriedOn s es last
+  Carries n j = (s : Stand) (es : List Pair) (c last : Card) → Stands g ps s c → PathWithin g.kind g.places Open n s es → Lasts g.kind g.places j s
+      → StepsOf c es last → CarriedOn s es last
 
-  carrying : (m : Move) (most n j : ℕ) (s : Stand) (es : List Pair) (c last : Card) → move_from g.kind g.places s ≡ m → MovesWell g ps most m c → WhereverTo (Lasts g.kind g.places j) m →
+  carrying : (m : Move) (most n j : ℕ) (s : Stand) (es : List Pair) (c last : Card) → move_from g.kind g.places s ≡ m → MovesWell g ps most m c
+      → WhereverTo (Lasts g.kind g.places j) m →
       Follows g.kind Open (PathWithin g.kind g.places Open n) m es → StepsOf c es last → Carries n j → CarriedOn s es last
   carrying (Goes next) most n j s es c last is a w f steps later =
       let l = later next es c last a.stands f w steps in
@@ -335,7 +352,8 @@ begins g ps laws nested closed c kind start =
         box = nested.first_turns there.0 there.1;
         holds = record {
           shape = f.starts.shapes (pair_code c h) s.shape;
-          numbers = target_holds f.facts.facts.numbers (start_numbers g.numbers) (matches.variables ∙ sym (length-replicate g.numbers start_var)) f.starts.numbers c h (start_holds g.numbers c start.profile);
+          numbers = target_holds f.facts.facts.numbers (start_numbers g.numbers)
+              (matches.variables ∙ sym (length-replicate g.numbers start_var)) f.starts.numbers c h (start_holds g.numbers c start.profile);
         };
         honest = record { pair = s.pair; profile = start.profile; sound = s.sound };
         on_card = s.on_card;
@@ -344,7 +362,8 @@ begins g ps laws nested closed c kind start =
     }
 
 -- THE HEADLINE, over the paths of a graph
-pub runs_well : (g : Flow) (ps : List PointFacts) → Laws g.kind → EachRunEnds g → Nested g → EachNodeSuits g → Closed g ps → RunsWell g.kind (λ e es. Path g.kind g.places e (begin g) es) (bound_of g ps)
+pub runs_well : (g : Flow) (ps : List PointFacts) → Laws g.kind → EachRunEnds g → Nested g → EachNodeSuits g → Closed g ps
+    → RunsWell g.kind (λ e es. Path g.kind g.places e (begin g) es) (bound_of g ps)
 runs_well g ps laws ends nested suits closed =
     let well = steps_well g ps laws nested suits closed in
     record {
@@ -358,7 +377,8 @@ runs_well g ps laws ends nested suits closed =
     }
 
 -- each event of a run is made by a host that knows nothing wrong of the card
-pub each_is_made : (g : Flow) (ps : List PointFacts) → Laws g.kind → EachRunEnds g → Nested g → EachNodeSuits g → Closed g ps → (c : Card) → g.kind ≡ c.kind → IsAtStart c →
+pub each_is_made : (g : Flow) (ps : List PointFacts) → Laws g.kind → EachRunEnds g → Nested g → EachNodeSuits g → Closed g ps → (c : Card) → g.kind ≡ c.kind
+    → IsAtStart c →
     (e : Ending) (es : List Pair) → Path g.kind g.places e (begin g) es → EachIsMade g.kind es c
 each_is_made g ps laws ends nested suits closed c kind start e es path =
     let b = begins g ps laws nested closed c kind start in
@@ -382,7 +402,9 @@ same_runs k v w most same well = record {
 }
 
 -- and over the text of a script
-pub text_runs_well : (g : Flow) (ps : List PointFacts) (names : Declared) (script : Statements) → Laws g.kind → EachRunEnds g → Nested g → EachNodeSuits g → HasWalks names script g → Closed g ps →
+pub text_runs_well : (g : Flow) (ps : List PointFacts) (names : Declared) (script : Statements) → Laws g.kind → EachRunEnds g → Nested g → EachNodeSuits g
+    → HasWalks names script g → Closed g ps →
     RunsWell g.kind (Walk g.kind names script) (bound_of g ps)
 text_runs_well g ps names script laws ends nested suits walks closed =
-    same_runs g.kind (Walk g.kind names script) (λ e es. Path g.kind g.places e (begin g) es) (bound_of g ps) walks (runs_well g ps laws ends nested suits closed)
+    same_runs g.kind (Walk g.kind names script) (λ e es. Path g.kind g.places e (begin g) es) (bound_of g ps) walks
+    (runs_well g ps laws ends nested suits closed)

@@ -39,7 +39,8 @@ at_small [] x s = weakest_small
 at_small (v ∷ vs) zero s = first_of VarInLimits v vs s
 at_small (v ∷ vs) (suc x) s = at_small vs x (others_of VarInLimits v vs s)
 
-with_sound : (n : ℕ) (ns : Numbers) (x m : ℕ) (v : VarFacts) → IsSound n ns → VarInLimits v → 1 ≤ m → m ≤ 2 ^ 40 → IsSound n (record (with_var ns x v) { m = m })
+with_sound : (n : ℕ) (ns : Numbers) (x m : ℕ) (v : VarFacts) → IsSound n ns → VarInLimits v → 1 ≤ m → m ≤ 2 ^ 40
+    → IsSound n (record (with_var ns x v) { m = m })
 with_sound n ns x m v s t h l = record {
   limits = record { m = l; vars = All-set VarInLimits ns.vars.items x v t s.limits.vars };
   some = h;
@@ -73,7 +74,8 @@ plus_small : (b : Bool) (v : VarFacts) (k : ℕ) → (b ≡ true → v.lo + k �
 plus_small true v k h s = record { lo = h refl; hi = omega arith; gap = less_small v.gap k s.gap }
 plus_small false v k h s = tt
 
-minus_small : (b : Bool) (v : VarFacts) (k : ℕ) → VarInLimits v → IfSome (cond b (Some (record { lo = v.lo - k; hi = v.hi - k; gap = gap_more v.gap k })) None) VarInLimits
+minus_small : (b : Bool) (v : VarFacts) (k : ℕ) → VarInLimits v
+    → IfSome (cond b (Some (record { lo = v.lo - k; hi = v.hi - k; gap = gap_more v.gap k })) None) VarInLimits
 minus_small true v k s = record { lo = (let l = s.lo in omega arith); hi = (let l = s.hi in omega arith); gap = more_small v.gap k }
 minus_small false v k s = tt
 
@@ -85,7 +87,8 @@ changed_small Same v s = s
 changed_small (Plus k) v s = plus_small (nat_le (v.lo + k) (2 ^ 40)) v k (le_true _ _) s
 changed_small (Minus k) v s = minus_small (nat_le k v.hi) v k s
 
-set_sound : (n : ℕ) (ns : Numbers) (x : ℕ) (o : Option VarFacts) → IsSound n ns → IfSome o VarInLimits → IfSome (Rattle.std.specs.Option.option_map (λ v. with_var ns x v) o) (IsSound n)
+set_sound : (n : ℕ) (ns : Numbers) (x : ℕ) (o : Option VarFacts) → IsSound n ns → IfSome o VarInLimits
+    → IfSome (Rattle.std.specs.Option.option_map (λ v. with_var ns x v) o) (IsSound n)
 set_sound n ns x None s h = tt
 set_sound n ns x (Some v) s h = with_sound n ns x ns.m v s h s.some s.limits.m
 

@@ -18,9 +18,11 @@ is_zero n x =
 known_of_zero : (n x capacity : ℕ) → 1 ≤ capacity → VarHolds capacity (var (start_numbers n) x) 0
 known_of_zero n x capacity least =
     elim (cases_lt x n) [
-      | inl lt ↦ subst (λ v. VarHolds capacity v 0) (sym (get_or-replicate n x start_var weakest lt)) (record { low = omega arith; high = omega arith; gap = least })
+      | inl lt ↦ subst (λ v. VarHolds capacity v 0) (sym (get_or-replicate n x start_var weakest lt))
+          (record { low = omega arith; high = omega arith; gap = least })
       | inr le ↦
-          let past : var (start_numbers n) x ≡ weakest = get_or_past (replicate n start_var) x weakest (subst (λ m. m ≤ x) (sym (length-replicate n start_var)) le) in
+          let past : var (start_numbers n) x ≡ weakest =
+          get_or_past (replicate n start_var) x weakest (subst (λ m. m ≤ x) (sym (length-replicate n start_var)) le) in
           subst (λ v. VarHolds capacity v 0) (sym past) (record { low = omega arith; high = omega arith; gap = tt })
     ]
 

@@ -147,7 +147,8 @@ profile_kept c u k h pair same of = record {
 }
 
 -- what the host knows stays true
-pub honest_after : (k : Kind) → Laws k → (e : ScriptEvent) (c : Card) (h : Host) (returned : Return) (u : Card) → IsFine k e c h → IsHonest k c h → Step e c returned u → IsHonest k u (host_after k e returned h)
+pub honest_after : (k : Kind) → Laws k → (e : ScriptEvent) (c : Card) (h : Host) (returned : Return) (u : Card) → IsFine k e c h → IsHonest k c h
+    → Step e c returned u → IsHonest k u (host_after k e returned h)
 honest_after k laws e c h returned u fine honest step =
     let pair : IsPair k u (host_after k e returned h) = laws.steps_keep_pairs e c h returned u fine.pair fine.made step in
     record {
@@ -232,7 +233,8 @@ module _ (g : Flow) (ps : List PointFacts) (laws : Laws g.kind) (points : Points
 
   -- along an edge, with facts that hold of the card and the host after it
   arrives : (place : Place) (p : PointFacts) (pass : Pass) (t : Target) (s : Shape) (ns : Numbers) → Reaches g.places ps place p pass t s ns →
-      (ts us : List ℕ) → InBox ts place.most → Turned pass ts us → (u : Card) (h : Host) → s ≡ shape u h → length h.numbers ≡ g.numbers → NumbersHold ns u h → IsHonest g.kind u h → TransferOnCard u →
+      (ts us : List ℕ) → InBox ts place.most → Turned pass ts us → (u : Card) (h : Host) → s ≡ shape u h → length h.numbers ≡ g.numbers → NumbersHold ns u h
+      → IsHonest g.kind u h → TransferOnCard u →
       Arrived g ps (bound p ts) (commands_of place.node) (arrive t us h) u
   arrives place p pass t s ns r ts us box turned u h is many holds honest on_card =
       let within : t.to < length g.places = subst (λ n. t.to < n) points.count (slice_get_within ps t.to r.facts r.known) in
@@ -260,10 +262,13 @@ module _ (g : Flow) (ps : List PointFacts) (laws : Laws g.kind) (points : Points
   -- an event and what follows each step of it
   abbrev Goes-well : PointFacts → List ℕ → List Fork → Target → ScriptEvent → Card → Host → Type 0
   Goes-well p ts ways other e c h =
-      IsFine g.kind e c h × ((returned : Return) (u : Card) → Step e c returned u → Arrived g ps (bound p ts) (commands_in e) (arrive (way_of g.kind ways other returned) ts (host_after g.kind e returned h)) u)
+      IsFine g.kind e c h × ((returned : Return) (u : Card) → Step e c returned u
+      → Arrived g ps (bound p ts) (commands_in e) (arrive (way_of g.kind ways other returned) ts (host_after g.kind e returned h)) u)
 
-  does : (place : Place) (p : PointFacts) (ts : List ℕ) (e : ScriptEvent) (ways : List Fork) (other : Target) (c : Card) (h : Host) → Here place p ts c h → commands_of place.node ≡ commands_in e →
-      Makes g.kind e h → legal_code g.kind (pair_code c h) (event_of e) ≡ true → (EventLegal e c → InBounds e c) → ((returned : Return) (u : Card) → Step e c returned u → ForksHold g.kind returned ways) →
+  does : (place : Place) (p : PointFacts) (ts : List ℕ) (e : ScriptEvent) (ways : List Fork) (other : Target) (c : Card) (h : Host) → Here place p ts c h
+      → commands_of place.node ≡ commands_in e →
+      Makes g.kind e h → legal_code g.kind (pair_code c h) (event_of e) ≡ true → (EventLegal e c → InBounds e c)
+      → ((returned : Return) (u : Card) → Step e c returned u → ForksHold g.kind returned ways) →
       EachOutcome g.kind (event_of e) ways other p.facts.numbers (shape c h) (Reaches g.places ps place p) → Goes-well p ts ways other e c h
   does place p ts e ways other c h at cost made legal bounds holds edge =
       let k = g.kind in
@@ -293,16 +298,19 @@ module _ (g : Flow) (ps : List PointFacts) (laws : Laws g.kind) (points : Points
 
   -- COMMANDS
 
-  forks_hold : (e : ScriptEvent) (c : Card) (h : Host) (returned : Return) (u : Card) (ask : Ask) (position argument : ℕ) (ways : List Fork) → e ≡ SendCommand ask position argument → IsPair g.kind c h → Step e c returned u → ForksSuit g.kind ask ways → ForksHold g.kind returned ways
+  forks_hold : (e : ScriptEvent) (c : Card) (h : Host) (returned : Return) (u : Card) (ask : Ask) (position argument : ℕ) (ways : List Fork)
+      → e ≡ SendCommand ask position argument → IsPair g.kind c h → Step e c returned u → ForksSuit g.kind ask ways → ForksHold g.kind returned ways
   forks_hold e c h returned u ask position argument [] is pair step suit = tt
-  forks_hold e c h returned u ask position argument (w ∷ ws) is pair step suit = (guards w.guards suit.0, forks_hold e c h returned u ask position argument ws is pair step suit.1)
+  forks_hold e c h returned u ask position argument (w ∷ ws) is pair step suit =
+      (guards w.guards suit.0, forks_hold e c h returned u ask position argument ws is pair step suit.1)
     where
       guards : (gs : List Guard) → GuardsSuit g.kind ask gs → AllHold g.kind returned gs
       guards [] s = tt
       guards (x ∷ xs) s = (laws.verdicts_hold x e c h returned u pair (subst (λ e. FitsEvent g.kind x e) (sym is) s.0) step, guards xs s.1)
 
   -- a legal command has a line in the command table
-  command_in_bounds : (p : PointFacts) (command : Command) (c : Card) (h : Host) (position argument : ℕ) (a : Option Address) → FactsHold p.facts c h → IsPair g.kind c h →
+  command_in_bounds : (p : PointFacts) (command : Command) (c : Card) (h : Host) (position argument : ℕ) (a : Option Address) → FactsHold p.facts c h
+      → IsPair g.kind c h →
       argument ≡ argument_of g.kind command.ask h.rca (address_of_command h a position) →
       (o : Option ℕ) → addressed_blocks command.ask ≡ o → position_of_command h a ≡ Some position → IfSome o (λ blocks. AddressKnown p.facts a blocks) →
       EventLegal (SendCommand command.ask position argument) c → BlocksWithin o c position argument
@@ -312,15 +320,19 @@ module _ (g : Flow) (ps : List PointFacts) (laws : Laws g.kind) (points : Points
       let line : order_of g.kind command.ask ≡ Some legal.order = subst (λ k. order_of k command.ask ≡ Some legal.order) (sym pair.kind) legal.asks.line in
       let blocks : order_blocks legal.order ≡ Some n = laws.asks_address command.ask legal.order line ∙ is in
       let address = address_sent h a.unit position in
-      let same : argument ≡ address = made ∙ ap (λ o. argument_or_none o command.ask.argument h.rca address) line ∙ argument_is legal.order n command.ask.argument h.rca address blocks in
+      let same : argument ≡ address = made ∙ ap (λ o. argument_or_none o command.ask.argument h.rca address) line
+      ∙ argument_is legal.order n command.ask.argument h.rca address blocks in
       let here : position_of h a.position ≡ position = position_at (nat_le (position_of h a.position) max_number) (position_of h a.position) position at in
       subst (λ v. Within c position v n) (sym same) (subst (λ v. Within c v (address_sent h a.unit v) n) here (on_card p.facts a n known g.kind c h pair holds))
 
-  sends_well : (place : Place) (p : PointFacts) (ts : List ℕ) (command : Command) (ways : List Fork) (other : Target) (c : Card) (h : Host) → Here place p ts c h → commands_of place.node ≡ 1 → ForksSuit g.kind command.ask ways →
-      legal_code g.kind (pair_code c h) (Send command.ask) ≡ true → IfSome (addressed_blocks command.ask) (λ blocks. AddressKnown p.facts command.address blocks) →
+  sends_well : (place : Place) (p : PointFacts) (ts : List ℕ) (command : Command) (ways : List Fork) (other : Target) (c : Card) (h : Host)
+      → Here place p ts c h → commands_of place.node ≡ 1 → ForksSuit g.kind command.ask ways →
+      legal_code g.kind (pair_code c h) (Send command.ask) ≡ true
+      → IfSome (addressed_blocks command.ask) (λ blocks. AddressKnown p.facts command.address blocks) →
       EachOutcome g.kind (Send command.ask) ways other p.facts.numbers (shape c h) (Reaches g.places ps place p) →
       (o : Option ℕ) → position_of_command h command.address ≡ o →
-      MovesWell g ps (bound p ts) (move_with o (λ position. Does (command_deed g.kind command h position) h (λ returned h'. arrive (way_of g.kind ways other returned) ts h'))) c
+      MovesWell g ps (bound p ts) (move_with o (λ position. Does (command_deed g.kind command h position) h
+      (λ returned h'. arrive (way_of g.kind ways other returned) ts h'))) c
   sends_well place p ts command ways other c h at cost suit legal known edge None is = tt
   sends_well place p ts command ways other c h at cost suit legal known edge (Some position) is =
       let address = address_of_command h command.address position in
@@ -335,44 +347,66 @@ module _ (g : Flow) (ps : List PointFacts) (laws : Laws g.kind) (points : Points
 
   -- what follows a phase
   well_way : (p : PointFacts) (ts : List ℕ) (well other : Target) (e : ScriptEvent) (c : Card) (h : Host) → Goes-well p ts (well_or well) other e c h →
-      IsFine g.kind e c h × ((returned : Return) (u : Card) → Step e c returned u → Arrived g ps (bound p ts) (commands_in e) (arrive (if passes g.kind WentWell returned then well else other) ts (host_after g.kind e returned h)) u)
-  well_way p ts well other e c h goes =
-      (goes.0, λ returned u step. subst (λ b. Arrived g ps (bound p ts) (commands_in e) (arrive (if b then well else other) ts (host_after g.kind e returned h)) u) (and_last (passes g.kind WentWell returned)) (goes.1 returned u step))
+      IsFine g.kind e c h × ((returned : Return) (u : Card) → Step e c returned u
+      → Arrived g ps (bound p ts) (commands_in e) (arrive (if passes g.kind WentWell returned then well else other) ts (host_after g.kind e returned h)) u)
+  well_way p ts well other e c h goes = (
+    goes.0,
+    λ returned u step. subst (λ b. Arrived g ps (bound p ts) (commands_in e)
+        (arrive (if b then well else other) ts (host_after g.kind e returned h)) u) (and_last (passes g.kind WentWell returned)) (goes.1 returned u step),
+  )
 
-  phase_holds : (well : Target) (e : ScriptEvent) (c : Card) (h : Host) (returned : Return) (u : Card) → FitsEvent g.kind WentWell e → IsPair g.kind c h → Step e c returned u → ForksHold g.kind returned (well_or well)
+  phase_holds : (well : Target) (e : ScriptEvent) (c : Card) (h : Host) (returned : Return) (u : Card) → FitsEvent g.kind WentWell e → IsPair g.kind c h
+      → Step e c returned u → ForksHold g.kind returned (well_or well)
   phase_holds well e c h returned u fits pair step = ((laws.verdicts_hold WentWell e c h returned u pair fits step, tt), tt)
 
-  phases_well : (phase : Phase) (place : Place) (p : PointFacts) (ts : List ℕ) (well other : Target) (c : Card) (h : Host) → Here place p ts c h → commands_of place.node ≡ 0 →
-      legal_code g.kind (pair_code c h) (event_of_phase phase) ≡ true → EachOutcome g.kind (event_of_phase phase) (well_or well) other p.facts.numbers (shape c h) (Reaches g.places ps place p) →
+  phases_well : (phase : Phase) (place : Place) (p : PointFacts) (ts : List ℕ) (well other : Target) (c : Card) (h : Host) → Here place p ts c h
+      → commands_of place.node ≡ 0 →
+      legal_code g.kind (pair_code c h) (event_of_phase phase) ≡ true
+      → EachOutcome g.kind (event_of_phase phase) (well_or well) other p.facts.numbers (shape c h) (Reaches g.places ps place p) →
       MovesWell g ps (bound p ts) (Does (phase_deed phase h) h (λ returned h'. arrive (if passes g.kind WentWell returned then well else other) ts h')) c
   phases_well kinds.ReceiveBlocks place p ts well other c h at cost legal edge = λ event deed.
-      subst (λ e. IsFine g.kind e c h × ((returned : Return) (u : Card) → Step e c returned u → Arrived g ps (bound p ts) (commands_in e) (arrive (if passes g.kind WentWell returned then well else other) ts (host_after g.kind e returned h)) u)) (sym deed)
+      subst (λ e. IsFine g.kind e c h × ((returned : Return) (u : Card) → Step e c returned u
+      → Arrived g ps (bound p ts) (commands_in e) (arrive (if passes g.kind WentWell returned then well else other) ts (host_after g.kind e returned h)) u))
+      (sym deed)
       (well_way p ts well other (ReceiveBlocks h.announced) c h (does place p ts (ReceiveBlocks h.announced) (well_or well) other c h at cost refl legal
-      (λ l. at.honest.sound.blocks (read_blocks c.state c.transfer l)) (λ returned u step. phase_holds well (ReceiveBlocks h.announced) c h returned u refl at.honest.pair step) edge))
+      (λ l. at.honest.sound.blocks (read_blocks c.state c.transfer l))
+      (λ returned u step. phase_holds well (ReceiveBlocks h.announced) c h returned u refl at.honest.pair step) edge))
   phases_well kinds.ReceiveRegister place p ts well other c h at cost legal edge = λ event deed.
-      subst (λ e. IsFine g.kind e c h × ((returned : Return) (u : Card) → Step e c returned u → Arrived g ps (bound p ts) (commands_in e) (arrive (if passes g.kind WentWell returned then well else other) ts (host_after g.kind e returned h)) u)) (sym deed)
-      (well_way p ts well other (ReceiveRegister h.register_length) c h (does place p ts (ReceiveRegister h.register_length) (well_or well) other c h at cost refl legal
-      (λ l. at.honest.sound.register (register_blocks c.state c.transfer l)) (λ returned u step. phase_holds well (ReceiveRegister h.register_length) c h returned u refl at.honest.pair step) edge))
+      subst (λ e. IsFine g.kind e c h × ((returned : Return) (u : Card) → Step e c returned u
+      → Arrived g ps (bound p ts) (commands_in e) (arrive (if passes g.kind WentWell returned then well else other) ts (host_after g.kind e returned h)) u))
+      (sym deed)
+      (well_way p ts well other (ReceiveRegister h.register_length) c h
+      (does place p ts (ReceiveRegister h.register_length) (well_or well) other c h at cost refl legal
+      (λ l. at.honest.sound.register (register_blocks c.state c.transfer l))
+      (λ returned u step. phase_holds well (ReceiveRegister h.register_length) c h returned u refl at.honest.pair step) edge))
   phases_well kinds.GiveBlocks place p ts well other c h at cost legal edge = λ event deed.
-      subst (λ e. IsFine g.kind e c h × ((returned : Return) (u : Card) → Step e c returned u → Arrived g ps (bound p ts) (commands_in e) (arrive (if passes g.kind WentWell returned then well else other) ts (host_after g.kind e returned h)) u)) (sym deed.2)
+      subst (λ e. IsFine g.kind e c h × ((returned : Return) (u : Card) → Step e c returned u
+      → Arrived g ps (bound p ts) (commands_in e) (arrive (if passes g.kind WentWell returned then well else other) ts (host_after g.kind e returned h)) u))
+      (sym deed.2)
       (well_way p ts well other (GiveBlocks deed.0) c h (does place p ts (GiveBlocks deed.0) (well_or well) other c h at cost deed.1 legal
-      (λ l. deed.1 ∙ at.honest.sound.blocks (give_blocks c.state c.transfer l)) (λ returned u step. phase_holds well (GiveBlocks deed.0) c h returned u refl at.honest.pair step) edge))
+      (λ l. deed.1 ∙ at.honest.sound.blocks (give_blocks c.state c.transfer l))
+      (λ returned u step. phase_holds well (GiveBlocks deed.0) c h returned u refl at.honest.pair step) edge))
   phases_well kinds.Wait place p ts well other c h at cost legal edge = λ event deed.
-      subst (λ e. IsFine g.kind e c h × ((returned : Return) (u : Card) → Step e c returned u → Arrived g ps (bound p ts) (commands_in e) (arrive (if passes g.kind WentWell returned then well else other) ts (host_after g.kind e returned h)) u)) (sym deed)
+      subst (λ e. IsFine g.kind e c h × ((returned : Return) (u : Card) → Step e c returned u
+      → Arrived g ps (bound p ts) (commands_in e) (arrive (if passes g.kind WentWell returned then well else other) ts (host_after g.kind e returned h)) u))
+      (sym deed)
       (well_way p ts well other AwaitReady c h (does place p ts AwaitReady (well_or well) other c h at cost tt legal
       (λ l. tt) (λ returned u step. phase_holds well AwaitReady c h returned u refl at.honest.pair step) edge))
 
   -- WITHOUT AN EVENT
 
   -- facts that an edge carries hold at its target
-  carried_on : (place : Place) (p : PointFacts) (ts : List ℕ) (t : Target) (c : Card) (h : Host) → Here place p ts c h → commands_of place.node ≡ 0 → (h' : Host) → shape c h ≡ shape c h' → length h'.numbers ≡ g.numbers → IsHonest g.kind c h' →
-      (o : Option Numbers) → IfSome o (λ after. Reaches g.places ps place p Same t (shape c h) after) → Carries p.facts o c h' → Arrived g ps (bound p ts) 0 (arrive t ts h') c
+  carried_on : (place : Place) (p : PointFacts) (ts : List ℕ) (t : Target) (c : Card) (h : Host) → Here place p ts c h → commands_of place.node ≡ 0
+      → (h' : Host) → shape c h ≡ shape c h' → length h'.numbers ≡ g.numbers → IsHonest g.kind c h' →
+      (o : Option Numbers) → IfSome o (λ after. Reaches g.places ps place p Same t (shape c h) after) → Carries p.facts o c h'
+      → Arrived g ps (bound p ts) 0 (arrive t ts h') c
   carried_on place p ts t c h at cost h' is many honest None edge carries = absurd carries
   carried_on place p ts t c h at cost h' is many honest (Some after) edge carries =
       subst (λ n. Arrived g ps (bound p ts) n (arrive t ts h') c) cost
       (arrives place p Same t (shape c h) after edge ts ts at.box refl c h' is many carries.numbers honest at.on_card)
 
-  lets_well : (place : Place) (p : PointFacts) (ts : List ℕ) (l : Let) (t : Target) (c : Card) (h : Host) → Here place p ts c h → commands_of place.node ≡ 0 → MayStandIn g.kind l.atom →
+  lets_well : (place : Place) (p : PointFacts) (ts : List ℕ) (l : Let) (t : Target) (c : Card) (h : Host) → Here place p ts c h → commands_of place.node ≡ 0
+      → MayStandIn g.kind l.atom →
       IfSome (after_let g.kind p.facts l) (λ after. Reaches g.places ps place p Same t (shape c h) after) → (o : Option ℕ) → value_of_let g.kind h l ≡ o →
       MovesWell g ps (bound p ts) (move_with o (λ n. Goes (arrive t ts (with_number h l.target n)))) c
   lets_well place p ts l t c h at cost stand edge None is = tt
@@ -385,29 +419,38 @@ module _ (g : Flow) (ps : List PointFacts) (laws : Laws g.kind) (points : Points
       })
       (after_let g.kind p.facts l) edge (let_keeps g.kind p.facts l c h n stand at.honest at.holds is)
 
-  tests_well : (b : Bool) (place : Place) (p : PointFacts) (ts : List ℕ) (holds fails : Test) (met unmet : Target) (c : Card) (h : Host) → Here place p ts c h → commands_of place.node ≡ 0 → (b ≡ true → TestHolds holds h) → (b ≡ false → TestHolds fails h) →
-      EachTest p.facts.numbers holds fails met unmet (shape c h) (Reaches g.places ps place p) → Arrived g ps (bound p ts) 0 (arrive (if b then met else unmet) ts h) c
+  tests_well : (b : Bool) (place : Place) (p : PointFacts) (ts : List ℕ) (holds fails : Test) (met unmet : Target) (c : Card) (h : Host) → Here place p ts c h
+      → commands_of place.node ≡ 0 → (b ≡ true → TestHolds holds h) → (b ≡ false → TestHolds fails h) →
+      EachTest p.facts.numbers holds fails met unmet (shape c h) (Reaches g.places ps place p)
+      → Arrived g ps (bound p ts) 0 (arrive (if b then met else unmet) ts h) c
   tests_well true place p ts holds fails met unmet c h at cost yes-it no-it edge =
-      carried_on place p ts met c h at cost h refl (many_of place p ts c h at) at.honest (after_test p.facts.numbers holds) edge.0 (test_keeps p.facts holds c h at.holds (yes-it refl))
+      carried_on place p ts met c h at cost h refl (many_of place p ts c h at) at.honest (after_test p.facts.numbers holds) edge.0
+      (test_keeps p.facts holds c h at.holds (yes-it refl))
   tests_well false place p ts holds fails met unmet c h at cost yes-it no-it edge =
-      carried_on place p ts unmet c h at cost h refl (many_of place p ts c h at) at.honest (after_test p.facts.numbers fails) edge.1 (test_keeps p.facts fails c h at.holds (no-it refl))
+      carried_on place p ts unmet c h at cost h refl (many_of place p ts c h at) at.honest (after_test p.facts.numbers fails) edge.1
+      (test_keeps p.facts fails c h at.holds (no-it refl))
 
   -- with the same facts, at the target
-  plainly : (place : Place) (p : PointFacts) (ts us : List ℕ) (pass : Pass) (t : Target) (c : Card) (h : Host) → Here place p ts c h → commands_of place.node ≡ 0 → Turned pass ts us → Reaches g.places ps place p pass t (shape c h) p.facts.numbers →
+  plainly : (place : Place) (p : PointFacts) (ts us : List ℕ) (pass : Pass) (t : Target) (c : Card) (h : Host) → Here place p ts c h
+      → commands_of place.node ≡ 0 → Turned pass ts us → Reaches g.places ps place p pass t (shape c h) p.facts.numbers →
       Arrived g ps (bound p ts) 0 (arrive t us h) c
   plainly place p ts us pass t c h at cost turned edge =
       subst (λ n. Arrived g ps (bound p ts) n (arrive t us h) c) cost
       (arrives place p pass t (shape c h) p.facts.numbers edge ts us at.box turned c h refl (many_of place p ts c h at) at.holds.numbers at.honest at.on_card)
 
-  condition_well : (x : Condition) (place : Place) (p : PointFacts) (ts : List ℕ) (met unmet : Target) (c : Card) (h : Host) → Here place p ts c h → commands_of place.node ≡ 0 →
-      EachCondition x met unmet p.facts.numbers (shape c h) (Reaches g.places ps place p) → Arrived g ps (bound p ts) 0 (arrive (if condition_holds h x then met else unmet) ts h) c
+  condition_well : (x : Condition) (place : Place) (p : PointFacts) (ts : List ℕ) (met unmet : Target) (c : Card) (h : Host) → Here place p ts c h
+      → commands_of place.node ≡ 0 →
+      EachCondition x met unmet p.facts.numbers (shape c h) (Reaches g.places ps place p)
+      → Arrived g ps (bound p ts) 0 (arrive (if condition_holds h x then met else unmet) ts h) c
   condition_well (conditions.Flag flag) place p ts met unmet c h at cost edge =
       plainly place p ts ts Same (if is_flag_set h.flags flag then met else unmet) c h at cost refl
       (subst (λ b. Reaches g.places ps place p Same (if b then met else unmet) (shape c h) p.facts.numbers) (flag_shown g.kind c h at.honest.pair flag) edge)
   condition_well (conditions.AtLeast x n) place p ts met unmet c h at cost edge =
-      tests_well (nat_le n (number h x)) place p ts (AtLeast x n) (Below x n) met unmet c h at cost (λ e. leb-true n (number h x) e) (λ e. leb-false n (number h x) e) edge
+      tests_well (nat_le n (number h x)) place p ts (AtLeast x n) (Below x n) met unmet c h at cost (λ e. leb-true n (number h x) e)
+      (λ e. leb-false n (number h x) e) edge
   condition_well (conditions.Below x n) place p ts met unmet c h at cost edge =
-      tests_well (nat_lt (number h x) n) place p ts (Below x n) (AtLeast x n) met unmet c h at cost (λ e. ltb-true (number h x) n e) (λ e. ltb-false (number h x) n e) edge
+      tests_well (nat_lt (number h x) n) place p ts (Below x n) (AtLeast x n) met unmet c h at cost (λ e. ltb-true (number h x) n e)
+      (λ e. ltb-false (number h x) n e) edge
 
   head_well : (place : Place) (p : PointFacts) (ts : List ℕ) (body other : Target) (c : Card) (h : Host) → Here place p ts c h → commands_of place.node ≡ 0 →
       Reaches g.places ps place p Again body (shape c h) p.facts.numbers × Reaches g.places ps place p Over other (shape c h) p.facts.numbers →
@@ -416,21 +459,28 @@ module _ (g : Flow) (ps : List PointFacts) (laws : Laws g.kind) (points : Points
   head_well place p (zero ∷ ts) body other c h at cost edge = plainly place p (zero ∷ ts) (zero ∷ ts) Over other c h at cost refl edge.1
   head_well place p (suc t ∷ ts) body other c h at cost edge = plainly place p (suc t ∷ ts) (t ∷ ts) Again body c h at cost refl edge.0
 
-  halts_well : (last : Ending) (place : Place) (p : PointFacts) (c : Card) (h : Host) → place.node ≡ stops last → PointClosed g.kind ps place p → FactsHold p.facts c h → IsPair g.kind c h → HaltsWell last c
-  halts_well Finished place p c h is closed holds pair = in_tran g.kind c h pair (subst (λ n. EndsAt n (shape c h)) is (closed.end_state (shape c h) holds.shape))
+  halts_well : (last : Ending) (place : Place) (p : PointFacts) (c : Card) (h : Host) → place.node ≡ stops last → PointClosed g.kind ps place p
+      → FactsHold p.facts c h → IsPair g.kind c h → HaltsWell last c
+  halts_well Finished place p c h is closed holds pair =
+      in_tran g.kind c h pair (subst (λ n. EndsAt n (shape c h)) is (closed.end_state (shape c h) holds.shape))
   halts_well Fell place p c h is closed holds pair = tt
   halts_well Broke place p c h is closed holds pair = tt
   halts_well (Failed name) place p c h is closed holds pair = tt
   halts_well Open place p c h is closed holds pair = tt
 
-  node_well : (node : Node) (most : List ℕ) (p : PointFacts) (ts : List ℕ) (c : Card) (h : Host) → PointClosed g.kind ps (record { node = node; most = most }) p → NodeSuits g.kind node → Here (record { node = node; most = most }) p ts c h →
-      EachEdge g.kind p.facts node (shape c h) (Reaches g.places ps (record { node = node; most = most }) p) → MovesWell g ps (bound p ts) (node_move g.kind node ts h) c
+  node_well : (node : Node) (most : List ℕ) (p : PointFacts) (ts : List ℕ) (c : Card) (h : Host) → PointClosed g.kind ps (record { node = node; most = most }) p
+      → NodeSuits g.kind node → Here (record { node = node; most = most }) p ts c h →
+      EachEdge g.kind p.facts node (shape c h) (Reaches g.places ps (record { node = node; most = most }) p)
+      → MovesWell g ps (bound p ts) (node_move g.kind node ts h) c
   node_well (sends command ways other) most p ts c h closed suit at edge =
-      sends_well (record { node = sends command ways other; most = most }) p ts command ways other c h at refl suit (closed.legal (shape c h) at.holds.shape) (closed.address (shape c h) at.holds.shape) edge (position_of_command h command.address) refl
+      sends_well (record { node = sends command ways other; most = most }) p ts command ways other c h at refl suit (closed.legal (shape c h) at.holds.shape)
+      (closed.address (shape c h) at.holds.shape) edge (position_of_command h command.address) refl
   node_well (phases phase well other) most p ts c h closed suit at edge =
       phases_well phase (record { node = phases phase well other; most = most }) p ts well other c h at refl (closed.legal (shape c h) at.holds.shape) edge
-  node_well (lets l t) most p ts c h closed suit at edge = lets_well (record { node = lets l t; most = most }) p ts l t c h at refl suit edge (value_of_let g.kind h l) refl
-  node_well (tests x met unmet) most p ts c h closed suit at edge = condition_well x (record { node = tests x met unmet; most = most }) p ts met unmet c h at refl edge
+  node_well (lets l t) most p ts c h closed suit at edge =
+      lets_well (record { node = lets l t; most = most }) p ts l t c h at refl suit edge (value_of_let g.kind h l) refl
+  node_well (tests x met unmet) most p ts c h closed suit at edge =
+      condition_well x (record { node = tests x met unmet; most = most }) p ts met unmet c h at refl edge
   node_well (flags flag on t) most p ts c h closed suit at edge =
       let place : Place = record { node = flags flag on t; most = most } in
       let h' : Host = with_flag h flag on in
@@ -438,14 +488,22 @@ module _ (g : Flow) (ps : List PointFacts) (laws : Laws g.kind) (points : Points
       arrives place p Same t (with_flag_shown (shape c h) flag on) p.facts.numbers edge ts ts at.box refl c h' same (many_of place p ts c h at)
       (record { least = at.holds.numbers.least; many = at.holds.numbers.many; each = at.holds.numbers.each })
       (record {
-        pair = record { kind = at.honest.pair.kind; card = at.honest.pair.card; flags = flags_kept h flag on at.honest.pair.flags suit; rca = at.honest.pair.rca };
+        pair = record {
+          kind = at.honest.pair.kind;
+          card = at.honest.pair.card;
+          flags = flags_kept h flag on at.honest.pair.flags
+              suit;
+          rca = at.honest.pair.rca;
+        };
         profile = at.honest.profile;
         sound = record { csd = at.honest.sound.csd; ext_csd = at.honest.sound.ext_csd; blocks = at.honest.sound.blocks; register = at.honest.sound.register };
       })
       at.on_card
-  node_well (heads n body other) most p ts c h closed suit at edge = head_well (record { node = heads n body other; most = most }) p ts body other c h at refl edge
+  node_well (heads n body other) most p ts c h closed suit at edge =
+      head_well (record { node = heads n body other; most = most }) p ts body other c h at refl edge
   node_well (jumps t) most p ts c h closed suit at edge = plainly (record { node = jumps t; most = most }) p ts ts Same t c h at refl refl edge
-  node_well (stops last) most p ts c h closed suit at edge = halts_well last (record { node = stops last; most = most }) p c h refl closed at.holds at.honest.pair
+  node_well (stops last) most p ts c h closed suit at edge =
+      halts_well last (record { node = stops last; most = most }) p c h refl closed at.holds at.honest.pair
 
 -- THE STEP: each move from where the facts of a point hold is as it should be, if the point's clauses hold
 pub points_step_well : (g : Flow) (ps : List PointFacts) → Laws g.kind → Nested g → EachNodeSuits g → PointsMatch g ps → PointsStepWell g ps

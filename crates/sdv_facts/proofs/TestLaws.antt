@@ -22,7 +22,10 @@ least_holds None lo m x capacity low least r = least
 least_holds (Some g) lo m x capacity low least r = omega arith
 
 at_least_keeps : (b : Bool) (known : Known) (c : Card) (h : Host) (x k : ℕ) → nat_le k (var known.numbers x).hi ≡ b → FactsHold known c h → k ≤ number h x →
-    Carries known (if b then Some (record (with_var known.numbers x (raised (var known.numbers x) k)) { m = least_by (var known.numbers x).gap (max (var known.numbers x).lo k) known.numbers.m }) else None) c h
+    Carries known (if b then Some (record (with_var known.numbers x (raised (var known.numbers x) k)) {
+      m = least_by (var known.numbers x).gap
+          (max (var known.numbers x).lo k) known.numbers.m;
+    }) else None) c h
 at_least_keeps false known c h x k t holds le =
     let lt : (var known.numbers x).hi < k = leb-false k (var known.numbers x).hi t in
     let high = (holds.numbers.each x).high in
@@ -65,7 +68,8 @@ weaker_var capacity t s x v h = record {
   gap = weaker_gap t.gap s.gap x capacity v.gap h.gap;
 }
 
-weaker_at : (target carried : Numbers) (c : Card) (h : Host) (x : ℕ) → Covers target carried → length target.vars.items ≡ length carried.vars.items → NumbersHold carried c h →
+weaker_at : (target carried : Numbers) (c : Card) (h : Host) (x : ℕ) → Covers target carried → length target.vars.items ≡ length carried.vars.items
+    → NumbersHold carried c h →
     VarHolds c.capacity (var target x) (number h x)
 weaker_at target carried c h x cov same holds =
     elim (cases_lt x (length target.vars.items)) [

@@ -22,7 +22,8 @@ set_same vars xs x capacity n v len new old =
       | inr le ↦
           let a : slice_set vars x v ≡ vars = set_past vars x v le in
           let b : slice_set xs x n ≡ xs = set_past xs x n (subst (λ m. m ≤ x) len le) in
-          subst (λ w. VarHolds capacity (get_or w x weakest) (slice_index (slice_set xs x n) x)) (sym a) (subst (λ w. VarHolds capacity (get_or vars x weakest) (slice_index w x)) (sym b) old)
+          subst (λ w. VarHolds capacity (get_or w x weakest) (slice_index (slice_set xs x n) x)) (sym a)
+          (subst (λ w. VarHolds capacity (get_or vars x weakest) (slice_index w x)) (sym b) old)
     ]
 
 set_other : (vars : List VarFacts) (xs : List ℕ) (x y capacity n : ℕ) (v : VarFacts) → y ≢ x →

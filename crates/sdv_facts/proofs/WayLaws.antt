@@ -60,7 +60,9 @@ module _ (k : Kind) (returned : Return) where
         | inr x ↦ or_second (may_fail (verdict g (seen_of k returned))) (one_may_fail gs (seen_of k returned)) (one_failed gs f.1 x)
       ]
 
-  pub way_taken : (ways : List Fork) (other : Target) (P : Target → Type 0) → ForksHold ways → EachWay ways other (seen_of k returned) P → P (way_of k ways other returned)
+  pub way_taken : (ways : List Fork) (other : Target) (P : Target → Type 0) → ForksHold ways → EachWay ways other (seen_of k returned) P
+      → P (way_of k ways other returned)
   way_taken [] other P f p = p
   way_taken (w ∷ ws) other P f p =
-      either (all_pass k w.guards returned) w.target (way_of k ws other returned) P (λ e. p.0 (all_held w.guards f.0 e)) (λ e. way_taken ws other P f.1 (p.1 (one_failed w.guards f.0 e)))
+      either (all_pass k w.guards returned) w.target (way_of k ws other returned) P (λ e. p.0 (all_held w.guards f.0 e))
+      (λ e. way_taken ws other P f.1 (p.1 (one_failed w.guards f.0 e)))

@@ -63,4 +63,5 @@ changed_facts (Minus k) v =
 
 -- the numbers that are carried; none where there is no edge
 abbrev pub after_let : Kind → Known → Let → Option Numbers
-after_let k known l = option_map (λ v. with_var known.numbers l.target v) (changed_facts l.change (atom_facts k known l.atom))
+after_let k known l = option_map (λ v. with_var known.numbers l.target v)
+    (changed_facts l.change (atom_facts k known l.atom))

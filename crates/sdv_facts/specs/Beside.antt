@@ -71,4 +71,5 @@ RunsEnd walks events = (e : Ending) (es : List Pair) → walks e es → length e
 -- Every run beside any card of the kind is as it should be.
 pub record RunsWell (k : Kind) (walks : Walks) (most : ℕ) : Type 0 where
   pub good : (c : Card) → k ≡ c.kind → IsAtStart c → (e : Ending) (es : List Pair) → walks e es → IsGood most e es c
-  pub goes_on : (c : Card) → k ≡ c.kind → IsAtStart c → (es : List Pair) (last : Card) → walks Open es → StepsOf c es last → GoesOn walks es last
+  pub goes_on : (c : Card) → k ≡ c.kind → IsAtStart c → (es : List Pair) (last : Card) → walks Open es
+      → StepsOf c es last → GoesOn walks es last

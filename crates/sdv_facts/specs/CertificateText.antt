@@ -52,7 +52,8 @@ points_written place (p ∷ ps) = point_written place p (points_written (suc pla
 
 -- THE TEXT of a certificate
 abbrev pub text_of : List PointFacts → List ℕ
-text_of points = codes "sdv-cert 1\n" ++ (codes "points" ++ number_written (length points) (10 ∷ points_written 0 points))
+text_of points = codes "sdv-cert 1\n" ++ (codes "points" ++ number_written (length points)
+    (10 ∷ points_written 0 points))
 
 -- LIMITS
 

@@ -50,7 +50,8 @@ NumberRule ps pass t s ns = IfSome (slice_get ps t.to) (λ q. Covers q.facts.num
 
 -- Bound: the bound does not fall along an edge as it should
 abbrev pub BoundRule : List PointFacts → Place → PointFacts → Rule
-BoundRule ps place p pass t s ns = IfSome (slice_get ps t.to) (λ q. BoundFalls p q place.most (commands_of place.node) pass t)
+BoundRule ps place p pass t s ns = IfSome (slice_get ps t.to)
+    (λ q. BoundFalls p q place.most (commands_of place.node) pass t)
 
 -- EndState: the card is not in the transfer state, which has the number 4, at a `done`
 abbrev pub EndsAt : Node → Shape → Type 0
@@ -88,7 +89,8 @@ pub record PointMatches (g : Flow) (place : Place) (p : PointFacts) : Type 0 whe
 -- Points: the certificate is not of the graph's points
 pub record PointsMatch (g : Flow) (ps : List PointFacts) : Type 0 where
   pub count : length ps ≡ length g.places
-  pub each : (i : ℕ) (place : Place) (p : PointFacts) → slice_get g.places i ≡ Some place → slice_get ps i ≡ Some p → PointMatches g place p
+  pub each : (i : ℕ) (place : Place) (p : PointFacts) → slice_get g.places i ≡ Some place → slice_get ps i ≡ Some p
+      → PointMatches g place p
 
 -- point 0 has the shapes of a card before the first command, and says no more of numbers than is known then
 pub record StartsAt (g : Flow) (p : PointFacts) : Type 0 where
@@ -102,7 +104,8 @@ StartCovers g ps = MatchOption (slice_get ps 0) ⊥ (λ p. StartsAt g p)
 pub record Closed (g : Flow) (ps : List PointFacts) : Type 0 where
   pub points : PointsMatch g ps
   pub start : StartCovers g ps
-  pub each : (i : ℕ) (place : Place) (p : PointFacts) → slice_get g.places i ≡ Some place → slice_get ps i ≡ Some p → PointClosed g.kind ps place p
+  pub each : (i : ℕ) (place : Place) (p : PointFacts) → slice_get g.places i ≡ Some place → slice_get ps i ≡ Some p
+      → PointClosed g.kind ps place p
 
 -- WHICH CLAUSE FAILS FIRST
 
@@ -123,7 +126,8 @@ FirstFails EndState k ps place p =
 
 -- the lowest point that fails, with the first of its clauses that does
 pub record FailsAt (g : Flow) (ps : List PointFacts) (clause : Clause) (i : ℕ) : Type 0 where
-  pub before : (j : ℕ) (place : Place) (p : PointFacts) → j < i → slice_get g.places j ≡ Some place → slice_get ps j ≡ Some p → PointClosed g.kind ps place p
+  pub before : (j : ℕ) (place : Place) (p : PointFacts) → j < i → slice_get g.places j ≡ Some place
+      → slice_get ps j ≡ Some p → PointClosed g.kind ps place p
   pub place : Place
   pub here : slice_get g.places i ≡ Some place
   pub facts : PointFacts

@@ -1,6 +1,5 @@
--- What the rules of numbers promise: facts that hold of a card and its host before a step of the host hold after it, and
--- an address that fits lies on the card.
--- Bounds are this project's own.
+-- What the rules of numbers promise: facts that hold of a card and its host before a step of the host hold after it,
+-- and an address that fits lies on the card. Bounds are this project's own.
 use Rattle.std.specs.Prelude.{◌≡◌, ℕ, Option, Some}
 use Rattle.sdv_registers.specs.declared.kind.Kind.{Kind}
 use Rattle.sdv_registers.specs.declared.kind.Kind.TheVariants.{Sd}
@@ -40,14 +39,15 @@ KeptByLet k known l carried = (c : Card) (h : Host) (n : ℕ) → MayStandIn k l
 
 -- where a comparison holds, there is an edge, and what it carries holds
 abbrev pub KeptByTest : Known → Test → Option Numbers → Type 0
-KeptByTest known test carried = (c : Card) (h : Host) → FactsHold known c h → TestHolds test h → Carries known carried c h
+KeptByTest known test carried = (c : Card) (h : Host) → FactsHold known c h → TestHolds test h
+    → Carries known carried c h
 
 -- what is known at a target holds where what is carried there holds
 abbrev pub HoldsAtTarget : (target carried : Numbers) → Type 0
 HoldsAtTarget target carried = (c : Card) (h : Host) → NumbersHold carried c h → NumbersHold target c h
 
--- the address that is sent is that of the block at the script's position, in the card's unit, and the card has n blocks from
--- there on
+-- the address that is sent is that of the block at the script's position, in the card's unit, and the card has n blocks
+-- from there on
 abbrev pub IsOnCard : Known → Address → ℕ → Type 0
 IsOnCard known a n = (k : Kind) (c : Card) (h : Host) → IsPair k c h → FactsHold known c h →
     Within c (position_of h a.position) (address_sent h a.unit (position_of h a.position)) n

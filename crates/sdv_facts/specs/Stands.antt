@@ -73,7 +73,8 @@ abbrev pub MovesWell : Flow → List PointFacts → (most : ℕ) → Move → Ca
 MovesWell g ps most (Goes next) c = Arrived g ps most 0 next c
 MovesWell g ps most (Does deed h next) c =
     (event : ScriptEvent) → IsDeed deed event → IsFine g.kind event c h
-    × ((returned : Return) (u : Card) → Step event c returned u → Arrived g ps most (commands_in event) (next returned (host_after g.kind event returned h)) u)
+    × ((returned : Return) (u : Card) → Step event c returned u
+    → Arrived g ps most (commands_in event) (next returned (host_after g.kind event returned h)) u)
 MovesWell g ps most (Halts e) c = HaltsWell e c
 
 -- an event that a host makes, legal and in bounds, where what the host knows of the card is true
@@ -95,4 +96,5 @@ PointsStepWell g ps = (s : Stand) (c : Card) (at : Stands g ps s c) → PointClo
 
 -- and so at each point of a graph for which the certificate is closed
 abbrev pub StepsWell : Flow → List PointFacts → Type 0
-StepsWell g ps = (s : Stand) (c : Card) (at : Stands g ps s c) → MovesWell g ps (bound at.facts s.turns) (move_from g.kind g.places s) c
+StepsWell g ps = (s : Stand) (c : Card) (at : Stands g ps s c)
+    → MovesWell g ps (bound at.facts s.turns) (move_from g.kind g.places s) c

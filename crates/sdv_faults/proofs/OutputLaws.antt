@@ -14,7 +14,8 @@ module _ {E : Type 0} (before after : Option (List ℕ)) (text : List ℕ) where
   whole (Err e) (Ok v) same writes = cc
   whole w (Err f) same writes = tt
 
-  pub in_part : (w : Result (Unit {0}) E) (r : Result (Unit {0}) Fault) → is_ok r ≡ is_ok w → Writes before after w text → IfErr r (λ _. AppendsPart before after text)
+  pub in_part : (w : Result (Unit {0}) E) (r : Result (Unit {0}) Fault) → is_ok r ≡ is_ok w → Writes before after w text
+      → IfErr r (λ _. AppendsPart before after text)
   in_part w (Ok v) same writes = tt
   in_part (Ok u) (Err f) same writes = cc
   in_part (Err e) (Err f) same writes = writes

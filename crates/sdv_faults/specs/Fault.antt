@@ -70,7 +70,8 @@ refusal_line (checks.EndState point) = numbered_line (codes "refused EndState po
 
 -- the digits of a shape's code are those of a certificate
 abbrev pub illegal_line : (point : ℕ) → Shape → Text
-illegal_line point shape = codes "refused Illegal point " ++ (decimal point ++ (codes " shape " ++ (encode_lower (to_be_bytes w64 shape.0) ++ 10 ∷ [])))
+illegal_line point shape = codes "refused Illegal point "
+    ++ (decimal point ++ (codes " shape " ++ (encode_lower (to_be_bytes w64 shape.0) ++ 10 ∷ [])))
 
 abbrev pub uncertified_line : CertifyFault → Text
 uncertified_line (certifies.Illegal point shape) = illegal_line point shape
@@ -112,7 +113,8 @@ named_line words name = words ++ (name ++ 10 ∷ [])
 abbrev pub fault_line : Fault → Text
 fault_line Usage = plain_line usage
 fault_line (File file) = codes "cannot use " ++ (file.now ++ 10 ∷ [])
-fault_line (Script fault) = codes "script fault " ++ (kind_name fault.kind ++ (codes " line " ++ (decimal fault.line ++ 10 ∷ [])))
+fault_line (Script fault) = codes "script fault "
+    ++ (kind_name fault.kind ++ (codes " line " ++ (decimal fault.line ++ 10 ∷ [])))
 fault_line (Certificate fault) = certificate_line fault
 fault_line (Refused fault) = refusal_line fault
 fault_line (Uncertified fault) = uncertified_line fault
@@ -127,7 +129,8 @@ fault_line Memory = plain_line (codes "out of memory")
 abbrev pub Says : Fault → (before after : Option (List ℕ)) → Type 0
 Says fault before after = Appends before after (fault_line fault) ⊎ AppendsPart before after (fault_line fault)
 
--- THE STATUS: 1 for a refusal and for a run that did not end in `done`, 2 for words, files and output that cannot be used, 3 for want of memory
+-- THE STATUS: 1 for a refusal and for a run that did not end in `done`, 2 for words, files and output that cannot be
+-- used, 3 for want of memory
 
 abbrev pub status_of : Fault → ℕ
 status_of Usage = 2

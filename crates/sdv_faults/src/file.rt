@@ -148,7 +148,8 @@ pub fn bytes_within<F: Read>(
     limit: u64,
     file: &mut F,
 ) -> Result<Option<Vec<u8>>, AllocError>
-    ensures whole { IfOk result (λ found. IfSome found (λ bytes. IfSome (F.remaining file.old) (λ left. bytes.items ≡ left))) }
+    ensures whole { IfOk result (λ found. IfSome found
+        (λ bytes. IfSome (F.remaining file.old) (λ left. bytes.items ≡ left))) }
     ensures within { IfOk result (λ found. IfSome found (λ bytes. length bytes.items ≤ limit)) }
 {
     let mut bytes = Vec::new(alloc);

@@ -1,4 +1,7 @@
 //! Images over files of blocks.
+//!
+//! Begin at `FileImage`, which keeps sixteen blocks of a `BlockFile` in memory; `specs/` says how its blocks and buffers
+//! are those of the image.
 #![tactic(auto)]
 
 mod block_file;

@@ -38,7 +38,13 @@ pub number_of-bits : (n number : ℕ) → number_of (bits n number) ≡ number %
 unfolding bits number_of
 number_of-bits zero number = grind arith
 number_of-bits (suc n) number =
-    rw (length-bits n number, number_of-bits n number, digit_times (number / 2 ^ n % 2) (2 ^ n) (mod_below (number / 2 ^ n) 2 (omega arith)), ← one-add n, mod-pow-add number 1 n) refl
+    rw (
+      length-bits n number,
+      number_of-bits n number,
+      digit_times (number / 2 ^ n % 2) (2 ^ n) (mod_below (number / 2 ^ n) 2 (omega arith)),
+      ← one-add n,
+      mod-pow-add number 1 n,
+    ) refl
 
 -- bits spell a number below the power of their count
 pub number_of_below : (bs : Bits) → number_of bs < 2 ^ length bs
@@ -75,7 +81,8 @@ joined false high low n m = grind arith
 pub number_of-append : (p q : Bits) → number_of (p ++ q) ≡ number_of p * 2 ^ length q + number_of q
 unfolding number_of
 number_of-append [] q = grind arith
-number_of-append (b ∷ p) q = rw (number_of-append p q, length-append p q, pow-add 2 (length p) (length q)) (joined b (2 ^ length p) (2 ^ length q) (number_of p) (number_of q))
+number_of-append (b ∷ p) q = rw (number_of-append p q, length-append p q, pow-add 2 (length p) (length q))
+    (joined b (2 ^ length p) (2 ^ length q) (number_of p) (number_of q))
 
 pub bits_of-append : (xs ys : List ℕ) → bits_of (xs ++ ys) ≡ bits_of xs ++ bits_of ys
 unfolding bits_of

@@ -35,7 +35,8 @@ all_steps false = refl
 -- the code's next remainder is that of one more bit, and has seven bits
 next_is : (crc : ℕ) (bit : Bool) → crc < 2 ^ 7 → (bits 7 (next crc bit) ≡ step (crc / 64 % 2 == 1) (bits 6 crc) bit) × (nat_lt (next crc bit) 128 ≡ true)
 next_is crc bit h =
-    let parts = both (same_bits (bits 7 (next crc bit)) (step (crc / 64 % 2 == 1) (bits 6 crc) bit)) (nat_lt (next crc bit) 128) (tried (is_step bit) 128 crc (all_steps bit) h) in
+    let parts = both (same_bits (bits 7 (next crc bit)) (step (crc / 64 % 2 == 1) (bits 6 crc) bit)) (nat_lt (next crc bit) 128)
+    (tried (is_step bit) 128 crc (all_steps bit) h) in
     (same_bits_are (bits 7 (next crc bit)) (step (crc / 64 % 2 == 1) (bits 6 crc) bit) parts.0, parts.1)
 
 -- so it is the CRC7 of the message with the bit
@@ -59,8 +60,10 @@ unfolding bits
 last_bit n = rw (and_mask n 1, div-one n) refl
 
 -- the highest bits of a byte, and the next one
-pub next_bit : (place byte : ℕ) → place < 8 → bits (place + 1) (byte / 2 ^ (8 - (place + 1))) ≡ bits place (byte / 2 ^ (8 - place)) ++ (bit_and (byte / 2 ^ (7 - place)) 1 == 1) ∷ []
+pub next_bit : (place byte : ℕ) → place < 8 → bits (place + 1) (byte / 2 ^ (8 - (place + 1)))
+    ≡ bits place (byte / 2 ^ (8 - place)) ++ (bit_and (byte / 2 ^ (7 - place)) 1 == 1) ∷ []
 next_bit place byte h =
     let down : 8 - (place + 1) ≡ 7 - place = omega arith in
     let up : 8 - place ≡ 7 - place + 1 = omega arith in
-    rw (down, up, bits-append place 1 (byte / 2 ^ (7 - place)), shr-shr byte (7 - place) 1) (ap (λ last. bits place (byte / 2 ^ (7 - place + 1)) ++ last) (last_bit (byte / 2 ^ (7 - place))))
+    rw (down, up, bits-append place 1 (byte / 2 ^ (7 - place)), shr-shr byte (7 - place) 1)
+    (ap (λ last. bits place (byte / 2 ^ (7 - place + 1)) ++ last) (last_bit (byte / 2 ^ (7 - place))))

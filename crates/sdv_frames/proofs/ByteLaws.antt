@@ -24,12 +24,14 @@ pub bits-last : (crc : ℕ) → crc < 2 ^ 7 → bits 8 (bit_or (crc * 2 % 256) 1
 bits-last crc h = same_bits_are (bits 8 (bit_or (crc * 2 % 256) 1)) (bits 7 crc ++ true ∷ []) (tried is_last 128 crc all_last h)
 
 -- the bits of a byte and a word
-pub bits_of-front : (first word : ℕ) → bits_of (first ∷ word / 16777216 % 256 ∷ word / 65536 % 256 ∷ word / 256 % 256 ∷ word % 256 ∷ []) ≡ bits 8 first ++ bits 32 word
+pub bits_of-front : (first word : ℕ) → bits_of (first ∷ word / 16777216 % 256 ∷ word / 65536 % 256 ∷ word / 256 % 256 ∷ word % 256 ∷ [])
+    ≡ bits 8 first ++ bits 32 word
 unfolding bits_of
 bits_of-front first word = ap (λ rest. bits 8 first ++ rest) (bits_of-word word)
 
 -- and of one more byte behind them
-pub bits_of-frame : (first word last : ℕ) → bits_of (first ∷ word / 16777216 % 256 ∷ word / 65536 % 256 ∷ word / 256 % 256 ∷ word % 256 ∷ last ∷ []) ≡ (bits 8 first ++ bits 32 word) ++ bits 8 last
+pub bits_of-frame : (first word last : ℕ) → bits_of (first ∷ word / 16777216 % 256 ∷ word / 65536 % 256 ∷ word / 256 % 256 ∷ word % 256 ∷ last ∷ [])
+    ≡ (bits 8 first ++ bits 32 word) ++ bits 8 last
 bits_of-frame first word last =
     bits_of-append (first ∷ word / 16777216 % 256 ∷ word / 65536 % 256 ∷ word / 256 % 256 ∷ word % 256 ∷ []) (last ∷ [])
     ∙ rw (bits_of-front first word, bits_of-one last) refl

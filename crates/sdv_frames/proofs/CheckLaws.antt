@@ -29,9 +29,11 @@ rest_bits (x ∷ xs) h =
     let one_less : length (x ∷ xs) - 1 ≡ length xs = omega arith in
     ap (λ n. bits_of (take n xs)) one_less ∙ ap bits_of (take-length xs)
 
-pub contents_by_test : (front : List ℕ) (crc seven : ℕ) → 1 ≤ length front → crc < 2 ^ 7 → seven < 2 ^ 7 → IsCrc7 (bits_of (take (length front - 1) (drop 1 front))) (bits 7 crc) →
+pub contents_by_test : (front : List ℕ) (crc seven : ℕ) → 1 ≤ length front → crc < 2 ^ 7 → seven < 2 ^ 7
+    → IsCrc7 (bits_of (take (length front - 1) (drop 1 front))) (bits 7 crc) →
     MatchBool (not (nat_eq crc seven)) (¬ IsCrc7 (drop 8 (bits_of front)) (bits 7 seven)) (¬ (¬ IsCrc7 (drop 8 (bits_of front)) (bits 7 seven)))
-contents_by_test front crc seven h hc hs right = crc_by_test (drop 8 (bits_of front)) crc seven hc hs (subst (λ message. IsCrc7 message (bits 7 crc)) (rest_bits front h) right)
+contents_by_test front crc seven h hc hs right = crc_by_test (drop 8 (bits_of front)) crc seven hc hs
+    (subst (λ message. IsCrc7 message (bits 7 crc)) (rest_bits front h) right)
 
 pub reserved_by_test : (seven : ℕ) → seven < 2 ^ 7 → MatchBool (not (nat_eq seven 127)) (bits 7 seven ≢ all_ones) (¬ (bits 7 seven ≢ all_ones))
 unfolding bits

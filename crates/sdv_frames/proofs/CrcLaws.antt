@@ -68,7 +68,8 @@ length-times false = refl
 length-multiple : (q : Bits) → length (multiple q) ≡ length q + 7
 length-multiple [] = refl
 length-multiple (b ∷ q) =
-    let top : length (times_generator b ++ zeros (length q)) ≡ 8 + length q = length-append (times_generator b) (zeros (length q)) ∙ rw (length-times b, length-zeros (length q)) refl in
+    let top : length (times_generator b ++ zeros (length q)) ≡ 8 + length q =
+    length-append (times_generator b) (zeros (length q)) ∙ rw (length-times b, length-zeros (length q)) refl in
     length-⊕ (times_generator b ++ zeros (length q)) (false ∷ multiple q) (omega (arith, length-multiple q)) ∙ omega arith
 
 -- three summands, of which the first is the same on both sides
@@ -91,7 +92,8 @@ length-low true n = omega (arith, length-zeros n)
 length-low false n = omega (arith, length-zeros n)
 
 -- a sum with a multiple, by the first coefficient of its quotient
-first_apart : (b : Bool) (q r : Bits) → multiple (b ∷ q) ⊕ (zeros (length (b ∷ q)) ++ r) ≡ b ∷ (((low b ++ zeros (length q)) ⊕ multiple q) ⊕ (zeros (length q) ++ r))
+first_apart : (b : Bool) (q r : Bits) → multiple (b ∷ q) ⊕ (zeros (length (b ∷ q)) ++ r)
+    ≡ b ∷ (((low b ++ zeros (length q)) ⊕ multiple q) ⊕ (zeros (length q) ++ r))
 unfolding low
 first_apart true q r = refl
 first_apart false q r = refl
@@ -101,16 +103,20 @@ others_same : (b : Bool) (q q' r r' : Bits) → length q ≡ length q' → lengt
     multiple (b ∷ q) ⊕ (zeros (length (b ∷ q)) ++ r) ≡ multiple (b ∷ q') ⊕ (zeros (length (b ∷ q')) ++ r') →
     multiple q ⊕ (zeros (length q) ++ r) ≡ multiple q' ⊕ (zeros (length q') ++ r')
 others_same b q q' r r' e f g h =
-    let all : b ∷ (((low b ++ zeros (length q)) ⊕ multiple q) ⊕ (zeros (length q) ++ r)) ≡ b ∷ (((low b ++ zeros (length q')) ⊕ multiple q') ⊕ (zeros (length q') ++ r')) =
+    let all : b ∷ (((low b ++ zeros (length q)) ⊕ multiple q) ⊕ (zeros (length q) ++ r))
+    ≡ b ∷ (((low b ++ zeros (length q')) ⊕ multiple q') ⊕ (zeros (length q') ++ r')) =
     sym (first_apart b q r) ∙ (h ∙ first_apart b q' r') in
-    let others : ((low b ++ zeros (length q)) ⊕ multiple q) ⊕ (zeros (length q) ++ r) ≡ ((low b ++ zeros (length q')) ⊕ multiple q') ⊕ (zeros (length q') ++ r') = cc in
+    let others : ((low b ++ zeros (length q)) ⊕ multiple q) ⊕ (zeros (length q) ++ r)
+    ≡ ((low b ++ zeros (length q')) ⊕ multiple q') ⊕ (zeros (length q') ++ r') = cc in
     let one : ((low b ++ zeros (length q)) ⊕ multiple q) ⊕ (zeros (length q) ++ r) ≡ ((low b ++ zeros (length q)) ⊕ multiple q') ⊕ (zeros (length q') ++ r') =
     others ∙ ap (λ n. ((low b ++ zeros n) ⊕ multiple q') ⊕ (zeros (length q') ++ r')) (sym e) in
     peeled (length q + 7) (low b ++ zeros (length q)) (multiple q) (multiple q') (zeros (length q) ++ r) (zeros (length q') ++ r')
-    (length-low b (length q)) (length-multiple q) (omega (arith, length-multiple q')) (length-padded (length q) r f) (omega (arith, length-padded (length q') r' g)) one
+    (length-low b (length q)) (length-multiple q) (omega (arith, length-multiple q')) (length-padded (length q) r f)
+    (omega (arith, length-padded (length q') r' g)) one
 
 -- what is left of a multiple does not depend on the quotient
-same_rest : (q q' r r' : Bits) → length q ≡ length q' → length r ≡ 7 → length r' ≡ 7 → multiple q ⊕ (zeros (length q) ++ r) ≡ multiple q' ⊕ (zeros (length q') ++ r') → r ≡ r'
+same_rest : (q q' r r' : Bits) → length q ≡ length q' → length r ≡ 7 → length r' ≡ 7
+    → multiple q ⊕ (zeros (length q) ++ r) ≡ multiple q' ⊕ (zeros (length q') ++ r') → r ≡ r'
 same_rest [] [] r r' e f g h = ⊕_same (zeros 7) r r' (omega arith) (omega arith) h
 same_rest [] (b ∷ q') r r' e f g h = absurd (omega arith)
 same_rest (b ∷ q) [] r r' e f g h = absurd (omega arith)
@@ -155,13 +161,18 @@ multiple-append : (q : Bits) (t : Bool) → multiple (q ++ t ∷ []) ≡ (multip
 multiple-append [] true = refl
 multiple-append [] false = refl
 multiple-append (b ∷ q) t =
-    let top : length (times_generator b ++ zeros (length q)) ≡ length q + 8 = length-append (times_generator b) (zeros (length q)) ∙ omega (arith, length-times b, length-zeros (length q)) in
-    let long : length ((times_generator b ++ zeros (length q)) ++ false ∷ []) ≡ length q + 9 = length-more (times_generator b ++ zeros (length q)) false ∙ omega arith in
+    let top : length (times_generator b ++ zeros (length q)) ≡ length q + 8 =
+    length-append (times_generator b) (zeros (length q)) ∙ omega (arith, length-times b, length-zeros (length q)) in
+    let long : length ((times_generator b ++ zeros (length q)) ++ false ∷ []) ≡ length q + 9 =
+    length-more (times_generator b ++ zeros (length q)) false ∙ omega arith in
     let wide : length ((false ∷ multiple q) ++ false ∷ []) ≡ length q + 9 = length-more (false ∷ multiple q) false ∙ omega (arith, length-multiple q) in
-    let last : length (false ∷ (zeros (length q) ++ times_generator t)) ≡ length q + 9 = ap suc (length-append (zeros (length q)) (times_generator t)) ∙ omega (arith, length-zeros (length q), length-times t) in
+    let last : length (false ∷ (zeros (length q) ++ times_generator t)) ≡ length q + 9 =
+    ap suc (length-append (zeros (length q)) (times_generator t)) ∙ omega (arith, length-zeros (length q), length-times t) in
     rw (length-more q t, zeros-more (length q), multiple-append q t, ← append_assoc (times_generator b) (zeros (length q)) (false ∷ []))
-    (sym (⊕_assoc ((times_generator b ++ zeros (length q)) ++ false ∷ []) ((false ∷ multiple q) ++ false ∷ []) (false ∷ (zeros (length q) ++ times_generator t)) (omega arith) (omega arith))
-    ∙ ap (λ sum. sum ⊕ (false ∷ (zeros (length q) ++ times_generator t))) (sum-more (times_generator b ++ zeros (length q)) (false ∷ multiple q) (omega (arith, length-multiple q))))
+    (sym (⊕_assoc ((times_generator b ++ zeros (length q)) ++ false ∷ []) ((false ∷ multiple q) ++ false ∷ []) (false ∷ (zeros (length q) ++ times_generator t))
+    (omega arith) (omega arith))
+    ∙ ap (λ sum. sum ⊕ (false ∷ (zeros (length q) ++ times_generator t)))
+    (sum-more (times_generator b ++ zeros (length q)) (false ∷ multiple q) (omega (arith, length-multiple q))))
 
 -- the remainder with one more bit b, where s is its highest bit and rest the other six
 unfoldable pub step : Bool → Bits → Bool → Bits
@@ -187,7 +198,8 @@ xor-false true = refl
 xor-false false = refl
 
 -- what the new coefficient takes away, and the new remainder, are the old remainder moved up and the bit
-sum_step : (s : Bool) (rest : Bits) (b : Bool) → length rest ≡ 6 → times_generator (xor s b) ⊕ (false ∷ step s rest b) ≡ (s ∷ (rest ++ false ∷ [])) ⊕ (b ∷ zeros 7)
+sum_step : (s : Bool) (rest : Bits) (b : Bool) → length rest ≡ 6
+    → times_generator (xor s b) ⊕ (false ∷ step s rest b) ≡ (s ∷ (rest ++ false ∷ [])) ⊕ (b ∷ zeros 7)
 unfolding step
 sum_step s rest b h =
     let seven : length (rest ++ false ∷ []) ≡ 7 = length-more rest false ∙ omega arith in
@@ -202,26 +214,35 @@ behind_zeros (suc n) p q = ap (λ rest. false ∷ rest) (behind_zeros n p q)
 -- the message, moved up by one place, and the new bit
 bit_set : (message : Bits) (b : Bool) → ((message ++ zeros 7) ++ false ∷ []) ⊕ (zeros (length message) ++ b ∷ zeros 7) ≡ (message ++ b ∷ []) ++ zeros 7
 bit_set message b =
-    rw (append_assoc message (zeros 7) (false ∷ []), ⊕-append message (zeros 7 ++ false ∷ []) (zeros (length message)) (b ∷ zeros 7) (sym (length-zeros (length message))), ⊕-zeros message)
+    rw (
+      append_assoc message (zeros 7) (false ∷ []),
+      ⊕-append message (zeros 7 ++ false ∷ []) (zeros (length message)) (b ∷ zeros 7)
+          (sym (length-zeros (length message))),
+      ⊕-zeros message,
+    )
     (sym (append_assoc message (b ∷ []) (zeros 7)))
 
 -- the sum that makes a CRC7, with one more coefficient of the quotient
 sum_with_bit : (message product : Bits) (s : Bool) (rest : Bits) (b : Bool) → length product ≡ length message + 7 → length rest ≡ 6 →
     product ⊕ (zeros (length message) ++ s ∷ rest) ≡ message ++ zeros 7 →
-    ((product ++ false ∷ []) ⊕ (zeros (length message) ++ times_generator (xor s b))) ⊕ (zeros (length message) ++ false ∷ step s rest b) ≡ (message ++ b ∷ []) ++ zeros 7
+    ((product ++ false ∷ []) ⊕ (zeros (length message) ++ times_generator (xor s b))) ⊕ (zeros (length message) ++ false ∷ step s rest b)
+    ≡ (message ++ b ∷ []) ++ zeros 7
 sum_with_bit message product s rest b wide six sum =
     let n = length message in
     let moved = product ++ false ∷ [] in
     let old = s ∷ (rest ++ false ∷ []) in
     let new = b ∷ zeros 7 in
     let moved_wide : length moved ≡ n + 8 = length-more product false ∙ omega arith in
-    let term_wide : length (zeros n ++ times_generator (xor s b)) ≡ n + 8 = length-append (zeros n) (times_generator (xor s b)) ∙ omega (arith, length-zeros n, length-times (xor s b)) in
-    let step_wide : length (zeros n ++ false ∷ step s rest b) ≡ n + 8 = length-append (zeros n) (false ∷ step s rest b) ∙ omega (arith, length-zeros n, length-step s rest b six) in
+    let term_wide : length (zeros n ++ times_generator (xor s b)) ≡ n + 8 =
+    length-append (zeros n) (times_generator (xor s b)) ∙ omega (arith, length-zeros n, length-times (xor s b)) in
+    let step_wide : length (zeros n ++ false ∷ step s rest b) ≡ n + 8 =
+    length-append (zeros n) (false ∷ step s rest b) ∙ omega (arith, length-zeros n, length-step s rest b six) in
     let old_wide : length (zeros n ++ old) ≡ n + 8 = length-append (zeros n) old ∙ omega (arith, length-zeros n, length-more rest false) in
     let new_wide : length (zeros n ++ new) ≡ n + 8 = length-append (zeros n) new ∙ omega (arith, length-zeros n) in
     let narrow : length product ≡ length (zeros n ++ s ∷ rest) = wide ∙ (omega (arith, length-zeros n) ∙ sym (length-append (zeros n) (s ∷ rest))) in
     ⊕_assoc moved (zeros n ++ times_generator (xor s b)) (zeros n ++ false ∷ step s rest b) (omega arith) (omega arith)
-    ∙ (ap (λ x. moved ⊕ x) (behind_zeros n (times_generator (xor s b)) (false ∷ step s rest b) ∙ (ap (λ x. zeros n ++ x) (sum_step s rest b six) ∙ sym (behind_zeros n old new)))
+    ∙ (ap (λ x. moved ⊕ x) (behind_zeros n (times_generator (xor s b)) (false ∷ step s rest b)
+    ∙ (ap (λ x. zeros n ++ x) (sum_step s rest b six) ∙ sym (behind_zeros n old new)))
     ∙ (sym (⊕_assoc moved (zeros n ++ old) (zeros n ++ new) (omega arith) (omega arith))
     ∙ (ap (λ x. (moved ⊕ x) ⊕ (zeros n ++ new)) (sym (append_assoc (zeros n) (s ∷ rest) (false ∷ [])))
     ∙ (ap (λ x. x ⊕ (zeros n ++ new)) (sum-more product (zeros n ++ s ∷ rest) narrow ∙ ap (λ x. x ++ false ∷ []) sum)

@@ -18,7 +18,8 @@ same_seven a b ha hb e =
     sym (mod-eq_of_lt ha) ∙ (sym (number_of-bits 7 a) ∙ (ap number_of e ∙ (number_of-bits 7 b ∙ mod-eq_of_lt hb)))
 
 -- a CRC7 that is another number is not the message's
-pub other_crc7 : (message : Bits) (crc seven : ℕ) → crc < 2 ^ 7 → seven < 2 ^ 7 → IsCrc7 message (bits 7 crc) → (crc ≡ seven → ⊥) → IsCrc7 message (bits 7 seven) → ⊥
+pub other_crc7 : (message : Bits) (crc seven : ℕ) → crc < 2 ^ 7 → seven < 2 ^ 7 → IsCrc7 message (bits 7 crc) → (crc ≡ seven → ⊥)
+    → IsCrc7 message (bits 7 seven) → ⊥
 other_crc7 message crc seven hc hs right differ is = differ (same_seven crc seven hc hs (one_crc7 message (bits 7 crc) (bits 7 seven) right is))
 
 -- the length, as bytes and as bits
@@ -80,7 +81,8 @@ module _ (l : Layout) (xs : List ℕ) (long : 2 ≤ l.length) (fits : length xs 
   start_there h = starts ∙ ap (λ b. b ∷ []) ((start_means (get_or xs 0 0) (bytes 0)).1 h)
 
   pub no_start : bit_and (get_or xs 0 0) 128 ≡ 0 → ¬ HasFault l (bits_of xs) StartBit
-  no_start h e = let zero : bit_at 7 (get_or xs 0 0) ≡ false = (start_means (get_or xs 0 0) (bytes 0)).0 h in let one : bit_at 7 (get_or xs 0 0) ≡ true = one_bit _ true starts e in cc
+  no_start h e = let zero : bit_at 7 (get_or xs 0 0) ≡ false = (start_means (get_or xs 0 0) (bytes 0)).0 h in let one : bit_at 7 (get_or xs 0 0) ≡ true =
+      one_bit _ true starts e in cc
 
   pub direction_there : not (beq (not (nat_eq (bit_and (get_or xs 0 0) 64) 0)) l.from_host) ≡ true → HasFault l (bits_of xs) Direction
   direction_there h = goes ∙ ap (λ b. b ∷ []) (sym (transmission_means (get_or xs 0 0) (bytes 0)) ∙ told _ l.from_host h)
@@ -119,7 +121,8 @@ module _ (l : Layout) (xs : List ℕ) (long : 2 ≤ l.length) (fits : length xs 
   pub start_first : (bit_and (get_or xs 0 0) 128 ≡ 0 → ⊥) → IsFirstFault l (bits_of xs) StartBit
   start_first h = record { there = start_there h; first = (no_length, tt) }
 
-  pub direction_first : bit_and (get_or xs 0 0) 128 ≡ 0 → not (beq (not (nat_eq (bit_and (get_or xs 0 0) 64) 0)) l.from_host) ≡ true → IsFirstFault l (bits_of xs) Direction
+  pub direction_first : bit_and (get_or xs 0 0) 128 ≡ 0 → not (beq (not (nat_eq (bit_and (get_or xs 0 0) 64) 0)) l.from_host) ≡ true
+      → IsFirstFault l (bits_of xs) Direction
   direction_first s h = record { there = direction_there h; first = (no_length, (no_start s, tt)) }
 
   pub index_first : bit_and (get_or xs 0 0) 128 ≡ 0 → not (beq (not (nat_eq (bit_and (get_or xs 0 0) 64) 0)) l.from_host) ≡ false →
@@ -142,7 +145,13 @@ module _ (l : Layout) (xs : List ℕ) (long : 2 ≤ l.length) (fits : length xs 
       ¬ CrcDiffers l.check (bits_of (take (l.length - 1) xs)) (bits 7 (get_or xs (l.length - 1) 0 / 2)) →
       (bit_and (get_or xs (l.length - 1) 0) 1 ≡ 0 → ⊥) →
       ReservedDiffer l.check (bits 7 (get_or xs (l.length - 1) 0 / 2)) → IsFirstFault l (bits_of xs) Reserved
-  reserved_first s d i c e h = record { there = reserved_there h; first = (no_length, (no_start s, (no_direction d, (no_index i, (no_crc c, (no_end e, tt)))))) }
+  reserved_first s d i c e h = record {
+    there = reserved_there h;
+    first = (
+      no_length,
+      (no_start s, (no_direction d, (no_index i, (no_crc c, (no_end e, tt))))),
+    );
+  }
 
   pub none_found : bit_and (get_or xs 0 0) 128 ≡ 0 → not (beq (not (nat_eq (bit_and (get_or xs 0 0) 64) 0)) l.from_host) ≡ false →
       ¬ IndexDiffers l.index (bit_and (get_or xs 0 0) 63) →

@@ -40,7 +40,8 @@ pub reply_byte : (index : ℕ) → index < 2 ^ 6 → bits 8 index ≡ false ∷ 
 reply_byte index h = same_bits_are _ _ (tried is_reply_byte 64 index all_reply_bytes h)
 
 -- a sealed message is a frame under the CRC7 of all
-pub sealed_frame : (from_host : Bool) (index word first : ℕ) (spelling : Bits) → bits 8 first ≡ false ∷ from_host ∷ bits 6 index → IsSealed (bits 8 first ++ bits 32 word) spelling →
+pub sealed_frame : (from_host : Bool) (index word first : ℕ) (spelling : Bits) → bits 8 first ≡ false ∷ from_host ∷ bits 6 index
+    → IsSealed (bits 8 first ++ bits 32 word) spelling →
     Spells (record { from_host = from_host; index = index; contents = bits 32 word; check = CrcOfAll }) spelling
 sealed_frame from_host index word first spelling e s =
     let t : IsSealed (false ∷ from_host ∷ (bits 6 index ++ bits 32 word)) spelling = subst (λ front. IsSealed (front ++ bits 32 word) spelling) e s in
@@ -75,7 +76,8 @@ four_bytes xs bytes (suc (suc (suc (suc i)))) = omega arith
 pub word_in : (xs : List ℕ) → length xs ≡ 6 → ((i : ℕ) → get_or xs i 0 < 256) →
     drop 8 (take 40 (bits_of xs)) ≡ bits 32 (from_be_bytes w32 (get_or xs 1 0 ∷ get_or xs 2 0 ∷ get_or xs 3 0 ∷ get_or xs 4 0 ∷ []))
 word_in xs six bytes =
-    ap (drop 8) (front_bits xs 5 six ∙ ap bits_of (first_five xs six)) ∙ (drop_byte (get_or xs 0 0) (get_or xs 1 0 ∷ get_or xs 2 0 ∷ get_or xs 3 0 ∷ get_or xs 4 0 ∷ [])
+    ap (drop 8) (front_bits xs 5 six ∙ ap bits_of (first_five xs six))
+    ∙ (drop_byte (get_or xs 0 0) (get_or xs 1 0 ∷ get_or xs 2 0 ∷ get_or xs 3 0 ∷ get_or xs 4 0 ∷ [])
     ∙ word_bits (get_or xs 1 0 ∷ get_or xs 2 0 ∷ get_or xs 3 0 ∷ get_or xs 4 0 ∷ []) refl (four_bytes xs bytes))
 
 -- no fault is none of them
@@ -89,7 +91,8 @@ none_at EndBit l received none h = none.1.1.1.1.1.0 h
 none_at Reserved l received none h = none.1.1.1.1.1.1.0 h
 
 -- what bits without a fault spell, by their index and contents
-pub spells_as : (l : Layout) (received : Bits) (index : ℕ) (contents : Bits) → 2 ≤ l.length → HasNoFault l received → number_of (take 6 (drop 2 received)) ≡ index → drop 8 (front l received) ≡ contents →
+pub spells_as : (l : Layout) (received : Bits) (index : ℕ) (contents : Bits) → 2 ≤ l.length → HasNoFault l received
+    → number_of (take 6 (drop 2 received)) ≡ index → drop 8 (front l received) ≡ contents →
     Spells (record { from_host = l.from_host; index = index; contents = contents; check = l.check }) received
 spells_as l received index contents long none i c =
     subst (λ f. Spells f received)
@@ -100,7 +103,8 @@ spells_as l received index contents long none i c =
 -- six bytes without a fault are a command
 pub command_found : (xs : List ℕ) (argument : ℕ) → length xs ≡ 6 → ((i : ℕ) → get_or xs i 0 < 256) → argument < 2 ^ 32 →
     argument ≡ from_be_bytes w32 (get_or xs 1 0 ∷ get_or xs 2 0 ∷ get_or xs 3 0 ∷ get_or xs 4 0 ∷ []) → HasNoFault command_layout (bits_of xs) →
-    IsCommand (record { index = bit_and (get_or xs 0 0) 63; argument = argument }) × IsCommandFrame (record { index = bit_and (get_or xs 0 0) 63; argument = argument }) xs
+    IsCommand (record { index = bit_and (get_or xs 0 0) 63; argument = argument })
+    × IsCommandFrame (record { index = bit_and (get_or xs 0 0) 63; argument = argument }) xs
 command_found xs argument six bytes small is none = (
   record { index = rw (and_mask (get_or xs 0 0) 6) (mod_below (get_or xs 0 0) 64 (omega arith)); argument = small },
   spells_as command_layout (bits_of xs) (bit_and (get_or xs 0 0) 63) (bits 32 argument) (omega arith) none
@@ -120,7 +124,8 @@ one_command c d received hc hd s t =
     ap (λ n. record { index = n; argument = c.argument }) index ∙ ap (λ n. record { index = d.index; argument = n }) argument
 
 -- a command's frame has no first fault
-pub no_command : (c : Command) (l : Layout) (received : Bits) {fault : FrameFault} → l ≡ command_layout → IsFirstFault l received fault → IsCommand c → Spells (command_frame c) received → ⊥
+pub no_command : (c : Command) (l : Layout) (received : Bits) {fault : FrameFault} → l ≡ command_layout → IsFirstFault l received fault → IsCommand c
+    → Spells (command_frame c) received → ⊥
 no_command c l received {fault} e f h s = none_at fault l received (subst (λ k. HasNoFault k received) (sym e) (command_fits c received h s)) f.there
 
 refused_by : (fault : FrameFault) (received : Bits) → length received ≡ 48 → HasFault command_layout received fault → MayRefuseCommand fault
@@ -133,5 +138,6 @@ refused_by EndBit received e h = tt
 refused_by Reserved received e h = h
 
 -- six bytes are refused as a command by four faults alone
-pub may_refuse : (l : Layout) (received : Bits) {fault : FrameFault} → l ≡ command_layout → length received ≡ 48 → IsFirstFault l received fault → MayRefuseCommand fault
+pub may_refuse : (l : Layout) (received : Bits) {fault : FrameFault} → l ≡ command_layout → length received ≡ 48 → IsFirstFault l received fault
+    → MayRefuseCommand fault
 may_refuse l received {fault} e long f = refused_by fault received long (subst (λ k. HasFault k received fault) e f.there)

@@ -14,7 +14,8 @@ abbrev pub bit_at : ℕ → ℕ → Bool
 bit_at place number = number / 2 ^ place % 2 == 1
 
 -- the first byte's bits stand first
-pub first_bits : (xs : List ℕ) → 0 < length xs → bits_of xs ≡ bit_at 7 (get_or xs 0 0) ∷ bit_at 6 (get_or xs 0 0) ∷ (bits 6 (get_or xs 0 0) ++ bits_of (drop 1 xs))
+pub first_bits : (xs : List ℕ) → 0 < length xs → bits_of xs
+    ≡ bit_at 7 (get_or xs 0 0) ∷ bit_at 6 (get_or xs 0 0) ∷ (bits 6 (get_or xs 0 0) ++ bits_of (drop 1 xs))
 unfolding bits bits_of
 first_bits [] h = absurd (omega arith)
 first_bits (x ∷ xs) h = refl
@@ -23,7 +24,8 @@ first_bits (x ∷ xs) h = refl
 split_last : (xs : List ℕ) (n : ℕ) → length xs ≡ suc n → bits_of xs ≡ bits_of (take n xs) ++ bits 8 (get_or xs n 0)
 split_last xs n h =
     let all : take (n + 1) xs ≡ xs = ap (λ k. take k xs) (omega arith) ∙ take-length xs in
-    ap bits_of (sym all ∙ (take_at_read xs n 0 (omega arith)).1) ∙ (bits_of-append (take n xs) (get_or xs n 0 ∷ []) ∙ ap (λ last. bits_of (take n xs) ++ last) (bits_of-one (get_or xs n 0)))
+    ap bits_of (sym all ∙ (take_at_read xs n 0 (omega arith)).1)
+    ∙ (bits_of-append (take n xs) (get_or xs n 0 ∷ []) ∙ ap (λ last. bits_of (take n xs) ++ last) (bits_of-one (get_or xs n 0)))
 
 -- the bits of a last byte: seven, and the end bit
 last_bits : (last : ℕ) → bits 8 last ≡ bits 7 (last / 2) ++ (bit_at 0 last) ∷ []
@@ -36,11 +38,15 @@ length_front xs n h = length-bits_of (take n xs) ∙ omega (arith, length-take-l
 -- the bits before the last byte
 pub front_bits : (xs : List ℕ) (n : ℕ) → length xs ≡ suc n → take (8 * suc n - 8) (bits_of xs) ≡ bits_of (take n xs)
 front_bits xs n h =
-    ap (λ all. take (8 * suc n - 8) all) (split_last xs n h) ∙ (ap (λ k. take k (bits_of (take n xs) ++ bits 8 (get_or xs n 0))) (sym (length_front xs n h)) ∙ take-append_seam (bits_of (take n xs)) (bits 8 (get_or xs n 0)))
+    ap (λ all. take (8 * suc n - 8) all) (split_last xs n h)
+    ∙ (ap (λ k. take k (bits_of (take n xs) ++ bits 8 (get_or xs n 0))) (sym (length_front xs n h))
+    ∙ take-append_seam (bits_of (take n xs)) (bits 8 (get_or xs n 0)))
 
 back_bits : (xs : List ℕ) (n : ℕ) → length xs ≡ suc n → drop (8 * suc n - 8) (bits_of xs) ≡ bits 8 (get_or xs n 0)
 back_bits xs n h =
-    ap (λ all. drop (8 * suc n - 8) all) (split_last xs n h) ∙ (ap (λ k. drop k (bits_of (take n xs) ++ bits 8 (get_or xs n 0))) (sym (length_front xs n h)) ∙ drop-append_seam (bits_of (take n xs)) (bits 8 (get_or xs n 0)))
+    ap (λ all. drop (8 * suc n - 8) all) (split_last xs n h)
+    ∙ (ap (λ k. drop k (bits_of (take n xs) ++ bits 8 (get_or xs n 0))) (sym (length_front xs n h))
+    ∙ drop-append_seam (bits_of (take n xs)) (bits 8 (get_or xs n 0)))
 
 -- the seven bits before the end bit
 pub seven_bits : (xs : List ℕ) (n : ℕ) → length xs ≡ suc n → take 7 (drop (8 * suc n - 8) (bits_of xs)) ≡ bits 7 (get_or xs n 0 / 2)
@@ -52,7 +58,8 @@ pub end_bit : (xs : List ℕ) (n : ℕ) → length xs ≡ suc n → drop (8 * su
 unfolding bits
 end_bit xs n h =
     let place : 8 * suc n - 1 ≡ length (bits_of (take n xs)) + 7 = omega (arith, length_front xs n h) in
-    ap (λ k. drop k (bits_of xs)) place ∙ (ap (λ all. drop (length (bits_of (take n xs)) + 7) all) (split_last xs n h) ∙ drop-append-add (bits_of (take n xs)) (bits 8 (get_or xs n 0)) 7)
+    ap (λ k. drop k (bits_of xs)) place ∙ (ap (λ all. drop (length (bits_of (take n xs)) + 7) all) (split_last xs n h)
+    ∙ drop-append-add (bits_of (take n xs)) (bits 8 (get_or xs n 0)) 7)
 
 -- what tests of a byte say of its bits
 
@@ -92,7 +99,8 @@ twice false = refl
 
 -- the transmission bit, as the code tests it
 pub transmission_means : (f : ℕ) → f < 256 → not (nat_eq (bit_and f 64) 0) ≡ bit_at 6 f
-transmission_means f h = ap not (same_bit_is (nat_eq (bit_and f 64) 0) (not (bit_at 6 f)) (tried is_transmission 256 f all_transmissions h)) ∙ twice (bit_at 6 f)
+transmission_means f h = ap not (same_bit_is (nat_eq (bit_and f 64) 0) (not (bit_at 6 f)) (tried is_transmission 256 f all_transmissions h))
+    ∙ twice (bit_at 6 f)
 
 -- the index that the six bits spell
 pub index_means : (f : ℕ) → number_of (bits 6 f) ≡ bit_and f 63

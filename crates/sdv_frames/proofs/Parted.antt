@@ -20,12 +20,14 @@ two_long [] h = absurd (omega arith)
 two_long (a ∷ []) h = absurd (omega arith)
 two_long (a ∷ b ∷ rest) h = (a, b, rest, refl)
 
-module _ (received : Bits) (n : ℕ) (start from_host : Bool) (index contents seven : Bits) (end : Bool) (p : Parted received start from_host index contents seven end) (long : 2 ≤ n) (room : length contents ≡ 8 * n - 16) where
+module _ (received : Bits) (n : ℕ) (start from_host : Bool) (index contents seven : Bits) (end : Bool)
+    (p : Parted received start from_host index contents seven end) (long : 2 ≤ n) (room : length contents ≡ 8 * n - 16) where
   front_long : length (start ∷ from_host ∷ (index ++ contents)) ≡ 8 * n - 8
   front_long = ap (λ k. suc (suc k)) (length-append index contents) ∙ omega (arith, p.six)
 
   pub whole : length received ≡ 8 * n
-  whole = ap length p.all ∙ (length-append (start ∷ from_host ∷ (index ++ contents)) (seven ++ end ∷ []) ∙ omega (arith, front_long, length-append seven (end ∷ []), p.seven_long))
+  whole = ap length p.all ∙ (length-append (start ∷ from_host ∷ (index ++ contents)) (seven ++ end ∷ [])
+      ∙ omega (arith, front_long, length-append seven (end ∷ []), p.seven_long))
 
   pub start_is : take 1 received ≡ start ∷ []
   start_is = ap (take 1) p.all
@@ -81,7 +83,8 @@ last_of : (back : Bits) → length back ≡ 8 → (b : Bool) × (drop 7 back ≡
 last_of back h = one_long (drop 7 back) (length-drop 7 back ∙ omega arith)
 
 -- the front and the back of bits, cut at their second bit, their eighth and before their last
-joined : (received front back rest index contents seven : Bits) (start from_host end : Bool) → received ≡ front ++ back → front ≡ start ∷ from_host ∷ rest → rest ≡ index ++ contents → back ≡ seven ++ end ∷ [] →
+joined : (received front back rest index contents seven : Bits) (start from_host end : Bool) → received ≡ front ++ back → front ≡ start ∷ from_host ∷ rest
+    → rest ≡ index ++ contents → back ≡ seven ++ end ∷ [] →
     received ≡ (start ∷ from_host ∷ (index ++ contents)) ++ (seven ++ end ∷ [])
 joined received front back rest index contents seven start from_host end e f g h =
     e ∙ (ap (λ xs. xs ++ back) (f ∙ ap (λ xs. start ∷ from_host ∷ xs) g) ∙ ap (λ xs. (start ∷ from_host ∷ (index ++ contents)) ++ xs) h)

@@ -25,7 +25,8 @@ unfolding bits
 ones_frame ocr spelling e = record { seven = all_ones; check = refl; spelled = e }
 
 -- a register under its CRC7
-pub register_frame : (register frame : List ℕ) (crc last : ℕ) → IsCrc7 (bits_of register) (bits 7 crc) → bits 8 last ≡ bits 7 crc ++ true ∷ [] → frame ≡ 63 ∷ (register ++ last ∷ []) → IsReplyFrame (R2 register) frame
+pub register_frame : (register frame : List ℕ) (crc last : ℕ) → IsCrc7 (bits_of register) (bits 7 crc) → bits 8 last ≡ bits 7 crc ++ true ∷ []
+    → frame ≡ 63 ∷ (register ++ last ∷ []) → IsReplyFrame (R2 register) frame
 unfolding bits bits_of
 register_frame register frame crc last is e f = record {
   seven = bits 7 crc;
@@ -51,8 +52,10 @@ module _ (index : ℕ) (check : Check) (l : Layout) (received : Bits) (is : shor
       let below : number_of (take 6 (drop 2 received)) < 2 ^ length (take 6 (drop 2 received)) = number_of_below (take 6 (drop 2 received)) in
       subst (λ i. i < 2 ^ 6) found_index (subst (λ k. number_of (take 6 (drop 2 received)) < 2 ^ k) six below)
 
-  pub word_spelled : (word : ℕ) → bits 32 word ≡ drop 8 (take 40 received) → Spells (record { from_host = false; index = index; contents = bits 32 word; check = check }) received
-  word_spelled word e = spells_as (record { length = 6; from_host = false; index = Some index; check = check }) received index (bits 32 word) (omega arith) clean found_index (sym e)
+  pub word_spelled : (word : ℕ) → bits 32 word ≡ drop 8 (take 40 received)
+      → Spells (record { from_host = false; index = index; contents = bits 32 word; check = check }) received
+  word_spelled word e = spells_as (record { length = 6; from_host = false; index = Some index; check = check }) received index (bits 32 word)
+      (omega arith) clean found_index (sym e)
 
 -- the response is of the format that is waited for
 no_answer : (r : Reply) → Answers expects.Nothing r → ⊥
@@ -101,15 +104,18 @@ is_r7 (R7 word) a = (word, refl)
 abbrev Fits : Expect → Reply → Type 0
 Fits expect r = (received : Bits) → IsReply r → Spells (reply_frame r) received → MatchOption (layout_of expect) ⊥ (λ l. HasNoFault l received)
 
-short_fits : (index : ℕ) (check : Check) (contents received : Bits) → length contents ≡ 32 → index < 2 ^ 6 → Spells (record { from_host = false; index = index; contents = contents; check = check }) received →
+short_fits : (index : ℕ) (check : Check) (contents received : Bits) → length contents ≡ 32 → index < 2 ^ 6
+    → Spells (record { from_host = false; index = index; contents = contents; check = check }) received →
     HasNoFault (record { length = 6; from_host = false; index = Some index; check = check }) received
 short_fits index check contents received long small s =
-    spells_none (record { length = 6; from_host = false; index = Some index; check = check }) (record { from_host = false; index = index; contents = contents; check = check }) received (omega arith) s refl refl long small (λ differ. differ refl)
+    spells_none (record { length = 6; from_host = false; index = Some index; check = check })
+    (record { from_host = false; index = index; contents = contents; check = check }) received (omega arith) s refl refl long small (λ differ. differ refl)
 
 long_fits : (register : List ℕ) (received : Bits) → length register ≡ 15 → Spells (reply_frame (R2 register)) received →
     HasNoFault (record { length = 17; from_host = false; index = Some 63; check = CrcOfContents }) received
 long_fits register received fifteen s =
-    spells_none (record { length = 17; from_host = false; index = Some 63; check = CrcOfContents }) (reply_frame (R2 register)) received (omega arith) s refl refl (length-bits_of register ∙ omega arith) (omega arith) (λ differ. differ refl)
+    spells_none (record { length = 17; from_host = false; index = Some 63; check = CrcOfContents }) (reply_frame (R2 register)) received
+    (omega arith) s refl refl (length-bits_of register ∙ omega arith) (omega arith) (λ differ. differ refl)
 
 fits_r1 : (index status : ℕ) → Fits (expects.R1 index) (R1 index status)
 fits_r1 index status received h s = short_fits index CrcOfAll (bits 32 status) received (length-bits 32 status) h.0 s
@@ -135,11 +141,13 @@ reply_fits expects.R6 r a = let k = is_r6 r a in subst (Fits expects.R6) (sym k.
 reply_fits expects.R7 r a = let k = is_r7 r a in subst (Fits expects.R7) (sym k.1) (fits_r7 k.0)
 
 -- a response's frame has no first fault
-pub no_reply : (expect : Expect) (l : Layout) (r : Reply) (received : Bits) {fault : FrameFault} → layout_of expect ≡ Some l → IsFirstFault l received fault → IsReply r → Answers expect r → Spells (reply_frame r) received → ⊥
+pub no_reply : (expect : Expect) (l : Layout) (r : Reply) (received : Bits) {fault : FrameFault} → layout_of expect ≡ Some l → IsFirstFault l received fault
+    → IsReply r → Answers expect r → Spells (reply_frame r) received → ⊥
 no_reply expect l r received {fault} e f h a s =
     none_at fault l received (subst (λ o. MatchOption o ⊥ (λ k. HasNoFault k received)) e (reply_fits expect r a received h s)) f.there
 
-pub no_reply_of : (expect : Expect) (r : Reply) (received : Bits) (fault : FrameFault) → IsFirstFaultOf expect received fault → IsReply r → Answers expect r → Spells (reply_frame r) received → ⊥
+pub no_reply_of : (expect : Expect) (r : Reply) (received : Bits) (fault : FrameFault) → IsFirstFaultOf expect received fault → IsReply r → Answers expect r
+    → Spells (reply_frame r) received → ⊥
 no_reply_of expects.Nothing r received fault f h a s = no_answer r a
 no_reply_of (expects.R1 index) r received fault f h a s = no_reply (expects.R1 index) _ r received refl f h a s
 no_reply_of expects.R2 r received fault f h a s = no_reply expects.R2 _ r received refl f h a s
@@ -171,11 +179,13 @@ abbrev pub One : Reply → Reply → Type 0
 One r q = (received : Bits) → IsReply r → IsReply q → Spells (reply_frame r) received → Spells (reply_frame q) received → r ≡ q
 
 one_r1 : (index a b : ℕ) → One (R1 index a) (R1 index b)
-one_r1 index a b received hr hq s t = ap (R1 index) (same_word a b hr.1 hq.1 (contents_same (R1 index a) (R1 index b) 6 received (omega arith) s t (length-bits 32 a) (length-bits 32 b)))
+one_r1 index a b received hr hq s t = ap (R1 index) (same_word a b hr.1 hq.1
+    (contents_same (R1 index a) (R1 index b) 6 received (omega arith) s t (length-bits 32 a) (length-bits 32 b)))
 
 one_r2 : (a b : List ℕ) → One (R2 a) (R2 b)
 one_r2 a b received hr hq s t =
-    ap R2 (same_byte_lists a b (omega (arith, hr.0, hq.0)) hr.1 hq.1 (contents_same (R2 a) (R2 b) 17 received (omega arith) s t (length-bits_of a ∙ omega (arith, hr.0)) (length-bits_of b ∙ omega (arith, hq.0))))
+    ap R2 (same_byte_lists a b (omega (arith, hr.0, hq.0)) hr.1 hq.1
+    (contents_same (R2 a) (R2 b) 17 received (omega arith) s t (length-bits_of a ∙ omega (arith, hr.0)) (length-bits_of b ∙ omega (arith, hq.0))))
 
 one_r3 : (a b : ℕ) → One (R3 a) (R3 b)
 one_r3 a b received hr hq s t = ap R3 (same_word a b hr hq (contents_same (R3 a) (R3 b) 6 received (omega arith) s t (length-bits 32 a) (length-bits 32 b)))
@@ -192,7 +202,8 @@ both_are r q x y e f h = subst (λ k. One k q) (sym e) (subst (One x) (sym f) h)
 -- the bits of a frame are those of one response of the format that is waited for
 pub one_reply : (expect : Expect) (r q : Reply) → Answers expect r → Answers expect q → One r q
 one_reply expects.Nothing r q a b = absurd (no_answer r a)
-one_reply (expects.R1 wanted) r q a b = let k = is_r1 wanted r a in let m = is_r1 wanted q b in both_are r q (R1 wanted k.0) (R1 wanted m.0) k.1 m.1 (one_r1 wanted k.0 m.0)
+one_reply (expects.R1 wanted) r q a b = let k = is_r1 wanted r a in let m = is_r1 wanted q b in
+    both_are r q (R1 wanted k.0) (R1 wanted m.0) k.1 m.1 (one_r1 wanted k.0 m.0)
 one_reply expects.R2 r q a b = let k = is_r2 r a in let m = is_r2 q b in both_are r q (R2 k.0) (R2 m.0) k.1 m.1 (one_r2 k.0 m.0)
 one_reply expects.R3 r q a b = let k = is_r3 r a in let m = is_r3 q b in both_are r q (R3 k.0) (R3 m.0) k.1 m.1 (one_r3 k.0 m.0)
 one_reply expects.R6 r q a b = let k = is_r6 r a in let m = is_r6 q b in both_are r q (R6 k.0) (R6 m.0) k.1 m.1 (one_r6 k.0 m.0)
@@ -200,31 +211,38 @@ one_reply expects.R7 r q a b = let k = is_r7 r a in let m = is_r7 q b in both_ar
 
 -- what the arms of the code found
 
-short_found : (index : ℕ) (check : Check) (l : Layout) (xs : List ℕ) (word : ℕ) → short index check ≡ Some l → HasNoFault l (bits_of xs) → bits 32 word ≡ drop 8 (take 40 (bits_of xs)) →
+short_found : (index : ℕ) (check : Check) (l : Layout) (xs : List ℕ) (word : ℕ) → short index check ≡ Some l → HasNoFault l (bits_of xs)
+    → bits 32 word ≡ drop 8 (take 40 (bits_of xs)) →
     (index < 2 ^ 6) × Spells (record { from_host = false; index = index; contents = bits 32 word; check = check }) (bits_of xs)
 short_found index check l xs word is none e = (index_small index check l (bits_of xs) is none, word_spelled index check l (bits_of xs) is none word e)
 
-pub found_r1 : (index : ℕ) (l : Layout) (xs : List ℕ) (word : ℕ) → word < 2 ^ 32 → layout_of (expects.R1 index) ≡ Some l → HasNoFault l (bits_of xs) → bits 32 word ≡ drop 8 (take 40 (bits_of xs)) →
+pub found_r1 : (index : ℕ) (l : Layout) (xs : List ℕ) (word : ℕ) → word < 2 ^ 32 → layout_of (expects.R1 index) ≡ Some l → HasNoFault l (bits_of xs)
+    → bits 32 word ≡ drop 8 (take 40 (bits_of xs)) →
     IsReply (R1 index word) × Answers (expects.R1 index) (R1 index word) × IsReplyFrame (R1 index word) xs
 found_r1 index l xs word small is none e = let f = short_found index CrcOfAll l xs word is none e in ((f.0, small), refl, f.1)
 
-pub found_r3 : (l : Layout) (xs : List ℕ) (word : ℕ) → word < 2 ^ 32 → layout_of expects.R3 ≡ Some l → HasNoFault l (bits_of xs) → bits 32 word ≡ drop 8 (take 40 (bits_of xs)) →
+pub found_r3 : (l : Layout) (xs : List ℕ) (word : ℕ) → word < 2 ^ 32 → layout_of expects.R3 ≡ Some l → HasNoFault l (bits_of xs)
+    → bits 32 word ≡ drop 8 (take 40 (bits_of xs)) →
     IsReply (R3 word) × Answers expects.R3 (R3 word) × IsReplyFrame (R3 word) xs
 found_r3 l xs word small is none e = (small, tt, (short_found 63 AllOnes l xs word is none e).1)
 
-pub found_r6 : (l : Layout) (xs : List ℕ) (word : ℕ) → word < 2 ^ 32 → layout_of expects.R6 ≡ Some l → HasNoFault l (bits_of xs) → bits 32 word ≡ drop 8 (take 40 (bits_of xs)) →
+pub found_r6 : (l : Layout) (xs : List ℕ) (word : ℕ) → word < 2 ^ 32 → layout_of expects.R6 ≡ Some l → HasNoFault l (bits_of xs)
+    → bits 32 word ≡ drop 8 (take 40 (bits_of xs)) →
     IsReply (R6 word) × Answers expects.R6 (R6 word) × IsReplyFrame (R6 word) xs
 found_r6 l xs word small is none e = (small, tt, (short_found 3 CrcOfAll l xs word is none e).1)
 
-pub found_r7 : (l : Layout) (xs : List ℕ) (word : ℕ) → word < 2 ^ 32 → layout_of expects.R7 ≡ Some l → HasNoFault l (bits_of xs) → bits 32 word ≡ drop 8 (take 40 (bits_of xs)) →
+pub found_r7 : (l : Layout) (xs : List ℕ) (word : ℕ) → word < 2 ^ 32 → layout_of expects.R7 ≡ Some l → HasNoFault l (bits_of xs)
+    → bits 32 word ≡ drop 8 (take 40 (bits_of xs)) →
     IsReply (R7 word) × Answers expects.R7 (R7 word) × IsReplyFrame (R7 word) xs
 found_r7 l xs word small is none e = (small, tt, (short_found 8 CrcOfAll l xs word is none e).1)
 
-pub found_r2 : (l : Layout) (xs register : List ℕ) → length register ≡ 15 → AreBytes register → layout_of expects.R2 ≡ Some l → HasNoFault l (bits_of xs) → bits_of register ≡ drop 8 (take 128 (bits_of xs)) →
+pub found_r2 : (l : Layout) (xs register : List ℕ) → length register ≡ 15 → AreBytes register → layout_of expects.R2 ≡ Some l → HasNoFault l (bits_of xs)
+    → bits_of register ≡ drop 8 (take 128 (bits_of xs)) →
     IsReply (R2 register) × Answers expects.R2 (R2 register) × IsReplyFrame (R2 register) xs
 found_r2 l xs register long bytes is none e =
     let same : record { length = 17; from_host = false; index = Some 63; check = CrcOfContents } ≡ l = cc in
-    let clean : HasNoFault (record { length = 17; from_host = false; index = Some 63; check = CrcOfContents }) (bits_of xs) = subst (λ k. HasNoFault k (bits_of xs)) (sym same) none in (
+    let clean : HasNoFault (record { length = 17; from_host = false; index = Some 63; check = CrcOfContents }) (bits_of xs) =
+    subst (λ k. HasNoFault k (bits_of xs)) (sym same) none in (
       (long, bytes),
       tt,
       spells_as (record { length = 17; from_host = false; index = Some 63; check = CrcOfContents }) (bits_of xs) 63 (bits_of register) (omega arith) clean
@@ -271,7 +289,8 @@ bytes_from xs h i = front_below 15 (drop 1 xs) (λ k. subst (λ n. n < 256) (sym
 pub register_fits : (xs : List ℕ) → length xs ≡ 17 → ((i : ℕ) → get_or xs i 0 < 256) → (length (take 15 (drop 1 xs)) ≡ 15) × AreBytes (take 15 (drop 1 xs))
 register_fits xs h bytes = (length-take-le 15 (drop 1 xs) (omega (arith, length-drop 1 xs)), all_bytes (take 15 (drop 1 xs)) (bytes_from xs bytes))
 
-pub found_register : (l : Layout) (xs register : List ℕ) → ((i : ℕ) → get_or xs i 0 < 256) → register ≡ take 15 (drop 1 xs) → layout_of expects.R2 ≡ Some l → HasNoFault l (bits_of xs) →
+pub found_register : (l : Layout) (xs register : List ℕ) → ((i : ℕ) → get_or xs i 0 < 256) → register ≡ take 15 (drop 1 xs) → layout_of expects.R2 ≡ Some l
+    → HasNoFault l (bits_of xs) →
     IsReply (R2 register) × Answers expects.R2 (R2 register) × IsReplyFrame (R2 register) xs
 found_register l xs register bytes value is none =
     let long : length xs ≡ 17 = seventeen_long l xs is none in

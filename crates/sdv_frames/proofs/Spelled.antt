@@ -62,12 +62,14 @@ pub ones_sure : (seven : Bits) → ¬ (seven ≢ all_ones) → seven ≡ all_one
 ones_sure seven h = elim (same_or_not seven all_ones) [ inl e ↦ e | inr n ↦ absurd (h n) ]
 
 -- the seven bits are the check
-check_sure : (check : Check) (before contents seven : Bits) → drop 8 before ≡ contents → ¬ CrcDiffers check before seven → ¬ ReservedDiffer check seven → CheckIs check before contents seven
+check_sure : (check : Check) (before contents seven : Bits) → drop 8 before ≡ contents → ¬ CrcDiffers check before seven → ¬ ReservedDiffer check seven
+    → CheckIs check before contents seven
 check_sure CrcOfAll before contents seven e c r = crc_sure before seven c
 check_sure CrcOfContents before contents seven e c r = crc_sure contents seven (subst (λ message. ¬ (¬ IsCrc7 message seven)) e c)
 check_sure AllOnes before contents seven e c r = ones_sure seven r
 
-check_fits : (check : Check) (before contents seven : Bits) → drop 8 before ≡ contents → CheckIs check before contents seven → (¬ CrcDiffers check before seven) × (¬ ReservedDiffer check seven)
+check_fits : (check : Check) (before contents seven : Bits) → drop 8 before ≡ contents → CheckIs check before contents seven
+    → (¬ CrcDiffers check before seven) × (¬ ReservedDiffer check seven)
 check_fits CrcOfAll before contents seven e c = (λ h. h c, λ h. h)
 check_fits CrcOfContents before contents seven e c = (λ h. h (subst (λ message. IsCrc7 message seven) (sym e) c), λ h. h)
 check_fits AllOnes before contents seven e c = (λ h. h, λ h. h c)
@@ -98,7 +100,8 @@ length_sure a b h = elim (cases_eq a b) [ inl e ↦ e | inr n ↦ absurd (h n) ]
 abbrev pub frame_in : Layout → Bits → Frame
 frame_in l received = record { from_host = l.from_host; index = number_of (take 6 (drop 2 received)); contents = drop 8 (front l received); check = l.check }
 
-module _ (l : Layout) (received : Bits) (start from_host : Bool) (index contents seven : Bits) (end : Bool) (p : Parted received start from_host index contents seven end) (long : 2 ≤ l.length) (room : length contents ≡ 8 * l.length - 16) where
+module _ (l : Layout) (received : Bits) (start from_host : Bool) (index contents seven : Bits) (end : Bool)
+    (p : Parted received start from_host index contents seven end) (long : 2 ≤ l.length) (room : length contents ≡ 8 * l.length - 16) where
   contents_in : drop 8 (front l received) ≡ contents
   contents_in = contents_are received l.length start from_host index contents seven end p long room
 
@@ -109,21 +112,28 @@ module _ (l : Layout) (received : Bits) (start from_host : Bool) (index contents
   seven_in = seven_is received l.length start from_host index contents seven end p long room
 
   index_in : bits 6 (number_of (take 6 (drop 2 received))) ≡ index
-  index_in = ap (λ i. bits 6 (number_of i)) (index_is received l.length start from_host index contents seven end p long room) ∙ (ap (λ k. bits k (number_of index)) (sym p.six) ∙ bits-number_of index)
+  index_in = ap (λ i. bits 6 (number_of i)) (index_is received l.length start from_host index contents seven end p long room)
+      ∙ (ap (λ k. bits k (number_of index)) (sym p.six) ∙ bits-number_of index)
 
   parts_spell : HasNoFault l received → Spells (frame_in l received) received
   parts_spell none =
-      let starts : start ≡ false = is_false start (λ h. none.1.0 (start_is received l.length start from_host index contents seven end p long room ∙ ap (λ b. b ∷ []) h)) in
-      let goes : from_host ≡ l.from_host = is_other from_host l.from_host (λ h. none.1.1.0 (from_host_is received l.length start from_host index contents seven end p long room ∙ ap (λ b. b ∷ []) h)) in
-      let ends : end ≡ true = is_true end (λ h. none.1.1.1.1.1.0 (end_is received l.length start from_host index contents seven end p long room ∙ ap (λ b. b ∷ []) h)) in
+      let starts : start ≡ false = is_false start (λ h. none.1.0
+      (start_is received l.length start from_host index contents seven end p long room ∙ ap (λ b. b ∷ []) h)) in
+      let goes : from_host ≡ l.from_host = is_other from_host l.from_host
+      (λ h. none.1.1.0 (from_host_is received l.length start from_host index contents seven end p long room ∙ ap (λ b. b ∷ []) h)) in
+      let ends : end ≡ true = is_true end (λ h. none.1.1.1.1.1.0
+      (end_is received l.length start from_host index contents seven end p long room ∙ ap (λ b. b ∷ []) h)) in
       let same : front l received ≡ head (frame_in l received) =
       front_in ∙ (ap (λ b. b ∷ from_host ∷ (index ++ contents)) starts ∙ (ap (λ b. false ∷ b ∷ (index ++ contents)) goes
-      ∙ (ap (λ i. false ∷ l.from_host ∷ (i ++ contents)) (sym index_in) ∙ ap (λ c. false ∷ l.from_host ∷ (bits 6 (number_of (take 6 (drop 2 received))) ++ c)) (sym contents_in)))) in
+      ∙ (ap (λ i. false ∷ l.from_host ∷ (i ++ contents)) (sym index_in)
+      ∙ ap (λ c. false ∷ l.from_host ∷ (bits 6 (number_of (take 6 (drop 2 received))) ++ c)) (sym contents_in)))) in
       record {
         seven = seven_of l received;
         check = subst (λ before. CheckIs l.check before (drop 8 (front l received)) (seven_of l received)) same
             (check_sure l.check (front l received) (drop 8 (front l received)) (seven_of l received) refl none.1.1.1.1.0 none.1.1.1.1.1.1.0);
-        spelled = p.all ∙ (ap (λ xs. xs ++ (seven ++ end ∷ [])) (sym front_in ∙ same) ∙ (ap (λ xs. head (frame_in l received) ++ (xs ++ end ∷ [])) (sym seven_in) ∙ ap (λ b. head (frame_in l received) ++ (seven_of l received ++ b ∷ [])) ends));
+        spelled = p.all ∙ (ap (λ xs. xs ++ (seven ++ end ∷ [])) (sym front_in ∙ same)
+            ∙ (ap (λ xs. head (frame_in l received) ++ (xs ++ end ∷ [])) (sym seven_in)
+            ∙ ap (λ b. head (frame_in l received) ++ (seven_of l received ++ b ∷ [])) ends));
       }
 
 -- bits without a fault spell what they say
@@ -158,7 +168,8 @@ spells_none l f received long s from check room small index =
     let p = frame_parts f received s in
     let n = l.length in
     let found : number_of (take 6 (drop 2 received)) ≡ f.index =
-    ap number_of (index_is received n false f.from_host (bits 6 f.index) f.contents s.seven true p long room) ∙ (number_of-bits 6 f.index ∙ mod-eq_of_lt small) in
+    ap number_of (index_is received n false f.from_host (bits 6 f.index) f.contents s.seven true p long room)
+    ∙ (number_of-bits 6 f.index ∙ mod-eq_of_lt small) in
     let before : front l received ≡ head f = front_is received n false f.from_host (bits 6 f.index) f.contents s.seven true p long room in
     let inside : drop 8 (front l received) ≡ f.contents = contents_are received n false f.from_host (bits 6 f.index) f.contents s.seven true p long room in
     let seven : seven_of l received ≡ s.seven = seven_is received n false f.from_host (bits 6 f.index) f.contents s.seven true p long room in
@@ -166,15 +177,18 @@ spells_none l f received long s from check room small index =
     rw (before, seven, ← check) (check_fits f.check (head f) f.contents s.seven (ap (drop 8) (sym before) ∙ inside) s.check) in (
       (λ h. h (whole received n false f.from_host (bits 6 f.index) f.contents s.seven true p long room)),
       (
-        (λ h. let e : false ≡ true = other_start false true (start_is received n false f.from_host (bits 6 f.index) f.contents s.seven true p long room) h in cc),
+        (λ h. let e : false ≡ true = other_start false true (start_is received n false f.from_host (bits 6 f.index) f.contents s.seven true p long room) h in
+            cc),
         (
-          (λ h. not_other l.from_host (sym from ∙ other_start f.from_host (not l.from_host) (from_host_is received n false f.from_host (bits 6 f.index) f.contents s.seven true p long room) h)),
+          (λ h. not_other l.from_host (sym from ∙ other_start f.from_host (not l.from_host)
+              (from_host_is received n false f.from_host (bits 6 f.index) f.contents s.seven true p long room) h)),
           (
             no_differ l.index (number_of (take 6 (drop 2 received))) f.index found index,
             (
               checks.0,
               (
-                (λ h. let e : true ≡ false = other_start true false (end_is received n false f.from_host (bits 6 f.index) f.contents s.seven true p long room) h in cc),
+                (λ h. let e : true ≡ false = other_start true false
+                    (end_is received n false f.from_host (bits 6 f.index) f.contents s.seven true p long room) h in cc),
                 (
                   checks.1,
                   tt,
@@ -187,11 +201,14 @@ spells_none l f received long s from check room small index =
     )
 
 -- two frames with the same bits say the same
-pub spells_same : (n : ℕ) (f g : Frame) (received : Bits) → 2 ≤ n → Spells f received → Spells g received → length f.contents ≡ 8 * n - 16 → length g.contents ≡ 8 * n - 16 →
+pub spells_same : (n : ℕ) (f g : Frame) (received : Bits) → 2 ≤ n → Spells f received → Spells g received → length f.contents ≡ 8 * n - 16
+    → length g.contents ≡ 8 * n - 16 →
     (bits 6 f.index ≡ bits 6 g.index) × (f.contents ≡ g.contents)
 spells_same n f g received long s t fs gs = (
-  sym (index_is received n false f.from_host (bits 6 f.index) f.contents s.seven true (frame_parts f received s) long fs) ∙ index_is received n false g.from_host (bits 6 g.index) g.contents t.seven true (frame_parts g received t) long gs,
-  sym (contents_are received n false f.from_host (bits 6 f.index) f.contents s.seven true (frame_parts f received s) long fs) ∙ contents_are received n false g.from_host (bits 6 g.index) g.contents t.seven true (frame_parts g received t) long gs,
+  sym (index_is received n false f.from_host (bits 6 f.index) f.contents s.seven true (frame_parts f received s) long fs)
+      ∙ index_is received n false g.from_host (bits 6 g.index) g.contents t.seven true (frame_parts g received t) long gs,
+  sym (contents_are received n false f.from_host (bits 6 f.index) f.contents s.seven true (frame_parts f received s) long fs)
+      ∙ contents_are received n false g.from_host (bits 6 g.index) g.contents t.seven true (frame_parts g received t) long gs,
 )
 
 -- numbers with the same lowest bits are the same

@@ -96,4 +96,5 @@ MayRefuseCommand fault = Unit {0}
 
 -- the fault that is answered where a response was waited for, or none
 abbrev pub IsFirstFaultOf : Expect → Bits → FrameFault → Type 0
-IsFirstFaultOf expect received fault = MatchOption (layout_of expect) (fault ≡ Length) (λ l. IsFirstFault l received fault)
+IsFirstFaultOf expect received fault = MatchOption (layout_of expect) (fault ≡ Length)
+    (λ l. IsFirstFault l received fault)

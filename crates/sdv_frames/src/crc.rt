@@ -27,7 +27,8 @@ fn with_bit(crc: u8, bit: bool) -> u8
 /// The CRC7 of a message with one more byte, by that of the message.
 fn with_byte(crc: u8, byte: u8) -> u8
     requires { crc < 2 ^ 7 }
-    ensures remainder { (message : Bits) → IsCrc7 message (bits 7 crc) → IsCrc7 (message ++ bits 8 byte) (bits 7 result) }
+    ensures remainder { (message : Bits) → IsCrc7 message (bits 7 crc)
+        → IsCrc7 (message ++ bits 8 byte) (bits 7 result) }
     ensures degree { result < 2 ^ 7 }
 {
     let mut after = crc;

@@ -95,7 +95,8 @@ fn index_differs(wanted: Option<u8>, index: u8) -> bool
 fn crc_differs(check: Check, front: &[u8], seven: u8) -> bool
     requires contents { 1 ≤ length front.now }
     requires bits { seven < 2 ^ 7 }
-    ensures { MatchBool result (CrcDiffers check (bits_of front.now) (bits 7 seven)) (¬ CrcDiffers check (bits_of front.now) (bits 7 seven)) }
+    ensures { MatchBool result (CrcDiffers check (bits_of front.now) (bits 7 seven))
+        (¬ CrcDiffers check (bits_of front.now) (bits 7 seven)) }
 {
     match check {
         Check::CrcOfAll => crc7(front) != seven,

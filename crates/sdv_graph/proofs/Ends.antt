@@ -41,12 +41,14 @@ module _ (k : Kind) (g : List Place) where
   weaker : (n m : ℕ) (t : Target) (ts : List ℕ) → n ≤ m → At n t ts → At m t ts
   weaker n m t ts le a h = longer n m (arrive t ts h) le (a h)
 
-  at_point : (p : Place) (at j m : ℕ) (ts : List ℕ) (h : Host) → j < m → slice_get g at ≡ Some p → WhereverTo (Lasts k g j) (move k (Some p) ts h) → Lasts k g m (record { point = at; turns = ts; host = h })
+  at_point : (p : Place) (at j m : ℕ) (ts : List ℕ) (h : Host) → j < m → slice_get g at ≡ Some p → WhereverTo (Lasts k g j) (move k (Some p) ts h)
+      → Lasts k g m (record { point = at; turns = ts; host = h })
   at_point p at j m ts h lt here w =
       let s : Stand = record { point = at; turns = ts; host = h } in
       longer (suc j) m s (omega arith) (subst (λ o. WhereverTo (Lasts k g j) (move k o ts h)) (sym here) w)
 
-  either : (b : Bool) (n : ℕ) (t u : Target) (ts : List ℕ) (h : Host) → Lasts k g n (arrive t ts h) → Lasts k g n (arrive u ts h) → Lasts k g n (arrive (if b then t else u) ts h)
+  either : (b : Bool) (n : ℕ) (t u : Target) (ts : List ℕ) (h : Host) → Lasts k g n (arrive t ts h) → Lasts k g n (arrive u ts h)
+      → Lasts k g n (arrive (if b then t else u) ts h)
   either true n t u ts h p q = p
   either false n t u ts h p q = q
 
@@ -55,14 +57,18 @@ module _ (k : Kind) (g : List Place) where
   in_range_lasts (Some x) on n w = w x
 
   outside_lasts : (j n : ℕ) (t : Target) (ts : List ℕ) → At j t ts → At j (outside t) (n ∷ ts)
-  outside_lasts j n t ts a h = subst (λ l. Lasts k g j (record { point = t.to; turns = entered t.enter (left l (n ∷ ts)); host = h })) (sym (add-one t.leave)) (a h)
+  outside_lasts j n t ts a h = subst (λ l. Lasts k g j (record { point = t.to; turns = entered t.enter (left l (n ∷ ts)); host = h })) (sym (add-one t.leave))
+      (a h)
 
-  rounds_last : (i at sa sb n : ℕ) (most : List ℕ) (a b : Target) (ts : List ℕ) → slice_get g at ≡ Some (place (heads i a (outside b)) most) → At (sb + n) b ts → ((m t : ℕ) → n ≤ m → At m (again at) (t ∷ ts) → At (sa + m) a (t ∷ ts)) → (t : ℕ) → At (1 + (t * (1 + sa) + sb) + n) (again at) (t ∷ ts)
+  rounds_last : (i at sa sb n : ℕ) (most : List ℕ) (a b : Target) (ts : List ℕ) → slice_get g at ≡ Some (place (heads i a (outside b)) most) → At (sb + n) b ts
+      → ((m t : ℕ) → n ≤ m → At m (again at) (t ∷ ts) → At (sa + m) a (t ∷ ts)) → (t : ℕ) → At (1 + (t * (1 + sa) + sb) + n) (again at) (t ∷ ts)
   rounds_last i at sa sb n most a b ts here ob ib zero h =
-      at_point (place (heads i a (outside b)) most) at (sb + n) (1 + (zero * (1 + sa) + sb) + n) (zero ∷ ts) h (omega arith) here (outside_lasts (sb + n) zero b ts ob h)
+      at_point (place (heads i a (outside b)) most) at (sb + n) (1 + (zero * (1 + sa) + sb) + n) (zero ∷ ts) h (omega arith) here
+      (outside_lasts (sb + n) zero b ts ob h)
   rounds_last i at sa sb n most a b ts here ob ib (suc t) h =
       let m = 1 + (t * (1 + sa) + sb) + n in
-      at_point (place (heads i a (outside b)) most) at (sa + m) (1 + (suc t * (1 + sa) + sb) + n) (suc t ∷ ts) h (omega arith) here (ib m t (omega arith) (rounds_last i at sa sb n most a b ts here ob ib t) h)
+      at_point (place (heads i a (outside b)) most) at (sa + m) (1 + (suc t * (1 + sa) + sb) + n) (suc t ∷ ts) h (omega arith) here
+      (ib m t (omega arith) (rounds_last i at sa sb n most a b ts here ob ib t) h)
 
   -- two blocks, of which one is taken
   one_lasts : (sa sb n : ℕ) (ta tb : Target) (ts : List ℕ) (b : Bool) → At (sa + n) ta ts → At (sb + n) tb ts → At (sa + sb + n) (if b then ta else tb) ts
@@ -70,7 +76,8 @@ module _ (k : Kind) (g : List Place) where
       either b (sa + sb + n) ta tb ts h (weaker (sa + n) (sa + sb + n) ta ts (omega arith) la h) (weaker (sb + n) (sa + sb + n) tb ts (omega arith) lb h)
 
   mutual
-    statements_last : (b : Statements) (at : ℕ) (next brk : Target) (most ts : List ℕ) (n : ℕ) → HasAt g at (points_of_statements b at next brk most) → (statements_fall b ≡ true → At n next ts) → (statements_break b ≡ true → At n brk ts) → At (statements_moves b + n) (entry b at next) ts
+    statements_last : (b : Statements) (at : ℕ) (next brk : Target) (most ts : List ℕ) (n : ℕ) → HasAt g at (points_of_statements b at next brk most)
+        → (statements_fall b ≡ true → At n next ts) → (statements_break b ≡ true → At n brk ts) → At (statements_moves b + n) (entry b at next) ts
     statements_last nothing at next brk most ts n has nx br = weaker n (0 + n) next ts (omega arith) (nx refl)
     statements_last (first s rest) at next brk most ts n has nx br =
         let mid = at + statement_count s in
@@ -80,10 +87,13 @@ module _ (k : Kind) (g : List Place) where
         let m = statements_moves rest + n in
         weaker (statement_moves s + m) (statement_moves s + statements_moves rest + n) (start_of s at) ts (omega arith)
         (statement_lasts s at to brk most ts m (has_front g at (points_of_statement s at to brk most) others has)
-        (λ fs. statements_last rest mid next brk most ts n back (λ fr. nx (and_both (statement_falls s) (statements_fall rest) fs fr)) (λ b. br (or_right (statement_breaks s) (statements_break rest) b)))
+        (λ fs. statements_last rest mid next brk most ts n back (λ fr. nx (and_both (statement_falls s) (statements_fall rest) fs fr))
+        (λ b. br (or_right (statement_breaks s) (statements_break rest) b)))
         (λ b. weaker n m brk ts (omega arith) (br (or_left (statement_breaks s) (statements_break rest) b))))
 
-    ways_last : (c : Ways) (at : ℕ) (next brk : Target) (most ts : List ℕ) (n : ℕ) → HasAt g at (points_of_ways c at next brk most) → (ways_fall c ≡ true → At n next ts) → (ways_break c ≡ true → At n brk ts) → (returned : Return) → At (ways_moves c + n) (way_of k (forks c at next) (other_of c at next) returned) ts
+    ways_last : (c : Ways) (at : ℕ) (next brk : Target) (most ts : List ℕ) (n : ℕ) → HasAt g at (points_of_ways c at next brk most)
+        → (ways_fall c ≡ true → At n next ts) → (ways_break c ≡ true → At n brk ts) → (returned : Return)
+        → At (ways_moves c + n) (way_of k (forks c at next) (other_of c at next) returned) ts
     ways_last (otherwise b) at next brk most ts n has nx br returned h = statements_last b at next brk most ts n has nx br h
     ways_last (way guards b rest) at next brk most ts n has nx br returned h =
         let mid = at + statements_count b in
@@ -91,17 +101,22 @@ module _ (k : Kind) (g : List Place) where
         let j = statements_moves b + ways_moves rest + n in
         let tb = entry b at next in
         let tr = way_of k (forks rest mid next) (other_of rest mid next) returned in
-        let one = statements_last b at next brk most ts n (has_front g at (points_of_statements b at next brk most) others has) (λ f. nx (or_left (statements_fall b) (ways_fall rest) f)) (λ f. br (or_left (statements_break b) (ways_break rest) f)) in
-        let more = ways_last rest mid next brk most ts n (has_after g at b next brk most others has) (λ f. nx (or_right (statements_fall b) (ways_fall rest) f)) (λ f. br (or_right (statements_break b) (ways_break rest) f)) returned in
-        either (all_pass k guards returned) j tb tr ts h (weaker (statements_moves b + n) j tb ts (omega arith) one h) (weaker (ways_moves rest + n) j tr ts (omega arith) more h)
+        let one = statements_last b at next brk most ts n (has_front g at (points_of_statements b at next brk most) others has)
+        (λ f. nx (or_left (statements_fall b) (ways_fall rest) f)) (λ f. br (or_left (statements_break b) (ways_break rest) f)) in
+        let more = ways_last rest mid next brk most ts n (has_after g at b next brk most others has) (λ f. nx (or_right (statements_fall b) (ways_fall rest) f))
+        (λ f. br (or_right (statements_break b) (ways_break rest) f)) returned in
+        either (all_pass k guards returned) j tb tr ts h (weaker (statements_moves b + n) j tb ts (omega arith) one h)
+        (weaker (ways_moves rest + n) j tr ts (omega arith) more h)
 
-    statement_lasts : (s : Statement) (at : ℕ) (next brk : Target) (most ts : List ℕ) (n : ℕ) → HasAt g at (points_of_statement s at next brk most) → (statement_falls s ≡ true → At n next ts) → (statement_breaks s ≡ true → At n brk ts) → At (statement_moves s + n) (start_of s at) ts
+    statement_lasts : (s : Statement) (at : ℕ) (next brk : Target) (most ts : List ℕ) (n : ℕ) → HasAt g at (points_of_statement s at next brk most)
+        → (statement_falls s ≡ true → At n next ts) → (statement_breaks s ≡ true → At n brk ts) → At (statement_moves s + n) (start_of s at) ts
     statement_lasts (send c ways) at next brk most ts n has nx br h =
         let there = forks ways (at + 1) next in
         let other = other_of ways (at + 1) next in
         let j = ways_moves ways + n in
         at_point (place (sends c there other) most) at j (1 + ways_moves ways + n) ts h (omega arith) has.0
-        (in_range_lasts (position_of_command h c.address) (λ position. Does (command_deed k c h position) h (λ returned h'. arrive (way_of k there other returned) ts h')) j
+        (in_range_lasts (position_of_command h c.address)
+        (λ position. Does (command_deed k c h position) h (λ returned h'. arrive (way_of k there other returned) ts h')) j
         (λ position returned after. ways_last ways (at + 1) next brk most ts n has.1 nx br returned after))
     statement_lasts (phase p a b) at next brk most ts n has nx br h =
         let mid = at + 1 + statements_count a in
@@ -110,8 +125,10 @@ module _ (k : Kind) (g : List Place) where
         let sa = statements_moves a in
         let sb = statements_moves b in
         let fb = points_of_statements b mid next brk most in
-        let la = statements_last a (at + 1) next brk most ts n (has_front g (at + 1) (points_of_statements a (at + 1) next brk most) fb has.1) (λ x. nx (or_left (statements_fall a) (statements_fall b) x)) (λ x. br (or_left (statements_break a) (statements_break b) x)) in
-        let lb = statements_last b mid next brk most ts n (has_after g (at + 1) a next brk most fb has.1) (λ x. nx (or_right (statements_fall a) (statements_fall b) x)) (λ x. br (or_right (statements_break a) (statements_break b) x)) in
+        let la = statements_last a (at + 1) next brk most ts n (has_front g (at + 1) (points_of_statements a (at + 1) next brk most) fb has.1)
+        (λ x. nx (or_left (statements_fall a) (statements_fall b) x)) (λ x. br (or_left (statements_break a) (statements_break b) x)) in
+        let lb = statements_last b mid next brk most ts n (has_after g (at + 1) a next brk most fb has.1)
+        (λ x. nx (or_right (statements_fall a) (statements_fall b) x)) (λ x. br (or_right (statements_break a) (statements_break b) x)) in
         at_point (place (phases p ta tb) most) at (sa + sb + n) (1 + (sa + sb) + n) ts h (omega arith) has.0
         (λ returned after. one_lasts sa sb n ta tb ts (passes k WentWell returned) la lb after)
     statement_lasts (setting l) at next brk most ts n has nx br h =
@@ -124,12 +141,16 @@ module _ (k : Kind) (g : List Place) where
         let sa = statements_moves a in
         let sb = statements_moves b in
         let fb = points_of_statements b mid next brk most in
-        let la = statements_last a (at + 1) next brk most ts n (has_front g (at + 1) (points_of_statements a (at + 1) next brk most) fb has.1) (λ x. nx (or_left (statements_fall a) (statements_fall b) x)) (λ x. br (or_left (statements_break a) (statements_break b) x)) in
-        let lb = statements_last b mid next brk most ts n (has_after g (at + 1) a next brk most fb has.1) (λ x. nx (or_right (statements_fall a) (statements_fall b) x)) (λ x. br (or_right (statements_break a) (statements_break b) x)) in
+        let la = statements_last a (at + 1) next brk most ts n (has_front g (at + 1) (points_of_statements a (at + 1) next brk most) fb has.1)
+        (λ x. nx (or_left (statements_fall a) (statements_fall b) x)) (λ x. br (or_left (statements_break a) (statements_break b) x)) in
+        let lb = statements_last b mid next brk most ts n (has_after g (at + 1) a next brk most fb has.1)
+        (λ x. nx (or_right (statements_fall a) (statements_fall b) x)) (λ x. br (or_right (statements_break a) (statements_break b) x)) in
         at_point (place (tests c ta tb) most) at (sa + sb + n) (1 + (sa + sb) + n) ts h (omega arith) has.0
         (one_lasts sa sb n ta tb ts (condition_holds h c) la lb h)
-    statement_lasts (set f) at next brk most ts n has nx br h = at_point (place (flags f true next) most) at n (1 + n) ts h (omega arith) has.0 (nx refl (with_flag h f true))
-    statement_lasts (clear f) at next brk most ts n has nx br h = at_point (place (flags f false next) most) at n (1 + n) ts h (omega arith) has.0 (nx refl (with_flag h f false))
+    statement_lasts (set f) at next brk most ts n has nx br h =
+        at_point (place (flags f true next) most) at n (1 + n) ts h (omega arith) has.0 (nx refl (with_flag h f true))
+    statement_lasts (clear f) at next brk most ts n has nx br h =
+        at_point (place (flags f false next) most) at n (1 + n) ts h (omega arith) has.0 (nx refl (with_flag h f false))
     statement_lasts (turns i a b) at next brk most ts n has nx br h =
         let mid = at + 1 + statements_count a in
         let inner = (i - 1) ∷ most in
@@ -141,13 +162,16 @@ module _ (k : Kind) (g : List Place) where
         weaker (1 + (i * (1 + sa) + sb) + n) (1 + (i * (1 + sa) + sa + sb) + n) (start_of (turns i a b) at) ts (omega arith)
         (rounds_last i at sa sb n (i ∷ most) (entry a (at + 1) (again at)) (entry b mid next) ts has.0
         (statements_last b mid next brk most ts n back (λ x. nx (or_left (statements_fall b) (statements_break a) x)) br)
-        (λ m t le ia. statements_last a (at + 1) (again at) (outside next) inner (t ∷ ts) m front (λ x. ia) (λ x. weaker n m (outside next) (t ∷ ts) le (outside_lasts n t next ts (nx (or_right (statements_fall b) (statements_break a) x))))) i) h
+        (λ m t le ia. statements_last a (at + 1) (again at) (outside next) inner (t ∷ ts) m front (λ x. ia)
+        (λ x. weaker n m (outside next) (t ∷ ts) le (outside_lasts n t next ts (nx (or_right (statements_fall b) (statements_break a) x))))) i) h
     statement_lasts break at next brk most ts n has nx br h = at_point (place (jumps brk) most) at n (1 + n) ts h (omega arith) has.0 (br refl h)
     statement_lasts done at next brk most ts n has nx br h = at_point (place (stops Finished) most) at n (1 + n) ts h (omega arith) has.0 tt
     statement_lasts (fault name) at next brk most ts n has nx br h = at_point (place (stops (Failed name)) most) at n (1 + n) ts h (omega arith) has.0 tt
 
 -- a run from the start is over within the moves of the script
-pub each_run_ends : (k : Kind) (b : Statements) (h : Host) → statements_fall b ≡ false → statements_break b ≡ false → Lasts k (points_of b) (statements_moves b) (arrive (first_of b) [] h)
+pub each_run_ends : (k : Kind) (b : Statements) (h : Host) → statements_fall b ≡ false → statements_break b ≡ false
+    → Lasts k (points_of b) (statements_moves b) (arrive (first_of b) [] h)
 each_run_ends k b h ends inside =
     longer k (points_of b) (statements_moves b + 0) (statements_moves b) (arrive (first_of b) [] h) (omega arith)
-    (statements_last k (points_of b) b 0 (past b) (past b) [] [] 0 (has_all (points_of b) []) (λ x. absurd (not_both (statements_fall b) ends x)) (λ x. absurd (not_both (statements_break b) inside x)) h)
+    (statements_last k (points_of b) b 0 (past b) (past b) [] [] 0 (has_all (points_of b) []) (λ x. absurd (not_both (statements_fall b) ends x))
+    (λ x. absurd (not_both (statements_break b) inside x)) h)

@@ -54,7 +54,8 @@ module _ (k : Kind) (e : Ending) (all : List (List ℕ)) (has_number : IsOneOf a
   in_range None on es f s = subst (λ e. IsFaultOf all e) (sym s.1) (record { one = has_number })
   in_range (Some n) on es f o = f n o
 
-  acts : (deed : Deed) (h : Host) (next : Return → Rest) (es : List Pair) → ((returned : Return) → Good (next returned)) → Acts k deed h next es → IsFaultOf all e
+  acts : (deed : Deed) (h : Host) (next : Return → Rest) (es : List Pair) → ((returned : Return) → Good (next returned)) → Acts k deed h next es
+      → IsFaultOf all e
   acts deed h next es f (event, returned, rest, is, may, same, on) = f returned (host_after k event returned h) rest on
 
   turns_good : (n : ℕ) (body : Rest → Rest) (other : Rest) → ((r : Rest) → Good r → Good (body r)) → Good other → Good (rounds e n body other)
@@ -68,7 +69,8 @@ module _ (k : Kind) (e : Ending) (all : List (List ℕ)) (has_number : IsOneOf a
         statement_good s (walk_statements k e rest fell broke) broke (front (statement_faults s) (statements_faults rest) all w)
         (statements_good rest fell broke (back (statement_faults s) (statements_faults rest) all w) f g) g
 
-    ways_good : (c : Ways) (returned : Return) (fell broke : Rest) → Within (ways_faults c) all → Good fell → Good broke → Good (walk_ways k e c returned fell broke)
+    ways_good : (c : Ways) (returned : Return) (fell broke : Rest) → Within (ways_faults c) all → Good fell → Good broke
+        → Good (walk_ways k e c returned fell broke)
     ways_good (otherwise b) returned fell broke w f g h es x = statements_good b fell broke w f g h es x
     ways_good (way guards b rest) returned fell broke w f g h es x =
         either (all_pass k guards returned) (walk_statements k e b fell broke h es) (walk_ways k e rest returned fell broke h es)
@@ -77,10 +79,13 @@ module _ (k : Kind) (e : Ending) (all : List (List ℕ)) (has_number : IsOneOf a
 
     statement_good : (s : Statement) (fell broke : Rest) → Within (statement_faults s) all → Good fell → Good broke → Good (walk_statement k e s fell broke)
     statement_good (send c ways) fell broke w f g h es x =
-        here _ es (in_range (position_of_command h c.address) (λ position. Acts k (command_deed k c h position) h (λ returned. walk_ways k e ways returned fell broke) es) es
-        (λ position. acts (command_deed k c h position) h (λ returned. walk_ways k e ways returned fell broke) es (λ returned. ways_good ways returned fell broke w f g))) x
+        here _ es (in_range (position_of_command h c.address)
+        (λ position. Acts k (command_deed k c h position) h (λ returned. walk_ways k e ways returned fell broke) es) es
+        (λ position. acts (command_deed k c h position) h (λ returned. walk_ways k e ways returned fell broke) es
+        (λ returned. ways_good ways returned fell broke w f g))) x
     statement_good (phase p a b) fell broke w f g h es x =
-        here _ es (acts (phase_deed p h) h (λ returned h' rest. Either (passes k WentWell returned) (walk_statements k e a fell broke h' rest) (walk_statements k e b fell broke h' rest)) es
+        here _ es (acts (phase_deed p h) h (λ returned h' rest. Either (passes k WentWell returned) (walk_statements k e a fell broke h' rest)
+        (walk_statements k e b fell broke h' rest)) es
         (λ returned h' rest. either (passes k WentWell returned) (walk_statements k e a fell broke h' rest) (walk_statements k e b fell broke h' rest)
         (statements_good a fell broke (front (statements_faults a) (statements_faults b) all w) f g h' rest)
         (statements_good b fell broke (back (statements_faults a) (statements_faults b) all w) f g h' rest))) x
@@ -106,5 +111,6 @@ module _ (k : Kind) (e : Ending) (all : List (List ℕ)) (has_number : IsOneOf a
 pub names_fault : (k : Kind) (names : Declared) (script : Statements) (e : Ending) (es : List Pair) → Walk k names script e es → NamesFault script e
 names_fault k names script e es walk =
     let all = codes "number" ∷ statements_faults script in
-    statements_good k e all (inl refl) script (after_all e Fell) (after_all e Broke) (λ n m. inr m) (none_after k e all (inl refl) Fell tt) (none_after k e all (inl refl) Broke tt)
+    statements_good k e all (inl refl) script (after_all e Fell) (after_all e Broke) (λ n m. inr m) (none_after k e all (inl refl) Fell tt)
+    (none_after k e all (inl refl) Broke tt)
     (host_at_start (length names.numbers)) es walk

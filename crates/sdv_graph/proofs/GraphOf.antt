@@ -20,10 +20,12 @@ abbrev pub flow_of : Kind → ℕ → ℕ → Statements → Flow
 flow_of k n f b = record { kind = k; numbers = n; flags = f; places = points_of b; first = first_of b; steps = statements_moves b }
 
 -- a graph of these parts
-pub flow_is : (k : Kind) (names : Declared) (b : Statements) {ps : List Place} {t : Target} {n f m : ℕ} → ps ≡ points_of b → t ≡ first_of b → n ≡ length names.numbers → f ≡ length names.flags → m ≡ statements_moves b → parts k n f ps t m ≡ flow_of k (length names.numbers) (length names.flags) b
+pub flow_is : (k : Kind) (names : Declared) (b : Statements) {ps : List Place} {t : Target} {n f m : ℕ} → ps ≡ points_of b → t ≡ first_of b
+    → n ≡ length names.numbers → f ≡ length names.flags → m ≡ statements_moves b → parts k n f ps t m ≡ flow_of k (length names.numbers) (length names.flags) b
 flow_is k names b {ps} {t} {n} {f} {m} p q x y z =
     ap (λ ps. parts k n f ps t m) p ∙ ap (λ t. parts k n f (points_of b) t m) q ∙ ap (λ n. parts k n f (points_of b) (first_of b) m) x
-    ∙ ap (λ f. parts k (length names.numbers) f (points_of b) (first_of b) m) y ∙ ap (λ m. parts k (length names.numbers) (length names.flags) (points_of b) (first_of b) m) z
+    ∙ ap (λ f. parts k (length names.numbers) f (points_of b) (first_of b) m) y
+    ∙ ap (λ m. parts k (length names.numbers) (length names.flags) (points_of b) (first_of b) m) z
 
 pub sound : (k : Kind) (n f : ℕ) (b : Statements) → CanRun b → SuitsKind k b → IsSound (flow_of k n f b)
 sound k n f b can suits = record {

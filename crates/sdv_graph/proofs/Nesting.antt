@@ -75,12 +75,14 @@ module _ (g : List Place) where
   start_in (choice c a b) at next brk most has = plain_in (tests c (entry a (at + 1) next) (entry b (at + 1 + statements_count a) next)) at most has.0
   start_in (set f) at next brk most has = plain_in (flags f true next) at most has.0
   start_in (clear f) at next brk most has = plain_in (flags f false next) at most has.0
-  start_in (turns n a b) at next brk most has = enters (heads n (entry a (at + 1) (again at)) (outside (entry b (at + 1 + statements_count a) next))) at n most has.0
+  start_in (turns n a b) at next brk most has = enters (heads n (entry a (at + 1) (again at))
+      (outside (entry b (at + 1 + statements_count a) next))) at n most has.0
   start_in break at next brk most has = plain_in (jumps brk) at most has.0
   start_in done at next brk most has = plain_in (stops Finished) at most has.0
   start_in (fault name) at next brk most has = plain_in (stops (Failed name)) at most has.0
 
-  entry_in : (b : Statements) (at : ℕ) (next brk : Target) (most : List ℕ) → HasAt g at (points_of_statements b at next brk most) → In most next → In most (entry b at next)
+  entry_in : (b : Statements) (at : ℕ) (next brk : Target) (most : List ℕ) → HasAt g at (points_of_statements b at next brk most) → In most next
+      → In most (entry b at next)
   entry_in nothing at next brk most has nx = nx
   entry_in (first s rest) at next brk most has nx =
       let mid = at + statement_count s in
@@ -88,7 +90,8 @@ module _ (g : List Place) where
       start_in s at to brk most (has_front g at (points_of_statement s at to brk most) (points_of_statements rest mid next brk most) has)
 
   -- the cases of a command lead to their blocks
-  forks_land : (c : Ways) (at : ℕ) (next brk : Target) (most : List ℕ) → HasAt g at (points_of_ways c at next brk most) → In most next → EachFork (forks c at next) (Lands g most) × Lands g most Same (other_of c at next)
+  forks_land : (c : Ways) (at : ℕ) (next brk : Target) (most : List ℕ) → HasAt g at (points_of_ways c at next brk most) → In most next
+      → EachFork (forks c at next) (Lands g most) × Lands g most Same (other_of c at next)
   forks_land (otherwise b) at next brk most has nx = (tt, same_lands most (entry b at next) (entry_in b at next brk most has nx))
   forks_land (way guards b rest) at next brk most has nx =
       let mid = at + statements_count b in
@@ -98,7 +101,8 @@ module _ (g : List Place) where
       ((same_lands most (entry b at next) one, more.0), more.1)
 
   mutual
-    statements_fit : (b : Statements) (at : ℕ) (next brk : Target) (most : List ℕ) → HasAt g at (points_of_statements b at next brk most) → In most next → In most brk → AllFit (points_of_statements b at next brk most)
+    statements_fit : (b : Statements) (at : ℕ) (next brk : Target) (most : List ℕ) → HasAt g at (points_of_statements b at next brk most) → In most next
+        → In most brk → AllFit (points_of_statements b at next brk most)
     statements_fit nothing at next brk most has nx br = tt
     statements_fit (first s rest) at next brk most has nx br =
         let mid = at + statement_count s in
@@ -109,7 +113,8 @@ module _ (g : List Place) where
         (statement_fits s at to brk most (has_front g at (points_of_statement s at to brk most) others has) (entry_in rest mid next brk most back nx) br)
         (statements_fit rest mid next brk most back nx br)
 
-    ways_fit : (c : Ways) (at : ℕ) (next brk : Target) (most : List ℕ) → HasAt g at (points_of_ways c at next brk most) → In most next → In most brk → AllFit (points_of_ways c at next brk most)
+    ways_fit : (c : Ways) (at : ℕ) (next brk : Target) (most : List ℕ) → HasAt g at (points_of_ways c at next brk most) → In most next → In most brk
+        → AllFit (points_of_ways c at next brk most)
     ways_fit (otherwise b) at next brk most has nx br = statements_fit b at next brk most has nx br
     ways_fit (way guards b rest) at next brk most has nx br =
         let mid = at + statements_count b in
@@ -118,7 +123,8 @@ module _ (g : List Place) where
         (statements_fit b at next brk most (has_front g at (points_of_statements b at next brk most) others has) nx br)
         (ways_fit rest mid next brk most (has_after g at b next brk most others has) nx br)
 
-    statement_fits : (s : Statement) (at : ℕ) (next brk : Target) (most : List ℕ) → HasAt g at (points_of_statement s at next brk most) → In most next → In most brk → AllFit (points_of_statement s at next brk most)
+    statement_fits : (s : Statement) (at : ℕ) (next brk : Target) (most : List ℕ) → HasAt g at (points_of_statement s at next brk most) → In most next
+        → In most brk → AllFit (points_of_statement s at next brk most)
     statement_fits (send c ways) at next brk most has nx br =
         ((tt, forks_land ways (at + 1) next brk most has.1 nx), ways_fit ways (at + 1) next brk most has.1 nx br)
     statement_fits (phase p a b) at next brk most has nx br =
@@ -127,7 +133,13 @@ module _ (g : List Place) where
         let fb = points_of_statements b mid next brk most in
         let front = has_front g (at + 1) fa fb has.1 in
         let back = has_after g (at + 1) a next brk most fb has.1 in (
-          (tt, (same_lands most (entry a (at + 1) next) (entry_in a (at + 1) next brk most front nx), same_lands most (entry b mid next) (entry_in b mid next brk most back nx))),
+          (
+            tt,
+            (
+              same_lands most (entry a (at + 1) next) (entry_in a (at + 1) next brk most front nx),
+              same_lands most (entry b mid next) (entry_in b mid next brk most back nx),
+            ),
+          ),
           all_fit_append fa fb (statements_fit a (at + 1) next brk most front nx br) (statements_fit b mid next brk most back nx br),
         )
     statement_fits (setting l) at next brk most has nx br = ((tt, same_lands most next nx), tt)
@@ -137,7 +149,13 @@ module _ (g : List Place) where
         let fb = points_of_statements b mid next brk most in
         let front = has_front g (at + 1) fa fb has.1 in
         let back = has_after g (at + 1) a next brk most fb has.1 in (
-          (tt, (same_lands most (entry a (at + 1) next) (entry_in a (at + 1) next brk most front nx), same_lands most (entry b mid next) (entry_in b mid next brk most back nx))),
+          (
+            tt,
+            (
+              same_lands most (entry a (at + 1) next) (entry_in a (at + 1) next brk most front nx),
+              same_lands most (entry b mid next) (entry_in b mid next brk most back nx),
+            ),
+          ),
           all_fit_append fa fb (statements_fit a (at + 1) next brk most front nx br) (statements_fit b mid next brk most back nx br),
         )
     statement_fits (set f) at next brk most has nx br = ((tt, same_lands most next nx), tt)
@@ -152,8 +170,15 @@ module _ (g : List Place) where
         let front = has_front g (at + 1) fa fb has.1 in
         let back = has_after g (at + 1) a (again at) (outside next) inner fb has.1 in
         let head = again_in at n most (heads n ta (outside tb)) has.0 in (
-          (refl, (body_lands n most ta (entry_in a (at + 1) (again at) (outside next) inner front head), else_lands n most tb (entry_in b mid next brk most back nx))),
-          all_fit_append fa fb (statements_fit a (at + 1) (again at) (outside next) inner front head (outside_in (n - 1) most next nx)) (statements_fit b mid next brk most back nx br),
+          (
+            refl,
+            (
+              body_lands n most ta (entry_in a (at + 1) (again at) (outside next) inner front head),
+              else_lands n most tb (entry_in b mid next brk most back nx),
+            ),
+          ),
+          all_fit_append fa fb (statements_fit a (at + 1) (again at) (outside next) inner front head (outside_in (n - 1) most next nx))
+              (statements_fit b mid next brk most back nx br),
         )
     statement_fits break at next brk most has nx br = ((tt, same_lands most brk br), tt)
     statement_fits done at next brk most has nx br = ((tt, tt), tt)

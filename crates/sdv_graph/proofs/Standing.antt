@@ -74,11 +74,13 @@ mutual
   statement_length (fault name) at next brk most = refl
 
 -- a second part, after a first one of so many statements
-pub has_after : (g : List Place) (at : ℕ) (b : Statements) (next brk : Target) (most : List ℕ) (rest : List Place) → HasAt g at (points_of_statements b at next brk most ++ rest) → HasAt g (at + statements_count b) rest
+pub has_after : (g : List Place) (at : ℕ) (b : Statements) (next brk : Target) (most : List ℕ) (rest : List Place)
+    → HasAt g at (points_of_statements b at next brk most ++ rest) → HasAt g (at + statements_count b) rest
 has_after g at b next brk most rest has =
     subst (λ l. HasAt g (at + l) rest) (statements_length b at next brk most) (has_back g at (points_of_statements b at next brk most) rest has)
 
-pub has_after_first : (g : List Place) (at : ℕ) (s : Statement) (next brk : Target) (most : List ℕ) (rest : List Place) → HasAt g at (points_of_statement s at next brk most ++ rest) → HasAt g (at + statement_count s) rest
+pub has_after_first : (g : List Place) (at : ℕ) (s : Statement) (next brk : Target) (most : List ℕ) (rest : List Place)
+    → HasAt g at (points_of_statement s at next brk most ++ rest) → HasAt g (at + statement_count s) rest
 has_after_first g at s next brk most rest has =
     subst (λ l. HasAt g (at + l) rest) (statement_length s at next brk most) (has_back g at (points_of_statement s at next brk most) rest has)
 

@@ -34,7 +34,8 @@ address_sent h unit position = if sends_block h unit then position else 512 * po
 -- without an address goes with 0
 abbrev pub position_of_command : Host → Option Address → Option ℕ
 position_of_command h None = Some 0
-position_of_command h (Some a) = if nat_le (position_of h a.position) max_number then Some (position_of h a.position) else None
+position_of_command h (Some a) = if nat_le (position_of h a.position) max_number then Some
+    (position_of h a.position) else None
 
 -- the address that goes with a command at its position; one without an address goes with 0, which no argument shows
 abbrev pub address_of_command : Host → Option Address → (position : ℕ) → ℕ

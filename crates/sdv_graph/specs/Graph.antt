@@ -53,7 +53,8 @@ begin g = arrive g.first [] (host_at_start g.numbers)
 
 -- the walks of the script are the paths of the graph, with the same events and answers and the same end
 abbrev pub HasWalks : Declared → Statements → Flow → Type 0
-HasWalks names script g = (e : Ending) (es : List Pair) → Walk g.kind names script e es ↔ Path g.kind g.places e (begin g) es
+HasWalks names script g = (e : Ending) (es : List Pair)
+    → Walk g.kind names script e es ↔ Path g.kind g.places e (begin g) es
 
 -- EVERY RUN ENDS
 
@@ -80,4 +81,5 @@ texts names = map (λ n. n.now) names
 
 -- what a script declares
 abbrev pub declared_names : Names → Declared
-declared_names names = record { kind = names.kind; flags = texts names.flags.items; numbers = texts names.numbers.items }
+declared_names names =
+    record { kind = names.kind; flags = texts names.flags.items; numbers = texts names.numbers.items }

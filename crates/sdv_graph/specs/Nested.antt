@@ -4,13 +4,15 @@ use Rattle.sdv_graph.specs.declared.graph.Target.{Target}
 use Rattle.sdv_graph.specs.Path.{Fork, Node, Place, sends, phases, lets, tests, flags, heads, jumps, stops, turns_at}
 use Rattle.sdv_graph.specs.Graph.{Flow}
 
--- turns left that a point can have, the innermost loop first: as many as there are loops round it, and none above the most
+-- turns left that a point can have, the innermost loop first: as many as there are loops round it, and none above the
+-- most
 abbrev pub InBox : (turns most : List ℕ) → Type 0
 InBox [] [] = Unit {0}
 InBox (t ∷ ts) (n ∷ most) = (t ≤ n) × InBox ts most
 InBox ts most = ⊥
 
--- how the turns left change before an edge is taken: not at all, or at a loop's head, where a turn begins or none is left
+-- how the turns left change before an edge is taken: not at all, or at a loop's head, where a turn begins or none is
+-- left
 pub data Pass : Type 0 where
   Same : Pass
   Again : Pass
@@ -46,7 +48,8 @@ HeadFits node most = Unit {0}
 -- a target is reached with turns left that its point can have
 abbrev pub Lands : List Place → (most : List ℕ) → Pass → Target → Type 0
 Lands g most pass t =
-    (p : Place) → slice_get g t.to ≡ Some p → (ts us : List ℕ) → InBox ts most → Turned pass ts us → InBox (turns_at t us) p.most
+    (p : Place) → slice_get g t.to ≡ Some p → (ts us : List ℕ) → InBox ts most → Turned pass ts us
+    → InBox (turns_at t us) p.most
 
 pub record Nested (g : Flow) : Type 0 where
   -- a run begins at point 0, in no loop but its own

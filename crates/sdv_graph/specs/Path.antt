@@ -91,7 +91,8 @@ move_at_head (suc t ∷ ts) body other h = Goes (arrive body (t ∷ ts) h)
 
 abbrev pub node_move : Kind → Node → List ℕ → Host → Move
 node_move k (sends c ways other) ts h =
-    move_with (position_of_command h c.address) (λ position. Does (command_deed k c h position) h (λ returned h'. arrive (way_of k ways other returned) ts h'))
+    move_with (position_of_command h c.address)
+    (λ position. Does (command_deed k c h position) h (λ returned h'. arrive (way_of k ways other returned) ts h'))
 node_move k (phases p well other) ts h =
     Does (phase_deed p h) h (λ returned h'. arrive (if passes k WentWell returned then well else other) ts h')
 node_move k (lets l t) ts h = move_with (value_of_let k h l) (λ n. Goes (arrive t ts (with_number h l.target n)))

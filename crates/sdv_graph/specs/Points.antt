@@ -1,5 +1,5 @@
--- The POINTS of a script: each statement is one, numbered from 0 in the order of the statements' first tokens. The point
--- of a loop is its head, reached on entry and after each turn.
+-- The POINTS of a script: each statement is one, numbered from 0 in the order of the statements' first tokens. The
+-- point of a loop is its head, reached on entry and after each turn.
 use Rattle.std.specs.Prelude.{ℕ, ◌+◌, ◌-◌, List, [], ◌∷◌, ◌++◌, true, false, Option, Some, None}
 use Rattle.sdv_graph.specs.declared.graph.Target.{Target}
 use Rattle.sdv_graph.specs.Tree.{Statements, nothing, first, Ways, otherwise, way, Statement, send, phase, setting, choice, set, clear, turns, break, done, fault}
@@ -34,7 +34,8 @@ again at = record { to = at; leave = 0; enter = None }
 -- each case leads to its own block
 abbrev pub forks : Ways → ℕ → Target → List Fork
 forks (otherwise b) at next = []
-forks (way guards b rest) at next = record { guards = guards; target = entry b at next } ∷ forks rest (at + statements_count b) next
+forks (way guards b rest) at next = record { guards = guards; target = entry b at next } ∷ forks rest
+    (at + statements_count b) next
 
 -- and `else` to the last one
 abbrev pub other_of : Ways → ℕ → Target → Target
@@ -61,14 +62,17 @@ abbrev mutual
 
   pub points_of_statement : Statement → ℕ → (next brk : Target) → List ℕ → List Place
   points_of_statement (send c ways) at next brk most =
-      place (sends c (forks ways (at + 1) next) (other_of ways (at + 1) next)) most ∷ points_of_ways ways (at + 1) next brk most
+      place (sends c (forks ways (at + 1) next) (other_of ways (at + 1) next)) most ∷ points_of_ways ways
+      (at + 1) next brk most
   points_of_statement (phase p a b) at next brk most =
       place (phases p (entry a (at + 1) next) (entry b (at + 1 + statements_count a) next)) most
-      ∷ (points_of_statements a (at + 1) next brk most ++ points_of_statements b (at + 1 + statements_count a) next brk most)
+      ∷ (points_of_statements a (at + 1) next brk most ++ points_of_statements b
+      (at + 1 + statements_count a) next brk most)
   points_of_statement (setting l) at next brk most = place (lets l next) most ∷ []
   points_of_statement (choice c a b) at next brk most =
       place (tests c (entry a (at + 1) next) (entry b (at + 1 + statements_count a) next)) most
-      ∷ (points_of_statements a (at + 1) next brk most ++ points_of_statements b (at + 1 + statements_count a) next brk most)
+      ∷ (points_of_statements a (at + 1) next brk most ++ points_of_statements b
+      (at + 1 + statements_count a) next brk most)
   points_of_statement (set f) at next brk most = place (flags f true next) most ∷ []
   points_of_statement (clear f) at next brk most = place (flags f false next) most ∷ []
   -- a body's end leads back to the head; the else block stands outside the loop

@@ -1,5 +1,5 @@
--- What the rules of scripts say of the events and registers of a graph's points, by the kind of the card: each guard says
--- something of the answers to its command, and a script for an SD card names no EXT_CSD.
+-- What the rules of scripts say of the events and registers of a graph's points, by the kind of the card: each guard
+-- says something of the answers to its command, and a script for an SD card names no EXT_CSD.
 use Rattle.std.specs.Prelude.{List, [], ◌∷◌, Bool, true, false, ◌&&◌, Option}
 use Rattle.sdv_registers.specs.declared.kind.Kind.{Kind}
 use Rattle.sdv_registers.specs.declared.kind.Kind.TheVariants.{Sd}

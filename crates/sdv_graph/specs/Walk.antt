@@ -112,17 +112,22 @@ abbrev mutual
   pub walk_ways : Kind → Ending → Ways → Return → (fell broke : Rest) → Rest
   walk_ways k e (otherwise b) returned fell broke = walk_statements k e b fell broke
   walk_ways k e (way guards b rest) returned fell broke = λ h es.
-      Either (all_pass k guards returned) (walk_statements k e b fell broke h es) (walk_ways k e rest returned fell broke h es)
+      Either (all_pass k guards returned) (walk_statements k e b fell broke h es)
+      (walk_ways k e rest returned fell broke h es)
 
   pub walk_statement : Kind → Ending → Statement → (fell broke : Rest) → Rest
   walk_statement k e (send c ways) fell broke = λ h es.
-      Here e (InRange e (position_of_command h c.address) (λ position. Acts k (command_deed k c h position) h (λ returned. walk_ways k e ways returned fell broke) es) es) es
+      Here e (InRange e (position_of_command h c.address)
+      (λ position. Acts k (command_deed k c h position) h
+      (λ returned. walk_ways k e ways returned fell broke) es) es) es
   walk_statement k e (phase p a b) fell broke = λ h es.
-      Here e (Acts k (phase_deed p h) h (λ returned h' rest. Either (passes k WentWell returned) (walk_statements k e a fell broke h' rest) (walk_statements k e b fell broke h' rest)) es) es
+      Here e (Acts k (phase_deed p h) h (λ returned h' rest. Either (passes k WentWell returned)
+      (walk_statements k e a fell broke h' rest) (walk_statements k e b fell broke h' rest)) es) es
   walk_statement k e (setting l) fell broke = λ h es.
       Here e (InRange e (value_of_let k h l) (λ n. fell (with_number h l.target n) es) es) es
   walk_statement k e (choice c a b) fell broke = λ h es.
-      Here e (Either (condition_holds h c) (walk_statements k e a fell broke h es) (walk_statements k e b fell broke h es)) es
+      Here e (Either (condition_holds h c) (walk_statements k e a fell broke h es)
+      (walk_statements k e b fell broke h es)) es
   walk_statement k e (set f) fell broke = λ h es. Here e (fell (with_flag h f true) es) es
   walk_statement k e (clear f) fell broke = λ h es. Here e (fell (with_flag h f false) es) es
   walk_statement k e (turns n a b) fell broke =

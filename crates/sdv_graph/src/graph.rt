@@ -77,9 +77,23 @@ impl<'a> Model for Graph<'a> {
 
     ghost Value = { Flow };
 
-    ghost view = { λ g. record { kind = g.kind; numbers = g.numbers; flags = g.flags; places = places_of g.points.items; first = g.first; steps = g.steps } };
+    ghost view = { λ g. record {
+      kind = g.kind;
+      numbers = g.numbers;
+      flags = g.flags;
+      places = places_of g.points.items;
+      first = g.first;
+      steps = g.steps;
+    } };
 
-    ghost invariant = { λ g. IsSound (record { kind = g.kind; numbers = g.numbers; flags = g.flags; places = places_of g.points.items; first = g.first; steps = g.steps }) };
+    ghost invariant = { λ g. IsSound (record {
+      kind = g.kind;
+      numbers = g.numbers;
+      flags = g.flags;
+      places = places_of g.points.items;
+      first = g.first;
+      steps = g.steps;
+    }) };
 }
 
 impl<'a> Graph<'a> {
@@ -96,8 +110,22 @@ impl<'a> Graph<'a> {
         first: Target,
         steps: u128,
     ) -> Self
-        requires { IsSound (record { kind = kind; numbers = numbers; flags = flags; places = places_of points.items; first = first; steps = steps }) }
-        ensures { result ≡ record { kind = kind; numbers = numbers; flags = flags; places = places_of points.entry.items; first = first; steps = steps } }
+        requires { IsSound (record {
+          kind = kind;
+          numbers = numbers;
+          flags = flags;
+          places = places_of points.items;
+          first = first;
+          steps = steps;
+        }) }
+        ensures { result ≡ record {
+          kind = kind;
+          numbers = numbers;
+          flags = flags;
+          places = places_of points.entry.items;
+          first = first;
+          steps = steps;
+        } }
     {
         Graph {
             kind,

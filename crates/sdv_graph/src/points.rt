@@ -115,7 +115,8 @@ fn put_ways(
     next: Target,
 ) -> Result<(), AllocError>
     requires { at + ways_count (ways_of cases.now) < 2 ^ 64 }
-    ensures { OnOk result (map fork_of ways.new.items ≡ map fork_of ways.old.items ++ forks (ways_of cases.now) at next) }
+    ensures { OnOk result (map fork_of ways.new.items
+        ≡ map fork_of ways.old.items ++ forks (ways_of cases.now) at next) }
 {
     match cases {
         Cases::Else(_) => Ok(()),
@@ -156,7 +157,8 @@ fn put<'a>(
     action: Action<'a>,
     most_turns: Vec<u16>,
 ) -> Result<(), AllocError>
-    ensures { OnOk result (places_of points.new.items ≡ places_of points.old.items ++ record { node = node_of action.entry; most = most_turns.items } ∷ []) }
+    ensures { OnOk result (places_of points.new.items
+        ≡ places_of points.old.items ++ record { node = node_of action.entry; most = most_turns.items } ∷ []) }
 {
     points.push(Point { action, most_turns })?;
     Ok(())
@@ -175,7 +177,8 @@ fn put_block<'a>(
     most: &[u16],
 ) -> Result<(), AllocError>
     requires { at + statements_count (statements_of block.now) + next.leave < 2 ^ 64 }
-    ensures { OnOk result (places_of points.new.items ≡ places_of points.old.items ++ points_of_statements (statements_of block.now) at next brk most.now) }
+    ensures { OnOk result (places_of points.new.items
+        ≡ places_of points.old.items ++ points_of_statements (statements_of block.now) at next brk most.now) }
 {
     match block {
         Block::Empty => Ok(()),
@@ -199,7 +202,8 @@ fn put_cases<'a>(
     most: &[u16],
 ) -> Result<(), AllocError>
     requires { at + ways_count (ways_of cases.now) + next.leave < 2 ^ 64 }
-    ensures { OnOk result (places_of points.new.items ≡ places_of points.old.items ++ points_of_ways (ways_of cases.now) at next brk most.now) }
+    ensures { OnOk result (places_of points.new.items
+        ≡ places_of points.old.items ++ points_of_ways (ways_of cases.now) at next brk most.now) }
 {
     match cases {
         Cases::Else(block) => put_block(alloc, points, at, block, next, brk, most),
@@ -221,7 +225,8 @@ fn put_stmt<'a>(
     most: &[u16],
 ) -> Result<(), AllocError>
     requires { at + statement_count (statement_of stmt.now) + next.leave < 2 ^ 64 }
-    ensures { OnOk result (places_of points.new.items ≡ places_of points.old.items ++ points_of_statement (statement_of stmt.now) at next brk most.now) }
+    ensures { OnOk result (places_of points.new.items
+        ≡ places_of points.old.items ++ points_of_statement (statement_of stmt.now) at next brk most.now) }
 {
     let here = Vec::from_slice(alloc, most)?;
     match stmt {

@@ -35,7 +35,8 @@ meaning-no_fault : (words : List Text) → fault_of command_line words ≡ [] �
 meaning-no_fault words none = rw none refl
 
 -- a parse by the command line succeeds only where clap finds no fault
-pub no_fault-parsed : (app : App) (words : List Text) → app ≡ command_line → (is_simple_and_free app ≡ true → fault_of app words ≡ []) → fault_of command_line words ≡ []
+pub no_fault-parsed : (app : App) (words : List Text) → app ≡ command_line → (is_simple_and_free app ≡ true → fault_of app words ≡ [])
+    → fault_of command_line words ≡ []
 no_fault-parsed app words is faults = rw is at faults command_line_is_free
 
 -- a parse by the command line that does not fail for memory fails only where clap finds a fault
@@ -114,7 +115,16 @@ check_no_defaults : HasNoDefaults check_shape.rules
 check_no_defaults = (refl, (refl, (refl, tt)))
 
 run_one_word : AllByRecursion TakesOneWord run_shape.rules
-run_one_word = (inl (refl, refl), (inl (refl, refl), (inl (refl, refl), (inl (refl, refl), (inl (refl, refl), (inl (refl, refl), (inl (refl, refl), (inr refl, tt))))))))
+run_one_word = (
+  inl (refl, refl),
+  (
+    inl (refl, refl),
+    (
+      inl (refl, refl),
+      (inl (refl, refl), (inl (refl, refl), (inl (refl, refl), (inl (refl, refl), (inr refl, tt))))),
+    ),
+  ),
+)
 
 run_no_defaults : HasNoDefaults run_shape.rules
 run_no_defaults = (refl, (refl, (refl, (refl, (refl, (refl, (refl, (refl, tt))))))))
@@ -198,56 +208,67 @@ one_to_print : (script : Option Text) → is_some script ≡ true → is_some (o
 one_to_print (Some script) s = refl
 one_to_print None s = cc
 
-frame_given : (words : List Text) → level_fault frame_shape [] nothing_held words false [] ≡ [] → is_some (frame_request (rows_after frame_shape.rules [] words)) ≡ true
+frame_given : (words : List Text) → level_fault frame_shape [] nothing_held words false [] ≡ []
+    → is_some (frame_request (rows_after frame_shape.rules [] words)) ≡ true
 frame_given words none =
     let rows = rows_after frame_shape.rules [] words in
     let given = leaf_given frame_shape words frame_one_word frame_no_defaults none in
     let both = both_given (is_given (codes "INDEX") rows) (is_given (codes "ARG") rows) given.1 in
-    both_texts (first_of (codes "INDEX") rows) (first_of (codes "ARG") rows) (given_text (codes "INDEX") rows given.0 both.0) (given_text (codes "ARG") rows given.0 both.1)
+    both_texts (first_of (codes "INDEX") rows) (first_of (codes "ARG") rows) (given_text (codes "INDEX") rows given.0 both.0)
+    (given_text (codes "ARG") rows given.0 both.1)
 
-certify_given : (words : List Text) → level_fault certify_shape [] nothing_held words false [] ≡ [] → is_some (certify_request (rows_after certify_shape.rules [] words)) ≡ true
+certify_given : (words : List Text) → level_fault certify_shape [] nothing_held words false [] ≡ []
+    → is_some (certify_request (rows_after certify_shape.rules [] words)) ≡ true
 certify_given words none =
     let rows = rows_after certify_shape.rules [] words in
     let given = leaf_given certify_shape words certify_one_word certify_no_defaults none in
     one_file (first_of (codes "SCRIPT") rows) (given_text (codes "SCRIPT") rows given.0 (one_given (is_given (codes "SCRIPT") rows) given.1))
 
-check_given : (words : List Text) → level_fault check_shape [] nothing_held words false [] ≡ [] → is_some (check_request (rows_after check_shape.rules [] words)) ≡ true
+check_given : (words : List Text) → level_fault check_shape [] nothing_held words false [] ≡ []
+    → is_some (check_request (rows_after check_shape.rules [] words)) ≡ true
 check_given words none =
     let rows = rows_after check_shape.rules [] words in
     let given = leaf_given check_shape words check_one_word check_no_defaults none in
     let both = both_given (is_given (codes "SCRIPT") rows) (is_given (codes "CERT") rows) given.1 in
-    both_files (first_of (codes "SCRIPT") rows) (first_of (codes "CERT") rows) (given_text (codes "SCRIPT") rows given.0 both.0) (given_text (codes "CERT") rows given.0 both.1)
+    both_files (first_of (codes "SCRIPT") rows) (first_of (codes "CERT") rows) (given_text (codes "SCRIPT") rows given.0 both.0)
+    (given_text (codes "CERT") rows given.0 both.1)
 
 run_given : (words : List Text) → level_fault run_shape [] nothing_held words false [] ≡ [] → is_some (run_request (rows_after run_shape.rules [] words)) ≡ true
 run_given words none =
     let rows = rows_after run_shape.rules [] words in
     let given = leaf_given run_shape words run_one_word run_no_defaults none in
-    let four = four_given (is_given (codes "SCRIPT") rows) (is_given (codes "CERT") rows) (is_given (codes "CARD") rows) (is_given (codes "IMAGE") rows) given.1 in
+    let four = four_given (is_given (codes "SCRIPT") rows) (is_given (codes "CERT") rows) (is_given (codes "CARD") rows)
+    (is_given (codes "IMAGE") rows) given.1 in
     four_files (first_of (codes "SCRIPT") rows) (first_of (codes "CERT") rows) (first_of (codes "CARD") rows) (first_of (codes "IMAGE") rows)
     (first_of (codes "SCHEDULE") rows) (first_of (codes "in") rows) (first_of (codes "out") rows)
     (given_text (codes "SCRIPT") rows given.0 four.0) (given_text (codes "CERT") rows given.0 four.1) (given_text (codes "CARD") rows given.0 four.2)
     (given_text (codes "IMAGE") rows given.0 four.3)
 
-batch_given : (words : List Text) → level_fault batch_shape [] nothing_held words false [] ≡ [] → is_some (batch_request (rows_after batch_shape.rules [] words)) ≡ true
+batch_given : (words : List Text) → level_fault batch_shape [] nothing_held words false [] ≡ []
+    → is_some (batch_request (rows_after batch_shape.rules [] words)) ≡ true
 batch_given words none =
     let rows = rows_after batch_shape.rules [] words in
     let given = leaf_given batch_shape words batch_one_word batch_no_defaults none in
     let both = both_given (is_given (codes "KIND") rows) (is_given (codes "REQUESTS") rows) given.1 in
-    both_words (first_of (codes "KIND") rows) (first_of (codes "REQUESTS") rows) (given_text (codes "KIND") rows given.0 both.0) (given_text (codes "REQUESTS") rows given.0 both.1)
+    both_words (first_of (codes "KIND") rows) (first_of (codes "REQUESTS") rows) (given_text (codes "KIND") rows given.0 both.0)
+    (given_text (codes "REQUESTS") rows given.0 both.1)
 
-explain_given : (words : List Text) → level_fault explain_shape [] nothing_held words false [] ≡ [] → is_some (explain_request (rows_after explain_shape.rules [] words)) ≡ true
+explain_given : (words : List Text) → level_fault explain_shape [] nothing_held words false [] ≡ []
+    → is_some (explain_request (rows_after explain_shape.rules [] words)) ≡ true
 explain_given words none =
     let rows = rows_after explain_shape.rules [] words in
     let given = leaf_given explain_shape words explain_one_word explain_no_defaults none in
     one_to_explain (first_of (codes "SCRIPT") rows) (given_text (codes "SCRIPT") rows given.0 (one_given (is_given (codes "SCRIPT") rows) given.1))
 
-graph_given : (words : List Text) → level_fault graph_shape [] nothing_held words false [] ≡ [] → is_some (graph_request (rows_after graph_shape.rules [] words)) ≡ true
+graph_given : (words : List Text) → level_fault graph_shape [] nothing_held words false [] ≡ []
+    → is_some (graph_request (rows_after graph_shape.rules [] words)) ≡ true
 graph_given words none =
     let rows = rows_after graph_shape.rules [] words in
     let given = leaf_given graph_shape words graph_one_word graph_no_defaults none in
     one_to_draw (first_of (codes "SCRIPT") rows) (given_text (codes "SCRIPT") rows given.0 (one_given (is_given (codes "SCRIPT") rows) given.1))
 
-print_given : (words : List Text) → level_fault print_shape [] nothing_held words false [] ≡ [] → is_some (print_request (rows_after print_shape.rules [] words)) ≡ true
+print_given : (words : List Text) → level_fault print_shape [] nothing_held words false [] ≡ []
+    → is_some (print_request (rows_after print_shape.rules [] words)) ≡ true
 print_given words none =
     let rows = rows_after print_shape.rules [] words in
     let given = leaf_given print_shape words print_one_word print_no_defaults none in
@@ -257,8 +278,10 @@ entered_given : (stop : Option (Text × List Text)) → is_some (entered (built 
     → is_some (option_and_then request_in (entered (built command_line) stop)) ≡ true
 entered_given None has none = cc
 entered_given (Some p) has none =
-    go (answers_to p.0 (label_of frame_shape)) (answers_to p.0 (label_of certify_shape)) (answers_to p.0 (label_of check_shape)) (answers_to p.0 (label_of run_shape))
-    (answers_to p.0 (label_of batch_shape)) (answers_to p.0 (label_of explain_shape)) (answers_to p.0 (label_of graph_shape)) (answers_to p.0 (label_of print_shape)) has none
+    go (answers_to p.0 (label_of frame_shape)) (answers_to p.0 (label_of certify_shape)) (answers_to p.0 (label_of check_shape))
+    (answers_to p.0 (label_of run_shape))
+    (answers_to p.0 (label_of batch_shape)) (answers_to p.0 (label_of explain_shape)) (answers_to p.0 (label_of graph_shape))
+    (answers_to p.0 (label_of print_shape)) has none
   where
     found : (is_frame is_certify is_check is_run is_batch is_explain is_graph is_print : Bool) → Option Shape
     found is_frame is_certify is_check is_run is_batch is_explain is_graph is_print =
@@ -267,8 +290,10 @@ entered_given (Some p) has none =
 
     go : (is_frame is_certify is_check is_run is_batch is_explain is_graph is_print : Bool)
         → is_some (option_map (λ s. rows_at s p.1) (found is_frame is_certify is_check is_run is_batch is_explain is_graph is_print)) ≡ true
-        → option_map_or (λ s. level_fault s [] nothing_held p.1 false []) (found is_frame is_certify is_check is_run is_batch is_explain is_graph is_print) [] ≡ []
-        → is_some (option_and_then request_in (option_map (λ s. rows_at s p.1) (found is_frame is_certify is_check is_run is_batch is_explain is_graph is_print))) ≡ true
+        → option_map_or (λ s. level_fault s [] nothing_held p.1 false []) (found is_frame is_certify is_check is_run is_batch is_explain is_graph is_print) []
+        ≡ []
+        → is_some (option_and_then request_in (option_map (λ s. rows_at s p.1)
+        (found is_frame is_certify is_check is_run is_batch is_explain is_graph is_print))) ≡ true
     go true is_certify is_check is_run is_batch is_explain is_graph is_print has none = frame_given p.1 none
     go false true is_check is_run is_batch is_explain is_graph is_print has none = certify_given p.1 none
     go false false true is_run is_batch is_explain is_graph is_print has none = check_given p.1 none

@@ -75,7 +75,8 @@ no_value : (least most : ℕ) → least ≡ 1 → range_kinds least most 0 ≡ [
 no_value least most is none = let bad = rw is at none in cc
 
 module _ (c : List Rule) (again : Bool) (each : AllByRecursion TakesOneWord c) where
-  used_texts : (a : Rule) (values : List Text) (rows : List Row) → TakesOneWord a → use_fault again a values rows ≡ [] → HaveTexts rows → HaveTexts (used a values rows)
+  used_texts : (a : Rule) (values : List Text) (rows : List Row) → TakesOneWord a → use_fault again a values rows ≡ [] → HaveTexts rows
+      → HaveTexts (used a values rows)
   used_texts a [] rows (inl one) none have = absurd (no_value _ _ one.1 (none_of_both _ _ none).0)
   used_texts a (v ∷ vs) rows (inl one) none have = rw one.0 (given_texts a.id _ CommandLine v vs rows have)
   used_texts a values rows (inr request) none have =
@@ -95,13 +96,15 @@ module _ (c : List Rule) (again : Bool) (each : AllByRecursion TakesOneWord c) w
       go None none = have
       go (Some p) none = by_rule (arg_by_id c p.0) p.1 (found_rule _ c each) none
 
-  reacted_texts : (a : Rule) (values : List Text) (h : Held) → TakesOneWord a → react_fault c again a values h ≡ [] → HaveTexts h.rows → HaveTexts (reacted c a values h).rows
+  reacted_texts : (a : Rule) (values : List Text) (h : Held) → TakesOneWord a → react_fault c again a values h ≡ [] → HaveTexts h.rows
+      → HaveTexts (reacted c a values h).rows
   reacted_texts a values h one none have =
       let steps = none_of_both _ _ none in used_texts a values (settled c h).rows one steps.1 (settled_texts h steps.0 have)
 
   -- ---- one word
 
-  option_texts : (a : Rule) (v : Option Text) (h : Held) → TakesOneWord a → option_fault c again a v h ≡ [] → HaveTexts h.rows → HaveTexts (option_met c a v h).0.rows
+  option_texts : (a : Rule) (v : Option Text) (h : Held) → TakesOneWord a → option_fault c again a v h ≡ [] → HaveTexts h.rows
+      → HaveTexts (option_met c a v h).0.rows
   option_texts a (Some v) h one none have = reacted_texts a (v ∷ []) h one none have
   option_texts a None h one none have = settled_texts h none have
 
@@ -127,7 +130,8 @@ module _ (c : List Rule) (again : Bool) (each : AllByRecursion TakesOneWord c) w
       go true none = option_texts a (attached_value rest) h one none have
       go false none = let steps = none_of_both _ _ none in step (reacted c a [] h) steps.1 (reacted_texts a [] h one steps.0 have)
 
-  flag_texts : (x : Option ℕ) (flags : Text) (skip : ℕ) (so_far : Outcome) (h : Held) (after : Text → ℕ → Outcome → Held → Held × Outcome) (fault : Text → ℕ → Held → Kinds)
+  flag_texts : (x : Option ℕ) (flags : Text) (skip : ℕ) (so_far : Outcome) (h : Held) (after : Text → ℕ → Outcome → Held → Held × Outcome)
+      (fault : Text → ℕ → Held → Kinds)
       → ((flags : Text) (skip : ℕ) (so_far : Outcome) (h : Held) → fault flags skip h ≡ [] → HaveTexts h.rows → HaveTexts (after flags skip so_far h).0.rows)
       → bundle_step_fault c again x flags skip h fault ≡ [] → HaveTexts h.rows → HaveTexts (bundle_step c x flags skip so_far h after).0.rows
   flag_texts None flags skip so_far h after fault step none have = have
@@ -158,7 +162,8 @@ module _ (c : List Rule) (again : Bool) (each : AllByRecursion TakesOneWord c) w
   after_texts waiting word h plain have = plain_texts waiting word h have
   after_texts waiting word h refused have = plain_texts waiting word h have
 
-  flags_texts : (waiting : Waiting) (word : Text) (flags : Option Text) (h : Held) → option_map_or (λ flags. bundle_fault c again flags h) flags [] ≡ [] → HaveTexts h.rows
+  flags_texts : (waiting : Waiting) (word : Text) (flags : Option Text) (h : Held) → option_map_or (λ flags. bundle_fault c again flags h) flags [] ≡ []
+      → HaveTexts h.rows
       → HaveTexts (short_or_plain c waiting word flags h).0.rows
   flags_texts waiting word None h none have = plain_texts waiting word h have
   flags_texts waiting word (Some flags) h none have =
@@ -182,7 +187,8 @@ module _ (c : List Rule) (again : Bool) (each : AllByRecursion TakesOneWord c) w
       go false none = settled_texts h none have
 
 module _ (s : Shape) (names : Names) (each : AllByRecursion TakesOneWord s.rules) where
-  word_texts : (is_trailing : Bool) (waiting : Waiting) (position : ℕ) (word : Text) (h : Held) → word_fault s names is_trailing waiting word h ≡ [] → HaveTexts h.rows
+  word_texts : (is_trailing : Bool) (waiting : Waiting) (position : ℕ) (word : Text) (h : Held) → word_fault s names is_trailing waiting word h ≡ []
+      → HaveTexts h.rows
       → HaveTexts (word_met s.rules names is_trailing waiting position word h).0.rows
   word_texts true waiting position word h none have = have
   word_texts false waiting position word h none have = go (subcommand_met names waiting word) none
@@ -196,7 +202,8 @@ module _ (s : Shape) (names : Names) (each : AllByRecursion TakesOneWord s.rules
       go None none = dashes (bytes_eq word (45 ∷ 45 ∷ [])) none
       go (Some name) none = have
 
-  step_texts : (word : Text) (w : Walk) (h : Held) (step : Step) → step_fault s w.position h step ≡ [] → HaveTexts h.rows → HaveTexts (after_step s.rules word w h step).held.rows
+  step_texts : (word : Text) (w : Walk) (h : Held) (step : Step) → step_fault s w.position h step ≡ [] → HaveTexts h.rows
+      → HaveTexts (after_step s.rules word w h step).held.rows
   step_texts word w h (next waiting) none have = have
   step_texts word w h (trailing position) none have = have
   step_texts word w h (subcommand name) none have = have
@@ -215,14 +222,16 @@ module _ (s : Shape) (names : Names) (each : AllByRecursion TakesOneWord s.rules
       met = word_met s.rules names w.is_trailing w.waiting w.position word w.held
 
       go : (stop : Option (Text × List Text)) → cond (is_some stop) [] (or_else (word_fault s names w.is_trailing w.waiting word w.held)
-          (step_fault s w.position (word_met s.rules names w.is_trailing w.waiting w.position word w.held).0 (word_met s.rules names w.is_trailing w.waiting w.position word w.held).1)) ≡ []
+          (step_fault s w.position (word_met s.rules names w.is_trailing w.waiting w.position word w.held).0
+          (word_met s.rules names w.is_trailing w.waiting w.position word w.held).1)) ≡ []
           → HaveTexts (walked_from s.rules names stop w word).held.rows
       go (Some p) none = have
       go None none =
           let steps = none_of_both _ _ none in
           step_texts word w _ _ steps.1 (word_texts w.is_trailing w.waiting w.position word w.held steps.0 have)
 
-  pub walk_texts : (words : List Text) (w : Walk) → walk_fault s names w words ≡ [] → HaveTexts w.held.rows → HaveTexts (fold (walked s.rules names) w words).held.rows
+  pub walk_texts : (words : List Text) (w : Walk) → walk_fault s names w words ≡ [] → HaveTexts w.held.rows
+      → HaveTexts (fold (walked s.rules names) w words).held.rows
   unfolding walk_fault
   walk_texts [] w none have = have
   walk_texts (word ∷ words) w none have =
@@ -282,7 +291,8 @@ all_wanted false false true true none = cc
 all_wanted false false false true none = cc
 
 -- the rows of a command without subcommands have texts, and what is required is among them
-pub leaf_given : (s : Shape) (words : List Text) → AllByRecursion TakesOneWord s.rules → HasNoDefaults s.rules → level_fault s [] nothing_held words false [] ≡ []
+pub leaf_given : (s : Shape) (words : List Text) → AllByRecursion TakesOneWord s.rules → HasNoDefaults s.rules
+    → level_fault s [] nothing_held words false [] ≡ []
     → HaveTexts (rows_after s.rules [] words) × (list_any (λ a. a.required && not (is_given a.id (rows_after s.rules [] words))) s.rules ≡ false)
 leaf_given s words each defaults none =
     let end = (walk s.rules [] nothing_held words).held in
@@ -291,8 +301,10 @@ leaf_given s words each defaults none =
     let walked_over : HaveTexts end.rows = walk_texts s [] each words (walk_from nothing_held) steps.over_words tt in
     let all : HaveTexts (settled s.rules end).rows = settled_texts s.rules s.args_override_self each end steps.settle walked_over in
     let missing = list_any (λ a. a.required && not (is_given a.id rows)) s.rules in
-    let wants_help = s.arg_required_else_help && not (list_any (λ r. explicit_source r.source) rows) in
-    (rw (undefaulted s.rules (settled s.rules end).rows defaults) all, all_wanted wants_help s.subcommand_required s.subcommand_negates_reqs missing steps.check)
+    let wants_help = s.arg_required_else_help && not (list_any (λ r. explicit_source r.source) rows) in (
+      rw (undefaulted s.rules (settled s.rules end).rows defaults) all,
+      all_wanted wants_help s.subcommand_required s.subcommand_negates_reqs missing steps.check,
+    )
 
 entered_one : (help has required missing : Bool) → required ≡ true → check_kinds help (not has && required) missing ≡ [] → has ≡ true
 entered_one help true required missing is none = refl

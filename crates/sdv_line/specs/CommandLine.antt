@@ -50,13 +50,15 @@ option id long = record (new_rule id) { long = Some long }
 -- `run SCRIPT CERT CARD IMAGE`
 abbrev pub run_files_command : App
 run_files_command =
-    with_rule (with_rule (with_rule (with_rule (new_app (codes "run")) (required (codes "SCRIPT"))) (required (codes "CERT"))) (required (codes "CARD")))
+    with_rule (with_rule (with_rule (with_rule (new_app (codes "run")) (required (codes "SCRIPT")))
+    (required (codes "CERT"))) (required (codes "CARD")))
     (required (codes "IMAGE"))
 
 -- and behind them `[SCHEDULE] [--in FILE] [--out FILE]`
 abbrev pub run_command : App
 run_command =
-    with_rule (with_rule (with_rule run_files_command (new_rule (codes "SCHEDULE"))) (option (codes "in") (codes "in"))) (option (codes "out") (codes "out"))
+    with_rule (with_rule (with_rule run_files_command (new_rule (codes "SCHEDULE"))) (option (codes "in") (codes "in")))
+    (option (codes "out") (codes "out"))
 
 -- the program's own settings: its words leave out its name, and name one of its commands; help is
 -- asked for by `-h` and `--help` alone
@@ -70,9 +72,11 @@ program_shape = record (new_app (codes "sdv")).top {
 -- `sdv`, and its commands
 abbrev pub command_line : App
 command_line =
-    with_subcommand (with_subcommand (with_subcommand (with_subcommand (with_subcommand (with_subcommand (with_subcommand (with_subcommand
+    with_subcommand (with_subcommand (with_subcommand
+    (with_subcommand (with_subcommand (with_subcommand (with_subcommand (with_subcommand
     (record { top = program_shape; subs = [] })
-    frame_command.top) certify_command.top) check_command.top) run_command.top) batch_command.top) explain_command.top) graph_command.top) print_command.top
+    frame_command.top) certify_command.top) check_command.top) run_command.top) batch_command.top) explain_command.top)
+    graph_command.top) print_command.top
 
 -- the files of a run, by their names
 pub record RunNames : Type 0 where
@@ -159,13 +163,22 @@ batch_request matched = batch_of (first_of (codes "KIND") matched) (first_of (co
 
 abbrev pub run_of : (script certificate card image schedule input output : Option Text) → Option Request
 run_of (Some script) (Some certificate) (Some card) (Some image) schedule input output =
-    Some (run (record { script = script; certificate = certificate; card = card; image = image; schedule = schedule; input = input; output = output }))
+    Some (run (record {
+      script = script;
+      certificate = certificate;
+      card = card;
+      image = image;
+      schedule = schedule;
+      input = input;
+      output = output;
+    }))
 run_of _ _ _ _ _ _ _ = None
 
 -- the request in what clap matched for the words of `run`
 abbrev pub run_request : List Row → Option Request
 run_request matched =
-    run_of (first_of (codes "SCRIPT") matched) (first_of (codes "CERT") matched) (first_of (codes "CARD") matched) (first_of (codes "IMAGE") matched)
+    run_of (first_of (codes "SCRIPT") matched) (first_of (codes "CERT") matched) (first_of (codes "CARD") matched)
+    (first_of (codes "IMAGE") matched)
     (first_of (codes "SCHEDULE") matched) (first_of (codes "in") matched) (first_of (codes "out") matched)
 
 -- the request in a command's name and what clap matched for its words

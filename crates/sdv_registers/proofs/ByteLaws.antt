@@ -41,7 +41,11 @@ pub bits_of-big : (i n : ℕ) (xs : List ℕ) → AreBytes xs → i + n ≤ leng
 unfolding bits bits_of
 bits_of-big i zero xs bytes h = refl
 bits_of-big i (suc n) xs bytes h =
-    rw (drop-cons xs i 0 (omega arith), bits_of-big (suc i) n xs bytes (omega arith), byte_before n (slice_index xs i) (big_from (suc i) n xs) (big_from-lt (suc i) n xs bytes)) refl
+    rw (
+      drop-cons xs i 0 (omega arith),
+      bits_of-big (suc i) n xs bytes (omega arith),
+      byte_before n (slice_index xs i) (big_from (suc i) n xs) (big_from-lt (suc i) n xs bytes),
+    ) refl
 
 pub bits_of-little : (i n : ℕ) (xs : List ℕ) → AreBytes xs → i + n ≤ length xs → bits_of (reverse (take n (drop i xs))) ≡ bits (8 * n) (little_from i n xs)
 unfolding bits bits_of

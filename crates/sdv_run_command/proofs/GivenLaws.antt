@@ -82,7 +82,8 @@ module _ (files : Files) where
       earlier = four (some_file names.schedule ++ some_file names.input);
       later = [];
       place = output_place names.schedule names.input names.output file is;
-      given = four_gave (string_bytes given.script) (string_bytes given.certificate) (string_bytes given.card) image are.script are.certificate are.card are.of_image
+      given = four_gave (string_bytes given.script) (string_bytes given.certificate)
+          (string_bytes given.card) image are.script are.certificate are.card are.of_image
           (some_file names.schedule ++ some_file names.input)
           (both_gave (some_file names.schedule) (some_file names.input) (schedule_gave names.schedule given.codes.items are.schedule)
           (input_gave names.input given.input.items are.input));

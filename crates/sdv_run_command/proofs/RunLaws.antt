@@ -50,7 +50,8 @@ chunks_are_blocks zero bytes = refl
 chunks_are_blocks (suc n) bytes = ap (λ blocks. take 512 bytes ∷ blocks) (chunks_are_blocks n (drop 512 bytes))
 
 -- a script is accepted, and there is no card
-module _ {T : Type 0} (given : Given) (image : CardImage) (unread : Type 0) (a : Acceptance) (accepted : IsAccepted (string_bytes given.script) (string_bytes given.certificate) a) where
+module _ {T : Type 0} (given : Given) (image : CardImage) (unread : Type 0) (a : Acceptance)
+    (accepted : IsAccepted (string_bytes given.script) (string_bytes given.certificate) a) where
   pub refused_card : (fault : SimFault) (r : Result T Fault) → HasNoCard given image unread fault → IsErrAnd r (λ f. f ≡ fault_of_card fault)
       → IfErr r (RefusesRun given image unread)
   refused_card fault (Ok x) has is = absurd is
@@ -74,7 +75,8 @@ module _ {I : Type 0} {images : Ghosts I} where
   sim_of port = state_of (wire_of port)
 
   pub run_of_sim : (g : Flow) (most : ℕ) (w w' : World (Controller (Sim I images))) (result : Result End RunFault)
-      → RanBeside (λ c call returned c'. ControllerSteps (λ s call returned s'. SimSteps (state_of s) call returned (state_of s')) (wire_of c) call returned (wire_of c'))
+      → RanBeside (λ c call returned c'. ControllerSteps (λ s call returned s'. SimSteps (state_of s) call returned (state_of s')) (wire_of c) call returned
+      (wire_of c'))
       (λ c. card_shown (state_of (wire_of c))) g most w w' result
       → RanBeside (ControllerSteps SimSteps) card_shown g most (seen sim_of w) (seen sim_of w') result
   run_of_sim g most w w' result ran =
@@ -179,7 +181,8 @@ module _ (files : Files) (names : RunNames) (given : Given) (image : CardImage) 
     is_file = inr output;
   })
 
-  module _ (out out' : Option (List ℕ)) (takes : (e : End) (k : IsKept files names given image (Ok e) out out' trace trace') → Receives files names.output (received k.run.ran.0.events)) where
+  module _ (out out' : Option (List ℕ)) (takes : (e : End) (k : IsKept files names given image (Ok e) out out' trace trace')
+      → Receives files names.output (received k.run.ran.0.events)) where
     ends : (e : End) → IsKept files names given image (Ok e) out out' trace trace' → EndsRun files names e trace trace'
     ends e kept = record { given = given; image = image; are_given = are; out = out; out' = out'; kept = kept; output = takes e kept }
 

@@ -64,7 +64,8 @@ module _ {S T : Type 0} (f : S → T) where
   seen_because Trace g es w w' (inr broken) = inr (record { end = broken.end; walk = broken.walk; output = broken.output; trace = broken.trace })
   seen_because Memory g es w w' nothing = record { none = nothing.none; same = ap seen nothing.same }
 
-module _ {S T : Type 0} (f : S → T) (steps : Steps S) (steps' : Steps T) (step : (s : S) (c : Call) (r : Return) (s' : S) → steps s c r s' → steps' (f s) c r (f s')) where
+module _ {S T : Type 0} (f : S → T) (steps : Steps S) (steps' : Steps T)
+    (step : (s : S) (c : Call) (r : Return) (s' : S) → steps s c r s' → steps' (f s) c r (f s')) where
   seen_moved : (k : Kind) (es : List Pair) (s s' : S) → Moved k steps s es s' → Moved k steps' (f s) es (f s')
   seen_moved k [] s s' same = ap f same
   seen_moved k (p ∷ ps) s s' moved = (f moved.0, step s (call_of k p.0) p.1 moved.0 moved.1, seen_moved k ps moved.0 s' moved.2)

@@ -88,7 +88,8 @@ blocks_of bytes = blocks_in (length bytes / 512) bytes
 
 -- The script, which was verified with its certificate, ran beside the card of the description over the image, with the
 -- schedule and the input blocks. `blocks'` is what is known of the card's blocks after it.
-pub record IsRun (given : Given) (image : CardImage) (blocks' : Option (List Block)) (result : Result End RunFault) (out out' trace trace' : Option (List ℕ)) : Type 0 where
+pub record IsRun (given : Given) (image : CardImage) (blocks' : Option (List Block)) (result : Result End RunFault)
+    (out out' trace trace' : Option (List ℕ)) : Type 0 where
   pub acceptance : Acceptance
   pub accepted : IsAccepted (string_bytes given.script) (string_bytes given.certificate) acceptance
   pub desc : CardDesc
@@ -103,22 +104,27 @@ pub record IsRun (given : Given) (image : CardImage) (blocks' : Option (List Blo
       (record { port = card; input = blocks_of given.input.items; out = out; trace = trace })
       (record { port = card'; input = left; out = out'; trace = trace' }) result
 
--- there is no simulated card, for this reason: that of the description, of the image, or of the schedule beside them, or
--- that the image was not read
+-- there is no simulated card, for this reason: that of the description, of the image, or of the schedule beside them,
+-- or that the image was not read
 abbrev pub HasNoCard : Given → CardImage → (unread : Type 0) → SimFault → Type 0
 HasNoCard given image unread fault =
     IsNoCard (string_bytes given.card) fault
-    ⊎ (((desc : CardDesc) × Describes (string_bytes given.card) desc × (image.bytes % 512 ≢ 0) × (fault ≡ cards.ImageLength))
+    ⊎ (((desc : CardDesc) × Describes (string_bytes given.card) desc × (image.bytes % 512 ≢ 0)
+    × (fault ≡ cards.ImageLength))
     ⊎ ((desc : CardDesc) × Describes (string_bytes given.card) desc × (image.bytes % 512 ≡ 0)
     × IsRefused given.codes.items (image.bytes / 512) desc.capacity unread fault))
 
 -- why nothing was run; want of memory says nothing
 abbrev pub RefusesRun : Given → CardImage → (unread : Type 0) → Fault → Type 0
-RefusesRun given image unread (Script fault) = Refuses (string_bytes given.script) (string_bytes given.certificate) (Script fault)
-RefusesRun given image unread (Certificate fault) = Refuses (string_bytes given.script) (string_bytes given.certificate) (Certificate fault)
-RefusesRun given image unread (Refused fault) = Refuses (string_bytes given.script) (string_bytes given.certificate) (Refused fault)
+RefusesRun given image unread (Script fault) =
+    Refuses (string_bytes given.script) (string_bytes given.certificate) (Script fault)
+RefusesRun given image unread (Certificate fault) =
+    Refuses (string_bytes given.script) (string_bytes given.certificate) (Certificate fault)
+RefusesRun given image unread (Refused fault) =
+    Refuses (string_bytes given.script) (string_bytes given.certificate) (Refused fault)
 RefusesRun given image unread (Card fault) =
-    ((a : Acceptance) × IsAccepted (string_bytes given.script) (string_bytes given.certificate) a) × HasNoCard given image unread fault
+    ((a : Acceptance) × IsAccepted (string_bytes given.script) (string_bytes given.certificate) a)
+    × HasNoCard given image unread fault
 RefusesRun given image unread Memory = Unit {0}
 RefusesRun given image unread fault = ⊥
 
@@ -139,7 +145,8 @@ Receives files (Some file) bytes = files.received file bytes
 -- THE END
 
 -- The run took place, and the file of the image was closed with the card's blocks.
-pub record IsKept (files : Files) (names : RunNames) (given : Given) (image : CardImage) (result : Result End RunFault) (out out' trace trace' : Option (List ℕ)) : Type 0 where
+pub record IsKept (files : Files) (names : RunNames) (given : Given) (image : CardImage) (result : Result End RunFault)
+    (out out' trace trace' : Option (List ℕ)) : Type 0 where
   pub blocks' : Option (List Block)
   pub run : IsRun given image blocks' result out out' trace trace'
   pub stored : StoresImage files names.image blocks'
@@ -155,7 +162,8 @@ pub record EndsRun (files : Files) (names : RunNames) (end : End) (trace trace' 
   pub output : Receives files names.output (received kept.run.ran.0.events)
 
 -- The run stopped before its end.
-pub record StopsRun (files : Files) (names : RunNames) (fault : RunFault) (trace trace' : Option (List ℕ)) : Type 0 where
+pub record StopsRun (files : Files) (names : RunNames) (fault : RunFault)
+    (trace trace' : Option (List ℕ)) : Type 0 where
   pub given : Given
   pub image : CardImage
   pub are_given : AreGiven files names given image
@@ -195,7 +203,8 @@ answer_of (Err fault) = Err (fault_of_run fault)
 
 -- the file of the image did not take the card's blocks, or there was no run
 abbrev pub FailsToKeep : Files → RunNames → Given → CardImage → Fault → (trace trace' : Option (List ℕ)) → Type 0
-FailsToKeep files names given image (File file) trace trace' = IsLost given image trace trace' × (file.now ≡ names.image)
+FailsToKeep files names given image (File file) trace trace' =
+    IsLost given image trace trace' × (file.now ≡ names.image)
 FailsToKeep files names given image fault trace trace' =
     RefusesRun given image (IsUnreadable files names.image) fault × Keeps trace trace'
 
@@ -206,7 +215,8 @@ some_file None = []
 some_file (Some file) = file ∷ []
 
 abbrev pub files_of : RunNames → List Text
-files_of names = (names.script ∷ names.certificate ∷ names.card ∷ names.image ∷ []) ++ (some_file names.schedule ++ (some_file names.input ++ some_file names.output))
+files_of names = (names.script ∷ names.certificate ∷ names.card ∷ names.image ∷ [])
+    ++ (some_file names.schedule ++ (some_file names.input ++ some_file names.output))
 
 -- the file gave bytes, or was opened as an image, or it is none, but a new image
 abbrev pub IsUsed : Files → (name : Text) → Type 0
@@ -232,7 +242,8 @@ IsOptional name fault = ((file : Bor Text) × (name ≡ Some file) × (fault ≡
 
 -- FAULTS: what each says of a run, and of what was printed
 abbrev pub RunFails : Files → RunNames → Fault → (trace trace' : Option (List ℕ)) → Type 0
-RunFails files names (File file) trace trace' = (IsUnusable files names file.now × Keeps trace trace') ⊎ IsNotKept files names file.now trace trace'
+RunFails files names (File file) trace trace' =
+    (IsUnusable files names file.now × Keeps trace trace') ⊎ IsNotKept files names file.now trace trace'
 RunFails files names (Run fault) trace trace' = StopsRun files names fault trace trace'
 RunFails files names Named trace trace' = (end : End) × (end ≢ ends.Done) × EndsRun files names end trace trace'
 RunFails files names Memory trace trace' = Keeps trace trace'

@@ -17,4 +17,5 @@ module _ {I : Type 0} (bytes_of : I → ℕ) (blocks_of : I → Option (List Blo
 -- it is new exactly where the name asks for that, and else a file whose calls fail only where the store says so
 abbrev pub IsOfName : {I : Type 0} → (failed : I → ℕ) → Files → (name : Text) → GivenImage I → Type 0
 IsOfName failed files name (New image) = (blocks : ℕ) × IsNew name blocks
-IsOfName failed files name (File image) = ((blocks : ℕ) → ¬ IsNew name blocks) × (IsUnread failed image → files.images.failed name)
+IsOfName failed files name (File image) = ((blocks : ℕ) → ¬ IsNew name blocks)
+    × (IsUnread failed image → files.images.failed name)

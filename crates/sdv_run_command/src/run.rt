@@ -39,7 +39,7 @@ pub struct Outcome<F: BlockFile> {
 /// - [`Fault::File`]: a file cannot be used; then nothing was run or printed. Or the file of the image or of the output
 ///   did not take all that it had to; then the run had come to its end.
 /// - The faults of [`run_given`].
-/// - [`Fault::Named`]: the script ended in a fault that it names. The trace is whole.
+/// - [`Fault::Named`]: the script ended in a fault that it names, or in `number`. The trace is whole.
 /// - [`Fault::Run`]: the run stopped before its end.
 pub fn run_files<'a, S: Store, T: Write>(
     alloc: Global,

@@ -84,8 +84,10 @@ frame_is_no_print : (words : List Text) (index argument script : Text) → meani
 frame_is_no_print words index argument script meaning other = let same : Some (frame index argument) ≡ Some (print script) = sym meaning ∙ other in cc
 
 -- nor for a batch
-frame_is_no_batch : (words : List Text) (index argument kind requests : Text) → meaning_of words ≡ Some (frame index argument) → meaning_of words ≢ Some (batch kind requests)
-frame_is_no_batch words index argument kind requests meaning other = let same : Some (frame index argument) ≡ Some (batch kind requests) = sym meaning ∙ other in cc
+frame_is_no_batch : (words : List Text) (index argument kind requests : Text) → meaning_of words ≡ Some (frame index argument)
+    → meaning_of words ≢ Some (batch kind requests)
+frame_is_no_batch words index argument kind requests meaning other = let same : Some (frame index argument) ≡ Some (batch kind requests) =
+    sym meaning ∙ other in cc
 
 -- words whose texts write no command ask for nothing
 asks_nothing : (words : List Text) (index argument : Text) → page_of words ≡ None → meaning_of words ≡ Some (frame index argument)
@@ -148,7 +150,8 @@ module _ (files : Files) (words : List Text) where
   faults_of_frame index argument no_page meaning (Err fault) refused = frame_fault index argument no_page meaning fault refused
 
   -- the words of `certify`
-  certify_fault : (script : Text) → meaning_of words ≡ Some (certify script) → (fault : Fault) → UncertifiesFile files.gives script fault → IsFaultOf files words fault
+  certify_fault : (script : Text) → meaning_of words ≡ Some (certify script) → (fault : Fault) → UncertifiesFile files.gives script fault
+      → IsFaultOf files words fault
   certify_fault script meaning (File file) refuses = inl (inl (record { script_file = script; meaning = meaning; refuses = refuses }))
   certify_fault script meaning (Script fault) refuses = inl (inl (record { script_file = script; meaning = meaning; refuses = refuses }))
   certify_fault script meaning (Uncertified fault) refuses = inl (inl (record { script_file = script; meaning = meaning; refuses = refuses }))
@@ -183,7 +186,8 @@ module _ (files : Files) (words : List Text) where
   faults_of_check script certificate meaning (Err fault) refuses = check_fault script certificate meaning fault refuses
 
   -- the words of `batch`
-  batch_fault : (kind requests : Text) → meaning_of words ≡ Some (batch kind requests) → (fault : Fault) → RefusesBatch kind requests fault → IsFaultOf files words fault
+  batch_fault : (kind requests : Text) → meaning_of words ≡ Some (batch kind requests) → (fault : Fault) → RefusesBatch kind requests fault
+      → IsFaultOf files words fault
   batch_fault kind requests meaning Usage refuses = inr (record { kind = kind; requests = requests; meaning = meaning; refuses = refuses })
   batch_fault kind requests meaning (Unserved fault) refuses = record { kind = kind; requests = requests; meaning = meaning; refuses = refuses }
   batch_fault kind requests meaning Output refuses = inr (inr (inl (record { kind = kind; requests = requests; meaning = meaning; refuses = refuses })))
@@ -264,7 +268,8 @@ module _ (files : Files) (words : List Text) where
   -- then status 2 is that of a failed output
   pub frame_output : (c : Command) → AsksFrame words c → (fault : Fault) → status_of fault ≡ 2 → IsFaultOf files words fault → fault ≡ Output
   frame_output c asked Usage status (inl nothing) = absurd (nothing.no_frame c asked)
-  frame_output c asked Usage status (inr batched) = absurd (frame_is_no_batch words asked.index asked.argument batched.kind batched.requests asked.meaning batched.meaning)
+  frame_output c asked Usage status (inr batched) = absurd
+      (frame_is_no_batch words asked.index asked.argument batched.kind batched.requests asked.meaning batched.meaning)
   frame_output c asked (File file) status faults = absurd (frame_alone c asked (File file) faults)
   frame_output c asked (Script fault) status faults = cc
   frame_output c asked (Certificate fault) status faults = cc
@@ -311,7 +316,8 @@ module _ (files : Files) (words : List Text) where
   if_left before after quiet (Ok x) P answers keeps part = tt
   if_left before after quiet (Err fault) P answers keeps part = left_without before after quiet fault keeps (λ is. answers (part is))
 
-  pub left_of_line : {T : Type 0} (fault : LineFault) (r : Result T Fault) (before : Option (List ℕ)) → page_of words ≡ None → IsErrAnd r (λ f. f ≡ fault_of_line fault)
+  pub left_of_line : {T : Type 0} (fault : LineFault) (r : Result T Fault) (before : Option (List ℕ)) → page_of words ≡ None
+      → IsErrAnd r (λ f. f ≡ fault_of_line fault)
       → (fault ≡ line_fault.Usage → fault_of command_line words ≢ []) → IfErr r (λ f. Leaves files words f before before)
   left_of_line fault (Ok x) before no_page is usage = absurd is
   left_of_line line_fault.Usage (Err f) before no_page is usage =
@@ -352,7 +358,8 @@ module _ (files : Files) (words : List Text) where
       if_left before after (check_is_quiet words script certificate meaning) r _
       (λ part. inr (inr (inl (record { script_file = script; certificate_file = certificate; meaning = meaning; accepts = part }))))
 
-  pub left_of_batch : {T : Type 0} (kind requests : Text) → meaning_of words ≡ Some (batch kind requests) → (r : Result T Fault) (before after : Option (List ℕ))
+  pub left_of_batch : {T : Type 0} (kind requests : Text) → meaning_of words ≡ Some (batch kind requests)
+      → (r : Result T Fault) (before after : Option (List ℕ))
       → IfErr r (λ fault. fault ≢ Output → Keeps before after)
       → IfErr r (λ fault. fault ≡ Output → PrintsBatchInPart kind requests before after)
       → IfErr r (λ fault. Leaves files words fault before after)

@@ -34,14 +34,16 @@ before_or_at (suc j) (suc n) lt = go (before_or_at j n (omega (arith, lt)))
     go (inl l) = inl (omega (arith, l))
     go (inr e) = inr (omega (arith, e))
 
-pub one_more : (words : Words) (rs : List Blocks) (i : ℕ) (r : Blocks) → AreSoFar words rs i → IsRequest (word words (3 * i)) (word words (3 * i + 1)) (word words (3 * i + 2)) r →
+pub one_more : (words : Words) (rs : List Blocks) (i : ℕ) (r : Blocks) → AreSoFar words rs i
+    → IsRequest (word words (3 * i)) (word words (3 * i + 1)) (word words (3 * i + 2)) r →
     AreSoFar words (rs ++ r ∷ []) (i + 1)
 one_more words rs i r far is = record {
   size = let n = length-append rs (r ∷ []) in let size = far.size in omega (arith, n, size);
   each = λ j lt. go j (before_or_at j (length rs) (let n = length-append rs (r ∷ []) in omega (arith, n, lt)));
 }
   where
-    go : (j : ℕ) → (j < length rs) ⊎ (j ≡ length rs) → IsRequest (word words (3 * j)) (word words (3 * j + 1)) (word words (3 * j + 2)) (get_or (rs ++ r ∷ []) j (Read 0 0))
+    go : (j : ℕ) → (j < length rs) ⊎ (j ≡ length rs) → IsRequest (word words (3 * j)) (word words (3 * j + 1)) (word words (3 * j + 2))
+        (get_or (rs ++ r ∷ []) j (Read 0 0))
     go j (inl lt) =
         subst (λ b. IsRequest (word words (3 * j)) (word words (3 * j + 1)) (word words (3 * j + 2)) b) (sym (get_or-front rs r j lt)) (far.each j lt)
     go j (inr e) =
@@ -57,5 +59,6 @@ pub uneven : (words : Words) → (length words % 3 ≡ 0 → ⊥) → (rs : List
 uneven words odd rs are = odd (let size = are.size in omega (arith, size))
 
 -- three words that write none
-pub none_here : (words : Words) (i : ℕ) → i < length words / 3 → NoRequest (word words (3 * i)) (word words (3 * i + 1)) (word words (3 * i + 2)) → (rs : List Blocks) → AreRequests words rs → ⊥
+pub none_here : (words : Words) (i : ℕ) → i < length words / 3 → NoRequest (word words (3 * i)) (word words (3 * i + 1)) (word words (3 * i + 2))
+    → (rs : List Blocks) → AreRequests words rs → ⊥
 none_here words i lt none rs are = none (get_or rs i (Read 0 0)) (are.each i (let size = are.size in omega (arith, size, lt)))

@@ -30,7 +30,8 @@ graph_of_script text s g is of =
     let tree = one_tree_lem p (shown s) of.is_script is.is_script (of.same ∙ sym is.same) in
     subst (λ b. IsGraphOf (shown s).names b g) tree.1 (subst (λ n. IsGraphOf n p.body g) tree.0 of.graph)
 
-pub certificate_of_text : (text : Text) (s : Tree) (points : List PointFacts) → (shown s).text ≡ text → IsScript (shown s) → CertificateOf s points → ClosedFor s points
+pub certificate_of_text : (text : Text) (s : Tree) (points : List PointFacts) → (shown s).text ≡ text → IsScript (shown s) → CertificateOf s points
+    → ClosedFor s points
     → WithinLimits points → IsCertificateOfText text points
 certificate_of_text text s points same is_script certificate closed limits =
     let is : IsTextOfScript text s = record { same = same; is_script = is_script } in
@@ -71,7 +72,8 @@ module _ (text : Text) (points : List PointFacts) (certificate : IsCertificateOf
   pub written_in_part : {E : Type 0} (before after : Option (List ℕ)) (w : Result (Unit {0}) E) (r : Result (Unit {0}) Fault) → is_ok r ≡ is_ok w
       → Writes before after w (text_of points) → IfErr r (λ fault. fault ≡ Output → CertifiesInPart text before after)
   written_in_part before after w r same writes =
-      if_err r (λ _. AppendsPart before after (text_of points)) (λ fault. fault ≡ Output → CertifiesInPart text before after) (in_part before after (text_of points) w r same writes)
+      if_err r (λ _. AppendsPart before after (text_of points)) (λ fault. fault ≡ Output → CertifiesInPart text before after)
+      (in_part before after (text_of points) w r same writes)
       (λ fault printed is. record { points = points; certificate = certificate; printed = printed })
 
   -- of an output that failed

@@ -12,7 +12,8 @@ module _ (digits : ℕ → List ℕ) where
   more : (x : ℕ) (xs : List ℕ) (byte : ℕ)
       → join_with_byte 32 (map digits (x ∷ xs ++ byte ∷ [])) ≡ join_with_byte 32 (map digits (x ∷ xs)) ++ (32 ∷ [] ++ digits byte)
   more x [] byte = refl
-  more x (y ∷ xs) byte = ap (λ text. digits x ++ (32 ∷ text)) (more y xs byte) ∙ sym (append_assoc (digits x) (32 ∷ join_with_byte 32 (map digits (y ∷ xs))) (32 ∷ [] ++ digits byte))
+  more x (y ∷ xs) byte = ap (λ text. digits x ++ (32 ∷ text)) (more y xs byte)
+      ∙ sym (append_assoc (digits x) (32 ∷ join_with_byte 32 (map digits (y ∷ xs))) (32 ∷ [] ++ digits byte))
 
 shown_more : (x : ℕ) (xs : List ℕ) (byte : ℕ) → shown (x ∷ xs ++ byte ∷ []) ≡ shown (x ∷ xs) ++ (32 ∷ [] ++ two_digits byte)
 shown_more = more two_digits

@@ -64,13 +64,15 @@ RefusesFrame index argument fault = ⊥
 -- CERTIFICATES
 
 -- the words ask for the certificate of a script, and that of what the file gave was printed
-pub record AnswersCertify (gives : (file text : Text) → Type 0) (words : List Text) (before after : Option (List ℕ)) : Type 0 where
+pub record AnswersCertify (gives : (file text : Text) → Type 0) (words : List Text)
+    (before after : Option (List ℕ)) : Type 0 where
   pub script_file : Text
   pub meaning : meaning_of words ≡ Some (certify script_file)
   pub certifies : CertifiesFile gives script_file before after
 
 -- the words ask for the certificate of a script, and a part of that of what the file gave was printed
-pub record AnswersCertifyInPart (gives : (file text : Text) → Type 0) (words : List Text) (before after : Option (List ℕ)) : Type 0 where
+pub record AnswersCertifyInPart (gives : (file text : Text) → Type 0) (words : List Text)
+    (before after : Option (List ℕ)) : Type 0 where
   pub script_file : Text
   pub meaning : meaning_of words ≡ Some (certify script_file)
   pub certifies : CertifiesFileInPart gives script_file before after
@@ -84,14 +86,16 @@ pub record RefusesCertify (gives : (file text : Text) → Type 0) (words : List 
 -- CHECKS
 
 -- the words ask for a check, it accepts what the files give, and the bound was printed
-pub record AnswersCheck (gives : (file text : Text) → Type 0) (words : List Text) (before after : Option (List ℕ)) : Type 0 where
+pub record AnswersCheck (gives : (file text : Text) → Type 0) (words : List Text)
+    (before after : Option (List ℕ)) : Type 0 where
   pub script_file : Text
   pub certificate_file : Text
   pub meaning : meaning_of words ≡ Some (check script_file certificate_file)
   pub accepts : AcceptsFiles gives script_file certificate_file before after
 
 -- the words ask for a check, it accepts what the files give, and a part of the line was printed
-pub record AnswersCheckInPart (gives : (file text : Text) → Type 0) (words : List Text) (before after : Option (List ℕ)) : Type 0 where
+pub record AnswersCheckInPart (gives : (file text : Text) → Type 0) (words : List Text)
+    (before after : Option (List ℕ)) : Type 0 where
   pub script_file : Text
   pub certificate_file : Text
   pub meaning : meaning_of words ≡ Some (check script_file certificate_file)
@@ -131,13 +135,15 @@ abbrev pub AsksNoExplanation : List Text → Type 0
 AsksNoExplanation words = (script : Text) → meaning_of words ≢ Some (explain script)
 
 -- the words ask for it, the script has a certificate, and its explanation was printed
-pub record AnswersExplain (gives : (file text : Text) → Type 0) (words : List Text) (before after : Option (List ℕ)) : Type 0 where
+pub record AnswersExplain (gives : (file text : Text) → Type 0) (words : List Text)
+    (before after : Option (List ℕ)) : Type 0 where
   pub script_file : Text
   pub meaning : meaning_of words ≡ Some (explain script_file)
   pub explains : ExplainsFile gives script_file before after
 
 -- the words ask for it, and the output failed
-pub record AnswersExplainInPart (gives : (file text : Text) → Type 0) (words : List Text) (before after : Option (List ℕ)) : Type 0 where
+pub record AnswersExplainInPart (gives : (file text : Text) → Type 0) (words : List Text)
+    (before after : Option (List ℕ)) : Type 0 where
   pub script_file : Text
   pub meaning : meaning_of words ≡ Some (explain script_file)
   pub fails : ExplainFileFails gives script_file Output before after
@@ -153,13 +159,15 @@ abbrev pub AsksNoDrawing : List Text → Type 0
 AsksNoDrawing words = (script : Text) → meaning_of words ≢ Some (graph script)
 
 -- the words ask for it, the script has a certificate, and its drawing was printed
-pub record AnswersGraph (gives : (file text : Text) → Type 0) (words : List Text) (before after : Option (List ℕ)) : Type 0 where
+pub record AnswersGraph (gives : (file text : Text) → Type 0) (words : List Text)
+    (before after : Option (List ℕ)) : Type 0 where
   pub script_file : Text
   pub meaning : meaning_of words ≡ Some (graph script_file)
   pub draws : DrawsFile gives script_file before after
 
 -- the words ask for it, and the output failed
-pub record AnswersGraphInPart (gives : (file text : Text) → Type 0) (words : List Text) (before after : Option (List ℕ)) : Type 0 where
+pub record AnswersGraphInPart (gives : (file text : Text) → Type 0) (words : List Text)
+    (before after : Option (List ℕ)) : Type 0 where
   pub script_file : Text
   pub meaning : meaning_of words ≡ Some (graph script_file)
   pub fails : GraphFileFails gives script_file Output before after
@@ -167,13 +175,15 @@ pub record AnswersGraphInPart (gives : (file text : Text) → Type 0) (words : L
 -- PRINTED SCRIPTS
 
 -- the words ask for the tokens of a script, and those of what the file gave were printed
-pub record AnswersPrint (gives : (file text : Text) → Type 0) (words : List Text) (before after : Option (List ℕ)) : Type 0 where
+pub record AnswersPrint (gives : (file text : Text) → Type 0) (words : List Text)
+    (before after : Option (List ℕ)) : Type 0 where
   pub script_file : Text
   pub meaning : meaning_of words ≡ Some (print script_file)
   pub prints : PrintsFile gives script_file before after
 
 -- the words ask for them, and a part of those of what the file gave was printed
-pub record AnswersPrintInPart (gives : (file text : Text) → Type 0) (words : List Text) (before after : Option (List ℕ)) : Type 0 where
+pub record AnswersPrintInPart (gives : (file text : Text) → Type 0) (words : List Text)
+    (before after : Option (List ℕ)) : Type 0 where
   pub script_file : Text
   pub meaning : meaning_of words ≡ Some (print script_file)
   pub prints : PrintsFileInPart gives script_file before after
@@ -209,8 +219,8 @@ pub record RefusesRequests (words : List Text) (fault : Fault) : Type 0 where
 
 -- ANSWERS
 
--- the words ask for nothing that may be printed in part or whole where it is refused: for no run, for no explanation and for no
--- drawing
+-- the words ask for nothing that may be printed in part or whole where it is refused: for no run, for no explanation
+-- and for no drawing
 pub record AsksQuiet (words : List Text) : Type 0 where
   pub no_run : AsksNoRun words
   pub no_explanation : AsksNoExplanation words
@@ -228,9 +238,12 @@ pub record AsksNothing (words : List Text) : Type 0 where
 
 abbrev pub Answers : Files → List Text → (before after : Option (List ℕ)) → Type 0
 Answers files words before after =
-    AnswersFrame words before after ⊎ (AnswersCertify files.gives words before after ⊎ (AnswersCheck files.gives words before after
-    ⊎ (AnswersRun files words before after ⊎ (AnswersBatch words before after ⊎ (AnswersExplain files.gives words before after
-    ⊎ (AnswersGraph files.gives words before after ⊎ (AnswersPrint files.gives words before after ⊎ PrintsPage words before after)))))))
+    AnswersFrame words before after ⊎ (AnswersCertify files.gives words before after
+    ⊎ (AnswersCheck files.gives words before after
+    ⊎ (AnswersRun files words before after
+    ⊎ (AnswersBatch words before after ⊎ (AnswersExplain files.gives words before after
+    ⊎ (AnswersGraph files.gives words before after
+    ⊎ (AnswersPrint files.gives words before after ⊎ PrintsPage words before after)))))))
 
 -- what was asked for was printed in part, and not all of it
 abbrev pub AnswersInPart : Files → List Text → (before after : Option (List ℕ)) → Type 0
@@ -244,7 +257,8 @@ AnswersInPart files words before after =
 -- the words ask for a certificate, a check or a script's tokens, and of the files is so what the fault says
 abbrev pub RefusesScript : Files → List Text → Fault → Type 0
 RefusesScript files words fault =
-    RefusesCertify files.gives words fault ⊎ (RefusesCheck files.gives words fault ⊎ RefusesPrint files.gives words fault)
+    RefusesCertify files.gives words fault
+    ⊎ (RefusesCheck files.gives words fault ⊎ RefusesPrint files.gives words fault)
 
 -- the words ask for an explanation or for a drawing
 abbrev pub AsksTold : List Text → Type 0
@@ -258,7 +272,8 @@ AsksPage words = (page : Text) × (page_of words ≡ Some page)
 abbrev pub IsFaultOf : Files → List Text → Fault → Type 0
 IsFaultOf files words Usage = AsksNothing words ⊎ RefusesRequests words Usage
 IsFaultOf files words Output =
-    ((c : Command) × AsksFrame words c) ⊎ (RefusesScript files words Output ⊎ (RefusesRequests words Output ⊎ (AsksTold words ⊎ AsksPage words)))
+    ((c : Command) × AsksFrame words c) ⊎ (RefusesScript files words Output
+    ⊎ (RefusesRequests words Output ⊎ (AsksTold words ⊎ AsksPage words)))
 IsFaultOf files words (Unserved fault) = RefusesRequests words (Unserved fault)
 IsFaultOf files words Memory = Unit {0}
 IsFaultOf files words fault = RefusesScript files words fault ⊎ (AsksRun words ⊎ AsksTold words)
@@ -270,16 +285,20 @@ pub record Left (files : Files) (words : List Text) (fault : Fault) (before afte
   pub kept : AsksQuiet words → Keeps before after
   -- and of a run it is so what the fault says
   pub of_run : (names : RunNames) → meaning_of words ≡ Some (run names) → RunFails files names fault before after
-  pub of_explanation : (script : Text) → meaning_of words ≡ Some (explain script) → ExplainFileFails files.gives script fault before after
-  pub of_drawing : (script : Text) → meaning_of words ≡ Some (graph script) → GraphFileFails files.gives script fault before after
+  pub of_explanation : (script : Text) → meaning_of words ≡ Some (explain script)
+      → ExplainFileFails files.gives script fault before after
+  pub of_drawing : (script : Text) → meaning_of words ≡ Some (graph script)
+      → GraphFileFails files.gives script fault before after
 
 -- what is known of standard output after a fault
 abbrev pub Leaves : Files → List Text → Fault → (before after : Option (List ℕ)) → Type 0
 Leaves files words Output before after = AnswersInPart files words before after
 Leaves files words fault before after = Left files words fault before after
 
--- the program ended by this fault: it is so of the words and the files, and what standard output and standard error hold
-pub record EndsBy (files : Files) (words : List Text) (fault : Fault) (out out' err err' : Option (List ℕ)) : Type 0 where
+-- the program ended by this fault: it is so of the words and the files, and what standard output and standard error
+-- hold
+pub record EndsBy (files : Files) (words : List Text) (fault : Fault)
+    (out out' err err' : Option (List ℕ)) : Type 0 where
   pub is_so : IsFaultOf files words fault
   pub left : Leaves files words fault out out'
   pub said : Says fault err err'

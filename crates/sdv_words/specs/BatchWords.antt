@@ -1,5 +1,5 @@
--- What the words of `batch` mean, and what is answered to them: a kind of card, and requests in one word, with white space
--- between their parts.
+-- What the words of `batch` mean, and what is answered to them: a kind of card, and requests in one word, with white
+-- space between their parts.
 use Rattle.std.specs.Prelude.{◌≡◌, ◌⊎◌, ◌<◌, ◌+◌, ◌*◌, ◌^◌, ℕ, List, [], length, codes, get_or, slice_index_or, Option, Some, None, if◌then◌else◌, ⊤}
 use Rattle.std.specs.Borrow.{Bor}
 use Rattle.std.specs.Io.KnownBytes.{Appends}
@@ -22,7 +22,8 @@ use Rattle.sdv_faults.specs.declared.fault.Fault.{Fault}
 use Rattle.sdv_faults.specs.declared.fault.Fault.TheVariants.{Usage, Unserved, Output, Memory}
 
 abbrev pub kind_named : Text → Option Kind
-kind_named word = if bytes_eq word (codes "sd") then Some Sd else (if bytes_eq word (codes "emmc") then Some Emmc else None)
+kind_named word = if bytes_eq word (codes "sd") then Some Sd else
+    (if bytes_eq word (codes "emmc") then Some Emmc else None)
 
 -- REQUESTS
 
@@ -55,7 +56,8 @@ word words i = (slice_index_or words i (record { ref_ptr = (0, 0); now = [] })).
 -- the words are those of the requests, three for each
 pub record AreRequests (words : Words) (rs : List Blocks) : Type 0 where
   pub size : length words ≡ 3 * length rs
-  pub each : (i : ℕ) → i < length rs → IsRequest (word words (3 * i)) (word words (3 * i + 1)) (word words (3 * i + 2)) (get_or rs i (Read 0 0))
+  pub each : (i : ℕ) → i < length rs → IsRequest (word words (3 * i)) (word words (3 * i + 1)) (word words (3 * i + 2))
+      (get_or rs i (Read 0 0))
 
 -- a fault that says that they are none, or that memory was wanting
 abbrev pub NoRequests : Words → Fault → Type 0
@@ -65,7 +67,8 @@ NoRequests words fault = ⊥
 
 -- the words of a text are what lies between its white space
 abbrev pub AreWords : (text : Text) → Words → Type 0
-AreWords text words = (it : SplitWhitespace) × (split_whitespace_rest it ≡ text) × DrainsIf split_whitespace_steps ⊤ it words
+AreWords text words = (it : SplitWhitespace) × (split_whitespace_rest it ≡ text)
+    × DrainsIf split_whitespace_steps ⊤ it words
 
 -- the text has words that write no requests
 pub record HasNoRequests (requests : Text) : Type 0 where

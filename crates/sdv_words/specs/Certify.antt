@@ -62,13 +62,15 @@ Uncertifies script fault = ⊥
 -- FILES, where a file of a name may give a text
 
 -- the file gave a text whose certificate was printed
-pub record CertifiesFile (gives : (file text : Text) → Type 0) (script_file : Text) (before after : Option (List ℕ)) : Type 0 where
+pub record CertifiesFile (gives : (file text : Text) → Type 0) (script_file : Text)
+    (before after : Option (List ℕ)) : Type 0 where
   pub script : Text
   pub given : gives script_file script
   pub certifies : Certifies script before after
 
 -- the file gave a text, and of its certificate a part was printed
-pub record CertifiesFileInPart (gives : (file text : Text) → Type 0) (script_file : Text) (before after : Option (List ℕ)) : Type 0 where
+pub record CertifiesFileInPart (gives : (file text : Text) → Type 0) (script_file : Text)
+    (before after : Option (List ℕ)) : Type 0 where
   pub script : Text
   pub given : gives script_file script
   pub certifies : CertifiesInPart script before after

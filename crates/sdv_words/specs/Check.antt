@@ -32,19 +32,22 @@ pub record AcceptsInPart (script certificate : Text) (before after : Option (Lis
 -- FILES, where a file of a name may give a text
 
 -- the files gave these texts
-pub record FilesGive (gives : (file text : Text) → Type 0) (script_file certificate_file script certificate : Text) : Type 0 where
+pub record FilesGive (gives : (file text : Text) → Type 0)
+    (script_file certificate_file script certificate : Text) : Type 0 where
   pub script_given : gives script_file script
   pub certificate_given : gives certificate_file certificate
 
 -- the files gave texts that are accepted
-pub record AcceptsFiles (gives : (file text : Text) → Type 0) (script_file certificate_file : Text) (before after : Option (List ℕ)) : Type 0 where
+pub record AcceptsFiles (gives : (file text : Text) → Type 0) (script_file certificate_file : Text)
+    (before after : Option (List ℕ)) : Type 0 where
   pub script : Text
   pub certificate : Text
   pub given : FilesGive gives script_file certificate_file script certificate
   pub accepts : Accepts script certificate before after
 
 -- the files gave texts that are accepted, and a part of the line was printed
-pub record AcceptsFilesInPart (gives : (file text : Text) → Type 0) (script_file certificate_file : Text) (before after : Option (List ℕ)) : Type 0 where
+pub record AcceptsFilesInPart (gives : (file text : Text) → Type 0) (script_file certificate_file : Text)
+    (before after : Option (List ℕ)) : Type 0 where
   pub script : Text
   pub certificate : Text
   pub given : FilesGive gives script_file certificate_file script certificate
@@ -56,7 +59,8 @@ NamesFile gives script_file certificate_file file =
     (file ≡ script_file) ⊎ ((file ≡ certificate_file) × ((script : Text) × gives script_file script))
 
 -- the files gave texts of which is so what the fault says
-pub record RefusesTexts (gives : (file text : Text) → Type 0) (script_file certificate_file : Text) (fault : Fault) : Type 0 where
+pub record RefusesTexts (gives : (file text : Text) → Type 0) (script_file certificate_file : Text)
+    (fault : Fault) : Type 0 where
   pub script : Text
   pub certificate : Text
   pub given : FilesGive gives script_file certificate_file script certificate

@@ -19,7 +19,8 @@ abbrev pub refused_by : Explanation → Option CertifyFault
 refused_by explanation = option_map (λ (r : Refusal). r.fault) explanation.refusal
 
 -- the explanation of the text was printed: the script has a certificate, or is refused so
-pub record PrintsExplanation (script : Text) (fault : Option CertifyFault) (before after : Option (List ℕ)) : Type 0 where
+pub record PrintsExplanation (script : Text) (fault : Option CertifyFault)
+    (before after : Option (List ℕ)) : Type 0 where
   pub explanation : Explanation
   pub is_so : Explains script explanation
   pub refused : refused_by explanation ≡ fault
@@ -49,19 +50,22 @@ ExplainFails script fault before after = ⊥
 -- FILES, where a file of a name may give a text
 
 -- the file gave the text of a script that has a certificate, and its explanation was printed
-pub record ExplainsFile (gives : (file text : Text) → Type 0) (script_file : Text) (before after : Option (List ℕ)) : Type 0 where
+pub record ExplainsFile (gives : (file text : Text) → Type 0) (script_file : Text)
+    (before after : Option (List ℕ)) : Type 0 where
   pub script : Text
   pub given : gives script_file script
   pub prints : PrintsExplanation script None before after
 
 -- the file gave a text of which is so what the fault says
-pub record ExplainTextFails (gives : (file text : Text) → Type 0) (script_file : Text) (fault : Fault) (before after : Option (List ℕ)) : Type 0 where
+pub record ExplainTextFails (gives : (file text : Text) → Type 0) (script_file : Text) (fault : Fault)
+    (before after : Option (List ℕ)) : Type 0 where
   pub script : Text
   pub given : gives script_file script
   pub fails : ExplainFails script fault before after
 
 -- what a fault says of the file, and of what was printed
-abbrev pub ExplainFileFails : (gives : (file text : Text) → Type 0) → (script_file : Text) → Fault → (before after : Option (List ℕ)) → Type 0
+abbrev pub ExplainFileFails : (gives : (file text : Text) → Type 0) → (script_file : Text) → Fault
+    → (before after : Option (List ℕ)) → Type 0
 ExplainFileFails gives script_file (File file) before after = (file.now ≡ script_file) × Keeps before after
 ExplainFileFails gives script_file Memory before after = Keeps before after
 ExplainFileFails gives script_file fault before after = ExplainTextFails gives script_file fault before after

@@ -36,19 +36,22 @@ GraphFails script fault before after = ⊥
 -- FILES, where a file of a name may give a text
 
 -- the file gave the text of a script that has a certificate, and its drawing was printed
-pub record DrawsFile (gives : (file text : Text) → Type 0) (script_file : Text) (before after : Option (List ℕ)) : Type 0 where
+pub record DrawsFile (gives : (file text : Text) → Type 0) (script_file : Text)
+    (before after : Option (List ℕ)) : Type 0 where
   pub script : Text
   pub given : gives script_file script
   pub prints : PrintsDrawing script None before after
 
 -- the file gave a text of which is so what the fault says
-pub record GraphTextFails (gives : (file text : Text) → Type 0) (script_file : Text) (fault : Fault) (before after : Option (List ℕ)) : Type 0 where
+pub record GraphTextFails (gives : (file text : Text) → Type 0) (script_file : Text) (fault : Fault)
+    (before after : Option (List ℕ)) : Type 0 where
   pub script : Text
   pub given : gives script_file script
   pub fails : GraphFails script fault before after
 
 -- what a fault says of the file, and of what was printed
-abbrev pub GraphFileFails : (gives : (file text : Text) → Type 0) → (script_file : Text) → Fault → (before after : Option (List ℕ)) → Type 0
+abbrev pub GraphFileFails : (gives : (file text : Text) → Type 0) → (script_file : Text) → Fault
+    → (before after : Option (List ℕ)) → Type 0
 GraphFileFails gives script_file (File file) before after = (file.now ≡ script_file) × Keeps before after
 GraphFileFails gives script_file Memory before after = Keeps before after
 GraphFileFails gives script_file fault before after = GraphTextFails gives script_file fault before after

@@ -35,13 +35,15 @@ Unprints script fault = ⊥
 -- FILES, where a file of a name may give a text
 
 -- the file gave a script whose tokens were printed
-pub record PrintsFile (gives : (file text : Text) → Type 0) (script_file : Text) (before after : Option (List ℕ)) : Type 0 where
+pub record PrintsFile (gives : (file text : Text) → Type 0) (script_file : Text)
+    (before after : Option (List ℕ)) : Type 0 where
   pub script : Text
   pub given : gives script_file script
   pub prints : PrintsScript script before after
 
 -- the file gave a script, and a part of its tokens was printed
-pub record PrintsFileInPart (gives : (file text : Text) → Type 0) (script_file : Text) (before after : Option (List ℕ)) : Type 0 where
+pub record PrintsFileInPart (gives : (file text : Text) → Type 0) (script_file : Text)
+    (before after : Option (List ℕ)) : Type 0 where
   pub script : Text
   pub given : gives script_file script
   pub prints : PrintsScriptInPart script before after

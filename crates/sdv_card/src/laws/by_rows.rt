@@ -135,7 +135,8 @@ fn order_branches<T: Rows>(all: &mut Branches, order: Order, fields: &Fields)
 
 fn settled_branches<T: Rows>(all: &mut Branches, order: Order, t: &Fields)
     requires { array_vec_len all.old ≤ 16 }
-    ensures items { all.new.items ≡ all.old.items ++ settled_branches T.kind order t.now (taken_as_of order t.now.app t.now.matched) }
+    ensures items { all.new.items ≡ all.old.items ++ settled_branches T.kind order t.now
+        (taken_as_of order t.now.app t.now.matched) }
     ensures few { array_vec_len all.new ≤ array_vec_len all.old + 16 }
 {
     match taken_as(order, t.app, t.matched) {

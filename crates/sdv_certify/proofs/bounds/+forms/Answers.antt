@@ -17,7 +17,8 @@ pub put_block-put_stmt-requires : goal.put_block-put_stmt-requires
 put_block-put_stmt-requires t c =
     let s = statement_of c.in-Then.stmt in
     let r = statements_of c.in-Then.rest.value in
-    let m = subst (λ b. statements_moves (statements_of b) + max (leads_to c.args.after).base (leads_to c.args.out).base < 2 ^ 128) c.in-Then.is c.requires.few in
+    let m = subst (λ b. statements_moves (statements_of b) + max (leads_to c.args.after).base (leads_to c.args.out).base
+    < 2 ^ 128) c.in-Then.is c.requires.few in
     let e : in_full c.in_ok-next-in-Then.next ≡ in_full (form_statements r c.args.after c.args.out) = search rules in
     let few = room_first s r c.in_ok-next-in-Then.next c.args.after c.args.out m e in
     let all = subst (λ b. StatementsTurn (statements_of b)) c.in-Then.is c.requires.turns in
@@ -29,7 +30,8 @@ put_block-returns-in_ok-form-in-Then-clause-before t c =
     let s = statement_of c.in-Then.stmt in
     let r = statements_of c.in-Then.rest.value in
     let e : in_full c.in_ok-next-in-Then.next ≡ in_full (form_statements r c.args.after c.args.out) = search rules in
-    let f = c.in_ok-form-in-Then.ensures.before ∙ same_before s c.in_ok-next-in-Then.next (form_statements r c.args.after c.args.out) c.args.out c.args.out e refl in
+    let f = c.in_ok-form-in-Then.ensures.before ∙ same_before s c.in_ok-next-in-Then.next
+    (form_statements r c.args.after c.args.out) c.args.out c.args.out e refl in
     rw c.in-Then.is (ap Some f)
 
 pub put_block-returns-in_ok-form-in-Then-clause-forms : goal.put_block-returns-in_ok-form-in-Then-clause-forms
@@ -37,9 +39,11 @@ put_block-returns-in_ok-form-in-Then-clause-forms t c =
     let s = statement_of c.in-Then.stmt in
     let r = statements_of c.in-Then.rest.value in
     let e : in_full c.in_ok-next-in-Then.next ≡ in_full (form_statements r c.args.after c.args.out) = search rules in
-    let f : map full_form c.put_block.new.forms.items ≡ map full_form c.args.forms.now.items ++ reverse (map full_form (forms_of_statements r c.args.after c.args.out)) = search rules in
+    let f : map full_form c.put_block.new.forms.items ≡ map full_form c.args.forms.now.items ++ reverse
+    (map full_form (forms_of_statements r c.args.after c.args.out)) = search rules in
     rw c.in-Then.is
-    (forms_first s r c.in_ok-next-in-Then.next c.args.after c.args.out c.args.forms.now.items c.put_block.new.forms.items c.put_stmt.new.forms.items e c.in_ok-form-in-Then.ensures.forms f)
+    (forms_first s r c.in_ok-next-in-Then.next c.args.after c.args.out c.args.forms.now.items c.put_block.new.forms.items c.put_stmt.new.forms.items e
+    c.in_ok-form-in-Then.ensures.forms f)
 
 pub put_stmt-sends_then-requires : goal.put_stmt-sends_then-requires
 put_stmt-sends_then-requires t c =
@@ -67,11 +71,18 @@ put_stmt-put_block-requires-in-Loop-2 t c =
     let before : in_full c.in_ok-other-in-Loop.other ≡ in_full (form_statements b after out) = search rules in
     let m = subst (λ s. statement_moves (statement_of s) + max (leads_to c.args.after).base (leads_to c.args.out).base < 2 ^ 128) c.in-Loop.is c.requires.few in
     let parts : LoopParts a b after out u c.in_ok-other-in-Loop.other c.leads_to-in-Loop.result c.leads_to-in-Loop-2.result c.last_turn-last.result
-    = record { spans = spans; before = before; other_is = c.leads_to-in-Loop.ensures; behind_is = c.leads_to-in-Loop-2.ensures; last_is = c.last_turn-last.ensures } in
+    = record {
+      spans = spans;
+      before = before;
+      other_is = c.leads_to-in-Loop.ensures;
+      behind_is = c.leads_to-in-Loop-2.ensures;
+      last_is = c.last_turn-last.ensures;
+    } in
     let all = subst (λ s. StatementTurns (statement_of s)) c.in-Loop.is c.requires.turns in
     let one = all.0 in
     let two = all.1 in
-    let few = room_body a b after out u c.in_ok-other-in-Loop.other c.leads_to-in-Loop.result c.leads_to-in-Loop-2.result c.last_turn-last.result parts n c.head_form-head.result c.inside_too.result one m c.head_form-head.ensures c.inside_too.ensures in
+    let few = room_body a b after out u c.in_ok-other-in-Loop.other c.leads_to-in-Loop.result c.leads_to-in-Loop-2.result c.last_turn-last.result parts n
+    c.head_form-head.result c.inside_too.result one m c.head_form-head.ensures c.inside_too.ensures in
     search rules
 
 pub put_stmt-before_loop-requires : goal.put_stmt-before_loop-requires
@@ -86,7 +97,13 @@ put_stmt-before_loop-requires t c =
     let before : in_full c.in_ok-other-in-Loop.other ≡ in_full (form_statements b after out) = search rules in
     let m = subst (λ s. statement_moves (statement_of s) + max (leads_to c.args.after).base (leads_to c.args.out).base < 2 ^ 128) c.in-Loop.is c.requires.few in
     let parts : LoopParts a b after out u c.in_ok-other-in-Loop.other c.leads_to-in-Loop.result c.leads_to-in-Loop-2.result c.last_turn-last.result
-    = record { spans = spans; before = before; other_is = c.leads_to-in-Loop.ensures; behind_is = c.leads_to-in-Loop-2.ensures; last_is = c.last_turn-last.ensures } in
+    = record {
+      spans = spans;
+      before = before;
+      other_is = c.leads_to-in-Loop.ensures;
+      behind_is = c.leads_to-in-Loop-2.ensures;
+      last_is = c.last_turn-last.ensures;
+    } in
     room_before a b after out u c.in_ok-other-in-Loop.other c.leads_to-in-Loop.result c.leads_to-in-Loop-2.result c.last_turn-last.result parts n m
 
 pub put_stmt-returns-in_ok-push-in-Loop-clause-before : goal.put_stmt-returns-in_ok-push-in-Loop-clause-before
@@ -100,8 +117,15 @@ put_stmt-returns-in_ok-push-in-Loop-clause-before t c =
     let spans : u ≡ spans_statements a = search rules in
     let before : in_full c.in_ok-other-in-Loop.other ≡ in_full (form_statements b after out) = search rules in
     let parts : LoopParts a b after out u c.in_ok-other-in-Loop.other c.leads_to-in-Loop.result c.leads_to-in-Loop-2.result c.last_turn-last.result
-    = record { spans = spans; before = before; other_is = c.leads_to-in-Loop.ensures; behind_is = c.leads_to-in-Loop-2.ensures; last_is = c.last_turn-last.ensures } in
-    rw c.in-Loop.is (before_whole a b after out u c.in_ok-other-in-Loop.other c.leads_to-in-Loop.result c.leads_to-in-Loop-2.result c.last_turn-last.result parts n c.before_loop.result c.before_loop.ensures)
+    = record {
+      spans = spans;
+      before = before;
+      other_is = c.leads_to-in-Loop.ensures;
+      behind_is = c.leads_to-in-Loop-2.ensures;
+      last_is = c.last_turn-last.ensures;
+    } in
+    rw c.in-Loop.is (before_whole a b after out u c.in_ok-other-in-Loop.other c.leads_to-in-Loop.result c.leads_to-in-Loop-2.result c.last_turn-last.result
+    parts n c.before_loop.result c.before_loop.ensures)
 
 pub put_stmt-returns-in_ok-push-in-Loop-clause-forms : goal.put_stmt-returns-in_ok-push-in-Loop-clause-forms
 put_stmt-returns-in_ok-push-in-Loop-clause-forms t c =
@@ -114,11 +138,22 @@ put_stmt-returns-in_ok-push-in-Loop-clause-forms t c =
     let spans : u ≡ spans_statements a = search rules in
     let before : in_full c.in_ok-other-in-Loop.other ≡ in_full (form_statements b after out) = search rules in
     let parts : LoopParts a b after out u c.in_ok-other-in-Loop.other c.leads_to-in-Loop.result c.leads_to-in-Loop-2.result c.last_turn-last.result
-    = record { spans = spans; before = before; other_is = c.leads_to-in-Loop.ensures; behind_is = c.leads_to-in-Loop-2.ensures; last_is = c.last_turn-last.ensures } in
-    let one : map full_form c.put_block-in-Loop.new.forms.items ≡ map full_form c.args.forms.now.items ++ reverse (map full_form (forms_of_statements b after out)) = search rules in
-    let two : map full_form c.put_block-in-Loop-2.new.forms.items ≡ map full_form c.put_block-in-Loop.new.forms.items ++ reverse (map full_form (forms_of_statements a (Some c.head_form-head.result) c.inside_too.result)) = search rules in
+    = record {
+      spans = spans;
+      before = before;
+      other_is = c.leads_to-in-Loop.ensures;
+      behind_is = c.leads_to-in-Loop-2.ensures;
+      last_is = c.last_turn-last.ensures;
+    } in
+    let one : map full_form c.put_block-in-Loop.new.forms.items
+    ≡ map full_form c.args.forms.now.items ++ reverse (map full_form (forms_of_statements b after out)) = search rules in
+    let two : map full_form c.put_block-in-Loop-2.new.forms.items
+    ≡ map full_form c.put_block-in-Loop.new.forms.items ++ reverse
+    (map full_form (forms_of_statements a (Some c.head_form-head.result) c.inside_too.result)) = search rules in
     rw c.in-Loop.is
-    (forms_loop a b after out u c.in_ok-other-in-Loop.other c.leads_to-in-Loop.result c.leads_to-in-Loop-2.result c.last_turn-last.result parts n c.head_form-head.result c.inside_too.result c.args.forms.now.items c.put_block-in-Loop.new.forms.items c.put_block-in-Loop-2.new.forms.items c.push-in-Loop.new.forms.items
+    (forms_loop a b after out u c.in_ok-other-in-Loop.other c.leads_to-in-Loop.result c.leads_to-in-Loop-2.result c.last_turn-last.result parts n
+    c.head_form-head.result c.inside_too.result c.args.forms.now.items c.put_block-in-Loop.new.forms.items c.put_block-in-Loop-2.new.forms.items
+    c.push-in-Loop.new.forms.items
     c.head_form-head.ensures c.inside_too.ensures c.in_ok-push-in-Loop.ensures.items two one)
 
 pub put_stmt-returns-in_ok-form-in-Phase-clause-before : goal.put_stmt-returns-in_ok-form-in-Phase-clause-before
@@ -129,7 +164,8 @@ put_stmt-returns-in_ok-form-in-Phase-clause-before t c =
     let y = form_statements b c.args.after c.args.out in
     let e : in_full c.in_ok-one-in-Phase.one ≡ in_full x = search rules in
     let f : in_full c.in_ok-other-in-Phase.other ≡ in_full y = search rules in
-    let g = c.leads_to.ensures ∙ leads_same c.either_form.result (either_form x y) (c.either_form.ensures ∙ either_same c.in_ok-one-in-Phase.one x c.in_ok-other-in-Phase.other y e f) in
+    let g = c.leads_to.ensures ∙ leads_same c.either_form.result (either_form x y)
+    (c.either_form.ensures ∙ either_same c.in_ok-one-in-Phase.one x c.in_ok-other-in-Phase.other y e f) in
     rw c.in-Phase.is (ap full_form c.in_ok-form-in-Phase.ensures.same ∙ g)
 
 pub put_stmt-returns-in_ok-form-in-Phase-clause-forms : goal.put_stmt-returns-in_ok-form-in-Phase-clause-forms
@@ -140,11 +176,15 @@ put_stmt-returns-in_ok-form-in-Phase-clause-forms t c =
     let y = form_statements b c.args.after c.args.out in
     let e : in_full c.in_ok-one-in-Phase.one ≡ in_full x = search rules in
     let f : in_full c.in_ok-other-in-Phase.other ≡ in_full y = search rules in
-    let g = c.leads_to.ensures ∙ leads_same c.either_form.result (either_form x y) (c.either_form.ensures ∙ either_same c.in_ok-one-in-Phase.one x c.in_ok-other-in-Phase.other y e f) in
-    let one : map full_form c.put_block.new.forms.items ≡ map full_form c.args.forms.now.items ++ reverse (map full_form (forms_of_statements b c.args.after c.args.out)) = search rules in
-    let two : map full_form c.put_block-in-Phase.new.forms.items ≡ map full_form c.put_block.new.forms.items ++ reverse (map full_form (forms_of_statements a c.args.after c.args.out)) = search rules in
+    let g = c.leads_to.ensures ∙ leads_same c.either_form.result (either_form x y)
+    (c.either_form.ensures ∙ either_same c.in_ok-one-in-Phase.one x c.in_ok-other-in-Phase.other y e f) in
+    let one : map full_form c.put_block.new.forms.items ≡ map full_form c.args.forms.now.items ++ reverse
+    (map full_form (forms_of_statements b c.args.after c.args.out)) = search rules in
+    let two : map full_form c.put_block-in-Phase.new.forms.items
+    ≡ map full_form c.put_block.new.forms.items ++ reverse (map full_form (forms_of_statements a c.args.after c.args.out)) = search rules in
     rw c.in-Phase.is
-    (forms_three c.args.forms.now.items c.put_block.new.forms.items c.put_block-in-Phase.new.forms.items c.push-in-Phase.new.forms.items c.leads_to.result (leads_to (either_form x y))
+    (forms_three c.args.forms.now.items c.put_block.new.forms.items c.put_block-in-Phase.new.forms.items c.push-in-Phase.new.forms.items c.leads_to.result
+    (leads_to (either_form x y))
     (forms_of_statements a c.args.after c.args.out) (forms_of_statements b c.args.after c.args.out) c.in_ok-form-in-Phase.ensures.items two one g)
 
 pub put_stmt-returns-in_ok-form-in-If-clause-before : goal.put_stmt-returns-in_ok-form-in-If-clause-before
@@ -155,7 +195,8 @@ put_stmt-returns-in_ok-form-in-If-clause-before t c =
     let y = form_statements b c.args.after c.args.out in
     let e : in_full c.in_ok-one-in-If.one ≡ in_full x = search rules in
     let f : in_full c.in_ok-other-in-If.other ≡ in_full y = search rules in
-    let g = c.leads_to-in-If.ensures ∙ leads_same c.either_form-in-If.result (either_form x y) (c.either_form-in-If.ensures ∙ either_same c.in_ok-one-in-If.one x c.in_ok-other-in-If.other y e f) in
+    let g = c.leads_to-in-If.ensures ∙ leads_same c.either_form-in-If.result (either_form x y)
+    (c.either_form-in-If.ensures ∙ either_same c.in_ok-one-in-If.one x c.in_ok-other-in-If.other y e f) in
     rw c.in-If.is (ap full_form c.in_ok-form-in-If.ensures.same ∙ g)
 
 pub put_stmt-returns-in_ok-form-in-If-clause-forms : goal.put_stmt-returns-in_ok-form-in-If-clause-forms
@@ -166,16 +207,21 @@ put_stmt-returns-in_ok-form-in-If-clause-forms t c =
     let y = form_statements b c.args.after c.args.out in
     let e : in_full c.in_ok-one-in-If.one ≡ in_full x = search rules in
     let f : in_full c.in_ok-other-in-If.other ≡ in_full y = search rules in
-    let g = c.leads_to-in-If.ensures ∙ leads_same c.either_form-in-If.result (either_form x y) (c.either_form-in-If.ensures ∙ either_same c.in_ok-one-in-If.one x c.in_ok-other-in-If.other y e f) in
-    let one : map full_form c.put_block-in-If.new.forms.items ≡ map full_form c.args.forms.now.items ++ reverse (map full_form (forms_of_statements b c.args.after c.args.out)) = search rules in
-    let two : map full_form c.put_block-in-If-2.new.forms.items ≡ map full_form c.put_block-in-If.new.forms.items ++ reverse (map full_form (forms_of_statements a c.args.after c.args.out)) = search rules in
+    let g = c.leads_to-in-If.ensures ∙ leads_same c.either_form-in-If.result (either_form x y)
+    (c.either_form-in-If.ensures ∙ either_same c.in_ok-one-in-If.one x c.in_ok-other-in-If.other y e f) in
+    let one : map full_form c.put_block-in-If.new.forms.items
+    ≡ map full_form c.args.forms.now.items ++ reverse (map full_form (forms_of_statements b c.args.after c.args.out)) = search rules in
+    let two : map full_form c.put_block-in-If-2.new.forms.items
+    ≡ map full_form c.put_block-in-If.new.forms.items ++ reverse (map full_form (forms_of_statements a c.args.after c.args.out)) = search rules in
     rw c.in-If.is
-    (forms_three c.args.forms.now.items c.put_block-in-If.new.forms.items c.put_block-in-If-2.new.forms.items c.push-in-If.new.forms.items c.leads_to-in-If.result (leads_to (either_form x y))
+    (forms_three c.args.forms.now.items c.put_block-in-If.new.forms.items c.put_block-in-If-2.new.forms.items c.push-in-If.new.forms.items
+    c.leads_to-in-If.result (leads_to (either_form x y))
     (forms_of_statements a c.args.after c.args.out) (forms_of_statements b c.args.after c.args.out) c.in_ok-form-in-If.ensures.items two one g)
 
 pub put_cases-loop-block-init : goal.put_cases-loop-block-init
 put_cases-loop-block-init t c =
-    row_begins (ways_size (ways_of c.args.cases.now)) c.args.after c.args.out (ways_of c.args.cases.now) c.args.forms.now.items _ c.in_ok-blocks.ensures (omega arith) c.requires.few c.requires.turns
+    row_begins (ways_size (ways_of c.args.cases.now)) c.args.after c.args.out (ways_of c.args.cases.now) c.args.forms.now.items _ c.in_ok-blocks.ensures
+    (omega arith) c.requires.few c.requires.turns
 
 pub put_cases-put_block-requires : goal.put_cases-put_block-requires
 put_cases-put_block-requires t c =
@@ -183,8 +229,10 @@ put_cases-put_block-requires t c =
     let front = map (λ b. statements_of b.now) c.pop.new.self.items in
     let blocks = map (λ b. statements_of b.now) c.loop-block.blocks.items in
     let b = statements_of c.in-Some.block.now in
-    let is : blocks ≡ front ++ b ∷ [] = ap (map (λ b. statements_of b.now)) c.in-Some.ensures.items ∙ map-append (λ b. statements_of b.now) c.pop.new.self.items (c.in-Some.block ∷ []) in
-    let fits = row_fits size c.args.after c.args.out (ways_of c.args.cases.now) c.args.forms.now.items front blocks b c.loop-block.before c.loop-block.forms.items is c.loop-block.invariant in
+    let is : blocks ≡ front ++ b ∷ [] = ap (map (λ b. statements_of b.now)) c.in-Some.ensures.items
+    ∙ map-append (λ b. statements_of b.now) c.pop.new.self.items (c.in-Some.block ∷ []) in
+    let fits = row_fits size c.args.after c.args.out
+    (ways_of c.args.cases.now) c.args.forms.now.items front blocks b c.loop-block.before c.loop-block.forms.items is c.loop-block.invariant in
     let small = fits.small in
     let few = fits.few in
     let turn = fits.turns in
@@ -196,18 +244,22 @@ put_cases-loop-block-preserved t c =
     let front = map (λ b. statements_of b.now) c.pop.new.self.items in
     let blocks = map (λ b. statements_of b.now) c.loop-block.blocks.items in
     let b = statements_of c.in-Some.block.now in
-    let is : blocks ≡ front ++ b ∷ [] = ap (map (λ b. statements_of b.now)) c.in-Some.ensures.items ∙ map-append (λ b. statements_of b.now) c.pop.new.self.items (c.in-Some.block ∷ []) in
-    row_goes_on size c.args.after c.args.out (ways_of c.args.cases.now) c.args.forms.now.items front blocks b c.loop-block.before c.loop-block.forms.items is c.loop-block.invariant
+    let is : blocks ≡ front ++ b ∷ [] = ap (map (λ b. statements_of b.now)) c.in-Some.ensures.items
+    ∙ map-append (λ b. statements_of b.now) c.pop.new.self.items (c.in-Some.block ∷ []) in
+    row_goes_on size c.args.after c.args.out
+    (ways_of c.args.cases.now) c.args.forms.now.items front blocks b c.loop-block.before c.loop-block.forms.items is c.loop-block.invariant
     c.in_ok-one.one c.either_form-before.result c.put_block.new.forms.items c.in_ok-one.ensures.before c.either_form-before.ensures c.in_ok-one.ensures.forms
 
 pub put_cases-returns-clause-before : goal.put_cases-returns-clause-before
 put_cases-returns-clause-before t c =
     let size = ways_size (ways_of c.args.cases.now) in
     let e : map (λ b. statements_of b.now) c.loop-block.blocks.items ≡ [] = search rules in
-    row_before_end size c.args.after c.args.out (ways_of c.args.cases.now) c.args.forms.now.items _ c.loop-block.before c.loop-block.forms.items e c.loop-block.invariant
+    row_before_end size c.args.after c.args.out
+    (ways_of c.args.cases.now) c.args.forms.now.items _ c.loop-block.before c.loop-block.forms.items e c.loop-block.invariant
 
 pub put_cases-returns-clause-forms : goal.put_cases-returns-clause-forms
 put_cases-returns-clause-forms t c =
     let size = ways_size (ways_of c.args.cases.now) in
     let e : map (λ b. statements_of b.now) c.loop-block.blocks.items ≡ [] = search rules in
-    row_forms_end size c.args.after c.args.out (ways_of c.args.cases.now) c.args.forms.now.items _ c.loop-block.before c.loop-block.forms.items e c.loop-block.invariant
+    row_forms_end size c.args.after c.args.out
+    (ways_of c.args.cases.now) c.args.forms.now.items _ c.loop-block.before c.loop-block.forms.items e c.loop-block.invariant

@@ -15,7 +15,8 @@ decreases-put_stmt l = statement_size (statement_of l.stmt.now)
 
 abbrev pub invariant-put_cases-loop-block : goal.invariant-put_cases-loop-block
 invariant-put_cases-loop-block l =
-    RowLeft (ways_size (ways_of l.cases)) l.after l.out (ways_of l.cases) l.initial.forms.items (map (λ b. statements_of b.now) l.blocks.items) l.before l.forms.items
+    RowLeft (ways_size (ways_of l.cases)) l.after l.out (ways_of l.cases) l.initial.forms.items
+    (map (λ b. statements_of b.now) l.blocks.items) l.before l.forms.items
 
 abbrev pub decreases-put_cases-loop-block : goal.decreases-put_cases-loop-block
 decreases-put_cases-loop-block l = vec_len l.blocks

@@ -13,11 +13,13 @@ put_block-requires-clause-turns c = rw c.body.ensures.body (script_turns (shown 
 pub returns-clause-forms : goal.returns-clause-forms
 returns-clause-forms c =
     let raw : map full_form c.put_block.new.forms.items ≡ reverse (map full_form (forms_of (shown c.args.script.now).body)) = search rules in
-    let same = in_order c.put_block.new.forms.items (forms_of (shown c.args.script.now).body) c.deref.result.now raw (c.deref.ensures.value ∙ c.reverse.ensures.items) in
+    let same = in_order c.put_block.new.forms.items (forms_of (shown c.args.script.now).body) c.deref.result.now raw
+    (c.deref.ensures.value ∙ c.reverse.ensures.items) in
     subst (λ l. IfOk c.within_limits.result (λ w. w.items ≡ l)) same c.within_limits.ensures.forms
 
 pub returns-clause-too_many : goal.returns-clause-too_many
 returns-clause-too_many c =
     let raw : map full_form c.put_block.new.forms.items ≡ reverse (map full_form (forms_of (shown c.args.script.now).body)) = search rules in
-    let same = in_order c.put_block.new.forms.items (forms_of (shown c.args.script.now).body) c.deref.result.now raw (c.deref.ensures.value ∙ c.reverse.ensures.items) in
+    let same = in_order c.put_block.new.forms.items (forms_of (shown c.args.script.now).body) c.deref.result.now raw
+    (c.deref.ensures.value ∙ c.reverse.ensures.items) in
     subst (λ l. IfErr c.within_limits.result (λ (e : CertifyFault). e ≡ TooMany → All FormInLimits l → ⊥)) same c.within_limits.ensures.too_many

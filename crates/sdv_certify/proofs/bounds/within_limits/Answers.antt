@@ -9,4 +9,5 @@ of_false h = search rules
 
 pub returns-then-not-in_limits-clause-too_many : goal.returns-then-not-in_limits-clause-too_many
 returns-then-not-in_limits-clause-too_many c =
-    λ e all. of_false (c.if-not-in_limits.ensures.1 (rw c.whole-form.ensures (limits_at c.args.forms.now c.loop-form.form-index (record { base = 0; each = [] }) (omega arith) all)))
+    λ e all. of_false (c.if-not-in_limits.ensures.1 (rw c.whole-form.ensures
+    (limits_at c.args.forms.now c.loop-form.form-index (record { base = 0; each = [] }) (omega arith) all)))

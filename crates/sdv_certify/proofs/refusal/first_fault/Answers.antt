@@ -7,7 +7,8 @@ use Rattle.sdv_certify.proofs.refusal.first_fault.Goals as goal
 pub returns-in-Some-clause-fails : goal.returns-in-Some-clause-fails
 returns-in-Some-clause-fails g c =
     let o = c.index-family-point.result in
-    fails_first c.args.graph.now g.T.CardTable.kind c.args.family.now c.loop-point.point (place_of c.point.result.now) o c.in-Some.fault c.requires.kind c.loop-point.invariant c.point.ensures
+    fails_first c.args.graph.now g.T.CardTable.kind c.args.family.now c.loop-point.point
+    (place_of c.point.result.now) o c.in-Some.fault c.requires.kind c.loop-point.invariant c.point.ensures
     (at_place c.args.family.now c.loop-point.point o (omega arith) ∙ sym c.index-family-point.is) c.in-Some.ensures.fails
 
 pub loop-point-preserved : goal.loop-point-preserved

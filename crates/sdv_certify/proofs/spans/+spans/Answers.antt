@@ -30,7 +30,8 @@ stmt_spans-all_turns-requires t c =
     let n = c.in-Loop.turns in
     let a = statements_of c.in-Loop.a.value in
     let b = statements_of c.in-Loop.b.value in
-    let m : 1 + (n * (1 + statements_moves a) + statements_moves a + statements_moves b) < 2 ^ 128 = subst (λ s. statement_moves (statement_of s) < 2 ^ 128) c.in-Loop.is c.requires in
+    let m : 1 + (n * (1 + statements_moves a) + statements_moves a + statements_moves b) < 2 ^ 128 =
+    subst (λ s. statement_moves (statement_of s) < 2 ^ 128) c.in-Loop.is c.requires in
     let e : c.block_spans-in-Loop.result ≡ spans_statements a = search in
     let f : c.block_spans-in-Loop-2.result ≡ spans_statements b = search in
     let l = longest_statements a in
@@ -43,7 +44,8 @@ cases_spans-loop-rest-preserved t c =
     let r = ways_of c.in-Case.others.value in
     let e : c.block_spans-in-Case.result ≡ spans_statements b = search rules in
     let f : spans_ways (ways_of c.deref-rest.result.now) ≡ spans_ways r = ap (λ w. spans_ways (ways_of w)) c.deref-rest.ensures in
-    let whole = subst (λ w. either c.loop-rest.spans (spans_ways (ways_of w)) ≡ spans_ways (ways_of c.args.cases.now)) c.in-Case.is c.loop-rest.invariant.same in
+    let whole = subst (λ w. either c.loop-rest.spans (spans_ways (ways_of w))
+    ≡ spans_ways (ways_of c.args.cases.now)) c.in-Case.is c.loop-rest.invariant.same in
     let size = subst (λ w. ways_size (ways_of w) ≤ ways_size (ways_of c.args.cases.now)) c.in-Case.is c.loop-rest.invariant.small in
     let moves = subst (λ w. ways_moves (ways_of w) ≤ ways_moves (ways_of c.args.cases.now)) c.in-Case.is c.loop-rest.invariant.few in
     record {

@@ -5,11 +5,13 @@ use Rattle.sdv_certify.proofs.writing.put_line.Goals as goal
 
 pub loop-shape-init : goal.loop-shape-init
 loop-shape-init g c =
-    let front = front_made c.new-line.result.items c.push_bound.new.line.items c.push_numbers.new.line.items c.args.place c.args.point.now c.new-line.ensures c.push_bound.ensures.items c.push_numbers.ensures.items in
+    let front = front_made c.new-line.result.items c.push_bound.new.line.items c.push_numbers.new.line.items c.args.place c.args.point.now c.new-line.ensures
+    c.push_bound.ensures.items c.push_numbers.ensures.items in
     let none : length c.new-line.result.items ≡ 0 = ap length c.new-line.ensures in
     let out = g.W.Write.contents c.args.out.now in
     record {
-      held = subst (λ s. Held (line_text c.args.place c.args.point.now) out out c.push_numbers.new.line.items (shapes_text s)) (sym c.shapes-shapes.ensures.value) (line_begins out c.push_numbers.new.line.items c.args.place c.args.point.now front);
+      held = subst (λ s. Held (line_text c.args.place c.args.point.now) out out c.push_numbers.new.line.items (shapes_text s))
+          (sym c.shapes-shapes.ensures.value) (line_begins out c.push_numbers.new.line.items c.args.place c.args.point.now front);
       room = omega (arith, none, c.push_bound.ensures.len, c.push_numbers.ensures.len);
     }
 
@@ -27,7 +29,8 @@ loop-shape-preserved g c =
     let mid = g.W.Write.contents c.loop-shape.out in
     record {
       held = one_held line old mid _ c.loop-shape.line.items c.make_room.new.line.items c.push_shape.new.line.items _ (shapes_text (drop (i + 1) shapes))
-          (subst (λ (l : List ℕ). Held line old mid c.loop-shape.line.items l) (last_shape shapes i _ c.loop-shape-test.true) c.loop-shape.invariant.held) c.in_ok-make_room.ensures.passed c.push_shape.ensures.items;
+          (subst (λ (l : List ℕ). Held line old mid c.loop-shape.line.items l)
+          (last_shape shapes i _ c.loop-shape-test.true) c.loop-shape.invariant.held) c.in_ok-make_room.ensures.passed c.push_shape.ensures.items;
       room = omega (arith, c.in_ok-make_room.ensures.room, c.push_shape.ensures.len);
     }
 
@@ -37,5 +40,6 @@ returns g c =
     let old = g.W.Write.contents c.args.out.now in
     let mid = g.W.Write.contents c.loop-shape.out in
     line_ends c.write_text.result line old mid _ c.loop-shape.line.items c.as_slice.result.now
-    (subst (λ (l : List ℕ). Held line old mid c.loop-shape.line.items l) (no_shape c.shapes-shapes.result.now c.loop-shape.shape-index c.loop-shape-test.false) c.loop-shape.invariant.held)
+    (subst (λ (l : List ℕ). Held line old mid c.loop-shape.line.items l)
+    (no_shape c.shapes-shapes.result.now c.loop-shape.shape-index c.loop-shape-test.false) c.loop-shape.invariant.held)
     (c.as_slice.ensures.value ∙ c.push.ensures.items) c.write_text.ensures

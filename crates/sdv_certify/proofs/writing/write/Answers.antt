@@ -6,7 +6,8 @@ use Rattle.sdv_certify.proofs.writing.write.Goals as goal
 
 pub returns-in_err-put_title : goal.returns-in_err-put_title
 returns-in_err-put_title g c =
-    same_text c.from_residual.result _ _ _ _ (ap text_of c.points-points.ensures.value) (title_failed c.from_residual.result _ _ c.points-points.result.now c.from_residual.ensures.0 c.in_err-put_title.ensures)
+    same_text c.from_residual.result _ _ _ _ (ap text_of c.points-points.ensures.value)
+    (title_failed c.from_residual.result _ _ c.points-points.result.now c.from_residual.ensures.0 c.in_err-put_title.ensures)
 
 pub loop-place-init : goal.loop-place-init
 loop-place-init g c = (title_text (length c.points-points.result.now), text_is c.points-points.result.now, c.in_ok-put_title.ensures)
@@ -14,18 +15,23 @@ loop-place-init g c = (title_text (length c.points-points.result.now), text_is c
 pub returns-in_err-put_line : goal.returns-in_err-put_line
 returns-in_err-put_line g c =
     let i = c.loop-place.invariant in
-    let e = i.1 ∙ ap (λ (l : List ℕ). i.0 ++ l) (next_line c.points-points.result.now c.loop-place.place c.index-points-place.result c.loop-place-test.true c.index-points-place.is) in
+    let e = i.1 ∙ ap (λ (l : List ℕ). i.0 ++ l)
+    (next_line c.points-points.result.now c.loop-place.place c.index-points-place.result c.loop-place-test.true c.index-points-place.is) in
     same_text c.from_residual-in_err-put_line.result _ _ _ _ (ap text_of c.points-points.ensures.value)
     (failed c.from_residual-in_err-put_line.result _ _ (text_of c.points-points.result.now) c.from_residual-in_err-put_line.ensures.0
-    (one_failed _ _ _ (text_of c.points-points.result.now) i.0 (line_text c.loop-place.place c.index-points-place.result) (lines_text (c.loop-place.place + 1) (drop (c.loop-place.place + 1) c.points-points.result.now)) e i.2 c.in_err-put_line.ensures))
+    (one_failed _ _ _ (text_of c.points-points.result.now) i.0 (line_text c.loop-place.place c.index-points-place.result)
+    (lines_text (c.loop-place.place + 1) (drop (c.loop-place.place + 1) c.points-points.result.now)) e i.2 c.in_err-put_line.ensures))
 
 pub loop-place-preserved : goal.loop-place-preserved
 loop-place-preserved g c =
     let i = c.loop-place.invariant in
-    let e = i.1 ∙ ap (λ (l : List ℕ). i.0 ++ l) (next_line c.points-points.result.now c.loop-place.place c.index-points-place.result c.loop-place-test.true c.index-points-place.is) in
-    one_more _ _ _ (text_of c.points-points.result.now) i.0 (line_text c.loop-place.place c.index-points-place.result) (lines_text (c.loop-place.place + 1) (drop (c.loop-place.place + 1) c.points-points.result.now)) e i.2 c.in_ok-put_line.ensures
+    let e = i.1 ∙ ap (λ (l : List ℕ). i.0 ++ l)
+    (next_line c.points-points.result.now c.loop-place.place c.index-points-place.result c.loop-place-test.true c.index-points-place.is) in
+    one_more _ _ _ (text_of c.points-points.result.now) i.0 (line_text c.loop-place.place c.index-points-place.result)
+    (lines_text (c.loop-place.place + 1) (drop (c.loop-place.place + 1) c.points-points.result.now)) e i.2 c.in_ok-put_line.ensures
 
 pub returns : goal.returns
 returns g c =
     let i = c.loop-place.invariant in
-    all_written _ _ (text_of c.args.certificate.now) i.0 _ (ap text_of (sym c.points-points.ensures.value) ∙ i.1) (no_line c.points-points.result.now c.loop-place.place c.loop-place-test.false) i.2
+    all_written _ _ (text_of c.args.certificate.now) i.0 _ (ap text_of (sym c.points-points.ensures.value) ∙ i.1)
+    (no_line c.points-points.result.now c.loop-place.place c.loop-place-test.false) i.2

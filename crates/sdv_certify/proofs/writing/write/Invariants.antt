@@ -7,4 +7,5 @@ use Rattle.sdv_certify.proofs.writing.write.Given as goal
 -- what is written and what is left are the text
 abbrev pub invariant-loop-place : goal.invariant-loop-place
 invariant-loop-place g l =
-    (written : List ℕ) × (text_of l.points ≡ written ++ lines_text l.place (drop l.place l.points)) × Appends (g.W.Write.contents l.fn.out) (g.W.Write.contents l.out) written
+    (written : List ℕ) × (text_of l.points ≡ written ++ lines_text l.place (drop l.place l.points))
+    × Appends (g.W.Write.contents l.fn.out) (g.W.Write.contents l.out) written

@@ -12,14 +12,17 @@ pub returns-in-Some : goal.returns-in-Some
 returns-in-Some g c =
     let graph = c.args.graph.now in
     let ps = c.points-points.result.now in
-    let fault = fails graph ps c.in-Some.clause c.in-Some.number (c.points_match.ensures.0 c.if-not-points_match.false) (c.start_covers.ensures.0 c.if-not-start_covers.false) c.in-Some.ensures in
-    subst (λ v. Fails graph c.args.certificate.now v) (sym c.fault_of.ensures) (subst (λ v. Fails graph v (fault_of c.in-Some.clause c.in-Some.number)) c.points-points.ensures.value fault)
+    let fault = fails graph ps c.in-Some.clause c.in-Some.number (c.points_match.ensures.0 c.if-not-points_match.false)
+    (c.start_covers.ensures.0 c.if-not-start_covers.false) c.in-Some.ensures in
+    subst (λ v. Fails graph c.args.certificate.now v) (sym c.fault_of.ensures)
+    (subst (λ v. Fails graph v (fault_of c.in-Some.clause c.in-Some.number)) c.points-points.ensures.value fault)
 
 pub returns-in-None : goal.returns-in-None
 returns-in-None g c =
     let graph = c.args.graph.now in
     let ps = c.points-points.result.now in
-    let closed = all_closed graph ps (c.points_match.ensures.0 c.if-not-points_match.false) (c.start_covers.ensures.0 c.if-not-start_covers.false) c.in-None.ensures in (
+    let closed = all_closed graph ps (c.points_match.ensures.0 c.if-not-points_match.false)
+    (c.start_covers.ensures.0 c.if-not-start_covers.false) c.in-None.ensures in (
       subst (λ v. Closed graph v) c.points-points.ensures.value closed,
       c.bound_at_start.ensures ∙ ap (λ v. bound_at (slice_get v 0) (turns_at c.args.first [])) c.points-points.ensures.value
           ∙ ap (λ t. bound_at (slice_get c.args.certificate.now 0) (turns_at t [])) c.requires.first,

@@ -8,10 +8,14 @@ use Rattle.sdv_check.proofs.edges.outcomes_hold.Goals as goal
 
 pub returns-then-not-outcome_holds : goal.returns-then-not-outcome_holds
 returns-then-not-outcome_holds c =
-    let P : Outcome → Type 0 = λ o. EachWay (forks_of c.args.cases) c.args.other o.seen (λ t. RuleFrom c.args.rules c.args.at Same t o.shape c.args.at.facts.now.facts.numbers) in
-    fails_at P c.args.outcomes.now c.loop-outcome.outcome-index _ c.outcome_holds.result c.loop-outcome-test.true c.outcome_holds.ensures c.if-not-outcome_holds.true
+    let P : Outcome → Type 0 = λ o. EachWay (forks_of c.args.cases) c.args.other o.seen
+    (λ t. RuleFrom c.args.rules c.args.at Same t o.shape c.args.at.facts.now.facts.numbers) in
+    fails_at P c.args.outcomes.now c.loop-outcome.outcome-index _ c.outcome_holds.result c.loop-outcome-test.true c.outcome_holds.ensures
+    c.if-not-outcome_holds.true
 
 pub loop-outcome-preserved : goal.loop-outcome-preserved
 loop-outcome-preserved c =
-    let P : Outcome → Type 0 = λ o. EachWay (forks_of c.args.cases) c.args.other o.seen (λ t. RuleFrom c.args.rules c.args.at Same t o.shape c.args.at.facts.now.facts.numbers) in
-    each_more P c.args.outcomes.now c.loop-outcome.outcome-index _ c.loop-outcome-test.true c.loop-outcome.invariant (c.outcome_holds.ensures.0 c.if-not-outcome_holds.false)
+    let P : Outcome → Type 0 = λ o. EachWay (forks_of c.args.cases) c.args.other o.seen
+    (λ t. RuleFrom c.args.rules c.args.at Same t o.shape c.args.at.facts.now.facts.numbers) in
+    each_more P c.args.outcomes.now c.loop-outcome.outcome-index _ c.loop-outcome-test.true c.loop-outcome.invariant
+    (c.outcome_holds.ensures.0 c.if-not-outcome_holds.false)

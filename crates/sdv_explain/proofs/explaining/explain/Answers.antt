@@ -14,5 +14,6 @@ returns-clause-explained c = record {
 pub returns-in_err-known-clause-refused : goal.returns-in_err-known-clause-refused
 returns-in_err-known-clause-refused c =
     let known = c.in_err-known.ensures in
-    let h = unexplained c.in_ok-script.script c.args.text.now c.in_err-known.field-0.0 c.in_ok-script.ensures.text c.in_ok-script.ensures.script known.refused known.others in
+    let h = unexplained c.in_ok-script.script c.args.text.now c.in_err-known.field-0.0 c.in_ok-script.ensures.text c.in_ok-script.ensures.script known.refused
+    known.others in
     search rules

@@ -8,12 +8,14 @@ use Rattle.sdv_frames.proofs.FrameLaws.{command_found, one_command, no_command, 
 use Rattle.sdv_frames.proofs.command.decode_command.Goals as goal
 
 pub returns-in_err-examine-clause-only : goal.returns-in_err-examine-clause-only
-returns-in_err-examine-clause-only c d h s = absurd (no_command d c.of_command.result (bits_of c.args.bytes.now) c.of_command.ensures c.in_err-examine.ensures.err h s)
+returns-in_err-examine-clause-only c d h s = absurd (no_command d c.of_command.result
+    (bits_of c.args.bytes.now) c.of_command.ensures c.in_err-examine.ensures.err h s)
 
 pub returns-in_err-examine-clause-faults : goal.returns-in_err-examine-clause-faults
 returns-in_err-examine-clause-faults c =
     let p = err_from_is_err_and c.from_residual.result c.from_residual.ensures.1 in
-    rw (p.1, p.2) (may_refuse c.of_command.result (bits_of c.args.bytes.now) c.of_command.ensures (length_fits c.args.bytes.now 6 c.told-bytes) c.in_err-examine.ensures.err)
+    rw (p.1, p.2) (may_refuse c.of_command.result (bits_of c.args.bytes.now) c.of_command.ensures
+    (length_fits c.args.bytes.now 6 c.told-bytes) c.in_err-examine.ensures.err)
 
 pub returns-clause-found : goal.returns-clause-found
 returns-clause-found c =

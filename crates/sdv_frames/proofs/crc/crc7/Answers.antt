@@ -11,5 +11,6 @@ loop-byte-init c = record { degree = omega arith; remainder = crc7-nothing }
 pub loop-byte-preserved : goal.loop-byte-preserved
 loop-byte-preserved c = record {
   degree = c.with_byte-crc.ensures.degree;
-  remainder = rw (bits_of-take c.args.bytes.now c.loop-byte.byte-index c.loop-byte-test.true) (c.with_byte-crc.ensures.remainder _ c.loop-byte.invariant.remainder);
+  remainder = rw (bits_of-take c.args.bytes.now c.loop-byte.byte-index c.loop-byte-test.true)
+      (c.with_byte-crc.ensures.remainder _ c.loop-byte.invariant.remainder);
 }

@@ -11,6 +11,9 @@ pub loop-place-preserved : goal.loop-place-preserved
 loop-place-preserved c = record {
   degree = c.with_bit-after.ensures.degree;
   remainder = λ message start.
-      rw (next_bit c.loop-place.place c.args.byte c.loop-place-test.true, ← append_assoc message (bits c.loop-place.place (c.args.byte / 2 ^ (8 - c.loop-place.place))))
+      rw (
+        next_bit c.loop-place.place c.args.byte c.loop-place-test.true,
+        ← append_assoc message (bits c.loop-place.place (c.args.byte / 2 ^ (8 - c.loop-place.place))),
+      )
       (c.with_bit-after.ensures.remainder _ (c.loop-place.invariant.remainder message start));
 }

@@ -7,4 +7,5 @@ returns-in-CrcOfAll c = rw c.in-CrcOfAll.is (crc_by_test _ c.crc7.result c.args.
 pub returns-in-CrcOfContents : goal.returns-in-CrcOfContents
 returns-in-CrcOfContents c =
     rw c.in-CrcOfContents.is
-    (contents_by_test c.args.front.now c.crc7-in-CrcOfContents.result c.args.seven c.requires.contents c.crc7-in-CrcOfContents.ensures.degree c.requires.bits c.crc7-in-CrcOfContents.ensures.remainder)
+    (contents_by_test c.args.front.now c.crc7-in-CrcOfContents.result c.args.seven c.requires.contents c.crc7-in-CrcOfContents.ensures.degree c.requires.bits
+    c.crc7-in-CrcOfContents.ensures.remainder)

@@ -7,7 +7,8 @@ use Rattle.sdv_frames.proofs.reply.encode_reply.Goals as goal
 pub returns-in-R1 : goal.returns-in-R1
 returns-in-R1 c =
     rw (c.in-R1.is, c.of_six.ensures)
-    (sealed_frame false c.in-R1.index c.in-R1.status c.in-R1.index (bits_of c.sealed.result) (reply_byte c.in-R1.index (rw c.in-R1.is at c.requires)) c.sealed.ensures)
+    (sealed_frame false c.in-R1.index c.in-R1.status c.in-R1.index (bits_of c.sealed.result)
+    (reply_byte c.in-R1.index (rw c.in-R1.is at c.requires)) c.sealed.ensures)
 
 pub returns-in-R3 : goal.returns-in-R3
 returns-in-R3 c = rw c.in-R3.is (ones_frame c.in-R3.ocr (bits_of c.of_six-in-R3.result.items) (ap bits_of c.of_six-in-R3.ensures ∙ c.frame_of.ensures))

@@ -24,7 +24,8 @@ returns-in_err-matches-clause-taken c = λ taken.
 pub returns-in_err-matches-clause-usage : goal.returns-in_err-matches-clause-usage
 returns-in_err-matches-clause-usage c = λ refused.
     let error = c.in_err-matches.field-0.0 in
-    let becomes : IsErrAnd {T = Line} (Err Usage) (λ fault. kind_of error ≡ OutOfMemory → fault ≡ Memory) = rw refused at c.from_residual-in_err-matches.ensures.1 in
+    let becomes : IsErrAnd {T = Line} (Err Usage) (λ fault. kind_of error ≡ OutOfMemory → fault ≡ Memory) =
+    rw refused at c.from_residual-in_err-matches.ensures.1 in
     usage-parsed (app_of c.in_ok-program_command.field-0) (texts c.args.words.now) error c.in_ok-program_command.ensures
     c.in_err-matches.ensures.kinds becomes
 

@@ -15,7 +15,8 @@ returns-clause-part g c =
     let asks : AsksBatch c.args.kind.now c.args.requests.now c.in_ok-kind.kind c.in_ok-requests.requests.items =
     record { named = named; words = c.in_ok-words.words.items; of_text = of_text; are = are } in
     if_err c.map_err.result (λ _. AppendsPart (g.O.Write.contents c.args.out.now) (g.O.Write.contents c.write_text.new.out) c.as_bytes.result.now)
-    (λ fault. fault ≡ Output → PrintsBatchInPart c.args.kind.now c.args.requests.now (g.O.Write.contents c.args.out.now) (g.O.Write.contents c.write_text.new.out))
+    (λ fault. fault ≡ Output → PrintsBatchInPart c.args.kind.now c.args.requests.now (g.O.Write.contents c.args.out.now)
+    (g.O.Write.contents c.write_text.new.out))
     (in_part (g.O.Write.contents c.args.out.now) (g.O.Write.contents c.write_text.new.out) c.as_bytes.result.now c.write_text.result c.map_err.result
     c.map_err.ensures.variant c.write_text.ensures)
     (λ fault part is. record {

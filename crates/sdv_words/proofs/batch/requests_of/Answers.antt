@@ -8,7 +8,8 @@ use Rattle.sdv_words.proofs.batch.requests_of.Goals as goal
 pub loop-i-preserved : goal.loop-i-preserved
 loop-i-preserved c =
     let items : c.push.new.self.items ≡ c.loop-i.requests.items ++ c.in_ok-request.request ∷ [] = search rules in
-    let is : IsRequest (word c.args.words.now (3 * c.loop-i.i)) (word c.args.words.now (3 * c.loop-i.i + 1)) (word c.args.words.now (3 * c.loop-i.i + 2)) c.in_ok-request.request =
+    let is : IsRequest (word c.args.words.now (3 * c.loop-i.i)) (word c.args.words.now (3 * c.loop-i.i + 1))
+    (word c.args.words.now (3 * c.loop-i.i + 2)) c.in_ok-request.request =
     search rules in
     rw items (one_more c.args.words.now c.loop-i.requests.items c.loop-i.i c.in_ok-request.request c.loop-i.invariant is)
 
@@ -20,5 +21,6 @@ pub returns-in_err-request-clause-refused : goal.returns-in_err-request-clause-r
 returns-in_err-request-clause-refused c =
     let p = err_from_is_err_and c.from_residual.result c.from_residual.ensures.1 in
     let usage : c.in_err-request.field-0.0 ≡ Usage = search rules in
-    let none : NoRequest (word c.args.words.now (3 * c.loop-i.i)) (word c.args.words.now (3 * c.loop-i.i + 1)) (word c.args.words.now (3 * c.loop-i.i + 2)) = search rules in
+    let none : NoRequest (word c.args.words.now (3 * c.loop-i.i)) (word c.args.words.now (3 * c.loop-i.i + 1)) (word c.args.words.now (3 * c.loop-i.i + 2)) =
+    search rules in
     rw (p.1, p.2, usage) (none_here c.args.words.now c.loop-i.i (omega arith) none)

@@ -21,9 +21,12 @@ returns-clause-refused g c =
 pub returns-clause-part : goal.returns-clause-part
 returns-clause-part g c =
     let bound : c.bound.result ≡ c.in_ok-accepted.accepted.bound = search rules in
-    let written : Writes (g.O.Write.contents c.args.out.now) (g.O.Write.contents c.print_bound.new.out) c.print_bound.result (accepted_text c.in_ok-accepted.accepted.bound) =
+    let written : Writes (g.O.Write.contents c.args.out.now) (g.O.Write.contents c.print_bound.new.out) c.print_bound.result
+    (accepted_text c.in_ok-accepted.accepted.bound) =
     rw bound at c.print_bound.ensures in
-    if_err c.map_err.result (λ _. AppendsPart (g.O.Write.contents c.args.out.now) (g.O.Write.contents c.print_bound.new.out) (accepted_text c.in_ok-accepted.accepted.bound))
-    (λ fault. fault ≡ Output → AcceptsInPart c.args.script.now c.args.certificate.now (g.O.Write.contents c.args.out.now) (g.O.Write.contents c.print_bound.new.out))
+    if_err c.map_err.result (λ _. AppendsPart (g.O.Write.contents c.args.out.now) (g.O.Write.contents c.print_bound.new.out)
+    (accepted_text c.in_ok-accepted.accepted.bound))
+    (λ fault. fault ≡ Output → AcceptsInPart c.args.script.now c.args.certificate.now (g.O.Write.contents c.args.out.now)
+    (g.O.Write.contents c.print_bound.new.out))
     (in_part _ _ _ c.print_bound.result c.map_err.result c.map_err.ensures.variant written)
     (λ fault printed is. record { acceptance = c.in_ok-accepted.accepted; accepted = c.in_ok-accepted.ensures.verified; printed = printed })

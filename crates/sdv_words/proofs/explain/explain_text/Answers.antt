@@ -16,7 +16,8 @@ returns-then-is_err-clause-fails g c =
       explanation = c.in_ok-text.field-0;
       is_so = is_so;
       printed = subst (λ (t : List ℕ). AppendsPart (g.O.Write.contents c.args.out.now) (g.O.Write.contents c.write_text.new.out) t) items
-          (written_in_part (g.O.Write.contents c.args.out.now) (g.O.Write.contents c.write_text.new.out) c.as_slice.result.now c.write_text.result failed c.write_text.ensures);
+          (written_in_part (g.O.Write.contents c.args.out.now)
+          (g.O.Write.contents c.write_text.new.out) c.as_slice.result.now c.write_text.result failed c.write_text.ensures);
     }
 
 pub returns-in-None-clause-explained : goal.returns-in-None-clause-explained
@@ -30,7 +31,8 @@ returns-in-None-clause-explained g c =
       is_so = is_so;
       refused = refused;
       printed = subst (λ (t : List ℕ). Appends (g.O.Write.contents c.args.out.now) (g.O.Write.contents c.write_text.new.out) t) items
-          (written (g.O.Write.contents c.args.out.now) (g.O.Write.contents c.write_text.new.out) c.as_slice.result.now c.write_text.result none c.write_text.ensures);
+          (written (g.O.Write.contents c.args.out.now)
+          (g.O.Write.contents c.write_text.new.out) c.as_slice.result.now c.write_text.result none c.write_text.ensures);
     }
 
 pub returns-clause-fails : goal.returns-clause-fails
@@ -44,5 +46,6 @@ returns-clause-fails g c =
       is_so = is_so;
       refused = refused;
       printed = subst (λ (t : List ℕ). Appends (g.O.Write.contents c.args.out.now) (g.O.Write.contents c.write_text.new.out) t) items
-          (written (g.O.Write.contents c.args.out.now) (g.O.Write.contents c.write_text.new.out) c.as_slice.result.now c.write_text.result none c.write_text.ensures);
+          (written (g.O.Write.contents c.args.out.now)
+          (g.O.Write.contents c.write_text.new.out) c.as_slice.result.now c.write_text.result none c.write_text.ensures);
     })

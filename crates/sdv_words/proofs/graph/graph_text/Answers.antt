@@ -15,7 +15,8 @@ returns-then-is_err-clause-fails g c =
       drawing = c.in_ok-text.field-0;
       is_so = is_so;
       printed = subst (λ (t : List ℕ). AppendsPart (g.O.Write.contents c.args.out.now) (g.O.Write.contents c.write_text.new.out) t) items
-          (written_in_part (g.O.Write.contents c.args.out.now) (g.O.Write.contents c.write_text.new.out) c.as_slice.result.now c.write_text.result failed c.write_text.ensures);
+          (written_in_part (g.O.Write.contents c.args.out.now)
+          (g.O.Write.contents c.write_text.new.out) c.as_slice.result.now c.write_text.result failed c.write_text.ensures);
     }
 
 pub returns-in-None-clause-drawn : goal.returns-in-None-clause-drawn
@@ -29,7 +30,8 @@ returns-in-None-clause-drawn g c =
       is_so = is_so;
       refused = refused;
       printed = subst (λ (t : List ℕ). Appends (g.O.Write.contents c.args.out.now) (g.O.Write.contents c.write_text.new.out) t) items
-          (written (g.O.Write.contents c.args.out.now) (g.O.Write.contents c.write_text.new.out) c.as_slice.result.now c.write_text.result none c.write_text.ensures);
+          (written (g.O.Write.contents c.args.out.now)
+          (g.O.Write.contents c.write_text.new.out) c.as_slice.result.now c.write_text.result none c.write_text.ensures);
     }
 
 pub returns-clause-fails : goal.returns-clause-fails
@@ -43,5 +45,6 @@ returns-clause-fails g c =
       is_so = is_so;
       refused = refused;
       printed = subst (λ (t : List ℕ). Appends (g.O.Write.contents c.args.out.now) (g.O.Write.contents c.write_text.new.out) t) items
-          (written (g.O.Write.contents c.args.out.now) (g.O.Write.contents c.write_text.new.out) c.as_slice.result.now c.write_text.result none c.write_text.ensures);
+          (written (g.O.Write.contents c.args.out.now)
+          (g.O.Write.contents c.write_text.new.out) c.as_slice.result.now c.write_text.result none c.write_text.ensures);
     }

@@ -7,28 +7,32 @@ use Rattle.sdv_words.proofs.program.answer_line.Goals as goal
 
 pub returns-in_err-index-clause-faults : goal.returns-in_err-index-clause-faults
 returns-in_err-index-clause-faults g c =
-    faults_of_line (store_of g.S.Store.gives g.S.Store.stored g.S.Store.received c.args.files.now) (texts c.args.words.now) c.in_err-index.field-0.0 c.from_residual.result c.requires c.from_residual.ensures.1
+    faults_of_line (store_of g.S.Store.gives g.S.Store.stored g.S.Store.received c.args.files.now)
+    (texts c.args.words.now) c.in_err-index.field-0.0 c.from_residual.result c.requires c.from_residual.ensures.1
     (λ is. c.in_err-index.ensures.usage (ap Err is))
 
 pub returns-in-Frame-clause-faults : goal.returns-in-Frame-clause-faults
 returns-in-Frame-clause-faults g c =
     let meaning : meaning_of (texts c.args.words.now) ≡ Some (frame c.in-Frame.index.now c.in-Frame.argument.now) =
     c.in_ok-index.ensures.ok ∙ ap (λ line. Some (request_of line)) c.in-Frame.is in
-    faults_of_frame (store_of g.S.Store.gives g.S.Store.stored g.S.Store.received c.args.files.now) (texts c.args.words.now) c.in-Frame.index.now c.in-Frame.argument.now c.requires meaning
+    faults_of_frame (store_of g.S.Store.gives g.S.Store.stored g.S.Store.received c.args.files.now)
+    (texts c.args.words.now) c.in-Frame.index.now c.in-Frame.argument.now c.requires meaning
     c.answer_frame.result c.answer_frame.ensures.refused
 
 pub returns-in-Certify-clause-faults : goal.returns-in-Certify-clause-faults
 returns-in-Certify-clause-faults g c =
     let meaning : meaning_of (texts c.args.words.now) ≡ Some (certify c.in-Certify.script.now) =
     c.in_ok-index.ensures.ok ∙ ap (λ line. Some (request_of line)) c.in-Certify.is in
-    faults_of_certify (store_of g.S.Store.gives g.S.Store.stored g.S.Store.received c.args.files.now) (texts c.args.words.now) c.in-Certify.script.now meaning c.certify_file.result
+    faults_of_certify (store_of g.S.Store.gives g.S.Store.stored g.S.Store.received c.args.files.now)
+    (texts c.args.words.now) c.in-Certify.script.now meaning c.certify_file.result
     c.certify_file.ensures.refused
 
 pub returns-in-Check-clause-faults : goal.returns-in-Check-clause-faults
 returns-in-Check-clause-faults g c =
     let meaning : meaning_of (texts c.args.words.now) ≡ Some (check c.in-Check.script.now c.in-Check.certificate.now) =
     c.in_ok-index.ensures.ok ∙ ap (λ line. Some (request_of line)) c.in-Check.is in
-    faults_of_check (store_of g.S.Store.gives g.S.Store.stored g.S.Store.received c.args.files.now) (texts c.args.words.now) c.in-Check.script.now c.in-Check.certificate.now meaning c.check_files.result
+    faults_of_check (store_of g.S.Store.gives g.S.Store.stored g.S.Store.received c.args.files.now)
+    (texts c.args.words.now) c.in-Check.script.now c.in-Check.certificate.now meaning c.check_files.result
     c.check_files.ensures.refused
 
 pub returns-in_err-index-clause-left : goal.returns-in_err-index-clause-left
@@ -75,7 +79,8 @@ pub returns-in-Batch-clause-faults : goal.returns-in-Batch-clause-faults
 returns-in-Batch-clause-faults g c =
     let meaning : meaning_of (texts c.args.words.now) ≡ Some (batch c.in-Batch.kind.now c.in-Batch.requests.now) =
     c.in_ok-index.ensures.ok ∙ ap (λ line. Some (request_of line)) c.in-Batch.is in
-    faults_of_batch (store_of g.S.Store.gives g.S.Store.stored g.S.Store.received c.args.files.now) (texts c.args.words.now) c.in-Batch.kind.now c.in-Batch.requests.now meaning c.print_batch.result
+    faults_of_batch (store_of g.S.Store.gives g.S.Store.stored g.S.Store.received c.args.files.now)
+    (texts c.args.words.now) c.in-Batch.kind.now c.in-Batch.requests.now meaning c.print_batch.result
     c.print_batch.ensures.refused
 
 pub returns-in-Batch-clause-left : goal.returns-in-Batch-clause-left
@@ -89,7 +94,8 @@ pub returns-in-Explain-clause-faults : goal.returns-in-Explain-clause-faults
 returns-in-Explain-clause-faults g c =
     let meaning : meaning_of (texts c.args.words.now) ≡ Some (explain c.in-Explain.script.now) =
     c.in_ok-index.ensures.ok ∙ ap (λ line. Some (request_of line)) c.in-Explain.is in
-    faults_of_explain (store_of g.S.Store.gives g.S.Store.stored g.S.Store.received c.args.files.now) (texts c.args.words.now) c.in-Explain.script.now meaning _ _
+    faults_of_explain (store_of g.S.Store.gives g.S.Store.stored g.S.Store.received c.args.files.now)
+    (texts c.args.words.now) c.in-Explain.script.now meaning _ _
     c.explain_file.result c.explain_file.ensures.fails
 
 pub returns-in-Explain-clause-left : goal.returns-in-Explain-clause-left
@@ -117,7 +123,8 @@ pub returns-in-Print-clause-faults : goal.returns-in-Print-clause-faults
 returns-in-Print-clause-faults g c =
     let meaning : meaning_of (texts c.args.words.now) ≡ Some (print c.in-Print.script.now) =
     c.in_ok-index.ensures.ok ∙ ap (λ line. Some (request_of line)) c.in-Print.is in
-    faults_of_print (store_of g.S.Store.gives g.S.Store.stored g.S.Store.received c.args.files.now) (texts c.args.words.now) c.in-Print.script.now meaning c.print_file.result
+    faults_of_print (store_of g.S.Store.gives g.S.Store.stored g.S.Store.received c.args.files.now)
+    (texts c.args.words.now) c.in-Print.script.now meaning c.print_file.result
     c.print_file.ensures.refused
 
 pub returns-in-Print-clause-left : goal.returns-in-Print-clause-left
