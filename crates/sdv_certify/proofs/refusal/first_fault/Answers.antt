@@ -1,4 +1,4 @@
-use Rattle.std.proofs.Common.{◌∙◌, sym, arith}
+use Rattle.std.proofs.Common.{rules, ◌∙◌, sym, arith}
 use Rattle.sdv_graph.specs.Graph.{place_of}
 use Rattle.sdv_certify.proofs.PassLaws.{at_place}
 use Rattle.sdv_certify.proofs.RefusalLaws.{fails_first, next_fine, fine_here, all_fine}
@@ -20,3 +20,6 @@ loop-point-preserved g c j place h here =
 
 pub returns-clause-fine : goal.returns-clause-fine
 returns-clause-fine g c = all_fine c.args.graph.now c.args.family.now c.loop-point.point c.loop-point.invariant (omega arith)
+
+pub loop-point-init : goal.loop-point-init
+loop-point-init g c = search rules

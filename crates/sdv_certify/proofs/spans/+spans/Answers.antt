@@ -57,3 +57,6 @@ cases_spans-loop-rest-preserved t c =
       small = rw c.deref-rest.ensures (omega (arith, size));
       few = rw c.deref-rest.ensures (omega (arith, moves));
     }
+
+pub stmt_spans-returns-in-Send : goal.stmt_spans-returns-in-Send
+stmt_spans-returns-in-Send t c = search rules

@@ -1,4 +1,4 @@
-use Rattle.std.proofs.Common.{◌-◌, map, sym, ◌∙◌, arith}
+use Rattle.std.proofs.Common.{rules, ◌-◌, map, sym, ◌∙◌, arith}
 use Rattle.std.proofs.lemmas.Result.{err_from_is_err_and}
 use Rattle.std.proofs.lemmas.List.{map-append}
 use Rattle.sdv_script.specs.Place.{names_of, progress_of}
@@ -69,3 +69,6 @@ pub ways-returns : goal.ways-returns
 ways-returns t c =
     sym c.loop-left.invariant ∙ no_level_left (map guarded_of c.loop-left.read.items) c.loop-left.left (names_of c.args.names.now) c.args.depth c.args.order
     (progress_of c.loop-left.from) (omega arith)
+
+pub statement-returns : goal.statement-returns
+statement-returns t c = search rules
