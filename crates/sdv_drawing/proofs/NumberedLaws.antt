@@ -1,5 +1,5 @@
 -- Lines of a list by their numbers: one more of them.
-use Rattle.std.proofs.Common.{◌≡◌, ℕ, zero, suc, ◌+◌, List, [], ◌∷◌, ◌++◌, length, ◌<◌, get_or, Some, drop, slice_get, append_assoc, refl, sym, ap, ◌∙◌, arith}
+use Rattle.std.proofs.Common.{◌≡◌, ℕ, zero, suc, ◌+◌, List, [], ◌∷◌, ◌++◌, length, ◌<◌, get_or, Some, drop, slice_get, append_assoc, sym, ap, ◌∙◌, arith}
 use Rattle.sdv_drawing.specs.Guards.{Text}
 use Rattle.sdv_drawing.specs.Drawing.{numbered}
 

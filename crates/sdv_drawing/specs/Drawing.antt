@@ -1,8 +1,7 @@
 -- The DRAWING of a graph, in the language of Graphviz: a line for each point, in their order, and then a line for each
 -- edge, point by point in the order of the edges of each.
-use Rattle.std.specs.Prelude.{ℕ, suc, List, [], ◌∷◌, ◌++◌, map, flat_map, Bool, true, false, ◌==◌, ◌||◌, nat_lt, nat_le, length, Option, Some, None, codes, decimal, if◌then◌else◌}
+use Rattle.std.specs.Prelude.{ℕ, suc, List, [], ◌∷◌, ◌++◌, flat_map, Bool, true, false, ◌==◌, ◌||◌, nat_lt, nat_le, length, Option, Some, codes, decimal, if◌then◌else◌}
 use Rattle.sdv_graph.specs.declared.graph.Target.{Target}
-use Rattle.sdv_graph.specs.Graph.{Flow}
 use Rattle.sdv_graph.specs.Path.{Fork, Node, Place, sends, phases, lets, tests, flags, heads, jumps, stops}
 use Rattle.sdv_certify.specs.declared.fault.CertifyFault.{CertifyFault}
 use Rattle.sdv_certify.specs.declared.fault.CertifyFault.TheVariants.{Illegal, Address, EndState}

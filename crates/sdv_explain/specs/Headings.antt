@@ -1,5 +1,5 @@
 -- The HEADINGS of a graph's points: for each point a line of the text, and the first words of its statement.
-use Rattle.std.specs.Prelude.{◌≡◌, ℕ, List, map}
+use Rattle.std.specs.Prelude.{◌≡◌, List, map}
 use Rattle.sdv_graph.specs.Graph.{Flow}
 use Rattle.sdv_graph.specs.Path.{Place}
 use Rattle.sdv_explain.specs.declared.heading.Heading.{Heading}

@@ -21,7 +21,7 @@ use Rattle.sdv_graph.specs.declared.tree.Position.TheVariants.{Number, Variable}
 use Rattle.sdv_graph.specs.declared.tree.Unit.{Unit as AddressUnit}
 use Rattle.sdv_graph.specs.declared.tree.Unit.TheVariants.{Block, Byte, By}
 use Rattle.sdv_graph.specs.Path.{Node, sends, phases, lets, tests, flags, heads, jumps, stops}
-use Rattle.sdv_graph.specs.Walk.{Ending, Finished, Failed}
+use Rattle.sdv_graph.specs.Walk.{Ending, Failed}
 use Rattle.sdv_explain.specs.declared.outline.Outline.{Outline}
 
 -- NAMES

@@ -1,10 +1,9 @@
 -- Why the checker does not accept a script with a certificate, by what the program says of it.
-use Rattle.std.specs.Prelude.{◌≡◌}
 use Rattle.clap.specs.Words.{Text}
 use Rattle.sdv_script.specs.Graph.{Flow}
 use Rattle.sdv_check.specs.Verified.{Acceptance, IsAccepted, IsGraphOfText, IsNoCertificate, IsNoScript, IsOpen}
 use Rattle.sdv_faults.specs.declared.fault.Fault.{Fault}
-use Rattle.sdv_faults.specs.declared.fault.Fault.TheVariants.{File, Script, Certificate, Refused, Output, Memory}
+use Rattle.sdv_faults.specs.declared.fault.Fault.TheVariants.{Script, Certificate, Refused, Output, Memory}
 
 -- what a fault says of the texts; want of memory says nothing
 abbrev pub Refuses : (script certificate : Text) → Fault → Type 0

@@ -1,5 +1,5 @@
 -- Bytes that a writer is known to hold.
-use Rattle.std.proofs.Common.{ℕ, List, ◌++◌, Option}
+use Rattle.std.proofs.Common.{ℕ, List, Option}
 use Rattle.std.specs.Io.KnownBytes.{Appends}
 use Rattle.sdv_text.specs.Written.{AppendsPart}
 use Rattle.sdv_text.proofs.WrittenLaws.{appends_more}

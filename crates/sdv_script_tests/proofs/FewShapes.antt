@@ -1,5 +1,5 @@
 -- Lists of one and of two shapes rise.
-use Rattle.std.proofs.Common.{◌≡◌, ◌<◌, List, [], ◌∷◌, ◌⊎◌, inl, inr, subst}
+use Rattle.std.proofs.Common.{◌<◌, [], ◌∷◌, inl, inr, subst}
 use Rattle.sdv_card.specs.declared.shape.Shape.{Shape}
 use Rattle.sdv_card.specs.Lists.{IsOneOf}
 use Rattle.sdv_facts.specs.Known.{AreRising}

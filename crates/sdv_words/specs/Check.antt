@@ -3,12 +3,11 @@ use Rattle.std.specs.Prelude.{◌≡◌, ◌⊎◌, ℕ, List, [], ◌∷◌, �
 use Rattle.std.specs.Io.KnownBytes.{Appends}
 use Rattle.sdv_text.specs.Written.{AppendsPart}
 use Rattle.clap.specs.Words.{Text}
-use Rattle.sdv_script.specs.Graph.{Flow}
 use Rattle.sdv_check.specs.Headline.{EachRunOf}
 use Rattle.sdv_check.specs.Verified.{Acceptance, IsAccepted}
 use Rattle.sdv_faults.specs.Refused.{Refuses}
 use Rattle.sdv_faults.specs.declared.fault.Fault.{Fault}
-use Rattle.sdv_faults.specs.declared.fault.Fault.TheVariants.{File, Script, Certificate, Refused, Output, Memory}
+use Rattle.sdv_faults.specs.declared.fault.Fault.TheVariants.{File, Memory}
 
 -- TEXTS
 

@@ -1,4 +1,3 @@
-use Rattle.std.proofs.Common.{length}
 use Rattle.sdv_graph.specs.Graph.{place_of}
 use Rattle.sdv_drawing.specs.Drawing.{edges_at}
 use Rattle.sdv_drawing.proofs.NumberedLaws.{line_added}

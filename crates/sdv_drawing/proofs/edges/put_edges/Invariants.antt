@@ -1,4 +1,4 @@
-use Rattle.std.proofs.Common.{◌≡◌, ◌++◌, drop, length}
+use Rattle.std.proofs.Common.{◌≡◌, ◌++◌, drop}
 use Rattle.sdv_drawing.specs.Drawing.{edges_at, numbered}
 use Rattle.sdv_drawing.proofs.edges.put_edges.Given as goal
 
