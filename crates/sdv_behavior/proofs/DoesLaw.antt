@@ -96,7 +96,7 @@ unheard_answer DeselectCards = inl refl
 unheard_answer order = inr refl
 
 -- an error that is not pending is shown by no status
-no_error : (t u : Card) (shown : Bool) → t.doubt ≡ false → u.doubt ≡ false → ErrorShown t shown u
+no_error : (t u : Card) (shown : Bool) → t.unshown_error ≡ false → u.unshown_error ≡ false → ErrorShown t shown u
 no_error t u shown before after = record {
   ends = after ∙ sym (ap (λ v. v && not shown) before);
   must = λ tran pending. absurd (let f : true ≡ false = sym pending ∙ before in cc);
@@ -181,7 +181,7 @@ module _ (d : CardDesc) (is : IsDescribed d) (csd : IsRegister 15 d.csd) (order 
   lost row f = record { answer = TimeOut; told = inr refl; is_reply = tt; answered = inl refl }
 
   -- the answer did not reach the host
-  unheard_row : (row : Row) (u : Card) → DeedFits TakesUnheard row → Taken row argument before u → false ≡ u.doubt → RowTold order row argument before u None
+  unheard_row : (row : Row) (u : Card) → DeedFits TakesUnheard row → Taken row argument before u → false ≡ u.unshown_error → RowTold order row argument before u None
   unheard_row Cmd0 u f taken error = absurd f
   unheard_row Cmd7NotAddressed u f taken error =
       record { answer = unaddressed_answer order; told = unheard_answer order; is_reply = tt; answered = (refl, inr (record { card = taken; error = error })) }

@@ -109,5 +109,5 @@ start_law d contents csd sectors blocks =
       erase = refl;
       preset = refl;
       transfer = refl;
-      doubt = refl;
+      unshown_error = refl;
     }

@@ -29,7 +29,7 @@ card_with d s announced contents = record {
   transfer = s.transfer;
   next_block = s.next_block;
   announced = announced;
-  doubt = false;
+  unshown_error = false;
   contents = contents;
 }
 

@@ -10,7 +10,7 @@ use Rattle.sdv_card.specs.CommandTable.{order_of}
 use Rattle.sdv_card.specs.Host.{Host, host_after}
 use Rattle.sdv_card.specs.ScriptEvent.{Answered}
 use Rattle.sdv_card.specs.Step.{Sends}
-use Rattle.sdv_graph.specs.declared.tree.Command.{Command}
+use Rattle.sdv_graph.specs.declared.tree.ScriptCommand.{ScriptCommand}
 use Rattle.sdv_graph.specs.AddressSent.{position_of_command}
 use Rattle.sdv_graph.specs.Tree.{Ways, send}
 use Rattle.sdv_graph.specs.Walk.{Pair, Ending, Open, Failed, Rest, Stops, all_pass, walk_statement}
@@ -23,7 +23,7 @@ use Rattle.sdv_block.proofs.Parts.{Halts, halts_in_fault, either, argument_at, c
 use Rattle.sdv_block.proofs.Quiet.{Quiet, HaltedQuiet, halted_later, halted_here}
 
 -- the command was answered, and the guards hold of the answer
-pub record Asked (k : Kind) (command : Command) (guards : List Guard) (c : Card) (h : Host) (front : List Pair) (u : Card) (h' : Host) : Type 0 where
+pub record Asked (k : Kind) (command : ScriptCommand) (guards : List Guard) (c : Card) (h : Host) (front : List Pair) (u : Card) (h' : Host) : Type 0 where
   pub quiet : Quiet c h front u h'
   pub position : ℕ
   pub sent_at : position_of_command h command.address ≡ Some position
@@ -32,7 +32,7 @@ pub record Asked (k : Kind) (command : Command) (guards : List Guard) (c : Card)
   pub allowed : IsAllowed (command_at k command h position) c
   pub sends : Sends command.ask (argument_at k command h position) c answer u
 
-module _ (k : Kind) (e : Ending) (command : Command) (ways : Ways) (other : command.ask.index ≡ 38 → ⊥) (fell broke : Rest) (h : Host) (es : List Pair)
+module _ (k : Kind) (e : Ending) (command : ScriptCommand) (ways : Ways) (other : command.ask.index ≡ 38 → ⊥) (fell broke : Rest) (h : Host) (es : List Pair)
     (c last : Card) where
   -- the pair of the command, and what the host is after it
   abbrev pub asked : Sent k e command ways fell broke h es c last → Pair
@@ -57,7 +57,7 @@ module _ (k : Kind) (e : Ending) (command : Command) (ways : Ways) (other : comm
       halted_later e es (asked s ∷ []) s.rest c s.after last h (host s) s.same (quiet_command s)
       (halted_here e s.rest s.after last (halts_in_fault e name s.rest early f) s.steps)
 
-module _ (k : Kind) (e : Ending) (command : Command) (guards : List Guard) (name : List ℕ) (other : command.ask.index ≡ 38 → ⊥)
+module _ (k : Kind) (e : Ending) (command : ScriptCommand) (guards : List Guard) (name : List ℕ) (other : command.ask.index ≡ 38 → ⊥)
     (early : bytes_eq name (codes "beyond") ≡ false)
     (fell broke : Rest) (h : Host) (es : List Pair) (c last : Card) where
   abbrev SentIt : Type 0

@@ -47,9 +47,9 @@ pub settled_contents : (c t : Card) → Settled c t → c.contents ≡ t.content
 settled_contents c t (inl e) = ap (λ (v : Card). v.contents) e
 settled_contents c t (inr x) = ap (λ (v : Card). v.contents) x.2
 
-pub settled_doubt : (c t : Card) → Settled c t → c.doubt ≡ t.doubt
-settled_doubt c t (inl e) = ap (λ (v : Card). v.doubt) e
-settled_doubt c t (inr x) = ap (λ (v : Card). v.doubt) x.2
+pub settled_error : (c t : Card) → Settled c t → c.unshown_error ≡ t.unshown_error
+settled_error c t (inl e) = ap (λ (v : Card). v.unshown_error) e
+settled_error c t (inr x) = ap (λ (v : Card). v.unshown_error) x.2
 
 -- THE ORDERS of the asks
 
@@ -230,17 +230,17 @@ unshown true true after e f = absurd (let g : true ≡ false = f in cc)
 
 stop_heard : (k : Kind) (app matched : Bool) (argument : ℕ) (t u : Card) (answer : Answer) →
     SettledAnswer (taken_as_of StopTransmission app matched) StopTransmission argument t answer u →
-    answer_passes k Clean answer ≡ true → t.doubt ≡ u.doubt
+    answer_passes k Clean answer ≡ true → t.unshown_error ≡ u.unshown_error
 stop_heard k true matched argument t u answer a clean = absurd a
-stop_heard k false matched argument t u (Replied (R1 index word)) a clean = unshown t.doubt (has_doubt word) u.doubt a.error.ends (clean_word k word clean)
+stop_heard k false matched argument t u (Replied (R1 index word)) a clean = unshown t.unshown_error (has_doubt word) u.unshown_error a.error.ends (clean_word k word clean)
 stop_heard k false matched argument t u (Replied reply) a clean = absurd a
 stop_heard k false matched argument t u answer a clean = absurd (let f : false ≡ true = clean in cc)
 
 pub stop_keeps_error : (k : Kind) (argument : ℕ) (c u : Card) (answer : Answer) → Sends stop_ask argument c answer u → answer_passes k Clean answer ≡ true →
-    c.doubt ≡ u.doubt
+    c.unshown_error ≡ u.unshown_error
 stop_keeps_error k argument c u answer s clean =
     let t : Card = s.exchange.settled_card in
-    settled_doubt c t s.exchange.settled
+    settled_error c t s.exchange.settled
     ∙ stop_heard k t.app (matches t.rca (argument / 65536)) argument t u answer
     (subst (λ o. SettledAnswer (card_takes t o argument) o argument t answer u) (stop_order c.kind s.order s.asks.line) s.exchange.answered) clean
 
@@ -248,9 +248,9 @@ stop_keeps_error k argument c u answer s clean =
 
 shown_in_tran : (k : Kind) (word : ℕ) (t : Card) → status_is_clean k word ≡ true → (state_field word == state_number Tran) ≡ true →
     state_field word ≡ state_number t.state →
-    (t.state ≡ Tran → IsTrue t.doubt → IsTrue (has_doubt word)) → t.doubt ≡ false
+    (t.state ≡ Tran → IsTrue t.unshown_error → IsTrue (has_doubt word)) → t.unshown_error ≡ false
 shown_in_tran k word t clean tran state must =
-    none t.doubt (λ d. must (same_state t.state Tran (sym state ∙ eqb-true _ _ tran)) d)
+    none t.unshown_error (λ d. must (same_state t.state Tran (sym state ∙ eqb-true _ _ tran)) d)
   where
     none : (doubt : Bool) → (IsTrue doubt → IsTrue (has_doubt word)) → doubt ≡ false
     none false f = refl
@@ -258,7 +258,7 @@ shown_in_tran k word t clean tran state must =
 
 status_heard : (k : Kind) (app matched : Bool) (argument : ℕ) (t u : Card) (answer : Answer) →
     SettledAnswer (taken_as_of SendStatus app matched) SendStatus argument t answer u →
-    answer_passes k Clean answer ≡ true → answer_passes k (InState Tran) answer ≡ true → t.doubt ≡ false
+    answer_passes k Clean answer ≡ true → answer_passes k (InState Tran) answer ≡ true → t.unshown_error ≡ false
 status_heard k true matched argument t u (Replied (R1 index word)) a clean tran = shown_in_tran k word t clean tran a.state a.error.must
 status_heard k false true argument t u (Replied (R1 index word)) a clean tran = shown_in_tran k word t clean tran a.state a.error.must
 status_heard k false false argument t u (Replied (R1 index word)) a clean tran = absurd (let f : TimeOut ≡ Replied (R1 index word) = a.0 in cc)
@@ -268,10 +268,10 @@ status_heard k false false argument t u (Replied reply) a clean tran = absurd (l
 status_heard k app matched argument t u answer a clean tran = absurd (let f : false ≡ true = clean in cc)
 
 pub no_error_left : (k : Kind) (argument : ℕ) (c u : Card) (answer : Answer) → Sends status_ask argument c answer u →
-    answer_passes k Clean answer ≡ true → answer_passes k (InState Tran) answer ≡ true → c.doubt ≡ false
+    answer_passes k Clean answer ≡ true → answer_passes k (InState Tran) answer ≡ true → c.unshown_error ≡ false
 no_error_left k argument c u answer s clean tran =
     let t : Card = s.exchange.settled_card in
-    settled_doubt c t s.exchange.settled
+    settled_error c t s.exchange.settled
     ∙ status_heard k t.app (matches t.rca (argument / 65536)) argument t u answer
     (subst (λ o. SettledAnswer (card_takes t o argument) o argument t answer u) (status_order c.kind s.order s.asks.line) s.exchange.answered) clean tran
 

@@ -48,7 +48,7 @@ pub record Gave (block count : ℕ) (c : Card) (h : Host) (front : List Pair) (u
   pub outside : SameBut block count c.contents u.contents
   pub blocks : AreBlocks c.capacity u.contents
   -- it stored the blocks, or an error is still to be shown
-  pub stored : (take count (drop block u.contents) ≡ new) ⊎ (true ≡ u.doubt)
+  pub stored : (take count (drop block u.contents) ≡ new) ⊎ (true ≡ u.unshown_error)
   pub host : h' ≡ h
 
 -- it halted, read nothing, and changed no other block
@@ -86,7 +86,7 @@ module _ (k : Kind) (e : Ending) (block count : ℕ) (fell broke : Rest) (h : Ho
   abbrev after_give : Return → Rest
   after_give = after_phase k e nothing (fails (codes "write")) fell broke
 
-  stored_or_not : (u : Card) (blocks : List Block) → Stored c blocks u ⊎ (true ≡ u.doubt) → (take count (drop block u.contents) ≡ blocks) ⊎ (true ≡ u.doubt)
+  stored_or_not : (u : Card) (blocks : List Block) → Stored c blocks u ⊎ (true ≡ u.unshown_error) → (take count (drop block u.contents) ≡ blocks) ⊎ (true ≡ u.unshown_error)
   stored_or_not u blocks (inl s) = inl (stored_blocks block count c.announced c.next_block u.contents blocks announced next s.stored)
   stored_or_not u blocks (inr d) = inr d
 

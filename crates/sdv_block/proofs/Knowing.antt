@@ -15,7 +15,7 @@ use Rattle.sdv_card.specs.ScriptEvent.{ScriptEvent, Answered}
 use Rattle.sdv_card.specs.Shapes.{IsPair}
 use Rattle.sdv_card.specs.Step.{Sends}
 use Rattle.sdv_card.specs.Taken.{SameCard}
-use Rattle.sdv_graph.specs.declared.tree.Command.{Command}
+use Rattle.sdv_graph.specs.declared.tree.ScriptCommand.{ScriptCommand}
 use Rattle.sdv_graph.specs.AddressSent.{address_of_command}
 use Rattle.sdv_graph.specs.Tree.{nothing, Ways, otherwise, send}
 use Rattle.sdv_graph.specs.Walk.{Pair, Ending, Open, Failed, Rest, Stops, all_pass, walk_statement}
@@ -51,7 +51,7 @@ order_numbers : (o : Option Order) (answer : Answer) (h : Host) → (host_after_
 order_numbers None answer h = refl
 order_numbers (Some order) answer h = refl
 
-pub known_after : (k : Kind) (command : Command) (position : ℕ) (c u : Card) (h : Host) (answer : Answer) → (command.ask.index ≡ 38 → ⊥) → IsHonest k c h →
+pub known_after : (k : Kind) (command : ScriptCommand) (position : ℕ) (c u : Card) (h : Host) (answer : Answer) → (command.ask.index ≡ 38 → ⊥) → IsHonest k c h →
     IsAllowed (command_at k command h position) c → Sends command.ask (argument_at k command h position) c answer u →
     Knowing k c h ((command_at k command h position, Answered answer) ∷ []) u (host_after k (command_at k command h position) (Answered answer) h)
 known_after k command position c u h answer other honest allowed s =
@@ -99,7 +99,7 @@ and_on k e next after h es c last w (inr r) = inr (record {
 
 -- A COMMAND
 
-module _ (k : Kind) (e : Ending) (command : Command) (other : command.ask.index ≡ 38 → ⊥) (fell broke : Rest) (h : Host) (es : List Pair) (c last : Card)
+module _ (k : Kind) (e : Ending) (command : ScriptCommand) (other : command.ask.index ≡ 38 → ⊥) (fell broke : Rest) (h : Host) (es : List Pair) (c last : Card)
     (honest : IsHonest k c h) where
   abbrev Outcome : Type 0
   Outcome = HaltedQuiet e es c last ⊎ Past (Knowing k c h) fell es last

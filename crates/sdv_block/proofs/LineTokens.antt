@@ -8,7 +8,7 @@ use Rattle.sdv_card.specs.declared.event.Aim.TheVariants.{Plain, Rca}
 use Rattle.sdv_card.specs.declared.guard.Guard.TheVariants.{Answer, Clean, State as InState}
 use Rattle.sdv_card.specs.declared.state.State.TheVariants.{Tran}
 use Rattle.sdv_script.specs.declared.keyword.Keyword.TheVariants as word
-use Rattle.sdv_graph.specs.declared.tree.Command.{Command}
+use Rattle.sdv_graph.specs.declared.tree.ScriptCommand.{ScriptCommand}
 use Rattle.sdv_graph.specs.declared.tree.Phase.TheVariants as phases
 use Rattle.sdv_script.specs.Rules.{ask_with}
 use Rattle.sdv_script.specs.Grammar.{kind_word, list_written, statement_written, statements_written, script_written}
@@ -58,7 +58,7 @@ read_line Sd block = record { tokens_are = λ others. refl }
 read_line Emmc block = record { tokens_are = λ others. refl }
 
 -- a command of several blocks
-abbrev pub counted_command : (index block count : ℕ) → Command
+abbrev pub counted_command : (index block count : ℕ) → ScriptCommand
 counted_command index block count = record { ask = ask_with index Plain 0 count; address = Some (address_of block) }
 
 read_many_line : (k : Kind) (block count : ℕ) →

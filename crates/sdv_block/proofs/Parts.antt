@@ -10,7 +10,7 @@ use Rattle.sdv_card.specs.Guards.{passes}
 use Rattle.sdv_card.specs.Host.{Host, host_after}
 use Rattle.sdv_card.specs.ScriptEvent.{ScriptEvent, SendCommand, Return, Answered}
 use Rattle.sdv_card.specs.Step.{Step, Sends}
-use Rattle.sdv_graph.specs.declared.tree.Command.{Command}
+use Rattle.sdv_graph.specs.declared.tree.ScriptCommand.{ScriptCommand}
 use Rattle.sdv_graph.specs.declared.tree.Phase.{Phase}
 use Rattle.sdv_graph.specs.AddressSent.{position_of_command, address_of_command}
 use Rattle.sdv_graph.specs.Tree.{Statements, Ways, send, phase}
@@ -98,13 +98,13 @@ made k wanted h next es c last a = record {
 -- A COMMAND
 
 -- its argument and its event, at a position
-abbrev pub argument_at : Kind → Command → Host → (position : ℕ) → ℕ
+abbrev pub argument_at : Kind → ScriptCommand → Host → (position : ℕ) → ℕ
 argument_at k command h position = argument_of k command.ask h.rca (address_of_command h command.address position)
 
-abbrev pub command_at : Kind → Command → Host → (position : ℕ) → ScriptEvent
+abbrev pub command_at : Kind → ScriptCommand → Host → (position : ℕ) → ScriptEvent
 command_at k command h position = SendCommand command.ask position (argument_at k command h position)
 
-pub record Sent (k : Kind) (e : Ending) (command : Command) (ways : Ways) (fell broke : Rest) (h : Host) (es : List Pair) (c last : Card) : Type 0 where
+pub record Sent (k : Kind) (e : Ending) (command : ScriptCommand) (ways : Ways) (fell broke : Rest) (h : Host) (es : List Pair) (c last : Card) : Type 0 where
   pub position : ℕ
   pub sent_at : position_of_command h command.address ≡ Some position
   pub answer : Answer
@@ -116,7 +116,7 @@ pub record Sent (k : Kind) (e : Ending) (command : Command) (ways : Ways) (fell 
   pub on : walk_ways k e ways (Answered answer) fell broke (host_after k (command_at k command h position) (Answered answer) h) rest
   pub steps : AllowedSteps after rest last
 
-of_made : (k : Kind) (e : Ending) (command : Command) (ways : Ways) (fell broke : Rest) (h : Host) (es : List Pair) (c last : Card) (position : ℕ) →
+of_made : (k : Kind) (e : Ending) (command : ScriptCommand) (ways : Ways) (fell broke : Rest) (h : Host) (es : List Pair) (c last : Card) (position : ℕ) →
     position_of_command h command.address ≡ Some position →
     (returned : Return) (rest : List Pair) (after : Card) → es ≡ (command_at k command h position, returned) ∷ rest →
     IsAllowed (command_at k command h position) c →
@@ -142,7 +142,7 @@ of_made k e command ways fell broke h es c last position sent_at returned rest a
 abbrev after_answer : Kind → Ending → Ways → (fell broke : Rest) → Return → Rest
 after_answer k e ways fell broke returned = walk_ways k e ways returned fell broke
 
-send_in_range : (k : Kind) (e : Ending) (command : Command) (ways : Ways) (fell broke : Rest) (h : Host) (es : List Pair) (c last : Card) →
+send_in_range : (k : Kind) (e : Ending) (command : ScriptCommand) (ways : Ways) (fell broke : Rest) (h : Host) (es : List Pair) (c last : Card) →
     AllowedSteps c es last →
     (o : Option ℕ) → position_of_command h command.address ≡ o →
     InRange e o (λ position. Acts k (command_deed k command h position) h (after_answer k e ways fell broke) es) es →
@@ -153,7 +153,7 @@ send_in_range k e command ways fell broke h es c last steps (Some position) is a
     let m = made k (command_at k command h position) h next es c last (acted k (command_deed k command h position) h next es c last a steps) in
     inr (of_made k e command ways fell broke h es c last position is m.returned m.rest m.after m.same m.allowed m.step m.on m.steps)
 
-pub send_part : (k : Kind) (e : Ending) (command : Command) (ways : Ways) (fell broke : Rest) (h : Host) (es : List Pair) (c last : Card) →
+pub send_part : (k : Kind) (e : Ending) (command : ScriptCommand) (ways : Ways) (fell broke : Rest) (h : Host) (es : List Pair) (c last : Card) →
     walk_statement k e (send command ways) fell broke h es → AllowedSteps c es last → Halts e es ⊎ Sent k e command ways fell broke h es c last
 send_part k e command ways fell broke h es c last (inl s) steps = inl (halts e Open es tt s)
 send_part k e command ways fell broke h es c last (inr w) steps =

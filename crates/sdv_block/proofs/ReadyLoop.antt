@@ -23,7 +23,7 @@ use Rattle.sdv_card.specs.Taken.{SameCard}
 use Rattle.sdv_card.specs.Takes.{taken_as_of, matches}
 use Rattle.sdv_card.proofs.Members.{and_left, and_right}
 use Rattle.sdv_card.proofs.Same.{same_both, same_itself}
-use Rattle.sdv_graph.specs.declared.tree.Command.{Command}
+use Rattle.sdv_graph.specs.declared.tree.ScriptCommand.{ScriptCommand}
 use Rattle.sdv_graph.specs.AddressSent.{is_flag_set}
 use Rattle.sdv_graph.specs.Conditions.{put_bit, with_flag}
 use Rattle.sdv_graph.specs.Tree.{Statement, nothing, first, send, way, otherwise}
@@ -225,7 +225,7 @@ module _ (k : Kind) (e : Ending) (fell broke : Rest) (last : Card) where
     ocr_led on = if_block_ready (either SetsAndLeaves (Either is_ready Leaves (Either is_answered (again h rest) Lost)) block_ready on)
 
   -- THE COMMAND that asks for the operating conditions
-  module _ (command : Command) (not_38 : command.ask.index ≡ 38 → ⊥) (unit : ShowsUnit k command.ask) (name : List ℕ)
+  module _ (command : ScriptCommand) (not_38 : command.ask.index ≡ 38 → ⊥) (unit : ShowsUnit k command.ask) (name : List ℕ)
       (early : bytes_eq name (codes "beyond") ≡ false) where
     of_ocr : (again : Rest) → Again again → (h : Host) (es : List Pair) (c : Card) → h.flags ≡ 0 → IsHonest k c h →
         Halts e es ⊎ Sent k e command (ocr_ways name) again fell h es c last → AllowedSteps c es last → OcrOutcome h es c

@@ -10,7 +10,7 @@ use Rattle.sdv_card.specs.declared.answer.DataEnd.TheVariants as ends
 use Rattle.sdv_card.specs.Card.{Card}
 use Rattle.sdv_card.specs.Port.{KeepsTables}
 use Rattle.sdv_card.specs.ScriptEvent.{Return, BlocksIn}
-use Rattle.sdv_graph.specs.Graph.{Flow}
+use Rattle.sdv_graph.specs.Graph.{Graph}
 use Rattle.sdv_graph.specs.Walk.{Pair, Ending, Open, Walk}
 use Rattle.sdv_script.specs.Script.{IsScript}
 use Rattle.sdv_script.proofs.ScriptLaws.{one_tree_lem}
@@ -38,7 +38,7 @@ use Rattle.sdv_block.specs.Serves.{IsCertified, RanWhole, RanOpen}
 use Rattle.sdv_block.proofs.BatchServed.{batch_served}
 
 -- a certificate that is closed fails by no clause
-pub no_fault : (g : Flow) (ps : List PointFacts) (fault : CheckFault) → Closed g ps → Fails g ps fault → ⊥
+pub no_fault : (g : Graph) (ps : List PointFacts) (fault : CheckFault) → Closed g ps → Fails g ps fault → ⊥
 no_fault g ps Points closed x = x closed.points
 no_fault g ps Start closed x = x.1 closed.start
 no_fault g ps (Illegal i) closed x = let f = x.2 in f.fails (closed.each i f.place f.facts f.here f.known).legal
@@ -60,7 +60,7 @@ received_is (p ∷ es) =
     ap (λ (bs : List ℕ). bs ++ received es) (received_of p.1) ∙ ap (λ (bs : List ℕ). concat (blocks_in p.1) ++ bs) (received_is es)
     ∙ sym (concat-append (blocks_in p.1) (blocks_read es))
 
-module _ (k : Kind) (rs : List Request) (g : Flow) (is : IsScript (batch_script k rs)) (of : IsGraphOfText (batch_script k rs).text g) where
+module _ (k : Kind) (rs : List Request) (g : Graph) (is : IsScript (batch_script k rs)) (of : IsGraphOfText (batch_script k rs).text g) where
   abbrev same_tree : (of.script.names ≡ batch_names k) × (of.script.body ≡ batch_body k (greatest_end rs) rs)
   same_tree = one_tree_lem of.script (batch_script k rs) of.is_script is of.same
 

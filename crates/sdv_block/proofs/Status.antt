@@ -20,7 +20,7 @@ use Rattle.sdv_block.proofs.Quiet.{Quiet, HaltedQuiet}
 -- a clean status in transfer state shows that no error is left
 pub record ShownClean (c : Card) (h : Host) (front : List Pair) (u : Card) (h' : Host) : Type 0 where
   pub quiet : Quiet c h front u h'
-  pub no_error : c.doubt ≡ false
+  pub no_error : c.unshown_error ≡ false
 
 module _ (k : Kind) (e : Ending) (rest : Statements) (fell broke : Rest) (h : Host) (es : List Pair) (c last : Card) where
   abbrev guards : List Guard

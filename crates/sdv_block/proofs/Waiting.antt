@@ -19,7 +19,7 @@ use Rattle.sdv_block.proofs.Quiet.{Quiet, quiet_both, HaltedQuiet, halted_later,
 -- an error that is still to be shown stays so
 pub record ErrorKept (c : Card) (h : Host) (front : List Pair) (u : Card) (h' : Host) : Type 0 where
   pub quiet : Quiet c h front u h'
-  pub error : c.doubt ≡ u.doubt
+  pub error : c.unshown_error ≡ u.unshown_error
 
 module _ (k : Kind) (e : Ending) (fell broke : Rest) where
   -- wait { ok { break } else { } }
@@ -43,7 +43,7 @@ module _ (k : Kind) (e : Ending) (fell broke : Rest) where
       gave = refl;
       flags = refl;
     };
-    error = ap (λ (x : Card). x.doubt) step.card;
+    error = ap (λ (x : Card). x.unshown_error) step.card;
   }
   waited c v h returned step = absurd step
 

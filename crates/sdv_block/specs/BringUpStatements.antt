@@ -8,7 +8,7 @@ use Rattle.sdv_registers.specs.declared.kind.Kind.TheVariants.{Sd, Emmc}
 use Rattle.sdv_card.specs.declared.event.Aim.{Aim}
 use Rattle.sdv_card.specs.declared.event.Aim.TheVariants.{Plain, Rca}
 use Rattle.sdv_card.specs.declared.guard.Guard.TheVariants.{Answer, Clean, App, OcrReady, OcrBlock}
-use Rattle.sdv_graph.specs.declared.tree.Command.{Command}
+use Rattle.sdv_graph.specs.declared.tree.ScriptCommand.{ScriptCommand}
 use Rattle.sdv_graph.specs.declared.tree.Let.{Let}
 use Rattle.sdv_graph.specs.declared.tree.Atom.{Atom}
 use Rattle.sdv_graph.specs.declared.tree.Atom.TheVariants as atoms
@@ -25,7 +25,7 @@ abbrev pub batch_names : Kind → Declared
 batch_names k = record { kind = k; flags = codes "hc" ∷ []; numbers = codes "cap" ∷ [] }
 
 -- a command without an address
-abbrev pub plain : (index : ℕ) → Aim → (argument : ℕ) → Command
+abbrev pub plain : (index : ℕ) → Aim → (argument : ℕ) → ScriptCommand
 plain index aim argument = record { ask = ask_with index aim argument 0; address = None }
 
 -- send INDEX { else { } }

@@ -7,7 +7,7 @@ use Rattle.sdv_card.specs.declared.event.Ask.{Ask}
 use Rattle.sdv_card.specs.declared.guard.Guard.{Guard}
 use Rattle.sdv_card.specs.declared.guard.Guard.TheVariants.{Answer, Clean, State as InState}
 use Rattle.sdv_card.specs.declared.state.State.TheVariants.{Tran}
-use Rattle.sdv_graph.specs.declared.tree.Command.{Command}
+use Rattle.sdv_graph.specs.declared.tree.ScriptCommand.{ScriptCommand}
 use Rattle.sdv_graph.specs.declared.tree.Address.{Address}
 use Rattle.sdv_graph.specs.declared.tree.Unit.TheVariants as units
 use Rattle.sdv_graph.specs.declared.tree.Position.TheVariants as positions
@@ -38,16 +38,16 @@ stop_ask = ask_with 12 Plain 0 0
 abbrev pub status_ask : Ask
 status_ask = ask_with 13 Rca 0 0
 
-abbrev pub read_command : (block count : ℕ) → Command
+abbrev pub read_command : (block count : ℕ) → ScriptCommand
 read_command block count = record { ask = read_ask count; address = Some (address_of block) }
 
-abbrev pub write_command : (block count : ℕ) → Command
+abbrev pub write_command : (block count : ℕ) → ScriptCommand
 write_command block count = record { ask = write_ask count; address = Some (address_of block) }
 
-abbrev pub stop_command : Command
+abbrev pub stop_command : ScriptCommand
 stop_command = record { ask = stop_ask; address = None }
 
-abbrev pub status_command : Command
+abbrev pub status_command : ScriptCommand
 status_command = record { ask = status_ask; address = None }
 
 -- WAYS ON

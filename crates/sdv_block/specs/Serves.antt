@@ -2,7 +2,7 @@
 use Rattle.std.specs.Prelude.{◌≡◌, ℕ, List, Option, Some, Result, Ok, Err}
 use Rattle.sdv_registers.specs.declared.kind.Kind.{Kind}
 use Rattle.sdv_card.specs.Card.{Card}
-use Rattle.sdv_graph.specs.Graph.{Flow}
+use Rattle.sdv_graph.specs.Graph.{Graph}
 use Rattle.sdv_script.specs.declared.fault.FaultKind.{FaultKind}
 use Rattle.sdv_script.specs.declared.fault.FaultKind.TheVariants.{Memory as ScriptMemory}
 use Rattle.sdv_script.specs.declared.fault.ScriptFault.{ScriptFault}
@@ -34,7 +34,7 @@ use Rattle.sdv_block.specs.ServedOver.{ServedOver, KeptOver}
 -- profile, of the kind, before its first command, it served the requests as a plain disk does.
 pub record RanWhole {S : Type 0} (steps : Steps S) (card : S → Option Card) (k : Kind) (rs : List Request) (end : End)
     (w w' : World S) : Type 0 where
-  pub graph : Flow
+  pub graph : Graph
   pub of_text : IsGraphOfText (batch_script k rs).text graph
   pub ran : Ended steps graph end w w'
   pub served : (c : Card) → ShowsStart card k w.port c → ∥ ServedOver card rs (ending_of end) c w w' ∥₁
@@ -43,14 +43,14 @@ pub record RanWhole {S : Type 0} (steps : Steps S) (card : S → Option Card) (k
 -- changed that no request writes.
 pub record RanOpen {S : Type 0} (steps : Steps S) (card : S → Option Card) (k : Kind) (rs : List Request)
     (fault : RunFault) (w w' : World S) : Type 0 where
-  pub graph : Flow
+  pub graph : Graph
   pub of_text : IsGraphOfText (batch_script k rs).text graph
   pub ran : Stopped steps graph fault w w'
   pub kept : (c : Card) → ShowsStart card k w.port c → ∥ KeptOver card rs c w' ∥₁
   pub no_reply : (c : Card) → ShowsStart card k w.port c → fault ≡ Reply → ⊥
 
 -- a certificate is closed for the graph
-pub record IsCertified (g : Flow) : Type 0 where
+pub record IsCertified (g : Graph) : Type 0 where
   pub points : List PointFacts
   pub closed : Closed g points
 

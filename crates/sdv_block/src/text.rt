@@ -9,10 +9,8 @@ use crate::fault::BlockFault;
 use crate::request::Request;
 use itoa::Buffer;
 use sdv_registers::Kind;
+use sdv_script::MAX_BYTES;
 use std::alloc::AllocError;
-
-/// A script has at most so many bytes.
-const MAX_BYTES: usize = 65_536;
 
 /// The lines that bring an SD card up.
 const SD_BRING_UP: &str = "card sd

@@ -16,7 +16,7 @@ use Rattle.sdv_card.specs.Lists.{May}
 use Rattle.sdv_card.specs.StateTable.{◌to◌, rows}
 use Rattle.sdv_card.specs.RowRules.{matched_stayed}
 use Rattle.sdv_card.specs.Responses.{response_of}
-use Rattle.sdv_card.specs.Status.{in_doubt}
+use Rattle.sdv_card.specs.ResponseStatus.{in_doubt}
 use Rattle.sdv_card.specs.Seen.{answer_seen, app_of}
 use Rattle.sdv_card.specs.Takes.{matches}
 use Rattle.sdv_card.specs.Card.{Card}

@@ -9,7 +9,7 @@ use Rattle.sdv_card.specs.declared.command.TakenAs.{TakenAs}
 use Rattle.sdv_card.specs.declared.command.TakenAs.TheVariants.{Forbidden, Ignored, By}
 use Rattle.sdv_card.specs.declared.answer.Answer.{Answer}
 use Rattle.sdv_card.specs.declared.answer.Answer.TheVariants.{Sent, TimeOut, Reply as Replied}
-use Rattle.sdv_card.specs.Status.{in_doubt}
+use Rattle.sdv_card.specs.ResponseStatus.{in_doubt}
 use Rattle.sdv_card.specs.Responses.{response_of}
 use Rattle.sdv_card.specs.Card.{Card}
 use Rattle.sdv_card.specs.Taken.{Taken, Stayed}

@@ -277,7 +277,7 @@ at_start cs blocks = record {
   erase = refl;
   preset = refl;
   transfer = refl;
-  doubt = refl;
+  unshown_error = refl;
 }
 
 -- THE WHOLE

@@ -28,7 +28,7 @@ pub no_blocks : (c u : Card) → c.next_block ≡ u.next_block → c.announced �
 no_blocks c u block count = record { block = block; count_is = count }
 
 -- an error that is not pending is shown by no status
-pub no_error : (t u : Card) (shown : Bool) → t.doubt ≡ false → u.doubt ≡ false → ErrorShown t shown u
+pub no_error : (t u : Card) (shown : Bool) → t.unshown_error ≡ false → u.unshown_error ≡ false → ErrorShown t shown u
 no_error t u shown before after = record {
   ends = after ∙ sym (ap (λ v. v && not shown) before);
   must = λ tran pending. absurd (let f : true ≡ false = sym pending ∙ before in cc);

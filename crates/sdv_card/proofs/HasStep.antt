@@ -40,7 +40,7 @@ after_reset t target = record t {
   erase = Outside;
   preset = 0;
   transfer = Nothing;
-  doubt = false;
+  unshown_error = false;
 }
 
 any_length : (b : Bool) (n : ℕ) → LengthAfter Cmd0 b n 512

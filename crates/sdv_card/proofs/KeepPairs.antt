@@ -113,7 +113,7 @@ some_transfer x end p m e = subst (λ y. IsOneOf (after_phase y end) p) (sym e) 
 
 -- a card after a phase, with blocks of its own
 fits_placed : (c : Card) (end : DataEnd) (p : Place) (d : Card) → IsCard c → May (after_phase c.transfer end) p → AreBlocks c.capacity d.contents →
-    Fits (record c { state = p.state; transfer = p.transfer; contents = d.contents; doubt = d.doubt })
+    Fits (record c { state = p.state; transfer = p.transfer; contents = d.contents; unshown_error = d.unshown_error })
 fits_placed c end p d card may blocks =
     let calm : Calm p = calm_place c.transfer end p may in
     record {

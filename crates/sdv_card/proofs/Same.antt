@@ -54,7 +54,7 @@ moved_same end c u m =
 
 moved_writing_same : (end : DataEnd) (c u : Card) → MovedWriting end c u → SameCard c u
 moved_writing_same end c u m =
-    same_moved c (record c { state = m.place.state; transfer = m.place.transfer; contents = u.contents; doubt = u.doubt }) u
+    same_moved c (record c { state = m.place.state; transfer = m.place.transfer; contents = u.contents; unshown_error = u.unshown_error }) u
     (record { kind = refl; version = refl; block_unit = refl; capacity = refl; csd = refl; cid = refl; ext_csd = refl; scr = refl; sd_status = refl }) m.card
 
 wait_same : (end : WaitEnd) (c u : Card) → WaitEnds end c u → SameCard c u

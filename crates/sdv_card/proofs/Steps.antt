@@ -1,5 +1,5 @@
 -- The example: a card is brought up, and an answer is lost.
-use Rattle.std.proofs.Common.{◌≡◌, inl, inr, refl, subst, sym, ◌∙◌, ap, Bool, true, false, ℕ, List, ◌∷◌, length, replicate, All, Option, Some, None, lit<, lit≤}
+use Rattle.std.proofs.Common.{◌≡◌, inl, inr, refl, subst, sym, ◌∙◌, ap, Bool, true, false, ℕ, List, ◌∷◌, replicate, All, Option, Some, None, lit<, lit≤}
 use Rattle.std.specs.List.{AllByRecursion}
 use Rattle.std.proofs.lemmas.List.Elements.{All-from_recursion, All-replicate}
 use Rattle.sdv_registers.specs.declared.kind.Kind.{Kind}
@@ -268,7 +268,7 @@ at_start cs blocks = record {
   erase = refl;
   preset = refl;
   transfer = refl;
-  doubt = refl;
+  unshown_error = refl;
 }
 
 -- THE WHOLE

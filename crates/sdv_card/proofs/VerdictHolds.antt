@@ -18,7 +18,7 @@ use Rattle.sdv_card.specs.declared.answer.WaitEnd.TheVariants.{Ok as Over, Late}
 use Rattle.sdv_card.specs.declared.command.Order.{Order}
 use Rattle.sdv_card.specs.declared.command.Order.TheVariants.{SendIfCond, AppCommand}
 use Rattle.sdv_card.specs.States.{state_number}
-use Rattle.sdv_card.specs.Status.{in_doubt, is_clean}
+use Rattle.sdv_card.specs.ResponseStatus.{in_doubt, is_clean}
 use Rattle.sdv_card.specs.Takes.{matches}
 use Rattle.sdv_card.specs.CommandTable.{order_of}
 use Rattle.sdv_card.specs.ScriptEvent.{ScriptEvent, SendCommand, ReceiveBlocks, ReceiveRegister, GiveBlocks, AwaitReady, Return, Answered, BlocksIn, RegisterIn, BlocksOut, Waited}

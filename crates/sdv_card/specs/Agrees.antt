@@ -14,7 +14,7 @@ use Rattle.sdv_card.specs.declared.command.Response.{Response}
 use Rattle.sdv_card.specs.declared.command.Response.TheVariants.{CardStatus, NewAddress, Contents, Conditions}
 use Rattle.sdv_card.specs.States.{state_number, is_ready}
 use Rattle.sdv_card.specs.Responses.{row_index}
-use Rattle.sdv_card.specs.Status.{in_doubt}
+use Rattle.sdv_card.specs.ResponseStatus.{in_doubt}
 use Rattle.sdv_card.specs.Card.{Card}
 use Rattle.sdv_card.specs.Taken.{Taken, Stayed}
 
@@ -23,8 +23,8 @@ IsWord word = word < 2 ^ 32
 
 -- an error of an earlier write is shown, which ends it, or not yet; in transfer state it is shown
 pub record ErrorShown (t : Card) (shown : Bool) (u : Card) : Type 0 where
-  pub ends : u.doubt ≡ (t.doubt && not shown)
-  pub must : t.state ≡ Tran → IsTrue t.doubt → IsTrue shown
+  pub ends : u.unshown_error ≡ (t.unshown_error && not shown)
+  pub must : t.state ≡ Tran → IsTrue t.unshown_error → IsTrue shown
 
 -- the card took the row; or, if the response leaves a doubt, it stayed
 abbrev pub TakenOrStayed : Row → ℕ → Card → Bool → Card → Type 0
@@ -54,7 +54,7 @@ pub record AddressAgrees (row : Row) (argument : ℕ) (t : Card) (word : ℕ) (u
   pub is_word : IsWord word
   pub state : state_field word ≡ state_number t.state
   pub card : Published row argument t word u ⊎ ((in_doubt (R6 word) ≡ true) × Stayed row t u)
-  pub error : t.doubt ≡ u.doubt
+  pub error : t.unshown_error ≡ u.unshown_error
 
 -- the unit in an OCR: bit 30 of an SD card; bits 30..29 of an e.MMC device, 10 for block and 00 for byte addresses
 abbrev pub UnitShown : Row → ℕ → Bool → Type 0
@@ -68,7 +68,7 @@ pub record ConditionsAgree (row : Row) (argument : ℕ) (t : Card) (word : ℕ) 
   pub ready : is_powered_up word ≡ is_ready u.state
   pub unit : IsTrue (is_ready u.state) → UnitShown row word u.block_unit
   pub card : Taken row argument t u
-  pub error : t.doubt ≡ u.doubt
+  pub error : t.unshown_error ≡ u.unshown_error
 
 -- R7: bits 11..0 are those that the host sent; a card of version 1 has no response
 pub record ConditionEchoed (t : Card) (word : ℕ) : Type 0 where
@@ -87,7 +87,7 @@ ContentsShown row t reply = ⊥
 pub record ContentsAgree (row : Row) (argument : ℕ) (t : Card) (reply : Reply) (u : Card) : Type 0 where
   pub shown : ContentsShown row t reply
   pub card : Taken row argument t u
-  pub error : t.doubt ≡ u.doubt
+  pub error : t.unshown_error ≡ u.unshown_error
 
 -- the response is of the row's format, and fits it from t to u
 abbrev pub Agrees : Response → Row → ℕ → Card → Reply → Card → Type 0

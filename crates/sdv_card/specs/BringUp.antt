@@ -66,7 +66,7 @@ example_card contents = record {
   transfer = Nothing;
   next_block = 0;
   announced = 0;
-  doubt = false;
+  unshown_error = false;
   contents = contents;
 }
 

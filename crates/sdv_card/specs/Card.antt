@@ -45,7 +45,7 @@ pub record Card : Type 0 where
   pub next_block : ℕ
   pub announced : ℕ
   -- an error of an earlier write that no status has shown yet
-  pub doubt : Bool
+  pub unshown_error : Bool
   pub contents : List Block
 
 -- THE RULES OF A CARD

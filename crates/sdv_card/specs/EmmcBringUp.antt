@@ -46,7 +46,7 @@ example_device contents = record {
   transfer = Nothing;
   next_block = 0;
   announced = 0;
-  doubt = false;
+  unshown_error = false;
   contents = contents;
 }
 

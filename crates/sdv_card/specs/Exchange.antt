@@ -25,16 +25,16 @@ card_takes t order argument = taken_as_of order t.app (matches t.rca (argument /
 -- CMD0 ends an error that no status has shown
 pub record Reset (row : Row) (argument : ℕ) (t u : Card) : Type 0 where
   pub card : Taken row argument t u
-  pub error : false ≡ u.doubt
+  pub error : false ≡ u.unshown_error
 
 -- the response was lost, and with it an error that no status has shown
 pub record TakenUnheard (row : Row) (argument : ℕ) (t u : Card) : Type 0 where
   pub card : Taken row argument t u
-  pub error : false ≡ u.doubt
+  pub error : false ≡ u.unshown_error
 
 pub record StayedUnheard (row : Row) (t u : Card) : Type 0 where
   pub card : Stayed row t u
-  pub error : false ≡ u.doubt
+  pub error : false ≡ u.unshown_error
 
 -- with a status or an address as response a card may have stayed
 abbrev pub LostStayed : Response → Row → Card → Card → Type 0
@@ -49,7 +49,7 @@ Lost response row argument t u = (t ≡ u) ⊎ (TakenUnheard row argument t u �
 -- a card that is not addressed takes the row unseen
 pub record TakenUnseen (row : Row) (argument : ℕ) (t u : Card) : Type 0 where
   pub card : Taken row argument t u
-  pub error : t.doubt ≡ u.doubt
+  pub error : t.unshown_error ≡ u.unshown_error
 
 -- what a host hears where no card is addressed: it waits for a response, unless it addressed none
 abbrev pub unaddressed_answer : Order → Answer

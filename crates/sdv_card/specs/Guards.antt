@@ -17,7 +17,7 @@ use Rattle.sdv_card.specs.declared.answer.Answer.TheVariants.{Sent as WasSent, T
 use Rattle.sdv_card.specs.declared.answer.DataEnd.TheVariants.{Ok}
 use Rattle.sdv_card.specs.declared.answer.WaitEnd.TheVariants.{Ok as Over}
 use Rattle.sdv_card.specs.States.{state_number}
-use Rattle.sdv_card.specs.Status.{is_clean}
+use Rattle.sdv_card.specs.ResponseStatus.{is_clean}
 use Rattle.sdv_card.specs.ScriptEvent.{Return, Answered, BlocksIn, RegisterIn, BlocksOut, Waited}
 
 -- WHICH GUARDS FIT: `ok` belongs to phases and waits alone

@@ -6,7 +6,7 @@ pub mod CommandTable
 pub mod Takes
 pub mod RowRules
 pub mod Responses
-pub mod Status
+pub mod ResponseStatus
 pub mod Card
 pub mod ScriptEvent
 pub mod Expected

@@ -121,18 +121,18 @@ pub record OnlyAddressed (c u : Card) : Type 0 where
 
 pub record Stored (c : Card) (blocks : List Block) (u : Card) : Type 0 where
   pub stored : addressed c u.contents ≡ blocks
-  pub error : c.doubt ≡ u.doubt
+  pub error : c.unshown_error ≡ u.unshown_error
 
 -- a phase that ended well stores the blocks, or leaves anything in them and an error that is still to be shown
 abbrev pub StoredOrNot : DataEnd → Card → List Block → Card → Type 0
-StoredOrNot Ok c blocks u = Stored c blocks u ⊎ (true ≡ u.doubt)
-StoredOrNot Cut c blocks u = c.doubt ≡ u.doubt
+StoredOrNot Ok c blocks u = Stored c blocks u ⊎ (true ≡ u.unshown_error)
+StoredOrNot Cut c blocks u = c.unshown_error ≡ u.unshown_error
 
 -- u is c at one of the places after a phase, with contents and an error of its own
 pub record MovedWriting (end : DataEnd) (c u : Card) : Type 0 where
   pub place : Place
   pub may : May (after_phase c.transfer end) place
-  pub card : MovedTo (record c { contents = u.contents; doubt = u.doubt }) place u
+  pub card : MovedTo (record c { contents = u.contents; unshown_error = u.unshown_error }) place u
 
 pub record PhaseOut (blocks : List Block) (end : DataEnd) (c u : Card) : Type 0 where
   pub due : write_due c.transfer ≡ true

@@ -48,7 +48,7 @@ pub record IsAtStart (c : Card) : Type 0 where
   pub erase : c.erase ≡ Outside
   pub preset : c.preset ≡ 0
   pub transfer : c.transfer ≡ Nothing
-  pub doubt : c.doubt ≡ false
+  pub unshown_error : c.unshown_error ≡ false
 
 -- a host before the first command: n variables that are 0, clear flags, and nothing known of the card
 abbrev pub host_at_start : ℕ → Host

@@ -10,7 +10,7 @@ use Rattle.sdv_card.specs.declared.event.Seen.{Seen}
 use Rattle.sdv_card.specs.declared.event.Seen.TheVariants.{Sent, TimeOut, Bare, Ocr, Status}
 use Rattle.sdv_card.specs.declared.answer.Answer.{Answer}
 use Rattle.sdv_card.specs.declared.answer.Answer.TheVariants.{Sent as WasSent, TimeOut as TimedOut, Reply as Replied, Damaged}
-use Rattle.sdv_card.specs.Status.{in_doubt}
+use Rattle.sdv_card.specs.ResponseStatus.{in_doubt}
 use Rattle.sdv_card.specs.ScriptEvent.{Return, Answered, BlocksIn, RegisterIn, BlocksOut, Waited}
 use Rattle.sdv_card.specs.Outcomes.{phase_seen, wait_seen}
 

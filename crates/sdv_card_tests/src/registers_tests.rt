@@ -2,7 +2,8 @@
 
 use bitflags::Flags;
 use sdv_registers::{
-    Cid, Csd, EmmcCid, ExtCsd, Kind, Layout, Ocr, PublishedRca, RegisterFault, Scr, SdCid, Status,
+    Cid, Csd, CsdLayout, EmmcCid, ExtCsd, Kind, Ocr, PublishedRca, RegisterFault, Scr, SdCid,
+    Status,
 };
 use std::test::Fail;
 
@@ -199,10 +200,13 @@ fn tells_capacities(rt: HostRuntime) {
 #[test]
 fn reads_csds(rt: HostRuntime) {
     let rows = [
-        (standard(0, 0x0a), (0, Layout::Version1, 10, 3875, Some(7))),
+        (
+            standard(0, 0x0a),
+            (0, CsdLayout::Version1, 10, 3875, Some(7)),
+        ),
         (
             high(0x09, [0, 0xed, 0xc8]),
-            (1, Layout::Version2, 9, 0xedc8, None),
+            (1, CsdLayout::Version2, 9, 0xedc8, None),
         ),
     ];
     for (register, wanted) in rows {

@@ -9,9 +9,9 @@ use Rattle.sdv_graph.specs.declared.tree.Atom.{Atom}
 use Rattle.sdv_graph.specs.declared.tree.Atom.TheVariants as atoms
 use Rattle.sdv_card.specs.declared.command.Order.{Order}
 use Rattle.sdv_card.specs.CommandTable.{order_of}
-use Rattle.sdv_graph.specs.Graph.{Flow}
+use Rattle.sdv_graph.specs.Graph.{Graph}
 use Rattle.sdv_graph.specs.GraphOf.{IsGraphOf}
-use Rattle.sdv_graph.specs.Path.{Node, Place, sends, phases, lets, tests, flags, heads, jumps, stops}
+use Rattle.sdv_graph.specs.Path.{Action, Point, sends, phases, lets, tests, flags, heads, jumps, stops}
 use Rattle.sdv_graph.specs.Points.{points_of, points_of_statements, points_of_ways, points_of_statement, entry, again, outside, past}
 use Rattle.sdv_script.specs.Rules.{AtomFits, StatementsFit, WaysFit, StatementFits, deeper, in_loop, statements_count, statement_count}
 use Rattle.sdv_script.specs.Script.{IsScript, Parsed}
@@ -22,19 +22,19 @@ use Rattle.sdv_registers.specs.declared.kind.Kind.{Kind}
 use Rattle.sdv_certify.specs.declared.fault.CertifyFault.{CertifyFault}
 use Rattle.sdv_certify.specs.Refusal.{RefusedAs}
 use Rattle.sdv_certify.specs.Answers.{IsRefused}
-use Rattle.sdv_certify.specs.Fits.{NodeFits, GraphFits}
+use Rattle.sdv_certify.specs.Fits.{ActionFits, GraphFits}
 
-abbrev pub EachNode : List Place → Type 0
-EachNode [] = Unit {0}
-EachNode (p ∷ ps) = NodeFits p.node × EachNode ps
+abbrev pub EachAction : List Point → Type 0
+EachAction [] = Unit {0}
+EachAction (p ∷ ps) = ActionFits p.action × EachAction ps
 
-both : (a b : List Place) → EachNode a → EachNode b → EachNode (a ++ b)
+both : (a b : List Point) → EachAction a → EachAction b → EachAction (a ++ b)
 both [] b s t = t
 both (p ∷ ps) b s t = (s.0, both ps b s.1 t)
 
-each_at : (ps : List Place) (i : ℕ) (p : Place) → EachNode ps → slice_get ps i ≡ Some p → NodeFits p.node
+each_at : (ps : List Point) (i : ℕ) (p : Point) → EachAction ps → slice_get ps i ≡ Some p → ActionFits p.action
 each_at [] i p s e = absurd (cc)
-each_at (x ∷ xs) zero p s e = let f : x ≡ p = cc in subst (λ (y : Place). NodeFits y.node) f s.0
+each_at (x ∷ xs) zero p s e = let f : x ≡ p = cc in subst (λ (y : Point). ActionFits y.action) f s.0
 each_at (x ∷ xs) (suc i) p s e = each_at xs i p s.1 e
 
 atom_small : (names : Declared) (a : Atom) → AtomFits names a → AtomInLimits a
@@ -46,7 +46,7 @@ atom_small names atoms.ExtBlocks h = tt
 module _ (names : Declared) (few : length names.flags ≤ 4) where
   mutual
     statements_fit : (depth : Depth) (b : Statements) (at : ℕ) (next brk : Target) (most : List ℕ) → StatementsFit names depth b
-        → EachNode (points_of_statements b at next brk most)
+        → EachAction (points_of_statements b at next brk most)
     statements_fit depth nothing at next brk most f = tt
     statements_fit depth (first s rest) at next brk most f =
         both (points_of_statement s at (entry rest (at + statement_count s) next) brk most) (points_of_statements rest (at + statement_count s) next brk most)
@@ -54,14 +54,14 @@ module _ (names : Declared) (few : length names.flags ≤ 4) where
         (statements_fit depth rest (at + statement_count s) next brk most f.1)
 
     ways_fit : (depth : Depth) (order : Option Order) (w : Ways) (at : ℕ) (next brk : Target) (most : List ℕ) → WaysFit names depth order w
-        → EachNode (points_of_ways w at next brk most)
+        → EachAction (points_of_ways w at next brk most)
     ways_fit depth order (otherwise b) at next brk most f = statements_fit (deeper depth) b at next brk most f.1
     ways_fit depth order (way gs b rest) at next brk most f =
         both (points_of_statements b at next brk most) (points_of_ways rest (at + statements_count b) next brk most)
         (statements_fit (deeper depth) b at next brk most f.2) (ways_fit depth order rest (at + statements_count b) next brk most f.3)
 
     statement_fits : (depth : Depth) (s : Statement) (at : ℕ) (next brk : Target) (most : List ℕ) → StatementFits names depth s
-        → EachNode (points_of_statement s at next brk most)
+        → EachAction (points_of_statement s at next brk most)
     statement_fits depth (send c ways) at next brk most f = (tt, ways_fit (deeper depth) (order_of names.kind c.ask) ways (at + 1) next brk most f.2)
     statement_fits depth (phase p a b) at next brk most f = (
       tt,
@@ -87,51 +87,51 @@ module _ (names : Declared) (few : length names.flags ≤ 4) where
     statement_fits depth done at next brk most f = (tt, tt)
     statement_fits depth (fault name) at next brk most f = (tt, tt)
 
-graph_fits : (p : Parsed) (g : Flow) → IsGraphOf p.names p.body g → IsScript p → GraphFits g
+graph_fits : (p : Parsed) (g : Graph) → IsGraphOf p.names p.body g → IsScript p → GraphFits g
 graph_fits p g is s = record {
   few = (let n = s.fits.names_fit.few_numbers in let e = is.numbers_same in omega (arith, n, e));
-  nodes = λ i place here. each_at (points_of p.body) i place
+  actions = λ i place here. each_at (points_of p.body) i place
       (statements_fit p.names s.fits.names_fit.few_flags (record { braces = 0; loops = 0 }) p.body 0 (past p.body) (past p.body) [] s.fits.statements_fit)
-      (ap (λ l. slice_get l i) (sym is.places_same) ∙ here);
+      (ap (λ l. slice_get l i) (sym is.points_same) ∙ here);
 }
 
-node_prop : (node : Node) → IsProp (NodeFits node)
-node_prop (sends c ways other) = hlevel props
-node_prop (phases p well other) = hlevel props
-node_prop (lets l t) = atom_prop l.atom
+action_prop : (action : Action) → IsProp (ActionFits action)
+action_prop (sends c ways other) = hlevel props
+action_prop (phases p well other) = hlevel props
+action_prop (lets l t) = atom_prop l.atom
   where
     atom_prop : (a : Atom) → IsProp (AtomInLimits a)
     atom_prop (atoms.Number n) = hlevel props
     atom_prop (atoms.Variable x) = hlevel props
     atom_prop atoms.CsdBlocks = hlevel props
     atom_prop atoms.ExtBlocks = hlevel props
-node_prop (tests c met unmet) = hlevel props
-node_prop (flags flag on t) = hlevel props
-node_prop (heads n body other) = hlevel props
-node_prop (jumps t) = hlevel props
-node_prop (stops last) = hlevel props
+action_prop (tests c met unmet) = hlevel props
+action_prop (flags flag on t) = hlevel props
+action_prop (heads n body other) = hlevel props
+action_prop (jumps t) = hlevel props
+action_prop (stops last) = hlevel props
 
-fits_prop : (g : Flow) → IsProp (GraphFits g)
-fits_prop g = hlevel (props, node_prop)
+fits_prop : (g : Graph) → IsProp (GraphFits g)
+fits_prop g = hlevel (props, action_prop)
 
-pub script_fits : (s : Script) (g : Flow) → IsGraphOf (shown s).names (shown s).body g → GraphFits g
+pub script_fits : (s : Script) (g : Graph) → IsGraphOf (shown s).names (shown s).body g → GraphFits g
 script_fits s g is = ∥∥₁_elim s.is_script (fits_prop g) (graph_fits (shown s) g is)
 
 -- ONE GRAPH
 
-abbrev Same_flow : Flow → Flow → Type 0
-Same_flow a b = a ≡ b
+abbrev Same_graph : Graph → Graph → Type 0
+Same_graph a b = a ≡ b
 
-flow_same : (k l : Kind) (m n f h : ℕ) (ps qs : List Place) (t u : Target) (x y : ℕ) → k ≡ l → m ≡ n → f ≡ h → ps ≡ qs → t ≡ u → x ≡ y
-    → Same_flow (record { kind = k; numbers = m; flags = f; places = ps; first = t; steps = x })
-    (record { kind = l; numbers = n; flags = h; places = qs; first = u; steps = y })
-flow_same k l m n f h ps qs t u x y a b c d e g = cc
+graph_same : (k l : Kind) (m n f h : ℕ) (ps qs : List Point) (t u : Target) (x y : ℕ) → k ≡ l → m ≡ n → f ≡ h → ps ≡ qs → t ≡ u → x ≡ y
+    → Same_graph (record { kind = k; numbers = m; flags = f; points = ps; first = t; steps = x })
+    (record { kind = l; numbers = n; flags = h; points = qs; first = u; steps = y })
+graph_same k l m n f h ps qs t u x y a b c d e g = cc
 
-pub one_graph : (p : Parsed) (g h : Flow) → IsGraphOf p.names p.body g → IsGraphOf p.names p.body h → g ≡ h
+pub one_graph : (p : Parsed) (g h : Graph) → IsGraphOf p.names p.body g → IsGraphOf p.names p.body h → g ≡ h
 one_graph p g h a b =
-    flow_same g.kind h.kind g.numbers h.numbers g.flags h.flags g.places h.places g.first h.first g.steps h.steps (a.kind_same ∙ sym b.kind_same)
+    graph_same g.kind h.kind g.numbers h.numbers g.flags h.flags g.points h.points g.first h.first g.steps h.steps (a.kind_same ∙ sym b.kind_same)
     (a.numbers_same ∙ sym b.numbers_same)
-    (a.flags_same ∙ sym b.flags_same) (a.places_same ∙ sym b.places_same) (a.first_same ∙ sym b.first_same) (a.steps_same ∙ sym b.steps_same)
+    (a.flags_same ∙ sym b.flags_same) (a.points_same ∙ sym b.points_same) (a.first_same ∙ sym b.first_same) (a.steps_same ∙ sym b.steps_same)
 
-pub refused_of : (s : Script) (g : Flow) (why : CertifyFault) → IsGraphOf (shown s).names (shown s).body g → RefusedAs g why → IsRefused s why
-refused_of s g why is r h other = subst (λ (x : Flow). RefusedAs x why) (one_graph (shown s) g h is other) r
+pub refused_of : (s : Script) (g : Graph) (why : CertifyFault) → IsGraphOf (shown s).names (shown s).body g → RefusedAs g why → IsRefused s why
+refused_of s g why is r h other = subst (λ (x : Graph). RefusedAs x why) (one_graph (shown s) g h is other) r

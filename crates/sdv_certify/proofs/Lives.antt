@@ -7,9 +7,9 @@ use Rattle.sdv_graph.specs.declared.graph.Target.{Target}
 use Rattle.sdv_graph.specs.Tree.{Statements, nothing, first, Ways, otherwise, way, Statement, send, phase, setting, choice, set, clear, turns, break, done, fault}
 use Rattle.sdv_script.specs.Rules.{statements_count, ways_count, statement_count, statements_break, ways_break, statement_breaks, statements_fall, ways_fall, statement_falls}
 use Rattle.sdv_graph.specs.GraphOf.{CanRun}
-use Rattle.sdv_graph.specs.Path.{Place}
-use Rattle.sdv_graph.specs.Points.{start_of, entry, outside, again, forks, other_of, points_of_statements, points_of_ways, points_of_statement, past, points_of}
-use Rattle.sdv_graph.specs.Nested.{EachFork, EachTarget}
+use Rattle.sdv_graph.specs.Path.{Point}
+use Rattle.sdv_graph.specs.Points.{start_of, entry, outside, again, cases_of, other_of, points_of_statements, points_of_ways, points_of_statement, past, points_of}
+use Rattle.sdv_graph.specs.Nested.{EachCase, EachTarget}
 use Rattle.sdv_graph.proofs.Standing.{or_left, or_right, and_both, not_both}
 use Rattle.sdv_certify.specs.Lives.{lives_of_statements, lives_of_ways, lives_of_statement, lives_of, IsLive}
 
@@ -108,16 +108,16 @@ module _ (g : List Bool) where
   abbrev Stands : Target → Type 0
   Stands t = slice_get g t.to ≡ Some true
 
-  abbrev Leads : Place → Type 0
-  Leads p = EachTarget p.node (λ pass t. Stands t)
+  abbrev Leads : Point → Type 0
+  Leads p = EachTarget p.action (λ pass t. Stands t)
 
   -- each point that is live leads to live ones
-  abbrev AllLead : List Place → List Bool → Type 0
+  abbrev AllLead : List Point → List Bool → Type 0
   AllLead [] [] = Unit {0}
   AllLead (p ∷ ps) (l ∷ ls) = (l ≡ true → Leads p) × AllLead ps ls
   AllLead ps ls = ⊥
 
-  all_lead_append : (ps qs : List Place) (ls ms : List Bool) → AllLead ps ls → AllLead qs ms → AllLead (ps ++ qs) (ls ++ ms)
+  all_lead_append : (ps qs : List Point) (ls ms : List Bool) → AllLead ps ls → AllLead qs ms → AllLead (ps ++ qs) (ls ++ ms)
   all_lead_append [] qs [] ms a b = b
   all_lead_append [] qs (l ∷ ls) ms a b = absurd a
   all_lead_append (p ∷ ps) qs [] ms a b = absurd a
@@ -146,14 +146,14 @@ module _ (g : List Bool) where
       start_stands s at live (has_front g at (lives_of_statement s live) (lives_of_statements rest (live && statement_falls s)) has) e
 
   -- the cases of a command lead to their blocks
-  forks_stand : (c : Ways) (at : ℕ) (next : Target) (live : Bool) → HasAt g at (lives_of_ways c live) → live ≡ true → (ways_fall c ≡ true → Stands next)
-      → EachFork (forks c at next) (λ pass t. Stands t) × Stands (other_of c at next)
-  forks_stand (otherwise b) at next live has e nx = (tt, entry_stands b at next live has e nx)
-  forks_stand (way guards b rest) at next live has e nx =
+  cases_stand : (c : Ways) (at : ℕ) (next : Target) (live : Bool) → HasAt g at (lives_of_ways c live) → live ≡ true → (ways_fall c ≡ true → Stands next)
+      → EachCase (cases_of c at next) (λ pass t. Stands t) × Stands (other_of c at next)
+  cases_stand (otherwise b) at next live has e nx = (tt, entry_stands b at next live has e nx)
+  cases_stand (way guards b rest) at next live has e nx =
       let others = lives_of_ways rest live in
       let one = entry_stands b at next live (has_front g at (lives_of_statements b live) others has) e
       (λ x. nx (or_left (statements_fall b) (ways_fall rest) x)) in
-      let more = forks_stand rest (at + statements_count b) next live (has_after g at b live others has) e
+      let more = cases_stand rest (at + statements_count b) next live (has_after g at b live others has) e
       (λ x. nx (or_right (statements_fall b) (ways_fall rest) x)) in
       ((one, more.0), more.1)
 
@@ -207,7 +207,7 @@ module _ (g : List Bool) where
         → (live ≡ true → statement_falls s ≡ true → Stands next) → (live ≡ true → statement_breaks s ≡ true → Stands brk)
         → AllLead (points_of_statement s at next brk most) (lives_of_statement s live)
     statement_leads (send c ways) at next brk most live has nx br =
-        ((λ l. forks_stand ways (at + 1) next live has.1 l (nx l)), ways_lead ways (at + 1) next brk most live has.1 nx br)
+        ((λ l. cases_stand ways (at + 1) next live has.1 l (nx l)), ways_lead ways (at + 1) next brk most live has.1 nx br)
     statement_leads (phase p a b) at next brk most live has nx br =
         let mid = at + 1 + statements_count a in
         let la = lives_of_statements a live in
@@ -255,7 +255,7 @@ module _ (g : List Bool) where
     statement_leads done at next brk most live has nx br = ((λ l. tt), tt)
     statement_leads (fault name) at next brk most live has nx br = ((λ l. tt), tt)
 
-  each_leads : (ps : List Place) (ls : List Bool) (i : ℕ) (p : Place) → AllLead ps ls → slice_get ps i ≡ Some p → slice_get ls i ≡ Some true → Leads p
+  each_leads : (ps : List Point) (ls : List Bool) (i : ℕ) (p : Point) → AllLead ps ls → slice_get ps i ≡ Some p → slice_get ls i ≡ Some true → Leads p
   each_leads [] ls i p all e h = absurd (cc)
   each_leads (q ∷ ps) [] i p all e h = absurd all
   each_leads (q ∷ ps) (l ∷ ls) zero p all e h =
@@ -265,8 +265,8 @@ module _ (g : List Bool) where
   each_leads (q ∷ ps) (l ∷ ls) (suc i) p all e h = each_leads ps ls i p all.1 e h
 
 -- each target of a live point is a live point
-pub live_leads : (script : Statements) (i : ℕ) (p : Place) → CanRun script → slice_get (points_of script) i ≡ Some p → IsLive script i
-    → EachTarget p.node (λ pass t. IsLive script t.to)
+pub live_leads : (script : Statements) (i : ℕ) (p : Point) → CanRun script → slice_get (points_of script) i ≡ Some p → IsLive script i
+    → EachTarget p.action (λ pass t. IsLive script t.to)
 live_leads b i p can here live =
     let g = lives_of b in
     let all = statements_lead g b 0 (past b) (past b) [] true (has_all g []) (λ l x. absurd (not_both (statements_fall b) can.ends x))

@@ -3,9 +3,9 @@ use Rattle.std.proofs.Common.{◌≡◌, ℕ, zero, suc, ◌+◌, ◌-◌, List,
 use Rattle.sdv_graph.specs.declared.graph.Target.{Target}
 use Rattle.sdv_graph.specs.declared.tree.Change.{Change}
 use Rattle.sdv_graph.specs.declared.tree.Change.TheVariants.{Same, Plus, Minus}
-use Rattle.sdv_graph.specs.Graph.{Flow}
+use Rattle.sdv_graph.specs.Graph.{Graph}
 use Rattle.sdv_graph.specs.GraphOf.{IsGraphOf}
-use Rattle.sdv_graph.specs.Path.{Node, Place, lets, tests}
+use Rattle.sdv_graph.specs.Path.{Action, Point, lets, tests}
 use Rattle.sdv_graph.specs.Points.{points_of, points_of_statements, points_of_ways, points_of_statement, entry, again, outside, past}
 use Rattle.sdv_script.specs.Rules.{statements_count, statement_count}
 use Rattle.sdv_graph.specs.Tree.{Statements, nothing, first, Ways, otherwise, way, Statement, send, phase, setting, choice, set, clear, turns, break, done, fault, Declared}
@@ -15,38 +15,38 @@ use Rattle.sdv_facts.specs.AfterLet.{changed_facts}
 use Rattle.sdv_certify.specs.NumberTests.{KeepsValue, AsksFlag, StatementsTestNoNumber, WaysTestNoNumber, TestsNoNumber}
 
 -- the same of a point
-abbrev pub NodeTestsNoNumber : Node → Type 0
-NodeTestsNoNumber (lets l t) = KeepsValue l.change
-NodeTestsNoNumber (tests c met unmet) = AsksFlag c
-NodeTestsNoNumber node = Unit {0}
+abbrev pub ActionTestsNoNumber : Action → Type 0
+ActionTestsNoNumber (lets l t) = KeepsValue l.change
+ActionTestsNoNumber (tests c met unmet) = AsksFlag c
+ActionTestsNoNumber action = Unit {0}
 
-abbrev EachNode : List Place → Type 0
-EachNode [] = Unit {0}
-EachNode (p ∷ ps) = NodeTestsNoNumber p.node × EachNode ps
+abbrev EachAction : List Point → Type 0
+EachAction [] = Unit {0}
+EachAction (p ∷ ps) = ActionTestsNoNumber p.action × EachAction ps
 
-both : (a b : List Place) → EachNode a → EachNode b → EachNode (a ++ b)
+both : (a b : List Point) → EachAction a → EachAction b → EachAction (a ++ b)
 both [] b s t = t
 both (p ∷ ps) b s t = (s.0, both ps b s.1 t)
 
-each_at : (ps : List Place) (i : ℕ) (p : Place) → EachNode ps → slice_get ps i ≡ Some p → NodeTestsNoNumber p.node
+each_at : (ps : List Point) (i : ℕ) (p : Point) → EachAction ps → slice_get ps i ≡ Some p → ActionTestsNoNumber p.action
 each_at [] i p s e = absurd (cc)
-each_at (x ∷ xs) zero p s e = let f : x ≡ p = cc in subst (λ (y : Place). NodeTestsNoNumber y.node) f s.0
+each_at (x ∷ xs) zero p s e = let f : x ≡ p = cc in subst (λ (y : Point). ActionTestsNoNumber y.action) f s.0
 each_at (x ∷ xs) (suc i) p s e = each_at xs i p s.1 e
 
 mutual
-  of_statements : (b : Statements) (at : ℕ) (next brk : Target) (most : List ℕ) → StatementsTestNoNumber b → EachNode (points_of_statements b at next brk most)
+  of_statements : (b : Statements) (at : ℕ) (next brk : Target) (most : List ℕ) → StatementsTestNoNumber b → EachAction (points_of_statements b at next brk most)
   of_statements nothing at next brk most h = tt
   of_statements (first s rest) at next brk most h =
       both (points_of_statement s at (entry rest (at + statement_count s) next) brk most) (points_of_statements rest (at + statement_count s) next brk most)
       (of_statement s at (entry rest (at + statement_count s) next) brk most h.0) (of_statements rest (at + statement_count s) next brk most h.1)
 
-  of_ways : (w : Ways) (at : ℕ) (next brk : Target) (most : List ℕ) → WaysTestNoNumber w → EachNode (points_of_ways w at next brk most)
+  of_ways : (w : Ways) (at : ℕ) (next brk : Target) (most : List ℕ) → WaysTestNoNumber w → EachAction (points_of_ways w at next brk most)
   of_ways (otherwise b) at next brk most h = of_statements b at next brk most h
   of_ways (way gs b rest) at next brk most h =
       both (points_of_statements b at next brk most) (points_of_ways rest (at + statements_count b) next brk most)
       (of_statements b at next brk most h.0) (of_ways rest (at + statements_count b) next brk most h.1)
 
-  of_statement : (s : Statement) (at : ℕ) (next brk : Target) (most : List ℕ) → TestsNoNumber s → EachNode (points_of_statement s at next brk most)
+  of_statement : (s : Statement) (at : ℕ) (next brk : Target) (most : List ℕ) → TestsNoNumber s → EachAction (points_of_statement s at next brk most)
   of_statement (send c ways) at next brk most h = (tt, of_ways ways (at + 1) next brk most h)
   of_statement (phase p a b) at next brk most h = (
     tt,
@@ -70,13 +70,13 @@ mutual
   of_statement done at next brk most h = (tt, tt)
   of_statement (fault name) at next brk most h = (tt, tt)
 
-abbrev pub PointsTestNoNumber : Flow → Type 0
-PointsTestNoNumber g = (i : ℕ) (place : Place) → slice_get g.places i ≡ Some place → NodeTestsNoNumber place.node
+abbrev pub PointsTestNoNumber : Graph → Type 0
+PointsTestNoNumber g = (i : ℕ) (place : Point) → slice_get g.points i ≡ Some place → ActionTestsNoNumber place.action
 
-pub points_test_no_number : (names : Declared) (script : Statements) (g : Flow) → StatementsTestNoNumber script → IsGraphOf names script g
+pub points_test_no_number : (names : Declared) (script : Statements) (g : Graph) → StatementsTestNoNumber script → IsGraphOf names script g
     → PointsTestNoNumber g
 points_test_no_number names script g h is i place here =
-    each_at (points_of script) i place (of_statements script 0 (past script) (past script) [] h) (ap (λ l. slice_get l i) (sym is.places_same) ∙ here)
+    each_at (points_of script) i place (of_statements script 0 (past script) (past script) [] h) (ap (λ l. slice_get l i) (sym is.points_same) ∙ here)
 
 -- a value that keeps is carried along an edge, whatever is known
 pub carried_on : {X : Type 0} (c : Change) (v : VarFacts) (carry : VarFacts → Numbers) → KeepsValue c

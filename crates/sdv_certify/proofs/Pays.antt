@@ -6,9 +6,9 @@ use Rattle.std.proofs.lemmas.Option.{slice_get_past, slice_get-get_or}
 use Rattle.sdv_graph.specs.declared.graph.Target.{Target}
 use Rattle.sdv_graph.specs.Tree.{Statements, nothing, first, Ways, otherwise, way, Statement, send, phase, setting, choice, set, clear, turns, break, done, fault}
 use Rattle.sdv_script.specs.Rules.{statements_count, ways_count, statement_count}
-use Rattle.sdv_graph.specs.Path.{Fork, Node, Place, sends, phases, lets, tests, flags, heads, jumps, stops, left, entered, turns_at}
-use Rattle.sdv_graph.specs.Points.{start_of, entry, outside, again, forks, other_of, points_of_statements, points_of_ways, points_of_statement, past, points_of}
-use Rattle.sdv_graph.specs.Nested.{InBox, Pass, Same, Again, Over, EachFork, EachTarget}
+use Rattle.sdv_graph.specs.Path.{Case, Action, Point, sends, phases, lets, tests, flags, heads, jumps, stops, left, entered, turns_at}
+use Rattle.sdv_graph.specs.Points.{start_of, entry, outside, again, cases_of, other_of, points_of_statements, points_of_ways, points_of_statement, past, points_of}
+use Rattle.sdv_graph.specs.Nested.{InBox, Pass, Same, Again, Over, EachCase, EachTarget}
 use Rattle.sdv_facts.specs.Bounds.{turns_cost, bound, commands_of, BoundFalls}
 use Rattle.sdv_facts.specs.declared.certificate.PointFacts.{PointFacts}
 use Rattle.sdv_certify.specs.declared.form.Form.{Form}
@@ -118,15 +118,15 @@ module _ (g : List Form) where
   Leads None t = (h : Form) → slice_get g t.to ≡ Some h → ⊥
   Leads (Some f) t = (h : Form) → slice_get g t.to ≡ Some h → (ts : List ℕ) → worth h (turns_at t ts) ≤ worth f ts
 
-  abbrev Pays : Place → Form → Type 0
-  Pays p f = EachTarget p.node (Falls g f (commands_of p.node))
+  abbrev Pays : Point → Form → Type 0
+  Pays p f = EachTarget p.action (Falls g f (commands_of p.action))
 
-  abbrev AllPay : List Place → List Form → Type 0
+  abbrev AllPay : List Point → List Form → Type 0
   AllPay [] [] = Unit {0}
   AllPay (p ∷ ps) (f ∷ fs) = Pays p f × AllPay ps fs
   AllPay ps fs = ⊥
 
-  all_pay_append : (ps qs : List Place) (fs gs : List Form) → AllPay ps fs → AllPay qs gs → AllPay (ps ++ qs) (fs ++ gs)
+  all_pay_append : (ps qs : List Point) (fs gs : List Form) → AllPay ps fs → AllPay qs gs → AllPay (ps ++ qs) (fs ++ gs)
   all_pay_append [] qs [] gs a b = b
   all_pay_append [] qs (f ∷ fs) gs a b = absurd a
   all_pay_append (p ∷ ps) qs [] gs a b = absurd a
@@ -227,18 +227,18 @@ module _ (g : List Form) where
       start_leads s at mid out (has_front g at (forms_of_statement s mid out) (forms_of_statements rest after out) has)
 
   -- the cases of a command lead to their blocks
-  forks_fall : (c : Ways) (at : ℕ) (next : Target) (after out w : Option Form) → HasAt g at (forms_of_ways c after out) → Leads after next
+  cases_fall : (c : Ways) (at : ℕ) (next : Target) (after out w : Option Form) → HasAt g at (forms_of_ways c after out) → Leads after next
       → Below (form_ways c after out) w
-      → EachFork (forks c at next) (Falls g (sends_then w) 1) × Falls g (sends_then w) 1 Same (other_of c at next)
-  forks_fall (otherwise b) at next after out w has nx below =
+      → EachCase (cases_of c at next) (Falls g (sends_then w) 1) × Falls g (sends_then w) 1 Same (other_of c at next)
+  cases_fall (otherwise b) at next after out w has nx below =
       (tt, sent_falls (form_statements b after out) w (entry b at next) (entry_leads b at next after out has nx) below)
-  forks_fall (way guards b rest) at next after out w has nx below =
+  cases_fall (way guards b rest) at next after out w has nx below =
       let mid = at + statements_count b in
       let others = forms_of_ways rest after out in
       let x = form_statements b after out in
       let y = form_ways rest after out in
       let one = entry_leads b at next after out (has_front g at (forms_of_statements b after out) others has) nx in
-      let more = forks_fall rest mid next after out w (has_after g at b after out others has) nx (below_twice y (either_form x y) w (below_right x y) below) in
+      let more = cases_fall rest mid next after out w (has_after g at b after out others has) nx (below_twice y (either_form x y) w (below_right x y) below) in
       ((sent_falls x w (entry b at next) one (below_twice x (either_form x y) w (below_left x y) below), more.0), more.1)
 
   mutual
@@ -273,7 +273,7 @@ module _ (g : List Form) where
         → Leads after next → Leads out brk
         → AllPay (points_of_statement s at next brk most) (forms_of_statement s after out)
     statement_pays (send c ways) at next brk most after out has nx br = (
-      forks_fall ways (at + 1) next after out (form_ways ways after out) has.1 nx (below_same (form_ways ways after out)),
+      cases_fall ways (at + 1) next after out (form_ways ways after out) has.1 nx (below_same (form_ways ways after out)),
       ways_pay ways (at + 1) next brk most after out has.1 nx br,
     )
     statement_pays (phase p a b) at next brk most after out has nx br =
@@ -330,7 +330,7 @@ module _ (g : List Form) where
     statement_pays done at next brk most after out has nx br = (tt, tt)
     statement_pays (fault name) at next brk most after out has nx br = (tt, tt)
 
-  each_pays : (ps : List Place) (fs : List Form) (i : ℕ) (p : Place) (f : Form) → AllPay ps fs → slice_get ps i ≡ Some p → slice_get fs i ≡ Some f → Pays p f
+  each_pays : (ps : List Point) (fs : List Form) (i : ℕ) (p : Point) (f : Form) → AllPay ps fs → slice_get ps i ≡ Some p → slice_get fs i ≡ Some f → Pays p f
   each_pays [] fs i p f all e h = absurd (cc)
   each_pays (q ∷ ps) [] i p f all e h = absurd all
   each_pays (q ∷ ps) (k ∷ fs) zero p f all e h =
@@ -354,12 +354,12 @@ forms_pay b i p f here there =
 
 -- IN A CERTIFICATE
 
-each_fork : (ws : List Fork) (P Q : Pass → Target → Type 0) → ((pass : Pass) (t : Target) → P pass t → Q pass t) → EachFork ws P → EachFork ws Q
-each_fork [] P Q f h = tt
-each_fork (w ∷ ws) P Q f h = (f Same w.target h.0, each_fork ws P Q f h.1)
+each_case : (ws : List Case) (P Q : Pass → Target → Type 0) → ((pass : Pass) (t : Target) → P pass t → Q pass t) → EachCase ws P → EachCase ws Q
+each_case [] P Q f h = tt
+each_case (w ∷ ws) P Q f h = (f Same w.target h.0, each_case ws P Q f h.1)
 
-pub each_target : (n : Node) (P Q : Pass → Target → Type 0) → ((pass : Pass) (t : Target) → P pass t → Q pass t) → EachTarget n P → EachTarget n Q
-each_target (sends c ways other) P Q f h = (each_fork ways P Q f h.0, f Same other h.1)
+pub each_target : (n : Action) (P Q : Pass → Target → Type 0) → ((pass : Pass) (t : Target) → P pass t → Q pass t) → EachTarget n P → EachTarget n Q
+each_target (sends c ways other) P Q f h = (each_case ways P Q f h.0, f Same other h.1)
 each_target (phases p well other) P Q f h = (f Same well h.0, f Same other h.1)
 each_target (lets l t) P Q f h = f Same t h
 each_target (tests c holds other) P Q f h = (f Same holds h.0, f Same other h.1)
@@ -387,12 +387,12 @@ box_length [] (n ∷ most) h = absurd h
 box_length (t ∷ ts) [] h = absurd h
 box_length (t ∷ ts) (n ∷ most) h = ap suc (box_length ts most h.1)
 
-bound_at_most : (f : Form) (place : Place) (p : PointFacts) (ts : List ℕ) → HasForm f place p → bound p ts ≤ worth f ts
+bound_at_most : (f : Form) (place : Point) (p : PointFacts) (ts : List ℕ) → HasForm f place p → bound p ts ≤ worth f ts
 bound_at_most f place p ts h =
     let e = ap (λ l. turns_cost l ts) h.turns in
     omega (arith, h.base, e, cost_first (length place.most) f.each ts)
 
-worth_at_bound : (f : Form) (place : Place) (p : PointFacts) (ts : List ℕ) → HasForm f place p → InBox ts place.most → worth f ts ≤ bound p ts
+worth_at_bound : (f : Form) (place : Point) (p : PointFacts) (ts : List ℕ) → HasForm f place p → InBox ts place.most → worth f ts ≤ bound p ts
 worth_at_bound f place p ts h box =
     let e = ap (λ l. turns_cost l ts) h.turns in
     let l = box_length ts place.most box in
@@ -413,9 +413,9 @@ pub bounds_fall : (script : Statements) (ps : List PointFacts) → HasForms scri
 bounds_fall script ps h i place p here there =
     let x = h.each i place p here there in
     let f = x.0 in
-    each_target place.node
-    (Falls (forms_of script) f (commands_of place.node))
-    (λ pass t. ((q : PointFacts) → slice_get ps t.to ≡ Some q → BoundFalls p q place.most (commands_of place.node) pass t))
+    each_target place.action
+    (Falls (forms_of script) f (commands_of place.action))
+    (λ pass t. ((q : PointFacts) → slice_get ps t.to ≡ Some q → BoundFalls p q place.most (commands_of place.action) pass t))
     (λ pass t fall q found ts us box turned.
     (let below = below_length ps t.to q found in
     let y = is_there (points_of script) t.to (omega (arith, h.count)) in

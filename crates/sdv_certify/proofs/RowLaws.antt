@@ -6,7 +6,7 @@ use Rattle.sdv_graph.specs.Moves.{statements_moves, ways_moves}
 use Rattle.sdv_certify.specs.declared.form.Form.{Form}
 use Rattle.sdv_certify.specs.Blocks.{blocks_of}
 use Rattle.sdv_certify.specs.Forms.{greatest, greater, either_form, form_statements, form_ways, forms_of_statements, forms_of_ways, full_form, in_full}
-use Rattle.sdv_certify.specs.Turns.{StatementsTurn, WaysTurn}
+use Rattle.sdv_certify.specs.LoopTurns.{StatementsTurn, WaysTurn}
 use Rattle.sdv_certify.proofs.FewCommands.{base_at}
 use Rattle.sdv_certify.proofs.FormLaws.{either_same}
 use Rattle.sdv_certify.proofs.Sizes.{statements_size, ways_size}

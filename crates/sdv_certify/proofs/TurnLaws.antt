@@ -13,7 +13,7 @@ use Rattle.sdv_script.specs.Script.{Parsed, IsScript}
 use Rattle.sdv_script.proofs.MovesBound.{few_moves}
 use Rattle.sdv_certify.specs.declared.form.Form.{Form}
 use Rattle.sdv_certify.specs.Forms.{full_form, FormInLimits}
-use Rattle.sdv_certify.specs.Turns.{StatementsTurn, WaysTurn, StatementTurns}
+use Rattle.sdv_certify.specs.LoopTurns.{StatementsTurn, WaysTurn, StatementTurns}
 
 mutual
   statements_turn : (names : Declared) (d : Depth) (b : Statements) → StatementsFit names d b → StatementsTurn b

@@ -2,7 +2,7 @@ pub mod Pieces
 pub mod Spans
 pub mod Forms
 pub mod Blocks
-pub mod Turns
+pub mod LoopTurns
 pub mod FormsPay
 pub mod Family
 pub mod Ways

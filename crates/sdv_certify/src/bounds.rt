@@ -7,7 +7,7 @@ ghost use Rattle.sdv_graph.specs.Tree.{statements_of, ways_of, statement_of};
 ghost use Rattle.sdv_certify.specs.Forms.{leads_to, form_statements, form_ways, form_before, forms_of_statements, forms_of_ways, forms_of_statement, forms_of, full_form, in_full, FormInLimits};
 ghost use Rattle.sdv_script.specs.Rules.{max_number};
 ghost use Rattle.sdv_certify.specs.Blocks.{blocks_of};
-ghost use Rattle.sdv_certify.specs.Turns.{StatementsTurn, WaysTurn, StatementTurns};
+ghost use Rattle.sdv_certify.specs.LoopTurns.{StatementsTurn, WaysTurn, StatementTurns};
 
 use crate::fault::CertifyFault;
 use crate::form::Form;
@@ -15,12 +15,9 @@ use crate::parts::{
     END, before_loop, either_form, head_form, inside_too, last_turn, leads_to, sends_then,
 };
 use crate::spans::block_spans;
-use sdv_graph::{Block, Cases, Stmt};
+use sdv_graph::{Block, Cases, MAX_NUMBER, Stmt};
 use sdv_script::Script;
 use std::alloc::{AllocError, Global};
-
-/// The greatest number of a certificate.
-const MAX_NUMBER: u128 = 1 << 40;
 
 // The form is that of the next point.
 fn push(forms: &mut Vec<Form>, form: Form) -> Result<Form, AllocError>
@@ -156,7 +153,7 @@ fn are_few(numbers: &[u128]) -> bool
     ensures { IsTrue result ↔ All (λ n. n ≤ max_number) numbers.now }
 {
     for number in numbers {
-        if *number > MAX_NUMBER {
+        if *number > u128::from(MAX_NUMBER) {
             return false;
         }
     }
@@ -166,7 +163,7 @@ fn are_few(numbers: &[u128]) -> bool
 fn in_limits(form: &Form) -> bool
     ensures { IsTrue result ↔ FormInLimits form.now }
 {
-    form.base <= MAX_NUMBER && are_few(&form.each)
+    form.base <= u128::from(MAX_NUMBER) && are_few(&form.each)
 }
 
 #[tactic(auto, using(crate::proofs::FormLaws::first_four))]

@@ -1,8 +1,8 @@
 //! Which point fails first, and why.
 
 ghost use Rattle.std.specs.Prelude.{◌≡◌, ◌↔◌, length, IsTrue, IfSome, IfNone};
-ghost use Rattle.sdv_facts.specs.Known.{AreRising};
-ghost use Rattle.sdv_graph.specs.Graph.{node_of, place_of};
+ghost use Rattle.sdv_facts.specs.Facts.{AreRising};
+ghost use Rattle.sdv_graph.specs.Graph.{seen_action, seen_point};
 ghost use Rattle.sdv_certify.specs.Refusal.{AllLegal, AddressHolds, AllEnd, IsFine, IsLeastIllegal, FailsAs, FailsIfReached, IsFineIfReached, FailsFirst, AllFine};
 
 use crate::fault::CertifyFault;
@@ -13,8 +13,8 @@ use sdv_graph::{Action, Graph, Point};
 /// The least shape where the event of a statement is not legal.
 fn least_illegal<T: CardTable>(action: &Action<'_>, shapes: &[Shape]) -> Option<Shape>
     requires rising { AreRising shapes.now }
-    ensures least { IfSome result (IsLeastIllegal T.kind (node_of action.now) shapes.now) }
-    ensures legal { IfNone result (AllLegal T.kind (node_of action.now) shapes.now) }
+    ensures least { IfSome result (IsLeastIllegal T.kind (seen_action action.now) shapes.now) }
+    ensures legal { IfNone result (AllLegal T.kind (seen_action action.now) shapes.now) }
 {
     for shape in shapes {
         if !legal_at::<T>(action, *shape) {
@@ -26,7 +26,7 @@ fn least_illegal<T: CardTable>(action: &Action<'_>, shapes: &[Shape]) -> Option<
 
 /// At `done` each shape is in the transfer state.
 fn all_end(action: &Action<'_>, shapes: &[Shape]) -> bool
-    ensures { IsTrue result ↔ AllEnd (node_of action.now) shapes.now }
+    ensures { IsTrue result ↔ AllEnd (seen_action action.now) shapes.now }
 {
     for shape in shapes {
         if !ends_at(action, *shape) {
@@ -38,8 +38,8 @@ fn all_end(action: &Action<'_>, shapes: &[Shape]) -> bool
 
 /// The first clause of a point that fails.
 fn fault_at<T: CardTable>(point: usize, action: &Action<'_>, facts: &Facts) -> Option<CertifyFault>
-    ensures fails { IfSome result (FailsAs T.kind (node_of action.now) facts.now point) }
-    ensures fine { IfNone result (IsFine T.kind (node_of action.now) facts.now) }
+    ensures fails { IfSome result (FailsAs T.kind (seen_action action.now) facts.now point) }
+    ensures fine { IfNone result (IsFine T.kind (seen_action action.now) facts.now) }
 {
     if let Some(shape) = least_illegal::<T>(action, facts.shapes()) {
         return Some(CertifyFault::Illegal { point, shape });
@@ -59,8 +59,8 @@ fn fault_if_reached<T: CardTable>(
     point: &Point<'_>,
     known: &Option<Facts>,
 ) -> Option<CertifyFault>
-    ensures fails { IfSome result (FailsIfReached T.kind (place_of point.now).node known.now number) }
-    ensures fine { IfNone result (IsFineIfReached T.kind (place_of point.now).node known.now) }
+    ensures fails { IfSome result (FailsIfReached T.kind (seen_point point.now).action known.now number) }
+    ensures fine { IfNone result (IsFineIfReached T.kind (seen_point point.now).action known.now) }
 {
     match known {
         Some(facts) => fault_at::<T>(number, &point.action, facts),
@@ -71,7 +71,7 @@ fn fault_if_reached<T: CardTable>(
 /// The lowest point that fails, with the first of its clauses that does.
 pub fn first_fault<T: CardTable>(graph: &Graph, family: &[Option<Facts>]) -> Option<CertifyFault>
     requires kind { graph.now.kind ≡ T.kind }
-    requires same { length family.now ≡ length graph.now.places }
+    requires same { length family.now ≡ length graph.now.points }
     ensures fails { IfSome result (FailsFirst graph.now family.now) }
     ensures fine { IfNone result (AllFine graph.now family.now) }
 {

@@ -15,9 +15,9 @@ use std::io::{Error, Write};
 
 /// What of a line is not written yet: room for its front, of the words, four loops and eight variables with numbers of 20
 /// digits, and for the shapes of most points.
-type Line = ArrayVec<u8, 1024>;
+type LineBytes = ArrayVec<u8, 1024>;
 
-fn push(line: &mut Line, bytes: &[u8])
+fn push(line: &mut LineBytes, bytes: &[u8])
     requires { array_vec_len line.old + length bytes.now ≤ 1024 }
     ensures items { line.new.items ≡ line.old.items ++ bytes.now }
     ensures len { array_vec_len line.new ≡ array_vec_len line.old + length bytes.now }
@@ -25,7 +25,7 @@ fn push(line: &mut Line, bytes: &[u8])
     line.try_extend_from_slice(bytes).unwrap();
 }
 
-fn push_number(line: &mut Line, number: u64)
+fn push_number(line: &mut LineBytes, number: u64)
     requires { array_vec_len line.old + 21 ≤ 1024 }
     ensures items { line.new.items ≡ line.old.items ++ number_text number }
     ensures len { array_vec_len line.new ≤ array_vec_len line.old + 21 }
@@ -35,7 +35,7 @@ fn push_number(line: &mut Line, number: u64)
     push(line, buffer.format(number).as_bytes());
 }
 
-fn push_gap(line: &mut Line, gap: Option<u64>)
+fn push_gap(line: &mut LineBytes, gap: Option<u64>)
     requires { array_vec_len line.old + 21 ≤ 1024 }
     ensures items { line.new.items ≡ line.old.items ++ gap_text gap }
     ensures len { array_vec_len line.new ≤ array_vec_len line.old + 21 }
@@ -46,7 +46,7 @@ fn push_gap(line: &mut Line, gap: Option<u64>)
     }
 }
 
-fn push_variable(line: &mut Line, known: &VarFacts)
+fn push_variable(line: &mut LineBytes, known: &VarFacts)
     requires { array_vec_len line.old + 65 ≤ 1024 }
     ensures items { line.new.items ≡ line.old.items ++ var_text known.now }
     ensures len { array_vec_len line.new ≤ array_vec_len line.old + 65 }
@@ -58,7 +58,7 @@ fn push_variable(line: &mut Line, known: &VarFacts)
 }
 
 // A point's place and bound.
-fn push_bound(line: &mut Line, place: u64, point: &PointFacts)
+fn push_bound(line: &mut LineBytes, place: u64, point: &PointFacts)
     requires { array_vec_len line.old + 200 ≤ 1024 }
     ensures items { line.new.items ≡ line.old.items ++ bound_text place point.now }
     ensures len { array_vec_len line.new ≤ array_vec_len line.old + 200 }
@@ -74,7 +74,7 @@ fn push_bound(line: &mut Line, place: u64, point: &PointFacts)
 }
 
 // What is known of numbers at a point.
-fn push_numbers(line: &mut Line, point: &PointFacts)
+fn push_numbers(line: &mut LineBytes, point: &PointFacts)
     requires { array_vec_len line.old + 600 ≤ 1024 }
     ensures items { line.new.items ≡ line.old.items ++ numbers_text point.now }
     ensures len { array_vec_len line.new ≤ array_vec_len line.old + 600 }
@@ -89,7 +89,7 @@ fn push_numbers(line: &mut Line, point: &PointFacts)
     push(line, b" s");
 }
 
-fn push_shape(line: &mut Line, shape: Shape)
+fn push_shape(line: &mut LineBytes, shape: Shape)
     requires { array_vec_len line.old + 17 ≤ 1024 }
     ensures items { line.new.items ≡ line.old.items ++ shape_text shape }
     ensures len { array_vec_len line.new ≡ array_vec_len line.old + 17 }
@@ -101,7 +101,7 @@ fn push_shape(line: &mut Line, shape: Shape)
 
 // Writes what there is of a line, unless there is room for a shape and the line's end.
 #[tactic(auto, using(crate::proofs::Written::none_passed, crate::proofs::Written::all_passed, crate::proofs::Written::part_passed))]
-fn make_room<W: Write>(out: &mut W, line: &mut Line) -> Result<(), Error>
+fn make_room<W: Write>(out: &mut W, line: &mut LineBytes) -> Result<(), Error>
     ensures passed { OnOk result (PassesOn (W.contents out.old) (W.contents out.new) line.old.items line.new.items) }
     ensures room { OnOk result (array_vec_len line.new + 18 ≤ 1024) }
     ensures failed { OnErr result (AppendsPart (W.contents out.old) (W.contents out.new) line.old.items) }
@@ -118,7 +118,7 @@ fn make_room<W: Write>(out: &mut W, line: &mut Line) -> Result<(), Error>
 fn put_line<W: Write>(out: &mut W, place: u64, point: &PointFacts) -> Result<(), Error>
     ensures { Writes (W.contents out.old) (W.contents out.new) result (line_text place point.now) }
 {
-    let mut line = Line::new();
+    let mut line = LineBytes::new();
     push_bound(&mut line, place, point);
     push_numbers(&mut line, point);
     let shapes = point.facts.shapes();
@@ -134,7 +134,7 @@ fn put_line<W: Write>(out: &mut W, place: u64, point: &PointFacts) -> Result<(),
 fn put_title<W: Write>(out: &mut W, count: u64) -> Result<(), Error>
     ensures { Writes (W.contents out.old) (W.contents out.new) result (title_text count) }
 {
-    let mut line = Line::new();
+    let mut line = LineBytes::new();
     push(&mut line, b"sdv-cert 1\npoints");
     push_number(&mut line, count);
     push(&mut line, b"\n");

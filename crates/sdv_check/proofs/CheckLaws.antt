@@ -3,9 +3,9 @@ use Rattle.std.proofs.Common.{◌≡◌, ℕ, zero, suc, ltb-true, ◌+◌, ◌<
 use Rattle.std.specs.Prelude.{slice_get, ◌&&◌}
 use Rattle.std.proofs.lemmas.Bool.{cases_eq}
 use Rattle.std.proofs.lemmas.Option.{slice_get-get_or, slice_get_within}
-use Rattle.sdv_graph.specs.Graph.{Flow}
-use Rattle.sdv_graph.specs.Limits.{node_keeps_limits, keeps_limits, all_keep_limits}
-use Rattle.sdv_graph.specs.Path.{Node, Place, sends, phases, lets, tests, flags, heads, jumps, stops}
+use Rattle.sdv_graph.specs.Graph.{Graph}
+use Rattle.sdv_graph.specs.Limits.{action_keeps_limits, keeps_limits, all_keep_limits}
+use Rattle.sdv_graph.specs.Path.{Action, Point, sends, phases, lets, tests, flags, heads, jumps, stops}
 use Rattle.sdv_facts.specs.declared.certificate.PointFacts.{PointFacts}
 use Rattle.sdv_facts.specs.declared.clause.Clause.{Clause}
 use Rattle.sdv_facts.specs.declared.clause.Clause.TheVariants as clauses
@@ -20,19 +20,19 @@ some_same e = cc
 pub facts_there : (ps : List PointFacts) (i : ℕ) (y : PointFacts) → i < length ps → y ≡ get_or ps i y → slice_get ps i ≡ Some y
 facts_there ps i y lt e = slice_get-get_or ps i y lt ∙ ap Some (sym e)
 
-place_there : (g : List Place) (i : ℕ) → i < length g → (place : Place) × (slice_get g i ≡ Some place)
+place_there : (g : List Point) (i : ℕ) → i < length g → (place : Point) × (slice_get g i ≡ Some place)
 place_there [] i lt = absurd (omega arith)
 place_there (x ∷ xs) i lt = (get_or (x ∷ xs) i x, slice_get-get_or (x ∷ xs) i x lt)
 
 -- a point and its facts
-pub record Here (g : List Place) (ps : List PointFacts) (i : ℕ) (place : Place) (p : PointFacts) : Type 0 where
+pub record Here (g : List Point) (ps : List PointFacts) (i : ℕ) (place : Point) (p : PointFacts) : Type 0 where
   pub here : slice_get g i ≡ Some place
   pub known : slice_get ps i ≡ Some p
 
-pub none_below : (P : Place → PointFacts → Type 0) (g : List Place) (ps : List PointFacts) → EachBelow g ps 0 P
+pub none_below : (P : Point → PointFacts → Type 0) (g : List Point) (ps : List PointFacts) → EachBelow g ps 0 P
 none_below P g ps i place p lt here known = absurd (omega arith)
 
-pub below_next : (P : Place → PointFacts → Type 0) (g : List Place) (ps : List PointFacts) (i : ℕ) (place : Place) (p : PointFacts) → Here g ps i place p
+pub below_next : (P : Point → PointFacts → Type 0) (g : List Point) (ps : List PointFacts) (i : ℕ) (place : Point) (p : PointFacts) → Here g ps i place p
     → EachBelow g ps i P → P place p → EachBelow g ps (i + 1) P
 below_next P g ps i place p h below q j other r lt here known =
     elim (cases_eq j i) [
@@ -44,7 +44,7 @@ below_next P g ps i place p h below q j other r lt here known =
     ]
 
 -- flags of a graph are those that a shape shows
-flag_small : (node : Node) → node_keeps_limits node ≡ true → FlagFits node
+flag_small : (action : Action) → action_keeps_limits action ≡ true → FlagFits action
 flag_small (sends c ways other) e = tt
 flag_small (phases p well other) e = tt
 flag_small (lets l t) e = tt
@@ -62,35 +62,35 @@ second_of : (a b : Bool) → a && b ≡ true → b ≡ true
 second_of true b e = e
 second_of false b e = absurd (cc)
 
-pub flags_fit : (g : List Place) (i : ℕ) (place : Place) → all_keep_limits g ≡ true → slice_get g i ≡ Some place → FlagFits place.node
+pub flags_fit : (g : List Point) (i : ℕ) (place : Point) → all_keep_limits g ≡ true → slice_get g i ≡ Some place → FlagFits place.action
 flags_fit [] i place keep here = absurd (cc)
 flags_fit (x ∷ xs) zero place keep here =
     let same : x ≡ place = some_same here in
-    flag_small place.node (first_of (node_keeps_limits place.node) _
+    flag_small place.action (first_of (action_keeps_limits place.action) _
     (subst (λ v. keeps_limits v ≡ true) same (first_of (keeps_limits x) (all_keep_limits xs) keep)))
 flags_fit (x ∷ xs) (suc i) place keep here = flags_fit xs i place (second_of (keeps_limits x) (all_keep_limits xs) keep) here
 
 -- POINTS
 
-pub match_all : (g : Flow) (ps : List PointFacts) → length ps ≡ length g.places → EachBelow g.places ps (length g.places) (PointMatches g)
+pub match_all : (g : Graph) (ps : List PointFacts) → length ps ≡ length g.points → EachBelow g.points ps (length g.points) (PointMatches g)
     → IsTrue true ↔ PointsMatch g ps
 match_all g ps len below =
-    ((λ u. record { count = len; each = λ i place p here known. below i place p (slice_get_within g.places i place here) here known }), (λ m. refl))
+    ((λ u. record { count = len; each = λ i place p here known. below i place p (slice_get_within g.points i place here) here known }), (λ m. refl))
 
-pub match_not : (g : Flow) (ps : List PointFacts) (i : ℕ) (place : Place) (p : PointFacts) (r : Bool) → Here g.places ps i place p
+pub match_not : (g : Graph) (ps : List PointFacts) (i : ℕ) (place : Point) (p : PointFacts) (r : Bool) → Here g.points ps i place p
     → (IsTrue r ↔ PointMatches g place p) → r ≡ false → IsTrue false ↔ PointsMatch g ps
 match_not g ps i place p r h test bad = ((λ e. absurd (cc)), (λ m. let t : r ≡ true = test.1 (m.each i place p h.here h.known) in cc))
 
 -- how many number variables a point has
-pub variables_of : (g : Flow) (ps : List PointFacts) (i : ℕ) (p : PointFacts) → PointsMatch g ps → slice_get ps i ≡ Some p
+pub variables_of : (g : Graph) (ps : List PointFacts) (i : ℕ) (p : PointFacts) → PointsMatch g ps → slice_get ps i ≡ Some p
     → length p.facts.numbers.vars.items ≡ g.numbers
 variables_of g ps i p m there =
-    let lt : i < length g.places = subst (λ n. i < n) m.count (slice_get_within ps i p there) in
-    let place = place_there g.places i lt in
+    let lt : i < length g.points = subst (λ n. i < n) m.count (slice_get_within ps i p there) in
+    let place = place_there g.points i lt in
     (m.each i place.0 p place.1 there).variables
 
 -- every point has as many number variables
-pub same_variables : (g : Flow) (ps : List PointFacts) (i : ℕ) (place : Place) (p : PointFacts) → PointsMatch g ps → Here g.places ps i place p
+pub same_variables : (g : Graph) (ps : List PointFacts) (i : ℕ) (place : Point) (p : PointFacts) → PointsMatch g ps → Here g.points ps i place p
     → (j : ℕ) (q : PointFacts) → slice_get ps j ≡ Some q →
     length q.facts.numbers.vars.items ≡ length p.facts.numbers.vars.items
 same_variables g ps i place p m h j q there =
@@ -98,19 +98,19 @@ same_variables g ps i place p m h j q there =
 
 -- THE ANSWER
 
-pub all_closed : (g : Flow) (ps : List PointFacts) → PointsMatch g ps → StartCovers g ps → EachBelow g.places ps (length g.places) (PointClosed g.kind ps)
+pub all_closed : (g : Graph) (ps : List PointFacts) → PointsMatch g ps → StartCovers g ps → EachBelow g.points ps (length g.points) (PointClosed g.kind ps)
     → Closed g ps
 all_closed g ps m s below = record {
   points = m;
   start = s;
-  each = λ i place p here known. below i place p (slice_get_within g.places i place here) here known;
+  each = λ i place p here known. below i place p (slice_get_within g.points i place here) here known;
 }
 
-pub fails_here : (g : Flow) (ps : List PointFacts) (i : ℕ) (place : Place) (p : PointFacts) (clause : Clause) → Here g.places ps i place p
-    → EachBelow g.places ps i (PointClosed g.kind ps) → FirstFails clause g.kind ps place p → FailsAt g ps clause i
+pub fails_here : (g : Graph) (ps : List PointFacts) (i : ℕ) (place : Point) (p : PointFacts) (clause : Clause) → Here g.points ps i place p
+    → EachBelow g.points ps i (PointClosed g.kind ps) → FirstFails clause g.kind ps place p → FailsAt g ps clause i
 fails_here g ps i place p clause h below f = record { before = below; place = place; here = h.here; facts = p; known = h.known; fails = f }
 
-pub fails : (g : Flow) (ps : List PointFacts) (clause : Clause) (i : ℕ) → PointsMatch g ps → StartCovers g ps → FailsAt g ps clause i
+pub fails : (g : Graph) (ps : List PointFacts) (clause : Clause) (i : ℕ) → PointsMatch g ps → StartCovers g ps → FailsAt g ps clause i
     → Fails g ps (fault_of clause i)
 fails g ps clauses.Illegal i m s f = (m, s, f)
 fails g ps clauses.Address i m s f = (m, s, f)

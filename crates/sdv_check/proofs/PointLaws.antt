@@ -3,11 +3,11 @@ use Rattle.std.proofs.Common.{◌≡◌, ℕ, ◌+◌, ◌<◌, List, length, ta
 use Rattle.std.specs.Prelude.{slice_get, map}
 use Rattle.std.specs.Borrow.{Bor}
 use Rattle.sdv_card.specs.declared.event.Seen.{Seen}
-use Rattle.sdv_graph.specs.declared.graph.Way.{Way}
-use Rattle.sdv_graph.specs.Graph.{fork_of}
-use Rattle.sdv_check.specs.declared.cases.Cases.{Cases}
-use Rattle.sdv_check.specs.declared.cases.Cases.TheVariants.{Ways}
-use Rattle.sdv_check.specs.Cases.{forks_of}
+use Rattle.sdv_graph.specs.declared.graph.Case.{Case as CodeCase}
+use Rattle.sdv_graph.specs.Graph.{seen_case}
+use Rattle.sdv_check.specs.declared.exits.Exits.{Exits}
+use Rattle.sdv_check.specs.declared.exits.Exits.TheVariants.{Cases}
+use Rattle.sdv_check.specs.Exits.{cases_of_exits}
 use Rattle.std.proofs.lemmas.List.{take_more}
 use Rattle.sdv_registers.specs.declared.kind.Kind.{Kind}
 use Rattle.sdv_card.specs.declared.shape.Shape.{Shape}
@@ -15,7 +15,7 @@ use Rattle.sdv_card.specs.Lists.{May}
 use Rattle.sdv_card.proofs.Distinct.{May-push_cases, May-at}
 use Rattle.sdv_graph.specs.declared.graph.Target.{Target}
 use Rattle.sdv_graph.specs.Nested.{Pass}
-use Rattle.sdv_graph.specs.Path.{Place}
+use Rattle.sdv_graph.specs.Path.{Point}
 use Rattle.sdv_facts.specs.declared.certificate.PointFacts.{PointFacts}
 use Rattle.sdv_facts.specs.declared.clause.Clause.TheVariants.{Address as AddressOff}
 use Rattle.sdv_facts.specs.declared.numbers.Numbers.{Numbers}
@@ -43,7 +43,7 @@ each_more P xs i d h n e x m =
 -- RULES
 
 -- rules of an edge whose target has facts
-pub rules_there : (r : Rules) (ps : List PointFacts) (place : Place) (p q : PointFacts) (pass : Pass) (t : Target) (s : Shape) (ns : Numbers) (b : Bool)
+pub rules_there : (r : Rules) (ps : List PointFacts) (place : Point) (p q : PointFacts) (pass : Pass) (t : Target) (s : Shape) (ns : Numbers) (b : Bool)
     → slice_get ps t.to ≡ Some q →
     (IsTrue b ↔ RuleAt r place p q pass t s ns) → IsTrue b ↔ RuleOf r ps place p pass t s ns
 rules_there rules.Shape ps place p q pass t s ns b there test = rw there test
@@ -52,23 +52,23 @@ rules_there rules.Bound ps place p q pass t s ns b there test = rw there test
 rules_there rules.All ps place p q pass t s ns b there test = rw there test
 
 -- the ways on of a command
-pub cases_of_command : (cases : Cases) (ways : Bor (List Way)) (other : Target) (seen : Seen) (P : Target → Type 0) (r : Bool) → cases ≡ Ways ways →
-    (IsTrue r ↔ EachWay (map fork_of ways.now) other seen P) → IsTrue r ↔ EachWay (forks_of cases) other seen P
-cases_of_command cases ways other seen P r is test = subst (λ v. IsTrue r ↔ EachWay (forks_of v) other seen P) (sym is) test
+pub cases_of_command : (exits : Exits) (cases : Bor (List CodeCase)) (other : Target) (seen : Seen) (P : Target → Type 0) (r : Bool) → exits ≡ Cases cases →
+    (IsTrue r ↔ EachWay (map seen_case cases.now) other seen P) → IsTrue r ↔ EachWay (cases_of_exits exits) other seen P
+cases_of_command exits cases other seen P r is test = subst (λ v. IsTrue r ↔ EachWay (cases_of_exits v) other seen P) (sym is) test
 
 -- THE CLAUSES
 
-module _ (k : Kind) (ps : List PointFacts) (place : Place) (p : PointFacts) where
+module _ (k : Kind) (ps : List PointFacts) (place : Point) (p : PointFacts) where
   together : PointClosed k ps place p → (s : Shape) → May p.facts.shapes s → AskedAt asks.All k ps place p s
   together closed s m =
       let A : Rule = ShapeRule ps in
       let B : Rule = NumberRule ps in
       let C : Rule = BoundRule ps place p in
       let AB : Rule = λ pass t s ns. A pass t s ns × B pass t s ns in
-      let all = edges_both k p.facts place.node s AB C (edges_both k p.facts place.node s A B (closed.shape s m) (closed.number s m)) (closed.bound s m) in (
+      let all = edges_both k p.facts place.action s AB C (edges_both k p.facts place.action s A B (closed.shape s m) (closed.number s m)) (closed.bound s m) in (
         closed.legal s m,
         edges_map (λ pass t s ns. AB pass t s ns × C pass t s ns) (RuleOf rules.All ps place p)
-            (λ pass t s ns r. (r.0.0, r.0.1, r.1)) k p.facts place.node s all,
+            (λ pass t s ns r. (r.0.0, r.0.1, r.1)) k p.facts place.action s all,
         closed.end_state s m,
       )
 
@@ -76,9 +76,9 @@ module _ (k : Kind) (ps : List PointFacts) (place : Place) (p : PointFacts) wher
   apart address all = record {
     legal = λ s m. (all s m).0;
     address = address;
-    shape = λ s m. edges_map (RuleOf rules.All ps place p) (ShapeRule ps) (λ pass t s ns r. r.0) k p.facts place.node s (all s m).1;
-    number = λ s m. edges_map (RuleOf rules.All ps place p) (NumberRule ps) (λ pass t s ns r. r.1) k p.facts place.node s (all s m).1;
-    bound = λ s m. edges_map (RuleOf rules.All ps place p) (BoundRule ps place p) (λ pass t s ns r. r.2) k p.facts place.node s (all s m).1;
+    shape = λ s m. edges_map (RuleOf rules.All ps place p) (ShapeRule ps) (λ pass t s ns r. r.0) k p.facts place.action s (all s m).1;
+    number = λ s m. edges_map (RuleOf rules.All ps place p) (NumberRule ps) (λ pass t s ns r. r.1) k p.facts place.action s (all s m).1;
+    bound = λ s m. edges_map (RuleOf rules.All ps place p) (BoundRule ps place p) (λ pass t s ns r. r.2) k p.facts place.action s (all s m).1;
     end_state = λ s m. (all s m).2;
   }
 

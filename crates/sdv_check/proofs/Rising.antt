@@ -4,7 +4,7 @@ use Rattle.std.specs.List.{AllByRecursion}
 use Rattle.std.proofs.lemmas.List.Elements.{All-from_recursion, recursion_from_All}
 use Rattle.std.proofs.lemmas.List.Kept.{AllPairs-cons}
 use Rattle.sdv_card.specs.declared.shape.Shape.{Shape}
-use Rattle.sdv_facts.specs.Known.{AreRising}
+use Rattle.sdv_facts.specs.Facts.{AreRising}
 use Rattle.sdv_check.specs.Reading.{is_above}
 use Rattle.sdv_check.proofs.Codes.{IsNext}
 use Rattle.sdv_check.proofs.Lists.{Each}

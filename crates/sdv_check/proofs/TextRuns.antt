@@ -1,7 +1,7 @@
 -- What is promised of the paths of a graph holds of the runs of its script's text.
 use Rattle.std.proofs.Common.{◌≡◌, ℕ, List, sym, subst, ◌∙◌}
 use Rattle.sdv_registers.specs.declared.kind.Kind.{Kind}
-use Rattle.sdv_graph.specs.Graph.{Flow, begin}
+use Rattle.sdv_graph.specs.Graph.{Graph, begin}
 use Rattle.sdv_graph.specs.Moves.{statements_moves}
 use Rattle.sdv_graph.specs.Path.{Path}
 use Rattle.sdv_script.specs.Script.{Parsed}
@@ -22,13 +22,13 @@ of_kind k l names body most is runs = subst (λ k. RunsWell k (Walk k names body
 ends_of_kind : (k l : Kind) (names : Declared) (body : Statements) (n m : ℕ) → k ≡ l → n ≡ m → RunsEnd (Walk k names body) n → RunsEnd (Walk l names body) m
 ends_of_kind k l names body n m is same ends = subst (λ m. RunsEnd (Walk l names body) m) same (subst (λ k. RunsEnd (Walk k names body) n) is ends)
 
-pub runs_of_text : (text : List ℕ) (g : Flow) (ps : List PointFacts) (most : ℕ) → IsGraphOfText text g → Promised g ps most → EachRunOf text most
+pub runs_of_text : (text : List ℕ) (g : Graph) (ps : List PointFacts) (most : ℕ) → IsGraphOfText text g → Promised g ps most → EachRunOf text most
 runs_of_text text g ps most of promised s same is_script =
     let t : Parsed = of.script in
     let k : Kind = t.names.kind in
     let tree = one_tree_lem t s of.is_script is_script (of.same ∙ sym same) in
     let walks : RunsWell g.kind (Walk g.kind t.names t.body) most =
-    same_runs g.kind (Walk g.kind t.names t.body) (λ e es. Path g.kind g.places e (begin g) es) most of.graph.walks promised.runs in
+    same_runs g.kind (Walk g.kind t.names t.body) (λ e es. Path g.kind g.points e (begin g) es) most of.graph.walks promised.runs in
     let own : RunsWell k (Walk k t.names t.body) most = of_kind g.kind k t.names t.body most of.graph.kind_same walks in
     let over : RunsEnd (Walk k t.names t.body) (statements_moves t.body) =
     ends_of_kind g.kind k t.names t.body g.steps (statements_moves t.body) of.graph.kind_same of.graph.steps_same

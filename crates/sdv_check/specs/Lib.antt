@@ -2,7 +2,7 @@ pub mod Turns
 pub mod Asked
 pub mod Checked
 pub mod Promised
-pub mod Cases
+pub mod Exits
 pub mod Faults
 pub mod Reading
 pub mod Verified

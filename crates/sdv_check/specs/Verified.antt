@@ -4,7 +4,7 @@ use Rattle.sdv_script.specs.declared.fault.ScriptFault.{ScriptFault}
 use Rattle.sdv_script.specs.declared.fault.FaultKind.{FaultKind}
 use Rattle.sdv_script.specs.declared.fault.FaultKind.TheVariants.{Memory as NoMemory}
 use Rattle.sdv_script.specs.Script.{Parsed, IsScript}
-use Rattle.sdv_graph.specs.Graph.{Flow}
+use Rattle.sdv_graph.specs.Graph.{Graph}
 use Rattle.sdv_graph.specs.GraphOf.{IsGraphOf}
 use Rattle.sdv_facts.specs.declared.certificate.PointFacts.{PointFacts}
 use Rattle.sdv_facts.specs.Bounds.{bound_of}
@@ -16,7 +16,7 @@ use Rattle.sdv_check.specs.declared.fault.VerifyFault.TheVariants.{Script, Certi
 use Rattle.sdv_check.specs.Checked.{Fails}
 
 -- the text is a script, and this is its graph
-pub record IsGraphOfText (text : List ℕ) (g : Flow) : Type 0 where
+pub record IsGraphOfText (text : List ℕ) (g : Graph) : Type 0 where
   pub script : Parsed
   pub same : script.text ≡ text
   pub is_script : IsScript script
@@ -35,7 +35,7 @@ IsNoCertificate text = (ps : List PointFacts) → WithinLimits ps → text ≡ t
 
 -- a graph, and a bound of its runs
 pub record Acceptance : Type 0 where
-  pub graph : Flow
+  pub graph : Graph
   pub bound : ℕ
 
 -- the certificate is closed for the graph of the script, and has the bound
@@ -58,7 +58,7 @@ WasAccepted a = ∥ Texts a ∥₁
 
 -- the certificate is not closed for the graph of the script, by this fault
 pub record IsOpen (script certificate : List ℕ) (fault : CheckFault) : Type 0 where
-  pub flow : Flow
+  pub flow : Graph
   pub graph : IsGraphOfText script flow
   pub points : List PointFacts
   pub text : IsTextOf certificate points
@@ -69,7 +69,7 @@ abbrev pub Verified : (script certificate : List ℕ) → Result Acceptance Veri
 Verified script certificate (Ok a) = IsAccepted script certificate a
 Verified script certificate (Err (Script fault)) = IsNoScript script
 Verified script certificate (Err (Certificate fault)) =
-    ((g : Flow) × IsGraphOfText script g) × IsNoCertificate certificate
+    ((g : Graph) × IsGraphOfText script g) × IsNoCertificate certificate
 Verified script certificate (Err (Check fault)) = IsOpen script certificate fault
 Verified script certificate (Err Memory) = Unit {0}
 

@@ -1,7 +1,7 @@
 //! The checker.
 
 ghost use Rattle.std.specs.Prelude.{◌≡◌, ◌<◌, ◌↔◌, ◌^◌, [], true, IsTrue, IfOk, MatchOption, All, length, slice_get};
-ghost use Rattle.sdv_graph.specs.Graph.{place_of};
+ghost use Rattle.sdv_graph.specs.Graph.{seen_point};
 ghost use Rattle.sdv_graph.specs.Limits.{all_keep_limits};
 ghost use Rattle.sdv_graph.specs.Path.{turns_at};
 ghost use Rattle.sdv_facts.specs.Bounds.{bound_at};
@@ -60,7 +60,7 @@ fn check_by<T: CardTable>(
 ) -> Result<u64, CheckFault>
     requires kind { T.kind ≡ graph.now.kind }
     requires first { first ≡ graph.now.first }
-    requires limits { all_keep_limits graph.now.places ≡ true }
+    requires limits { all_keep_limits graph.now.points ≡ true }
     ensures { Checked graph.now certificate.now result }
 {
     let points = certificate.points();
@@ -78,7 +78,7 @@ fn check_by<T: CardTable>(
 
 /// The certificate is of as many loops and number variables at a point as the graph.
 fn point_matches(graph: &Graph<'_>, point: &Point<'_>, facts: &PointFacts) -> bool
-    ensures { IsTrue result ↔ PointMatches graph.now (place_of point.now) facts.now }
+    ensures { IsTrue result ↔ PointMatches graph.now (seen_point point.now) facts.now }
 {
     facts.turns.len() == point.most_turns.len() && facts.facts.numbers().vars.len() == graph.nums()
 }
@@ -142,10 +142,10 @@ fn first_fault<T: CardTable>(
     certificate: &[PointFacts],
 ) -> Option<(usize, Clause)>
     requires kind { T.kind ≡ graph.now.kind }
-    requires limits { all_keep_limits graph.now.places ≡ true }
+    requires limits { all_keep_limits graph.now.points ≡ true }
     requires matches { PointsMatch graph.now certificate.now }
     ensures { MatchOption result
-        (EachBelow graph.now.places certificate.now (length graph.now.places)
+        (EachBelow graph.now.points certificate.now (length graph.now.points)
         (PointClosed graph.now.kind certificate.now))
         (λ found. FailsAt graph.now certificate.now found.1 found.0) }
 {

@@ -14,7 +14,7 @@ use sdv_graph::Action;
 
 /// The numbers after a `let`, of a point that is one.
 fn numbers_set(at: Source<'_, '_>) -> Option<Numbers>
-    ensures { result ≡ numbers_set at.entry.kind at.entry.facts.now.facts (place_at at.entry).node }
+    ensures { result ≡ numbers_set at.entry.kind at.entry.facts.now.facts (place_at at.entry).action }
 {
     match &at.point.action {
         Action::Let(set, _) => after_let(at.kind, &at.facts.facts, set),
@@ -29,8 +29,8 @@ fn shape_holds<T: CardTable>(
     set: &Option<Numbers>,
     shape: Shape,
 ) -> bool
-    requires set { set.now ≡ numbers_set T.kind at.facts.now.facts (place_at at).node }
-    requires flag { FlagFits (place_at at).node }
+    requires set { set.now ≡ numbers_set T.kind at.facts.now.facts (place_at at).action }
+    requires flag { FlagFits (place_at at).action }
     ensures { IsTrue result ↔ AskedFrom asked T.kind at.entry shape }
 {
     let action = &at.point.action;
@@ -53,8 +53,8 @@ fn shapes_hold<T: CardTable>(
     set: &Option<Numbers>,
     shapes: &[Shape],
 ) -> bool
-    requires set { set.now ≡ numbers_set T.kind at.facts.now.facts (place_at at).node }
-    requires flag { FlagFits (place_at at).node }
+    requires set { set.now ≡ numbers_set T.kind at.facts.now.facts (place_at at).action }
+    requires flag { FlagFits (place_at at).action }
     ensures { IsTrue result ↔ ((s : Shape) → May shapes.now s → AskedFrom asked T.kind at.entry s) }
 {
     for shape in shapes {
@@ -68,7 +68,7 @@ fn shapes_hold<T: CardTable>(
 /// What is asked holds at each shape of the point.
 fn holds<T: CardTable>(asked: Asked, at: Source<'_, '_>) -> bool
     requires kind { T.kind ≡ at.kind }
-    requires flag { FlagFits (place_at at).node }
+    requires flag { FlagFits (place_at at).action }
     ensures { IsTrue result ↔ ((s : Shape) → May at.entry.facts.now.facts.shapes s
         → AskedFrom asked T.kind at.entry s) }
 {
@@ -79,7 +79,7 @@ fn holds<T: CardTable>(asked: Asked, at: Source<'_, '_>) -> bool
 /// All clauses of the point hold, in one pass over its shapes.
 fn is_closed<T: CardTable>(at: Source<'_, '_>) -> bool
     requires kind { T.kind ≡ at.kind }
-    requires flag { FlagFits (place_at at).node }
+    requires flag { FlagFits (place_at at).action }
     ensures { IsTrue result ↔ PointClosed T.kind at.entry.certificate.now (place_at at.entry) at.entry.facts.now }
 {
     address_holds(&at.facts.facts, &at.point.action) && holds::<T>(Asked::All, at)
@@ -88,7 +88,7 @@ fn is_closed<T: CardTable>(at: Source<'_, '_>) -> bool
 /// The first clause of the point that fails, one after another.
 fn first_failing<T: CardTable>(at: Source<'_, '_>) -> Option<Clause>
     requires kind { T.kind ≡ at.kind }
-    requires flag { FlagFits (place_at at).node }
+    requires flag { FlagFits (place_at at).action }
     ensures { MatchOption result
         (PointClosed T.kind at.entry.certificate.now (place_at at.entry) at.entry.facts.now)
         (λ clause. FirstFails clause T.kind at.entry.certificate.now (place_at at.entry) at.entry.facts.now) }
@@ -117,7 +117,7 @@ fn first_failing<T: CardTable>(at: Source<'_, '_>) -> Option<Clause>
 /// The first clause of the point that fails, if one does.
 pub fn point_fault<T: CardTable>(at: Source<'_, '_>) -> Option<Clause>
     requires kind { T.kind ≡ at.kind }
-    requires flag { FlagFits (place_at at).node }
+    requires flag { FlagFits (place_at at).action }
     ensures { MatchOption result
         (PointClosed T.kind at.entry.certificate.now (place_at at.entry) at.entry.facts.now)
         (λ clause. FirstFails clause T.kind at.entry.certificate.now (place_at at.entry) at.entry.facts.now) }

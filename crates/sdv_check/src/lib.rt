@@ -7,10 +7,10 @@
 #![tactic(auto)]
 
 mod accepted;
-mod cases;
 mod checker;
 mod clauses;
 mod edges;
+mod exits;
 mod fault;
 mod source;
 mod text;

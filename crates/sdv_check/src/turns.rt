@@ -4,7 +4,7 @@
 //! left of each loop whose turns cost more at the target, and with none of the others. Sums are made of 128 bits.
 
 ghost use Rattle.std.specs.Prelude.{◌≡◌, ◌+◌, ◌^◌, ◌<◌, ◌≤◌, ◌↔◌, ◌∷◌, IsTrue, MatchOption, reverse};
-ghost use Rattle.sdv_graph.specs.Graph.{node_of};
+ghost use Rattle.sdv_graph.specs.Graph.{seen_action};
 ghost use Rattle.sdv_graph.specs.Path.{left};
 ghost use Rattle.sdv_facts.specs.Bounds.{BoundFalls, commands_of};
 ghost use Rattle.sdv_check.specs.Asked.{place_at, pass_of};
@@ -34,36 +34,23 @@ pub fn costs(facts: &PointFacts) -> ArrayVec<u64, 4>
     reversed(&facts.turns)
 }
 
-/// The excess of a target's costs fits into what is left.
-fn excess_fits(target: &[u64], source: &[u64], most: &[u16], room: u128) -> bool
-    ensures { IsTrue result ↔ excess target.now source.now most.now ≤ room }
+/// The excess of a target's costs fits into what is left, with so many turns of the innermost loop and of those round it.
+fn excess_fits(target: &[u64], source: &[u64], turns: u16, most: &[u16], room: u128) -> bool
+    ensures { IsTrue result ↔ excess target.now source.now (turns ∷ most.now) ≤ room }
 {
-    match (target.split_first(), most.split_first()) {
-        (Some((a, target)), Some((n, most))) => {
-            let (b, source) = match source.split_first() {
-                Some((b, rest)) => (*b, rest),
-                None => (0, source),
-            };
-            let more = u128::from(a.saturating_sub(b)) * u128::from(*n);
-            more <= room && excess_fits(target, source, most, room - more)
-        }
-        _ => true,
+    let Some((a, target)) = target.split_first() else {
+        return true;
+    };
+    let (b, source) = match source.split_first() {
+        Some((b, rest)) => (*b, rest),
+        None => (0, source),
+    };
+    let more = u128::from(a.saturating_sub(b)) * u128::from(turns);
+    if more > room {
+        return false;
     }
-}
-
-/// The same where the innermost loop has another greatest number of turns.
-fn first_fits(target: &[u64], source: &[u64], first: u16, most: &[u16], room: u128) -> bool
-    ensures { IsTrue result ↔ excess target.now source.now (first ∷ most.now) ≤ room }
-{
-    match target.split_first() {
-        Some((a, target)) => {
-            let (b, source) = match source.split_first() {
-                Some((b, rest)) => (*b, rest),
-                None => (0, source),
-            };
-            let more = u128::from(a.saturating_sub(b)) * u128::from(first);
-            more <= room && excess_fits(target, source, most, room - more)
-        }
+    match most.split_first() {
+        Some((turns, most)) => excess_fits(target, source, *turns, most, room - more),
         None => true,
     }
 }
@@ -106,10 +93,11 @@ fn left_fits(
     ensures { IsTrue result ↔ excess target.now (left leave source.now) (left leave (first ∷ most.now)) ≤ room }
 {
     if leave == 0 {
-        first_fits(target, source, first, most, room)
-    } else {
-        let most = most_left(most, leave - 1);
-        excess_fits(target, costs_left(source, leave), most, room)
+        return excess_fits(target, source, first, most, room);
+    }
+    match most_left(most, leave - 1).split_first() {
+        Some((turns, most)) => excess_fits(target, costs_left(source, leave), *turns, most, room),
+        None => true,
     }
 }
 
@@ -149,7 +137,7 @@ fn turn_taken(pass: Pass, costs: &[u64]) -> u64
 
 /// How many commands the statement of a point sends.
 fn commands(action: &Action<'_>) -> u64
-    ensures commands { result ≡ commands_of (node_of action.now) }
+    ensures commands { result ≡ commands_of (seen_action action.now) }
     ensures few { result < 2 }
 {
     match action {
@@ -168,7 +156,7 @@ fn room_left(bound: u128, other: u128) -> Option<u128>
 /// The bound falls along an edge at the worst turns.
 fn falls_at_worst(at: Source<'_, '_>, there: &PointFacts, pass: Pass, target: Target) -> bool
     ensures { IsTrue result ↔ FallsAtWorst at.entry.facts.now there.now (place_at at.entry).most
-        (commands_of (place_at at.entry).node) (pass_of pass) target }
+        (commands_of (place_at at.entry).action) (pass_of pass) target }
 {
     let (source, goal) = (costs(at.facts), costs(there));
     let facts = at.facts;
@@ -200,7 +188,7 @@ fn falls_at_worst(at: Source<'_, '_>, there: &PointFacts, pass: Pass, target: Ta
 /// The bound falls along an edge by the commands sent, for all turns that can be left.
 pub fn bound_falls(at: Source<'_, '_>, there: &PointFacts, pass: Pass, target: Target) -> bool
     ensures { IsTrue result ↔ BoundFalls at.entry.facts.now there.now (place_at at.entry).most
-        (commands_of (place_at at.entry).node) (pass_of pass) target }
+        (commands_of (place_at at.entry).action) (pass_of pass) target }
 {
     falls_at_worst(at, there, pass, target)
 }

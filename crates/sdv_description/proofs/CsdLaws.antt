@@ -4,7 +4,7 @@ use Rattle.byteorder.specs.Endian.{big_from}
 use Rattle.sdv_frames.specs.Bits.{bits, bits_of, number_of}
 use Rattle.sdv_frames.proofs.BitLaws.{number_of-bits}
 use Rattle.sdv_registers.specs.Csd.{csd_structure, read_bl_len, c_size, c_size_mult}
-use Rattle.sdv_registers.specs.declared.csd.Layout.TheVariants.{Version1, Version2}
+use Rattle.sdv_registers.specs.declared.csd.CsdLayout.TheVariants.{Version1, Version2}
 use Rattle.sdv_registers.specs.ExtCsd.{sec_count}
 use Rattle.sdv_registers.proofs.ByteLaws.{AreBytes, field-bytes, bits_of-big}
 use Rattle.sdv_description.specs.declared.description.Size.{Size}

@@ -2,7 +2,7 @@
 -- edge, point by point in the order of the edges of each.
 use Rattle.std.specs.Prelude.{ℕ, suc, List, [], ◌∷◌, ◌++◌, flat_map, Bool, true, false, ◌==◌, ◌||◌, nat_lt, nat_le, length, Option, Some, codes, decimal, if◌then◌else◌}
 use Rattle.sdv_graph.specs.declared.graph.Target.{Target}
-use Rattle.sdv_graph.specs.Path.{Fork, Node, Place, sends, phases, lets, tests, flags, heads, jumps, stops}
+use Rattle.sdv_graph.specs.Path.{Case, Action, Point, sends, phases, lets, tests, flags, heads, jumps, stops}
 use Rattle.sdv_certify.specs.declared.fault.CertifyFault.{CertifyFault}
 use Rattle.sdv_certify.specs.declared.fault.CertifyFault.TheVariants.{Illegal, Address, EndState}
 use Rattle.sdv_explain.specs.declared.heading.Heading.{Heading}
@@ -65,15 +65,15 @@ written_edge from t case = arrow from t.to ++ (case ++ dash (nat_le t.to from))
 abbrev pub edge_line : (points from : ℕ) → Target → (case : Text) → Text
 edge_line points from t case = if nat_lt t.to points then written_edge from t case else []
 
-abbrev pub case_line : (points from : ℕ) → Fork → Text
+abbrev pub case_line : (points from : ℕ) → Case → Text
 case_line points from w = edge_line points from w.target (guards_words w.guards)
 
 -- a command without cases has one edge, which says nothing
-abbrev pub else_word : List Fork → Text
+abbrev pub else_word : List Case → Text
 else_word [] = []
 else_word (w ∷ ws) = codes "else"
 
-abbrev pub edge_lines : (points from : ℕ) → Node → Text
+abbrev pub edge_lines : (points from : ℕ) → Action → Text
 edge_lines points from (sends c ways other) =
     flat_map (case_line points from) ways ++ edge_line points from other (else_word ways)
 edge_lines points from (phases p well other) =
@@ -87,8 +87,8 @@ edge_lines points from (heads count body other) =
 edge_lines points from (jumps t) = edge_line points from t []
 edge_lines points from (stops ending) = []
 
-abbrev pub edges_at : (points from : ℕ) → Place → Text
-edges_at points from place = edge_lines points from place.node
+abbrev pub edges_at : (points from : ℕ) → Point → Text
+edges_at points from place = edge_lines points from place.action
 
 -- THE DRAWING
 
@@ -96,7 +96,7 @@ abbrev pub header : Text
 header = codes "digraph script {\n    node [shape=box, fontname=\"monospace\"];\n    edge [fontname=\"monospace\"];\n"
 
 -- of the points of a graph with these headings, of a script that is refused so
-abbrev pub drawing : List Place → List Heading → Option CertifyFault → Text
+abbrev pub drawing : List Point → List Heading → Option CertifyFault → Text
 drawing places headings refusal =
     header ++ (numbered (point_line refusal) 0 headings
     ++ (numbered (edges_at (length places)) 0 places ++ codes "}\n"))

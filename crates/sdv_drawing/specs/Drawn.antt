@@ -1,6 +1,6 @@
 -- What is drawn of a script: its graph, marked where the script is refused.
 use Rattle.std.specs.Prelude.{◌≡◌, ℕ, List, IfNone, IfSome}
-use Rattle.sdv_graph.specs.Graph.{Flow}
+use Rattle.sdv_graph.specs.Graph.{Graph}
 use Rattle.sdv_graph.specs.GraphOf.{IsGraphOf}
 use Rattle.sdv_facts.specs.declared.certificate.PointFacts.{PointFacts}
 use Rattle.sdv_script.specs.declared.script.Script.{Script}
@@ -14,11 +14,11 @@ use Rattle.sdv_drawing.specs.Drawing.{drawing}
 
 -- the drawing is that of the script's graph, and the script is refused so, or has a certificate
 pub record DrawsScript (s : Script) (d : Drawing) : Type 0 where
-  pub graph : Flow
+  pub graph : Graph
   pub is_graph : IsGraphOf (shown s).names (shown s).body graph
   pub headings : List Heading
   pub are_headings : AreHeadings graph headings
-  pub drawn : d.text.items ≡ drawing graph.places headings d.refusal
+  pub drawn : d.text.items ≡ drawing graph.points headings d.refusal
   pub certified : IfNone d.refusal ((ps : List PointFacts) × CertificateOf s ps)
   pub refused : IfSome d.refusal (RefusedFor s)
 

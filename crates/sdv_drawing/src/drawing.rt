@@ -78,7 +78,7 @@ fn draw_graph(
     headings: &[Heading],
     refusal: Option<CertifyFault>,
 ) -> Result<Vec<u8>, AllocError>
-    ensures { IfOk result (λ text. text.items ≡ drawing graph.now.places headings.now refusal) }
+    ensures { IfOk result (λ text. text.items ≡ drawing graph.now.points headings.now refusal) }
 {
     let mut text = Vec::new(alloc);
     put(&mut text, HEADER)?;

@@ -1,12 +1,12 @@
 //! The edges of a graph, as arrows.
 
 ghost use Rattle.std.specs.Prelude.{◌≡◌, ◌++◌, OnOk, codes, flat_map, length, map};
-ghost use Rattle.sdv_graph.specs.Graph.{fork_of, node_of};
+ghost use Rattle.sdv_graph.specs.Graph.{seen_case, seen_action};
 ghost use Rattle.sdv_drawing.specs.Drawing.{arrow, case_line, dash, edge_line, edge_lines, edges_at, else_word, numbered};
 
 use crate::guards::put_guards;
 use crate::text::{Text, put, put_numbered};
-use sdv_graph::{Action, Graph, Target, Way};
+use sdv_graph::{Action, Case, Graph, Target};
 use std::alloc::AllocError;
 
 /// Begins the line of an edge, up to its case.
@@ -48,33 +48,33 @@ fn put_edge(
 }
 
 /// Adds the line of a case of a command.
-fn put_case(text: &mut Text, points: usize, from: usize, way: &Way) -> Result<(), AllocError>
-    ensures { OnOk result (text.new.items ≡ text.old.items ++ case_line points from (fork_of way.now)) }
+fn put_case(text: &mut Text, points: usize, from: usize, case: &Case) -> Result<(), AllocError>
+    ensures { OnOk result (text.new.items ≡ text.old.items ++ case_line points from (seen_case case.now)) }
 {
-    let to = way.target.to;
+    let to = case.target.to;
     if to >= points {
         return Ok(());
     }
     put_arrow(text, from, to)?;
-    put_guards(text, way.guards.as_slice())?;
+    put_guards(text, case.guards.as_slice())?;
     put(text, dash(to <= from))
 }
 
 /// Adds the lines of the cases of a command.
-fn put_cases(text: &mut Text, points: usize, from: usize, ways: &[Way]) -> Result<(), AllocError>
-    ensures { OnOk result (text.new.items ≡ text.old.items ++ flat_map (case_line points from) (map fork_of ways.now)) }
+fn put_cases(text: &mut Text, points: usize, from: usize, cases: &[Case]) -> Result<(), AllocError>
+    ensures { OnOk result (text.new.items ≡ text.old.items ++ flat_map (case_line points from) (map seen_case cases.now)) }
 {
-    for way in ways {
-        put_case(text, points, from, way)?;
+    for case in cases {
+        put_case(text, points, from, case)?;
     }
     Ok(())
 }
 
 /// The case in which no other is taken; nothing where there is no other.
-fn else_word(ways: &[Way]) -> &'static str
-    ensures { result.now ≡ else_word (map fork_of ways.now) }
+fn else_word(cases: &[Case]) -> &'static str
+    ensures { result.now ≡ else_word (map seen_case cases.now) }
 {
-    if ways.is_empty() { "" } else { "else" }
+    if cases.is_empty() { "" } else { "else" }
 }
 
 /// Adds the lines of two edges.
@@ -100,12 +100,12 @@ fn put_edges_of(
     from: usize,
     action: &Action<'_>,
 ) -> Result<(), AllocError>
-    ensures { OnOk result (text.new.items ≡ text.old.items ++ edge_lines points from (node_of action.now)) }
+    ensures { OnOk result (text.new.items ≡ text.old.items ++ edge_lines points from (seen_action action.now)) }
 {
     match action {
-        Action::Send(_, ways, other) => {
-            put_cases(text, points, from, ways.as_slice())?;
-            put_edge(text, points, from, *other, else_word(ways.as_slice()))
+        Action::Send(_, cases, other) => {
+            put_cases(text, points, from, cases.as_slice())?;
+            put_edge(text, points, from, *other, else_word(cases.as_slice()))
         }
         Action::Phase(_, well, other) => put_both(text, points, from, *well, "ok", *other),
         Action::If(_, met, unmet) => put_both(text, points, from, *met, "then", *unmet),
@@ -120,7 +120,7 @@ fn put_edges_of(
 /// Adds the lines of all edges.
 pub fn put_edges(text: &mut Text, graph: &Graph<'_>) -> Result<(), AllocError>
     ensures { OnOk result (text.new.items ≡ text.old.items
-        ++ numbered (edges_at (length graph.now.places)) 0 graph.now.places) }
+        ++ numbered (edges_at (length graph.now.points)) 0 graph.now.points) }
 {
     let points = graph.len();
     for from in 0..points {

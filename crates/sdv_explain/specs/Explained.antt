@@ -1,5 +1,5 @@
 -- What is explained of a text: whether it is the text of a script that is refused, and the way to the point that is.
-use Rattle.std.specs.Prelude.{◌≡◌, ◌⊎◌, ℕ, List, [], IfSome, None}
+use Rattle.std.specs.Prelude.{◌≡◌, ◌⊎◌, ℕ, List, [], Option, Some, IfSome, None}
 use Rattle.sdv_card.specs.declared.shape.Shape.{Shape}
 use Rattle.sdv_script.specs.declared.fault.FaultKind.{FaultKind}
 use Rattle.sdv_script.specs.declared.fault.FaultKind.TheVariants as kinds
@@ -7,7 +7,7 @@ use Rattle.sdv_script.specs.declared.fault.ScriptFault.{ScriptFault}
 use Rattle.sdv_script.specs.declared.script.Script.{Script as Tree}
 use Rattle.sdv_script.specs.Script.{IsScript, Parsed}
 use Rattle.sdv_script.specs.Shown.{shown}
-use Rattle.sdv_graph.specs.Graph.{Flow}
+use Rattle.sdv_graph.specs.Graph.{Graph}
 use Rattle.sdv_graph.specs.GraphOf.{IsGraphOf}
 use Rattle.sdv_facts.specs.declared.certificate.PointFacts.{PointFacts}
 use Rattle.sdv_certify.specs.declared.fault.CertifyFault.{CertifyFault}
@@ -38,8 +38,13 @@ abbrev pub NamesShape : CertifyFault → Shape → Type 0
 NamesShape (certifies.Illegal number shape) other = shape ≡ other
 NamesShape fault other = Unit {0}
 
+-- a fault that names a shape is explained at that shape
+abbrev pub ShapeIsNamed : CertifyFault → Option Shape → Type 0
+ShapeIsNamed (certifies.Illegal number shape) found = found ≡ Some shape
+ShapeIsNamed fault found = Unit {0}
+
 -- the way leads to the point that a refusal names, by what is known of the points
-pub record LeadsThere (g : Flow) (ps : List PointFacts) (fault : CertifyFault) (way : List Visit) : Type 0 where
+pub record LeadsThere (g : Graph) (ps : List PointFacts) (fault : CertifyFault) (way : List Visit) : Type 0 where
   pub point : ℕ
   pub named : NamesPoint fault point
   pub shape : Shape
@@ -47,13 +52,13 @@ pub record LeadsThere (g : Flow) (ps : List PointFacts) (fault : CertifyFault) (
   pub is_way : IsWay g ps way point shape
 
 -- so does the way of a refusal, which is empty where none was found
-abbrev pub HasWay : Flow → List PointFacts → Refusal → Type 0
+abbrev pub HasWay : Graph → List PointFacts → Refusal → Type 0
 HasWay g ps refusal = (refusal.way.items ≡ []) ⊎ LeadsThere g ps refusal.fault refusal.way.items
 
 -- a script is refused so
 pub record IsRefusal (s : Tree) (refusal : Refusal) : Type 0 where
   pub refused : RefusedFor s refusal.fault
-  pub graph : Flow
+  pub graph : Graph
   pub is_graph : IsGraphOf (shown s).names (shown s).body graph
   pub points : List PointFacts
   pub survey : SurveyOf s points

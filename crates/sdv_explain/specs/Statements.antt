@@ -10,7 +10,7 @@ use Rattle.sdv_graph.specs.declared.tree.Atom.{Atom}
 use Rattle.sdv_graph.specs.declared.tree.Atom.TheVariants as atoms
 use Rattle.sdv_graph.specs.declared.tree.Change.{Change}
 use Rattle.sdv_graph.specs.declared.tree.Change.TheVariants.{Same, Plus, Minus}
-use Rattle.sdv_graph.specs.declared.tree.Command.{Command}
+use Rattle.sdv_graph.specs.declared.tree.ScriptCommand.{ScriptCommand}
 use Rattle.sdv_graph.specs.declared.tree.Condition.{Condition}
 use Rattle.sdv_graph.specs.declared.tree.Condition.TheVariants as conditions
 use Rattle.sdv_graph.specs.declared.tree.Let.{Let}
@@ -20,7 +20,7 @@ use Rattle.sdv_graph.specs.declared.tree.Position.{Position}
 use Rattle.sdv_graph.specs.declared.tree.Position.TheVariants.{Number, Variable}
 use Rattle.sdv_graph.specs.declared.tree.Unit.{Unit as AddressUnit}
 use Rattle.sdv_graph.specs.declared.tree.Unit.TheVariants.{Block, Byte, By}
-use Rattle.sdv_graph.specs.Path.{Node, sends, phases, lets, tests, flags, heads, jumps, stops}
+use Rattle.sdv_graph.specs.Path.{Action, sends, phases, lets, tests, flags, heads, jumps, stops}
 use Rattle.sdv_graph.specs.Walk.{Ending, Failed}
 use Rattle.sdv_explain.specs.declared.outline.Outline.{Outline}
 
@@ -76,7 +76,7 @@ has_count index = (index == 18) || ((index == 23) || (index == 25))
 abbrev pub count_words : Ask → Text
 count_words ask = if has_count ask.index then codes " count " ++ decimal ask.count else []
 
-abbrev pub command_words : Outline → Command → Text
+abbrev pub command_words : Outline → ScriptCommand → Text
 command_words names c =
     codes "CMD" ++ (decimal c.ask.index ++ (aim_words c.ask ++ (address_if_any names c.address ++ count_words c.ask)))
 
@@ -120,7 +120,7 @@ ending_words (Failed name) = codes "fault " ++ name
 ending_words ending = codes "done"
 
 -- A STATEMENT
-abbrev pub statement_words : Outline → Node → Text
+abbrev pub statement_words : Outline → Action → Text
 statement_words names (sends c ways other) = command_words names c
 statement_words names (phases p well other) = phase_words p
 statement_words names (lets l t) = let_words names l

@@ -1,7 +1,7 @@
 //! The explanation of a script.
 
 ghost use Rattle.std.specs.Prelude.{◌≡◌, ◌≢◌, [], ◌⊎◌, IfErr, IfOk, IfSome, None, ℕ, List};
-ghost use Rattle.sdv_graph.specs.Graph.{Flow};
+ghost use Rattle.sdv_graph.specs.Graph.{Graph};
 ghost use Rattle.sdv_graph.specs.GraphOf.{IsGraphOf};
 ghost use Rattle.sdv_facts.specs.declared.certificate.PointFacts.{PointFacts};
 ghost use Rattle.sdv_script.specs.Shown.{shown};

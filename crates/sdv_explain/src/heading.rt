@@ -1,7 +1,7 @@
 //! The headings of a script's points.
 
 ghost use Rattle.std.specs.Prelude.{◌≡◌, ◌++◌, ◌∷◌, [], map, IfOk, OnOk};
-ghost use Rattle.sdv_graph.specs.Graph.{node_of};
+ghost use Rattle.sdv_graph.specs.Graph.{seen_action};
 ghost use Rattle.sdv_explain.specs.Headings.{AreHeadings, AreNamed, words_of};
 ghost use Rattle.sdv_explain.specs.Statements.{statement_words};
 
@@ -52,7 +52,7 @@ fn put_heading(
     outline: &Outline<'_>,
 ) -> Result<(), AllocError>
     ensures { OnOk result (map words_of headings.new.items
-        ≡ map words_of headings.old.items ++ statement_words outline.now (node_of action.now) ∷ []) }
+        ≡ map words_of headings.old.items ++ statement_words outline.now (seen_action action.now) ∷ []) }
 {
     let mut words = Vec::new(alloc);
     put_statement(&mut words, action, outline)?;

@@ -4,8 +4,8 @@ use crate::outline::Outline;
 use crate::shapes::put_shapes;
 use crate::statements::put_statement;
 use crate::text::{Text, put, put_count, put_number, put_numbered};
-use sdv_facts::{MAX_NUMBER, Numbers, PointFacts, VarFacts};
-use sdv_graph::{Action, Graph};
+use sdv_facts::{Numbers, PointFacts, VarFacts};
+use sdv_graph::{Action, Graph, MAX_NUMBER};
 use std::alloc::{AllocError, Global};
 
 /// Adds the place of a point: its line, its number, and its statement's first words.

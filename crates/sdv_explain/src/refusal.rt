@@ -1,7 +1,7 @@
 //! The refusal: which statement is refused beside which card, why, and a way there.
 
 ghost use Rattle.std.specs.Prelude.{IfSome};
-ghost use Rattle.sdv_explain.specs.Explained.{NamesShape};
+ghost use Rattle.sdv_explain.specs.Explained.{NamesShape, ShapeIsNamed};
 
 use crate::listing::{put_numbers, put_place};
 use crate::outline::Outline;
@@ -66,7 +66,8 @@ fn unaddressed(action: &Action<'_>, shapes: &[Shape]) -> Option<Shape> {
 
 /// A shape at which a point is refused.
 pub fn refused_shape(fault: CertifyFault, action: &Action<'_>, facts: &Facts) -> Option<Shape>
-    ensures { IfSome result (NamesShape fault) }
+    ensures named { ShapeIsNamed fault result }
+    ensures shape { IfSome result (NamesShape fault) }
 {
     match fault {
         CertifyFault::Illegal { shape, .. } => Some(shape),

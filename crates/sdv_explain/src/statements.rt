@@ -1,7 +1,7 @@
 //! Statements of scripts, and what is seen of their events, in words.
 
 ghost use Rattle.std.specs.Prelude.{◌≡◌, ◌++◌, OnOk};
-ghost use Rattle.sdv_graph.specs.Graph.{node_of};
+ghost use Rattle.sdv_graph.specs.Graph.{seen_action};
 ghost use Rattle.sdv_explain.specs.Statements.{address_if_any, address_words, aim_words, atom_words, change_words, command_words};
 ghost use Rattle.sdv_explain.specs.Statements.{condition_words, count_words, let_words, more_words, name_at, phase_words, position_words};
 ghost use Rattle.sdv_explain.specs.Statements.{statement_words, unit_words};
@@ -10,7 +10,9 @@ use crate::outline::Outline;
 use crate::shapes::numbered_state_word;
 use crate::text::{Text, put, put_number, put_numbered};
 use sdv_card::{Aim, Ask, Seen};
-use sdv_graph::{Action, Address, Atom, Change, Command, Condition, Let, Phase, Position, Unit};
+use sdv_graph::{
+    Action, Address, Atom, Change, Condition, Let, Phase, Position, ScriptCommand, Unit,
+};
 use std::alloc::AllocError;
 
 /// Adds the name in a place.
@@ -103,7 +105,11 @@ fn put_announced(text: &mut Text, ask: &Ask) -> Result<(), AllocError>
 }
 
 /// Adds a command: its index, and what it is written with.
-fn put_command(text: &mut Text, command: &Command, outline: &Outline) -> Result<(), AllocError>
+fn put_command(
+    text: &mut Text,
+    command: &ScriptCommand,
+    outline: &Outline,
+) -> Result<(), AllocError>
     ensures { OnOk result (text.new.items ≡ text.old.items ++ command_words outline.now command.now) }
 {
     put_numbered(text, "CMD", u64::from(command.ask.index), "")?;
@@ -176,7 +182,7 @@ pub fn put_statement(
     action: &Action<'_>,
     outline: &Outline,
 ) -> Result<(), AllocError>
-    ensures { OnOk result (text.new.items ≡ text.old.items ++ statement_words outline.now (node_of action.now)) }
+    ensures { OnOk result (text.new.items ≡ text.old.items ++ statement_words outline.now (seen_action action.now)) }
 {
     match action {
         Action::Send(command, _, _) => put_command(text, command, outline),

@@ -14,7 +14,7 @@ use Rattle.sdv_graph.specs.declared.tree.Unit.TheVariants.{Block, Byte, By}
 use Rattle.sdv_graph.specs.declared.tree.Position.{Position}
 use Rattle.sdv_graph.specs.declared.tree.Position.TheVariants.{Number, Variable}
 use Rattle.sdv_facts.specs.declared.numbers.Numbers.{Numbers}
-use Rattle.sdv_facts.specs.Known.{Known, var}
+use Rattle.sdv_facts.specs.Facts.{Facts, var}
 use Rattle.sdv_facts.specs.FactsHold.{GapHolds, NumbersHold}
 use Rattle.sdv_graph.specs.ValueOfLet.{number}
 use Rattle.sdv_graph.specs.AddressSent.{position_of, sends_block}
@@ -61,7 +61,7 @@ room ns c h (Number k) n holds e = let le : k + n ≤ ns.m = leb-true (k + n) ns
 room ns c h (Variable x None) n holds e = let r = variable_room ns c h x 0 n holds e in omega arith
 room ns c h (Variable x (Some k)) n holds e = variable_room ns c h x k n holds e
 
-pub on_card : (known : Known) (a : Address) (n : ℕ) → address_fits known a n ≡ true → IsOnCard known a n
+pub on_card : (known : Facts) (a : Address) (n : ℕ) → address_fits known a n ≡ true → IsOnCard known a n
 on_card known a n e k c h pair holds =
     let each = both (unit_fits known.shapes a.unit) (position_fits known.numbers a.position n) e in
     record {

@@ -1,5 +1,5 @@
 -- What a closed certificate says of every step and of every run of a script.
-use Rattle.sdv_graph.specs.Graph.{Flow, begin, HasWalks}
+use Rattle.sdv_graph.specs.Graph.{Graph, begin, HasWalks}
 use Rattle.sdv_graph.specs.GraphOf.{IsSound}
 use Rattle.sdv_graph.specs.Path.{Path}
 use Rattle.sdv_graph.specs.Tree.{Statements, Declared}
@@ -14,25 +14,25 @@ use Rattle.sdv_facts.specs.Closed.{PointsMatch, Closed}
 use Rattle.sdv_facts.specs.Stands.{EachIsMade, PointsStepWell, StepsWell}
 use Rattle.sdv_facts.proofs.RunLaws.{runs_well, each_is_made, text_runs_well}
 use Rattle.sdv_facts.proofs.StepLaws.{Laws, laws_of, points_step_well, steps_well}
-use Rattle.sdv_facts.proofs.SuitLaws.{each_node_suits}
+use Rattle.sdv_facts.proofs.SuitLaws.{each_action_suits}
 
 -- from wherever the facts of a point hold, and its clauses, its event is legal and in bounds, and the facts hold after it
-pub each_point : (g : Flow) (ps : List PointFacts) → IsSound g → PointsMatch g ps → PointsStepWell g ps
-each_point g ps sound points = points_step_well g ps (laws_of g.kind) sound.nested (each_node_suits g sound) points
+pub each_point : (g : Graph) (ps : List PointFacts) → IsSound g → PointsMatch g ps → PointsStepWell g ps
+each_point g ps sound points = points_step_well g ps (laws_of g.kind) sound.nested (each_action_suits g sound) points
 
-module _ (g : Flow) (ps : List PointFacts) (laws : Laws g.kind) (sound : IsSound g) (closed : Closed g ps) where
+module _ (g : Graph) (ps : List PointFacts) (laws : Laws g.kind) (sound : IsSound g) (closed : Closed g ps) where
   -- from wherever the facts hold, each event is legal and in bounds, and the facts hold after it
   pub each_step : StepsWell g ps
-  each_step = steps_well g ps laws sound.nested (each_node_suits g sound) closed
+  each_step = steps_well g ps laws sound.nested (each_action_suits g sound) closed
 
   -- so every run over the graph is as it should be
-  pub each_path : RunsWell g.kind (λ e es. Path g.kind g.places e (begin g) es) (bound_of g ps)
-  each_path = runs_well g ps laws sound.ends sound.nested (each_node_suits g sound) closed
+  pub each_path : RunsWell g.kind (λ e es. Path g.kind g.points e (begin g) es) (bound_of g ps)
+  each_path = runs_well g ps laws sound.ends sound.nested (each_action_suits g sound) closed
 
   -- and made by hosts that know nothing wrong of the card
-  pub each_event : (c : Card) → g.kind ≡ c.kind → IsAtStart c → (e : Ending) (es : List Pair) → Path g.kind g.places e (begin g) es → EachIsMade g.kind es c
-  each_event = each_is_made g ps laws sound.ends sound.nested (each_node_suits g sound) closed
+  pub each_event : (c : Card) → g.kind ≡ c.kind → IsAtStart c → (e : Ending) (es : List Pair) → Path g.kind g.points e (begin g) es → EachIsMade g.kind es c
+  each_event = each_is_made g ps laws sound.ends sound.nested (each_action_suits g sound) closed
 
   -- and every run of the script's text
   pub each_walk : (names : Declared) (script : Statements) → HasWalks names script g → RunsWell g.kind (Walk g.kind names script) (bound_of g ps)
-  each_walk names script walks = text_runs_well g ps names script laws sound.ends sound.nested (each_node_suits g sound) walks closed
+  each_walk names script walks = text_runs_well g ps names script laws sound.ends sound.nested (each_action_suits g sound) walks closed

@@ -19,7 +19,7 @@ use Rattle.sdv_graph.specs.declared.tree.Change.{Change}
 use Rattle.sdv_graph.specs.declared.tree.Change.TheVariants.{Same, Plus, Minus}
 use Rattle.sdv_graph.specs.Counts.{max_number}
 use Rattle.sdv_facts.specs.declared.numbers.VarFacts.{VarFacts}
-use Rattle.sdv_facts.specs.Known.{Known, var, with_var}
+use Rattle.sdv_facts.specs.Facts.{Facts, var, with_var}
 use Rattle.sdv_facts.specs.FactsHold.{VarHolds, FactsHold, Carries}
 use Rattle.sdv_graph.specs.ValueOfLet.{number, with_number, value_of_atom, in_range, changed}
 use Rattle.sdv_facts.specs.Gaps.{gap_less, gap_more}
@@ -77,7 +77,7 @@ emmc_alone : (k : Kind) → MayStandIn k ExtBlocks → k ≡ Emmc
 emmc_alone Sd m = absurd m
 emmc_alone Emmc m = refl
 
-atom_holds : (k : Kind) (c : Card) (h : Host) (known : Known) (a : Atom) (n : ℕ) → MayStandIn k a → IsHonest k c h → FactsHold known c h
+atom_holds : (k : Kind) (c : Card) (h : Host) (known : Facts) (a : Atom) (n : ℕ) → MayStandIn k a → IsHonest k c h → FactsHold known c h
     → value_of_atom k h a ≡ Some n →
     VarHolds c.capacity (atom_facts k known a) n
 atom_holds k c h known (Number m) n may honest holds e =
@@ -139,7 +139,7 @@ change_knows (Plus k) capacity v y n h e =
 change_knows (Minus k) capacity v y n h e =
     let r = taken_at (nat_le k y) y k n refl e in minus_knows (nat_le k v.hi) capacity v y k n refl h r.0 r.1
 
-value_knows : (k : Kind) (c : Card) (h : Host) (known : Known) (l : Let) (o : Option ℕ) (n : ℕ) → MayStandIn k l.atom → IsHonest k c h → FactsHold known c h →
+value_knows : (k : Kind) (c : Card) (h : Host) (known : Facts) (l : Let) (o : Option ℕ) (n : ℕ) → MayStandIn k l.atom → IsHonest k c h → FactsHold known c h →
     value_of_atom k h l.atom ≡ o → option_and_then (changed l.change) o ≡ Some n → Knows c.capacity (changed_facts l.change (atom_facts k known l.atom)) n
 value_knows k c h known l None n may honest holds is e = absurd (cc)
 value_knows k c h known l (Some y) n may honest holds is e =
@@ -147,7 +147,7 @@ value_knows k c h known l (Some y) n may honest holds is e =
 
 -- LET
 
-let_carries : (o : Option VarFacts) (known : Known) (c : Card) (h : Host) (x n : ℕ) → FactsHold known c h → Knows c.capacity o n →
+let_carries : (o : Option VarFacts) (known : Facts) (c : Card) (h : Host) (x n : ℕ) → FactsHold known c h → Knows c.capacity o n →
     Carries known (option_map (λ v. with_var known.numbers x v) o) c (with_number h x n)
 let_carries None known c h x n holds knows = absurd knows
 let_carries (Some v) known c h x n holds knows = record {
@@ -155,7 +155,7 @@ let_carries (Some v) known c h x n holds knows = record {
   numbers = set_holds known.numbers c h x n known.numbers.m v holds.numbers holds.numbers.least knows;
 }
 
-pub let_keeps : (k : Kind) (known : Known) (l : Let) → KeptByLet k known l (after_let k known l)
+pub let_keeps : (k : Kind) (known : Facts) (l : Let) → KeptByLet k known l (after_let k known l)
 let_keeps k known l c h n may honest holds e =
     let_carries (changed_facts l.change (atom_facts k known l.atom)) known c h l.target n holds
     (value_knows k c h known l (value_of_atom k h l.atom) n may honest holds refl e)

@@ -7,8 +7,8 @@ use Rattle.sdv_frames.specs.Bits.{Bits, bits_of, number_of}
 use Rattle.sdv_frames.proofs.BitLaws.{number_of_below, length-bits_of}
 use Rattle.sdv_registers.specs.declared.kind.Kind.{Kind}
 use Rattle.sdv_registers.specs.declared.kind.Kind.TheVariants.{Sd, Emmc}
-use Rattle.sdv_registers.specs.declared.csd.Layout.{Layout}
-use Rattle.sdv_registers.specs.declared.csd.Layout.TheVariants.{Version1, Version2}
+use Rattle.sdv_registers.specs.declared.csd.CsdLayout.{CsdLayout}
+use Rattle.sdv_registers.specs.declared.csd.CsdLayout.TheVariants.{Version1, Version2}
 use Rattle.sdv_registers.specs.Field.{field}
 use Rattle.sdv_registers.specs.Csd.{blocks, blocks_of, layout, c_size, c_size_mult, read_bl_len}
 use Rattle.sdv_registers.specs.ExtCsd.{sec_count}
@@ -21,7 +21,7 @@ field_below : (top high low : ℕ) (bs : Bits) → field top high low bs < 2 ^ (
 field_below top high low bs = short_below (high + 1 - low) (take (high + 1 - low) (drop (top - high) bs))
     (omega (arith, length-take (high + 1 - low) (drop (top - high) bs)))
 
-layout_small : (l : Layout) (bs : Bits) → blocks_of l bs ≤ 2 ^ 32
+layout_small : (l : CsdLayout) (bs : Bits) → blocks_of l bs ≤ 2 ^ 32
 layout_small Version1 bs =
     let size : c_size Version1 bs + 1 ≤ 2 ^ 12 = omega (arith, field_below 127 73 62 bs) in
     let mult : 2 ^ (c_size_mult bs + 2) ≤ 2 ^ 9 = pow_mono {j = 9} (omega (arith, field_below 127 49 47 bs)) in

@@ -7,8 +7,8 @@ use Rattle.std.proofs.lemmas.List.Sorted.{IsNonDecreasingBy-from_default}
 use Rattle.std.proofs.lemmas.Bool.Decides.{nat_tests}
 use Rattle.sdv_card.specs.declared.shape.Shape.{Shape}
 use Rattle.sdv_card.specs.Lists.{May, IsOneOf}
-use Rattle.sdv_facts.specs.Known.{AreRising}
-use Rattle.sdv_facts.proofs.SetLaws.{no_shape, shape_same, one_at, place_of}
+use Rattle.sdv_facts.specs.Facts.{AreRising}
+use Rattle.sdv_facts.proofs.SetLaws.{no_shape, shape_same, one_at, position_of}
 
 module _ (xs : List Shape) (rising : AreRising xs) (x : Shape) where
   comparisons_rise : IsNonDecreasingBy (λ s. ordering_index (nat_cmp s.0 x.0)) xs
@@ -22,7 +22,7 @@ module _ (xs : List Shape) (rising : AreRising xs) (x : Shape) where
 
   found_nowhere : (i : ℕ) → IsBinarySearchResult (λ s. nat_cmp s.0 x.0) xs (Err i) → May xs x → ⊥
   found_nowhere i parted m =
-      let p = place_of xs x m.one in
+      let p = position_of xs x m.one in
       let split = parted comparisons_rise in
       let below : p.at < i → (get_or xs p.at no_shape).0 < x.0 = λ lt. ranked _ _ _ (sym (split.0 p.at no_shape (omega arith) lt)) in
       let above : i ≤ p.at → x.0 < (get_or xs p.at no_shape).0 = λ le. ranked _ _ _ (sym (split.1 p.at no_shape le p.within)) in

@@ -13,12 +13,12 @@ use Rattle.sdv_card.specs.Profile.{IsAtStart, host_at_start}
 use Rattle.sdv_card.specs.ScriptEvent.{ScriptEvent, SendCommand, ReceiveBlocks, ReceiveRegister, GiveBlocks, AwaitReady, Return, Answered, BlocksIn, RegisterIn, BlocksOut, Waited, MayReturn}
 use Rattle.sdv_card.specs.Shapes.{pair_code}
 use Rattle.sdv_card.specs.Step.{Step}
-use Rattle.sdv_graph.specs.Graph.{Flow, begin, WhereverTo, Lasts, EachRunEnds, HasWalks}
+use Rattle.sdv_graph.specs.Graph.{Graph, begin, WhereverTo, Lasts, EachRunEnds, HasWalks}
 use Rattle.sdv_graph.specs.Nested.{Nested}
 use Rattle.sdv_graph.specs.declared.graph.Target.{Target}
 use Rattle.sdv_graph.specs.AddressSent.{position_of_command}
 use Rattle.sdv_graph.specs.ValueOfLet.{value_of_let, with_number}
-use Rattle.sdv_graph.specs.Path.{Node, sends, phases, lets, tests, flags, heads, jumps, stops, Stand, arrive, turns_at, way_of, Move, Goes, Does, Halts, move_with, move_at_head, node_move, move, move_from, Follows, PathWithin, Path}
+use Rattle.sdv_graph.specs.Path.{Action, sends, phases, lets, tests, flags, heads, jumps, stops, Stand, arrive, turns_at, way_of, Move, Goes, Does, Halts, move_with, move_at_head, action_move, move, move_from, Follows, PathWithin, Path}
 use Rattle.sdv_graph.specs.Tree.{Statements, Declared}
 use Rattle.sdv_graph.specs.Walk.{Pair, Ending, Fell, Broke, Finished, Failed, Open, Stops, Deed, exactly, giving, IsDeed, command_deed, Walk}
 use Rattle.sdv_graph.proofs.FewEvents.{few_events}
@@ -28,9 +28,9 @@ use Rattle.sdv_facts.specs.Bounds.{bound, bound_at, bound_of}
 use Rattle.sdv_facts.specs.Closed.{StartsAt, Closed}
 use Rattle.sdv_facts.specs.Keeps.{IsHonest}
 use Rattle.sdv_facts.specs.Start.{start_numbers, start_var}
-use Rattle.sdv_facts.specs.Stands.{EachNodeSuits, Stands, Arrived, HaltsWell, MovesWell, IsMade, EachIsMade, StepsWell}
+use Rattle.sdv_facts.specs.Stands.{EachActionSuits, Stands, Arrived, HaltsWell, MovesWell, IsMade, EachIsMade, StepsWell}
 use Rattle.sdv_facts.proofs.StartLaws.{start_holds}
-use Rattle.sdv_facts.proofs.StepLaws.{Laws, has_place, steps_well}
+use Rattle.sdv_facts.proofs.StepLaws.{Laws, has_point, steps_well}
 use Rattle.sdv_facts.proofs.TestLaws.{target_holds}
 
 -- LISTS
@@ -99,10 +99,10 @@ may_return k AwaitReady returned e = e
 
 -- EVERY RUN
 
-module _ (g : Flow) (ps : List PointFacts) (laws : Laws g.kind) (well : StepsWell g ps) where
+module _ (g : Graph) (ps : List PointFacts) (laws : Laws g.kind) (well : StepsWell g ps) where
   -- what holds of each run from where it stands
   abbrev Later : (n j : ℕ) → Ending → Type 0
-  Later n j e = (s : Stand) (es : List Pair) (c : Card) (at : Stands g ps s c) → PathWithin g.kind g.places e n s es → Lasts g.kind g.places j s
+  Later n j e = (s : Stand) (es : List Pair) (c : Card) (at : Stands g ps s c) → PathWithin g.kind g.points e n s es → Lasts g.kind g.points j s
       → WellMade g.kind (bound at.facts s.turns) e es c
 
   came : (most : ℕ) (e : Ending) (event : ScriptEvent) (returned : Return) (rest : List Pair) (c : Card) (h : Host) (next : Return → Host → Stand)
@@ -146,22 +146,22 @@ module _ (g : Flow) (ps : List PointFacts) (laws : Laws g.kind) (well : StepsWel
   honest_head (zero ∷ ts) body other h c = tt
   honest_head (suc t ∷ ts) body other h c = tt
 
-  honest_node : (node : Node) (ts : List ℕ) (h : Host) (c : Card) → IsHonest g.kind c h → HonestMove (node_move g.kind node ts h) c
-  honest_node (sends command ways other) ts h c hon = honest_with (position_of_command h command.address)
+  honest_action : (action : Action) (ts : List ℕ) (h : Host) (c : Card) → IsHonest g.kind c h → HonestMove (action_move g.kind action ts h) c
+  honest_action (sends command ways other) ts h c hon = honest_with (position_of_command h command.address)
       (λ position. Does (command_deed g.kind command h position) h (λ returned h'. arrive (way_of g.kind ways other returned) ts h')) c (λ n. hon)
-  honest_node (phases p well other) ts h c hon = hon
-  honest_node (lets l t) ts h c hon = honest_with (value_of_let g.kind h l) (λ n. Goes (arrive t ts (with_number h l.target n))) c (λ n. tt)
-  honest_node (tests x met unmet) ts h c hon = tt
-  honest_node (flags flag on t) ts h c hon = tt
-  honest_node (heads n body other) ts h c hon = honest_head ts body other h c
-  honest_node (jumps t) ts h c hon = tt
-  honest_node (stops last) ts h c hon = tt
+  honest_action (phases p well other) ts h c hon = hon
+  honest_action (lets l t) ts h c hon = honest_with (value_of_let g.kind h l) (λ n. Goes (arrive t ts (with_number h l.target n))) c (λ n. tt)
+  honest_action (tests x met unmet) ts h c hon = tt
+  honest_action (flags flag on t) ts h c hon = tt
+  honest_action (heads n body other) ts h c hon = honest_head ts body other h c
+  honest_action (jumps t) ts h c hon = tt
+  honest_action (stops last) ts h c hon = tt
 
-  honest_at : (s : Stand) (c : Card) → Stands g ps s c → HonestMove (move_from g.kind g.places s) c
-  honest_at s c at = subst (λ o. HonestMove (move g.kind o s.turns s.host) c) (sym at.here) (honest_node at.place.node s.turns s.host c at.honest)
+  honest_at : (s : Stand) (c : Card) → Stands g ps s c → HonestMove (move_from g.kind g.points s) c
+  honest_at s c at = subst (λ o. HonestMove (move g.kind o s.turns s.host) c) (sym at.here) (honest_action at.place.action s.turns s.host c at.honest)
 
   followed : (m : Move) (most n j : ℕ) (e : Ending) (es : List Pair) (c : Card) → HonestMove m c → MovesWell g ps most m c
-      → WhereverTo (Lasts g.kind g.places j) m → Follows g.kind e (PathWithin g.kind g.places e n) m es → Later n j e → WellMade g.kind most e es c
+      → WhereverTo (Lasts g.kind g.points j) m → Follows g.kind e (PathWithin g.kind g.points e n) m es → Later n j e → WellMade g.kind most e es c
   followed (Goes next) most n j e es c hon a w f later = more_room g.kind (bound a.stands.facts next.turns) most e es c a.falls (later next es c a.stands f w)
   followed (Does deed h next) most n j e es c hon a w (event, returned, rest, is, may, same, on) later =
       let good = a event is in
@@ -169,14 +169,14 @@ module _ (g : Flow) (ps : List PointFacts) (laws : Laws g.kind) (well : StepsWel
       (came most e event returned rest c h next good.0 hon (λ u step.
       let b = good.1 returned u step in
       (b, later (next returned (host_after g.kind event returned h)) rest u b.stands on (w returned (host_after g.kind event returned h)))))
-  followed (Halts last) most n j e es c hon a w f later = stopped g.kind most e last es c f (halts last c a (halting last (Lasts g.kind g.places j) w))
+  followed (Halts last) most n j e es c hon a w f later = stopped g.kind most e last es c f (halts last c a (halting last (Lasts g.kind g.points j) w))
 
   each_run : (n j : ℕ) (e : Ending) → Later n j e
   each_run zero j e s es c at path lasts = absurd path
   each_run (suc n) j e s es c at (inl o) lasts = stopped g.kind (bound at.facts s.turns) e Open es c o tt
   each_run (suc n) zero e s es c at (inr f) lasts = absurd lasts
   each_run (suc n) (suc j) e s es c at (inr f) lasts =
-      followed (move_from g.kind g.places s) (bound at.facts s.turns) n j e es c (honest_at s c at) (well s c at) lasts f (each_run n j e)
+      followed (move_from g.kind g.points s) (bound at.facts s.turns) n j e es c (honest_at s c at) (well s c at) lasts f (each_run n j e)
 
   -- OPEN RUNS GO ON
 
@@ -188,15 +188,15 @@ module _ (g : Flow) (ps : List PointFacts) (laws : Laws g.kind) (well : StepsWel
     last : Card
     steps : StepsOf c more last
     moves : ℕ
-    path : PathWithin g.kind g.places end moves s more
+    path : PathWithin g.kind g.points end moves s more
 
   -- one of the events that a deed may be
   some_event : (deed : Deed) → (event : ScriptEvent) × IsDeed deed event
   some_event (exactly wanted) = (wanted, refl)
   some_event (giving count) = let blocks : List Block = replicate count [] in (GiveBlocks blocks, (blocks, length-replicate count [], refl))
 
-  ending : (m : Move) (most j : ℕ) (s : Stand) (c : Card) → move_from g.kind g.places s ≡ m → MovesWell g ps most m c → WhereverTo (Lasts g.kind g.places j) m →
-      ((s : Stand) (c : Card) → Stands g ps s c → Lasts g.kind g.places j s → Whole s c) → Whole s c
+  ending : (m : Move) (most j : ℕ) (s : Stand) (c : Card) → move_from g.kind g.points s ≡ m → MovesWell g ps most m c → WhereverTo (Lasts g.kind g.points j) m →
+      ((s : Stand) (c : Card) → Stands g ps s c → Lasts g.kind g.points j s → Whole s c) → Whole s c
   ending (Goes next) most j s c is a w later =
       let l = later next c a.stands w in
       record {
@@ -206,7 +206,7 @@ module _ (g : Flow) (ps : List PointFacts) (laws : Laws g.kind) (well : StepsWel
         last = l.last;
         steps = l.steps;
         moves = suc l.moves;
-        path = inr (subst (λ m. Follows g.kind l.end (PathWithin g.kind g.places l.end l.moves) m l.more) (sym is) l.path);
+        path = inr (subst (λ m. Follows g.kind l.end (PathWithin g.kind g.points l.end l.moves) m l.more) (sym is) l.path);
       }
   ending (Does deed h next) most j s c is a w later =
       let some = some_event deed in
@@ -223,7 +223,7 @@ module _ (g : Flow) (ps : List PointFacts) (laws : Laws g.kind) (well : StepsWel
         last = l.last;
         steps = (step.after, step.step, l.steps);
         moves = suc l.moves;
-        path = inr (subst (λ m. Follows g.kind l.end (PathWithin g.kind g.places l.end l.moves) m ((event, step.returned) ∷ l.more)) (sym is) (
+        path = inr (subst (λ m. Follows g.kind l.end (PathWithin g.kind g.points l.end l.moves) m ((event, step.returned) ∷ l.more)) (sym is) (
           event,
           step.returned,
           l.more,
@@ -237,17 +237,17 @@ module _ (g : Flow) (ps : List PointFacts) (laws : Laws g.kind) (well : StepsWel
   ending (Halts last) most j s c is a w later =
       record {
         end = last;
-        over = is_over last (Lasts g.kind g.places j) w;
+        over = is_over last (Lasts g.kind g.points j) w;
         more = [];
         last = c;
         steps = refl;
         moves = 1;
-        path = inr (subst (λ m. Follows g.kind last (PathWithin g.kind g.places last 0) m []) (sym is) (refl, refl));
+        path = inr (subst (λ m. Follows g.kind last (PathWithin g.kind g.points last 0) m []) (sym is) (refl, refl));
       }
 
-  whole_from : (j : ℕ) (s : Stand) (c : Card) → Stands g ps s c → Lasts g.kind g.places j s → Whole s c
+  whole_from : (j : ℕ) (s : Stand) (c : Card) → Stands g ps s c → Lasts g.kind g.points j s → Whole s c
   whole_from zero s c at lasts = absurd lasts
-  whole_from (suc j) s c at lasts = ending (move_from g.kind g.places s) (bound at.facts s.turns) j s c refl (well s c at) lasts (whole_from j)
+  whole_from (suc j) s c at lasts = ending (move_from g.kind g.points s) (bound at.facts s.turns) j s c refl (well s c at) lasts (whole_from j)
 
   -- an open run from there, carried on to its end
   record CarriedOn (s : Stand) (es : List Pair) (c : Card) : Type 0 where
@@ -257,15 +257,15 @@ module _ (g : Flow) (ps : List PointFacts) (laws : Laws g.kind) (well : StepsWel
     last : Card
     steps : StepsOf c more last
     moves : ℕ
-    path : PathWithin g.kind g.places end moves s (es ++ more)
+    path : PathWithin g.kind g.points end moves s (es ++ more)
 
   abbrev Carries : (n j : ℕ) → Type 0
-  Carries n j = (s : Stand) (es : List Pair) (c last : Card) → Stands g ps s c → PathWithin g.kind g.places Open n s es → Lasts g.kind g.places j s
+  Carries n j = (s : Stand) (es : List Pair) (c last : Card) → Stands g ps s c → PathWithin g.kind g.points Open n s es → Lasts g.kind g.points j s
       → StepsOf c es last → CarriedOn s es last
 
-  carrying : (m : Move) (most n j : ℕ) (s : Stand) (es : List Pair) (c last : Card) → move_from g.kind g.places s ≡ m → MovesWell g ps most m c
-      → WhereverTo (Lasts g.kind g.places j) m →
-      Follows g.kind Open (PathWithin g.kind g.places Open n) m es → StepsOf c es last → Carries n j → CarriedOn s es last
+  carrying : (m : Move) (most n j : ℕ) (s : Stand) (es : List Pair) (c last : Card) → move_from g.kind g.points s ≡ m → MovesWell g ps most m c
+      → WhereverTo (Lasts g.kind g.points j) m →
+      Follows g.kind Open (PathWithin g.kind g.points Open n) m es → StepsOf c es last → Carries n j → CarriedOn s es last
   carrying (Goes next) most n j s es c last is a w f steps later =
       let l = later next es c last a.stands f w steps in
       record {
@@ -275,7 +275,7 @@ module _ (g : Flow) (ps : List PointFacts) (laws : Laws g.kind) (well : StepsWel
         last = l.last;
         steps = l.steps;
         moves = suc l.moves;
-        path = inr (subst (λ m. Follows g.kind l.end (PathWithin g.kind g.places l.end l.moves) m (es ++ l.more)) (sym is) l.path);
+        path = inr (subst (λ m. Follows g.kind l.end (PathWithin g.kind g.points l.end l.moves) m (es ++ l.more)) (sym is) l.path);
       }
   carrying (Does deed h next) most n j s es c last is a w (event, returned, rest, ev, may, same, on) steps later =
       let good = a event ev in
@@ -290,12 +290,12 @@ module _ (g : Flow) (ps : List PointFacts) (laws : Laws g.kind) (well : StepsWel
         last = l.last;
         steps = l.steps;
         moves = suc l.moves;
-        path = inr (subst (λ m. Follows g.kind l.end (PathWithin g.kind g.places l.end l.moves) m (es ++ l.more)) (sym is)
+        path = inr (subst (λ m. Follows g.kind l.end (PathWithin g.kind g.points l.end l.moves) m (es ++ l.more)) (sym is)
             (event, returned, rest ++ l.more, ev, may, ap (λ es. es ++ l.more) same, l.path));
       }
   carrying (Halts end) most n j s es c last is a w f steps later = absurd (open_end end (sym f.1) w)
     where
-      open_end : (end : Ending) → end ≡ Open → WhereverTo (Lasts g.kind g.places j) (Halts end) → ⊥
+      open_end : (end : Ending) → end ≡ Open → WhereverTo (Lasts g.kind g.points j) (Halts end) → ⊥
       open_end Open e w = w
       open_end Fell e w = w
       open_end Broke e w = w
@@ -314,39 +314,39 @@ module _ (g : Flow) (ps : List PointFacts) (laws : Laws g.kind) (well : StepsWel
         last = l.last;
         steps = subst (λ c. StepsOf c l.more l.last) here l.steps;
         moves = l.moves;
-        path = subst (λ es. PathWithin g.kind g.places l.end l.moves s (es ++ l.more)) (sym o.0) l.path;
+        path = subst (λ es. PathWithin g.kind g.points l.end l.moves s (es ++ l.more)) (sym o.0) l.path;
       }
   carries_on (suc n) zero s es c last at (inr f) lasts steps = absurd lasts
   carries_on (suc n) (suc j) s es c last at (inr f) lasts steps =
-      carrying (move_from g.kind g.places s) (bound at.facts s.turns) n j s es c last refl (well s c at) lasts f steps (carries_on n j)
+      carrying (move_from g.kind g.points s) (bound at.facts s.turns) n j s es c last refl (well s c at) lasts f steps (carries_on n j)
 
 -- THE START
 
-record First (g : Flow) (ps : List PointFacts) : Type 0 where
+record First (g : Graph) (ps : List PointFacts) : Type 0 where
   facts : PointFacts
   known : slice_get ps 0 ≡ Some facts
   starts : StartsAt g facts
 
-first_of : (g : Flow) (ps : List PointFacts) (o : Option PointFacts) → slice_get ps 0 ≡ o → MatchOption o ⊥ (λ p. StartsAt g p) → First g ps
+first_of : (g : Graph) (ps : List PointFacts) (o : Option PointFacts) → slice_get ps 0 ≡ o → MatchOption o ⊥ (λ p. StartsAt g p) → First g ps
 first_of g ps None e m = absurd m
 first_of g ps (Some p) e m = record { facts = p; known = e; starts = m }
 
 -- where a run begins, with the bound of the certificate
-record Begins (g : Flow) (ps : List PointFacts) (c : Card) : Type 0 where
+record Begins (g : Graph) (ps : List PointFacts) (c : Card) : Type 0 where
   stands : Stands g ps (begin g) c
   bound_is : bound stands.facts (begin g).turns ≡ bound_of g ps
 
-begins : (g : Flow) (ps : List PointFacts) → Laws g.kind → Nested g → Closed g ps → (c : Card) → g.kind ≡ c.kind → IsAtStart c → Begins g ps c
+begins : (g : Graph) (ps : List PointFacts) → Laws g.kind → Nested g → Closed g ps → (c : Card) → g.kind ≡ c.kind → IsAtStart c → Begins g ps c
 begins g ps laws nested closed c kind start =
     let f : First g ps = first_of g ps (slice_get ps 0) refl closed.start in
-    let there = has_place g.places 0 (subst (λ n. 0 < n) closed.points.count (slice_get_within ps 0 f.facts f.known)) in
+    let there = has_point g.points 0 (subst (λ n. 0 < n) closed.points.count (slice_get_within ps 0 f.facts f.known)) in
     let h : Host = host_at_start g.numbers in
     let s : StartHolds g.kind c h = laws.starts_hold c g.numbers kind start in
     let matches = closed.points.each 0 there.0 f.facts there.1 f.known in
     record {
       stands = record {
         place = there.0;
-        here = subst (λ i. slice_get g.places i ≡ Some there.0) (sym nested.first_point) there.1;
+        here = subst (λ i. slice_get g.points i ≡ Some there.0) (sym nested.first_point) there.1;
         facts = f.facts;
         known = subst (λ i. slice_get ps i ≡ Some f.facts) (sym nested.first_point) f.known;
         box = nested.first_turns there.0 there.1;
@@ -362,8 +362,8 @@ begins g ps laws nested closed c kind start =
     }
 
 -- THE HEADLINE, over the paths of a graph
-pub runs_well : (g : Flow) (ps : List PointFacts) → Laws g.kind → EachRunEnds g → Nested g → EachNodeSuits g → Closed g ps
-    → RunsWell g.kind (λ e es. Path g.kind g.places e (begin g) es) (bound_of g ps)
+pub runs_well : (g : Graph) (ps : List PointFacts) → Laws g.kind → EachRunEnds g → Nested g → EachActionSuits g → Closed g ps
+    → RunsWell g.kind (λ e es. Path g.kind g.points e (begin g) es) (bound_of g ps)
 runs_well g ps laws ends nested suits closed =
     let well = steps_well g ps laws nested suits closed in
     record {
@@ -377,19 +377,19 @@ runs_well g ps laws ends nested suits closed =
     }
 
 -- each event of a run is made by a host that knows nothing wrong of the card
-pub each_is_made : (g : Flow) (ps : List PointFacts) → Laws g.kind → EachRunEnds g → Nested g → EachNodeSuits g → Closed g ps → (c : Card) → g.kind ≡ c.kind
+pub each_is_made : (g : Graph) (ps : List PointFacts) → Laws g.kind → EachRunEnds g → Nested g → EachActionSuits g → Closed g ps → (c : Card) → g.kind ≡ c.kind
     → IsAtStart c →
-    (e : Ending) (es : List Pair) → Path g.kind g.places e (begin g) es → EachIsMade g.kind es c
+    (e : Ending) (es : List Pair) → Path g.kind g.points e (begin g) es → EachIsMade g.kind es c
 each_is_made g ps laws ends nested suits closed c kind start e es path =
     let b = begins g ps laws nested closed c kind start in
     (each_run g ps laws (steps_well g ps laws nested suits closed) path.0 g.steps e (begin g) es c b.stands path.1 ends).made
 
 -- every path is over within the moves of the graph
-pub runs_end : (g : Flow) → EachRunEnds g → RunsEnd (λ e es. Path g.kind g.places e (begin g) es) g.steps
-runs_end g ends e es path = few_events g.kind g.places e path.0 g.steps (begin g) es path.1 ends
+pub runs_end : (g : Graph) → EachRunEnds g → RunsEnd (λ e es. Path g.kind g.points e (begin g) es) g.steps
+runs_end g ends e es path = few_events g.kind g.points e path.0 g.steps (begin g) es path.1 ends
 
 -- and every walk of the script, where they are the paths
-pub walks_end : (g : Flow) (names : Declared) (script : Statements) → EachRunEnds g → HasWalks names script g → RunsEnd (Walk g.kind names script) g.steps
+pub walks_end : (g : Graph) (names : Declared) (script : Statements) → EachRunEnds g → HasWalks names script g → RunsEnd (Walk g.kind names script) g.steps
 walks_end g names script ends walks e es walk = runs_end g ends e es ((walks e es).0 walk)
 
 -- the same of other lists, where they are the paths
@@ -402,9 +402,9 @@ same_runs k v w most same well = record {
 }
 
 -- and over the text of a script
-pub text_runs_well : (g : Flow) (ps : List PointFacts) (names : Declared) (script : Statements) → Laws g.kind → EachRunEnds g → Nested g → EachNodeSuits g
+pub text_runs_well : (g : Graph) (ps : List PointFacts) (names : Declared) (script : Statements) → Laws g.kind → EachRunEnds g → Nested g → EachActionSuits g
     → HasWalks names script g → Closed g ps →
     RunsWell g.kind (Walk g.kind names script) (bound_of g ps)
 text_runs_well g ps names script laws ends nested suits walks closed =
-    same_runs g.kind (Walk g.kind names script) (λ e es. Path g.kind g.places e (begin g) es) (bound_of g ps) walks
+    same_runs g.kind (Walk g.kind names script) (λ e es. Path g.kind g.points e (begin g) es) (bound_of g ps) walks
     (runs_well g ps laws ends nested suits closed)

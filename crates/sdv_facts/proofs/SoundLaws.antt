@@ -12,10 +12,10 @@ use Rattle.sdv_facts.specs.declared.test.Test.{Test}
 use Rattle.sdv_facts.specs.declared.test.Test.TheVariants.{AtLeast, Below}
 use Rattle.sdv_facts.specs.declared.numbers.VarFacts.{VarFacts}
 use Rattle.sdv_facts.specs.declared.numbers.Numbers.{Numbers}
-use Rattle.sdv_facts.specs.Known.{Known, var, weakest, with_var}
+use Rattle.sdv_facts.specs.Facts.{Facts, var, weakest, with_var}
 use Rattle.sdv_facts.specs.Limits.{IsInLimits, AtomInLimits, VarInLimits, NumbersInLimits}
 use Rattle.sdv_facts.specs.Gaps.{gap_less, gap_more}
-use Rattle.sdv_facts.specs.Joins.{IsSound}
+use Rattle.sdv_facts.specs.Joins.{NumbersSound}
 use Rattle.sdv_facts.specs.AfterLet.{csd_tells, ext_csd_tells, register_facts, atom_facts, changed_facts, after_let}
 use Rattle.sdv_facts.specs.AfterTest.{least_by, raised, lowered, after_test}
 use Rattle.sdv_facts.specs.Start.{start_var, start_numbers}
@@ -39,8 +39,8 @@ at_small [] x s = weakest_small
 at_small (v ∷ vs) zero s = first_of VarInLimits v vs s
 at_small (v ∷ vs) (suc x) s = at_small vs x (others_of VarInLimits v vs s)
 
-with_sound : (n : ℕ) (ns : Numbers) (x m : ℕ) (v : VarFacts) → IsSound n ns → VarInLimits v → 1 ≤ m → m ≤ 2 ^ 40
-    → IsSound n (record (with_var ns x v) { m = m })
+with_sound : (n : ℕ) (ns : Numbers) (x m : ℕ) (v : VarFacts) → NumbersSound n ns → VarInLimits v → 1 ≤ m → m ≤ 2 ^ 40
+    → NumbersSound n (record (with_var ns x v) { m = m })
 with_sound n ns x m v s t h l = record {
   limits = record { m = l; vars = All-set VarInLimits ns.vars.items x v t s.limits.vars };
   some = h;
@@ -63,7 +63,7 @@ register_small : (b : Bool) (m : ℕ) → m ≤ 2 ^ 40 → VarInLimits (register
 register_small true m h = record { lo = h; hi = omega arith; gap = omega arith }
 register_small false m h = record { lo = omega arith; hi = omega arith; gap = tt }
 
-atom_small : (k : Kind) (known : Known) (a : Atom) → AtomInLimits a → NumbersInLimits known.numbers → VarInLimits (atom_facts k known a)
+atom_small : (k : Kind) (known : Facts) (a : Atom) → AtomInLimits a → NumbersInLimits known.numbers → VarInLimits (atom_facts k known a)
 atom_small k known (Number n) h s = record { lo = h; hi = h; gap = less_small (Some known.numbers.m) n s.m }
 atom_small k known (Variable y) h s = at_small known.numbers.vars.items y s.vars
 atom_small k known CsdBlocks h s = register_small (csd_tells k known.shapes) known.numbers.m s.m
@@ -87,12 +87,12 @@ changed_small Same v s = s
 changed_small (Plus k) v s = plus_small (nat_le (v.lo + k) (2 ^ 40)) v k (le_true _ _) s
 changed_small (Minus k) v s = minus_small (nat_le k v.hi) v k s
 
-set_sound : (n : ℕ) (ns : Numbers) (x : ℕ) (o : Option VarFacts) → IsSound n ns → IfSome o VarInLimits
-    → IfSome (Rattle.std.specs.Option.option_map (λ v. with_var ns x v) o) (IsSound n)
+set_sound : (n : ℕ) (ns : Numbers) (x : ℕ) (o : Option VarFacts) → NumbersSound n ns → IfSome o VarInLimits
+    → IfSome (Rattle.std.specs.Option.option_map (λ v. with_var ns x v) o) (NumbersSound n)
 set_sound n ns x None s h = tt
 set_sound n ns x (Some v) s h = with_sound n ns x ns.m v s h s.some s.limits.m
 
-pub let_sound : (k : Kind) (known : Known) (l : Let) (n : ℕ) → AtomInLimits l.atom → IsSound n known.numbers → IfSome (after_let k known l) (IsSound n)
+pub let_sound : (k : Kind) (known : Facts) (l : Let) (n : ℕ) → AtomInLimits l.atom → NumbersSound n known.numbers → IfSome (after_let k known l) (NumbersSound n)
 let_sound k known l n a s = set_sound n known.numbers l.target _ s (changed_small l.change _ (atom_small k known l.atom a s.limits))
 
 least_small : (g : Option ℕ) (lo m : ℕ) → m ≤ 2 ^ 40 → least_by g lo m ≤ 2 ^ 40
@@ -103,21 +103,21 @@ least_more : (g : Option ℕ) (lo m : ℕ) → 1 ≤ m → 1 ≤ least_by g lo m
 least_more None lo m h = h
 least_more (Some g) lo m h = omega arith
 
-at_least_sound : (b : Bool) (n : ℕ) (ns : Numbers) (x k : ℕ) → (b ≡ true → k ≤ (var ns x).hi) → IsSound n ns
-    → IfSome (cond b (Some (record (with_var ns x (raised (var ns x) k)) { m = least_by (var ns x).gap (max (var ns x).lo k) ns.m })) None) (IsSound n)
+at_least_sound : (b : Bool) (n : ℕ) (ns : Numbers) (x k : ℕ) → (b ≡ true → k ≤ (var ns x).hi) → NumbersSound n ns
+    → IfSome (cond b (Some (record (with_var ns x (raised (var ns x) k)) { m = least_by (var ns x).gap (max (var ns x).lo k) ns.m })) None) (NumbersSound n)
 at_least_sound true n ns x k h s =
     let v = at_small ns.vars.items x s.limits.vars in
     with_sound n ns x _ (raised (var ns x) k) s (record { lo = (let e = h refl in omega (arith, e, v.lo, v.hi)); hi = v.hi; gap = v.gap })
     (least_more (var ns x).gap (max (var ns x).lo k) ns.m s.some) (least_small (var ns x).gap (max (var ns x).lo k) ns.m s.limits.m)
 at_least_sound false n ns x k h s = tt
 
-below_sound : (b : Bool) (n : ℕ) (ns : Numbers) (x k : ℕ) → IsSound n ns → IfSome (cond b (Some (with_var ns x (lowered (var ns x) k))) None) (IsSound n)
+below_sound : (b : Bool) (n : ℕ) (ns : Numbers) (x k : ℕ) → NumbersSound n ns → IfSome (cond b (Some (with_var ns x (lowered (var ns x) k))) None) (NumbersSound n)
 below_sound true n ns x k s =
     let v = at_small ns.vars.items x s.limits.vars in
     with_sound n ns x ns.m (lowered (var ns x) k) s (record { lo = v.lo; hi = omega (arith, v.hi); gap = v.gap }) s.some s.limits.m
 below_sound false n ns x k s = tt
 
-pub test_sound : (ns : Numbers) (t : Test) (n : ℕ) → IsSound n ns → IfSome (after_test ns t) (IsSound n)
+pub test_sound : (ns : Numbers) (t : Test) (n : ℕ) → NumbersSound n ns → IfSome (after_test ns t) (NumbersSound n)
 test_sound ns (AtLeast x k) n s = at_least_sound (nat_le k (var ns x).hi) n ns x k (le_true _ _) s
 test_sound ns (Below x k) n s = below_sound (nat_lt (var ns x).lo k) n ns x k s
 
@@ -129,5 +129,5 @@ start_many : (n : ℕ) → length (replicate n start_var) ≡ n
 start_many zero = refl
 start_many (suc n) = ap suc (start_many n)
 
-pub start_sound : (n : ℕ) → IsSound n (start_numbers n)
+pub start_sound : (n : ℕ) → NumbersSound n (start_numbers n)
 start_sound n = record { limits = record { m = omega arith; vars = start_small n }; some = omega arith; many = start_many n }

@@ -3,7 +3,7 @@ use Rattle.std.proofs.Common.{◌≡◌, ℕ, ◌≤◌, inl, inr, replicate, sy
 use Rattle.std.proofs.lemmas.Bool.{cases_lt}
 use Rattle.std.proofs.lemmas.List.{get_or-replicate, get_or_past, length-replicate}
 use Rattle.sdv_card.specs.Profile.{host_at_start}
-use Rattle.sdv_facts.specs.Known.{weakest, var}
+use Rattle.sdv_facts.specs.Facts.{weakest, var}
 use Rattle.sdv_facts.specs.FactsHold.{VarHolds}
 use Rattle.sdv_graph.specs.ValueOfLet.{number}
 use Rattle.sdv_facts.specs.Start.{start_var, start_numbers, HoldAtStart}

@@ -41,7 +41,7 @@ use Rattle.sdv_card.proofs.Digits.{digits_law}
 use Rattle.sdv_card.proofs.TableLaws.{legal_is_exact, has_step, steps_are_outcomes, steps_are_expected, steps_keep_pairs, steps_keep_same, steps_keep_sound, steps_keep_on_card, asks_address, starts_hold, verdicts_hold}
 use Rattle.sdv_graph.specs.declared.graph.Target.{Target}
 use Rattle.sdv_graph.specs.declared.tree.Address.{Address}
-use Rattle.sdv_graph.specs.declared.tree.Command.{Command}
+use Rattle.sdv_graph.specs.declared.tree.ScriptCommand.{ScriptCommand}
 use Rattle.sdv_graph.specs.declared.tree.Condition.{Condition}
 use Rattle.sdv_graph.specs.declared.tree.Condition.TheVariants as conditions
 use Rattle.sdv_graph.specs.declared.tree.Let.{Let}
@@ -49,9 +49,9 @@ use Rattle.sdv_graph.specs.declared.tree.Phase.{Phase}
 use Rattle.sdv_graph.specs.declared.tree.Phase.TheVariants as kinds
 use Rattle.sdv_graph.specs.AddressSent.{position_of_command, address_of_command, address_sent, position_of, is_flag_set}
 use Rattle.sdv_graph.specs.Conditions.{condition_holds, with_flag}
-use Rattle.sdv_graph.specs.Graph.{Flow}
+use Rattle.sdv_graph.specs.Graph.{Graph}
 use Rattle.sdv_graph.specs.Nested.{Pass, Same, Again, Over, InBox, Turned, Nested}
-use Rattle.sdv_graph.specs.Path.{Fork, Node, sends, phases, lets, tests, flags, heads, jumps, stops, Place, arrive, way_of, Goes, Does, move_with, move_at_head, node_move, move}
+use Rattle.sdv_graph.specs.Path.{Case, Action, sends, phases, lets, tests, flags, heads, jumps, stops, Point, arrive, way_of, Goes, Does, move_with, move_at_head, action_move, move}
 use Rattle.sdv_graph.specs.Counts.{max_number}
 use Rattle.sdv_graph.specs.ValueOfLet.{value_of_let, with_number, number}
 use Rattle.sdv_graph.specs.Walk.{command_deed, phase_deed, Fell, Broke, Finished, Failed, Open, Ending}
@@ -59,7 +59,7 @@ use Rattle.sdv_facts.specs.declared.certificate.PointFacts.{PointFacts}
 use Rattle.sdv_facts.specs.declared.numbers.Numbers.{Numbers}
 use Rattle.sdv_facts.specs.declared.test.Test.{Test}
 use Rattle.sdv_facts.specs.declared.test.Test.TheVariants.{AtLeast, Below}
-use Rattle.sdv_facts.specs.Known.{var}
+use Rattle.sdv_facts.specs.Facts.{var}
 use Rattle.sdv_facts.specs.AfterLet.{after_let}
 use Rattle.sdv_facts.specs.AfterTest.{after_test, TestHolds}
 use Rattle.sdv_facts.specs.Beside.{commands_in}
@@ -68,14 +68,14 @@ use Rattle.sdv_facts.specs.Closed.{PointsMatch, PointClosed, Closed, AddressKnow
 use Rattle.sdv_facts.specs.Edges.{with_flag_shown, EachOutcome, EachTest, EachCondition, EachEdge, event_of_phase, well_or}
 use Rattle.sdv_facts.specs.FactsHold.{VarHolds, NumbersHold, FactsHold, Carries}
 use Rattle.sdv_facts.specs.Keeps.{MayStandIn, IsHonest}
-use Rattle.sdv_facts.specs.Stands.{GuardsSuit, ForksSuit, NodeSuits, EachNodeSuits, Arrived, HaltsWell, MovesWell, PointsStepWell, StepsWell}
+use Rattle.sdv_facts.specs.Stands.{GuardsSuit, CasesSuit, ActionSuits, EachActionSuits, Arrived, HaltsWell, MovesWell, PointsStepWell, StepsWell}
 use Rattle.sdv_facts.proofs.AddressLaws.{on_card}
 use Rattle.sdv_facts.proofs.EdgeLaws.{Reaches, edges}
 use Rattle.sdv_facts.proofs.FlagLaws.{pair_with_flag, flags_kept}
 use Rattle.sdv_facts.proofs.LetLaws.{let_keeps}
 use Rattle.sdv_facts.proofs.TestLaws.{test_keeps, target_holds}
 use Rattle.sdv_facts.proofs.UnitLaws.{flag_shown}
-use Rattle.sdv_facts.proofs.WayLaws.{AllHold, ForksHold, way_taken}
+use Rattle.sdv_facts.proofs.WayLaws.{AllHold, CasesHold, way_taken}
 
 -- THE LAWS OF A TABLE, and nothing else of it
 pub record Laws (k : Kind) : Type 0 where
@@ -107,10 +107,10 @@ laws_of k = record {
   verdicts_hold = verdicts_hold k;
 }
 
-pub has_place : (places : List Place) (i : ℕ) → i < length places → (p : Place) × (slice_get places i ≡ Some p)
-has_place [] i lt = absurd (omega arith)
-has_place (x ∷ xs) zero lt = (x, refl)
-has_place (x ∷ xs) (suc i) lt = has_place xs i (omega arith)
+pub has_point : (places : List Point) (i : ℕ) → i < length places → (p : Point) × (slice_get places i ≡ Some p)
+has_point [] i lt = absurd (omega arith)
+has_point (x ∷ xs) zero lt = (x, refl)
+has_point (x ∷ xs) (suc i) lt = has_point xs i (omega arith)
 
 -- THE HOST
 
@@ -216,29 +216,29 @@ and_last false = refl
 
 -- ONE MOVE
 
-module _ (g : Flow) (ps : List PointFacts) (laws : Laws g.kind) (points : PointsMatch g ps) where
+module _ (g : Graph) (ps : List PointFacts) (laws : Laws g.kind) (points : PointsMatch g ps) where
   abbrev shape : Card → Host → Shape
   shape c h = record { 0 = pair_code c h }
 
   -- what is so before a move
-  record Here (place : Place) (p : PointFacts) (ts : List ℕ) (c : Card) (h : Host) : Type 0 where
+  record Here (place : Point) (p : PointFacts) (ts : List ℕ) (c : Card) (h : Host) : Type 0 where
     box : InBox ts place.most
     holds : FactsHold p.facts c h
     honest : IsHonest g.kind c h
     on_card : TransferOnCard c
     variables : length p.facts.numbers.vars.items ≡ g.numbers
 
-  many_of : (place : Place) (p : PointFacts) (ts : List ℕ) (c : Card) (h : Host) → Here place p ts c h → length h.numbers ≡ g.numbers
+  many_of : (place : Point) (p : PointFacts) (ts : List ℕ) (c : Card) (h : Host) → Here place p ts c h → length h.numbers ≡ g.numbers
   many_of place p ts c h at = at.holds.numbers.many ∙ at.variables
 
   -- along an edge, with facts that hold of the card and the host after it
-  arrives : (place : Place) (p : PointFacts) (pass : Pass) (t : Target) (s : Shape) (ns : Numbers) → Reaches g.places ps place p pass t s ns →
+  arrives : (place : Point) (p : PointFacts) (pass : Pass) (t : Target) (s : Shape) (ns : Numbers) → Reaches g.points ps place p pass t s ns →
       (ts us : List ℕ) → InBox ts place.most → Turned pass ts us → (u : Card) (h : Host) → s ≡ shape u h → length h.numbers ≡ g.numbers → NumbersHold ns u h
       → IsHonest g.kind u h → TransferOnCard u →
-      Arrived g ps (bound p ts) (commands_of place.node) (arrive t us h) u
+      Arrived g ps (bound p ts) (commands_of place.action) (arrive t us h) u
   arrives place p pass t s ns r ts us box turned u h is many holds honest on_card =
-      let within : t.to < length g.places = subst (λ n. t.to < n) points.count (slice_get_within ps t.to r.facts r.known) in
-      let there = has_place g.places t.to within in
+      let within : t.to < length g.points = subst (λ n. t.to < n) points.count (slice_get_within ps t.to r.facts r.known) in
+      let there = has_point g.points t.to within in
       let matches = points.each t.to there.0 r.facts there.1 r.known in
       record {
         stands = record {
@@ -260,16 +260,16 @@ module _ (g : Flow) (ps : List PointFacts) (laws : Laws g.kind) (points : Points
   -- AN EVENT
 
   -- an event and what follows each step of it
-  abbrev Goes-well : PointFacts → List ℕ → List Fork → Target → ScriptEvent → Card → Host → Type 0
+  abbrev Goes-well : PointFacts → List ℕ → List Case → Target → ScriptEvent → Card → Host → Type 0
   Goes-well p ts ways other e c h =
       IsFine g.kind e c h × ((returned : Return) (u : Card) → Step e c returned u
       → Arrived g ps (bound p ts) (commands_in e) (arrive (way_of g.kind ways other returned) ts (host_after g.kind e returned h)) u)
 
-  does : (place : Place) (p : PointFacts) (ts : List ℕ) (e : ScriptEvent) (ways : List Fork) (other : Target) (c : Card) (h : Host) → Here place p ts c h
-      → commands_of place.node ≡ commands_in e →
+  does : (place : Point) (p : PointFacts) (ts : List ℕ) (e : ScriptEvent) (ways : List Case) (other : Target) (c : Card) (h : Host) → Here place p ts c h
+      → commands_of place.action ≡ commands_in e →
       Makes g.kind e h → legal_code g.kind (pair_code c h) (event_of e) ≡ true → (EventLegal e c → InBounds e c)
-      → ((returned : Return) (u : Card) → Step e c returned u → ForksHold g.kind returned ways) →
-      EachOutcome g.kind (event_of e) ways other p.facts.numbers (shape c h) (Reaches g.places ps place p) → Goes-well p ts ways other e c h
+      → ((returned : Return) (u : Card) → Step e c returned u → CasesHold g.kind returned ways) →
+      EachOutcome g.kind (event_of e) ways other p.facts.numbers (shape c h) (Reaches g.points ps place p) → Goes-well p ts ways other e c h
   does place p ts e ways other c h at cost made legal bounds holds edge =
       let k = g.kind in
       let pair : IsPair k c h = at.honest.pair in
@@ -281,8 +281,8 @@ module _ (g : Flow) (ps : List PointFacts) (laws : Laws g.kind) (points : Points
             let after : IsPair k u h' = laws.steps_keep_pairs e c h returned u pair made step in
             let same : SameCard c u = laws.steps_keep_same e c returned u pair.kind step in
             let o : Outcome = outcome_of (branch (view u h') (seen_of k returned)) in
-            let r : Reaches g.places ps place p Same (way_of k ways other returned) (shape u h') p.facts.numbers =
-            way_taken k returned ways other (λ t. Reaches g.places ps place p Same t (shape u h') p.facts.numbers) (holds returned u step)
+            let r : Reaches g.points ps place p Same (way_of k ways other returned) (shape u h') p.facts.numbers =
+            way_taken k returned ways other (λ t. Reaches g.points ps place p Same t (shape u h') p.facts.numbers) (holds returned u step)
             (edge legal o (laws.steps_are_outcomes e c h returned u pair made fine step)) in
             subst (λ n. Arrived g ps (bound p ts) n (arrive (way_of k ways other returned) ts h') u) cost
             (arrives place p Same (way_of k ways other returned) (shape u h') p.facts.numbers r ts ts at.box refl u h' refl
@@ -298,18 +298,18 @@ module _ (g : Flow) (ps : List PointFacts) (laws : Laws g.kind) (points : Points
 
   -- COMMANDS
 
-  forks_hold : (e : ScriptEvent) (c : Card) (h : Host) (returned : Return) (u : Card) (ask : Ask) (position argument : ℕ) (ways : List Fork)
-      → e ≡ SendCommand ask position argument → IsPair g.kind c h → Step e c returned u → ForksSuit g.kind ask ways → ForksHold g.kind returned ways
-  forks_hold e c h returned u ask position argument [] is pair step suit = tt
-  forks_hold e c h returned u ask position argument (w ∷ ws) is pair step suit =
-      (guards w.guards suit.0, forks_hold e c h returned u ask position argument ws is pair step suit.1)
+  cases_hold : (e : ScriptEvent) (c : Card) (h : Host) (returned : Return) (u : Card) (ask : Ask) (position argument : ℕ) (ways : List Case)
+      → e ≡ SendCommand ask position argument → IsPair g.kind c h → Step e c returned u → CasesSuit g.kind ask ways → CasesHold g.kind returned ways
+  cases_hold e c h returned u ask position argument [] is pair step suit = tt
+  cases_hold e c h returned u ask position argument (w ∷ ws) is pair step suit =
+      (guards w.guards suit.0, cases_hold e c h returned u ask position argument ws is pair step suit.1)
     where
       guards : (gs : List Guard) → GuardsSuit g.kind ask gs → AllHold g.kind returned gs
       guards [] s = tt
       guards (x ∷ xs) s = (laws.verdicts_hold x e c h returned u pair (subst (λ e. FitsEvent g.kind x e) (sym is) s.0) step, guards xs s.1)
 
   -- a legal command has a line in the command table
-  command_in_bounds : (p : PointFacts) (command : Command) (c : Card) (h : Host) (position argument : ℕ) (a : Option Address) → FactsHold p.facts c h
+  command_in_bounds : (p : PointFacts) (command : ScriptCommand) (c : Card) (h : Host) (position argument : ℕ) (a : Option Address) → FactsHold p.facts c h
       → IsPair g.kind c h →
       argument ≡ argument_of g.kind command.ask h.rca (address_of_command h a position) →
       (o : Option ℕ) → addressed_blocks command.ask ≡ o → position_of_command h a ≡ Some position → IfSome o (λ blocks. AddressKnown p.facts a blocks) →
@@ -325,11 +325,11 @@ module _ (g : Flow) (ps : List PointFacts) (laws : Laws g.kind) (points : Points
       let here : position_of h a.position ≡ position = position_at (nat_le (position_of h a.position) max_number) (position_of h a.position) position at in
       subst (λ v. Within c position v n) (sym same) (subst (λ v. Within c v (address_sent h a.unit v) n) here (on_card p.facts a n known g.kind c h pair holds))
 
-  sends_well : (place : Place) (p : PointFacts) (ts : List ℕ) (command : Command) (ways : List Fork) (other : Target) (c : Card) (h : Host)
-      → Here place p ts c h → commands_of place.node ≡ 1 → ForksSuit g.kind command.ask ways →
+  sends_well : (place : Point) (p : PointFacts) (ts : List ℕ) (command : ScriptCommand) (ways : List Case) (other : Target) (c : Card) (h : Host)
+      → Here place p ts c h → commands_of place.action ≡ 1 → CasesSuit g.kind command.ask ways →
       legal_code g.kind (pair_code c h) (Send command.ask) ≡ true
       → IfSome (addressed_blocks command.ask) (λ blocks. AddressKnown p.facts command.address blocks) →
-      EachOutcome g.kind (Send command.ask) ways other p.facts.numbers (shape c h) (Reaches g.places ps place p) →
+      EachOutcome g.kind (Send command.ask) ways other p.facts.numbers (shape c h) (Reaches g.points ps place p) →
       (o : Option ℕ) → position_of_command h command.address ≡ o →
       MovesWell g ps (bound p ts) (move_with o (λ position. Does (command_deed g.kind command h position) h
       (λ returned h'. arrive (way_of g.kind ways other returned) ts h'))) c
@@ -341,7 +341,7 @@ module _ (g : Flow) (ps : List PointFacts) (laws : Laws g.kind) (points : Points
       λ event deed. subst (λ e. Goes-well p ts ways other e c h) (sym deed)
       (does place p ts e ways other c h at cost (record { address = address; same = refl }) legal
       (command_in_bounds p command c h position argument command.address at.holds at.honest.pair refl (addressed_blocks command.ask) refl is known)
-      (λ returned u step. forks_hold e c h returned u command.ask position argument ways refl at.honest.pair step suit) edge)
+      (λ returned u step. cases_hold e c h returned u command.ask position argument ways refl at.honest.pair step suit) edge)
 
   -- PHASES
 
@@ -356,13 +356,13 @@ module _ (g : Flow) (ps : List PointFacts) (laws : Laws g.kind) (points : Points
   )
 
   phase_holds : (well : Target) (e : ScriptEvent) (c : Card) (h : Host) (returned : Return) (u : Card) → FitsEvent g.kind WentWell e → IsPair g.kind c h
-      → Step e c returned u → ForksHold g.kind returned (well_or well)
+      → Step e c returned u → CasesHold g.kind returned (well_or well)
   phase_holds well e c h returned u fits pair step = ((laws.verdicts_hold WentWell e c h returned u pair fits step, tt), tt)
 
-  phases_well : (phase : Phase) (place : Place) (p : PointFacts) (ts : List ℕ) (well other : Target) (c : Card) (h : Host) → Here place p ts c h
-      → commands_of place.node ≡ 0 →
+  phases_well : (phase : Phase) (place : Point) (p : PointFacts) (ts : List ℕ) (well other : Target) (c : Card) (h : Host) → Here place p ts c h
+      → commands_of place.action ≡ 0 →
       legal_code g.kind (pair_code c h) (event_of_phase phase) ≡ true
-      → EachOutcome g.kind (event_of_phase phase) (well_or well) other p.facts.numbers (shape c h) (Reaches g.places ps place p) →
+      → EachOutcome g.kind (event_of_phase phase) (well_or well) other p.facts.numbers (shape c h) (Reaches g.points ps place p) →
       MovesWell g ps (bound p ts) (Does (phase_deed phase h) h (λ returned h'. arrive (if passes g.kind WentWell returned then well else other) ts h')) c
   phases_well kinds.ReceiveBlocks place p ts well other c h at cost legal edge = λ event deed.
       subst (λ e. IsFine g.kind e c h × ((returned : Return) (u : Card) → Step e c returned u
@@ -396,18 +396,18 @@ module _ (g : Flow) (ps : List PointFacts) (laws : Laws g.kind) (points : Points
   -- WITHOUT AN EVENT
 
   -- facts that an edge carries hold at its target
-  carried_on : (place : Place) (p : PointFacts) (ts : List ℕ) (t : Target) (c : Card) (h : Host) → Here place p ts c h → commands_of place.node ≡ 0
+  carried_on : (place : Point) (p : PointFacts) (ts : List ℕ) (t : Target) (c : Card) (h : Host) → Here place p ts c h → commands_of place.action ≡ 0
       → (h' : Host) → shape c h ≡ shape c h' → length h'.numbers ≡ g.numbers → IsHonest g.kind c h' →
-      (o : Option Numbers) → IfSome o (λ after. Reaches g.places ps place p Same t (shape c h) after) → Carries p.facts o c h'
+      (o : Option Numbers) → IfSome o (λ after. Reaches g.points ps place p Same t (shape c h) after) → Carries p.facts o c h'
       → Arrived g ps (bound p ts) 0 (arrive t ts h') c
   carried_on place p ts t c h at cost h' is many honest None edge carries = absurd carries
   carried_on place p ts t c h at cost h' is many honest (Some after) edge carries =
       subst (λ n. Arrived g ps (bound p ts) n (arrive t ts h') c) cost
       (arrives place p Same t (shape c h) after edge ts ts at.box refl c h' is many carries.numbers honest at.on_card)
 
-  lets_well : (place : Place) (p : PointFacts) (ts : List ℕ) (l : Let) (t : Target) (c : Card) (h : Host) → Here place p ts c h → commands_of place.node ≡ 0
+  lets_well : (place : Point) (p : PointFacts) (ts : List ℕ) (l : Let) (t : Target) (c : Card) (h : Host) → Here place p ts c h → commands_of place.action ≡ 0
       → MayStandIn g.kind l.atom →
-      IfSome (after_let g.kind p.facts l) (λ after. Reaches g.places ps place p Same t (shape c h) after) → (o : Option ℕ) → value_of_let g.kind h l ≡ o →
+      IfSome (after_let g.kind p.facts l) (λ after. Reaches g.points ps place p Same t (shape c h) after) → (o : Option ℕ) → value_of_let g.kind h l ≡ o →
       MovesWell g ps (bound p ts) (move_with o (λ n. Goes (arrive t ts (with_number h l.target n)))) c
   lets_well place p ts l t c h at cost stand edge None is = tt
   lets_well place p ts l t c h at cost stand edge (Some n) is =
@@ -419,9 +419,9 @@ module _ (g : Flow) (ps : List PointFacts) (laws : Laws g.kind) (points : Points
       })
       (after_let g.kind p.facts l) edge (let_keeps g.kind p.facts l c h n stand at.honest at.holds is)
 
-  tests_well : (b : Bool) (place : Place) (p : PointFacts) (ts : List ℕ) (holds fails : Test) (met unmet : Target) (c : Card) (h : Host) → Here place p ts c h
-      → commands_of place.node ≡ 0 → (b ≡ true → TestHolds holds h) → (b ≡ false → TestHolds fails h) →
-      EachTest p.facts.numbers holds fails met unmet (shape c h) (Reaches g.places ps place p)
+  tests_well : (b : Bool) (place : Point) (p : PointFacts) (ts : List ℕ) (holds fails : Test) (met unmet : Target) (c : Card) (h : Host) → Here place p ts c h
+      → commands_of place.action ≡ 0 → (b ≡ true → TestHolds holds h) → (b ≡ false → TestHolds fails h) →
+      EachTest p.facts.numbers holds fails met unmet (shape c h) (Reaches g.points ps place p)
       → Arrived g ps (bound p ts) 0 (arrive (if b then met else unmet) ts h) c
   tests_well true place p ts holds fails met unmet c h at cost yes-it no-it edge =
       carried_on place p ts met c h at cost h refl (many_of place p ts c h at) at.honest (after_test p.facts.numbers holds) edge.0
@@ -431,20 +431,20 @@ module _ (g : Flow) (ps : List PointFacts) (laws : Laws g.kind) (points : Points
       (test_keeps p.facts fails c h at.holds (no-it refl))
 
   -- with the same facts, at the target
-  plainly : (place : Place) (p : PointFacts) (ts us : List ℕ) (pass : Pass) (t : Target) (c : Card) (h : Host) → Here place p ts c h
-      → commands_of place.node ≡ 0 → Turned pass ts us → Reaches g.places ps place p pass t (shape c h) p.facts.numbers →
+  plainly : (place : Point) (p : PointFacts) (ts us : List ℕ) (pass : Pass) (t : Target) (c : Card) (h : Host) → Here place p ts c h
+      → commands_of place.action ≡ 0 → Turned pass ts us → Reaches g.points ps place p pass t (shape c h) p.facts.numbers →
       Arrived g ps (bound p ts) 0 (arrive t us h) c
   plainly place p ts us pass t c h at cost turned edge =
       subst (λ n. Arrived g ps (bound p ts) n (arrive t us h) c) cost
       (arrives place p pass t (shape c h) p.facts.numbers edge ts us at.box turned c h refl (many_of place p ts c h at) at.holds.numbers at.honest at.on_card)
 
-  condition_well : (x : Condition) (place : Place) (p : PointFacts) (ts : List ℕ) (met unmet : Target) (c : Card) (h : Host) → Here place p ts c h
-      → commands_of place.node ≡ 0 →
-      EachCondition x met unmet p.facts.numbers (shape c h) (Reaches g.places ps place p)
+  condition_well : (x : Condition) (place : Point) (p : PointFacts) (ts : List ℕ) (met unmet : Target) (c : Card) (h : Host) → Here place p ts c h
+      → commands_of place.action ≡ 0 →
+      EachCondition x met unmet p.facts.numbers (shape c h) (Reaches g.points ps place p)
       → Arrived g ps (bound p ts) 0 (arrive (if condition_holds h x then met else unmet) ts h) c
   condition_well (conditions.Flag flag) place p ts met unmet c h at cost edge =
       plainly place p ts ts Same (if is_flag_set h.flags flag then met else unmet) c h at cost refl
-      (subst (λ b. Reaches g.places ps place p Same (if b then met else unmet) (shape c h) p.facts.numbers) (flag_shown g.kind c h at.honest.pair flag) edge)
+      (subst (λ b. Reaches g.points ps place p Same (if b then met else unmet) (shape c h) p.facts.numbers) (flag_shown g.kind c h at.honest.pair flag) edge)
   condition_well (conditions.AtLeast x n) place p ts met unmet c h at cost edge =
       tests_well (nat_le n (number h x)) place p ts (AtLeast x n) (Below x n) met unmet c h at cost (λ e. leb-true n (number h x) e)
       (λ e. leb-false n (number h x) e) edge
@@ -452,14 +452,14 @@ module _ (g : Flow) (ps : List PointFacts) (laws : Laws g.kind) (points : Points
       tests_well (nat_lt (number h x) n) place p ts (Below x n) (AtLeast x n) met unmet c h at cost (λ e. ltb-true (number h x) n e)
       (λ e. ltb-false (number h x) n e) edge
 
-  head_well : (place : Place) (p : PointFacts) (ts : List ℕ) (body other : Target) (c : Card) (h : Host) → Here place p ts c h → commands_of place.node ≡ 0 →
-      Reaches g.places ps place p Again body (shape c h) p.facts.numbers × Reaches g.places ps place p Over other (shape c h) p.facts.numbers →
+  head_well : (place : Point) (p : PointFacts) (ts : List ℕ) (body other : Target) (c : Card) (h : Host) → Here place p ts c h → commands_of place.action ≡ 0 →
+      Reaches g.points ps place p Again body (shape c h) p.facts.numbers × Reaches g.points ps place p Over other (shape c h) p.facts.numbers →
       MovesWell g ps (bound p ts) (move_at_head ts body other h) c
   head_well place p [] body other c h at cost edge = tt
   head_well place p (zero ∷ ts) body other c h at cost edge = plainly place p (zero ∷ ts) (zero ∷ ts) Over other c h at cost refl edge.1
   head_well place p (suc t ∷ ts) body other c h at cost edge = plainly place p (suc t ∷ ts) (t ∷ ts) Again body c h at cost refl edge.0
 
-  halts_well : (last : Ending) (place : Place) (p : PointFacts) (c : Card) (h : Host) → place.node ≡ stops last → PointClosed g.kind ps place p
+  halts_well : (last : Ending) (place : Point) (p : PointFacts) (c : Card) (h : Host) → place.action ≡ stops last → PointClosed g.kind ps place p
       → FactsHold p.facts c h → IsPair g.kind c h → HaltsWell last c
   halts_well Finished place p c h is closed holds pair =
       in_tran g.kind c h pair (subst (λ n. EndsAt n (shape c h)) is (closed.end_state (shape c h) holds.shape))
@@ -468,21 +468,21 @@ module _ (g : Flow) (ps : List PointFacts) (laws : Laws g.kind) (points : Points
   halts_well (Failed name) place p c h is closed holds pair = tt
   halts_well Open place p c h is closed holds pair = tt
 
-  node_well : (node : Node) (most : List ℕ) (p : PointFacts) (ts : List ℕ) (c : Card) (h : Host) → PointClosed g.kind ps (record { node = node; most = most }) p
-      → NodeSuits g.kind node → Here (record { node = node; most = most }) p ts c h →
-      EachEdge g.kind p.facts node (shape c h) (Reaches g.places ps (record { node = node; most = most }) p)
-      → MovesWell g ps (bound p ts) (node_move g.kind node ts h) c
-  node_well (sends command ways other) most p ts c h closed suit at edge =
-      sends_well (record { node = sends command ways other; most = most }) p ts command ways other c h at refl suit (closed.legal (shape c h) at.holds.shape)
+  action_well : (action : Action) (most : List ℕ) (p : PointFacts) (ts : List ℕ) (c : Card) (h : Host) → PointClosed g.kind ps (record { action = action; most = most }) p
+      → ActionSuits g.kind action → Here (record { action = action; most = most }) p ts c h →
+      EachEdge g.kind p.facts action (shape c h) (Reaches g.points ps (record { action = action; most = most }) p)
+      → MovesWell g ps (bound p ts) (action_move g.kind action ts h) c
+  action_well (sends command ways other) most p ts c h closed suit at edge =
+      sends_well (record { action = sends command ways other; most = most }) p ts command ways other c h at refl suit (closed.legal (shape c h) at.holds.shape)
       (closed.address (shape c h) at.holds.shape) edge (position_of_command h command.address) refl
-  node_well (phases phase well other) most p ts c h closed suit at edge =
-      phases_well phase (record { node = phases phase well other; most = most }) p ts well other c h at refl (closed.legal (shape c h) at.holds.shape) edge
-  node_well (lets l t) most p ts c h closed suit at edge =
-      lets_well (record { node = lets l t; most = most }) p ts l t c h at refl suit edge (value_of_let g.kind h l) refl
-  node_well (tests x met unmet) most p ts c h closed suit at edge =
-      condition_well x (record { node = tests x met unmet; most = most }) p ts met unmet c h at refl edge
-  node_well (flags flag on t) most p ts c h closed suit at edge =
-      let place : Place = record { node = flags flag on t; most = most } in
+  action_well (phases phase well other) most p ts c h closed suit at edge =
+      phases_well phase (record { action = phases phase well other; most = most }) p ts well other c h at refl (closed.legal (shape c h) at.holds.shape) edge
+  action_well (lets l t) most p ts c h closed suit at edge =
+      lets_well (record { action = lets l t; most = most }) p ts l t c h at refl suit edge (value_of_let g.kind h l) refl
+  action_well (tests x met unmet) most p ts c h closed suit at edge =
+      condition_well x (record { action = tests x met unmet; most = most }) p ts met unmet c h at refl edge
+  action_well (flags flag on t) most p ts c h closed suit at edge =
+      let place : Point = record { action = flags flag on t; most = most } in
       let h' : Host = with_flag h flag on in
       let same = pair_with_flag g.kind c h flag on at.honest.pair suit in
       arrives place p Same t (with_flag_shown (shape c h) flag on) p.facts.numbers edge ts ts at.box refl c h' same (many_of place p ts c h at)
@@ -499,22 +499,22 @@ module _ (g : Flow) (ps : List PointFacts) (laws : Laws g.kind) (points : Points
         sound = record { csd = at.honest.sound.csd; ext_csd = at.honest.sound.ext_csd; blocks = at.honest.sound.blocks; register = at.honest.sound.register };
       })
       at.on_card
-  node_well (heads n body other) most p ts c h closed suit at edge =
-      head_well (record { node = heads n body other; most = most }) p ts body other c h at refl edge
-  node_well (jumps t) most p ts c h closed suit at edge = plainly (record { node = jumps t; most = most }) p ts ts Same t c h at refl refl edge
-  node_well (stops last) most p ts c h closed suit at edge =
-      halts_well last (record { node = stops last; most = most }) p c h refl closed at.holds at.honest.pair
+  action_well (heads n body other) most p ts c h closed suit at edge =
+      head_well (record { action = heads n body other; most = most }) p ts body other c h at refl edge
+  action_well (jumps t) most p ts c h closed suit at edge = plainly (record { action = jumps t; most = most }) p ts ts Same t c h at refl refl edge
+  action_well (stops last) most p ts c h closed suit at edge =
+      halts_well last (record { action = stops last; most = most }) p c h refl closed at.holds at.honest.pair
 
 -- THE STEP: each move from where the facts of a point hold is as it should be, if the point's clauses hold
-pub points_step_well : (g : Flow) (ps : List PointFacts) → Laws g.kind → Nested g → EachNodeSuits g → PointsMatch g ps → PointsStepWell g ps
+pub points_step_well : (g : Graph) (ps : List PointFacts) → Laws g.kind → Nested g → EachActionSuits g → PointsMatch g ps → PointsStepWell g ps
 points_step_well g ps laws nested suits points s c at pc =
     let variables = (points.each s.point at.place at.facts at.here at.known).variables in
     subst (λ o. MovesWell g ps (bound at.facts s.turns) (move g.kind o s.turns s.host) c) (sym at.here)
-    (node_well g ps laws points at.place.node at.place.most at.facts s.turns c s.host pc (suits s.point at.place at.here)
+    (action_well g ps laws points at.place.action at.place.most at.facts s.turns c s.host pc (suits s.point at.place at.here)
     (record { box = at.box; holds = at.holds; honest = at.honest; on_card = at.on_card; variables = variables })
-    (edges g.kind g.places ps at.place at.facts (record { 0 = pair_code c s.host }) pc (nested.lands s.point at.place at.here) at.holds.shape))
+    (edges g.kind g.points ps at.place at.facts (record { 0 = pair_code c s.host }) pc (nested.lands s.point at.place at.here) at.holds.shape))
 
 -- so they do where the certificate is closed
-pub steps_well : (g : Flow) (ps : List PointFacts) → Laws g.kind → Nested g → EachNodeSuits g → Closed g ps → StepsWell g ps
+pub steps_well : (g : Graph) (ps : List PointFacts) → Laws g.kind → Nested g → EachActionSuits g → Closed g ps → StepsWell g ps
 steps_well g ps laws nested suits closed s c at =
     points_step_well g ps laws nested suits closed.points s c at (closed.each s.point at.place at.facts at.here at.known)

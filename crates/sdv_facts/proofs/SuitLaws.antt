@@ -12,14 +12,14 @@ use Rattle.sdv_card.specs.Laws.{fits_order}
 use Rattle.sdv_graph.specs.declared.tree.Atom.{Atom}
 use Rattle.sdv_graph.specs.declared.tree.Atom.TheVariants as atoms
 use Rattle.sdv_graph.specs.GuardSuits as commands
-use Rattle.sdv_graph.specs.Graph.{Flow}
+use Rattle.sdv_graph.specs.Graph.{Graph}
 use Rattle.sdv_graph.specs.GraphOf.{IsSound}
-use Rattle.sdv_graph.specs.Limits.{node_keeps_limits, keeps_limits, all_keep_limits}
-use Rattle.sdv_graph.specs.Path.{Fork, Node, Place, sends, phases, lets, tests, flags, heads, jumps, stops}
+use Rattle.sdv_graph.specs.Limits.{action_keeps_limits, keeps_limits, all_keep_limits}
+use Rattle.sdv_graph.specs.Path.{Case, Action, Point, sends, phases, lets, tests, flags, heads, jumps, stops}
 use Rattle.sdv_graph.specs.Counts.{max_flags}
-use Rattle.sdv_graph.specs.Suits.{guards_suit, forks_suit, atom_suits, node_suits, all_suit}
+use Rattle.sdv_graph.specs.Suits.{guards_suit, cases_suit, atom_suits, action_suits, all_suit}
 use Rattle.sdv_facts.specs.Keeps.{MayStandIn}
-use Rattle.sdv_facts.specs.Stands.{GuardsSuit, ForksSuit, NodeSuits, EachNodeSuits}
+use Rattle.sdv_facts.specs.Stands.{GuardsSuit, CasesSuit, ActionSuits, EachActionSuits}
 use Rattle.sdv_facts.proofs.UnitLaws.{both}
 
 same_test : (g : Guard) (o : Option Order) → commands.fits_order g o ≡ true → fits_order g o ≡ true
@@ -32,11 +32,11 @@ guards_at k ask (g ∷ gs) e =
     let p = both (commands.fits_order g (order_of k ask)) (guards_suit (order_of k ask) gs) e in
     (same_test g (order_of k ask) p.0, guards_at k ask gs p.1)
 
-forks_at : (k : Kind) (ask : Ask) (ws : List Fork) → forks_suit (order_of k ask) ws ≡ true → ForksSuit k ask ws
-forks_at k ask [] e = tt
-forks_at k ask (w ∷ ws) e =
-    let p = both (guards_suit (order_of k ask) w.guards) (forks_suit (order_of k ask) ws) e in
-    (guards_at k ask w.guards p.0, forks_at k ask ws p.1)
+cases_at : (k : Kind) (ask : Ask) (ws : List Case) → cases_suit (order_of k ask) ws ≡ true → CasesSuit k ask ws
+cases_at k ask [] e = tt
+cases_at k ask (w ∷ ws) e =
+    let p = both (guards_suit (order_of k ask) w.guards) (cases_suit (order_of k ask) ws) e in
+    (guards_at k ask w.guards p.0, cases_at k ask ws p.1)
 
 atom_at : (k : Kind) (a : Atom) → atom_suits k a ≡ true → MayStandIn k a
 atom_at Sd (atoms.Number n) e = tt
@@ -45,25 +45,25 @@ atom_at Sd atoms.CsdBlocks e = tt
 atom_at Sd atoms.ExtBlocks e = absurd (cc)
 atom_at Emmc a e = tt
 
-node_at : (k : Kind) (node : Node) → node_suits k node ≡ true → node_keeps_limits node ≡ true → NodeSuits k node
-node_at k (sends c ways other) e l = forks_at k c.ask ways e
-node_at k (phases p well other) e l = tt
-node_at k (lets x t) e l = atom_at k x.atom e
-node_at k (tests c met unmet) e l = tt
-node_at k (flags flag on t) e l = ltb-true flag max_flags l
-node_at k (heads n body other) e l = tt
-node_at k (jumps t) e l = tt
-node_at k (stops last) e l = tt
+action_at : (k : Kind) (action : Action) → action_suits k action ≡ true → action_keeps_limits action ≡ true → ActionSuits k action
+action_at k (sends c ways other) e l = cases_at k c.ask ways e
+action_at k (phases p well other) e l = tt
+action_at k (lets x t) e l = atom_at k x.atom e
+action_at k (tests c met unmet) e l = tt
+action_at k (flags flag on t) e l = ltb-true flag max_flags l
+action_at k (heads n body other) e l = tt
+action_at k (jumps t) e l = tt
+action_at k (stops last) e l = tt
 
-nodes_at : (k : Kind) (ps : List Place) → all_suit k ps ≡ true → all_keep_limits ps ≡ true → (i : ℕ) (p : Place) → slice_get ps i ≡ Some p → NodeSuits k p.node
-nodes_at k [] e l i p is = absurd (cc)
-nodes_at k (q ∷ ps) e l zero p is =
+actions_at : (k : Kind) (ps : List Point) → all_suit k ps ≡ true → all_keep_limits ps ≡ true → (i : ℕ) (p : Point) → slice_get ps i ≡ Some p → ActionSuits k p.action
+actions_at k [] e l i p is = absurd (cc)
+actions_at k (q ∷ ps) e l zero p is =
     let same : q ≡ p = cc in
-    let a = both (node_suits k q.node) (all_suit k ps) e in
+    let a = both (action_suits k q.action) (all_suit k ps) e in
     let b = both (keeps_limits q) (all_keep_limits ps) l in
-    subst (λ p. NodeSuits k p.node) same (node_at k q.node a.0 (both (node_keeps_limits q.node) _ b.0).0)
-nodes_at k (q ∷ ps) e l (suc i) p is =
-    nodes_at k ps (both (node_suits k q.node) (all_suit k ps) e).1 (both (keeps_limits q) (all_keep_limits ps) l).1 i p is
+    subst (λ p. ActionSuits k p.action) same (action_at k q.action a.0 (both (action_keeps_limits q.action) _ b.0).0)
+actions_at k (q ∷ ps) e l (suc i) p is =
+    actions_at k ps (both (action_suits k q.action) (all_suit k ps) e).1 (both (keeps_limits q) (all_keep_limits ps) l).1 i p is
 
-pub each_node_suits : (g : Flow) → IsSound g → EachNodeSuits g
-each_node_suits g sound i p is = nodes_at g.kind g.places sound.suits sound.limits i p is
+pub each_action_suits : (g : Graph) → IsSound g → EachActionSuits g
+each_action_suits g sound i p is = actions_at g.kind g.points sound.suits sound.limits i p is

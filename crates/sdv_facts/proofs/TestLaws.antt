@@ -8,7 +8,7 @@ use Rattle.sdv_facts.specs.declared.numbers.VarFacts.{VarFacts}
 use Rattle.sdv_facts.specs.declared.numbers.Numbers.{Numbers}
 use Rattle.sdv_facts.specs.declared.test.Test.{Test}
 use Rattle.sdv_facts.specs.declared.test.Test.TheVariants.{AtLeast, Below}
-use Rattle.sdv_facts.specs.Known.{Known, weakest, var, with_var}
+use Rattle.sdv_facts.specs.Facts.{Facts, weakest, var, with_var}
 use Rattle.sdv_facts.specs.FactsHold.{GapHolds, VarHolds, NumbersHold, FactsHold, Carries}
 use Rattle.sdv_graph.specs.ValueOfLet.{number}
 use Rattle.sdv_facts.specs.AfterTest.{least_by, raised, lowered, after_test}
@@ -21,7 +21,7 @@ least_holds : (g : Option ℕ) (lo m x capacity : ℕ) → lo ≤ x → m ≤ ca
 least_holds None lo m x capacity low least r = least
 least_holds (Some g) lo m x capacity low least r = omega arith
 
-at_least_keeps : (b : Bool) (known : Known) (c : Card) (h : Host) (x k : ℕ) → nat_le k (var known.numbers x).hi ≡ b → FactsHold known c h → k ≤ number h x →
+at_least_keeps : (b : Bool) (known : Facts) (c : Card) (h : Host) (x k : ℕ) → nat_le k (var known.numbers x).hi ≡ b → FactsHold known c h → k ≤ number h x →
     Carries known (if b then Some (record (with_var known.numbers x (raised (var known.numbers x) k)) {
       m = least_by (var known.numbers x).gap
           (max (var known.numbers x).lo k) known.numbers.m;
@@ -41,7 +41,7 @@ at_least_keeps true known c h x k t holds le =
           (record { low = low; high = old.high; gap = old.gap });
     }
 
-below_keeps : (b : Bool) (known : Known) (c : Card) (h : Host) (x k : ℕ) → nat_lt (var known.numbers x).lo k ≡ b → FactsHold known c h → number h x < k →
+below_keeps : (b : Bool) (known : Facts) (c : Card) (h : Host) (x k : ℕ) → nat_lt (var known.numbers x).lo k ≡ b → FactsHold known c h → number h x < k →
     Carries known (if b then Some (with_var known.numbers x (lowered (var known.numbers x) k)) else None) c h
 below_keeps false known c h x k t holds lt =
     let le : k ≤ (var known.numbers x).lo = ltb-false (var known.numbers x).lo k t in
@@ -55,7 +55,7 @@ below_keeps true known c h x k t holds lt =
           (record { low = old.low; high = (let l = old.high in omega arith); gap = old.gap });
     }
 
-pub test_keeps : (known : Known) (test : Test) → KeptByTest known test (after_test known.numbers test)
+pub test_keeps : (known : Facts) (test : Test) → KeptByTest known test (after_test known.numbers test)
 test_keeps known (AtLeast x k) c h holds held = at_least_keeps (nat_le k (var known.numbers x).hi) known c h x k refl holds held
 test_keeps known (Below x k) c h holds held = below_keeps (nat_lt (var known.numbers x).lo k) known c h x k refl holds held
 

@@ -7,7 +7,7 @@ use Rattle.sdv_card.specs.Card.{Card}
 use Rattle.sdv_card.specs.Host.{Host}
 use Rattle.sdv_facts.specs.declared.numbers.VarFacts.{VarFacts}
 use Rattle.sdv_facts.specs.declared.numbers.Numbers.{Numbers}
-use Rattle.sdv_facts.specs.Known.{weakest, with_var}
+use Rattle.sdv_facts.specs.Facts.{weakest, with_var}
 use Rattle.sdv_graph.specs.ValueOfLet.{number, with_number}
 use Rattle.sdv_facts.specs.FactsHold.{VarHolds, NumbersHold}
 

@@ -8,7 +8,7 @@ use Rattle.sdv_card.specs.Laws.{VerdictHolds}
 use Rattle.sdv_card.specs.ScriptEvent.{Return}
 use Rattle.sdv_card.specs.Seen.{seen_of}
 use Rattle.sdv_graph.specs.declared.graph.Target.{Target}
-use Rattle.sdv_graph.specs.Path.{Fork, way_of}
+use Rattle.sdv_graph.specs.Path.{Case, way_of}
 use Rattle.sdv_graph.specs.Walk.{all_pass}
 use Rattle.sdv_facts.specs.Edges.{all_may_hold, one_may_fail, EachWay}
 
@@ -42,9 +42,9 @@ module _ (k : Kind) (returned : Return) where
   AllHold [] = Unit {0}
   AllHold (g ∷ gs) = VerdictHolds k g returned × AllHold gs
 
-  abbrev pub ForksHold : List Fork → Type 0
-  ForksHold [] = Unit {0}
-  ForksHold (w ∷ ws) = AllHold w.guards × ForksHold ws
+  abbrev pub CasesHold : List Case → Type 0
+  CasesHold [] = Unit {0}
+  CasesHold (w ∷ ws) = AllHold w.guards × CasesHold ws
 
   all_held : (gs : List Guard) → AllHold gs → all_pass k gs returned ≡ true → all_may_hold gs (seen_of k returned) ≡ true
   all_held [] f e = refl
@@ -60,7 +60,7 @@ module _ (k : Kind) (returned : Return) where
         | inr x ↦ or_second (may_fail (verdict g (seen_of k returned))) (one_may_fail gs (seen_of k returned)) (one_failed gs f.1 x)
       ]
 
-  pub way_taken : (ways : List Fork) (other : Target) (P : Target → Type 0) → ForksHold ways → EachWay ways other (seen_of k returned) P
+  pub way_taken : (ways : List Case) (other : Target) (P : Target → Type 0) → CasesHold ways → EachWay ways other (seen_of k returned) P
       → P (way_of k ways other returned)
   way_taken [] other P f p = p
   way_taken (w ∷ ws) other P f p =

@@ -11,7 +11,7 @@ use Rattle.sdv_graph.specs.declared.tree.Unit.TheVariants.{Block, Byte, By}
 use Rattle.sdv_graph.specs.declared.tree.Position.{Position}
 use Rattle.sdv_graph.specs.declared.tree.Position.TheVariants.{Number, Variable}
 use Rattle.sdv_facts.specs.declared.numbers.Numbers.{Numbers}
-use Rattle.sdv_facts.specs.Known.{Known, var}
+use Rattle.sdv_facts.specs.Facts.{Facts, var}
 use Rattle.sdv_facts.specs.AfterLet.{has_block_unit, all_block_unit, all_byte_unit}
 use Rattle.sdv_graph.specs.AddressSent.{is_flag_set}
 
@@ -41,5 +41,5 @@ position_fits ns (Variable x None) n = variable_fits ns x 0 n
 position_fits ns (Variable x (Some k)) n = variable_fits ns x k n
 
 -- both
-abbrev pub address_fits : Known → Address → ℕ → Bool
+abbrev pub address_fits : Facts → Address → ℕ → Bool
 address_fits known a n = unit_fits known.shapes a.unit && position_fits known.numbers a.position n

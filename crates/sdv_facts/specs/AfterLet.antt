@@ -15,7 +15,7 @@ use Rattle.sdv_graph.specs.declared.tree.Change.TheVariants.{Same, Plus, Minus}
 use Rattle.sdv_graph.specs.Counts.{max_number}
 use Rattle.sdv_facts.specs.declared.numbers.VarFacts.{VarFacts}
 use Rattle.sdv_facts.specs.declared.numbers.Numbers.{Numbers}
-use Rattle.sdv_facts.specs.Known.{Known, var, with_var}
+use Rattle.sdv_facts.specs.Facts.{Facts, var, with_var}
 use Rattle.sdv_facts.specs.Gaps.{gap_less, gap_more}
 
 -- the shape has block addresses
@@ -43,7 +43,7 @@ register_facts true m = record { lo = m; hi = 2 ^ 32; gap = Some 0 }
 register_facts false m = record { lo = 0; hi = 2 ^ 32; gap = None }
 
 -- the value before it is changed
-abbrev pub atom_facts : Kind → Known → Atom → VarFacts
+abbrev pub atom_facts : Kind → Facts → Atom → VarFacts
 atom_facts k known (Number n) = record { lo = n; hi = n; gap = gap_less (Some known.numbers.m) n }
 atom_facts k known (Variable y) = var known.numbers y
 atom_facts k known CsdBlocks = register_facts (csd_tells k known.shapes) known.numbers.m
@@ -62,6 +62,6 @@ changed_facts (Minus k) v =
     else None
 
 -- the numbers that are carried; none where there is no edge
-abbrev pub after_let : Kind → Known → Let → Option Numbers
+abbrev pub after_let : Kind → Facts → Let → Option Numbers
 after_let k known l = option_map (λ v. with_var known.numbers l.target v)
     (changed_facts l.change (atom_facts k known l.atom))

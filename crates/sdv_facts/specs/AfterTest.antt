@@ -7,7 +7,7 @@ use Rattle.sdv_facts.specs.declared.numbers.VarFacts.{VarFacts}
 use Rattle.sdv_facts.specs.declared.numbers.Numbers.{Numbers}
 use Rattle.sdv_facts.specs.declared.test.Test.{Test}
 use Rattle.sdv_facts.specs.declared.test.Test.TheVariants.{AtLeast, Below}
-use Rattle.sdv_facts.specs.Known.{var, with_var}
+use Rattle.sdv_facts.specs.Facts.{var, with_var}
 use Rattle.sdv_graph.specs.ValueOfLet.{number}
 
 -- the comparison holds of a host

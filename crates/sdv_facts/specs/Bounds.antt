@@ -2,9 +2,9 @@
 -- Bounds are this project's own.
 use Rattle.std.specs.Prelude.{◌+◌, ◌*◌, ◌≤◌, ℕ, List, [], ◌∷◌, reverse, slice_get, Option, Some, None}
 use Rattle.sdv_graph.specs.declared.graph.Target.{Target}
-use Rattle.sdv_graph.specs.Graph.{Flow}
+use Rattle.sdv_graph.specs.Graph.{Graph}
 use Rattle.sdv_graph.specs.Nested.{Pass, InBox, Turned}
-use Rattle.sdv_graph.specs.Path.{Node, sends, turns_at}
+use Rattle.sdv_graph.specs.Path.{Action, sends, turns_at}
 use Rattle.sdv_facts.specs.declared.certificate.PointFacts.{PointFacts}
 
 -- so many for each turn left, the innermost loop first
@@ -18,9 +18,9 @@ abbrev pub bound : PointFacts → List ℕ → ℕ
 bound p ts = p.base + turns_cost (reverse p.turns.items) ts
 
 -- the commands that a statement sends
-abbrev pub commands_of : Node → ℕ
+abbrev pub commands_of : Action → ℕ
 commands_of (sends c ways other) = 1
-commands_of node = 0
+commands_of action = 0
 
 -- along an edge the bound falls by the commands sent, for all turns that can be left
 abbrev pub BoundFalls : (source target : PointFacts) → (most : List ℕ) → (sent : ℕ) → Pass → Target → Type 0
@@ -32,5 +32,5 @@ bound_at None ts = 0
 bound_at (Some p) ts = bound p ts
 
 -- the bound of a certificate: that at point 0, with all turns of a loop that begins there
-abbrev pub bound_of : Flow → List PointFacts → ℕ
+abbrev pub bound_of : Graph → List PointFacts → ℕ
 bound_of g ps = bound_at (slice_get ps 0) (turns_at g.first [])

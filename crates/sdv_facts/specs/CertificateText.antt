@@ -10,7 +10,7 @@ use Rattle.hex.specs.Hex.{encode_lower}
 use Rattle.sdv_card.specs.declared.shape.Shape.{Shape}
 use Rattle.sdv_facts.specs.declared.numbers.VarFacts.{VarFacts}
 use Rattle.sdv_facts.specs.declared.certificate.PointFacts.{PointFacts}
-use Rattle.sdv_facts.specs.Known.{AreRising}
+use Rattle.sdv_facts.specs.Facts.{AreRising}
 use Rattle.sdv_facts.specs.Limits.{PointInLimits}
 
 -- ITEMS

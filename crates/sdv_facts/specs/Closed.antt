@@ -10,13 +10,13 @@ use Rattle.sdv_card.specs.LegalShapes.{legal_code}
 use Rattle.sdv_card.specs.Lists.{May}
 use Rattle.sdv_card.specs.Shapes.{start_codes}
 use Rattle.sdv_graph.specs.declared.tree.Address.{Address}
-use Rattle.sdv_graph.specs.Graph.{Flow}
-use Rattle.sdv_graph.specs.Path.{Node, Place, sends, phases, stops}
+use Rattle.sdv_graph.specs.Graph.{Graph}
+use Rattle.sdv_graph.specs.Path.{Action, Point, sends, phases, stops}
 use Rattle.sdv_graph.specs.Walk.{Finished}
 use Rattle.sdv_facts.specs.declared.certificate.PointFacts.{PointFacts}
 use Rattle.sdv_facts.specs.declared.clause.Clause.{Clause}
 use Rattle.sdv_facts.specs.declared.clause.Clause.TheVariants.{Illegal, Address as AddressOff, Shape as ShapeMissing, Number, Bound, EndState}
-use Rattle.sdv_facts.specs.Known.{Known}
+use Rattle.sdv_facts.specs.Facts.{Facts}
 use Rattle.sdv_facts.specs.AddressFits.{address_fits}
 use Rattle.sdv_facts.specs.Covers.{Covers}
 use Rattle.sdv_facts.specs.Start.{start_numbers}
@@ -26,19 +26,19 @@ use Rattle.sdv_facts.specs.Bounds.{BoundFalls, commands_of}
 -- THE CLAUSES OF A POINT, at a shape
 
 -- Illegal: the event is not legal there
-abbrev pub LegalAt : Kind → Node → Shape → Type 0
+abbrev pub LegalAt : Kind → Action → Shape → Type 0
 LegalAt k (sends c ways other) s = IsTrue (legal_code k s.0 (Send c.ask))
 LegalAt k (phases p well other) s = IsTrue (legal_code k s.0 (event_of_phase p))
-LegalAt k node s = Unit {0}
+LegalAt k action s = Unit {0}
 
 -- Address: a command's blocks are not known to lie on the card, or are addressed in another unit than the card's
-abbrev pub AddressKnown : Known → Option Address → ℕ → Type 0
+abbrev pub AddressKnown : Facts → Option Address → ℕ → Type 0
 AddressKnown known None blocks = ⊥
 AddressKnown known (Some a) blocks = IsTrue (address_fits known a blocks)
 
-abbrev pub AddressAt : Known → Node → Type 0
+abbrev pub AddressAt : Facts → Action → Type 0
 AddressAt known (sends c ways other) = IfSome (addressed_blocks c.ask) (λ blocks. AddressKnown known c.address blocks)
-AddressAt known node = Unit {0}
+AddressAt known action = Unit {0}
 
 -- Shape: the target of an edge has not the shape after it
 abbrev pub ShapeRule : List PointFacts → Rule
@@ -49,29 +49,29 @@ abbrev pub NumberRule : List PointFacts → Rule
 NumberRule ps pass t s ns = IfSome (slice_get ps t.to) (λ q. Covers q.facts.numbers ns)
 
 -- Bound: the bound does not fall along an edge as it should
-abbrev pub BoundRule : List PointFacts → Place → PointFacts → Rule
+abbrev pub BoundRule : List PointFacts → Point → PointFacts → Rule
 BoundRule ps place p pass t s ns = IfSome (slice_get ps t.to)
-    (λ q. BoundFalls p q place.most (commands_of place.node) pass t)
+    (λ q. BoundFalls p q place.most (commands_of place.action) pass t)
 
 -- EndState: the card is not in the transfer state, which has the number 4, at a `done`
-abbrev pub EndsAt : Node → Shape → Type 0
+abbrev pub EndsAt : Action → Shape → Type 0
 EndsAt (stops Finished) s = s.0 % 16 ≡ 4
-EndsAt node s = Unit {0}
+EndsAt action s = Unit {0}
 
-abbrev pub HoldsAt : Clause → Kind → List PointFacts → Place → PointFacts → Shape → Type 0
-HoldsAt Illegal k ps place p s = LegalAt k place.node s
-HoldsAt AddressOff k ps place p s = AddressAt p.facts place.node
-HoldsAt ShapeMissing k ps place p s = EachEdge k p.facts place.node s (ShapeRule ps)
-HoldsAt Number k ps place p s = EachEdge k p.facts place.node s (NumberRule ps)
-HoldsAt Bound k ps place p s = EachEdge k p.facts place.node s (BoundRule ps place p)
-HoldsAt EndState k ps place p s = EndsAt place.node s
+abbrev pub HoldsAt : Clause → Kind → List PointFacts → Point → PointFacts → Shape → Type 0
+HoldsAt Illegal k ps place p s = LegalAt k place.action s
+HoldsAt AddressOff k ps place p s = AddressAt p.facts place.action
+HoldsAt ShapeMissing k ps place p s = EachEdge k p.facts place.action s (ShapeRule ps)
+HoldsAt Number k ps place p s = EachEdge k p.facts place.action s (NumberRule ps)
+HoldsAt Bound k ps place p s = EachEdge k p.facts place.action s (BoundRule ps place p)
+HoldsAt EndState k ps place p s = EndsAt place.action s
 
 -- a clause of a point holds: at each of its shapes
-abbrev pub ClauseHolds : Clause → Kind → List PointFacts → Place → PointFacts → Type 0
+abbrev pub ClauseHolds : Clause → Kind → List PointFacts → Point → PointFacts → Type 0
 ClauseHolds clause k ps place p = (s : Shape) → May p.facts.shapes s → HoldsAt clause k ps place p s
 
 -- all clauses of a point hold
-pub record PointClosed (k : Kind) (ps : List PointFacts) (place : Place) (p : PointFacts) : Type 0 where
+pub record PointClosed (k : Kind) (ps : List PointFacts) (place : Point) (p : PointFacts) : Type 0 where
   pub legal : ClauseHolds Illegal k ps place p
   pub address : ClauseHolds AddressOff k ps place p
   pub shape : ClauseHolds ShapeMissing k ps place p
@@ -82,34 +82,34 @@ pub record PointClosed (k : Kind) (ps : List PointFacts) (place : Place) (p : Po
 -- A CERTIFICATE
 
 -- one coefficient for each loop round the point, and facts of each number variable
-pub record PointMatches (g : Flow) (place : Place) (p : PointFacts) : Type 0 where
+pub record PointMatches (g : Graph) (place : Point) (p : PointFacts) : Type 0 where
   pub loops : length p.turns.items ≡ length place.most
   pub variables : length p.facts.numbers.vars.items ≡ g.numbers
 
 -- Points: the certificate is not of the graph's points
-pub record PointsMatch (g : Flow) (ps : List PointFacts) : Type 0 where
-  pub count : length ps ≡ length g.places
-  pub each : (i : ℕ) (place : Place) (p : PointFacts) → slice_get g.places i ≡ Some place → slice_get ps i ≡ Some p
+pub record PointsMatch (g : Graph) (ps : List PointFacts) : Type 0 where
+  pub count : length ps ≡ length g.points
+  pub each : (i : ℕ) (place : Point) (p : PointFacts) → slice_get g.points i ≡ Some place → slice_get ps i ≡ Some p
       → PointMatches g place p
 
 -- point 0 has the shapes of a card before the first command, and says no more of numbers than is known then
-pub record StartsAt (g : Flow) (p : PointFacts) : Type 0 where
+pub record StartsAt (g : Graph) (p : PointFacts) : Type 0 where
   pub shapes : (code : ℕ) → May start_codes code → May p.facts.shapes (record { 0 = code })
   pub numbers : Covers p.facts.numbers (start_numbers g.numbers)
 
 -- Start: point 0 says more than holds there
-abbrev pub StartCovers : Flow → List PointFacts → Type 0
+abbrev pub StartCovers : Graph → List PointFacts → Type 0
 StartCovers g ps = MatchOption (slice_get ps 0) ⊥ (λ p. StartsAt g p)
 
-pub record Closed (g : Flow) (ps : List PointFacts) : Type 0 where
+pub record Closed (g : Graph) (ps : List PointFacts) : Type 0 where
   pub points : PointsMatch g ps
   pub start : StartCovers g ps
-  pub each : (i : ℕ) (place : Place) (p : PointFacts) → slice_get g.places i ≡ Some place → slice_get ps i ≡ Some p
+  pub each : (i : ℕ) (place : Point) (p : PointFacts) → slice_get g.points i ≡ Some place → slice_get ps i ≡ Some p
       → PointClosed g.kind ps place p
 
 -- WHICH CLAUSE FAILS FIRST
 
-abbrev pub FirstFails : Clause → Kind → List PointFacts → Place → PointFacts → Type 0
+abbrev pub FirstFails : Clause → Kind → List PointFacts → Point → PointFacts → Type 0
 FirstFails Illegal k ps place p = ClauseHolds Illegal k ps place p → ⊥
 FirstFails AddressOff k ps place p = ClauseHolds Illegal k ps place p × (ClauseHolds AddressOff k ps place p → ⊥)
 FirstFails ShapeMissing k ps place p =
@@ -125,11 +125,11 @@ FirstFails EndState k ps place p =
     × ClauseHolds Number k ps place p × ClauseHolds Bound k ps place p × (ClauseHolds EndState k ps place p → ⊥)
 
 -- the lowest point that fails, with the first of its clauses that does
-pub record FailsAt (g : Flow) (ps : List PointFacts) (clause : Clause) (i : ℕ) : Type 0 where
-  pub before : (j : ℕ) (place : Place) (p : PointFacts) → j < i → slice_get g.places j ≡ Some place
+pub record FailsAt (g : Graph) (ps : List PointFacts) (clause : Clause) (i : ℕ) : Type 0 where
+  pub before : (j : ℕ) (place : Point) (p : PointFacts) → j < i → slice_get g.points j ≡ Some place
       → slice_get ps j ≡ Some p → PointClosed g.kind ps place p
-  pub place : Place
-  pub here : slice_get g.places i ≡ Some place
+  pub place : Point
+  pub here : slice_get g.points i ≡ Some place
   pub facts : PointFacts
   pub known : slice_get ps i ≡ Some facts
   pub fails : FirstFails clause g.kind ps place facts

@@ -3,7 +3,7 @@
 use Rattle.std.specs.Prelude.{◌≤◌, ◌<◌, ℕ, length, Option, Some, None}
 use Rattle.sdv_facts.specs.declared.numbers.VarFacts.{VarFacts}
 use Rattle.sdv_facts.specs.declared.numbers.Numbers.{Numbers}
-use Rattle.sdv_facts.specs.Known.{var}
+use Rattle.sdv_facts.specs.Facts.{var}
 
 -- no gap says the least
 abbrev pub GapCovers : (target carried : Option ℕ) → Type 0

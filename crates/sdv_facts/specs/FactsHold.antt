@@ -7,7 +7,7 @@ use Rattle.sdv_card.specs.Host.{Host}
 use Rattle.sdv_card.specs.Shapes.{pair_code}
 use Rattle.sdv_facts.specs.declared.numbers.VarFacts.{VarFacts}
 use Rattle.sdv_facts.specs.declared.numbers.Numbers.{Numbers}
-use Rattle.sdv_facts.specs.Known.{Known, var}
+use Rattle.sdv_facts.specs.Facts.{Facts, var}
 use Rattle.sdv_graph.specs.ValueOfLet.{number}
 
 -- the card has so many blocks from x on, if that is known
@@ -28,11 +28,11 @@ pub record NumbersHold (ns : Numbers) (c : Card) (h : Host) : Type 0 where
   pub each : (x : ℕ) → VarHolds c.capacity (var ns x) (number h x)
 
 -- the shape of the pair is one of those that are known, and each bound holds
-pub record FactsHold (known : Known) (c : Card) (h : Host) : Type 0 where
+pub record FactsHold (known : Facts) (c : Card) (h : Host) : Type 0 where
   pub shape : May known.shapes (record { 0 = pair_code c h })
   pub numbers : NumbersHold known.numbers c h
 
 -- there is an edge, and what it carries holds
-abbrev pub Carries : Known → Option Numbers → Card → Host → Type 0
+abbrev pub Carries : Facts → Option Numbers → Card → Host → Type 0
 Carries known None c h = ⊥
 Carries known (Some ns) c h = FactsHold (record known { numbers = ns }) c h

@@ -15,7 +15,7 @@ use Rattle.sdv_graph.specs.declared.tree.Atom.{Atom}
 use Rattle.sdv_graph.specs.declared.tree.Atom.TheVariants.{ExtBlocks}
 use Rattle.sdv_facts.specs.declared.numbers.Numbers.{Numbers}
 use Rattle.sdv_facts.specs.declared.test.Test.{Test}
-use Rattle.sdv_facts.specs.Known.{Known}
+use Rattle.sdv_facts.specs.Facts.{Facts}
 use Rattle.sdv_facts.specs.FactsHold.{NumbersHold, FactsHold, Carries}
 use Rattle.sdv_graph.specs.ValueOfLet.{value_of_let, with_number}
 use Rattle.sdv_graph.specs.AddressSent.{position_of, address_sent}
@@ -33,12 +33,12 @@ pub record IsHonest (k : Kind) (c : Card) (h : Host) : Type 0 where
   pub sound : Sound c h
 
 -- where a `let` gives a value, there is an edge, and what it carries holds with that value
-abbrev pub KeptByLet : Kind → Known → Let → Option Numbers → Type 0
+abbrev pub KeptByLet : Kind → Facts → Let → Option Numbers → Type 0
 KeptByLet k known l carried = (c : Card) (h : Host) (n : ℕ) → MayStandIn k l.atom → IsHonest k c h →
     FactsHold known c h → value_of_let k h l ≡ Some n → Carries known carried c (with_number h l.target n)
 
 -- where a comparison holds, there is an edge, and what it carries holds
-abbrev pub KeptByTest : Known → Test → Option Numbers → Type 0
+abbrev pub KeptByTest : Facts → Test → Option Numbers → Type 0
 KeptByTest known test carried = (c : Card) (h : Host) → FactsHold known c h → TestHolds test h
     → Carries known carried c h
 
@@ -48,6 +48,6 @@ HoldsAtTarget target carried = (c : Card) (h : Host) → NumbersHold carried c h
 
 -- the address that is sent is that of the block at the script's position, in the card's unit, and the card has n blocks
 -- from there on
-abbrev pub IsOnCard : Known → Address → ℕ → Type 0
+abbrev pub IsOnCard : Facts → Address → ℕ → Type 0
 IsOnCard known a n = (k : Kind) (c : Card) (h : Host) → IsPair k c h → FactsHold known c h →
     Within c (position_of h a.position) (address_sent h a.unit (position_of h a.position)) n

@@ -1,4 +1,4 @@
-pub mod Known
+pub mod Facts
 pub mod Limits
 pub mod CertificateText
 pub mod FactsHold

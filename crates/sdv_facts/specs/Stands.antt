@@ -12,9 +12,9 @@ use Rattle.sdv_card.specs.Legal.{TransferOnCard}
 use Rattle.sdv_card.specs.Port.{IsFine}
 use Rattle.sdv_card.specs.ScriptEvent.{ScriptEvent, Return}
 use Rattle.sdv_card.specs.Step.{Step}
-use Rattle.sdv_graph.specs.Graph.{Flow}
+use Rattle.sdv_graph.specs.Graph.{Graph}
 use Rattle.sdv_graph.specs.Nested.{InBox}
-use Rattle.sdv_graph.specs.Path.{Fork, Node, sends, lets, flags, Place, Stand, Move, Goes, Does, Halts, move_from}
+use Rattle.sdv_graph.specs.Path.{Case, Action, sends, lets, flags, Point, Stand, Move, Goes, Does, Halts, move_from}
 use Rattle.sdv_graph.specs.Walk.{Pair, Ending, Finished, IsDeed}
 use Rattle.sdv_facts.specs.declared.certificate.PointFacts.{PointFacts}
 use Rattle.sdv_facts.specs.Beside.{StepsOf, commands_in}
@@ -30,25 +30,25 @@ abbrev pub GuardsSuit : Kind → Ask → List Guard → Type 0
 GuardsSuit k ask [] = Unit {0}
 GuardsSuit k ask (g ∷ gs) = IsTrue (fits_order g (order_of k ask)) × GuardsSuit k ask gs
 
-abbrev pub ForksSuit : Kind → Ask → List Fork → Type 0
-ForksSuit k ask [] = Unit {0}
-ForksSuit k ask (w ∷ ws) = GuardsSuit k ask w.guards × ForksSuit k ask ws
+abbrev pub CasesSuit : Kind → Ask → List Case → Type 0
+CasesSuit k ask [] = Unit {0}
+CasesSuit k ask (w ∷ ws) = GuardsSuit k ask w.guards × CasesSuit k ask ws
 
-abbrev pub NodeSuits : Kind → Node → Type 0
-NodeSuits k (sends c ways other) = ForksSuit k c.ask ways
-NodeSuits k (lets l t) = MayStandIn k l.atom
-NodeSuits k (flags flag on t) = flag < 4
-NodeSuits k node = Unit {0}
+abbrev pub ActionSuits : Kind → Action → Type 0
+ActionSuits k (sends c ways other) = CasesSuit k c.ask ways
+ActionSuits k (lets l t) = MayStandIn k l.atom
+ActionSuits k (flags flag on t) = flag < 4
+ActionSuits k action = Unit {0}
 
-abbrev pub EachNodeSuits : Flow → Type 0
-EachNodeSuits g = (i : ℕ) (place : Place) → slice_get g.places i ≡ Some place → NodeSuits g.kind place.node
+abbrev pub EachActionSuits : Graph → Type 0
+EachActionSuits g = (i : ℕ) (place : Point) → slice_get g.points i ≡ Some place → ActionSuits g.kind place.action
 
 -- WHERE A RUN STANDS
 
 -- a run stands at a point beside a card, and what the certificate says of the point holds
-pub record Stands (g : Flow) (ps : List PointFacts) (s : Stand) (c : Card) : Type 0 where
-  pub place : Place
-  pub here : slice_get g.places s.point ≡ Some place
+pub record Stands (g : Graph) (ps : List PointFacts) (s : Stand) (c : Card) : Type 0 where
+  pub place : Point
+  pub here : slice_get g.points s.point ≡ Some place
   pub facts : PointFacts
   pub known : slice_get ps s.point ≡ Some facts
   pub box : InBox s.turns place.most
@@ -58,7 +58,7 @@ pub record Stands (g : Flow) (ps : List PointFacts) (s : Stand) (c : Card) : Typ
   pub on_card : TransferOnCard c
 
 -- it came there, with so many commands sent on the way, and the bound has fallen by them
-pub record Arrived (g : Flow) (ps : List PointFacts) (most sent : ℕ) (s : Stand) (c : Card) : Type 0 where
+pub record Arrived (g : Graph) (ps : List PointFacts) (most sent : ℕ) (s : Stand) (c : Card) : Type 0 where
   pub stands : Stands g ps s c
   pub falls : bound stands.facts s.turns + sent ≤ most
 
@@ -69,7 +69,7 @@ HaltsWell e c = Unit {0}
 
 -- What is so of a move from there: each event that it makes is legal and in bounds, and after each step of the card the
 -- facts of the target hold, what the host knows is true, and the bound has fallen.
-abbrev pub MovesWell : Flow → List PointFacts → (most : ℕ) → Move → Card → Type 0
+abbrev pub MovesWell : Graph → List PointFacts → (most : ℕ) → Move → Card → Type 0
 MovesWell g ps most (Goes next) c = Arrived g ps most 0 next c
 MovesWell g ps most (Does deed h next) c =
     (event : ScriptEvent) → IsDeed deed event → IsFine g.kind event c h
@@ -90,11 +90,11 @@ EachIsMade k es c =
     es ≡ front ++ (event, returned) ∷ back → StepsOf c front u → IsMade k event u
 
 -- so it is at each point whose own clauses hold, whatever the certificate says of the others
-abbrev pub PointsStepWell : Flow → List PointFacts → Type 0
+abbrev pub PointsStepWell : Graph → List PointFacts → Type 0
 PointsStepWell g ps = (s : Stand) (c : Card) (at : Stands g ps s c) → PointClosed g.kind ps at.place at.facts →
-    MovesWell g ps (bound at.facts s.turns) (move_from g.kind g.places s) c
+    MovesWell g ps (bound at.facts s.turns) (move_from g.kind g.points s) c
 
 -- and so at each point of a graph for which the certificate is closed
-abbrev pub StepsWell : Flow → List PointFacts → Type 0
+abbrev pub StepsWell : Graph → List PointFacts → Type 0
 StepsWell g ps = (s : Stand) (c : Card) (at : Stands g ps s c)
-    → MovesWell g ps (bound at.facts s.turns) (move_from g.kind g.places s) c
+    → MovesWell g ps (bound at.facts s.turns) (move_from g.kind g.points s) c

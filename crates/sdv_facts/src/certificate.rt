@@ -5,6 +5,9 @@ use crate::facts::Facts;
 use arrayvec::ArrayVec;
 use std::marker::Model;
 
+/// A certificate has at most so many shapes over all points.
+pub const MAX_SHAPES: usize = 65_536;
+
 /// What a certificate says of a point of a script.
 #[derive(Drop)]
 pub struct PointFacts {

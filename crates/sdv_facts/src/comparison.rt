@@ -5,8 +5,9 @@ ghost use Rattle.sdv_facts.specs.Limits.{IsInLimits, NumbersInLimits};
 ghost use Rattle.sdv_facts.specs.Keeps.{KeptByTest};
 
 use crate::facts::Facts;
-use crate::numbers::{MAX_NUMBER, Numbers, VarFacts};
+use crate::numbers::{Numbers, VarFacts};
 use crate::test::Test;
+use sdv_graph::MAX_NUMBER;
 
 /// The least capacity, where there are `gap` blocks from a number on that is at least `lo`.
 fn least_by(gap: Option<u64>, lo: u64, m: u64) -> u64

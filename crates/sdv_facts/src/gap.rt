@@ -4,7 +4,7 @@ ghost use Rattle.std.specs.Prelude.{◌≡◌, IfSome};
 ghost use Rattle.sdv_facts.specs.Limits.{IsInLimits};
 ghost use Rattle.sdv_facts.specs.Gaps.{gap_less, gap_more};
 
-use crate::numbers::MAX_NUMBER;
+use sdv_graph::MAX_NUMBER;
 
 /// From a number that is greater by `k`.
 pub fn less(gap: Option<u64>, k: u64) -> Option<u64>

@@ -1,7 +1,7 @@
 //! The step of the theorem of closed certificates, point by point.
 
 ghost use Rattle.std.specs.Prelude.{List};
-ghost use Rattle.sdv_graph.specs.Graph.{Flow};
+ghost use Rattle.sdv_graph.specs.Graph.{Graph};
 ghost use Rattle.sdv_graph.specs.GraphOf.{IsSound};
 ghost use Rattle.sdv_facts.specs.declared.certificate.PointFacts.{PointFacts};
 ghost use Rattle.sdv_facts.specs.Closed.{PointsMatch};
@@ -11,5 +11,5 @@ ghost use Rattle.sdv_facts.specs.Stands.{PointsStepWell};
 /// and in bounds, and after each step of the card what it says of the next point holds, and the bound has fallen. Of the
 /// rest of the certificate it is asked that its points are the graph's, with as many variables and loops.
 pub fn each_point_steps_well()
-    ensures { (g : Flow) (ps : List PointFacts) → IsSound g → PointsMatch g ps → PointsStepWell g ps }
+    ensures { (g : Graph) (ps : List PointFacts) → IsSound g → PointsMatch g ps → PointsStepWell g ps }
 {}

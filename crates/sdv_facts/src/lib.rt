@@ -25,13 +25,13 @@ mod test;
 mod units;
 
 pub use address::address_ok;
-pub use certificate::{Certificate, PointFacts};
+pub use certificate::{Certificate, MAX_SHAPES, PointFacts};
 pub use clause::Clause;
 pub use comparison::after_test;
 pub use cover::covers;
 pub use facts::Facts;
 pub use guards::{all_may_hold, one_may_fail};
-pub use numbers::{MAX_NUMBER, Numbers, VarFacts};
+pub use numbers::{Numbers, VarFacts};
 pub use search::holds_shape;
 pub use set_table::{SetId, SetTable};
 pub use setting::after_let;

@@ -1,12 +1,10 @@
 ghost use Rattle.std.specs.Prelude.{◌≡◌, ◌≤◌};
-ghost use Rattle.sdv_facts.specs.Known.{weakest, var, with_var};
+ghost use Rattle.sdv_facts.specs.Facts.{weakest, var, with_var};
 ghost use Rattle.sdv_facts.specs.Limits.{VarInLimits, NumbersInLimits};
 ghost use Rattle.sdv_facts.specs.Start.{start_numbers, HoldAtStart};
 
 use arrayvec::ArrayVec;
-
-/// The greatest number of a script, 2^40.
-pub const MAX_NUMBER: u64 = 1 << 40;
+use sdv_graph::MAX_NUMBER;
 
 /// What is known of a number variable.
 #[derive(Clone, Copy, Debug, Default, PartialEq, Eq)]

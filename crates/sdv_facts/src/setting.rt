@@ -5,10 +5,10 @@ ghost use Rattle.sdv_facts.specs.Keeps.{KeptByLet};
 
 use crate::facts::Facts;
 use crate::gap::{less, more};
-use crate::numbers::{MAX_NUMBER, Numbers, VarFacts};
+use crate::numbers::{Numbers, VarFacts};
 use crate::units::{all_block, all_byte};
 use sdv_card::Kind;
-use sdv_graph::{Atom, Change, Let};
+use sdv_graph::{Atom, Change, Let, MAX_NUMBER};
 
 /// The value of a register, which tells the capacity or not: the capacity is at least `m` blocks.
 fn register_facts(tells: bool, m: u64) -> VarFacts

@@ -13,13 +13,13 @@ use Rattle.sdv_graph.specs.AddressSent.{position_of_command}
 use Rattle.sdv_graph.specs.Conditions.{condition_holds, with_flag}
 use Rattle.sdv_graph.specs.ValueOfLet.{value_of_let, with_number}
 use Rattle.sdv_graph.specs.Walk.{Fell, Broke, Open, Finished, Failed, command_deed, all_pass}
-use Rattle.sdv_graph.specs.Path.{Place, sends, phases, lets, tests, flags, heads, jumps, stops, Stand, left, entered, arrive, Move, Goes, Does, Halts, way_of, move_with, move, move_from}
-use Rattle.sdv_graph.specs.Points.{start_of, entry, outside, again, forks, other_of, place, points_of_statements, points_of_ways, points_of_statement, past, points_of, first_of}
+use Rattle.sdv_graph.specs.Path.{Point, sends, phases, lets, tests, flags, heads, jumps, stops, Stand, left, entered, arrive, Move, Goes, Does, Halts, way_of, move_with, move, move_from}
+use Rattle.sdv_graph.specs.Points.{start_of, entry, outside, again, cases_of, other_of, point_with, points_of_statements, points_of_ways, points_of_statement, past, points_of, first_of}
 use Rattle.sdv_graph.specs.Graph.{WhereverTo, Lasts}
 use Rattle.sdv_graph.specs.Moves.{statements_moves, ways_moves, statement_moves}
 use Rattle.sdv_graph.proofs.Standing.{HasAt, has_front, has_all, has_after, has_after_first, or_left, or_right, and_both, not_both}
 
-module _ (k : Kind) (g : List Place) where
+module _ (k : Kind) (g : List Point) where
   wherever_more : (p q : Stand → Type 0) → ((s : Stand) → p s → q s) → (m : Move) → WhereverTo p m → WhereverTo q m
   wherever_more p q f (Goes s) w = f s w
   wherever_more p q f (Does deed h next) w = λ returned after. f (next returned after) (w returned after)
@@ -41,7 +41,7 @@ module _ (k : Kind) (g : List Place) where
   weaker : (n m : ℕ) (t : Target) (ts : List ℕ) → n ≤ m → At n t ts → At m t ts
   weaker n m t ts le a h = longer n m (arrive t ts h) le (a h)
 
-  at_point : (p : Place) (at j m : ℕ) (ts : List ℕ) (h : Host) → j < m → slice_get g at ≡ Some p → WhereverTo (Lasts k g j) (move k (Some p) ts h)
+  at_point : (p : Point) (at j m : ℕ) (ts : List ℕ) (h : Host) → j < m → slice_get g at ≡ Some p → WhereverTo (Lasts k g j) (move k (Some p) ts h)
       → Lasts k g m (record { point = at; turns = ts; host = h })
   at_point p at j m ts h lt here w =
       let s : Stand = record { point = at; turns = ts; host = h } in
@@ -60,14 +60,14 @@ module _ (k : Kind) (g : List Place) where
   outside_lasts j n t ts a h = subst (λ l. Lasts k g j (record { point = t.to; turns = entered t.enter (left l (n ∷ ts)); host = h })) (sym (add-one t.leave))
       (a h)
 
-  rounds_last : (i at sa sb n : ℕ) (most : List ℕ) (a b : Target) (ts : List ℕ) → slice_get g at ≡ Some (place (heads i a (outside b)) most) → At (sb + n) b ts
+  rounds_last : (i at sa sb n : ℕ) (most : List ℕ) (a b : Target) (ts : List ℕ) → slice_get g at ≡ Some (point_with (heads i a (outside b)) most) → At (sb + n) b ts
       → ((m t : ℕ) → n ≤ m → At m (again at) (t ∷ ts) → At (sa + m) a (t ∷ ts)) → (t : ℕ) → At (1 + (t * (1 + sa) + sb) + n) (again at) (t ∷ ts)
   rounds_last i at sa sb n most a b ts here ob ib zero h =
-      at_point (place (heads i a (outside b)) most) at (sb + n) (1 + (zero * (1 + sa) + sb) + n) (zero ∷ ts) h (omega arith) here
+      at_point (point_with (heads i a (outside b)) most) at (sb + n) (1 + (zero * (1 + sa) + sb) + n) (zero ∷ ts) h (omega arith) here
       (outside_lasts (sb + n) zero b ts ob h)
   rounds_last i at sa sb n most a b ts here ob ib (suc t) h =
       let m = 1 + (t * (1 + sa) + sb) + n in
-      at_point (place (heads i a (outside b)) most) at (sa + m) (1 + (suc t * (1 + sa) + sb) + n) (suc t ∷ ts) h (omega arith) here
+      at_point (point_with (heads i a (outside b)) most) at (sa + m) (1 + (suc t * (1 + sa) + sb) + n) (suc t ∷ ts) h (omega arith) here
       (ib m t (omega arith) (rounds_last i at sa sb n most a b ts here ob ib t) h)
 
   -- two blocks, of which one is taken
@@ -93,14 +93,14 @@ module _ (k : Kind) (g : List Place) where
 
     ways_last : (c : Ways) (at : ℕ) (next brk : Target) (most ts : List ℕ) (n : ℕ) → HasAt g at (points_of_ways c at next brk most)
         → (ways_fall c ≡ true → At n next ts) → (ways_break c ≡ true → At n brk ts) → (returned : Return)
-        → At (ways_moves c + n) (way_of k (forks c at next) (other_of c at next) returned) ts
+        → At (ways_moves c + n) (way_of k (cases_of c at next) (other_of c at next) returned) ts
     ways_last (otherwise b) at next brk most ts n has nx br returned h = statements_last b at next brk most ts n has nx br h
     ways_last (way guards b rest) at next brk most ts n has nx br returned h =
         let mid = at + statements_count b in
         let others = points_of_ways rest mid next brk most in
         let j = statements_moves b + ways_moves rest + n in
         let tb = entry b at next in
-        let tr = way_of k (forks rest mid next) (other_of rest mid next) returned in
+        let tr = way_of k (cases_of rest mid next) (other_of rest mid next) returned in
         let one = statements_last b at next brk most ts n (has_front g at (points_of_statements b at next brk most) others has)
         (λ f. nx (or_left (statements_fall b) (ways_fall rest) f)) (λ f. br (or_left (statements_break b) (ways_break rest) f)) in
         let more = ways_last rest mid next brk most ts n (has_after g at b next brk most others has) (λ f. nx (or_right (statements_fall b) (ways_fall rest) f))
@@ -111,10 +111,10 @@ module _ (k : Kind) (g : List Place) where
     statement_lasts : (s : Statement) (at : ℕ) (next brk : Target) (most ts : List ℕ) (n : ℕ) → HasAt g at (points_of_statement s at next brk most)
         → (statement_falls s ≡ true → At n next ts) → (statement_breaks s ≡ true → At n brk ts) → At (statement_moves s + n) (start_of s at) ts
     statement_lasts (send c ways) at next brk most ts n has nx br h =
-        let there = forks ways (at + 1) next in
+        let there = cases_of ways (at + 1) next in
         let other = other_of ways (at + 1) next in
         let j = ways_moves ways + n in
-        at_point (place (sends c there other) most) at j (1 + ways_moves ways + n) ts h (omega arith) has.0
+        at_point (point_with (sends c there other) most) at j (1 + ways_moves ways + n) ts h (omega arith) has.0
         (in_range_lasts (position_of_command h c.address)
         (λ position. Does (command_deed k c h position) h (λ returned h'. arrive (way_of k there other returned) ts h')) j
         (λ position returned after. ways_last ways (at + 1) next brk most ts n has.1 nx br returned after))
@@ -129,10 +129,10 @@ module _ (k : Kind) (g : List Place) where
         (λ x. nx (or_left (statements_fall a) (statements_fall b) x)) (λ x. br (or_left (statements_break a) (statements_break b) x)) in
         let lb = statements_last b mid next brk most ts n (has_after g (at + 1) a next brk most fb has.1)
         (λ x. nx (or_right (statements_fall a) (statements_fall b) x)) (λ x. br (or_right (statements_break a) (statements_break b) x)) in
-        at_point (place (phases p ta tb) most) at (sa + sb + n) (1 + (sa + sb) + n) ts h (omega arith) has.0
+        at_point (point_with (phases p ta tb) most) at (sa + sb + n) (1 + (sa + sb) + n) ts h (omega arith) has.0
         (λ returned after. one_lasts sa sb n ta tb ts (passes k WentWell returned) la lb after)
     statement_lasts (setting l) at next brk most ts n has nx br h =
-        at_point (place (lets l next) most) at n (1 + n) ts h (omega arith) has.0
+        at_point (point_with (lets l next) most) at n (1 + n) ts h (omega arith) has.0
         (in_range_lasts (value_of_let k h l) (λ x. Goes (arrive next ts (with_number h l.target x))) n (λ x. nx refl (with_number h l.target x)))
     statement_lasts (choice c a b) at next brk most ts n has nx br h =
         let mid = at + 1 + statements_count a in
@@ -145,12 +145,12 @@ module _ (k : Kind) (g : List Place) where
         (λ x. nx (or_left (statements_fall a) (statements_fall b) x)) (λ x. br (or_left (statements_break a) (statements_break b) x)) in
         let lb = statements_last b mid next brk most ts n (has_after g (at + 1) a next brk most fb has.1)
         (λ x. nx (or_right (statements_fall a) (statements_fall b) x)) (λ x. br (or_right (statements_break a) (statements_break b) x)) in
-        at_point (place (tests c ta tb) most) at (sa + sb + n) (1 + (sa + sb) + n) ts h (omega arith) has.0
+        at_point (point_with (tests c ta tb) most) at (sa + sb + n) (1 + (sa + sb) + n) ts h (omega arith) has.0
         (one_lasts sa sb n ta tb ts (condition_holds h c) la lb h)
     statement_lasts (set f) at next brk most ts n has nx br h =
-        at_point (place (flags f true next) most) at n (1 + n) ts h (omega arith) has.0 (nx refl (with_flag h f true))
+        at_point (point_with (flags f true next) most) at n (1 + n) ts h (omega arith) has.0 (nx refl (with_flag h f true))
     statement_lasts (clear f) at next brk most ts n has nx br h =
-        at_point (place (flags f false next) most) at n (1 + n) ts h (omega arith) has.0 (nx refl (with_flag h f false))
+        at_point (point_with (flags f false next) most) at n (1 + n) ts h (omega arith) has.0 (nx refl (with_flag h f false))
     statement_lasts (turns i a b) at next brk most ts n has nx br h =
         let mid = at + 1 + statements_count a in
         let inner = (i - 1) ∷ most in
@@ -164,9 +164,9 @@ module _ (k : Kind) (g : List Place) where
         (statements_last b mid next brk most ts n back (λ x. nx (or_left (statements_fall b) (statements_break a) x)) br)
         (λ m t le ia. statements_last a (at + 1) (again at) (outside next) inner (t ∷ ts) m front (λ x. ia)
         (λ x. weaker n m (outside next) (t ∷ ts) le (outside_lasts n t next ts (nx (or_right (statements_fall b) (statements_break a) x))))) i) h
-    statement_lasts break at next brk most ts n has nx br h = at_point (place (jumps brk) most) at n (1 + n) ts h (omega arith) has.0 (br refl h)
-    statement_lasts done at next brk most ts n has nx br h = at_point (place (stops Finished) most) at n (1 + n) ts h (omega arith) has.0 tt
-    statement_lasts (fault name) at next brk most ts n has nx br h = at_point (place (stops (Failed name)) most) at n (1 + n) ts h (omega arith) has.0 tt
+    statement_lasts break at next brk most ts n has nx br h = at_point (point_with (jumps brk) most) at n (1 + n) ts h (omega arith) has.0 (br refl h)
+    statement_lasts done at next brk most ts n has nx br h = at_point (point_with (stops Finished) most) at n (1 + n) ts h (omega arith) has.0 tt
+    statement_lasts (fault name) at next brk most ts n has nx br h = at_point (point_with (stops (Failed name)) most) at n (1 + n) ts h (omega arith) has.0 tt
 
 -- a run from the start is over within the moves of the script
 pub each_run_ends : (k : Kind) (b : Statements) (h : Host) → statements_fall b ≡ false → statements_break b ≡ false

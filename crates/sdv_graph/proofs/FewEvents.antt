@@ -3,10 +3,10 @@ use Rattle.std.proofs.Common.{◌≡◌, ℕ, zero, suc, ◌≤◌, inl, inr, sy
 use Rattle.sdv_registers.specs.declared.kind.Kind.{Kind}
 use Rattle.sdv_card.specs.Host.{host_after}
 use Rattle.sdv_graph.specs.Graph.{WhereverTo, Lasts}
-use Rattle.sdv_graph.specs.Path.{Place, Stand, Move, Goes, Does, Halts, move_from, Follows, PathWithin}
+use Rattle.sdv_graph.specs.Path.{Point, Stand, Move, Goes, Does, Halts, move_from, Follows, PathWithin}
 use Rattle.sdv_graph.specs.Walk.{Pair, Ending}
 
-module _ (k : Kind) (g : List Place) (e : Ending) where
+module _ (k : Kind) (g : List Point) (e : Ending) where
   abbrev Few : (n j : ℕ) → Type 0
   Few n j = (s : Stand) (es : List Pair) → PathWithin k g e n s es → Lasts k g j s → length es ≤ j
 

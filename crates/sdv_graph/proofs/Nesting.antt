@@ -7,24 +7,24 @@ use Rattle.sdv_graph.specs.declared.graph.Target.{Target}
 use Rattle.sdv_graph.specs.Tree.{Statements, nothing, first, Ways, otherwise, way, Statement, send, phase, setting, choice, set, clear, turns, break, done, fault}
 use Rattle.sdv_graph.specs.Counts.{statements_count, statement_count}
 use Rattle.sdv_graph.specs.Walk.{Finished, Failed}
-use Rattle.sdv_graph.specs.Path.{Node, Place, sends, phases, lets, tests, flags, heads, jumps, stops, left, entered, turns_at}
-use Rattle.sdv_graph.specs.Points.{start_of, entry, outside, again, forks, other_of, place, points_of_statements, points_of_ways, points_of_statement, past, points_of, first_of}
-use Rattle.sdv_graph.specs.Nested.{InBox, Same, Again, Over, EachFork, EachTarget, HeadFits, Lands, Nested}
+use Rattle.sdv_graph.specs.Path.{Action, Point, sends, phases, lets, tests, flags, heads, jumps, stops, left, entered, turns_at}
+use Rattle.sdv_graph.specs.Points.{start_of, entry, outside, again, cases_of, other_of, point_with, points_of_statements, points_of_ways, points_of_statement, past, points_of, first_of}
+use Rattle.sdv_graph.specs.Nested.{InBox, Same, Again, Over, EachCase, EachTarget, HeadFits, Lands, Nested}
 use Rattle.sdv_graph.proofs.Standing.{HasAt, has_front, has_all, has_after, has_after_first, statements_length}
 
-module _ (g : List Place) where
+module _ (g : List Point) where
   -- a target is reached from inside these loops with turns left that its point can have
   abbrev In : List ℕ → Target → Type 0
-  In most t = (p : Place) → slice_get g t.to ≡ Some p → (ts : List ℕ) → InBox ts most → InBox (turns_at t ts) p.most
+  In most t = (p : Point) → slice_get g t.to ≡ Some p → (ts : List ℕ) → InBox ts most → InBox (turns_at t ts) p.most
 
-  abbrev Fits : Place → Type 0
-  Fits p = HeadFits p.node p.most × EachTarget p.node (Lands g p.most)
+  abbrev Fits : Point → Type 0
+  Fits p = HeadFits p.action p.most × EachTarget p.action (Lands g p.most)
 
-  abbrev AllFit : List Place → Type 0
+  abbrev AllFit : List Point → Type 0
   AllFit [] = Unit {0}
   AllFit (p ∷ ps) = Fits p × AllFit ps
 
-  all_fit_append : (ps qs : List Place) → AllFit ps → AllFit qs → AllFit (ps ++ qs)
+  all_fit_append : (ps qs : List Point) → AllFit ps → AllFit qs → AllFit (ps ++ qs)
   all_fit_append [] qs a b = b
   all_fit_append (p ∷ ps) qs a b = (a.0, all_fit_append ps qs a.1 b)
 
@@ -32,7 +32,7 @@ module _ (g : List Place) where
   same_lands most t i p here ts us box e = subst (λ us. InBox (turns_at t us) p.most) e (i p here ts box)
 
   -- the place that stands here is the one that is found
-  found : (i : ℕ) (p q : Place) (P : Place → Type 0) → slice_get g i ≡ Some p → slice_get g i ≡ Some q → P p → P q
+  found : (i : ℕ) (p q : Point) (P : Point → Type 0) → slice_get g i ≡ Some p → slice_get g i ≡ Some q → P p → P q
   found i p q P here there x = let e : p ≡ q = cc in subst P e x
 
   outside_in : (n : ℕ) (most : List ℕ) (t : Target) → In most t → In (n ∷ most) (outside t)
@@ -41,10 +41,10 @@ module _ (g : List Place) where
       subst (λ l. InBox (entered t.enter (left l (u ∷ ts))) p.most) (sym (add-one t.leave)) (i p here ts box.1)
 
   -- from a loop's body back to its head
-  again_in : (at n : ℕ) (most : List ℕ) (node : Node) → slice_get g at ≡ Some (place node (n ∷ most)) → In ((n - 1) ∷ most) (again at)
-  again_in at n most node here p there [] box = absurd box
-  again_in at n most node here p there (t ∷ ts) box =
-      found at (place node (n ∷ most)) p (λ p. InBox (t ∷ ts) p.most) here there (omega (arith, box.0), box.1)
+  again_in : (at n : ℕ) (most : List ℕ) (action : Action) → slice_get g at ≡ Some (point_with action (n ∷ most)) → In ((n - 1) ∷ most) (again at)
+  again_in at n most action here p there [] box = absurd box
+  again_in at n most action here p there (t ∷ ts) box =
+      found at (point_with action (n ∷ most)) p (λ p. InBox (t ∷ ts) p.most) here there (omega (arith, box.0), box.1)
 
   -- from a head into its body
   body_lands : (n : ℕ) (most : List ℕ) (t : Target) → In ((n - 1) ∷ most) t → Lands g (n ∷ most) Again t
@@ -61,15 +61,15 @@ module _ (g : List Place) where
       subst (λ us. InBox (turns_at (outside t) us) p.most) e (outside_in n most t i p here (zero ∷ ts) (omega arith, box.1))
 
   -- a point is reached with the turns left of the one before it
-  plain_in : (node : Node) (at : ℕ) (most : List ℕ) → slice_get g at ≡ Some (place node most) → In most (again at)
-  plain_in node at most here p there ts box = found at (place node most) p (λ p. InBox ts p.most) here there box
+  plain_in : (action : Action) (at : ℕ) (most : List ℕ) → slice_get g at ≡ Some (point_with action most) → In most (again at)
+  plain_in action at most here p there ts box = found at (point_with action most) p (λ p. InBox ts p.most) here there box
 
   -- a loop is entered with all its turns
-  enters : (node : Node) (at n : ℕ) (most : List ℕ) → slice_get g at ≡ Some (place node (n ∷ most)) → In most (record { to = at; leave = 0; enter = Some n })
-  enters node at n most here p there ts box = found at (place node (n ∷ most)) p (λ p. InBox (n ∷ ts) p.most) here there (omega arith, box)
+  enters : (action : Action) (at n : ℕ) (most : List ℕ) → slice_get g at ≡ Some (point_with action (n ∷ most)) → In most (record { to = at; leave = 0; enter = Some n })
+  enters action at n most here p there ts box = found at (point_with action (n ∷ most)) p (λ p. InBox (n ∷ ts) p.most) here there (omega arith, box)
 
   start_in : (s : Statement) (at : ℕ) (next brk : Target) (most : List ℕ) → HasAt g at (points_of_statement s at next brk most) → In most (start_of s at)
-  start_in (send c ways) at next brk most has = plain_in (sends c (forks ways (at + 1) next) (other_of ways (at + 1) next)) at most has.0
+  start_in (send c ways) at next brk most has = plain_in (sends c (cases_of ways (at + 1) next) (other_of ways (at + 1) next)) at most has.0
   start_in (phase p a b) at next brk most has = plain_in (phases p (entry a (at + 1) next) (entry b (at + 1 + statements_count a) next)) at most has.0
   start_in (setting l) at next brk most has = plain_in (lets l next) at most has.0
   start_in (choice c a b) at next brk most has = plain_in (tests c (entry a (at + 1) next) (entry b (at + 1 + statements_count a) next)) at most has.0
@@ -90,14 +90,14 @@ module _ (g : List Place) where
       start_in s at to brk most (has_front g at (points_of_statement s at to brk most) (points_of_statements rest mid next brk most) has)
 
   -- the cases of a command lead to their blocks
-  forks_land : (c : Ways) (at : ℕ) (next brk : Target) (most : List ℕ) → HasAt g at (points_of_ways c at next brk most) → In most next
-      → EachFork (forks c at next) (Lands g most) × Lands g most Same (other_of c at next)
-  forks_land (otherwise b) at next brk most has nx = (tt, same_lands most (entry b at next) (entry_in b at next brk most has nx))
-  forks_land (way guards b rest) at next brk most has nx =
+  cases_land : (c : Ways) (at : ℕ) (next brk : Target) (most : List ℕ) → HasAt g at (points_of_ways c at next brk most) → In most next
+      → EachCase (cases_of c at next) (Lands g most) × Lands g most Same (other_of c at next)
+  cases_land (otherwise b) at next brk most has nx = (tt, same_lands most (entry b at next) (entry_in b at next brk most has nx))
+  cases_land (way guards b rest) at next brk most has nx =
       let mid = at + statements_count b in
       let others = points_of_ways rest mid next brk most in
       let one = entry_in b at next brk most (has_front g at (points_of_statements b at next brk most) others has) nx in
-      let more = forks_land rest mid next brk most (has_after g at b next brk most others has) nx in
+      let more = cases_land rest mid next brk most (has_after g at b next brk most others has) nx in
       ((same_lands most (entry b at next) one, more.0), more.1)
 
   mutual
@@ -126,7 +126,7 @@ module _ (g : List Place) where
     statement_fits : (s : Statement) (at : ℕ) (next brk : Target) (most : List ℕ) → HasAt g at (points_of_statement s at next brk most) → In most next
         → In most brk → AllFit (points_of_statement s at next brk most)
     statement_fits (send c ways) at next brk most has nx br =
-        ((tt, forks_land ways (at + 1) next brk most has.1 nx), ways_fit ways (at + 1) next brk most has.1 nx br)
+        ((tt, cases_land ways (at + 1) next brk most has.1 nx), ways_fit ways (at + 1) next brk most has.1 nx br)
     statement_fits (phase p a b) at next brk most has nx br =
         let mid = at + 1 + statements_count a in
         let fa = points_of_statements a (at + 1) next brk most in
@@ -185,7 +185,7 @@ module _ (g : List Place) where
     statement_fits (fault name) at next brk most has nx br = ((tt, tt), tt)
 
   -- what fits of each place fits of the one that is found
-  each_fits : (ps : List Place) (i : ℕ) (p : Place) → AllFit ps → slice_get ps i ≡ Some p → Fits p
+  each_fits : (ps : List Point) (i : ℕ) (p : Point) → AllFit ps → slice_get ps i ≡ Some p → Fits p
   each_fits [] i p all e = absurd (cc)
   each_fits (q ∷ ps) zero p all e = let same : q ≡ p = cc in subst (λ p. Fits p) same all.0
   each_fits (q ∷ ps) (suc i) p all e = each_fits ps i p all.1 e
@@ -205,7 +205,7 @@ first_leaves : (b : Statements) → (first_of b).leave ≡ 0
 first_leaves nothing = refl
 first_leaves (first s rest) = refl
 
-pub nested : (k : Kind) (n f m : ℕ) (b : Statements) → Nested (record { kind = k; numbers = n; flags = f; places = points_of b; first = first_of b; steps = m })
+pub nested : (k : Kind) (n f m : ℕ) (b : Statements) → Nested (record { kind = k; numbers = n; flags = f; points = points_of b; first = first_of b; steps = m })
 nested k n f m b =
     let g = points_of b in
     let has = has_all g [] in

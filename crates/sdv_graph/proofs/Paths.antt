@@ -15,8 +15,8 @@ use Rattle.sdv_graph.specs.AddressSent.{position_of_command}
 use Rattle.sdv_graph.specs.Conditions.{condition_holds, with_flag}
 use Rattle.sdv_graph.specs.ValueOfLet.{value_of_let, with_number}
 use Rattle.sdv_graph.specs.Walk.{Pair, Ending, Fell, Broke, Finished, Failed, Rest, Here, Either, InRange, Deed, Acts, command_deed, phase_deed, all_pass, rounds, walk_statements, walk_ways, walk_statement, after_all, Walk}
-use Rattle.sdv_graph.specs.Path.{Place, sends, phases, lets, tests, flags, heads, jumps, stops, Stand, left, entered, arrive, Move, Goes, Does, Halts, way_of, move_with, move, move_from, Follows, PathWithin, Path}
-use Rattle.sdv_graph.specs.Points.{start_of, entry, outside, again, forks, other_of, place, points_of_statements, points_of_ways, points_of_statement, past, points_of, first_of}
+use Rattle.sdv_graph.specs.Path.{Point, sends, phases, lets, tests, flags, heads, jumps, stops, Stand, left, entered, arrive, Move, Goes, Does, Halts, way_of, move_with, move, move_from, Follows, PathWithin, Path}
+use Rattle.sdv_graph.specs.Points.{start_of, entry, outside, again, cases_of, other_of, point_with, points_of_statements, points_of_ways, points_of_statement, past, points_of, first_of}
 use Rattle.sdv_graph.proofs.Standing.{HasAt, has_front, has_all, has_after, has_after_first, statements_length, or_left, or_right, not_both}
 
 -- both ways
@@ -24,10 +24,10 @@ abbrev Same : Type 0 → Type 0 → Type 0
 Same a b = (a → b) × (b → a)
 
 -- what is asked is a path from there
-abbrev Is : Kind → List Place → Ending → Rest → List ℕ → Target → Type 0
+abbrev Is : Kind → List Point → Ending → Rest → List ℕ → Target → Type 0
 Is k g e rest ts t = (h : Host) (es : List Pair) → Same (rest h es) (Path k g e (arrive t ts h) es)
 
-module _ (k : Kind) (g : List Place) (e : Ending) where
+module _ (k : Kind) (g : List Point) (e : Ending) where
   -- more moves allowed in the rest
   some_moves : (m : Move) (es : List Pair) (n : ℕ) → Follows k e (PathWithin k g e n) m es → Follows k e (Path k g e) m es
   some_moves (Goes s) es n p = (n, p)
@@ -50,11 +50,11 @@ module _ (k : Kind) (g : List Place) (e : Ending) where
   roll s es (inr p) = let q = count_moves (move_from k g s) es p in (suc q.0, inr q.1)
 
   -- what a statement says is a path from its point
-  at_point : (p : Place) (at : ℕ) (ts : List ℕ) (h : Host) (es : List Pair) (x : Type 0) → slice_get g at ≡ Some p
+  at_point : (p : Point) (at : ℕ) (ts : List ℕ) (h : Host) (es : List Pair) (x : Type 0) → slice_get g at ≡ Some p
       → Same x (Follows k e (Path k g e) (move k (Some p) ts h) es) → Same (Here e x es) (Path k g e (record { point = at; turns = ts; host = h }) es)
   at_point p at ts h es x here same =
       let s : Stand = record { point = at; turns = ts; host = h } in
-      let P : Option Place → Type 0 = λ o. Here e (Follows k e (Path k g e) (move k o ts h) es) es in
+      let P : Option Point → Type 0 = λ o. Here e (Follows k e (Path k g e) (move k o ts h) es) es in
       (λ w. roll s es (subst P (sym here) (to w)), λ q. from (subst P here (unroll s es q)))
     where
       to : Here e x es → Here e (Follows k e (Path k g e) (move k (Some p) ts h) es) es
@@ -85,13 +85,13 @@ module _ (k : Kind) (g : List Place) (e : Ending) where
 
   -- the turns of a loop, where its body is as it should be
   rounds_are : (n at : ℕ) (most : List ℕ) (a b : Target) (ts : List ℕ) (body : Rest → Rest) (other : Rest)
-      → slice_get g at ≡ Some (place (heads n a (outside b)) most) → Is k g e other ts b
+      → slice_get g at ≡ Some (point_with (heads n a (outside b)) most) → Is k g e other ts b
       → ((rest : Rest) (t : ℕ) → Is k g e rest (t ∷ ts) (again at) → Is k g e (body rest) (t ∷ ts) a) → (t : ℕ)
       → Is k g e (rounds e t body other) (t ∷ ts) (again at)
   rounds_are n at most a b ts body other here ob ib zero h es =
-      at_point (place (heads n a (outside b)) most) at (zero ∷ ts) h es (other h es) here (outside_is b zero ts (other h es) h es (ob h es))
+      at_point (point_with (heads n a (outside b)) most) at (zero ∷ ts) h es (other h es) here (outside_is b zero ts (other h es) h es (ob h es))
   rounds_are n at most a b ts body other here ob ib (suc t) h es =
-      at_point (place (heads n a (outside b)) most) at (suc t ∷ ts) h es (body (rounds e t body other) h es) here
+      at_point (point_with (heads n a (outside b)) most) at (suc t ∷ ts) h es (body (rounds e t body other) h es) here
       (ib (rounds e t body other) t (rounds_are n at most a b ts body other here ob ib t) h es)
 
   acts_are : (deed : Deed) (h : Host) (next : Return → Rest) (to : Return → Host → Stand) (es : List Pair)
@@ -118,7 +118,7 @@ module _ (k : Kind) (g : List Place) (e : Ending) where
 
     ways_are : (c : Ways) (at : ℕ) (next brk : Target) (most ts : List ℕ) (fell broke : Rest) → HasAt g at (points_of_ways c at next brk most)
         → Is k g e fell ts next → (ways_break c ≡ true → Is k g e broke ts brk) → (returned : Return)
-        → Is k g e (walk_ways k e c returned fell broke) ts (way_of k (forks c at next) (other_of c at next) returned)
+        → Is k g e (walk_ways k e c returned fell broke) ts (way_of k (cases_of c at next) (other_of c at next) returned)
     ways_are (otherwise b) at next brk most ts fell broke has nx br returned h es = statements_are b at next brk most ts fell broke has nx br h es
     ways_are (way guards b rest) at next brk most ts fell broke has nx br returned h es =
         let mid = at + statements_count b in
@@ -127,15 +127,15 @@ module _ (k : Kind) (g : List Place) (e : Ending) where
         (λ x. br (or_left (statements_break b) (ways_break rest) x)) in
         let more = ways_are rest mid next brk most ts fell broke (has_after g at b next brk most others has) nx
         (λ x. br (or_right (statements_break b) (ways_break rest) x)) returned in
-        either_is (all_pass k guards returned) _ _ (entry b at next) (way_of k (forks rest mid next) (other_of rest mid next) returned) ts h es (one h es)
+        either_is (all_pass k guards returned) _ _ (entry b at next) (way_of k (cases_of rest mid next) (other_of rest mid next) returned) ts h es (one h es)
         (more h es)
 
     statement_is : (s : Statement) (at : ℕ) (next brk : Target) (most ts : List ℕ) (fell broke : Rest) → HasAt g at (points_of_statement s at next brk most)
         → Is k g e fell ts next → (statement_breaks s ≡ true → Is k g e broke ts brk) → Is k g e (walk_statement k e s fell broke) ts (start_of s at)
     statement_is (send c ways) at next brk most ts fell broke has nx br h es =
-        let there = forks ways (at + 1) next in
+        let there = cases_of ways (at + 1) next in
         let other = other_of ways (at + 1) next in
-        at_point (place (sends c there other) most) at ts h es _ has.0
+        at_point (point_with (sends c there other) most) at ts h es _ has.0
         (range_is (position_of_command h c.address) _ (λ position. Does (command_deed k c h position) h
         (λ returned h'. arrive (way_of k there other returned) ts h')) es
         (λ position. acts_are (command_deed k c h position) h (λ returned. walk_ways k e ways returned fell broke)
@@ -149,27 +149,27 @@ module _ (k : Kind) (g : List Place) (e : Ending) where
         (λ x. br (or_left (statements_break a) (statements_break b) x)) in
         let other = statements_are b mid next brk most ts fell broke (has_after g (at + 1) a next brk most fb has.1) nx
         (λ x. br (or_right (statements_break a) (statements_break b) x)) in
-        at_point (place (phases p ta tb) most) at ts h es _ has.0
+        at_point (point_with (phases p ta tb) most) at ts h es _ has.0
         (acts_are (phase_deed p h) h _ (λ returned h'. arrive (if passes k WentWell returned then ta else tb) ts h') es
         (λ returned h' rest. either_is (passes k WentWell returned) _ _ ta tb ts h' rest (one h' rest) (other h' rest)))
     statement_is (setting l) at next brk most ts fell broke has nx br h es =
-        at_point (place (lets l next) most) at ts h es _ has.0
+        at_point (point_with (lets l next) most) at ts h es _ has.0
         (range_is (value_of_let k h l) _ (λ n. Goes (arrive next ts (with_number h l.target n))) es (λ n. nx (with_number h l.target n) es))
     statement_is (choice c a b) at next brk most ts fell broke has nx br h es =
         let mid = at + 1 + statements_count a in
         let ta = entry a (at + 1) next in
         let tb = entry b mid next in
         let fb = points_of_statements b mid next brk most in
-        at_point (place (tests c ta tb) most) at ts h es _ has.0
+        at_point (point_with (tests c ta tb) most) at ts h es _ has.0
         (either_is (condition_holds h c) _ _ ta tb ts h es
         (statements_are a (at + 1) next brk most ts fell broke (has_front g (at + 1) (points_of_statements a (at + 1) next brk most) fb has.1) nx
         (λ x. br (or_left (statements_break a) (statements_break b) x)) h es)
         (statements_are b mid next brk most ts fell broke (has_after g (at + 1) a next brk most fb has.1) nx
         (λ x. br (or_right (statements_break a) (statements_break b) x)) h es))
     statement_is (set f) at next brk most ts fell broke has nx br h es =
-        at_point (place (flags f true next) most) at ts h es _ has.0 (nx (with_flag h f true) es)
+        at_point (point_with (flags f true next) most) at ts h es _ has.0 (nx (with_flag h f true) es)
     statement_is (clear f) at next brk most ts fell broke has nx br h es =
-        at_point (place (flags f false next) most) at ts h es _ has.0 (nx (with_flag h f false) es)
+        at_point (point_with (flags f false next) most) at ts h es _ has.0 (nx (with_flag h f false) es)
     statement_is (turns n a b) at next brk most ts fell broke has nx br h es =
         let mid = at + 1 + statements_count a in
         let inner = (n - 1) ∷ most in
@@ -181,9 +181,9 @@ module _ (k : Kind) (g : List Place) (e : Ending) where
         (statements_are b mid next brk most ts fell broke back nx br)
         (λ rest t i. statements_are a (at + 1) (again at) (outside next) inner (t ∷ ts) rest fell front i
         (λ x h es. outside_is next t ts (fell h es) h es (nx h es))) n h es
-    statement_is break at next brk most ts fell broke has nx br h es = at_point (place (jumps brk) most) at ts h es _ has.0 (br refl h es)
-    statement_is done at next brk most ts fell broke has nx br h es = at_point (place (stops Finished) most) at ts h es _ has.0 (λ s. s, λ s. s)
-    statement_is (fault name) at next brk most ts fell broke has nx br h es = at_point (place (stops (Failed name)) most) at ts h es _ has.0 (λ s. s, λ s. s)
+    statement_is break at next brk most ts fell broke has nx br h es = at_point (point_with (jumps brk) most) at ts h es _ has.0 (br refl h es)
+    statement_is done at next brk most ts fell broke has nx br h es = at_point (point_with (stops Finished) most) at ts h es _ has.0 (λ s. s, λ s. s)
+    statement_is (fault name) at next brk most ts fell broke has nx br h es = at_point (point_with (stops (Failed name)) most) at ts h es _ has.0 (λ s. s, λ s. s)
 
 -- there is no point past the last
 past_is : (k : Kind) (b : Statements) (e : Ending) → Is k (points_of b) e (after_all e Fell) [] (past b)
@@ -192,7 +192,7 @@ past_is k b e h es =
     let l = statements_length b 0 (past b) (past b) [] in
     let none : slice_get g (statements_count b) ≡ None = slice_get_past g (statements_count b) (omega arith) in
     let s : Stand = arrive (past b) [] h in
-    let P : Option Place → Type 0 = λ o. Here e (Follows k e (Path k g e) (move k o [] h) es) es in
+    let P : Option Point → Type 0 = λ o. Here e (Follows k e (Path k g e) (move k o [] h) es) es in
     (λ w. roll k g e s es (subst P (sym none) w), λ p. subst P none (unroll k g e s es p))
 
 pub walks_are_paths : (k : Kind) (names : Declared) (b : Statements) (e : Ending) (es : List Pair) → statements_break b ≡ false

@@ -6,19 +6,19 @@ use Rattle.std.proofs.lemmas.Option.{slice_get-get_or}
 use Rattle.sdv_graph.specs.declared.graph.Target.{Target}
 use Rattle.sdv_graph.specs.Tree.{Statements, nothing, first, Ways, otherwise, way, Statement, send, phase, setting, choice, set, clear, turns, break, done, fault}
 use Rattle.sdv_graph.specs.Counts.{statements_count, ways_count, statement_count}
-use Rattle.sdv_graph.specs.Path.{Place}
+use Rattle.sdv_graph.specs.Path.{Point}
 use Rattle.sdv_graph.specs.Points.{entry, outside, again, points_of_statements, points_of_ways, points_of_statement}
 
 -- the points stand in the graph from this number on
-abbrev pub HasAt : List Place → ℕ → List Place → Type 0
+abbrev pub HasAt : List Point → ℕ → List Point → Type 0
 HasAt g at [] = Unit {0}
 HasAt g at (p ∷ ps) = (slice_get g at ≡ Some p) × HasAt g (at + 1) ps
 
-pub has_front : (g : List Place) (at : ℕ) (a b : List Place) → HasAt g at (a ++ b) → HasAt g at a
+pub has_front : (g : List Point) (at : ℕ) (a b : List Point) → HasAt g at (a ++ b) → HasAt g at a
 has_front g at [] b h = tt
 has_front g at (n ∷ a) b h = (h.0, has_front g (at + 1) a b h.1)
 
-pub has_back : (g : List Place) (at : ℕ) (a b : List Place) → HasAt g at (a ++ b) → HasAt g (at + length a) b
+pub has_back : (g : List Point) (at : ℕ) (a b : List Point) → HasAt g at (a ++ b) → HasAt g (at + length a) b
 has_back g at [] b h = let e : at ≡ at + 0 = omega arith in subst (λ n. HasAt g n b) e h
 has_back g at (n ∷ a) b h =
     let e : at + 1 + length a ≡ at + length (n ∷ a) = omega arith in
@@ -74,18 +74,18 @@ mutual
   statement_length (fault name) at next brk most = refl
 
 -- a second part, after a first one of so many statements
-pub has_after : (g : List Place) (at : ℕ) (b : Statements) (next brk : Target) (most : List ℕ) (rest : List Place)
+pub has_after : (g : List Point) (at : ℕ) (b : Statements) (next brk : Target) (most : List ℕ) (rest : List Point)
     → HasAt g at (points_of_statements b at next brk most ++ rest) → HasAt g (at + statements_count b) rest
 has_after g at b next brk most rest has =
     subst (λ l. HasAt g (at + l) rest) (statements_length b at next brk most) (has_back g at (points_of_statements b at next brk most) rest has)
 
-pub has_after_first : (g : List Place) (at : ℕ) (s : Statement) (next brk : Target) (most : List ℕ) (rest : List Place)
+pub has_after_first : (g : List Point) (at : ℕ) (s : Statement) (next brk : Target) (most : List ℕ) (rest : List Point)
     → HasAt g at (points_of_statement s at next brk most ++ rest) → HasAt g (at + statement_count s) rest
 has_after_first g at s next brk most rest has =
     subst (λ l. HasAt g (at + l) rest) (statement_length s at next brk most) (has_back g at (points_of_statement s at next brk most) rest has)
 
 -- a graph has its own points
-pub has_all : (ps before : List Place) → HasAt (before ++ ps) (length before) ps
+pub has_all : (ps before : List Point) → HasAt (before ++ ps) (length before) ps
 has_all [] before = tt
 has_all (p ∷ ps) before =
     let within : length before < length (before ++ p ∷ ps) = omega (arith, length-append before (p ∷ ps)) in

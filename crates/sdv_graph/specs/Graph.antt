@@ -5,56 +5,60 @@ use Rattle.sdv_card.specs.Host.{Host}
 use Rattle.sdv_card.specs.Profile.{host_at_start}
 use Rattle.sdv_card.specs.ScriptEvent.{Return}
 use Rattle.sdv_graph.specs.declared.graph.Target.{Target}
-use Rattle.sdv_graph.specs.declared.graph.Way.{Way}
-use Rattle.sdv_graph.specs.declared.graph.Action.{Action}
+use Rattle.sdv_graph.specs.declared.graph.Case.{Case as CodeCase}
+use Rattle.sdv_graph.specs.declared.graph.Action.{Action as CodeAction}
 use Rattle.sdv_graph.specs.declared.graph.Action.TheVariants as actions
-use Rattle.sdv_graph.specs.declared.graph.Point.{Point}
+use Rattle.sdv_graph.specs.declared.graph.Point.{Point as CodePoint}
 use Rattle.std.specs.Borrow.{Bor}
 use Rattle.sdv_graph.specs.declared.tree.Names.{Names}
 use Rattle.sdv_graph.specs.Tree.{Statements, Declared}
 use Rattle.sdv_graph.specs.Walk.{Pair, Ending, Finished, Failed, Walk}
-use Rattle.sdv_graph.specs.Path.{Fork, Node, Place, Stand, Move, Goes, Does, Halts, sends, phases, lets, tests, flags, heads, jumps, stops, arrive, move_from, Path}
+use Rattle.sdv_graph.specs.Path.{Case, Action, Point, Stand, Move, Goes, Does, Halts, sends, phases, lets, tests, flags, heads, jumps, stops, arrive, move_from, Path}
 
 -- a point without where it lies in memory
-abbrev pub fork_of : Way → Fork
-fork_of w = record { guards = w.guards.items; target = w.target }
+abbrev pub seen_case : CodeCase → Case
+seen_case w = record { guards = w.guards.items; target = w.target }
 
-abbrev pub node_of : Action → Node
-node_of (actions.Send c ways other) = sends c (map fork_of ways.items) other
-node_of (actions.Phase p well other) = phases p well other
-node_of (actions.Let l t) = lets l t
-node_of (actions.If c holds other) = tests c holds other
-node_of (actions.Flag f on t) = flags f on t
-node_of (actions.Loop n body other) = heads n body other
-node_of (actions.Break t) = jumps t
-node_of actions.Done = stops Finished
-node_of (actions.Fault name) = stops (Failed name.now)
+abbrev pub seen_action : CodeAction → Action
+seen_action (actions.Send c cases other) = sends c (map seen_case cases.items) other
+seen_action (actions.Phase p well other) = phases p well other
+seen_action (actions.Let l t) = lets l t
+seen_action (actions.If c holds other) = tests c holds other
+seen_action (actions.Flag f on t) = flags f on t
+seen_action (actions.Loop n body other) = heads n body other
+seen_action (actions.Break t) = jumps t
+seen_action actions.Done = stops Finished
+seen_action (actions.Fault name) = stops (Failed name.now)
 
-abbrev pub place_of : Point → Place
-place_of p = record { node = node_of p.action; most = p.most_turns.items }
+abbrev pub seen_point : CodePoint → Point
+seen_point p = record { action = seen_action p.action; most = p.most_turns.items }
 
-abbrev pub places_of : List Point → List Place
-places_of ps = map place_of ps
+abbrev pub seen_points : List CodePoint → List Point
+seen_points ps = map seen_point ps
 
 -- a graph
-pub record Flow : Type 0 where
+pub record Graph : Type 0 where
   pub kind : Kind
   -- how many number variables and flags the script has
   pub numbers : ℕ
   pub flags : ℕ
-  pub places : List Place
+  pub points : List Point
   -- where a run begins
   pub first : Target
   -- no run has more moves
   pub steps : ℕ
 
-abbrev pub begin : Flow → Stand
+-- the graph of these parts
+abbrev pub graph_with : Kind → (numbers flags : ℕ) → List CodePoint → Target → (steps : ℕ) → Graph
+graph_with k n f ps t m = record { kind = k; numbers = n; flags = f; points = seen_points ps; first = t; steps = m }
+
+abbrev pub begin : Graph → Stand
 begin g = arrive g.first [] (host_at_start g.numbers)
 
 -- the walks of the script are the paths of the graph, with the same events and answers and the same end
-abbrev pub HasWalks : Declared → Statements → Flow → Type 0
+abbrev pub HasWalks : Declared → Statements → Graph → Type 0
 HasWalks names script g = (e : Ending) (es : List Pair)
-    → Walk g.kind names script e es ↔ Path g.kind g.places e (begin g) es
+    → Walk g.kind names script e es ↔ Path g.kind g.points e (begin g) es
 
 -- EVERY RUN ENDS
 
@@ -67,12 +71,12 @@ WhereverTo holds (Halts (Failed name)) = Unit {0}
 WhereverTo holds (Halts last) = ⊥
 
 -- a run from there has at most n moves, whatever is returned, and ends in `done` or in a fault
-abbrev pub Lasts : Kind → List Place → ℕ → Stand → Type 0
+abbrev pub Lasts : Kind → List Point → ℕ → Stand → Type 0
 Lasts k g zero s = ⊥
 Lasts k g (suc n) s = WhereverTo (Lasts k g n) (move_from k g s)
 
-abbrev pub EachRunEnds : Flow → Type 0
-EachRunEnds g = Lasts g.kind g.places g.steps (begin g)
+abbrev pub EachRunEnds : Graph → Type 0
+EachRunEnds g = Lasts g.kind g.points g.steps (begin g)
 
 -- THE GRAPH OF A SCRIPT
 

@@ -5,7 +5,7 @@ use Rattle.sdv_registers.specs.declared.kind.Kind.{Kind}
 use Rattle.sdv_graph.specs.Tree.{Statements, Declared}
 use Rattle.sdv_graph.specs.Counts.{statements_break, statements_fall, statements_count, max_statements}
 use Rattle.sdv_graph.specs.Points.{points_of, first_of}
-use Rattle.sdv_graph.specs.Graph.{Flow, HasWalks, EachRunEnds}
+use Rattle.sdv_graph.specs.Graph.{Graph, HasWalks, EachRunEnds}
 use Rattle.sdv_graph.specs.Moves.{statements_moves}
 use Rattle.sdv_graph.specs.Nested.{Nested}
 use Rattle.sdv_graph.specs.Limits.{all_keep_limits}
@@ -25,18 +25,18 @@ abbrev pub SuitsKind : Kind → Statements → Type 0
 SuitsKind k script = all_suit k (points_of script) ≡ true
 
 -- what is true of every graph
-pub record IsSound (g : Flow) : Type 0 where
+pub record IsSound (g : Graph) : Type 0 where
   pub ends : EachRunEnds g
   pub nested : Nested g
-  pub limits : all_keep_limits g.places ≡ true
-  pub suits : all_suit g.kind g.places ≡ true
+  pub limits : all_keep_limits g.points ≡ true
+  pub suits : all_suit g.kind g.points ≡ true
 
-pub record IsGraphOf (names : Declared) (script : Statements) (g : Flow) : Type 0 where
+pub record IsGraphOf (names : Declared) (script : Statements) (g : Graph) : Type 0 where
   pub kind_same : g.kind ≡ names.kind
   pub numbers_same : g.numbers ≡ length names.numbers
   pub flags_same : g.flags ≡ length names.flags
   -- one point for each statement, in the order of their first tokens
-  pub places_same : g.places ≡ points_of script
+  pub points_same : g.points ≡ points_of script
   pub first_same : g.first ≡ first_of script
   pub steps_same : g.steps ≡ statements_moves script
   -- the walks are the paths

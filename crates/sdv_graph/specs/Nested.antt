@@ -1,8 +1,8 @@
 -- How the loops of a graph are NESTED: wherever a run stands, the turns left are those that the point allows.
 use Rattle.std.specs.Prelude.{◌≡◌, ℕ, zero, suc, ◌≤◌, List, [], ◌∷◌, slice_get, Some}
 use Rattle.sdv_graph.specs.declared.graph.Target.{Target}
-use Rattle.sdv_graph.specs.Path.{Fork, Node, Place, sends, phases, lets, tests, flags, heads, jumps, stops, turns_at}
-use Rattle.sdv_graph.specs.Graph.{Flow}
+use Rattle.sdv_graph.specs.Path.{Case, Action, Point, sends, phases, lets, tests, flags, heads, jumps, stops, turns_at}
+use Rattle.sdv_graph.specs.Graph.{Graph}
 
 -- turns left that a point can have, the innermost loop first: as many as there are loops round it, and none above the
 -- most
@@ -25,12 +25,12 @@ Turned Over (zero ∷ ts) us = (zero ∷ ts) ≡ us
 Turned pass ts us = ⊥
 
 -- a fact of each target of a node
-abbrev pub EachFork : List Fork → (Pass → Target → Type 0) → Type 0
-EachFork [] P = Unit {0}
-EachFork (w ∷ ws) P = P Same w.target × EachFork ws P
+abbrev pub EachCase : List Case → (Pass → Target → Type 0) → Type 0
+EachCase [] P = Unit {0}
+EachCase (w ∷ ws) P = P Same w.target × EachCase ws P
 
-abbrev pub EachTarget : Node → (Pass → Target → Type 0) → Type 0
-EachTarget (sends c ways other) P = EachFork ways P × P Same other
+abbrev pub EachTarget : Action → (Pass → Target → Type 0) → Type 0
+EachTarget (sends c ways other) P = EachCase ways P × P Same other
 EachTarget (phases p well other) P = P Same well × P Same other
 EachTarget (lets l t) P = P Same t
 EachTarget (tests c holds other) P = P Same holds × P Same other
@@ -40,21 +40,21 @@ EachTarget (jumps t) P = P Same t
 EachTarget (stops last) P = Unit {0}
 
 -- a head stands in its own loop, and can have all its turns left
-abbrev pub HeadFits : Node → (most : List ℕ) → Type 0
+abbrev pub HeadFits : Action → (most : List ℕ) → Type 0
 HeadFits (heads n body other) (m ∷ most) = m ≡ n
 HeadFits (heads n body other) [] = ⊥
-HeadFits node most = Unit {0}
+HeadFits action most = Unit {0}
 
 -- a target is reached with turns left that its point can have
-abbrev pub Lands : List Place → (most : List ℕ) → Pass → Target → Type 0
+abbrev pub Lands : List Point → (most : List ℕ) → Pass → Target → Type 0
 Lands g most pass t =
-    (p : Place) → slice_get g t.to ≡ Some p → (ts us : List ℕ) → InBox ts most → Turned pass ts us
+    (p : Point) → slice_get g t.to ≡ Some p → (ts us : List ℕ) → InBox ts most → Turned pass ts us
     → InBox (turns_at t us) p.most
 
-pub record Nested (g : Flow) : Type 0 where
+pub record Nested (g : Graph) : Type 0 where
   -- a run begins at point 0, in no loop but its own
   pub first_point : g.first.to ≡ 0
   pub first_leave : g.first.leave ≡ 0
-  pub first_turns : (p : Place) → slice_get g.places 0 ≡ Some p → InBox (turns_at g.first []) p.most
-  pub heads_fit : (i : ℕ) (p : Place) → slice_get g.places i ≡ Some p → HeadFits p.node p.most
-  pub lands : (i : ℕ) (p : Place) → slice_get g.places i ≡ Some p → EachTarget p.node (Lands g.places p.most)
+  pub first_turns : (p : Point) → slice_get g.points 0 ≡ Some p → InBox (turns_at g.first []) p.most
+  pub heads_fit : (i : ℕ) (p : Point) → slice_get g.points i ≡ Some p → HeadFits p.action p.most
+  pub lands : (i : ℕ) (p : Point) → slice_get g.points i ≡ Some p → EachTarget p.action (Lands g.points p.most)

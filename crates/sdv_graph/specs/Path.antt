@@ -6,7 +6,7 @@ use Rattle.sdv_card.specs.declared.guard.Guard.TheVariants.{Ok as WentWell}
 use Rattle.sdv_card.specs.Guards.{passes}
 use Rattle.sdv_card.specs.Host.{Host}
 use Rattle.sdv_card.specs.ScriptEvent.{Return}
-use Rattle.sdv_graph.specs.declared.tree.Command.{Command}
+use Rattle.sdv_graph.specs.declared.tree.ScriptCommand.{ScriptCommand}
 use Rattle.sdv_graph.specs.declared.tree.Phase.{Phase}
 use Rattle.sdv_graph.specs.declared.tree.Let.{Let}
 use Rattle.sdv_graph.specs.declared.tree.Condition.{Condition}
@@ -19,25 +19,25 @@ use Rattle.sdv_graph.specs.Walk.{Pair, Ending, Fell, number_fault, Stops, Here, 
 -- A point without where it lies in memory.
 
 -- a case of a command
-pub record Fork : Type 0 where
+pub record Case : Type 0 where
   pub guards : List Guard
   pub target : Target
 
 -- what a statement does, and where it leads
-pub data Node : Type 0 where
-  sends : Command → (ways : List Fork) → (other : Target) → Node
-  phases : Phase → (well other : Target) → Node
-  lets : Let → Target → Node
-  tests : Condition → (holds other : Target) → Node
-  flags : (flag : ℕ) (on : Bool) → Target → Node
+pub data Action : Type 0 where
+  sends : ScriptCommand → (cases : List Case) → (other : Target) → Action
+  phases : Phase → (well other : Target) → Action
+  lets : Let → Target → Action
+  tests : Condition → (holds other : Target) → Action
+  flags : (flag : ℕ) (on : Bool) → Target → Action
   -- the head of a loop
-  heads : (count : ℕ) (body other : Target) → Node
-  jumps : Target → Node
-  stops : Ending → Node
+  heads : (count : ℕ) (body other : Target) → Action
+  jumps : Target → Action
+  stops : Ending → Action
 
 -- with the most turns that are left there of each loop round it, the innermost first
-pub record Place : Type 0 where
-  pub node : Node
+pub record Point : Type 0 where
+  pub action : Action
   pub most : List ℕ
 
 -- WHERE A RUN STANDS
@@ -74,7 +74,7 @@ pub data Move : Type 0 where
   Halts : Ending → Move
 
 -- the first case whose guards all hold
-abbrev pub way_of : Kind → List Fork → Target → Return → Target
+abbrev pub way_of : Kind → List Case → Target → Return → Target
 way_of k [] other returned = other
 way_of k (w ∷ ws) other returned = if all_pass k w.guards returned then w.target else way_of k ws other returned
 
@@ -89,25 +89,25 @@ move_at_head [] body other h = Halts Fell
 move_at_head (zero ∷ ts) body other h = Goes (arrive other (zero ∷ ts) h)
 move_at_head (suc t ∷ ts) body other h = Goes (arrive body (t ∷ ts) h)
 
-abbrev pub node_move : Kind → Node → List ℕ → Host → Move
-node_move k (sends c ways other) ts h =
+abbrev pub action_move : Kind → Action → List ℕ → Host → Move
+action_move k (sends c cases other) ts h =
     move_with (position_of_command h c.address)
-    (λ position. Does (command_deed k c h position) h (λ returned h'. arrive (way_of k ways other returned) ts h'))
-node_move k (phases p well other) ts h =
+    (λ position. Does (command_deed k c h position) h (λ returned h'. arrive (way_of k cases other returned) ts h'))
+action_move k (phases p well other) ts h =
     Does (phase_deed p h) h (λ returned h'. arrive (if passes k WentWell returned then well else other) ts h')
-node_move k (lets l t) ts h = move_with (value_of_let k h l) (λ n. Goes (arrive t ts (with_number h l.target n)))
-node_move k (tests c holds other) ts h = Goes (arrive (if condition_holds h c then holds else other) ts h)
-node_move k (flags f on t) ts h = Goes (arrive t ts (with_flag h f on))
-node_move k (heads n body other) ts h = move_at_head ts body other h
-node_move k (jumps t) ts h = Goes (arrive t ts h)
-node_move k (stops last) ts h = Halts last
+action_move k (lets l t) ts h = move_with (value_of_let k h l) (λ n. Goes (arrive t ts (with_number h l.target n)))
+action_move k (tests c holds other) ts h = Goes (arrive (if condition_holds h c then holds else other) ts h)
+action_move k (flags f on t) ts h = Goes (arrive t ts (with_flag h f on))
+action_move k (heads n body other) ts h = move_at_head ts body other h
+action_move k (jumps t) ts h = Goes (arrive t ts h)
+action_move k (stops last) ts h = Halts last
 
 -- past the last point the script fell off its end
-abbrev pub move : Kind → Option Place → List ℕ → Host → Move
+abbrev pub move : Kind → Option Point → List ℕ → Host → Move
 move k None ts h = Halts Fell
-move k (Some p) ts h = node_move k p.node ts h
+move k (Some p) ts h = action_move k p.action ts h
 
-abbrev pub move_from : Kind → List Place → Stand → Move
+abbrev pub move_from : Kind → List Point → Stand → Move
 move_from k g s = move k (slice_get g s.point) s.turns s.host
 
 -- PATHS
@@ -119,10 +119,10 @@ Follows k e go (Does deed before next) es = Acts k deed before (λ returned afte
 Follows k e go (Halts last) es = Stops e last es
 
 -- a path of less than n moves
-abbrev pub PathWithin : Kind → List Place → Ending → ℕ → Stand → List Pair → Type 0
+abbrev pub PathWithin : Kind → List Point → Ending → ℕ → Stand → List Pair → Type 0
 PathWithin k g e zero s es = ⊥
 PathWithin k g e (suc n) s es = Here e (Follows k e (PathWithin k g e n) (move_from k g s) es) es
 
 -- the graph does this from there, and ends so
-abbrev pub Path : Kind → List Place → Ending → Stand → List Pair → Type 0
+abbrev pub Path : Kind → List Point → Ending → Stand → List Pair → Type 0
 Path k g e s es = (n : ℕ) × PathWithin k g e n s es

@@ -5,7 +5,7 @@ use Rattle.sdv_graph.specs.declared.graph.Target.{Target}
 use Rattle.sdv_graph.specs.Tree.{Statements, nothing, first, Ways, otherwise, way, Statement, send, phase, setting, choice, set, clear, turns, break, done, fault}
 use Rattle.sdv_graph.specs.Counts.{statements_count, statement_count}
 use Rattle.sdv_graph.specs.Walk.{Finished, Failed}
-use Rattle.sdv_graph.specs.Path.{Fork, Node, Place, sends, phases, lets, tests, flags, heads, jumps, stops}
+use Rattle.sdv_graph.specs.Path.{Case, Action, Point, sends, phases, lets, tests, flags, heads, jumps, stops}
 
 -- TARGETS
 
@@ -32,9 +32,9 @@ abbrev pub again : ℕ → Target
 again at = record { to = at; leave = 0; enter = None }
 
 -- each case leads to its own block
-abbrev pub forks : Ways → ℕ → Target → List Fork
-forks (otherwise b) at next = []
-forks (way guards b rest) at next = record { guards = guards; target = entry b at next } ∷ forks rest
+abbrev pub cases_of : Ways → ℕ → Target → List Case
+cases_of (otherwise b) at next = []
+cases_of (way guards b rest) at next = record { guards = guards; target = entry b at next } ∷ cases_of rest
     (at + statements_count b) next
 
 -- and `else` to the last one
@@ -45,50 +45,50 @@ other_of (way guards b rest) at next = other_of rest (at + statements_count b) n
 -- POINTS, from a number on: `next` is where the end of a list leads, `brk` where a `break` leads, and `most` the most
 -- turns left of the loops round it
 
-abbrev pub place : Node → List ℕ → Place
-place node most = record { node = node; most = most }
+abbrev pub point_with : Action → List ℕ → Point
+point_with action most = record { action = action; most = most }
 
 abbrev mutual
-  pub points_of_statements : Statements → ℕ → (next brk : Target) → List ℕ → List Place
+  pub points_of_statements : Statements → ℕ → (next brk : Target) → List ℕ → List Point
   points_of_statements nothing at next brk most = []
   points_of_statements (first s rest) at next brk most =
       points_of_statement s at (entry rest (at + statement_count s) next) brk most
       ++ points_of_statements rest (at + statement_count s) next brk most
 
-  pub points_of_ways : Ways → ℕ → (next brk : Target) → List ℕ → List Place
+  pub points_of_ways : Ways → ℕ → (next brk : Target) → List ℕ → List Point
   points_of_ways (otherwise b) at next brk most = points_of_statements b at next brk most
   points_of_ways (way guards b rest) at next brk most =
       points_of_statements b at next brk most ++ points_of_ways rest (at + statements_count b) next brk most
 
-  pub points_of_statement : Statement → ℕ → (next brk : Target) → List ℕ → List Place
+  pub points_of_statement : Statement → ℕ → (next brk : Target) → List ℕ → List Point
   points_of_statement (send c ways) at next brk most =
-      place (sends c (forks ways (at + 1) next) (other_of ways (at + 1) next)) most ∷ points_of_ways ways
+      point_with (sends c (cases_of ways (at + 1) next) (other_of ways (at + 1) next)) most ∷ points_of_ways ways
       (at + 1) next brk most
   points_of_statement (phase p a b) at next brk most =
-      place (phases p (entry a (at + 1) next) (entry b (at + 1 + statements_count a) next)) most
+      point_with (phases p (entry a (at + 1) next) (entry b (at + 1 + statements_count a) next)) most
       ∷ (points_of_statements a (at + 1) next brk most ++ points_of_statements b
       (at + 1 + statements_count a) next brk most)
-  points_of_statement (setting l) at next brk most = place (lets l next) most ∷ []
+  points_of_statement (setting l) at next brk most = point_with (lets l next) most ∷ []
   points_of_statement (choice c a b) at next brk most =
-      place (tests c (entry a (at + 1) next) (entry b (at + 1 + statements_count a) next)) most
+      point_with (tests c (entry a (at + 1) next) (entry b (at + 1 + statements_count a) next)) most
       ∷ (points_of_statements a (at + 1) next brk most ++ points_of_statements b
       (at + 1 + statements_count a) next brk most)
-  points_of_statement (set f) at next brk most = place (flags f true next) most ∷ []
-  points_of_statement (clear f) at next brk most = place (flags f false next) most ∷ []
+  points_of_statement (set f) at next brk most = point_with (flags f true next) most ∷ []
+  points_of_statement (clear f) at next brk most = point_with (flags f false next) most ∷ []
   -- a body's end leads back to the head; the else block stands outside the loop
   points_of_statement (turns n a b) at next brk most =
-      place (heads n (entry a (at + 1) (again at)) (outside (entry b (at + 1 + statements_count a) next))) (n ∷ most)
+      point_with (heads n (entry a (at + 1) (again at)) (outside (entry b (at + 1 + statements_count a) next))) (n ∷ most)
       ∷ (points_of_statements a (at + 1) (again at) (outside next) ((n - 1) ∷ most)
       ++ points_of_statements b (at + 1 + statements_count a) next brk most)
-  points_of_statement break at next brk most = place (jumps brk) most ∷ []
-  points_of_statement done at next brk most = place (stops Finished) most ∷ []
-  points_of_statement (fault name) at next brk most = place (stops (Failed name)) most ∷ []
+  points_of_statement break at next brk most = point_with (jumps brk) most ∷ []
+  points_of_statement done at next brk most = point_with (stops Finished) most ∷ []
+  points_of_statement (fault name) at next brk most = point_with (stops (Failed name)) most ∷ []
 
 -- past the last point
 abbrev pub past : Statements → Target
 past script = record { to = statements_count script; leave = 0; enter = None }
 
-abbrev pub points_of : Statements → List Place
+abbrev pub points_of : Statements → List Point
 points_of script = points_of_statements script 0 (past script) (past script) []
 
 -- where a run begins

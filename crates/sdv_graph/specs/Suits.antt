@@ -9,25 +9,25 @@ use Rattle.sdv_card.specs.CommandTable.{order_of}
 use Rattle.sdv_graph.specs.declared.tree.Atom.{Atom}
 use Rattle.sdv_graph.specs.declared.tree.Atom.TheVariants.{ExtBlocks}
 use Rattle.sdv_graph.specs.GuardSuits.{fits_order}
-use Rattle.sdv_graph.specs.Path.{Fork, Node, Place, sends, lets}
+use Rattle.sdv_graph.specs.Path.{Case, Action, Point, sends, lets}
 
 abbrev pub guards_suit : Option Order → List Guard → Bool
 guards_suit order [] = true
 guards_suit order (g ∷ gs) = fits_order g order && guards_suit order gs
 
-abbrev pub forks_suit : Option Order → List Fork → Bool
-forks_suit order [] = true
-forks_suit order (w ∷ ws) = guards_suit order w.guards && forks_suit order ws
+abbrev pub cases_suit : Option Order → List Case → Bool
+cases_suit order [] = true
+cases_suit order (w ∷ ws) = guards_suit order w.guards && cases_suit order ws
 
 abbrev pub atom_suits : Kind → Atom → Bool
 atom_suits Sd ExtBlocks = false
 atom_suits k atom = true
 
-abbrev pub node_suits : Kind → Node → Bool
-node_suits k (sends c ways other) = forks_suit (order_of k c.ask) ways
-node_suits k (lets l t) = atom_suits k l.atom
-node_suits k node = true
+abbrev pub action_suits : Kind → Action → Bool
+action_suits k (sends c ways other) = cases_suit (order_of k c.ask) ways
+action_suits k (lets l t) = atom_suits k l.atom
+action_suits k action = true
 
-abbrev pub all_suit : Kind → List Place → Bool
+abbrev pub all_suit : Kind → List Point → Bool
 all_suit k [] = true
-all_suit k (p ∷ ps) = node_suits k p.node && all_suit k ps
+all_suit k (p ∷ ps) = action_suits k p.action && all_suit k ps

@@ -5,7 +5,7 @@ use Rattle.sdv_card.specs.declared.guard.Guard.{Guard}
 use Rattle.sdv_graph.specs.declared.tree.Block.{Block, Empty, Then'}
 use Rattle.sdv_graph.specs.declared.tree.Cases.{Cases, Else', Case'}
 use Rattle.sdv_graph.specs.declared.tree.Stmt.{Stmt, Send, Phase', Let, If', Set, Clear, Loop', Break, Done, Fault}
-use Rattle.sdv_graph.specs.declared.tree.Command.{Command}
+use Rattle.sdv_graph.specs.declared.tree.ScriptCommand.{ScriptCommand}
 use Rattle.sdv_graph.specs.declared.tree.Phase.{Phase}
 use Rattle.sdv_graph.specs.declared.tree.Let.{Let as Setting}
 use Rattle.sdv_graph.specs.declared.tree.Condition.{Condition}
@@ -22,7 +22,7 @@ mutual
     way : List Guard → Statements → Ways → Ways
 
   pub data Statement : Type 0 where
-    send : Command → Ways → Statement
+    send : ScriptCommand → Ways → Statement
     phase : Phase → Statements → Statements → Statement
     setting : Setting → Statement
     choice : Condition → Statements → Statements → Statement

@@ -13,7 +13,7 @@ use Rattle.sdv_card.specs.Guards.{passes}
 use Rattle.sdv_card.specs.Host.{Host, host_after}
 use Rattle.sdv_card.specs.Profile.{host_at_start}
 use Rattle.sdv_card.specs.ScriptEvent.{ScriptEvent, SendCommand, ReceiveBlocks, ReceiveRegister, GiveBlocks, AwaitReady, Return, MayReturn}
-use Rattle.sdv_graph.specs.declared.tree.Command.{Command}
+use Rattle.sdv_graph.specs.declared.tree.ScriptCommand.{ScriptCommand}
 use Rattle.sdv_graph.specs.declared.tree.Phase.{Phase}
 use Rattle.sdv_graph.specs.declared.tree.Phase.TheVariants as phases
 use Rattle.sdv_graph.specs.Tree.{Statements, nothing, first, Ways, otherwise, way, Statement, send, phase, setting, choice, set, clear, turns, break, done, fault, Declared}
@@ -75,7 +75,7 @@ IsDeed (exactly wanted) event = event ≡ wanted
 IsDeed (giving count) event = (blocks : List Block) × (length blocks ≡ count) × (event ≡ GiveBlocks blocks)
 
 -- a command with its position, and its argument by the address of the block there, in the unit that the script sends
-abbrev pub command_deed : Kind → Command → Host → (position : ℕ) → Deed
+abbrev pub command_deed : Kind → ScriptCommand → Host → (position : ℕ) → Deed
 command_deed k c h position =
     exactly (SendCommand c.ask position (argument_of k c.ask h.rca (address_of_command h c.address position)))
 

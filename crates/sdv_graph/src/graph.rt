@@ -3,7 +3,7 @@
 //! A point is numbered by the order of the statements' first tokens, from 0. The point of a loop is its head, which is
 //! reached on entry and after each turn.
 
-use crate::tree::{Command, Condition, Let, Phase};
+use crate::tree::{Condition, Let, Phase, ScriptCommand};
 use sdv_card::{Guard, Kind};
 use std::marker::Model;
 
@@ -20,7 +20,7 @@ pub struct Target {
 
 /// A case of a command: where it leads if its guards all hold, and no earlier case's do.
 #[derive(Drop)]
-pub struct Way {
+pub struct Case {
     /// The guards, one or more.
     pub guards: Vec<Guard>,
     /// The case's block, or what follows it where it has no statement.
@@ -31,7 +31,7 @@ pub struct Way {
 #[derive(Drop)]
 pub enum Action<'a> {
     /// A command, its cases in their order, and where it leads if none is taken.
-    Send(Command, Vec<Way>, Target),
+    Send(ScriptCommand, Vec<Case>, Target),
     /// A data phase or a wait, where it leads if it ends well, and where otherwise.
     Phase(Phase, Target, Target),
     /// A number variable is set.
@@ -72,33 +72,19 @@ pub struct Graph<'a> {
 }
 
 impl<'a> Model for Graph<'a> {
-    ghost use Rattle.sdv_graph.specs.Graph.{Flow, places_of};
+    ghost use Rattle.sdv_graph.specs.Graph.{Graph, graph_with};
     ghost use Rattle.sdv_graph.specs.GraphOf.{IsSound};
 
-    ghost Value = { Flow };
+    ghost Value = { Graph };
 
-    ghost view = { λ g. record {
-      kind = g.kind;
-      numbers = g.numbers;
-      flags = g.flags;
-      places = places_of g.points.items;
-      first = g.first;
-      steps = g.steps;
-    } };
+    ghost view = { λ g. graph_with g.kind g.numbers g.flags g.points.items g.first g.steps };
 
-    ghost invariant = { λ g. IsSound (record {
-      kind = g.kind;
-      numbers = g.numbers;
-      flags = g.flags;
-      places = places_of g.points.items;
-      first = g.first;
-      steps = g.steps;
-    }) };
+    ghost invariant = { λ g. IsSound (graph_with g.kind g.numbers g.flags g.points.items g.first g.steps) };
 }
 
 impl<'a> Graph<'a> {
     ghost use Rattle.std.specs.Prelude.{◌≡◌, ◌<◌, length, slice_get, Some};
-    ghost use Rattle.sdv_graph.specs.Graph.{Flow, EachRunEnds, place_of, places_of};
+    ghost use Rattle.sdv_graph.specs.Graph.{Graph, EachRunEnds, graph_with, seen_point};
     ghost use Rattle.sdv_graph.specs.GraphOf.{IsSound};
 
     /// A graph of these points.
@@ -110,22 +96,8 @@ impl<'a> Graph<'a> {
         first: Target,
         steps: u128,
     ) -> Self
-        requires { IsSound (record {
-          kind = kind;
-          numbers = numbers;
-          flags = flags;
-          places = places_of points.items;
-          first = first;
-          steps = steps;
-        }) }
-        ensures { result ≡ record {
-          kind = kind;
-          numbers = numbers;
-          flags = flags;
-          places = places_of points.entry.items;
-          first = first;
-          steps = steps;
-        } }
+        requires { IsSound (graph_with kind numbers flags points.items first steps) }
+        ensures { result ≡ graph_with kind numbers flags points.entry.items first steps }
     {
         Graph {
             kind,
@@ -160,15 +132,15 @@ impl<'a> Graph<'a> {
 
     /// The number of points.
     pub fn len(&self) -> usize
-        ensures { result ≡ length self.now.places }
+        ensures { result ≡ length self.now.points }
     {
         self.points.len()
     }
 
     /// The point with a number below `len()`.
     pub fn point(&self, number: usize) -> &Point<'a>
-        requires { number < length self.now.places }
-        ensures { slice_get self.now.places number ≡ Some (place_of result.now) }
+        requires { number < length self.now.points }
+        ensures { slice_get self.now.points number ≡ Some (seen_point result.now) }
     {
         &self.points[number]
     }

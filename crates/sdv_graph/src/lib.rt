@@ -5,13 +5,15 @@
 #![tactic(auto)]
 
 mod graph;
+mod limits;
 mod moves;
 mod points;
 mod tree;
 
-pub use graph::{Action, Graph, Point, Target, Way};
+pub use graph::{Action, Case, Graph, Point, Target};
+pub use limits::{MAX_NUMBER, MAX_STATEMENTS};
 pub use points::graph_of;
 pub use tree::{
-    Address, Atom, Block, Cases, Change, Command, Condition, Let, Names, Phase, Position, Stmt,
-    Unit,
+    Address, Atom, Block, Cases, Change, Condition, Let, Names, Phase, Position, ScriptCommand,
+    Stmt, Unit,
 };

@@ -4,11 +4,11 @@ ghost use Rattle.std.specs.Prelude.{◌≡◌, ◌+◌, ◌-◌, ◌<◌, ◌^�
 ghost use Rattle.sdv_graph.specs.Tree.{statements_of, ways_of, statement_of};
 ghost use Rattle.sdv_graph.specs.Counts.{statements_count, ways_count, statement_count};
 ghost use Rattle.sdv_graph.specs.Moves.{statements_moves};
-ghost use Rattle.sdv_graph.specs.Points.{start_of, entry, outside, again, forks, other_of, points_of_statements, points_of_ways, points_of_statement};
-ghost use Rattle.sdv_graph.specs.Graph.{fork_of, node_of, place_of, places_of, declared_names};
+ghost use Rattle.sdv_graph.specs.Points.{start_of, entry, outside, again, cases_of, other_of, points_of_statements, points_of_ways, points_of_statement};
+ghost use Rattle.sdv_graph.specs.Graph.{seen_case, seen_action, seen_point, seen_points, declared_names};
 ghost use Rattle.sdv_graph.specs.GraphOf.{CanRun, SuitsKind, IsGraphOf};
 
-use crate::graph::{Action, Graph, Point, Target, Way};
+use crate::graph::{Action, Case, Graph, Point, Target};
 use crate::moves::moves;
 use crate::tree::{Block, Cases, Names, Stmt};
 use std::alloc::{AllocError, Global};
@@ -107,26 +107,26 @@ fn outside_of(target: Target) -> Target
 }
 
 // The cases of a command, whose first block's first statement has the number `at`.
-fn put_ways(
+fn list_cases(
     alloc: Global,
-    ways: &mut Vec<Way>,
+    listed: &mut Vec<Case>,
     at: usize,
     cases: &Cases<'_>,
     next: Target,
 ) -> Result<(), AllocError>
     requires { at + ways_count (ways_of cases.now) < 2 ^ 64 }
-    ensures { OnOk result (map fork_of ways.new.items
-        ≡ map fork_of ways.old.items ++ forks (ways_of cases.now) at next) }
+    ensures { OnOk result (map seen_case listed.new.items
+        ≡ map seen_case listed.old.items ++ cases_of (ways_of cases.now) at next) }
 {
     match cases {
         Cases::Else(_) => Ok(()),
         Cases::Case(guards, block, rest) => {
-            let way = Way {
+            let case = Case {
                 guards: Vec::from_slice(alloc, guards)?,
                 target: entry_of(block, at, next),
             };
-            ways.push(way)?;
-            put_ways(alloc, ways, at + count(block), rest, next)
+            listed.push(case)?;
+            list_cases(alloc, listed, at + count(block), rest, next)
         }
     }
 }
@@ -157,8 +157,8 @@ fn put<'a>(
     action: Action<'a>,
     most_turns: Vec<u16>,
 ) -> Result<(), AllocError>
-    ensures { OnOk result (places_of points.new.items
-        ≡ places_of points.old.items ++ record { node = node_of action.entry; most = most_turns.items } ∷ []) }
+    ensures { OnOk result (seen_points points.new.items
+        ≡ seen_points points.old.items ++ record { action = seen_action action.entry; most = most_turns.items } ∷ []) }
 {
     points.push(Point { action, most_turns })?;
     Ok(())
@@ -177,8 +177,8 @@ fn put_block<'a>(
     most: &[u16],
 ) -> Result<(), AllocError>
     requires { at + statements_count (statements_of block.now) + next.leave < 2 ^ 64 }
-    ensures { OnOk result (places_of points.new.items
-        ≡ places_of points.old.items ++ points_of_statements (statements_of block.now) at next brk most.now) }
+    ensures { OnOk result (seen_points points.new.items
+        ≡ seen_points points.old.items ++ points_of_statements (statements_of block.now) at next brk most.now) }
 {
     match block {
         Block::Empty => Ok(()),
@@ -202,8 +202,8 @@ fn put_cases<'a>(
     most: &[u16],
 ) -> Result<(), AllocError>
     requires { at + ways_count (ways_of cases.now) + next.leave < 2 ^ 64 }
-    ensures { OnOk result (places_of points.new.items
-        ≡ places_of points.old.items ++ points_of_ways (ways_of cases.now) at next brk most.now) }
+    ensures { OnOk result (seen_points points.new.items
+        ≡ seen_points points.old.items ++ points_of_ways (ways_of cases.now) at next brk most.now) }
 {
     match cases {
         Cases::Else(block) => put_block(alloc, points, at, block, next, brk, most),
@@ -225,16 +225,16 @@ fn put_stmt<'a>(
     most: &[u16],
 ) -> Result<(), AllocError>
     requires { at + statement_count (statement_of stmt.now) + next.leave < 2 ^ 64 }
-    ensures { OnOk result (places_of points.new.items
-        ≡ places_of points.old.items ++ points_of_statement (statement_of stmt.now) at next brk most.now) }
+    ensures { OnOk result (seen_points points.new.items
+        ≡ seen_points points.old.items ++ points_of_statement (statement_of stmt.now) at next brk most.now) }
 {
     let here = Vec::from_slice(alloc, most)?;
     match stmt {
         Stmt::Send(command, cases) => {
-            let mut ways = Vec::new(alloc);
-            put_ways(alloc, &mut ways, at + 1, cases, next)?;
+            let mut listed = Vec::new(alloc);
+            list_cases(alloc, &mut listed, at + 1, cases, next)?;
             let other = other_target(at + 1, cases, next);
-            put(points, Action::Send(*command, ways, other), here)?;
+            put(points, Action::Send(*command, listed, other), here)?;
             put_cases(alloc, points, at + 1, cases, next, brk, most)
         }
         Stmt::Phase(phase, a, b) => {

@@ -30,7 +30,7 @@ pub enum Cases<'a> {
 #[cycle(tree)]
 pub enum Stmt<'a> {
     /// `send`: a command, and what its answers lead to.
-    Send(Command, Cases<'a>),
+    Send(ScriptCommand, Cases<'a>),
     /// `recv`, `recv reg`, `give` and `wait`, with the block after `ok` and that after `else`.
     Phase(Phase, Box<Block<'a>>, Box<Block<'a>>),
     /// `let`: a number variable is set.
@@ -53,7 +53,7 @@ pub enum Stmt<'a> {
 
 /// A command as a script writes it.
 #[derive(Clone, Copy)]
-pub struct Command {
+pub struct ScriptCommand {
     /// The index, what the argument is, and the announced count.
     pub ask: Ask,
     /// The address of a block, of the commands that have one.

@@ -9,8 +9,8 @@ use Rattle.sdv_registers.specs.declared.kind.Kind.{Kind}
 use Rattle.sdv_registers.specs.declared.kind.Kind.TheVariants.{Sd, Emmc}
 use Rattle.sdv_registers.specs.declared.fault.RegisterFault.{RegisterFault}
 use Rattle.sdv_registers.specs.declared.fault.RegisterFault.TheVariants.{Structure, BlockLength}
-use Rattle.sdv_registers.specs.declared.csd.Layout.{Layout}
-use Rattle.sdv_registers.specs.declared.csd.Layout.TheVariants.{Version1, Version2}
+use Rattle.sdv_registers.specs.declared.csd.CsdLayout.{CsdLayout}
+use Rattle.sdv_registers.specs.declared.csd.CsdLayout.TheVariants.{Version1, Version2}
 
 -- CSD_STRUCTURE and READ_BL_LEN, in both layouts
 abbrev pub csd_structure : Bits → ℕ
@@ -20,7 +20,7 @@ abbrev pub read_bl_len : Bits → ℕ
 read_bl_len csd = field 127 83 80 csd
 
 -- C_SIZE, by the layout
-abbrev pub c_size : Layout → Bits → ℕ
+abbrev pub c_size : CsdLayout → Bits → ℕ
 c_size Version1 csd = field 127 73 62 csd
 c_size Version2 csd = field 127 69 48 csd
 
@@ -28,12 +28,12 @@ c_size Version2 csd = field 127 69 48 csd
 abbrev pub c_size_mult : Bits → ℕ
 c_size_mult csd = field 127 49 47 csd
 
-abbrev pub c_size_mult_of : Layout → Bits → Option ℕ
+abbrev pub c_size_mult_of : CsdLayout → Bits → Option ℕ
 c_size_mult_of Version1 csd = Some (c_size_mult csd)
 c_size_mult_of Version2 csd = None
 
 -- the layout of a register that is read: every e.MMC device has that of version 1
-abbrev pub layout : Kind → Bits → Layout
+abbrev pub layout : Kind → Bits → CsdLayout
 layout Sd csd = if csd_structure csd == 1 then Version2 else Version1
 layout Emmc csd = Version1
 
@@ -44,7 +44,7 @@ has_unknown_structure Emmc csd = false
 
 -- READ_BL_LEN is no block length of 512, 1,024 or 2,048 bytes; in version 2 it is not tested, as the
 -- capacity does not depend on it
-abbrev pub has_other_block_length : Layout → Bits → Bool
+abbrev pub has_other_block_length : CsdLayout → Bits → Bool
 has_other_block_length Version1 csd = nat_lt (read_bl_len csd) 9 || nat_lt 11 (read_bl_len csd)
 has_other_block_length Version2 csd = false
 
@@ -56,7 +56,7 @@ fault kind csd =
     else None
 
 -- the capacity in blocks of 512 bytes, by the layout
-abbrev pub blocks_of : Layout → Bits → ℕ
+abbrev pub blocks_of : CsdLayout → Bits → ℕ
 blocks_of Version1 csd =
     (c_size Version1 csd + 1) * 2 ^ (c_size_mult csd + 2) * 2 ^ (read_bl_len csd - 9)
 blocks_of Version2 csd = (c_size Version2 csd + 1) * 1024

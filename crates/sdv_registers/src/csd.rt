@@ -8,7 +8,7 @@ use crate::kind::Kind;
 
 /// How the fields of a CSD lie.
 #[derive(Clone, Copy, Debug, PartialEq, Eq)]
-pub enum Layout {
+pub enum CsdLayout {
     /// CSD version 1 of an SD card, and the CSD of every e.MMC device.
     Version1,
     /// CSD version 2 of an SD card.
@@ -41,7 +41,7 @@ impl Csd {
         if kind == Kind::Sd && structure_of(register) > 1 {
             return Err(RegisterFault::Structure);
         }
-        if layout_of(kind, register) == Layout::Version1
+        if layout_of(kind, register) == CsdLayout::Version1
             && !(9..=11).contains(&block_length_of(register))
         {
             return Err(RegisterFault::BlockLength);
@@ -60,7 +60,7 @@ impl Csd {
     }
 
     /// The layout of the fields below, by the kind of card and CSD_STRUCTURE.
-    pub fn layout(&self) -> Layout
+    pub fn layout(&self) -> CsdLayout
         ensures { result ≡ layout self.now.kind (bits_of self.now.register) }
     {
         layout_of(self.kind, &self.register)
@@ -78,8 +78,8 @@ impl Csd {
         ensures { let csd = bits_of self.now.register in result ≡ c_size (layout self.now.kind csd) csd }
     {
         match self.layout() {
-            Layout::Version1 => register_field(&self.register, 73, 62) as u32,
-            Layout::Version2 => register_field(&self.register, 69, 48) as u32,
+            CsdLayout::Version1 => register_field(&self.register, 73, 62) as u32,
+            CsdLayout::Version2 => register_field(&self.register, 69, 48) as u32,
         }
     }
 
@@ -90,8 +90,8 @@ impl Csd {
         ensures narrow { IfSome result (λ mult. mult < 8) }
     {
         match self.layout() {
-            Layout::Version1 => Some(register_field(&self.register, 49, 47) as u8),
-            Layout::Version2 => None,
+            CsdLayout::Version1 => Some(register_field(&self.register, 49, 47) as u8),
+            CsdLayout::Version2 => None,
         }
     }
 
@@ -133,11 +133,11 @@ fn block_length_of(register: &[u8; 15]) -> u8
 }
 
 /// The layout of the register of a card of this kind.
-fn layout_of(kind: Kind, register: &[u8; 15]) -> Layout
+fn layout_of(kind: Kind, register: &[u8; 15]) -> CsdLayout
     ensures { result ≡ layout kind (bits_of register.now) }
 {
     match kind {
-        Kind::Sd if structure_of(register) == 1 => Layout::Version2,
-        _ => Layout::Version1,
+        Kind::Sd if structure_of(register) == 1 => CsdLayout::Version2,
+        _ => CsdLayout::Version1,
     }
 }

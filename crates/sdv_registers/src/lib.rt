@@ -18,7 +18,7 @@ mod sd_cid;
 mod status;
 
 pub use cid::Cid;
-pub use csd::{Csd, Layout};
+pub use csd::{Csd, CsdLayout};
 pub use emmc_cid::EmmcCid;
 pub use ext_csd::ExtCsd;
 pub use fault::RegisterFault;

@@ -18,7 +18,7 @@ use Rattle.sdv_graph.specs.AddressSent.{position_of_command, address_of_command}
 use Rattle.sdv_graph.specs.Conditions.{condition_holds, with_flag}
 use Rattle.sdv_graph.specs.ValueOfLet.{value_of_let, with_number}
 use Rattle.sdv_graph.specs.Walk.{exactly, giving, command_deed}
-use Rattle.sdv_graph.specs.Path.{Node, sends, phases, lets, tests, flags, heads, jumps, stops, Stand, arrive, Move, Goes, Does, way_of, move_with, node_move}
+use Rattle.sdv_graph.specs.Path.{Action, sends, phases, lets, tests, flags, heads, jumps, stops, Stand, arrive, Move, Goes, Does, way_of, move_with, action_move}
 use Rattle.sdv_run.specs.Announced.{announced_at}
 use Rattle.sdv_run.specs.Run.{Steps}
 use Rattle.sdv_run.specs.Step.{World, Leads}
@@ -93,7 +93,7 @@ module _ {S : Type 0} (k : Kind) (steps : Steps S) (room : ℕ) where
   with_within None on f = λ w w' stand p. absurd p
   with_within (Some n) on f = f n
 
-  pub announced_after : (node : Node) (ts : List ℕ) (h : Host) → announced_at node ≤ room → Within room h → Kept (node_move k node ts h)
+  pub announced_after : (action : Action) (ts : List ℕ) (h : Host) → announced_at action ≤ room → Within room h → Kept (action_move k action ts h)
   announced_after (sends c ways other) ts h few in_room =
       with_within (position_of_command h c.address)
       (λ position. Does (command_deed k c h position) h (λ returned h'. arrive (way_of k ways other returned) ts h'))

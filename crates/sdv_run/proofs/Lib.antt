@@ -2,7 +2,7 @@ pub mod Known
 pub mod Flags
 pub mod Steps
 pub mod Given
-pub mod Places
+pub mod AtPoints
 pub mod Announced
 pub mod Made
 pub mod Runs

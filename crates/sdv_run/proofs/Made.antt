@@ -6,20 +6,20 @@ use Rattle.sdv_registers.specs.declared.kind.Kind.{Kind}
 use Rattle.sdv_card.specs.Host.{host_after}
 use Rattle.sdv_card.specs.ScriptEvent.{ScriptEvent, Return}
 use Rattle.sdv_graph.specs.Walk.{Pair, Ending, given_by, given}
-use Rattle.sdv_graph.specs.Path.{Place, Stand, Move, Goes, Does, Halts, Follows, Path}
+use Rattle.sdv_graph.specs.Path.{Point, Stand, Move, Goes, Does, Halts, Follows, Path}
 use Rattle.sdv_graph.specs.Graph.{WhereverTo}
 use Rattle.sdv_run.specs.Trace.{line_of}
-use Rattle.sdv_run.specs.Run.{Steps, Moved, lines, received_by, received}
+use Rattle.sdv_run.specs.Run.{Steps, RunMoved, lines, received_by, received}
 use Rattle.sdv_run.specs.Ran.{Happened, Written}
 use Rattle.sdv_run.specs.Step.{World, Made, Leads}
 use Rattle.sdv_text.proofs.WrittenLaws.{appends_more, appends_none}
-use Rattle.sdv_run.proofs.Places.{Onward}
+use Rattle.sdv_run.proofs.AtPoints.{Onward}
 
 -- LISTS OF EVENTS
 
-pub moved_more : {S : Type 0} (k : Kind) (steps : Steps S) (es fs : List Pair) (s t u : S) → Moved k steps s es t → Moved k steps t fs u →
-    Moved k steps s (es ++ fs) u
-moved_more k steps [] fs s t u p q = subst (λ v. Moved k steps v fs u) p q
+pub moved_more : {S : Type 0} (k : Kind) (steps : Steps S) (es fs : List Pair) (s t u : S) → RunMoved k steps s es t → RunMoved k steps t fs u →
+    RunMoved k steps s (es ++ fs) u
+moved_more k steps [] fs s t u p q = subst (λ v. RunMoved k steps v fs u) p q
 moved_more k steps (e ∷ es) fs s t u p q = (p.0, p.1, moved_more k steps es fs p.0 t u p.2 q)
 
 pub lines_more : (es fs : List Pair) → lines (es ++ fs) ≡ lines es ++ lines fs
@@ -70,13 +70,13 @@ module _ {S : Type 0} (k : Kind) (steps : Steps S) where
   }
 
   -- ONE MOVE
-  pub record Moves (g : List Place) (m : Move) (w w' : World S) (stand : Stand) : Type 0 where
+  pub record Moves (g : List Point) (m : Move) (w w' : World S) (stand : Stand) : Type 0 where
     pub events : List Pair
     pub happened : Happened k steps events w w'
     pub written : Written events w w'
     pub leads : (e : Ending) (rest : List Pair) → Path k g e stand rest → Follows k e (Path k g e) m (events ++ rest)
 
-  pub moves : (g : List Place) (m : Move) (w w' : World S) (stand : Stand) → Leads k steps m w w' stand → Moves g m w w' stand
+  pub moves : (g : List Point) (m : Move) (w w' : World S) (stand : Stand) → Leads k steps m w w' stand → Moves g m w w' stand
   moves g (Goes next) w w' stand p = record {
     events = [];
     happened = subst (λ v. Happened k steps [] w v) (sym p.0) (none_happened w);

@@ -22,7 +22,7 @@ use Rattle.sdv_card.specs.Host.{Host, host_after_order}
 use Rattle.sdv_card.specs.Port.{Shows, Kept, KeepsTables}
 use Rattle.sdv_card.specs.ScriptEvent.{SendCommand, Answered}
 use Rattle.sdv_card.specs.Step.{Step}
-use Rattle.sdv_graph.specs.Graph.{Flow, begin}
+use Rattle.sdv_graph.specs.Graph.{Graph, begin}
 use Rattle.sdv_graph.specs.GraphOf.{IsSound}
 use Rattle.sdv_graph.specs.Path.{Path}
 use Rattle.sdv_graph.specs.Walk.{Pair, Ending, Open}
@@ -38,7 +38,7 @@ use Rattle.sdv_run.specs.declared.end.End.{End}
 use Rattle.sdv_run.specs.declared.fault.RunFault.{RunFault}
 use Rattle.sdv_run.specs.declared.fault.RunFault.TheVariants as faults
 use Rattle.sdv_run.specs.Answers.{is_of_kind, has_readable_csd, is_taken}
-use Rattle.sdv_run.specs.Run.{Steps, Moved, ending_of}
+use Rattle.sdv_run.specs.Run.{Steps, RunMoved, ending_of}
 use Rattle.sdv_run.specs.Step.{World}
 use Rattle.sdv_run.specs.Ran.{Because, Ran}
 use Rattle.sdv_run.specs.OnCard.{ShowsStart, OnCard, RanBeside}
@@ -103,7 +103,7 @@ record Beside {S : Type 0} (card : S → Option Card) (es : List Pair) (c : Card
   shown : Shows card s' last
 
 beside : {S : Type 0} (steps : Steps S) (card : S → Option Card) → KeepsTables steps card → (k : Kind) (es : List Pair) (c : Card) (p p' : S) →
-    EachIsMade k es c → Shows card p c → Moved k steps p es p' → Beside card es c p'
+    EachIsMade k es c → Shows card p c → RunMoved k steps p es p' → Beside card es c p'
 beside steps card keeps k [] c p p' made shown moved = record { last = c; steps = refl; shown = subst (λ s. Shows card s c) (sym moved) shown }
 beside steps card keeps k ((event, returned) ∷ es) c p p' made shown (q, step, more) =
     let one : IsMade k event c = made [] event returned es c refl refl in
@@ -125,10 +125,10 @@ last_step (y ∷ front) x c last (u, step, more) =
     let l = last_step front x u last more in
     record { before = l.before; steps = (u, step, l.steps); step = l.step }
 
-module _ {S : Type 0} (steps : Steps S) (card : S → Option Card) (keeps : KeepsTables steps card) (g : Flow) (ps : List PointFacts) (laws : Laws g.kind)
+module _ {S : Type 0} (steps : Steps S) (card : S → Option Card) (keeps : KeepsTables steps card) (g : Graph) (ps : List PointFacts) (laws : Laws g.kind)
     (sound : IsSound g) (closed : Closed g ps) where
-  on_card : (e : Ending) (es : List Pair) (s s' : S) (c : Card) → ShowsStart card g.kind s c → Path g.kind g.places e (begin g) es →
-      Moved g.kind steps s es s' → OnCard card (bound_of g ps) e es c s'
+  on_card : (e : Ending) (es : List Pair) (s s' : S) (c : Card) → ShowsStart card g.kind s c → Path g.kind g.points e (begin g) es →
+      RunMoved g.kind steps s es s' → OnCard card (bound_of g ps) e es c s'
   on_card e es s s' c start path moved =
       let made = each_event g ps laws sound closed c start.kind start.start e es path in
       let b = beside steps card keeps g.kind es c s s' made start.shown moved in
@@ -136,7 +136,7 @@ module _ {S : Type 0} (steps : Steps S) (card : S → Option Card) (keeps : Keep
       record { last = b.last; steps = b.steps; shown = b.shown; good = good; sent = good.sent b.last b.steps; ends = good.ends b.last b.steps }
 
   -- a card's answers are taken, and the arguments of an accepted script have 32 bits
-  no_reply : (es : List Pair) (w w' : World S) (c : Card) → ShowsStart card g.kind w.port c → Path g.kind g.places Open (begin g) es →
+  no_reply : (es : List Pair) (w w' : World S) (c : Card) → ShowsStart card g.kind w.port c → Path g.kind g.points Open (begin g) es →
       OnCard card (bound_of g ps) Open es c w'.port → Because faults.Reply g es w w' → ⊥
   no_reply es w w' c start path on (inl refused) =
       let l = last_step refused.earlier (SendCommand refused.ask refused.position refused.argument, Answered refused.answer) c on.last
@@ -159,20 +159,20 @@ module _ {S : Type 0} (steps : Steps S) (card : S → Option Card) (keeps : Keep
 -- THE CERTIFICATE of an accepted script is known to be there
 
 -- a certificate that is closed for the graph, with this bound
-pub record HasCertificate (g : Flow) (most : ℕ) : Type 0 where
+pub record HasCertificate (g : Graph) (most : ℕ) : Type 0 where
   pub points : List PointFacts
   pub closed : Closed g points
   pub bound : most ≡ bound_of g points
 
-module _ {S : Type 0} (steps : Steps S) (card : S → Option Card) (keeps : KeepsTables steps card) (g : Flow) (most : ℕ) (sound : IsSound g)
+module _ {S : Type 0} (steps : Steps S) (card : S → Option Card) (keeps : KeepsTables steps card) (g : Graph) (most : ℕ) (sound : IsSound g)
     (has : ∥ HasCertificate g most ∥₁) where
-  beside_card : (e : Ending) (es : List Pair) (s s' : S) (c : Card) → ShowsStart card g.kind s c → Path g.kind g.places e (begin g) es →
-      Moved g.kind steps s es s' → HasCertificate g most → OnCard card most e es c s'
+  beside_card : (e : Ending) (es : List Pair) (s s' : S) (c : Card) → ShowsStart card g.kind s c → Path g.kind g.points e (begin g) es →
+      RunMoved g.kind steps s es s' → HasCertificate g most → OnCard card most e es c s'
   beside_card e es s s' c start path moved h =
       subst (λ n. OnCard card n e es c s') (sym h.bound) (on_card steps card keeps g h.points (laws_of g.kind) sound h.closed e es s s' c start path moved)
 
-  never_reply : (es : List Pair) (w w' : World S) (c : Card) → ShowsStart card g.kind w.port c → Path g.kind g.places Open (begin g) es →
-      Moved g.kind steps w.port es w'.port → Because faults.Reply g es w w' → HasCertificate g most → ⊥
+  never_reply : (es : List Pair) (w w' : World S) (c : Card) → ShowsStart card g.kind w.port c → Path g.kind g.points Open (begin g) es →
+      RunMoved g.kind steps w.port es w'.port → Because faults.Reply g es w w' → HasCertificate g most → ⊥
   never_reply es w w' c start path moved because h =
       no_reply steps card keeps g h.points (laws_of g.kind) sound h.closed es w w' c start path
       (on_card steps card keeps g h.points (laws_of g.kind) sound h.closed Open es w.port w'.port c start path moved) because

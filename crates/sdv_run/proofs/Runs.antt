@@ -13,8 +13,8 @@ use Rattle.sdv_card.specs.Host.{Host, host_after}
 use Rattle.sdv_card.specs.Port.{DataIn, call_of}
 use Rattle.sdv_card.specs.ScriptEvent.{ScriptEvent, SendCommand, ReceiveBlocks, ReceiveRegister, GiveBlocks, AwaitReady, Return, Answered, BlocksIn, BlocksOut, MayReturn}
 use Rattle.sdv_graph.specs.Walk.{Pair, Ending, Open, Walk, Deed, exactly, giving, IsDeed, given_by}
-use Rattle.sdv_graph.specs.Path.{Place, Stand, Move, Goes, Does, Halts, Follows, Path, node_move, move, move_from}
-use Rattle.sdv_graph.specs.Graph.{Flow, Lasts, begin}
+use Rattle.sdv_graph.specs.Path.{Point, Stand, Move, Goes, Does, Halts, Follows, Path, action_move, move, move_from}
+use Rattle.sdv_graph.specs.Graph.{Graph, Lasts, begin}
 use Rattle.sdv_graph.specs.GraphOf.{IsSound}
 use Rattle.sdv_graph.proofs.Paths.{roll}
 use Rattle.sdv_run.specs.declared.end.End.{End}
@@ -29,26 +29,26 @@ use Rattle.sdv_run.specs.Ran.{Happened, IsWalk, Written, Ended, Stopped}
 use Rattle.sdv_run.specs.Step.{World, Leads, CutDeed, CutShort}
 use Rattle.sdv_text.proofs.WrittenLaws.{appends_more}
 use Rattle.sdv_run.proofs.Known.{breaks_off}
-use Rattle.sdv_run.proofs.Places.{Sits, Ready, ready, begins_sitting}
+use Rattle.sdv_run.proofs.AtPoints.{Sits, Ready, ready, begins_sitting}
 use Rattle.sdv_run.proofs.Announced.{announced_after}
 use Rattle.sdv_run.proofs.Made.{received_more, happened_more, written_more, none_happened, none_written, moves, led_to, led_onward}
 
-is_walk : (f : Flow) (e : Ending) (es : List Pair) → Path f.kind f.places e (begin f) es → IsWalk f e es
+is_walk : (f : Graph) (e : Ending) (es : List Pair) → Path f.kind f.points e (begin f) es → IsWalk f e es
 is_walk f e es path = record { path = path; walk = λ names script is. subst (λ k. Walk k names script e es) is.kind_same ((is.walks e es).1 path) }
 
 -- a path may stop anywhere
-open_here : (k : Kind) (g : List Place) (s : Stand) → Path k g Open s []
+open_here : (k : Kind) (g : List Point) (s : Stand) → Path k g Open s []
 open_here k g s = roll k g Open s [] (inl (refl, refl))
 
-module _ {S : Type 0} (steps : Steps S) (f : Flow) (room : ℕ) (start : World S) where
+module _ {S : Type 0} (steps : Steps S) (f : Graph) (room : ℕ) (start : World S) where
   -- a run from its start to where it stands, which has at most n moves more
   pub record SoFar (n : ℕ) (s : Stand) (w : World S) : Type 0 where
     pub events : List Pair
     pub happened : Happened f.kind steps events start w
     pub written : Written events start w
-    pub leads : (e : Ending) (rest : List Pair) → Path f.kind f.places e s rest → Path f.kind f.places e (begin f) (events ++ rest)
-    pub lasts : Lasts f.kind f.places n s
-    pub sits : Sits f.kind f.places s
+    pub leads : (e : Ending) (rest : List Pair) → Path f.kind f.points e s rest → Path f.kind f.points e (begin f) (events ++ rest)
+    pub lasts : Lasts f.kind f.points n s
+    pub sits : Sits f.kind f.points s
     pub in_room : s.host.announced ≤ room
 
   pub begins : IsSound f → SoFar f.steps (begin f) start
@@ -67,45 +67,45 @@ module _ {S : Type 0} (steps : Steps S) (f : Flow) (room : ℕ) (start : World S
       subst (λ n. SoFar n s start) (sym same_steps) (subst (λ s. SoFar f.steps s start) (sym same_stand) (begins sound))
 
   -- a path on from where the run stands is one from its start
-  onward : (n : ℕ) (s : Stand) (w : World S) (so : SoFar n s w) (m : Move) (e : Ending) (rest : List Pair) → move_from f.kind f.places s ≡ m →
-      Follows f.kind e (Path f.kind f.places e) m rest → Path f.kind f.places e (begin f) (so.events ++ rest)
+  onward : (n : ℕ) (s : Stand) (w : World S) (so : SoFar n s w) (m : Move) (e : Ending) (rest : List Pair) → move_from f.kind f.points s ≡ m →
+      Follows f.kind e (Path f.kind f.points e) m rest → Path f.kind f.points e (begin f) (so.events ++ rest)
   onward n s w so m e rest at follows =
-      so.leads e rest (roll f.kind f.places e s rest (inr (subst (λ m. Follows f.kind e (Path f.kind f.places e) m rest) (sym at) follows)))
+      so.leads e rest (roll f.kind f.points e s rest (inr (subst (λ m. Follows f.kind e (Path f.kind f.points e) m rest) (sym at) follows)))
 
   -- it is an open walk
   stopped_here : (n : ℕ) (s : Stand) (w : World S) (so : SoFar n s w) → IsWalk f Open so.events
   stopped_here n s w so =
-      is_walk f Open so.events (subst (λ es. Path f.kind f.places Open (begin f) es) (append-nil so.events) (so.leads Open [] (open_here f.kind f.places s)))
+      is_walk f Open so.events (subst (λ es. Path f.kind f.points Open (begin f) es) (append-nil so.events) (so.leads Open [] (open_here f.kind f.points s)))
 
-  pub here_is : (s : Stand) (p : Place) → slice_get f.places s.point ≡ Some p → move_from f.kind f.places s ≡ node_move f.kind p.node s.turns s.host
+  pub here_is : (s : Stand) (p : Point) → slice_get f.points s.point ≡ Some p → move_from f.kind f.points s ≡ action_move f.kind p.action s.turns s.host
   here_is s p here = ap (λ o. move f.kind o s.turns s.host) here
 
-  pub goes_on : (n : ℕ) (s s' : Stand) (w w' : World S) (p : Place) → IsSound f → AnnounceAtMost f.places room → slice_get f.places s.point ≡ Some p →
-      SoFar n s w → Leads f.kind steps (node_move f.kind p.node s.turns s.host) w w' s' → SoFar (n - 1) s' w'
+  pub goes_on : (n : ℕ) (s s' : Stand) (w w' : World S) (p : Point) → IsSound f → AnnounceAtMost f.points room → slice_get f.points s.point ≡ Some p →
+      SoFar n s w → Leads f.kind steps (action_move f.kind p.action s.turns s.host) w w' s' → SoFar (n - 1) s' w'
   goes_on n s s' w w' p sound few here so leads =
       let k = f.kind in
-      let m = node_move k p.node s.turns s.host in
+      let m = action_move k p.action s.turns s.host in
       let now = ready f n s p sound so.lasts so.sits here in
-      let made = moves k steps f.places m w w' s' leads in
+      let made = moves k steps f.points m w w' s' leads in
       record {
         events = so.events ++ made.events;
         happened = happened_more k steps so.events made.events start w w' so.happened made.happened;
         written = written_more k steps so.events made.events start w w' so.written made.written;
-        leads = λ e rest path. subst (λ es. Path k f.places e (begin f) es) (sym (append_assoc so.events made.events rest))
+        leads = λ e rest path. subst (λ es. Path k f.points e (begin f) es) (sym (append_assoc so.events made.events rest))
             (onward n s w so m e (made.events ++ rest) (here_is s p here) (made.leads e rest path));
-        lasts = led_to k steps (Lasts k f.places (n - 1)) m w w' s' now.lasts leads;
-        sits = led_onward k steps (Sits k f.places) m w w' s' now.sits leads;
-        in_room = announced_after k steps room p.node s.turns s.host (few s.point p here) so.in_room w w' s' leads;
+        lasts = led_to k steps (Lasts k f.points (n - 1)) m w w' s' now.lasts leads;
+        sits = led_onward k steps (Sits k f.points) m w w' s' now.sits leads;
+        in_room = announced_after k steps room p.action s.turns s.host (few s.point p here) so.in_room w w' s' leads;
       }
 
   -- THE END
 
-  whole_walk : (n : ℕ) (s : Stand) (w : World S) (so : SoFar n s w) (last : Ending) → move_from f.kind f.places s ≡ Halts last → IsWalk f last so.events
+  whole_walk : (n : ℕ) (s : Stand) (w : World S) (so : SoFar n s w) (last : Ending) → move_from f.kind f.points s ≡ Halts last → IsWalk f last so.events
   whole_walk n s w so last at =
       is_walk f last so.events
-      (subst (λ es. Path f.kind f.places last (begin f) es) (append-nil so.events) (onward n s w so (Halts last) last [] at (refl, refl)))
+      (subst (λ es. Path f.kind f.points last (begin f) es) (append-nil so.events) (onward n s w so (Halts last) last [] at (refl, refl)))
 
-  pub ends_well : (n : ℕ) (s : Stand) (w : World S) (end : End) (t : Option (List ℕ)) → SoFar n s w → move_from f.kind f.places s ≡ Halts (ending_of end) →
+  pub ends_well : (n : ℕ) (s : Stand) (w : World S) (end : End) (t : Option (List ℕ)) → SoFar n s w → move_from f.kind f.points s ≡ Halts (ending_of end) →
       Appends w.trace t (end_line end) → Ended steps f end start (record { port = w.port; input = w.input; out = w.out; trace = t })
   ends_well n s w end t so at printed = record {
     events = so.events;
@@ -115,7 +115,7 @@ module _ {S : Type 0} (steps : Steps S) (f : Flow) (room : ℕ) (start : World S
     trace = appends_more start.trace w.trace t (lines so.events) (end_line end) so.written.trace printed;
   }
 
-  pub ends_cut : (n : ℕ) (s : Stand) (w : World S) (end : End) (t : Option (List ℕ)) → SoFar n s w → move_from f.kind f.places s ≡ Halts (ending_of end) →
+  pub ends_cut : (n : ℕ) (s : Stand) (w : World S) (end : End) (t : Option (List ℕ)) → SoFar n s w → move_from f.kind f.points s ≡ Halts (ending_of end) →
       AppendsPart w.trace t (end_line end) → Stopped steps f Trace start (record { port = w.port; input = w.input; out = w.out; trace = t })
   ends_cut n s w end t so at part = record {
     events = so.events;
@@ -132,13 +132,13 @@ module _ {S : Type 0} (steps : Steps S) (f : Flow) (room : ℕ) (start : World S
   -- STOPPED BEFORE THE END
 
   module _ (n : ℕ) (s : Stand) (w w' : World S) (so : SoFar n s w) (deed : Deed) (before : Host) (next : Return → Host → Stand)
-      (at : move_from f.kind f.places s ≡ Does deed before next) where
+      (at : move_from f.kind f.points s ≡ Does deed before next) where
     -- the event may come next
     comes_next : (event : ScriptEvent) (returned : Return) → IsDeed deed event → MayReturn event returned →
-        Path f.kind f.places Open (begin f) (so.events ++ (event, returned) ∷ [])
+        Path f.kind f.points Open (begin f) (so.events ++ (event, returned) ∷ [])
     comes_next event returned is may =
         onward n s w so (Does deed before next) Open ((event, returned) ∷ []) at
-        (event, returned, [], is, may, refl, open_here f.kind f.places (next returned (host_after f.kind event returned before)))
+        (event, returned, [], is, may, refl, open_here f.kind f.points (next returned (host_after f.kind event returned before)))
 
     came : (event : ScriptEvent) (returned : Return) → IsDeed deed event → MayReturn event returned → IsWalk f Open (so.events ++ (event, returned) ∷ [])
     came event returned is may = is_walk f Open (so.events ++ (event, returned) ∷ []) (comes_next event returned is may)
@@ -245,7 +245,7 @@ module _ {S : Type 0} (steps : Steps S) (f : Flow) (room : ℕ) (start : World S
         }
 
   either_reply : (n : ℕ) (s : Stand) (w w' : World S) (so : SoFar n s w) (ask : Ask) (position argument : ℕ) (before : Host) (next : Return → Host → Stand)
-      (at : move_from f.kind f.places s ≡ Does (exactly (SendCommand ask position argument)) before next) →
+      (at : move_from f.kind f.points s ≡ Does (exactly (SendCommand ask position argument)) before next) →
       CutDeed Reply f.kind steps (exactly (SendCommand ask position argument)) w w' → Stopped steps f Reply start w'
   either_reply n s w w' so ask position argument before next at (inl p) =
       too_wide n s w w' so (exactly (SendCommand ask position argument)) before next at ask position argument refl p
@@ -253,7 +253,7 @@ module _ {S : Type 0} (steps : Steps S) (f : Flow) (room : ℕ) (start : World S
       is_refused n s w w' so (exactly (SendCommand ask position argument)) before next at ask position argument refl p
 
   -- a move that was cut short
-  pub stops : (fault : RunFault) (n : ℕ) (s : Stand) (w w' : World S) (so : SoFar n s w) (m : Move) → move_from f.kind f.places s ≡ m →
+  pub stops : (fault : RunFault) (n : ℕ) (s : Stand) (w w' : World S) (so : SoFar n s w) (m : Move) → move_from f.kind f.points s ≡ m →
       CutShort fault f.kind steps m w w' → Stopped steps f fault start w'
   stops fault n s w w' so (Goes next) at p = absurd p
   stops fault n s w w' so (Halts last) at p = absurd p
@@ -278,39 +278,39 @@ module _ {S : Type 0} (steps : Steps S) (f : Flow) (room : ℕ) (start : World S
   stops Memory n s w w' so (Does deed before next) at p = absurd p
 
 -- AT A POINT, for a host of the same kind
-module _ {S : Type 0} (steps : Steps S) (f : Flow) (room : ℕ) (start : World S) (n : ℕ) (s : Stand) (w : World S) (so : SoFar steps f room start n s w)
-    (k : Kind) (same : k ≡ f.kind) (p : Place) (here : slice_get f.places s.point ≡ Some p) where
-  moves_so : (m : Move) → node_move k p.node s.turns s.host ≡ m → move_from f.kind f.places s ≡ m
-  moves_so m e = here_is steps f room start s p here ∙ subst (λ k. node_move k p.node s.turns s.host ≡ m) same e
+module _ {S : Type 0} (steps : Steps S) (f : Graph) (room : ℕ) (start : World S) (n : ℕ) (s : Stand) (w : World S) (so : SoFar steps f room start n s w)
+    (k : Kind) (same : k ≡ f.kind) (p : Point) (here : slice_get f.points s.point ≡ Some p) where
+  moves_so : (m : Move) → action_move k p.action s.turns s.host ≡ m → move_from f.kind f.points s ≡ m
+  moves_so m e = here_is steps f room start s p here ∙ subst (λ k. action_move k p.action s.turns s.host ≡ m) same e
 
-  pub may_move : IsSound f → Ready k f.places n s p
-  may_move sound = subst (λ k. Ready k f.places n s p) (sym same) (ready f n s p sound so.lasts so.sits here)
+  pub may_move : IsSound f → Ready k f.points n s p
+  may_move sound = subst (λ k. Ready k f.points n s p) (sym same) (ready f n s p sound so.lasts so.sits here)
 
-  pub moves_on : (w' : World S) (s' : Stand) → IsSound f → AnnounceAtMost f.places room → Leads k steps (node_move k p.node s.turns s.host) w w' s' →
+  pub moves_on : (w' : World S) (s' : Stand) → IsSound f → AnnounceAtMost f.points room → Leads k steps (action_move k p.action s.turns s.host) w w' s' →
       SoFar steps f room start (n - 1) s' w'
   moves_on w' s' sound few leads =
-      goes_on steps f room start n s s' w w' p sound few here so (subst (λ k. Leads k steps (node_move k p.node s.turns s.host) w w' s') same leads)
+      goes_on steps f room start n s s' w w' p sound few here so (subst (λ k. Leads k steps (action_move k p.action s.turns s.host) w w' s') same leads)
 
-  pub finishes : (w' : World S) (end : End) (t : Option (List ℕ)) → (node_move k p.node s.turns s.host ≡ Halts (ending_of end)) × (w' ≡ w) →
+  pub finishes : (w' : World S) (end : End) (t : Option (List ℕ)) → (action_move k p.action s.turns s.host ≡ Halts (ending_of end)) × (w' ≡ w) →
       Appends w'.trace t (end_line end) → Ended steps f end start (record { port = w'.port; input = w'.input; out = w'.out; trace = t })
   finishes w' end t halts printed =
       ends_well steps f room start n s w' end t (subst (SoFar steps f room start n s) (sym halts.1) so) (moves_so (Halts (ending_of end)) halts.0) printed
 
-  pub finishes_cut : (w' : World S) (end : End) (t : Option (List ℕ)) → (node_move k p.node s.turns s.host ≡ Halts (ending_of end)) × (w' ≡ w) →
+  pub finishes_cut : (w' : World S) (end : End) (t : Option (List ℕ)) → (action_move k p.action s.turns s.host ≡ Halts (ending_of end)) × (w' ≡ w) →
       AppendsPart w'.trace t (end_line end) → Stopped steps f Trace start (record { port = w'.port; input = w'.input; out = w'.out; trace = t })
   finishes_cut w' end t halts part =
       ends_cut steps f room start n s w' end t (subst (SoFar steps f room start n s) (sym halts.1) so) (moves_so (Halts (ending_of end)) halts.0) part
 
-  pub cut_short : (w' : World S) (fault : RunFault) → CutShort fault k steps (node_move k p.node s.turns s.host) w w' → Stopped steps f fault start w'
+  pub cut_short : (w' : World S) (fault : RunFault) → CutShort fault k steps (action_move k p.action s.turns s.host) w w' → Stopped steps f fault start w'
   cut_short w' fault cut =
-      stops steps f room start fault n s w w' so (node_move f.kind p.node s.turns s.host) (here_is steps f room start s p here)
-      (subst (λ k. CutShort fault k steps (node_move k p.node s.turns s.host) w w') same cut)
+      stops steps f room start fault n s w w' so (action_move f.kind p.action s.turns s.host) (here_is steps f room start s p here)
+      (subst (λ k. CutShort fault k steps (action_move k p.action s.turns s.host) w w') same cut)
 
 -- without memory nothing happens
-pub no_memory : {S : Type 0} (steps : Steps S) (f : Flow) (w : World S) → Stopped steps f Memory w w
+pub no_memory : {S : Type 0} (steps : Steps S) (f : Graph) (w : World S) → Stopped steps f Memory w w
 no_memory steps f w = record {
   events = [];
   happened = none_happened f.kind steps w;
-  walk = is_walk f Open [] (open_here f.kind f.places (begin f));
+  walk = is_walk f Open [] (open_here f.kind f.points (begin f));
   because = record { none = refl; same = refl };
 }

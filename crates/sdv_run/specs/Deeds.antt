@@ -15,7 +15,7 @@ use Rattle.sdv_card.specs.ScriptEvent.{ScriptEvent, MayReturn, ReceiveBlocks, Re
 use Rattle.sdv_card.specs.declared.guard.Guard.TheVariants.{Ok as WentWell}
 use Rattle.sdv_card.specs.Guards.{passes}
 use Rattle.sdv_card.specs.CommandTable.{order_of, expect_of, argument_of}
-use Rattle.sdv_graph.specs.declared.tree.Command.{Command}
+use Rattle.sdv_graph.specs.declared.tree.ScriptCommand.{ScriptCommand}
 use Rattle.sdv_graph.specs.declared.graph.Target.{Target}
 use Rattle.sdv_graph.specs.AddressSent.{position_of_command, address_of_command}
 use Rattle.sdv_graph.specs.Path.{Stand, arrive}
@@ -100,11 +100,11 @@ Awaits steps s s' t t' result =
     (λ fault. Unprinted fault t t' (line_of AwaitReady (Waited end)))
 
 -- THE ARGUMENT OF A COMMAND at its position
-abbrev pub argument_at : Kind → Command → Host → (position : ℕ) → ℕ
+abbrev pub argument_at : Kind → ScriptCommand → Host → (position : ℕ) → ℕ
 argument_at k c h position = argument_of k c.ask h.rca (address_of_command h c.address position)
 
 -- none where its block is out of range; a run stops where it has more than 32 bits
-abbrev pub ArgumentIs : Kind → Command → Host → Result (Option ℕ) RunFault → Type 0
+abbrev pub ArgumentIs : Kind → ScriptCommand → Host → Result (Option ℕ) RunFault → Type 0
 ArgumentIs k c h (Ok argument) = argument ≡ option_map (argument_at k c h) (position_of_command h c.address)
 ArgumentIs k c h (Err Reply) =
     (position : ℕ) × (position_of_command h c.address ≡ Some position) × (2 ^ 32 ≤ argument_at k c h position)

@@ -5,7 +5,7 @@ use Rattle.sdv_registers.specs.declared.kind.Kind.{Kind}
 use Rattle.sdv_card.specs.Card.{Card}
 use Rattle.sdv_card.specs.Port.{Shows}
 use Rattle.sdv_card.specs.Profile.{IsAtStart}
-use Rattle.sdv_graph.specs.Graph.{Flow}
+use Rattle.sdv_graph.specs.Graph.{Graph}
 use Rattle.sdv_graph.specs.Walk.{Pair, Ending, Open}
 use Rattle.sdv_facts.specs.Beside.{StepsOf, commands, EndsWell, IsGood}
 use Rattle.sdv_run.specs.declared.end.End.{End}
@@ -34,7 +34,7 @@ pub record OnCard {S : Type 0} (card : S → Option Card) (most : ℕ) (e : Endi
   pub ends : EndsWell e last
 
 -- A run as any, and beside the card that the port shows: no answer is refused, and no argument is too wide.
-abbrev pub RanBeside : {S : Type 0} → Steps S → (S → Option Card) → Flow → (most : ℕ) → (w w' : World S) →
+abbrev pub RanBeside : {S : Type 0} → Steps S → (S → Option Card) → Graph → (most : ℕ) → (w w' : World S) →
     Result End RunFault → Type 0
 RanBeside steps card g most w w' (Ok end) =
     (ran : Ended steps g end w w')

@@ -13,26 +13,26 @@ use Rattle.sdv_card.specs.ScriptEvent.{ScriptEvent, SendCommand, ReceiveBlocks, 
 use Rattle.sdv_graph.specs.Tree.{Statements, Declared}
 use Rattle.sdv_graph.specs.Walk.{Pair, Ending, Open, Walk, given}
 use Rattle.sdv_graph.specs.Path.{Path}
-use Rattle.sdv_graph.specs.Graph.{Flow, begin}
+use Rattle.sdv_graph.specs.Graph.{Graph, begin}
 use Rattle.sdv_graph.specs.GraphOf.{IsGraphOf}
 use Rattle.sdv_run.specs.declared.end.End.{End}
 use Rattle.sdv_run.specs.declared.fault.RunFault.{RunFault}
 use Rattle.sdv_run.specs.declared.fault.RunFault.TheVariants.{Reply, Input, Output, Trace, Memory}
 use Rattle.sdv_run.specs.Trace.{line_of, end_line, BreaksOff}
 use Rattle.sdv_run.specs.Answers.{is_taken}
-use Rattle.sdv_run.specs.Run.{Steps, Moved, lines, received, ending_of}
+use Rattle.sdv_run.specs.Run.{Steps, RunMoved, lines, received, ending_of}
 use Rattle.sdv_run.specs.Step.{World}
 
 -- THE EVENTS OF A RUN, each with what it returned
 
 -- They are what was done at the port, call by call and nothing else, and each `give` took the next blocks of the input.
 pub record Happened {S : Type 0} (k : Kind) (steps : Steps S) (es : List Pair) (w w' : World S) : Type 0 where
-  pub port : Moved k steps w.port es w'.port
+  pub port : RunMoved k steps w.port es w'.port
   pub input : w.input ≡ given es ++ w'.input
 
 -- They are a path of the graph, and so a walk of its script, which ends so.
-pub record IsWalk (g : Flow) (last : Ending) (es : List Pair) : Type 0 where
-  pub path : Path g.kind g.places last (begin g) es
+pub record IsWalk (g : Graph) (last : Ending) (es : List Pair) : Type 0 where
+  pub path : Path g.kind g.points last (begin g) es
   pub walk : (names : Declared) (script : Statements) → IsGraphOf names script g → Walk names.kind names script last es
 
 -- Their blocks were written, and their lines were printed.
@@ -41,7 +41,7 @@ pub record Written {S : Type 0} (es : List Pair) (w w' : World S) : Type 0 where
   pub trace : Appends w.trace w'.trace (lines es)
 
 -- A RUN THAT ENDED: its events are a whole walk, and all of it was written and printed, with the last line.
-pub record Ended {S : Type 0} (steps : Steps S) (g : Flow) (end : End) (w w' : World S) : Type 0 where
+pub record Ended {S : Type 0} (steps : Steps S) (g : Graph) (end : End) (w w' : World S) : Type 0 where
   pub events : List Pair
   pub happened : Happened g.kind steps events w w'
   pub walk : IsWalk g (ending_of end) events
@@ -62,21 +62,21 @@ pub record AnswerIsRefused {S : Type 0} (k : Kind) (es : List Pair) (w w' : Worl
   pub written : Written earlier w w'
 
 -- or the next event is a command whose argument has more than 32 bits, and it was not sent
-pub record ArgumentIsTooWide {S : Type 0} (g : Flow) (es : List Pair) (w w' : World S) : Type 0 where
+pub record ArgumentIsTooWide {S : Type 0} (g : Graph) (es : List Pair) (w w' : World S) : Type 0 where
   pub ask : Ask
   pub position : ℕ
   pub argument : ℕ
   pub wide : 2 ^ 32 ≤ argument
   pub next : (answer : Answer) →
-      Path g.kind g.places Open (begin g) (es ++ (SendCommand ask position argument, Answered answer) ∷ [])
+      Path g.kind g.points Open (begin g) (es ++ (SendCommand ask position argument, Answered answer) ∷ [])
   pub written : Written es w w'
 
 -- INPUT: the next event gives more blocks than are left of the input, and none was given.
-pub record InputIsShort {S : Type 0} (g : Flow) (es : List Pair) (w w' : World S) : Type 0 where
+pub record InputIsShort {S : Type 0} (g : Graph) (es : List Pair) (w w' : World S) : Type 0 where
   pub count : ℕ
   pub short : length w'.input < count
   pub next : (blocks : List Block) → length blocks ≡ count → (end : DataEnd) →
-      Path g.kind g.places Open (begin g) (es ++ (GiveBlocks blocks, BlocksOut end) ∷ [])
+      Path g.kind g.points Open (begin g) (es ++ (GiveBlocks blocks, BlocksOut end) ∷ [])
   pub written : Written es w w'
 
 -- OUTPUT: the output did not take all blocks of the last event, a phase that ended well and was not printed.
@@ -97,7 +97,7 @@ pub record LineBrokeOff {S : Type 0} (es : List Pair) (w w' : World S) : Type 0 
   pub trace : BreaksOff w.trace w'.trace (lines earlier) (line_of event returned)
 
 -- or of the last line of a run that had come to its end
-pub record LastLineBrokeOff {S : Type 0} (g : Flow) (es : List Pair) (w w' : World S) : Type 0 where
+pub record LastLineBrokeOff {S : Type 0} (g : Graph) (es : List Pair) (w w' : World S) : Type 0 where
   pub end : End
   pub walk : IsWalk g (ending_of end) es
   pub output : Appends w.out w'.out (received es)
@@ -108,7 +108,7 @@ pub record NothingHappened {S : Type 0} (es : List Pair) (w w' : World S) : Type
   pub none : es ≡ []
   pub same : w' ≡ w
 
-abbrev pub Because : {S : Type 0} → RunFault → Flow → List Pair → (w w' : World S) → Type 0
+abbrev pub Because : {S : Type 0} → RunFault → Graph → List Pair → (w w' : World S) → Type 0
 Because Reply g es w w' = AnswerIsRefused g.kind es w w' ⊎ ArgumentIsTooWide g es w w'
 Because Input g es w w' = InputIsShort g es w w'
 Because Output g es w w' = OutputBrokeOff es w w'
@@ -116,12 +116,12 @@ Because Trace g es w w' = LineBrokeOff es w w' ⊎ LastLineBrokeOff g es w w'
 Because Memory g es w w' = NothingHappened es w w'
 
 -- A RUN THAT STOPPED: its events are an open walk.
-pub record Stopped {S : Type 0} (steps : Steps S) (g : Flow) (fault : RunFault) (w w' : World S) : Type 0 where
+pub record Stopped {S : Type 0} (steps : Steps S) (g : Graph) (fault : RunFault) (w w' : World S) : Type 0 where
   pub events : List Pair
   pub happened : Happened g.kind steps events w w'
   pub walk : IsWalk g Open events
   pub because : Because fault g events w w'
 
 -- A RUN
-abbrev pub Ran : {S : Type 0} → Steps S → Flow → (w w' : World S) → Result End RunFault → Type 0
+abbrev pub Ran : {S : Type 0} → Steps S → Graph → (w w' : World S) → Result End RunFault → Type 0
 Ran steps g w w' result = MatchResult result (λ end. Ended steps g end w w') (λ fault. Stopped steps g fault w w')

@@ -15,9 +15,9 @@ abbrev pub Steps : Type 0 → Type 1
 Steps s = s → Call → Return → s → Type 0
 
 -- the calls of these events, one after another, lead a port from one state to another, and return so
-abbrev pub Moved : {S : Type 0} → Kind → Steps S → S → List Pair → S → Type 0
-Moved k steps s [] t = t ≡ s
-Moved {S} k steps s (p ∷ ps) t = (u : S) × steps s (call_of k p.0) p.1 u × Moved k steps u ps t
+abbrev pub RunMoved : {S : Type 0} → Kind → Steps S → S → List Pair → S → Type 0
+RunMoved k steps s [] t = t ≡ s
+RunMoved {S} k steps s (p ∷ ps) t = (u : S) × steps s (call_of k p.0) p.1 u × RunMoved k steps u ps t
 
 -- WHAT IS WRITTEN
 

@@ -95,14 +95,14 @@ fn at_start(alloc: Global, graph: &Graph<'_>) -> Result<Standing, AllocError>
 
 /// Room for the blocks of each phase.
 fn buffer_of(alloc: Global, graph: &Graph<'_>) -> Result<Vec<[u8; 512]>, AllocError>
-    ensures { IfOk result (λ buffer. AnnounceAtMost graph.now.places (length buffer.items)) }
+    ensures { IfOk result (λ buffer. AnnounceAtMost graph.now.points (length buffer.items)) }
 {
     vec![in alloc; [0; 512]; most_announced(graph) as usize]
 }
 
 /// The most blocks that a command of the graph announces.
 fn most_announced(graph: &Graph<'_>) -> u16
-    ensures { AnnounceAtMost graph.now.places result }
+    ensures { AnnounceAtMost graph.now.points result }
 {
     let mut most = 0;
     for number in 0..graph.len() {

@@ -2,7 +2,7 @@
 
 ghost use Rattle.std.specs.Prelude.{◌≡◌, ◌<◌, ◌≤◌, length, map};
 ghost use Rattle.sdv_card.specs.ScriptEvent.{Return, ReceiveRegister, GiveBlocks, AwaitReady};
-ghost use Rattle.sdv_graph.specs.Graph.{fork_of};
+ghost use Rattle.sdv_graph.specs.Graph.{seen_case};
 ghost use Rattle.sdv_graph.specs.Path.{turns_at, way_of};
 ghost use Rattle.sdv_run.specs.Standing.{host_of, stand_of};
 ghost use Rattle.sdv_run.specs.Deeds.{ArgumentIs, SendsOn, target_by_end, PhaseGoesOn, BlocksGoOn};
@@ -15,7 +15,7 @@ use crate::host::HostState;
 use crate::standing::Standing;
 use sdv_card::laws::order;
 use sdv_card::{Ask, CardPort, DataEnd, WaitEnd};
-use sdv_graph::{Command, Target, Way};
+use sdv_graph::{Case, ScriptCommand, Target};
 use std::io::Write;
 
 /// The argument that a command is sent with; none where its block leaves the range of numbers.
@@ -23,7 +23,7 @@ use std::io::Write;
 /// # Errors
 ///
 /// [`RunFault::Reply`] for an argument of more than 32 bits.
-pub fn argument_of(host: &HostState, command: &Command) -> Result<Option<u32>, RunFault>
+pub fn argument_of(host: &HostState, command: &ScriptCommand) -> Result<Option<u32>, RunFault>
     ensures { ArgumentIs host.now.kind command.now (host_of host.now) result }
 {
     let Some(address) = host.address(command.address) else {
@@ -44,7 +44,7 @@ pub fn argument_of(host: &HostState, command: &Command) -> Result<Option<u32>, R
 pub fn send_and_go<P: CardPort, T: Write>(
     ask: &Ask,
     argument: u32,
-    ways: &[Way],
+    cases: &[Case],
     other: Target,
     standing: &mut Standing,
     port: &mut P,
@@ -52,16 +52,16 @@ pub fn send_and_go<P: CardPort, T: Write>(
 ) -> Result<(), RunFault>
     requires index { ask.now.index < 64 }
     requires narrow { (returned : Return) →
-        length (turns_at (way_of standing.old.host.kind (map fork_of ways.now) other returned) standing.old.turns.items)
+        length (turns_at (way_of standing.old.host.kind (map seen_case cases.now) other returned) standing.old.turns.items)
         ≤ 4 }
     ensures sent { SendsOn standing.old.host.kind P.steps ask.now argument
-        (way_of standing.old.host.kind (map fork_of ways.now) other) port.old port.new standing.old.turns.items
+        (way_of standing.old.host.kind (map seen_case cases.now) other) port.old port.new standing.old.turns.items
         (host_of standing.old.host) (stand_of standing.new) (T.contents trace.old) (T.contents trace.new) result }
     ensures kind { standing.new.host.kind ≡ standing.old.host.kind }
 {
     match send(&mut standing.host, ask, argument, port, trace) {
         Ok(answer) => {
-            standing.go_to(way(standing.host.kind, ways, other, &answer));
+            standing.go_to(way(standing.host.kind, cases, other, &answer));
             Ok(())
         }
         Err(fault) => Err(fault),

@@ -2,8 +2,8 @@
 
 ghost use Rattle.std.specs.Prelude.{◌≡◌, List, ◌<◌, ◌≤◌, [], length, drop, map};
 ghost use Rattle.sdv_card.specs.Card.{Block};
-ghost use Rattle.sdv_graph.specs.Graph.{node_of, fork_of};
-ghost use Rattle.sdv_graph.specs.Path.{node_move, sends, phases};
+ghost use Rattle.sdv_graph.specs.Graph.{seen_action, seen_case};
+ghost use Rattle.sdv_graph.specs.Path.{action_move, sends, phases};
 ghost use Rattle.sdv_run.specs.Standing.{host_of, stand_of};
 ghost use Rattle.sdv_graph.specs.declared.tree.Phase.TheVariants as kinds;
 ghost use Rattle.sdv_run.specs.Moves.{IsNarrow, IsInRange};
@@ -17,13 +17,13 @@ use crate::points::{
 };
 use crate::standing::Standing;
 use sdv_card::CardPort;
-use sdv_graph::{Action, Command, Phase, Target, Way};
+use sdv_graph::{Action, Case, Phase, ScriptCommand, Target};
 use std::io::Write;
 
 /// A point that sends a command.
 fn send_point<P: CardPort, O: Write, T: Write>(
-    command: &Command,
-    ways: &[Way],
+    command: &ScriptCommand,
+    cases: &[Case],
     other: Target,
     standing: &mut Standing,
     port: &mut P,
@@ -32,11 +32,11 @@ fn send_point<P: CardPort, O: Write, T: Write>(
 ) -> Result<Option<End>, RunFault>
     requires index { command.now.ask.index < 64 }
     requires narrow { IsNarrow
-        (node_move standing.old.host.kind (sends command.now (map fork_of ways.now) other) standing.old.turns.items
+        (action_move standing.old.host.kind (sends command.now (map seen_case cases.now) other) standing.old.turns.items
         (host_of standing.old.host)) }
     ensures stepped { (input : List Block) →
         Stepped standing.old.host.kind P.steps
-        (node_move standing.old.host.kind (sends command.now (map fork_of ways.now) other) standing.old.turns.items
+        (action_move standing.old.host.kind (sends command.now (map seen_case cases.now) other) standing.old.turns.items
         (host_of standing.old.host))
         (record { port = port.old; input = input; out = O.contents out.old; trace = T.contents trace.old })
         (record { port = port.new; input = input; out = O.contents out.new; trace = T.contents trace.new })
@@ -48,7 +48,7 @@ fn send_point<P: CardPort, O: Write, T: Write>(
         Ok(None) => return Ok(Some(fault("number"))),
         Err(fault) => return Err(fault),
     };
-    match send_and_go(&command.ask, argument, ways, other, standing, port, trace) {
+    match send_and_go(&command.ask, argument, cases, other, standing, port, trace) {
         Ok(()) => Ok(None),
         Err(fault) => Err(fault),
     }
@@ -64,11 +64,11 @@ fn wait_point<P: CardPort, O: Write, T: Write>(
     trace: &mut T,
 ) -> Result<Option<End>, RunFault>
     requires narrow { IsNarrow
-        (node_move standing.old.host.kind (phases kinds.Wait well other) standing.old.turns.items
+        (action_move standing.old.host.kind (phases kinds.Wait well other) standing.old.turns.items
         (host_of standing.old.host)) }
     ensures stepped { (input : List Block) →
         Stepped standing.old.host.kind P.steps
-        (node_move standing.old.host.kind (phases kinds.Wait well other) standing.old.turns.items
+        (action_move standing.old.host.kind (phases kinds.Wait well other) standing.old.turns.items
         (host_of standing.old.host))
         (record { port = port.old; input = input; out = O.contents out.old; trace = T.contents trace.old })
         (record { port = port.new; input = input; out = O.contents out.new; trace = T.contents trace.new })
@@ -91,11 +91,11 @@ fn register_point<P: CardPort, O: Write, T: Write>(
     trace: &mut T,
 ) -> Result<Option<End>, RunFault>
     requires narrow { IsNarrow
-        (node_move standing.old.host.kind (phases kinds.ReceiveRegister well other) standing.old.turns.items
+        (action_move standing.old.host.kind (phases kinds.ReceiveRegister well other) standing.old.turns.items
         (host_of standing.old.host)) }
     ensures stepped { (input : List Block) →
         Stepped standing.old.host.kind P.steps
-        (node_move standing.old.host.kind (phases kinds.ReceiveRegister well other) standing.old.turns.items
+        (action_move standing.old.host.kind (phases kinds.ReceiveRegister well other) standing.old.turns.items
         (host_of standing.old.host))
         (record { port = port.old; input = input; out = O.contents out.old; trace = T.contents trace.old })
         (record { port = port.new; input = input; out = O.contents out.new; trace = T.contents trace.new })
@@ -120,11 +120,11 @@ fn receive_point<P: CardPort, O: Write, T: Write>(
 ) -> Result<Option<End>, RunFault>
     requires room { standing.old.host.announced ≤ length buffer.old }
     requires narrow { IsNarrow
-        (node_move standing.old.host.kind (phases kinds.ReceiveBlocks well other) standing.old.turns.items
+        (action_move standing.old.host.kind (phases kinds.ReceiveBlocks well other) standing.old.turns.items
         (host_of standing.old.host)) }
     ensures stepped { (input : List Block) →
         Stepped standing.old.host.kind P.steps
-        (node_move standing.old.host.kind (phases kinds.ReceiveBlocks well other) standing.old.turns.items
+        (action_move standing.old.host.kind (phases kinds.ReceiveBlocks well other) standing.old.turns.items
         (host_of standing.old.host))
         (record { port = port.old; input = input; out = O.contents out.old; trace = T.contents trace.old })
         (record { port = port.new; input = input; out = O.contents out.new; trace = T.contents trace.new })
@@ -157,10 +157,10 @@ fn give_point<P: CardPort, O: Write, T: Write>(
     trace: &mut T,
 ) -> Result<Option<End>, RunFault>
     requires narrow { IsNarrow
-        (node_move standing.old.host.kind (phases kinds.GiveBlocks well other) standing.old.turns.items
+        (action_move standing.old.host.kind (phases kinds.GiveBlocks well other) standing.old.turns.items
         (host_of standing.old.host)) }
     ensures stepped { Stepped standing.old.host.kind P.steps
-        (node_move standing.old.host.kind (phases kinds.GiveBlocks well other) standing.old.turns.items
+        (action_move standing.old.host.kind (phases kinds.GiveBlocks well other) standing.old.turns.items
         (host_of standing.old.host))
         (record { port = port.old; input = input.old.now; out = O.contents out.old; trace = T.contents trace.old })
         (record { port = port.new; input = input.new.now; out = O.contents out.new; trace = T.contents trace.new })
@@ -197,18 +197,18 @@ pub fn step<P: CardPort, O: Write, T: Write>(
 ) -> Result<Option<End>, RunFault>
     requires in_range { IsInRange action.now }
     requires narrow { IsNarrow
-        (node_move standing.old.host.kind (node_of action.now) standing.old.turns.items (host_of standing.old.host)) }
+        (action_move standing.old.host.kind (seen_action action.now) standing.old.turns.items (host_of standing.old.host)) }
     requires room { standing.old.host.announced ≤ length buffer.old }
     ensures stepped { Stepped standing.old.host.kind P.steps
-        (node_move standing.old.host.kind (node_of action.now) standing.old.turns.items (host_of standing.old.host))
+        (action_move standing.old.host.kind (seen_action action.now) standing.old.turns.items (host_of standing.old.host))
         (record { port = port.old; input = input.old.now; out = O.contents out.old; trace = T.contents trace.old })
         (record { port = port.new; input = input.new.now; out = O.contents out.new; trace = T.contents trace.new })
         (stand_of standing.new) result }
     ensures kind { standing.new.host.kind ≡ standing.old.host.kind }
 {
     match action {
-        Action::Send(command, ways, other) => {
-            send_point(command, ways, *other, standing, port, out, trace)
+        Action::Send(command, cases, other) => {
+            send_point(command, cases, *other, standing, port, out, trace)
         }
         Action::Phase(Phase::ReceiveBlocks, well, other) => {
             receive_point(*well, *other, standing, buffer, port, out, trace)

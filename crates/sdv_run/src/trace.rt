@@ -15,13 +15,13 @@ use sdv_text::write_text;
 use std::io::Write;
 
 /// A line before it is written: room for every word, a number of 20 digits and a register.
-type Line = ArrayVec<u8, 96>;
+type LineBytes = ArrayVec<u8, 96>;
 
 /// The writer of a trace failed.
 #[derive(Clone, Copy, Debug, PartialEq, Eq)]
 pub struct TraceFault;
 
-fn put(line: &mut Line, bytes: &[u8])
+fn put(line: &mut LineBytes, bytes: &[u8])
     requires { array_vec_len line.old + length bytes.now ≤ 96 }
     ensures items { line.new.items ≡ line.old.items ++ bytes.now }
     ensures len { array_vec_len line.new ≡ array_vec_len line.old + length bytes.now }
@@ -29,7 +29,7 @@ fn put(line: &mut Line, bytes: &[u8])
     line.try_extend_from_slice(bytes).unwrap();
 }
 
-fn put_decimal(line: &mut Line, number: u64)
+fn put_decimal(line: &mut LineBytes, number: u64)
     requires { array_vec_len line.old + 20 ≤ 96 }
     ensures items { line.new.items ≡ line.old.items ++ decimal number }
     ensures len { array_vec_len line.new ≤ array_vec_len line.old + 20 }
@@ -38,7 +38,7 @@ fn put_decimal(line: &mut Line, number: u64)
     put(line, buffer.format(number).as_bytes());
 }
 
-fn put_word(line: &mut Line, word: u32)
+fn put_word(line: &mut LineBytes, word: u32)
     requires { array_vec_len line.old + 8 ≤ 96 }
     ensures items { line.new.items ≡ line.old.items ++ word_text word }
     ensures len { array_vec_len line.new ≡ array_vec_len line.old + 8 }
@@ -48,7 +48,7 @@ fn put_word(line: &mut Line, word: u32)
     put(line, &digits);
 }
 
-fn put_register(line: &mut Line, register: &[u8; 15])
+fn put_register(line: &mut LineBytes, register: &[u8; 15])
     requires { array_vec_len line.old + 30 ≤ 96 }
     ensures items { line.new.items ≡ line.old.items ++ encode_lower register.now }
     ensures len { array_vec_len line.new ≡ array_vec_len line.old + 30 }
@@ -58,7 +58,7 @@ fn put_register(line: &mut Line, register: &[u8; 15])
     put(line, &digits);
 }
 
-fn put_reply(line: &mut Line, reply: &Reply)
+fn put_reply(line: &mut LineBytes, reply: &Reply)
     requires { array_vec_len line.old + 33 ≤ 96 }
     ensures items { line.new.items ≡ line.old.items ++ reply_text reply.now }
     ensures len { array_vec_len line.new ≤ array_vec_len line.old + 33 }
@@ -77,7 +77,7 @@ fn put_reply(line: &mut Line, reply: &Reply)
     put_word(line, word);
 }
 
-fn put_answer(line: &mut Line, answer: &Answer)
+fn put_answer(line: &mut LineBytes, answer: &Answer)
     requires { array_vec_len line.old + 33 ≤ 96 }
     ensures items { line.new.items ≡ line.old.items ++ answer_text answer.now }
     ensures len { array_vec_len line.new ≤ array_vec_len line.old + 33 }
@@ -98,7 +98,7 @@ pub(crate) fn write_all<T: Write>(trace: &mut T, bytes: &[u8]) -> Result<(), Tra
 }
 
 /// Puts the command of an exchange, with its argument.
-fn put_command(line: &mut Line, command: Command)
+fn put_command(line: &mut LineBytes, command: Command)
     requires { array_vec_len line.old + 33 ≤ 96 }
     ensures items { line.new.items ≡ line.old.items ++ command_text command }
     ensures len { array_vec_len line.new ≤ array_vec_len line.old + 33 }
@@ -111,10 +111,10 @@ fn put_command(line: &mut Line, command: Command)
 }
 
 /// The line of an exchange.
-fn command_line(command: Command, answer: &Answer) -> Line
+fn command_line(command: Command, answer: &Answer) -> LineBytes
     ensures { result.items ≡ command_line command answer.now }
 {
-    let mut line = Line::new();
+    let mut line = LineBytes::new();
     put_command(&mut line, command);
     put_answer(&mut line, answer);
     put(&mut line, b"\n");
@@ -122,11 +122,11 @@ fn command_line(command: Command, answer: &Answer) -> Line
 }
 
 /// The line of a phase, by its word and how many blocks or bytes it has.
-fn phase_line(word: &[u8], count: u64, end: DataEnd) -> Line
+fn phase_line(word: &[u8], count: u64, end: DataEnd) -> LineBytes
     requires { length word.now ≤ 8 }
     ensures { result.items ≡ phase_line word.now count end }
 {
-    let mut line = Line::new();
+    let mut line = LineBytes::new();
     put(&mut line, word);
     put(&mut line, b" ");
     put_decimal(&mut line, count);
@@ -180,10 +180,10 @@ pub fn write_wait<T: Write>(trace: &mut T, end: WaitEnd) -> Result<(), TraceFaul
 }
 
 /// The last line of a run that ended.
-fn end_line(end: &End) -> Line
+fn end_line(end: &End) -> LineBytes
     ensures { result.items ≡ end_line end.now }
 {
-    let mut line = Line::new();
+    let mut line = LineBytes::new();
     match end {
         End::Done => put(&mut line, b"done\n"),
         End::Fault(name) => {

@@ -25,7 +25,7 @@ use Rattle.sdv_sim.specs.SimOf.{state_of}
 use Rattle.sdv_sim.specs.Made.{IsMade, IsRefused, IsUnread}
 use Rattle.sdv_controller.specs.declared.controller.Controller.{Controller}
 use Rattle.sdv_controller.specs.Controlled.{ControllerSteps, wire_of}
-use Rattle.sdv_graph.specs.Graph.{Flow}
+use Rattle.sdv_graph.specs.Graph.{Graph}
 use Rattle.sdv_run.specs.declared.end.End.{End}
 use Rattle.sdv_run.specs.declared.end.End.TheVariants.{Done, Fault as Ended}
 use Rattle.sdv_run.specs.declared.fault.RunFault.{RunFault}
@@ -74,7 +74,7 @@ module _ {I : Type 0} {images : Ghosts I} where
   abbrev pub sim_of : Controller (Sim I images) → SimState
   sim_of port = state_of (wire_of port)
 
-  pub run_of_sim : (g : Flow) (most : ℕ) (w w' : World (Controller (Sim I images))) (result : Result End RunFault)
+  pub run_of_sim : (g : Graph) (most : ℕ) (w w' : World (Controller (Sim I images))) (result : Result End RunFault)
       → RanBeside (λ c call returned c'. ControllerSteps (λ s call returned s'. SimSteps (state_of s) call returned (state_of s')) (wire_of c) call returned
       (wire_of c'))
       (λ c. card_shown (state_of (wire_of c))) g most w w' result

@@ -5,14 +5,14 @@ use Rattle.sdv_registers.specs.declared.kind.Kind.{Kind}
 use Rattle.sdv_card.specs.Card.{Card}
 use Rattle.sdv_card.specs.Port.{Call, Shows, call_of, Exchange, DataIn, DataInRegister, DataOut, WaitWhileBusy}
 use Rattle.sdv_card.specs.ScriptEvent.{Return, Answered, BlocksIn, RegisterIn, BlocksOut, Waited}
-use Rattle.sdv_graph.specs.Graph.{Flow}
+use Rattle.sdv_graph.specs.Graph.{Graph}
 use Rattle.sdv_graph.specs.Walk.{Pair, Ending}
 use Rattle.sdv_controller.specs.Controlled.{ControllerSteps}
 use Rattle.sdv_controller.specs.Wire.{WireCall, WireReturn}
 use Rattle.sdv_run.specs.declared.end.End.{End}
 use Rattle.sdv_run.specs.declared.fault.RunFault.{RunFault}
 use Rattle.sdv_run.specs.declared.fault.RunFault.TheVariants.{Reply, Input, Output, Trace, Memory}
-use Rattle.sdv_run.specs.Run.{Steps, Moved}
+use Rattle.sdv_run.specs.Run.{Steps, RunMoved}
 use Rattle.sdv_run.specs.Ran.{Because, Ended, Happened, Stopped}
 use Rattle.sdv_run.specs.Step.{World}
 use Rattle.sdv_run.specs.OnCard.{OnCard, RanBeside, ShowsStart}
@@ -21,7 +21,7 @@ module _ {S T : Type 0} (f : S → T) where
   abbrev pub seen : World S → World T
   seen w = record { port = f w.port; input = w.input; out = w.out; trace = w.trace }
 
-  seen_because : (fault : RunFault) (g : Flow) (es : List Pair) (w w' : World S) → Because fault g es w w' → Because fault g es (seen w) (seen w')
+  seen_because : (fault : RunFault) (g : Graph) (es : List Pair) (w w' : World S) → Because fault g es w w' → Because fault g es (seen w) (seen w')
   seen_because Reply g es w w' (inl refused) = inl (record {
     earlier = refused.earlier;
     ask = refused.ask;
@@ -66,14 +66,14 @@ module _ {S T : Type 0} (f : S → T) where
 
 module _ {S T : Type 0} (f : S → T) (steps : Steps S) (steps' : Steps T)
     (step : (s : S) (c : Call) (r : Return) (s' : S) → steps s c r s' → steps' (f s) c r (f s')) where
-  seen_moved : (k : Kind) (es : List Pair) (s s' : S) → Moved k steps s es s' → Moved k steps' (f s) es (f s')
+  seen_moved : (k : Kind) (es : List Pair) (s s' : S) → RunMoved k steps s es s' → RunMoved k steps' (f s) es (f s')
   seen_moved k [] s s' same = ap f same
   seen_moved k (p ∷ ps) s s' moved = (f moved.0, step s (call_of k p.0) p.1 moved.0 moved.1, seen_moved k ps moved.0 s' moved.2)
 
   seen_happened : (k : Kind) (es : List Pair) (w w' : World S) → Happened k steps es w w' → Happened k steps' es (seen f w) (seen f w')
   seen_happened k es w w' h = record { port = seen_moved k es w.port w'.port h.port; input = h.input }
 
-  seen_ended : (g : Flow) (end : End) (w w' : World S) → Ended steps g end w w' → Ended steps' g end (seen f w) (seen f w')
+  seen_ended : (g : Graph) (end : End) (w w' : World S) → Ended steps g end w w' → Ended steps' g end (seen f w) (seen f w')
   seen_ended g end w w' ran = record {
     events = ran.events;
     happened = seen_happened g.kind ran.events w w' ran.happened;
@@ -82,7 +82,7 @@ module _ {S T : Type 0} (f : S → T) (steps : Steps S) (steps' : Steps T)
     trace = ran.trace;
   }
 
-  seen_stopped : (g : Flow) (fault : RunFault) (w w' : World S) → Stopped steps g fault w w' → Stopped steps' g fault (seen f w) (seen f w')
+  seen_stopped : (g : Graph) (fault : RunFault) (w w' : World S) → Stopped steps g fault w w' → Stopped steps' g fault (seen f w) (seen f w')
   seen_stopped g fault w w' ran = record {
     events = ran.events;
     happened = seen_happened g.kind ran.events w w' ran.happened;
@@ -110,7 +110,7 @@ module _ {S T : Type 0} (f : S → T) (steps : Steps S) (steps' : Steps T)
       ends = on.ends;
     }
 
-    pub seen_run : (g : Flow) (most : ℕ) (w w' : World S) (result : Result End RunFault) → RanBeside steps card g most w w' result
+    pub seen_run : (g : Graph) (most : ℕ) (w w' : World S) (result : Result End RunFault) → RanBeside steps card g most w w' result
         → RanBeside steps' card' g most (seen f w) (seen f w') result
     unfolding seen_ended seen_stopped
     seen_run g most w w' (Ok end) ran =

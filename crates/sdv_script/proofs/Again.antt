@@ -14,9 +14,9 @@ use Rattle.sdv_card.specs.declared.state.State.{State}
 use Rattle.sdv_card.specs.declared.state.State.TheVariants as states
 use Rattle.sdv_script.specs.declared.token.Sign.TheVariants as sign
 use Rattle.sdv_script.specs.declared.keyword.Keyword.TheVariants as word
-use Rattle.sdv_script.specs.declared.form.Form.{Form}
-use Rattle.sdv_script.specs.declared.form.Form.TheVariants.{Bare, Select, Conditions, Addressed, Counted, Preset, Erase}
-use Rattle.sdv_graph.specs.declared.tree.Command.{Command}
+use Rattle.sdv_script.specs.declared.operand.Operand.{Operand}
+use Rattle.sdv_script.specs.declared.operand.Operand.TheVariants.{Bare, Select, Conditions, Addressed, Counted, Preset, Erase}
+use Rattle.sdv_graph.specs.declared.tree.ScriptCommand.{ScriptCommand}
 use Rattle.sdv_graph.specs.declared.tree.Address.{Address}
 use Rattle.sdv_graph.specs.declared.tree.Unit.{Unit as AddressUnit}
 use Rattle.sdv_graph.specs.declared.tree.Unit.TheVariants as units
@@ -30,11 +30,11 @@ use Rattle.sdv_graph.specs.declared.tree.Change.TheVariants as changes
 use Rattle.sdv_graph.specs.declared.tree.Condition.{Condition}
 use Rattle.sdv_graph.specs.declared.tree.Condition.TheVariants as conditions
 use Rattle.sdv_script.specs.Tokens.{Token, Key, Name, Number, Mark}
-use Rattle.sdv_script.specs.Commands.{form_of, fits_order}
+use Rattle.sdv_script.specs.Commands.{operand_of, fits_order}
 use Rattle.sdv_graph.specs.Tree.{Declared}
-use Rattle.sdv_script.specs.Grammar.{flag_name, number_name, unit_written, position_written, address_written, address_if_any, select_written, form_written, form_if_any, command_written, state_word, guard_written, guards_written, atom_written, change_written, condition_written}
-use Rattle.sdv_script.specs.Rules.{max_number, max_name, place_from, place_of, AreNew, NamesFit, UnitFits, PositionFits, AddressFits, ask_with, FormFits, CommandFits, GuardsFit, AtomFits, ChangeFits, LetFits, ConditionFits}
-use Rattle.sdv_script.specs.Reading.{◌>>=◌, Read, read_figure, read_count, read_flag, read_number_name, read_unit, read_sum, read_position, read_address, read_select, read_counted, read_form, read_command, state_of, read_guard, read_guards, read_atom, read_change, read_let, read_test, read_condition, read_fault}
+use Rattle.sdv_script.specs.Grammar.{flag_name, number_name, unit_written, position_written, address_written, address_if_any, select_written, operand_written, operand_if_any, command_written, state_word, guard_written, guards_written, atom_written, change_written, condition_written}
+use Rattle.sdv_script.specs.Rules.{max_number, max_name, place_from, place_of, AreNew, NamesFit, UnitFits, PositionFits, AddressFits, ask_with, OperandFits, CommandFits, GuardsFit, AtomFits, ChangeFits, LetFits, ConditionFits}
+use Rattle.sdv_script.specs.Reading.{◌>>=◌, Read, read_figure, read_count, read_flag, read_number_name, read_unit, read_sum, read_position, read_address, read_select, read_counted, read_operand, read_command, state_of, read_guard, read_guards, read_atom, read_change, read_let, read_test, read_condition, read_fault}
 use Rattle.sdv_script.proofs.GuardLaws.{read_guards-is}
 
 pub bind_is : {A B : Type 0} (o : Option A) (a : A) (f : A → Option B) (r : Option B) → o ≡ Some a → f a ≡ r → (o >>= f) ≡ r
@@ -133,31 +133,31 @@ address-again : (names : Declared) (a : Address) (others : List Token) → Names
 address-again names a others fit ok calm =
     bind_is _ _ _ _ (unit-again names a.unit _ fit ok.0) (bind_is _ _ _ _ (position-again names a.position others fit ok.1 calm) refl)
 
-with_parts : Ask → Option Address → Command
+with_parts : Ask → Option Address → ScriptCommand
 with_parts ask address = record { ask = ask; address = address }
 
-same_command : (c : Command) (ask : Ask) (address : Option Address) → c.ask ≡ ask → c.address ≡ address → with_parts ask address ≡ c
+same_command : (c : ScriptCommand) (ask : Ask) (address : Option Address) → c.ask ≡ ask → c.address ≡ address → with_parts ask address ≡ c
 unfolding with_parts
 same_command c ask address p q = rw (← p, ← q) refl
 
-made : (c : Command) (ask : Ask) (address : Option Address) (others : List Token) → c.ask ≡ ask → c.address ≡ address
-    → ◌≡◌ {A = Read Command} (Some (record { ask = ask; address = address }, others)) (Some (c, others))
+made : (c : ScriptCommand) (ask : Ask) (address : Option Address) (others : List Token) → c.ask ≡ ask → c.address ≡ address
+    → ◌≡◌ {A = Read ScriptCommand} (Some (record { ask = ask; address = address }, others)) (Some (c, others))
 unfolding with_parts
-made c ask address others p q = ap (λ (d : Command). Some (d, others)) (same_command c ask address p q)
+made c ask address others p q = ap (λ (d : ScriptCommand). Some (d, others)) (same_command c ask address p q)
 
-select-again : (c : Command) (aim : Aim) (r : List Token) → c.ask ≡ ask_with c.ask.index aim 0 0 → c.address ≡ None
+select-again : (c : ScriptCommand) (aim : Aim) (r : List Token) → c.ask ≡ ask_with c.ask.index aim 0 0 → c.address ≡ None
     → read_select c.ask.index (select_written aim (Mark sign.OpenBrace ∷ r)) ≡ Some (c, Mark sign.OpenBrace ∷ r)
 select-again c Rca r p q = made c (ask_with c.ask.index Rca 0 0) None _ p q
 select-again c Plain r p q = made c (ask_with c.ask.index Plain 0 0) None _ p q
 
-addressed-again : (names : Declared) (c : Command) (address : Option Address) (count : ℕ) (r : List Token) → NamesFit names
+addressed-again : (names : Declared) (c : ScriptCommand) (address : Option Address) (count : ℕ) (r : List Token) → NamesFit names
     → c.ask ≡ ask_with c.ask.index Plain 0 count → c.address ≡ address → AddressFits names address
-    → read_form names c.ask.index (Addressed count) (address_if_any names address (Mark sign.OpenBrace ∷ r)) ≡ Some (c, Mark sign.OpenBrace ∷ r)
+    → read_operand names c.ask.index (Addressed count) (address_if_any names address (Mark sign.OpenBrace ∷ r)) ≡ Some (c, Mark sign.OpenBrace ∷ r)
 addressed-again names c None count r fit p q ok = absurd ok
 addressed-again names c (Some a) count r fit p q ok = bind_is _ _ _ _ (address-again names a (Mark sign.OpenBrace ∷ r) fit ok tt)
     (made c (ask_with c.ask.index Plain 0 count) (Some a) _ p q)
 
-counted-again : (names : Declared) (c : Command) (address : Option Address) (r : List Token) → NamesFit names → c.ask ≡ ask_with c.ask.index Plain 0 c.ask.count
+counted-again : (names : Declared) (c : ScriptCommand) (address : Option Address) (r : List Token) → NamesFit names → c.ask ≡ ask_with c.ask.index Plain 0 c.ask.count
     → c.address ≡ address → AddressFits names address → 1 ≤ c.ask.count → c.ask.count ≤ 65535
     → read_counted names c.ask.index (address_if_any names address (Key word.Count ∷ Number c.ask.count ∷ Mark sign.OpenBrace ∷ r))
     ≡ Some (c, Mark sign.OpenBrace ∷ r)
@@ -166,25 +166,25 @@ counted-again names c (Some a) r fit p q ok ge le =
     bind_is _ _ _ _ (address-again names a (Key word.Count ∷ Number c.ask.count ∷ Mark sign.OpenBrace ∷ r) fit ok tt)
     (bind_is _ _ _ _ (count-again c.ask.count (Mark sign.OpenBrace ∷ r) ge le) (made c (ask_with c.ask.index Plain 0 c.ask.count) (Some a) _ p q))
 
-form-again : (names : Declared) (form : Form) (c : Command) (r : List Token) → NamesFit names → FormFits names (Some form) c
-    → read_form names c.ask.index form (form_written form names c (Mark sign.OpenBrace ∷ r)) ≡ Some (c, Mark sign.OpenBrace ∷ r)
-form-again names (Bare aim) c r fit ok = made c (ask_with c.ask.index aim 0 0) None _ ok.0 ok.1
-form-again names Select c r fit ok = select-again c c.ask.aim r ok.0 ok.1
-form-again names Conditions c r fit ok = test_is _ _ _ ok.1 (made c (ask_with c.ask.index Plain c.ask.argument 0) None _ ok.0 ok.2)
-form-again names (Addressed count) c r fit ok = addressed-again names c c.address count r fit ok.0 refl ok.1
-form-again names Counted c r fit ok = counted-again names c c.address r fit ok.0 refl ok.3 ok.1 ok.2
-form-again names Preset c r fit ok =
+operand-again : (names : Declared) (operand : Operand) (c : ScriptCommand) (r : List Token) → NamesFit names → OperandFits names (Some operand) c
+    → read_operand names c.ask.index operand (operand_written operand names c (Mark sign.OpenBrace ∷ r)) ≡ Some (c, Mark sign.OpenBrace ∷ r)
+operand-again names (Bare aim) c r fit ok = made c (ask_with c.ask.index aim 0 0) None _ ok.0 ok.1
+operand-again names Select c r fit ok = select-again c c.ask.aim r ok.0 ok.1
+operand-again names Conditions c r fit ok = test_is _ _ _ ok.1 (made c (ask_with c.ask.index Plain c.ask.argument 0) None _ ok.0 ok.2)
+operand-again names (Addressed count) c r fit ok = addressed-again names c c.address count r fit ok.0 refl ok.1
+operand-again names Counted c r fit ok = counted-again names c c.address r fit ok.0 refl ok.3 ok.1 ok.2
+operand-again names Preset c r fit ok =
     bind_is _ _ _ _ (count-again c.ask.count (Mark sign.OpenBrace ∷ r) ok.1 ok.2) (made c (ask_with c.ask.index Plain 0 c.ask.count) None _ ok.0 ok.3)
-form-again names Erase c r fit ok = test_is _ _ _ ok.1 (made c (ask_with c.ask.index Plain c.ask.argument 0) None _ ok.0 ok.2)
+operand-again names Erase c r fit ok = test_is _ _ _ ok.1 (made c (ask_with c.ask.index Plain c.ask.argument 0) None _ ok.0 ok.2)
 
-any_form-again : (names : Declared) (o : Option Form) (c : Command) (r : List Token) → NamesFit names → FormFits names o c
-    → (o >>= λ form. read_form names c.ask.index form (form_if_any o names c (Mark sign.OpenBrace ∷ r))) ≡ Some (c, Mark sign.OpenBrace ∷ r)
-any_form-again names None c r fit ok = absurd ok
-any_form-again names (Some form) c r fit ok = form-again names form c r fit ok
+any_operand-again : (names : Declared) (o : Option Operand) (c : ScriptCommand) (r : List Token) → NamesFit names → OperandFits names o c
+    → (o >>= λ operand. read_operand names c.ask.index operand (operand_if_any o names c (Mark sign.OpenBrace ∷ r))) ≡ Some (c, Mark sign.OpenBrace ∷ r)
+any_operand-again names None c r fit ok = absurd ok
+any_operand-again names (Some operand) c r fit ok = operand-again names operand c r fit ok
 
-pub command-again : (names : Declared) (c : Command) (r : List Token) → NamesFit names → CommandFits names c
+pub command-again : (names : Declared) (c : ScriptCommand) (r : List Token) → NamesFit names → CommandFits names c
     → read_command names (command_written names c (Mark sign.OpenBrace ∷ r)) ≡ Some (c, Mark sign.OpenBrace ∷ r)
-command-again names c r fit ok = any_form-again names (form_of names.kind c.ask.index) c r fit ok
+command-again names c r fit ok = any_operand-again names (operand_of names.kind c.ask.index) c r fit ok
 
 -- GUARDS
 

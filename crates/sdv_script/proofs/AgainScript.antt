@@ -10,12 +10,12 @@ use Rattle.sdv_registers.specs.declared.kind.Kind.{Kind}
 use Rattle.sdv_registers.specs.declared.kind.Kind.TheVariants.{Sd, Emmc}
 use Rattle.sdv_card.specs.declared.event.Aim.{Aim}
 use Rattle.sdv_card.specs.declared.event.Aim.TheVariants.{Rca, Plain}
-use Rattle.sdv_script.specs.declared.form.Form.{Form}
-use Rattle.sdv_script.specs.declared.form.Form.TheVariants.{Bare, Select, Conditions, Addressed, Counted, Preset, Erase}
+use Rattle.sdv_script.specs.declared.operand.Operand.{Operand}
+use Rattle.sdv_script.specs.declared.operand.Operand.TheVariants.{Bare, Select, Conditions, Addressed, Counted, Preset, Erase}
 use Rattle.sdv_script.specs.declared.token.Sign.TheVariants as sign
 use Rattle.sdv_script.specs.declared.keyword.Keyword.{Keyword}
 use Rattle.sdv_script.specs.declared.keyword.Keyword.TheVariants as word
-use Rattle.sdv_graph.specs.declared.tree.Command.{Command}
+use Rattle.sdv_graph.specs.declared.tree.ScriptCommand.{ScriptCommand}
 use Rattle.sdv_graph.specs.declared.tree.Address.{Address}
 use Rattle.sdv_graph.specs.declared.tree.Unit.{Unit as AddressUnit}
 use Rattle.sdv_graph.specs.declared.tree.Unit.TheVariants as units
@@ -30,9 +30,9 @@ use Rattle.sdv_graph.specs.declared.tree.Change.TheVariants as changes
 use Rattle.sdv_graph.specs.declared.tree.Condition.{Condition}
 use Rattle.sdv_graph.specs.declared.tree.Condition.TheVariants as conditions
 use Rattle.sdv_script.specs.Tokens.{Token, Key, Number, Mark}
-use Rattle.sdv_script.specs.Commands.{form_of}
+use Rattle.sdv_script.specs.Commands.{operand_of}
 use Rattle.sdv_graph.specs.Tree.{Declared, Statements, nothing, first, Ways, otherwise, way, Statement, send, phase, setting, choice, set, clear, turns, break, done, fault}
-use Rattle.sdv_script.specs.Grammar.{kind_word, unit_written, position_written, address_if_any, select_written, form_if_any, guard_written, guards_written, atom_written, change_written, condition_written, phase_written, names_written, list_written, statements_written, ways_written, statement_written, script_written}
+use Rattle.sdv_script.specs.Grammar.{kind_word, unit_written, position_written, address_if_any, select_written, operand_if_any, guard_written, guards_written, atom_written, change_written, condition_written, phase_written, names_written, list_written, statements_written, ways_written, statement_written, script_written}
 use Rattle.sdv_script.specs.Rules.{max_name, max_flags, max_numbers, max_bytes, place_from, place_of, AreNew, NamesFit, ScriptFits}
 use Rattle.sdv_script.specs.Reading.{may_follow, name_is_new, read_names, read_flags, read_nums, read_kind, read_declared, start, read_body, read_script}
 use Rattle.sdv_script.proofs.Again.{bind_is, test_is, both_true}
@@ -82,15 +82,15 @@ select_longer : (aim : Aim) (ts : List Token) → length ts ≤ length (select_w
 select_longer Rca ts = omega arith
 select_longer Plain ts = omega arith
 
-form_longer : (o : Option Form) (names : Declared) (c : Command) (ts : List Token) → length ts ≤ length (form_if_any o names c ts)
-form_longer None names c ts = omega arith
-form_longer (Some (Bare aim)) names c ts = omega arith
-form_longer (Some Select) names c ts = select_longer c.ask.aim ts
-form_longer (Some Conditions) names c ts = omega arith
-form_longer (Some (Addressed count)) names c ts = address_longer names c.address ts
-form_longer (Some Counted) names c ts = let one = address_longer names c.address (Key word.Count ∷ Number c.ask.count ∷ ts) in omega arith
-form_longer (Some Preset) names c ts = omega arith
-form_longer (Some Erase) names c ts = omega arith
+operand_longer : (o : Option Operand) (names : Declared) (c : ScriptCommand) (ts : List Token) → length ts ≤ length (operand_if_any o names c ts)
+operand_longer None names c ts = omega arith
+operand_longer (Some (Bare aim)) names c ts = omega arith
+operand_longer (Some Select) names c ts = select_longer c.ask.aim ts
+operand_longer (Some Conditions) names c ts = omega arith
+operand_longer (Some (Addressed count)) names c ts = address_longer names c.address ts
+operand_longer (Some Counted) names c ts = let one = address_longer names c.address (Key word.Count ∷ Number c.ask.count ∷ ts) in omega arith
+operand_longer (Some Preset) names c ts = omega arith
+operand_longer (Some Erase) names c ts = omega arith
 
 condition_longer : (names : Declared) (c : Condition) (ts : List Token) → length ts ≤ length (condition_written names c ts)
 condition_longer names (conditions.Flag f) ts = omega arith
@@ -135,7 +135,7 @@ mutual
 
   statement_deep : (s : Statement) (names : Declared) (others : List Token) → length others + statement_rank s < length (statement_written names s others)
   statement_deep (send c w) names others =
-      let one = form_longer (form_of names.kind c.ask.index) names c (Mark sign.OpenBrace ∷ ways_written names w (Mark sign.CloseBrace ∷ others)) in
+      let one = operand_longer (operand_of names.kind c.ask.index) names c (Mark sign.OpenBrace ∷ ways_written names w (Mark sign.CloseBrace ∷ others)) in
       let two = ways_deep w names (Mark sign.CloseBrace ∷ others) in
       omega arith
   statement_deep (phase p a b) names others =

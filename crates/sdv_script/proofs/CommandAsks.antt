@@ -10,11 +10,11 @@ use Rattle.sdv_card.specs.declared.event.Ask.{Ask}
 use Rattle.sdv_card.specs.declared.command.Order.{Order}
 use Rattle.sdv_card.specs.declared.command.Order.TheVariants as orders
 use Rattle.sdv_card.specs.CommandTable.{order_of, sd_order, emmc_order}
-use Rattle.sdv_script.specs.declared.form.Form.{Form}
-use Rattle.sdv_script.specs.declared.form.Form.TheVariants.{Bare, Select, Conditions, Addressed, Counted, Preset, Erase}
-use Rattle.sdv_graph.specs.declared.tree.Command.{Command}
-use Rattle.sdv_script.specs.Commands.{either, is_conditions, is_erase, sd_form, emmc_form, form_of}
-use Rattle.sdv_script.specs.Rules.{ask_with, FormFits, CommandFits}
+use Rattle.sdv_script.specs.declared.operand.Operand.{Operand}
+use Rattle.sdv_script.specs.declared.operand.Operand.TheVariants.{Bare, Select, Conditions, Addressed, Counted, Preset, Erase}
+use Rattle.sdv_graph.specs.declared.tree.ScriptCommand.{ScriptCommand}
+use Rattle.sdv_script.specs.Commands.{either, is_conditions, is_erase, sd_operand, emmc_operand, operand_of}
+use Rattle.sdv_script.specs.Rules.{ask_with, OperandFits, CommandFits}
 use Rattle.sdv_graph.specs.Tree.{Declared}
 use Rattle.sdv_script.specs.Asks.{IsAsked}
 
@@ -34,9 +34,9 @@ or_cases : {P : Type 0} (a b : Bool) → (a ≡ true → P) → (b ≡ true → 
 or_cases true b p q e = p refl
 or_cases false b p q e = q e
 
-by_form : (P : Option Form → Type 0) (is : Bool) (form : Form) (others : Option Form) → (is ≡ true → P (Some form)) → P others → P (either is form others)
-by_form P true form others p q = p refl
-by_form P false form others p q = q
+by_operand : (P : Option Operand → Type 0) (is : Bool) (operand : Operand) (others : Option Operand) → (is ≡ true → P (Some operand)) → P others → P (either is operand others)
+by_operand P true operand others p q = p refl
+by_operand P false operand others p q = q
 
 -- an argument that is known
 with_argument : (ask : Ask) (n : ℕ) → ask ≡ ask_with ask.index Plain ask.argument 0 → eqb ask.argument n ≡ true → ask ≡ ask_with ask.index Plain n 0
@@ -49,7 +49,7 @@ line_of k table is n ask aim argument count order line parts same =
     let whole : ask ≡ ask_with n aim argument count = parts ∙ ap (λ (i : ℕ). ask_with i aim argument count) (eqb-true ask.index n same) in
     (order, record { line = is ask ∙ ap (λ (a : Ask). table a) whole ∙ line })
 
-module _ (c : Command) where
+module _ (c : ScriptCommand) where
   sd_line : (n : ℕ) (aim : Aim) (argument count : ℕ) (order : Order)
       → sd_order (ask_with n aim argument count) ≡ Some order → c.ask ≡ ask_with c.ask.index aim argument count → eqb c.ask.index n ≡ true → IsAsked Sd c.ask
   sd_line n aim argument count order = line_of Sd sd_order sd_table n c.ask aim argument count order
@@ -165,33 +165,33 @@ module _ (c : Command) where
         let n = c.ask.count in
         emmc_line 23 Plain 0 n (orders.SetBlockCount n) (rw (eq-eqb n n refl, le-leb 1 n some, le-leb n 65535 most) refl) parts
 
-  sd_asks : (names : Declared) → FormFits names (sd_form c.ask.index) c → IsAsked Sd c.ask
+  sd_asks : (names : Declared) → OperandFits names (sd_operand c.ask.index) c → IsAsked Sd c.ask
   sd_asks names =
-      let Asked : Option Form → Type 0 = λ form. FormFits names form c → IsAsked Sd c.ask in
-      by_form Asked _ (Bare Plain) _ (λ is fits. sd_bare fits.0 is) (
-      by_form Asked _ (Bare Rca) _ (λ is fits. sd_by_address fits.0 is) (
-      by_form Asked _ Select _ (λ is fits. sd_selected c.ask.aim fits.0 is) (
-      by_form Asked _ Conditions _ (λ is fits. offered fits.0 fits.1 is) (
-      by_form Asked _ (Addressed 1) _ (λ is fits. sd_one_block fits.0 is) (
-      by_form Asked _ (Addressed 0) _ (λ is fits. sd_bounds fits.0 is) (
-      by_form Asked _ Counted None (λ is fits. sd_counted fits.0 fits.1 fits.2 is) (λ fits. absurd fits)))))))
+      let Asked : Option Operand → Type 0 = λ operand. OperandFits names operand c → IsAsked Sd c.ask in
+      by_operand Asked _ (Bare Plain) _ (λ is fits. sd_bare fits.0 is) (
+      by_operand Asked _ (Bare Rca) _ (λ is fits. sd_by_address fits.0 is) (
+      by_operand Asked _ Select _ (λ is fits. sd_selected c.ask.aim fits.0 is) (
+      by_operand Asked _ Conditions _ (λ is fits. offered fits.0 fits.1 is) (
+      by_operand Asked _ (Addressed 1) _ (λ is fits. sd_one_block fits.0 is) (
+      by_operand Asked _ (Addressed 0) _ (λ is fits. sd_bounds fits.0 is) (
+      by_operand Asked _ Counted None (λ is fits. sd_counted fits.0 fits.1 fits.2 is) (λ fits. absurd fits)))))))
 
-  emmc_asks : (names : Declared) → FormFits names (emmc_form c.ask.index) c → IsAsked Emmc c.ask
+  emmc_asks : (names : Declared) → OperandFits names (emmc_operand c.ask.index) c → IsAsked Emmc c.ask
   emmc_asks names =
-      let Asked : Option Form → Type 0 = λ form. FormFits names form c → IsAsked Emmc c.ask in
-      by_form Asked _ (Bare Plain) _ (λ is fits. emmc_bare fits.0 is) (
-      by_form Asked _ (Bare Rca) _ (λ is fits. emmc_by_address fits.0 is) (
-      by_form Asked _ Select _ (λ is fits. emmc_selected c.ask.aim fits.0 is) (
-      by_form Asked _ Preset _ (λ is fits. preset fits.0 fits.1 fits.2 is) (
-      by_form Asked _ Erase _ (λ is fits. erased fits.0 fits.1 is) (
-      by_form Asked _ (Addressed 1) _ (λ is fits. emmc_one_block fits.0 is) (
-      by_form Asked _ (Addressed 0) _ (λ is fits. emmc_bounds fits.0 is) (
-      by_form Asked _ Counted None (λ is fits. emmc_counted fits.0 fits.1 fits.2 is) (λ fits. absurd fits))))))))
+      let Asked : Option Operand → Type 0 = λ operand. OperandFits names operand c → IsAsked Emmc c.ask in
+      by_operand Asked _ (Bare Plain) _ (λ is fits. emmc_bare fits.0 is) (
+      by_operand Asked _ (Bare Rca) _ (λ is fits. emmc_by_address fits.0 is) (
+      by_operand Asked _ Select _ (λ is fits. emmc_selected c.ask.aim fits.0 is) (
+      by_operand Asked _ Preset _ (λ is fits. preset fits.0 fits.1 fits.2 is) (
+      by_operand Asked _ Erase _ (λ is fits. erased fits.0 fits.1 is) (
+      by_operand Asked _ (Addressed 1) _ (λ is fits. emmc_one_block fits.0 is) (
+      by_operand Asked _ (Addressed 0) _ (λ is fits. emmc_bounds fits.0 is) (
+      by_operand Asked _ Counted None (λ is fits. emmc_counted fits.0 fits.1 fits.2 is) (λ fits. absurd fits))))))))
 
-  asks_of : (k : Kind) (names : Declared) → FormFits names (form_of k c.ask.index) c → IsAsked k c.ask
+  asks_of : (k : Kind) (names : Declared) → OperandFits names (operand_of k c.ask.index) c → IsAsked k c.ask
   asks_of Sd names fits = sd_asks names fits
   asks_of Emmc names fits = emmc_asks names fits
 
 -- what fits its form asks by a line of the command table
-pub command_asks : (names : Declared) (c : Command) → CommandFits names c → IsAsked names.kind c.ask
+pub command_asks : (names : Declared) (c : ScriptCommand) → CommandFits names c → IsAsked names.kind c.ask
 command_asks names c fits = asks_of c names.kind names fits

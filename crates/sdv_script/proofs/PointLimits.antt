@@ -8,13 +8,13 @@ use Rattle.sdv_card.proofs.RowsOfOrders.{order_index}
 use Rattle.sdv_card.proofs.OrdersOfAsks.{of_ask}
 use Rattle.sdv_script.specs.declared.depth.Depth.{Depth}
 use Rattle.sdv_graph.specs.declared.graph.Target.{Target}
-use Rattle.sdv_graph.specs.declared.tree.Command.{Command}
+use Rattle.sdv_graph.specs.declared.tree.ScriptCommand.{ScriptCommand}
 use Rattle.sdv_graph.specs.Tree.{Statements, nothing, first, Ways, otherwise, way, Statement, send, phase, setting, choice, set, clear, turns, break, done, fault, Declared}
 use Rattle.sdv_script.specs.Rules.{CommandFits, StatementsFit, WaysFit, StatementFits, ScriptFits, max_flags, max_loops, max_name, statements_count, statement_count, deeper, in_loop}
 use Rattle.sdv_graph.specs.Walk.{Finished, Failed}
-use Rattle.sdv_graph.specs.Path.{Node, Place, sends, phases, lets, tests, flags, heads, jumps, stops}
-use Rattle.sdv_graph.specs.Points.{entry, outside, again, forks, other_of, place, points_of_statements, points_of_ways, points_of_statement, past, points_of}
-use Rattle.sdv_graph.specs.Limits.{node_keeps_limits, keeps_limits, all_keep_limits}
+use Rattle.sdv_graph.specs.Path.{Action, Point, sends, phases, lets, tests, flags, heads, jumps, stops}
+use Rattle.sdv_graph.specs.Points.{entry, outside, again, cases_of, other_of, point_with, points_of_statements, points_of_ways, points_of_statement, past, points_of}
+use Rattle.sdv_graph.specs.Limits.{action_keeps_limits, keeps_limits, all_keep_limits}
 use Rattle.sdv_script.proofs.CommandAsks.{command_asks}
 
 both : (a b : Bool) → a ≡ true → b ≡ true → a && b ≡ true
@@ -25,7 +25,7 @@ one_of : (a b : Bool) → a && b ≡ true → (a ≡ true) × (b ≡ true)
 one_of true b p = (refl, p)
 one_of false b p = absurd (cc)
 
-all_append : (ps qs : List Place) → all_keep_limits ps ≡ true → all_keep_limits qs ≡ true → all_keep_limits (ps ++ qs) ≡ true
+all_append : (ps qs : List Point) → all_keep_limits ps ≡ true → all_keep_limits qs ≡ true → all_keep_limits (ps ++ qs) ≡ true
 all_append [] qs a b = b
 all_append (p ∷ ps) qs a b =
     let parts = one_of (keeps_limits p) (all_keep_limits ps) a in
@@ -61,16 +61,16 @@ order_small (orders.SdSendOpCond high) = lit< tt
 order_small orders.SendScr = lit< tt
 order_small orders.AppCommand = lit< tt
 
-index_small : (names : Declared) (c : Command) → CommandFits names c → c.ask.index < 64
+index_small : (names : Declared) (c : ScriptCommand) → CommandFits names c → c.ask.index < 64
 index_small names c fits =
     let asked = command_asks names c fits in
     subst (λ (n : ℕ). n < 64) (sym (of_ask names.kind c.ask asked.0 asked.1.line).index) (order_small asked.0)
 
-first_keeps : (node : Node) (most : List ℕ) (rest : List Place) → node_keeps_limits node ≡ true → length most ≤ max_loops → all_keep_limits rest ≡ true
-    → all_keep_limits (place node most ∷ rest) ≡ true
-first_keeps node most rest n m r =
-    both (keeps_limits (place node most)) (all_keep_limits rest)
-    (both (node_keeps_limits node) (nat_le (length most) max_loops) n (le-leb (length most) max_loops m)) r
+first_keeps : (action : Action) (most : List ℕ) (rest : List Point) → action_keeps_limits action ≡ true → length most ≤ max_loops → all_keep_limits rest ≡ true
+    → all_keep_limits (point_with action most ∷ rest) ≡ true
+first_keeps action most rest n m r =
+    both (keeps_limits (point_with action most)) (all_keep_limits rest)
+    (both (action_keeps_limits action) (nat_le (length most) max_loops) n (le-leb (length most) max_loops m)) r
 
 module _ (names : Declared) (few : length names.flags ≤ max_flags) where
   mutual
@@ -94,7 +94,7 @@ module _ (names : Declared) (few : length names.flags ≤ max_flags) where
     statement_keeps : (d : Depth) (s : Statement) (at : ℕ) (next brk : Target) (most : List ℕ) → d.loops ≤ max_loops → length most ≤ d.loops
         → StatementFits names d s → all_keep_limits (points_of_statement s at next brk most) ≡ true
     statement_keeps d (send c ways) at next brk most l m fit =
-        first_keeps (sends c (forks ways (at + 1) next) (other_of ways (at + 1) next)) most (points_of_ways ways (at + 1) next brk most)
+        first_keeps (sends c (cases_of ways (at + 1) next) (other_of ways (at + 1) next)) most (points_of_ways ways (at + 1) next brk most)
         (lt-ltb c.ask.index 64 (index_small names c fit.0)) (omega (arith, l, m))
         (ways_keep (deeper d) (order_of names.kind c.ask) ways (at + 1) next brk most l m fit.2)
     statement_keeps d (phase p a b) at next brk most l m fit =

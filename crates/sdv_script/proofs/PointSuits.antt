@@ -14,9 +14,9 @@ use Rattle.sdv_graph.specs.GuardSuits.{fits_order}
 use Rattle.sdv_graph.specs.Tree.{Statements, nothing, first, Ways, otherwise, way, Statement, send, phase, setting, choice, set, clear, turns, break, done, fault, Declared}
 use Rattle.sdv_script.specs.Commands.{has_ext_csd}
 use Rattle.sdv_script.specs.Rules.{GuardsFit, AtomFits, StatementsFit, WaysFit, StatementFits, ScriptFits, statements_count, statement_count, deeper, in_loop}
-use Rattle.sdv_graph.specs.Path.{Place}
-use Rattle.sdv_graph.specs.Points.{entry, outside, again, forks, points_of_statements, points_of_ways, points_of_statement, past, points_of}
-use Rattle.sdv_graph.specs.Suits.{guards_suit, forks_suit, atom_suits, node_suits, all_suit}
+use Rattle.sdv_graph.specs.Path.{Point}
+use Rattle.sdv_graph.specs.Points.{entry, outside, again, cases_of, points_of_statements, points_of_ways, points_of_statement, past, points_of}
+use Rattle.sdv_graph.specs.Suits.{guards_suit, cases_suit, atom_suits, action_suits, all_suit}
 
 both : (a b : Bool) → a ≡ true → b ≡ true → a && b ≡ true
 both true b p q = q
@@ -26,23 +26,23 @@ one_of : (a b : Bool) → a && b ≡ true → (a ≡ true) × (b ≡ true)
 one_of true b p = (refl, p)
 one_of false b p = absurd (cc)
 
-all_append : (k : Kind) (ps qs : List Place) → all_suit k ps ≡ true → all_suit k qs ≡ true → all_suit k (ps ++ qs) ≡ true
+all_append : (k : Kind) (ps qs : List Point) → all_suit k ps ≡ true → all_suit k qs ≡ true → all_suit k (ps ++ qs) ≡ true
 all_append k [] qs a b = b
 all_append k (p ∷ ps) qs a b =
-    let parts = one_of (node_suits k p.node) (all_suit k ps) a in
-    both (node_suits k p.node) (all_suit k (ps ++ qs)) parts.0 (all_append k ps qs parts.1 b)
+    let parts = one_of (action_suits k p.action) (all_suit k ps) a in
+    both (action_suits k p.action) (all_suit k (ps ++ qs)) parts.0 (all_append k ps qs parts.1 b)
 
 guards_of : (order : Option Order) (gs : List Guard) → GuardsFit order gs → guards_suit order gs ≡ true
 guards_of order [] fit = absurd fit
 guards_of order (g ∷ []) fit = both (fits_order g order) true fit refl
 guards_of order (g ∷ h ∷ gs) fit = both (fits_order g order) (guards_suit order (h ∷ gs)) fit.0 (guards_of order (h ∷ gs) fit.1)
 
-forks_of : (names : Declared) (d : Depth) (order : Option Order) (c : Ways) (at : ℕ) (next : Target) → WaysFit names d order c
-    → forks_suit order (forks c at next) ≡ true
-forks_of names d order (otherwise b) at next fit = refl
-forks_of names d order (way guards b rest) at next fit =
-    both (guards_suit order guards) (forks_suit order (forks rest (at + statements_count b) next)) (guards_of order guards fit.0)
-    (forks_of names d order rest (at + statements_count b) next fit.3)
+cases_made : (names : Declared) (d : Depth) (order : Option Order) (c : Ways) (at : ℕ) (next : Target) → WaysFit names d order c
+    → cases_suit order (cases_of c at next) ≡ true
+cases_made names d order (otherwise b) at next fit = refl
+cases_made names d order (way guards b rest) at next fit =
+    both (guards_suit order guards) (cases_suit order (cases_of rest (at + statements_count b) next)) (guards_of order guards fit.0)
+    (cases_made names d order rest (at + statements_count b) next fit.3)
 
 ext_csd_suits : (k : Kind) → has_ext_csd k ≡ true → atom_suits k atoms.ExtBlocks ≡ true
 ext_csd_suits Sd has = absurd cc
@@ -81,8 +81,8 @@ module _ (names : Declared) where
     statement_suits : (d : Depth) (s : Statement) (at : ℕ) (next brk : Target) (most : List ℕ) → StatementFits names d s
         → all_suit names.kind (points_of_statement s at next brk most) ≡ true
     statement_suits d (send c ways) at next brk most fit =
-        both (forks_suit (order_of names.kind c.ask) (forks ways (at + 1) next)) (all_suit names.kind (points_of_ways ways (at + 1) next brk most))
-        (forks_of names (deeper d) (order_of names.kind c.ask) ways (at + 1) next fit.2)
+        both (cases_suit (order_of names.kind c.ask) (cases_of ways (at + 1) next)) (all_suit names.kind (points_of_ways ways (at + 1) next brk most))
+        (cases_made names (deeper d) (order_of names.kind c.ask) ways (at + 1) next fit.2)
         (ways_suit (deeper d) (order_of names.kind c.ask) ways (at + 1) next brk most fit.2)
     statement_suits d (phase p a b) at next brk most fit =
         let mid = at + 1 + statements_count a in

@@ -7,17 +7,17 @@ use Rattle.std.proofs.lemmas.Bool.{ltb-true, leb-true}
 use Rattle.sdv_script.specs.declared.depth.Depth.{Depth}
 use Rattle.sdv_script.specs.declared.token.Sign.TheVariants as sign
 use Rattle.sdv_script.specs.declared.keyword.Keyword.TheVariants as word
-use Rattle.sdv_script.specs.declared.form.Form.{Form}
-use Rattle.sdv_script.specs.declared.form.Form.TheVariants.{Bare, Select, Conditions, Addressed, Counted, Preset, Erase}
-use Rattle.sdv_graph.specs.declared.tree.Command.{Command}
+use Rattle.sdv_script.specs.declared.operand.Operand.{Operand}
+use Rattle.sdv_script.specs.declared.operand.Operand.TheVariants.{Bare, Select, Conditions, Addressed, Counted, Preset, Erase}
+use Rattle.sdv_graph.specs.declared.tree.ScriptCommand.{ScriptCommand}
 use Rattle.sdv_graph.specs.declared.tree.Atom.{Atom}
 use Rattle.sdv_graph.specs.declared.tree.Atom.TheVariants as atoms
 use Rattle.sdv_script.specs.Tokens.{Token, Key, Name, Number, Mark}
-use Rattle.sdv_script.specs.Commands.{form_of, is_conditions, is_erase, has_ext_csd}
+use Rattle.sdv_script.specs.Commands.{operand_of, is_conditions, is_erase, has_ext_csd}
 use Rattle.sdv_graph.specs.Tree.{Declared}
-use Rattle.sdv_script.specs.Grammar.{kind_word, flag_name, number_name, unit_written, position_written, address_written, form_written, form_if_any, command_written, atom_written, change_written, let_written, condition_written, phase_written}
-use Rattle.sdv_script.specs.Rules.{max_number, max_name, max_braces, place_from, place_of, UnitFits, PositionFits, AddressFits, FormFits, CommandFits, AtomFits, ChangeFits, LetFits, ConditionFits, deeper, HasRoom}
-use Rattle.sdv_script.specs.Reading.{◌>>=◌, after_open, after_close, after_equals, after_else, after_ok, after_at, after_count, after_card, read_kind, read_figure, read_count, read_flag, read_number_name, read_unit, read_sum, read_position, read_address, read_select, read_conditions, read_counted, read_preset, read_erase, read_form, read_command, read_atom, read_change, read_let, read_test, condition_by, read_condition, read_receive, read_fault}
+use Rattle.sdv_script.specs.Grammar.{kind_word, flag_name, number_name, unit_written, position_written, address_written, operand_written, operand_if_any, command_written, atom_written, change_written, let_written, condition_written, phase_written}
+use Rattle.sdv_script.specs.Rules.{max_number, max_name, max_braces, place_from, place_of, UnitFits, PositionFits, AddressFits, OperandFits, CommandFits, AtomFits, ChangeFits, LetFits, ConditionFits, deeper, HasRoom}
+use Rattle.sdv_script.specs.Reading.{◌>>=◌, after_open, after_close, after_equals, after_else, after_ok, after_at, after_count, after_card, read_kind, read_figure, read_count, read_flag, read_number_name, read_unit, read_sum, read_position, read_address, read_select, read_conditions, read_counted, read_preset, read_erase, read_operand, read_command, read_atom, read_change, read_let, read_test, condition_by, read_condition, read_receive, read_fault}
 use Rattle.sdv_script.proofs.WhereRead.{IfSome-bind, IfSome-given, IfSome-known, IfSome-map, both}
 
 -- SINGLE TOKENS
@@ -137,8 +137,8 @@ address-took names ts =
     IfSome-bind (read_position names u.1) _ _ _ (position-took names u.1) (λ q s.
     (rw (e, p.0, s.0) refl, (p.1, s.1)))))
 
-abbrev pub Commanded : Declared → Form → ℕ → List Token → Command × List Token → Type 0
-Commanded names form index ts c = (ts ≡ form_written form names c.0 c.1) × FormFits names (Some form) c.0 × (c.0.ask.index ≡ index)
+abbrev pub Commanded : Declared → Operand → ℕ → List Token → ScriptCommand × List Token → Type 0
+Commanded names operand index ts c = (ts ≡ operand_written operand names c.0 c.1) × OperandFits names (Some operand) c.0 × (c.0.ask.index ≡ index)
 
 select-took : (names : Declared) (index : ℕ) (ts : List Token) → IfSome (read_select index ts) (Commanded names Select index ts)
 select-took names index (Key word.None ∷ ts) = (refl, (refl, refl), refl)
@@ -165,34 +165,34 @@ erase-took : (names : Declared) (index : ℕ) (ts : List Token) → IfSome (read
 erase-took names index (Number n ∷ ts) = IfSome-given (is_erase n) _ _ (λ e. (refl, (refl, e, refl), refl))
 erase-took names index ts = tt
 
-form-took : (names : Declared) (index : ℕ) (form : Form) (ts : List Token) → IfSome (read_form names index form ts) (Commanded names form index ts)
-form-took names index (Bare aim) ts = (refl, (refl, refl), refl)
-form-took names index Select ts = select-took names index ts
-form-took names index Conditions ts = conditions-took names index ts
-form-took names index (Addressed count) ts = IfSome-bind (read_address names ts) _ _ _ (address-took names ts) (λ a p. (p.0, (refl, p.1), refl))
-form-took names index Counted ts = counted-took names index ts
-form-took names index Preset ts = preset-took names index ts
-form-took names index Erase ts = erase-took names index ts
+operand-took : (names : Declared) (index : ℕ) (operand : Operand) (ts : List Token) → IfSome (read_operand names index operand ts) (Commanded names operand index ts)
+operand-took names index (Bare aim) ts = (refl, (refl, refl), refl)
+operand-took names index Select ts = select-took names index ts
+operand-took names index Conditions ts = conditions-took names index ts
+operand-took names index (Addressed count) ts = IfSome-bind (read_address names ts) _ _ _ (address-took names ts) (λ a p. (p.0, (refl, p.1), refl))
+operand-took names index Counted ts = counted-took names index ts
+operand-took names index Preset ts = preset-took names index ts
+operand-took names index Erase ts = erase-took names index ts
 
-joined : (names : Declared) (n i : ℕ) (o : Option Form) (form : Form) (ts rest : List Token) (c : Command) → i ≡ n → o ≡ Some form
-    → ts ≡ form_written form names c rest → Number n ∷ ts ≡ Number i ∷ form_if_any o names c rest
-joined names n i o form ts rest c p q e = rw (p, q, e) refl
+joined : (names : Declared) (n i : ℕ) (o : Option Operand) (operand : Operand) (ts rest : List Token) (c : ScriptCommand) → i ≡ n → o ≡ Some operand
+    → ts ≡ operand_written operand names c rest → Number n ∷ ts ≡ Number i ∷ operand_if_any o names c rest
+joined names n i o operand ts rest c p q e = rw (p, q, e) refl
 
-fits_as : (names : Declared) (o : Option Form) (form : Form) (c : Command) → o ≡ Some form → FormFits names (Some form) c → FormFits names o c
-fits_as names o form c e p = rw e p
+fits_as : (names : Declared) (o : Option Operand) (operand : Operand) (c : ScriptCommand) → o ≡ Some operand → OperandFits names (Some operand) c → OperandFits names o c
+fits_as names o operand c e p = rw e p
 
-written_as : (names : Declared) (n : ℕ) (form : Form) (ts : List Token) (c : Command × List Token) → form_of names.kind n ≡ Some form
-    → Commanded names form n ts c → (Number n ∷ ts ≡ command_written names c.0 c.1) × CommandFits names c.0
-written_as names n form ts c e p =
-    let same : form_of names.kind c.0.ask.index ≡ Some form = ap (λ (k : ℕ). form_of names.kind k) p.2 ∙ e in (
-      joined names n c.0.ask.index (form_of names.kind c.0.ask.index) form ts c.1 c.0 p.2 same p.0,
-      fits_as names (form_of names.kind c.0.ask.index) form c.0 same p.1,
+written_as : (names : Declared) (n : ℕ) (operand : Operand) (ts : List Token) (c : ScriptCommand × List Token) → operand_of names.kind n ≡ Some operand
+    → Commanded names operand n ts c → (Number n ∷ ts ≡ command_written names c.0 c.1) × CommandFits names c.0
+written_as names n operand ts c e p =
+    let same : operand_of names.kind c.0.ask.index ≡ Some operand = ap (λ (k : ℕ). operand_of names.kind k) p.2 ∙ e in (
+      joined names n c.0.ask.index (operand_of names.kind c.0.ask.index) operand ts c.1 c.0 p.2 same p.0,
+      fits_as names (operand_of names.kind c.0.ask.index) operand c.0 same p.1,
     )
 
 pub command-took : (names : Declared) (ts : List Token) → IfSome (read_command names ts) (λ c. (ts ≡ command_written names c.0 c.1) × CommandFits names c.0)
 command-took names (Number n ∷ ts) =
-    IfSome-known (form_of names.kind n) _ _ (λ form e.
-    IfSome-map (read_form names n form ts) _ _ (form-took names n form ts) (λ c p. written_as names n form ts c e p))
+    IfSome-known (operand_of names.kind n) _ _ (λ operand e.
+    IfSome-map (read_operand names n operand ts) _ _ (operand-took names n operand ts) (λ c p. written_as names n operand ts c e p))
 command-took names ts = tt
 
 -- VALUES AND CONDITIONS

@@ -6,20 +6,20 @@ use Rattle.sdv_card.specs.declared.event.Ask.{Ask}
 use Rattle.sdv_card.specs.declared.command.Order.{Order}
 use Rattle.sdv_card.specs.CommandTable.{Asks}
 use Rattle.std.specs.List.{All}
-use Rattle.sdv_graph.specs.Graph.{Flow}
-use Rattle.sdv_graph.specs.Path.{Node, Place, sends}
+use Rattle.sdv_graph.specs.Graph.{Graph}
+use Rattle.sdv_graph.specs.Path.{Action, Point, sends}
 
 -- a line of the command table gives the ask
 abbrev pub IsAsked : Kind → Ask → Type 0
 IsAsked k ask = (order : Order) × Asks k ask order
 
-abbrev pub NodeAsks : Kind → Node → Type 0
-NodeAsks k (sends c ways other) = IsAsked k c.ask
-NodeAsks k node = Unit {0}
+abbrev pub ActionAsks : Kind → Action → Type 0
+ActionAsks k (sends c ways other) = IsAsked k c.ask
+ActionAsks k action = Unit {0}
 
-abbrev pub PlaceAsks : Kind → Place → Type 0
-PlaceAsks k p = NodeAsks k p.node
+abbrev pub PointAsks : Kind → Point → Type 0
+PointAsks k p = ActionAsks k p.action
 
 -- at each point
-abbrev pub AsksByTable : Flow → Type 0
-AsksByTable g = All (PlaceAsks g.kind) g.places
+abbrev pub AsksByTable : Graph → Type 0
+AsksByTable g = All (PointAsks g.kind) g.points

@@ -4,16 +4,16 @@ use Rattle.std.specs.Prelude.{ℕ, Bool, true, false, ◌||◌, ◌==◌, Option
 use Rattle.sdv_registers.specs.declared.kind.Kind.{Kind}
 use Rattle.sdv_registers.specs.declared.kind.Kind.TheVariants.{Sd, Emmc}
 use Rattle.sdv_card.specs.declared.event.Aim.TheVariants.{Rca, Plain}
-use Rattle.sdv_script.specs.declared.form.Form.{Form}
-use Rattle.sdv_script.specs.declared.form.Form.TheVariants.{Bare, Select, Conditions, Addressed, Counted, Preset, Erase}
+use Rattle.sdv_script.specs.declared.operand.Operand.{Operand}
+use Rattle.sdv_script.specs.declared.operand.Operand.TheVariants.{Bare, Select, Conditions, Addressed, Counted, Preset, Erase}
 pub use Rattle.sdv_graph.specs.GuardSuits.{fits_order}
 
-abbrev pub either : Bool → Form → Option Form → Option Form
-either is form others = if is then Some form else others
+abbrev pub either : Bool → Operand → Option Operand → Option Operand
+either is operand others = if is then Some operand else others
 
 -- by the index; none where the kind has no such command
-abbrev pub sd_form : ℕ → Option Form
-sd_form n =
+abbrev pub sd_operand : ℕ → Option Operand
+sd_operand n =
     either ((n == 0) || (n == 2) || (n == 3) || (n == 8) || (n == 12) || (n == 16) || (n == 38) || (n == 51))
     (Bare Plain) (
     either ((n == 9) || (n == 10) || (n == 13) || (n == 55)) (Bare Rca) (
@@ -23,8 +23,8 @@ sd_form n =
     either ((n == 32) || (n == 33)) (Addressed 0) (
     either ((n == 18) || (n == 25)) Counted None))))))
 
-abbrev pub emmc_form : ℕ → Option Form
-emmc_form n =
+abbrev pub emmc_operand : ℕ → Option Operand
+emmc_operand n =
     either ((n == 0) || (n == 1) || (n == 2) || (n == 3) || (n == 8) || (n == 12) || (n == 16)) (Bare Plain) (
     either ((n == 9) || (n == 10) || (n == 13)) (Bare Rca) (
     either (n == 7) Select (
@@ -34,9 +34,9 @@ emmc_form n =
     either ((n == 35) || (n == 36)) (Addressed 0) (
     either ((n == 18) || (n == 25)) Counted None)))))))
 
-abbrev pub form_of : Kind → ℕ → Option Form
-form_of Sd n = sd_form n
-form_of Emmc n = emmc_form n
+abbrev pub operand_of : Kind → ℕ → Option Operand
+operand_of Sd n = sd_operand n
+operand_of Emmc n = emmc_operand n
 
 -- the two arguments of ACMD41: with high capacity, and without
 abbrev pub is_conditions : ℕ → Bool

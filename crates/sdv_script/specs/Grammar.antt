@@ -11,9 +11,9 @@ use Rattle.sdv_card.specs.declared.state.State.TheVariants as states
 use Rattle.sdv_script.specs.declared.token.Sign.TheVariants as sign
 use Rattle.sdv_script.specs.declared.keyword.Keyword.{Keyword}
 use Rattle.sdv_script.specs.declared.keyword.Keyword.TheVariants as word
-use Rattle.sdv_script.specs.declared.form.Form.{Form}
-use Rattle.sdv_script.specs.declared.form.Form.TheVariants.{Bare, Select, Conditions, Addressed, Counted, Preset, Erase}
-use Rattle.sdv_graph.specs.declared.tree.Command.{Command}
+use Rattle.sdv_script.specs.declared.operand.Operand.{Operand}
+use Rattle.sdv_script.specs.declared.operand.Operand.TheVariants.{Bare, Select, Conditions, Addressed, Counted, Preset, Erase}
+use Rattle.sdv_graph.specs.declared.tree.ScriptCommand.{ScriptCommand}
 use Rattle.sdv_graph.specs.declared.tree.Address.{Address}
 use Rattle.sdv_graph.specs.declared.tree.Unit.{Unit as AddressUnit}
 use Rattle.sdv_graph.specs.declared.tree.Unit.TheVariants as units
@@ -29,7 +29,7 @@ use Rattle.sdv_graph.specs.declared.tree.Change.TheVariants as changes
 use Rattle.sdv_graph.specs.declared.tree.Condition.{Condition}
 use Rattle.sdv_graph.specs.declared.tree.Condition.TheVariants as conditions
 use Rattle.sdv_script.specs.Tokens.{Token, Key, Name, Number, Mark}
-use Rattle.sdv_script.specs.Commands.{form_of}
+use Rattle.sdv_script.specs.Commands.{operand_of}
 use Rattle.sdv_graph.specs.Tree.{Statements, nothing, first, Ways, otherwise, way, Statement, send, phase, setting, choice, set, clear, turns, break, done, fault, Declared}
 
 -- NAMES, by their places in declared order
@@ -67,22 +67,22 @@ select_written Rca others = others
 select_written Plain others = Key word.None ∷ others
 
 -- what stands after the index
-abbrev pub form_written : Form → Declared → Command → List Token → List Token
-form_written (Bare aim) names c others = others
-form_written Select names c others = select_written c.ask.aim others
-form_written Conditions names c others = Number c.ask.argument ∷ others
-form_written (Addressed count) names c others = address_if_any names c.address others
-form_written Counted names c others = address_if_any names c.address (Key word.Count ∷ Number c.ask.count ∷ others)
-form_written Preset names c others = Key word.Count ∷ Number c.ask.count ∷ others
-form_written Erase names c others = Number c.ask.argument ∷ others
+abbrev pub operand_written : Operand → Declared → ScriptCommand → List Token → List Token
+operand_written (Bare aim) names c others = others
+operand_written Select names c others = select_written c.ask.aim others
+operand_written Conditions names c others = Number c.ask.argument ∷ others
+operand_written (Addressed count) names c others = address_if_any names c.address others
+operand_written Counted names c others = address_if_any names c.address (Key word.Count ∷ Number c.ask.count ∷ others)
+operand_written Preset names c others = Key word.Count ∷ Number c.ask.count ∷ others
+operand_written Erase names c others = Number c.ask.argument ∷ others
 
-abbrev pub form_if_any : Option Form → Declared → Command → List Token → List Token
-form_if_any None names c others = others
-form_if_any (Some form) names c others = form_written form names c others
+abbrev pub operand_if_any : Option Operand → Declared → ScriptCommand → List Token → List Token
+operand_if_any None names c others = others
+operand_if_any (Some operand) names c others = operand_written operand names c others
 
 -- cmd = number [argument]
-abbrev pub command_written : Declared → Command → List Token → List Token
-command_written names c others = Number c.ask.index ∷ form_if_any (form_of names.kind c.ask.index) names c others
+abbrev pub command_written : Declared → ScriptCommand → List Token → List Token
+command_written names c others = Number c.ask.index ∷ operand_if_any (operand_of names.kind c.ask.index) names c others
 
 -- GUARDS
 

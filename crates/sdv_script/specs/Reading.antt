@@ -17,9 +17,9 @@ use Rattle.sdv_script.specs.declared.token.Sign.TheVariants as sign
 use Rattle.sdv_script.specs.declared.keyword.Keyword.{Keyword}
 use Rattle.sdv_script.specs.declared.keyword.Keyword.TheVariants as word
 use Rattle.sdv_script.specs.declared.depth.Depth.{Depth}
-use Rattle.sdv_script.specs.declared.form.Form.{Form}
-use Rattle.sdv_script.specs.declared.form.Form.TheVariants.{Bare, Select, Conditions, Addressed, Counted, Preset, Erase}
-use Rattle.sdv_graph.specs.declared.tree.Command.{Command}
+use Rattle.sdv_script.specs.declared.operand.Operand.{Operand}
+use Rattle.sdv_script.specs.declared.operand.Operand.TheVariants.{Bare, Select, Conditions, Addressed, Counted, Preset, Erase}
+use Rattle.sdv_graph.specs.declared.tree.ScriptCommand.{ScriptCommand}
 use Rattle.sdv_graph.specs.declared.tree.Address.{Address}
 use Rattle.sdv_graph.specs.declared.tree.Unit.{Unit as AddressUnit}
 use Rattle.sdv_graph.specs.declared.tree.Unit.TheVariants as units
@@ -35,7 +35,7 @@ use Rattle.sdv_graph.specs.declared.tree.Change.TheVariants as changes
 use Rattle.sdv_graph.specs.declared.tree.Condition.{Condition}
 use Rattle.sdv_graph.specs.declared.tree.Condition.TheVariants as conditions
 use Rattle.sdv_script.specs.Tokens.{Token, Key, Name, Number, Mark}
-use Rattle.sdv_script.specs.Commands.{form_of, is_conditions, is_erase, has_ext_csd, fits_order}
+use Rattle.sdv_script.specs.Commands.{operand_of, is_conditions, is_erase, has_ext_csd, fits_order}
 use Rattle.sdv_script.specs.Rules.{place_of, ask_with, deeper, in_loop, max_number, max_braces, max_loops, max_statements, max_name, max_flags, max_numbers, max_bytes, statements_fall}
 use Rattle.sdv_graph.specs.Tree.{Statements, nothing, first, Ways, otherwise, way, Statement, send, phase, setting, choice, set, clear, turns, break, done, fault, Declared, Guarded}
 
@@ -141,46 +141,46 @@ read_address names ts =
     after_at ts >>= λ ts1. read_unit names ts1 >>= λ u. read_position names u.1
     >>= λ p. Some (record { unit = u.0; position = p.0 }, p.1)
 
-abbrev pub bare_command : Ask → Command
+abbrev pub bare_command : Ask → ScriptCommand
 bare_command ask = record { ask = ask; address = None }
 
-abbrev pub addressed_command : Ask → Address → Command
+abbrev pub addressed_command : Ask → Address → ScriptCommand
 addressed_command ask address = record { ask = ask; address = Some address }
 
-abbrev pub read_select : ℕ → List Token → Read Command
+abbrev pub read_select : ℕ → List Token → Read ScriptCommand
 read_select index (Key word.None ∷ ts) = Some (bare_command (ask_with index Plain 0 0), ts)
 read_select index ts = Some (bare_command (ask_with index Rca 0 0), ts)
 
-abbrev pub read_conditions : ℕ → List Token → Read Command
+abbrev pub read_conditions : ℕ → List Token → Read ScriptCommand
 read_conditions index (Number n ∷ ts) = if is_conditions n then Some
     (bare_command (ask_with index Plain n 0), ts) else None
 read_conditions index ts = None
 
-abbrev pub read_counted : Declared → ℕ → List Token → Read Command
+abbrev pub read_counted : Declared → ℕ → List Token → Read ScriptCommand
 read_counted names index ts =
     read_address names ts >>= λ a. after_count a.1 >>= λ ts1. read_count ts1 >>= λ n.
     Some (addressed_command (ask_with index Plain 0 n.0) a.0, n.1)
 
-abbrev pub read_preset : ℕ → List Token → Read Command
+abbrev pub read_preset : ℕ → List Token → Read ScriptCommand
 read_preset index ts =
     after_count ts >>= λ ts1. read_count ts1 >>= λ n. Some (bare_command (ask_with index Plain 0 n.0), n.1)
 
-abbrev pub read_erase : ℕ → List Token → Read Command
+abbrev pub read_erase : ℕ → List Token → Read ScriptCommand
 read_erase index (Number n ∷ ts) = if is_erase n then Some (bare_command (ask_with index Plain n 0), ts) else None
 read_erase index ts = None
 
-abbrev pub read_form : Declared → ℕ → Form → List Token → Read Command
-read_form names index (Bare aim) ts = Some (bare_command (ask_with index aim 0 0), ts)
-read_form names index Select ts = read_select index ts
-read_form names index Conditions ts = read_conditions index ts
-read_form names index (Addressed count) ts =
+abbrev pub read_operand : Declared → ℕ → Operand → List Token → Read ScriptCommand
+read_operand names index (Bare aim) ts = Some (bare_command (ask_with index aim 0 0), ts)
+read_operand names index Select ts = read_select index ts
+read_operand names index Conditions ts = read_conditions index ts
+read_operand names index (Addressed count) ts =
     read_address names ts >>= λ a. Some (addressed_command (ask_with index Plain 0 count) a.0, a.1)
-read_form names index Counted ts = read_counted names index ts
-read_form names index Preset ts = read_preset index ts
-read_form names index Erase ts = read_erase index ts
+read_operand names index Counted ts = read_counted names index ts
+read_operand names index Preset ts = read_preset index ts
+read_operand names index Erase ts = read_erase index ts
 
-abbrev pub read_command : Declared → List Token → Read Command
-read_command names (Number n ∷ ts) = form_of names.kind n >>= λ form. read_form names n form ts
+abbrev pub read_command : Declared → List Token → Read ScriptCommand
+read_command names (Number n ∷ ts) = operand_of names.kind n >>= λ operand. read_operand names n operand ts
 read_command names ts = None
 
 -- GUARDS

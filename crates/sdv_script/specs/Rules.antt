@@ -9,9 +9,9 @@ use Rattle.sdv_card.specs.declared.command.Order.{Order}
 use Rattle.sdv_card.specs.CommandTable.{order_of}
 use Rattle.sdv_card.specs.declared.guard.Guard.{Guard}
 use Rattle.sdv_script.specs.declared.depth.Depth.{Depth}
-use Rattle.sdv_script.specs.declared.form.Form.{Form}
-use Rattle.sdv_script.specs.declared.form.Form.TheVariants.{Bare, Select, Conditions, Addressed, Counted, Preset, Erase}
-use Rattle.sdv_graph.specs.declared.tree.Command.{Command}
+use Rattle.sdv_script.specs.declared.operand.Operand.{Operand}
+use Rattle.sdv_script.specs.declared.operand.Operand.TheVariants.{Bare, Select, Conditions, Addressed, Counted, Preset, Erase}
+use Rattle.sdv_graph.specs.declared.tree.ScriptCommand.{ScriptCommand}
 use Rattle.sdv_graph.specs.declared.tree.Address.{Address}
 use Rattle.sdv_graph.specs.declared.tree.Unit.{Unit as AddressUnit}
 use Rattle.sdv_graph.specs.declared.tree.Unit.TheVariants as units
@@ -24,7 +24,7 @@ use Rattle.sdv_graph.specs.declared.tree.Change.{Change}
 use Rattle.sdv_graph.specs.declared.tree.Change.TheVariants as changes
 use Rattle.sdv_graph.specs.declared.tree.Condition.{Condition}
 use Rattle.sdv_graph.specs.declared.tree.Condition.TheVariants as conditions
-use Rattle.sdv_script.specs.Commands.{form_of, is_conditions, is_erase, has_ext_csd, fits_order}
+use Rattle.sdv_script.specs.Commands.{operand_of, is_conditions, is_erase, has_ext_csd, fits_order}
 use Rattle.sdv_graph.specs.Tree.{Statements, nothing, first, Ways, otherwise, way, Statement, send, phase, setting, choice, set, clear, turns, break, done, fault, Declared}
 pub use Rattle.sdv_graph.specs.Counts.{max_number, max_statements, max_name, max_flags, max_loops, statements_count, ways_count, statement_count, statements_break, ways_break, statement_breaks, statements_fall, ways_fall, statement_falls}
 
@@ -82,22 +82,22 @@ abbrev pub ask_with : (index : ℕ) → Aim → (argument count : ℕ) → Ask
 ask_with index aim argument count = record { index = index; aim = aim; argument = argument; count = count }
 
 -- the parts of a command are those that its form has
-abbrev pub FormFits : Declared → Option Form → Command → Type 0
-FormFits names None c = ⊥
-FormFits names (Some (Bare aim)) c = (c.ask ≡ ask_with c.ask.index aim 0 0) × (c.address ≡ None)
-FormFits names (Some Select) c = (c.ask ≡ ask_with c.ask.index c.ask.aim 0 0) × (c.address ≡ None)
-FormFits names (Some Conditions) c = (c.ask ≡ ask_with c.ask.index Plain c.ask.argument 0)
+abbrev pub OperandFits : Declared → Option Operand → ScriptCommand → Type 0
+OperandFits names None c = ⊥
+OperandFits names (Some (Bare aim)) c = (c.ask ≡ ask_with c.ask.index aim 0 0) × (c.address ≡ None)
+OperandFits names (Some Select) c = (c.ask ≡ ask_with c.ask.index c.ask.aim 0 0) × (c.address ≡ None)
+OperandFits names (Some Conditions) c = (c.ask ≡ ask_with c.ask.index Plain c.ask.argument 0)
     × IsTrue (is_conditions c.ask.argument) × (c.address ≡ None)
-FormFits names (Some (Addressed count)) c = (c.ask ≡ ask_with c.ask.index Plain 0 count) × AddressFits names c.address
-FormFits names (Some Counted) c = (c.ask ≡ ask_with c.ask.index Plain 0 c.ask.count) × (1 ≤ c.ask.count)
+OperandFits names (Some (Addressed count)) c = (c.ask ≡ ask_with c.ask.index Plain 0 count) × AddressFits names c.address
+OperandFits names (Some Counted) c = (c.ask ≡ ask_with c.ask.index Plain 0 c.ask.count) × (1 ≤ c.ask.count)
     × (c.ask.count ≤ 65535) × AddressFits names c.address
-FormFits names (Some Preset) c = (c.ask ≡ ask_with c.ask.index Plain 0 c.ask.count) × (1 ≤ c.ask.count)
+OperandFits names (Some Preset) c = (c.ask ≡ ask_with c.ask.index Plain 0 c.ask.count) × (1 ≤ c.ask.count)
     × (c.ask.count ≤ 65535) × (c.address ≡ None)
-FormFits names (Some Erase) c = (c.ask ≡ ask_with c.ask.index Plain c.ask.argument 0) × IsTrue (is_erase c.ask.argument)
+OperandFits names (Some Erase) c = (c.ask ≡ ask_with c.ask.index Plain c.ask.argument 0) × IsTrue (is_erase c.ask.argument)
     × (c.address ≡ None)
 
-abbrev pub CommandFits : Declared → Command → Type 0
-CommandFits names c = FormFits names (form_of names.kind c.ask.index) c
+abbrev pub CommandFits : Declared → ScriptCommand → Type 0
+CommandFits names c = OperandFits names (operand_of names.kind c.ask.index) c
 
 -- one guard or more, and each says something of the answers to a command
 abbrev pub GuardsFit : Option Order → List Guard → Type 0

@@ -7,7 +7,8 @@ ghost use Rattle.sdv_script.specs.Place.{tokens_at, names_of, progress_of};
 ghost use Rattle.sdv_graph.specs.Tree.{nothing, statements_of, ways_of, statement_of, before};
 ghost use Rattle.sdv_script.specs.InRow.{in_row};
 ghost use Rattle.sdv_script.specs.GuardedOf.{guarded_of};
-ghost use Rattle.sdv_script.specs.Reading.{Gives, begins, starts, closes, last_way, read_case, read_statement, read_after, read_send, read_phase, read_loop, read_branches, read_block, read_statements, read_ways};
+ghost use Rattle.sdv_script.specs.Reading.{Gives, begins, starts, closes, last_way, read_case, read_statement, read_after};
+ghost use Rattle.sdv_script.specs.Reading.{read_send, read_phase, read_loop, read_branches, read_block, read_statements, read_ways};
 
 use crate::commands::command;
 use crate::cursor::Cursor;
@@ -21,11 +22,8 @@ use crate::token::{Sign, Token};
 use crate::values::{condition, fault_name, receive, setting};
 use sdv_card::laws::order;
 use sdv_card::{Guard, Order};
-use sdv_graph::{Block, Cases, Names, Phase, Stmt};
+use sdv_graph::{Block, Cases, MAX_STATEMENTS, Names, Phase, Stmt};
 use std::alloc::{AllocError, Global};
-
-/// A script has at most so many statements.
-pub const MAX_STATEMENTS: usize = 4096;
 
 /// A statement stands in at most so many loops' bodies.
 pub const MAX_LOOPS: usize = 4;

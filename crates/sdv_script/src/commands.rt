@@ -3,19 +3,19 @@
 ghost use Rattle.std.specs.Prelude.{◌≡◌};
 ghost use Rattle.sdv_script.specs.Place.{tokens_at, names_of};
 ghost use Rattle.sdv_script.specs.Rules.{ask_with};
-ghost use Rattle.sdv_script.specs.Reading.{Gives, bare_command, addressed_command, read_unit, read_sum, read_position, read_address, read_select, read_conditions, read_counted, read_preset, read_erase, read_form, read_command};
+ghost use Rattle.sdv_script.specs.Reading.{Gives, bare_command, addressed_command, read_unit, read_sum, read_position, read_address, read_select, read_conditions, read_counted, read_preset, read_erase, read_operand, read_command};
 
 use crate::cursor::Cursor;
 use crate::expect::{at_word, count, count_word, figure, flag, number_name};
 use crate::fault::{FaultKind, Stop};
-use crate::form::{Form, form_of};
 use crate::keyword::Keyword;
+use crate::operand::{Operand, operand_of};
 use crate::token::{Sign, Token};
 use sdv_card::{Aim, Ask};
-use sdv_graph::{Address, Command, Names, Position, Unit};
+use sdv_graph::{Address, Names, Position, ScriptCommand, Unit};
 
 /// A command, from its index on.
-pub fn command<'a>(names: &Names<'_>, at: Cursor<'a>) -> Result<(Command, Cursor<'a>), Stop>
+pub fn command<'a>(names: &Names<'_>, at: Cursor<'a>) -> Result<(ScriptCommand, Cursor<'a>), Stop>
     ensures { Gives (λ x. (x.0, tokens_at x.1)) result (read_command (names_of names.now) (tokens_at at.entry)) }
 {
     let number = match at.token {
@@ -25,8 +25,8 @@ pub fn command<'a>(names: &Names<'_>, at: Cursor<'a>) -> Result<(Command, Cursor
     let Ok(index) = u8::try_from(number) else {
         return Err(Stop::Fault(at.fault(FaultKind::Command)));
     };
-    match form_of(names.kind, index) {
-        Some(form) => written(names, index, form, at.next()),
+    match operand_of(names.kind, index) {
+        Some(operand) => written(names, index, operand, at.next()),
         None => Err(Stop::Fault(at.fault(FaultKind::Command))),
     }
 }
@@ -35,23 +35,23 @@ pub fn command<'a>(names: &Names<'_>, at: Cursor<'a>) -> Result<(Command, Cursor
 fn written<'a>(
     names: &Names<'_>,
     index: u8,
-    form: Form,
+    operand: Operand,
     at: Cursor<'a>,
-) -> Result<(Command, Cursor<'a>), Stop>
+) -> Result<(ScriptCommand, Cursor<'a>), Stop>
     ensures { Gives (λ x. (x.0, tokens_at x.1)) result
-        (read_form (names_of names.now) index form (tokens_at at.entry)) }
+        (read_operand (names_of names.now) index operand (tokens_at at.entry)) }
 {
-    match form {
-        Form::Bare(aim) => Ok((bare(ask(index, aim, 0, 0)), at)),
-        Form::Select => select(index, at),
-        Form::Conditions => conditions(index, at),
-        Form::Addressed(blocks) => {
+    match operand {
+        Operand::Bare(aim) => Ok((bare(ask(index, aim, 0, 0)), at)),
+        Operand::Select => select(index, at),
+        Operand::Conditions => conditions(index, at),
+        Operand::Addressed(blocks) => {
             let (address, at) = address(names, at)?;
             Ok((addressed(ask(index, Aim::Plain, 0, blocks), address), at))
         }
-        Form::Counted => counted(names, index, at),
-        Form::Preset => preset(index, at),
-        Form::Erase => erase(index, at),
+        Operand::Counted => counted(names, index, at),
+        Operand::Preset => preset(index, at),
+        Operand::Erase => erase(index, at),
     }
 }
 
@@ -66,23 +66,23 @@ fn ask(index: u8, aim: Aim, argument: u32, count: u16) -> Ask
     }
 }
 
-fn bare(ask: Ask) -> Command
+fn bare(ask: Ask) -> ScriptCommand
     ensures { result ≡ bare_command ask }
 {
-    Command { ask, address: None }
+    ScriptCommand { ask, address: None }
 }
 
-fn addressed(ask: Ask, address: Address) -> Command
+fn addressed(ask: Ask, address: Address) -> ScriptCommand
     ensures { result ≡ addressed_command ask address }
 {
-    Command {
+    ScriptCommand {
         ask,
         address: Some(address),
     }
 }
 
 // Nothing, or `none`.
-fn select(index: u8, at: Cursor<'_>) -> Result<(Command, Cursor<'_>), Stop>
+fn select(index: u8, at: Cursor<'_>) -> Result<(ScriptCommand, Cursor<'_>), Stop>
     ensures { Gives (λ x. (x.0, tokens_at x.1)) result (read_select index (tokens_at at.entry)) }
 {
     match at.token {
@@ -92,7 +92,7 @@ fn select(index: u8, at: Cursor<'_>) -> Result<(Command, Cursor<'_>), Stop>
 }
 
 // One of the two arguments of ACMD41.
-fn conditions(index: u8, at: Cursor<'_>) -> Result<(Command, Cursor<'_>), Stop>
+fn conditions(index: u8, at: Cursor<'_>) -> Result<(ScriptCommand, Cursor<'_>), Stop>
     ensures { Gives (λ x. (x.0, tokens_at x.1)) result (read_conditions index (tokens_at at.entry)) }
 {
     match at.token {
@@ -104,7 +104,7 @@ fn conditions(index: u8, at: Cursor<'_>) -> Result<(Command, Cursor<'_>), Stop>
 }
 
 // `count` and a number of blocks.
-fn preset(index: u8, at: Cursor<'_>) -> Result<(Command, Cursor<'_>), Stop>
+fn preset(index: u8, at: Cursor<'_>) -> Result<(ScriptCommand, Cursor<'_>), Stop>
     ensures { Gives (λ x. (x.0, tokens_at x.1)) result (read_preset index (tokens_at at.entry)) }
 {
     let at = count_word(at)?;
@@ -113,7 +113,7 @@ fn preset(index: u8, at: Cursor<'_>) -> Result<(Command, Cursor<'_>), Stop>
 }
 
 // An erase, a trim or a discard.
-fn erase(index: u8, at: Cursor<'_>) -> Result<(Command, Cursor<'_>), Stop>
+fn erase(index: u8, at: Cursor<'_>) -> Result<(ScriptCommand, Cursor<'_>), Stop>
     ensures { Gives (λ x. (x.0, tokens_at x.1)) result (read_erase index (tokens_at at.entry)) }
 {
     match at.token {
@@ -125,7 +125,11 @@ fn erase(index: u8, at: Cursor<'_>) -> Result<(Command, Cursor<'_>), Stop>
 }
 
 // An address, `count` and a number of blocks.
-fn counted<'a>(names: &Names<'_>, index: u8, at: Cursor<'a>) -> Result<(Command, Cursor<'a>), Stop>
+fn counted<'a>(
+    names: &Names<'_>,
+    index: u8,
+    at: Cursor<'a>,
+) -> Result<(ScriptCommand, Cursor<'a>), Stop>
     ensures { Gives (λ x. (x.0, tokens_at x.1)) result (read_counted (names_of names.now) index (tokens_at at.entry)) }
 {
     let (address, at) = address(names, at)?;

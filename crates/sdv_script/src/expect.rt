@@ -10,9 +10,9 @@ use crate::cursor::Cursor;
 use crate::depth::Depth;
 use crate::fault::{FaultKind, ScriptFault, Stop};
 use crate::keyword::Keyword;
-use crate::token::{MAX_NUMBER, Sign, Token};
+use crate::token::{Sign, Token};
 use sdv_card::Kind;
-use sdv_graph::Names;
+use sdv_graph::{MAX_NUMBER, Names};
 
 /// Braces may be nested so deep.
 pub const MAX_BRACES: usize = 64;

@@ -1,3 +1,3 @@
 //! The graph, under the path that the crates above name it by.
 
-pub use sdv_graph::{Action, Graph, Point, Target, Way};
+pub use sdv_graph::{Action, Case, Graph, Point, Target};

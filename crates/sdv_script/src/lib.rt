@@ -13,11 +13,11 @@ mod depth;
 mod expect;
 mod fault;
 mod flow;
-mod form;
 pub mod graph;
 mod graphed;
 mod guards;
 mod keyword;
+mod operand;
 mod printing;
 mod progress;
 mod reading;
@@ -27,12 +27,12 @@ pub mod tree;
 mod values;
 
 pub use fault::{FaultKind, ScriptFault};
-pub use graph::{Action, Graph, Point, Target, Way};
+pub use graph::{Action, Case, Graph, Point, Target};
 pub use graphed::one_graph;
 pub use printing::{print, printed_tree};
-pub use reading::{asks_by_table, one_tree, parse};
+pub use reading::{MAX_BYTES, asks_by_table, one_tree, parse};
 pub use script::Script;
 pub use tree::{
-    Address, Atom, Block, Cases, Change, Command, Condition, Let, Names, Phase, Position, Stmt,
-    Unit,
+    Address, Atom, Block, Cases, Change, Condition, Let, Names, Phase, Position, ScriptCommand,
+    Stmt, Unit,
 };

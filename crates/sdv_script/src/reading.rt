@@ -2,7 +2,7 @@
 
 ghost use Rattle.std.specs.Prelude.{◌≡◌, ◌≢◌, IfOk, IfErr};
 ghost use Rattle.sdv_script.specs.Asks.{AsksByTable};
-ghost use Rattle.sdv_graph.specs.Graph.{Flow};
+ghost use Rattle.sdv_graph.specs.Graph.{Graph};
 ghost use Rattle.sdv_graph.specs.GraphOf.{IsGraphOf};
 ghost use Rattle.sdv_script.specs.Script.{Parsed, IsScript};
 ghost use Rattle.sdv_script.specs.Place.{tokens_at, names_of};
@@ -63,7 +63,7 @@ pub fn one_tree()
 
 /// Each command of a script's graph asks by a line of the command table.
 pub fn asks_by_table()
-    ensures { (s : Parsed) → (g : Flow) → IsScript s → IsGraphOf s.names s.body g → AsksByTable g }
+    ensures { (s : Parsed) → (g : Graph) → IsScript s → IsGraphOf s.names s.body g → AsksByTable g }
 {}
 
 #[tactic(auto, unfolding(crate::specs::Reading::read_script))]

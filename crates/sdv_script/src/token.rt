@@ -7,6 +7,7 @@ ghost use Rattle.sdv_script.specs.Tokens.{run, goes_on, is_joined, is_blank, is_
 ghost use Rattle.sdv_script.specs.TokenView.{token_of, found_of, IsThere};
 
 use crate::keyword::Keyword;
+use sdv_graph::MAX_NUMBER;
 use std::str;
 
 /// A sign.
@@ -48,9 +49,6 @@ pub enum Token<'a> {
     /// The end of the text.
     End,
 }
-
-/// The greatest number that a script may write.
-pub const MAX_NUMBER: u64 = 1 << 40;
 
 /// The token at the front of a text that begins with no blank and no comment, and how many bytes it has.
 pub fn first_token(text: &[u8]) -> (Token<'_>, usize)

@@ -1,6 +1,6 @@
 //! The syntax tree, under the path that the crates above name it by.
 
 pub use sdv_graph::{
-    Address, Atom, Block, Cases, Change, Command, Condition, Let, Names, Phase, Position, Stmt,
-    Unit,
+    Address, Atom, Block, Cases, Change, Condition, Let, Names, Phase, Position, ScriptCommand,
+    Stmt, Unit,
 };

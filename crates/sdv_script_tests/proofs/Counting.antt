@@ -2,7 +2,7 @@
 use Rattle.std.proofs.Common.{◌≡◌, ◌<◌, ◌≤◌, ◌+◌, ℕ, suc, List, [], ◌∷◌, ◌++◌, length, inl, inr, ap, arith}
 use Rattle.sdv_card.specs.declared.shape.Shape.{Shape}
 use Rattle.sdv_card.specs.Lists.{IsOneOf}
-use Rattle.sdv_facts.specs.Known.{AreRising}
+use Rattle.sdv_facts.specs.Facts.{AreRising}
 use Rattle.sdv_facts.proofs.SetLaws.{Rises, rising_of}
 
 -- the codes are those from this one on

@@ -2,7 +2,7 @@
 use Rattle.std.proofs.Common.{◌<◌, [], ◌∷◌, inl, inr, subst}
 use Rattle.sdv_card.specs.declared.shape.Shape.{Shape}
 use Rattle.sdv_card.specs.Lists.{IsOneOf}
-use Rattle.sdv_facts.specs.Known.{AreRising}
+use Rattle.sdv_facts.specs.Facts.{AreRising}
 use Rattle.sdv_facts.proofs.SetLaws.{rising_of}
 
 pub one_rises : (x : Shape) → AreRising (x ∷ [])

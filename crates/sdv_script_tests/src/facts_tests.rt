@@ -8,7 +8,7 @@ use sdv_facts::{
     Facts, Numbers, Test, VarFacts, address_holds, address_ok, after_let, after_test, all_may_hold,
     covers, ends_at, event_of_phase, one_may_fail,
 };
-use sdv_graph::{Action, Address, Atom, Change, Command, Let, Phase, Position, Target, Unit};
+use sdv_graph::{Action, Address, Atom, Change, Let, Phase, Position, ScriptCommand, Target, Unit};
 use std::alloc::{AllocError, Global};
 use std::test::Fail;
 
@@ -292,7 +292,7 @@ fn send(alloc: Global, index: u8, count: u16, address: Option<Address>) -> Actio
         leave: 0,
         enter: None,
     };
-    Action::Send(Command { ask, address }, Vec::new(alloc), nowhere)
+    Action::Send(ScriptCommand { ask, address }, Vec::new(alloc), nowhere)
 }
 
 // The index of a command, the blocks that it announces, and the block that it begins with, on a card of at least 10

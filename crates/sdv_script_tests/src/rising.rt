@@ -2,7 +2,7 @@
 
 ghost use Rattle.std.specs.Prelude.{◌≡◌, ◌<◌, ◌↔◌, length, IsTrue, IfOk, IfSome};
 ghost use Rattle.sdv_card.specs.Lists.{May};
-ghost use Rattle.sdv_facts.specs.Known.{AreRising};
+ghost use Rattle.sdv_facts.specs.Facts.{AreRising};
 ghost use Rattle.sdv_facts.specs.SharedSets.{members};
 
 use sdv_card::Shape;

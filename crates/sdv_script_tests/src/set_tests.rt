@@ -2,7 +2,7 @@
 //! have, in one set and in 4,095 sets.
 
 ghost use Rattle.std.specs.Prelude.{◌<◌, IfOk};
-ghost use Rattle.sdv_facts.specs.Known.{AreRising};
+ghost use Rattle.sdv_facts.specs.Facts.{AreRising};
 
 use crate::rising::{has, named, shapes_from};
 use sdv_card::Shape;

@@ -6,7 +6,7 @@ use Rattle.std.specs.Io.KnownBytes.{Appends}
 use Rattle.sdv_text.specs.Written.{AppendsPart, Writes}
 use Rattle.std.proofs.lemmas.Result.{on_ok_weaker}
 use Rattle.sdv_script.specs.declared.script.Script.{Script as Tree}
-use Rattle.sdv_script.specs.Graph.{Flow}
+use Rattle.sdv_script.specs.Graph.{Graph}
 use Rattle.sdv_script.specs.GraphOf.{IsGraphOf}
 use Rattle.sdv_script.specs.Script.{Parsed, IsScript}
 use Rattle.sdv_script.specs.Shown.{shown}
@@ -24,7 +24,7 @@ use Rattle.sdv_faults.specs.declared.fault.Fault.TheVariants.{Output}
 use Rattle.sdv_faults.proofs.OutputLaws.{whole, in_part, if_err}
 
 -- a graph of the text is one of the script, since a text has one tree
-graph_of_script : (text : Text) (s : Tree) (g : Flow) → IsTextOfScript text s → IsGraphOfText text g → IsGraphOf (shown s).names (shown s).body g
+graph_of_script : (text : Text) (s : Tree) (g : Graph) → IsTextOfScript text s → IsGraphOfText text g → IsGraphOf (shown s).names (shown s).body g
 graph_of_script text s g is of =
     let p : Parsed = of.script in
     let tree = one_tree_lem p (shown s) of.is_script is.is_script (of.same ∙ sym is.same) in

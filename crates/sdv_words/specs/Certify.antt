@@ -3,7 +3,7 @@ use Rattle.std.specs.Prelude.{◌≡◌, ◌≢◌, ℕ, List, Option}
 use Rattle.std.specs.Io.KnownBytes.{Appends}
 use Rattle.clap.specs.Words.{Text}
 use Rattle.sdv_script.specs.declared.script.Script.{Script as Tree}
-use Rattle.sdv_script.specs.Graph.{Flow}
+use Rattle.sdv_script.specs.Graph.{Graph}
 use Rattle.sdv_text.specs.Written.{AppendsPart}
 use Rattle.sdv_script.specs.Script.{IsScript}
 use Rattle.sdv_script.specs.Shown.{shown}
@@ -29,7 +29,7 @@ pub record IsCertificateOfText (text : Text) (points : List PointFacts) : Type 0
   pub script : Tree
   pub is : IsTextOfScript text script
   pub certificate : CertificateOf script points
-  pub closed : (g : Flow) → IsGraphOfText text g → Closed g points
+  pub closed : (g : Graph) → IsGraphOfText text g → Closed g points
   pub limits : WithinLimits points
 
 -- the text is a script that has no certificate, for this reason

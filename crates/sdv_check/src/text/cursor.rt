@@ -7,7 +7,7 @@ use crate::text::fault::CertFault;
 
 /// A place in the text of a certificate.
 #[derive(Clone, Copy)]
-pub struct Cursor<'a> {
+pub struct TextCursor<'a> {
     /// What follows.
     pub rest: &'a [u8],
     /// The line, counted from 1.
@@ -15,28 +15,28 @@ pub struct Cursor<'a> {
 }
 
 /// What follows a word, if the text goes on with it.
-pub fn skip<'a>(at: Cursor<'a>, word: &[u8]) -> Option<Cursor<'a>>
+pub fn skip<'a>(at: TextCursor<'a>, word: &[u8]) -> Option<TextCursor<'a>>
     ensures { option_map (λ x. x.rest.now) result ≡ after word.now at.entry.rest.now }
 {
     match at.rest.strip_prefix(word) {
-        Some(rest) => Some(Cursor { rest, ..at }),
+        Some(rest) => Some(TextCursor { rest, ..at }),
         None => None,
     }
 }
 
 /// What follows a word that has to stand here.
-pub fn expect<'a>(at: Cursor<'a>, word: &[u8]) -> Result<Cursor<'a>, CertFault>
+pub fn expect<'a>(at: TextCursor<'a>, word: &[u8]) -> Result<TextCursor<'a>, CertFault>
     ensures { Gives (λ x. x.rest.now) result (after word.now at.entry.rest.now) }
 {
     skip(at, word).ok_or(CertFault::Syntax { line: at.line })
 }
 
 /// What follows the end of a line.
-pub fn line_end(at: Cursor<'_>) -> Result<Cursor<'_>, CertFault>
+pub fn line_end(at: TextCursor<'_>) -> Result<TextCursor<'_>, CertFault>
     ensures { Gives (λ x. x.rest.now) result (after (10 ∷ []) at.entry.rest.now) }
 {
     let at = expect(at, b"\n")?;
-    Ok(Cursor {
+    Ok(TextCursor {
         line: at.line.saturating_add(1),
         ..at
     })

@@ -3,11 +3,12 @@
 ghost use Rattle.std.specs.Prelude.{◌≡◌, ◌+◌, ◌^◌, min, length};
 ghost use Rattle.sdv_check.specs.Reading.{Gives, run, is_digit, is_plain, number_after, read_number, read_gap, read_var, code_of, read_shape, has_upper};
 
-use crate::text::cursor::{Cursor, ends_item, expect, skip};
+use crate::text::cursor::{TextCursor, ends_item, expect, skip};
 use crate::text::fault::CertFault;
 use hex::FromHex;
 use sdv_card::Shape;
-use sdv_facts::{MAX_NUMBER, VarFacts};
+use sdv_facts::VarFacts;
+use sdv_graph::MAX_NUMBER;
 
 fn digits_len(text: &[u8]) -> usize
     ensures { result ≡ run is_digit text.now }
@@ -37,7 +38,7 @@ fn capped_value(digits: &[u8]) -> u64
 
 /// A number behind a space, and what follows it.
 #[tactic(auto, unfolding(crate::specs::Reading::read_number))]
-pub fn number(at: Cursor<'_>) -> Result<(u64, Cursor<'_>), CertFault>
+pub fn number(at: TextCursor<'_>) -> Result<(u64, TextCursor<'_>), CertFault>
     ensures { Gives (λ x. (x.0, x.1.rest.now)) result (read_number at.entry.rest.now) }
 {
     let at = expect(at, b" ")?;
@@ -49,12 +50,12 @@ pub fn number(at: Cursor<'_>) -> Result<(u64, Cursor<'_>), CertFault>
     if value > MAX_NUMBER {
         return Err(CertFault::Limit);
     }
-    Ok((value, Cursor { rest, ..at }))
+    Ok((value, TextCursor { rest, ..at }))
 }
 
 // A gap, or `-` for none, and what follows it.
 #[tactic(auto, unfolding(crate::specs::Reading::read_gap))]
-fn gap(at: Cursor<'_>) -> Result<(Option<u64>, Cursor<'_>), CertFault>
+fn gap(at: TextCursor<'_>) -> Result<(Option<u64>, TextCursor<'_>), CertFault>
     ensures { Gives (λ x. (x.0, x.1.rest.now)) result (read_gap at.entry.rest.now) }
 {
     if let Some(at) = skip(at, b" -") {
@@ -66,7 +67,7 @@ fn gap(at: Cursor<'_>) -> Result<(Option<u64>, Cursor<'_>), CertFault>
 
 /// What is said of a number variable, and what follows it.
 #[tactic(auto, unfolding(crate::specs::Reading::read_var))]
-pub fn variable(at: Cursor<'_>) -> Result<(VarFacts, Cursor<'_>), CertFault>
+pub fn variable(at: TextCursor<'_>) -> Result<(VarFacts, TextCursor<'_>), CertFault>
     ensures { Gives (λ x. (x.0, x.1.rest.now)) result (read_var at.entry.rest.now) }
 {
     let at = expect(at, b" v")?;
@@ -97,7 +98,7 @@ fn code_of(digits: &[u8]) -> Option<u64>
 
 /// A shape, and what follows it.
 #[tactic(auto, unfolding(crate::specs::Reading::read_shape))]
-pub fn shape(at: Cursor<'_>) -> Result<(Shape, Cursor<'_>), CertFault>
+pub fn shape(at: TextCursor<'_>) -> Result<(Shape, TextCursor<'_>), CertFault>
     ensures { Gives (λ x. (x.0, x.1.rest.now)) result (read_shape at.entry.rest.now) }
 {
     let at = expect(at, b" ")?;
@@ -107,7 +108,7 @@ pub fn shape(at: Cursor<'_>) -> Result<(Shape, Cursor<'_>), CertFault>
     }
     let (digits, rest) = at.rest.split_at(16);
     match code_of(digits) {
-        Some(code) if ends_item(rest) => Ok((Shape(code), Cursor { rest, ..at })),
+        Some(code) if ends_item(rest) => Ok((Shape(code), TextCursor { rest, ..at })),
         _ => Err(fault),
     }
 }

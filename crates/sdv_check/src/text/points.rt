@@ -1,22 +1,19 @@
 //! The lines of the points.
 
 ghost use Rattle.std.specs.Prelude.{◌≡◌, ◌≤◌, List, length, IfOk};
-ghost use Rattle.sdv_facts.specs.Known.{AreRising};
+ghost use Rattle.sdv_facts.specs.Facts.{AreRising};
 ghost use Rattle.sdv_facts.specs.CertificateText.{max_shapes};
 ghost use Rattle.sdv_check.specs.Reading.{Gives, begins_number, begins_var, begins_shape, read_turns, read_vars, read_rising, read_shapes, read_place, read_numbers, read_bound, read_point, read_points, is_above};
 
-use crate::text::cursor::{Cursor, ends_item, expect, line_end};
+use crate::text::cursor::{TextCursor, ends_item, expect, line_end};
 use crate::text::fault::CertFault;
 use crate::text::items::{number, shape, variable};
 use arrayvec::ArrayVec;
 use sdv_card::Shape;
-use sdv_facts::{Facts, Numbers, PointFacts, VarFacts};
+use sdv_facts::{Facts, MAX_SHAPES, Numbers, PointFacts, VarFacts};
 use std::alloc::Global;
 
-/// A certificate has at most so many shapes.
-pub const MAX_SHAPES: usize = 65_536;
-
-fn begins_number(at: Cursor<'_>) -> bool
+fn begins_number(at: TextCursor<'_>) -> bool
     ensures { result ≡ begins_number at.entry.rest.now }
 {
     match at.rest {
@@ -26,7 +23,7 @@ fn begins_number(at: Cursor<'_>) -> bool
 }
 
 // The coefficients of the loops round a point, and what follows them.
-fn turns(at: Cursor<'_>) -> Result<(ArrayVec<u64, 4>, Cursor<'_>), CertFault>
+fn turns(at: TextCursor<'_>) -> Result<(ArrayVec<u64, 4>, TextCursor<'_>), CertFault>
     ensures { Gives (λ x. (x.0.items, x.1.rest.now)) result (read_turns at.entry.rest.now) }
 {
     let mut turns = ArrayVec::new();
@@ -42,7 +39,7 @@ fn turns(at: Cursor<'_>) -> Result<(ArrayVec<u64, 4>, Cursor<'_>), CertFault>
     Ok((turns, at))
 }
 
-fn begins_variable(at: Cursor<'_>) -> bool
+fn begins_variable(at: TextCursor<'_>) -> bool
     ensures { result ≡ begins_var at.entry.rest.now }
 {
     match at.rest {
@@ -52,7 +49,7 @@ fn begins_variable(at: Cursor<'_>) -> bool
 }
 
 // What is said of the number variables, and what follows it.
-fn variables(at: Cursor<'_>) -> Result<(ArrayVec<VarFacts, 8>, Cursor<'_>), CertFault>
+fn variables(at: TextCursor<'_>) -> Result<(ArrayVec<VarFacts, 8>, TextCursor<'_>), CertFault>
     ensures { Gives (λ x. (x.0.items, x.1.rest.now)) result (read_vars at.entry.rest.now) }
 {
     let mut vars = ArrayVec::new();
@@ -68,7 +65,7 @@ fn variables(at: Cursor<'_>) -> Result<(ArrayVec<VarFacts, 8>, Cursor<'_>), Cert
     Ok((vars, at))
 }
 
-fn begins_shape(at: Cursor<'_>) -> bool
+fn begins_shape(at: TextCursor<'_>) -> bool
     ensures { result ≡ begins_shape at.entry.rest.now }
 {
     matches!(at.rest, [b' ', ..])
@@ -85,7 +82,7 @@ fn is_above(last: Option<Shape>, shape: Shape) -> bool
 
 // A shape above the one before, and what follows it.
 #[tactic(auto, unfolding(crate::specs::Reading::read_rising))]
-fn next_shape(last: Option<Shape>, at: Cursor<'_>) -> Result<(Shape, Cursor<'_>), CertFault>
+fn next_shape(last: Option<Shape>, at: TextCursor<'_>) -> Result<(Shape, TextCursor<'_>), CertFault>
     ensures { Gives (λ x. (x.0, x.1.rest.now)) result (read_rising last at.entry.rest.now) }
 {
     let (shape, rest) = shape(at)?;
@@ -96,7 +93,11 @@ fn next_shape(last: Option<Shape>, at: Cursor<'_>) -> Result<(Shape, Cursor<'_>)
 }
 
 // At most so many shapes, and what follows them.
-fn shapes(alloc: Global, room: usize, at: Cursor<'_>) -> Result<(Vec<Shape>, Cursor<'_>), CertFault>
+fn shapes(
+    alloc: Global,
+    room: usize,
+    at: TextCursor<'_>,
+) -> Result<(Vec<Shape>, TextCursor<'_>), CertFault>
     ensures read { Gives (λ x. (x.0.items, x.1.rest.now)) result (read_shapes room at.entry.rest.now) }
     ensures rising { IfOk result (λ x. AreRising x.0.items) }
     ensures few { IfOk result (λ x. length x.0.items ≤ room) }
@@ -118,7 +119,7 @@ fn shapes(alloc: Global, room: usize, at: Cursor<'_>) -> Result<(Vec<Shape>, Cur
 
 // What follows the place of a point.
 #[tactic(auto, unfolding(crate::specs::Reading::read_place))]
-fn placed(at: Cursor<'_>, place: u64) -> Result<Cursor<'_>, CertFault>
+fn placed(at: TextCursor<'_>, place: u64) -> Result<TextCursor<'_>, CertFault>
     ensures { Gives (λ x. x.rest.now) result (read_place place at.entry.rest.now) }
 {
     match number(at) {
@@ -130,7 +131,7 @@ fn placed(at: Cursor<'_>, place: u64) -> Result<Cursor<'_>, CertFault>
 
 // What is known of numbers, and what follows it.
 #[tactic(auto, unfolding(crate::specs::Reading::read_numbers))]
-fn numbers(at: Cursor<'_>) -> Result<(Numbers, Cursor<'_>), CertFault>
+fn numbers(at: TextCursor<'_>) -> Result<(Numbers, TextCursor<'_>), CertFault>
     ensures { Gives (λ x. (x.0, x.1.rest.now)) result (read_numbers at.entry.rest.now) }
 {
     let at = expect(at, b" m")?;
@@ -141,7 +142,10 @@ fn numbers(at: Cursor<'_>) -> Result<(Numbers, Cursor<'_>), CertFault>
 
 // The bound of a point, and what follows it.
 #[tactic(auto, unfolding(crate::specs::Reading::read_bound))]
-fn bound(at: Cursor<'_>, place: u64) -> Result<((u64, ArrayVec<u64, 4>), Cursor<'_>), CertFault>
+fn bound(
+    at: TextCursor<'_>,
+    place: u64,
+) -> Result<((u64, ArrayVec<u64, 4>), TextCursor<'_>), CertFault>
     ensures { Gives (λ x. ((x.0.0, x.0.1.items), x.1.rest.now)) result (read_bound place at.entry.rest.now) }
 {
     let at = expect(at, b"p")?;
@@ -158,8 +162,8 @@ fn point(
     alloc: Global,
     place: u64,
     room: usize,
-    at: Cursor<'_>,
-) -> Result<(PointFacts, Cursor<'_>), CertFault>
+    at: TextCursor<'_>,
+) -> Result<(PointFacts, TextCursor<'_>), CertFault>
     ensures read { Gives (λ x. (x.0, x.1.rest.now)) result (read_point place room at.entry.rest.now) }
     ensures few { IfOk result (λ x. length x.0.facts.shapes ≤ room) }
 {
@@ -176,8 +180,8 @@ fn point(
 pub fn points(
     alloc: Global,
     count: u64,
-    at: Cursor<'_>,
-) -> Result<(Vec<PointFacts>, Cursor<'_>), CertFault>
+    at: TextCursor<'_>,
+) -> Result<(Vec<PointFacts>, TextCursor<'_>), CertFault>
     ensures { Gives (λ x. (x.0.items, x.1.rest.now)) result (read_points count 0 max_shapes at.entry.rest.now) }
 {
     let mut points = Vec::new(alloc);

@@ -4,18 +4,16 @@ ghost use Rattle.sdv_facts.specs.CertificateText.{text_of, max_bytes, WithinLimi
 ghost use Rattle.sdv_check.specs.Reading.{Gives, read_count, read_lines, read_text};
 ghost use Rattle.sdv_check.specs.declared.text.fault.CertFault.TheVariants.{Limit};
 
-use crate::text::cursor::{Cursor, expect, line_end, skip};
+use crate::text::cursor::{TextCursor, expect, line_end, skip};
 use crate::text::fault::CertFault;
 use crate::text::items::number;
 use crate::text::points::points;
 use sdv_facts::{Certificate, PointFacts};
+use sdv_graph::MAX_STATEMENTS;
 use std::alloc::Global;
 
 /// A text has at most so many bytes.
 pub const MAX_BYTES: usize = 16_777_216;
-
-/// A certificate has at most so many points.
-pub const MAX_POINTS: u64 = 4096;
 
 /// The certificate that a text is.
 ///
@@ -41,12 +39,12 @@ pub fn one_certificate()
 
 // How many points there are, and what follows.
 #[tactic(auto, unfolding(crate::specs::Reading::read_count))]
-fn count(at: Cursor<'_>) -> Result<(u64, Cursor<'_>), CertFault>
+fn count(at: TextCursor<'_>) -> Result<(u64, TextCursor<'_>), CertFault>
     ensures { Gives (λ x. (x.0, x.1.rest.now)) result (read_count at.entry.rest.now) }
 {
     let at = expect(at, b"points")?;
     let (count, at) = number(at)?;
-    if count > MAX_POINTS {
+    if count > MAX_STATEMENTS as u64 {
         return Err(CertFault::Limit);
     }
     let at = line_end(at)?;
@@ -55,7 +53,7 @@ fn count(at: Cursor<'_>) -> Result<(u64, Cursor<'_>), CertFault>
 
 // The points, behind the first line.
 #[tactic(auto, unfolding(crate::specs::Reading::read_lines))]
-fn lines(alloc: Global, at: Cursor<'_>) -> Result<Vec<PointFacts>, CertFault>
+fn lines(alloc: Global, at: TextCursor<'_>) -> Result<Vec<PointFacts>, CertFault>
     ensures { Gives (λ x. x.items) result (read_lines at.entry.rest.now) }
 {
     let (count, at) = count(at)?;
@@ -76,7 +74,7 @@ fn whole(alloc: Global, text: &[u8]) -> Result<Vec<PointFacts>, CertFault>
         return Err(CertFault::Limit);
     }
     match skip(
-        Cursor {
+        TextCursor {
             rest: text,
             line: 2,
         },

@@ -4,7 +4,7 @@ use Rattle.sdv_graph.specs.Moves.{statements_moves, statement_moves}
 use Rattle.sdv_graph.specs.Tree.{statements_of, ways_of, statement_of}
 use Rattle.sdv_certify.specs.Spans.{spans_statements}
 use Rattle.sdv_certify.specs.Forms.{leads_to, either_form, form_statements, forms_of_statements, full_form, in_full}
-use Rattle.sdv_certify.specs.Turns.{StatementsTurn, StatementTurns}
+use Rattle.sdv_certify.specs.LoopTurns.{StatementsTurn, StatementTurns}
 use Rattle.sdv_certify.proofs.FormLaws.{either_same, leads_same}
 use Rattle.sdv_certify.proofs.SameForms.{same_before}
 use Rattle.std.proofs.lemmas.List.{map-append}

@@ -5,4 +5,4 @@ use Rattle.sdv_explain.proofs.heading.headings_by.Given as goal
 -- the headings so far, and those of the points that are left, are all
 abbrev pub invariant-loop-number : goal.invariant-loop-number
 invariant-loop-number l =
-    map words_of l.headings.items ++ map (words_at l.outline) (drop l.number l.graph.places) ≡ map (words_at l.outline) l.graph.places
+    map words_of l.headings.items ++ map (words_at l.outline) (drop l.number l.graph.points) ≡ map (words_at l.outline) l.graph.points

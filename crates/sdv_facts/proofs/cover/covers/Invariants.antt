@@ -1,5 +1,5 @@
 use Rattle.std.proofs.Common.{ℕ, ◌<◌}
-use Rattle.sdv_facts.specs.Known.{var}
+use Rattle.sdv_facts.specs.Facts.{var}
 use Rattle.sdv_facts.specs.Covers.{VarCovers}
 use Rattle.sdv_facts.proofs.cover.covers.Given as goal
 

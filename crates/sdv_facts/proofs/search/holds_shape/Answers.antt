@@ -1,6 +1,6 @@
 use Rattle.std.proofs.Common.{rules, subst, sym}
 use Rattle.std.proofs.lemmas.List.Sorted.{answers_always}
-use Rattle.sdv_facts.specs.Known.{AreRising}
+use Rattle.sdv_facts.specs.Facts.{AreRising}
 use Rattle.sdv_facts.proofs.Rising.{searched}
 use Rattle.sdv_facts.proofs.search.holds_shape.Goals as goal
 

@@ -12,12 +12,12 @@ use Rattle.sdv_graph.specs.AddressSent.{position_of_command}
 use Rattle.sdv_graph.specs.Conditions.{condition_holds, with_flag}
 use Rattle.sdv_graph.specs.ValueOfLet.{value_of_let, with_number}
 use Rattle.sdv_graph.specs.Walk.{Fell, Broke, Finished, Failed, Open, command_deed, all_pass}
-use Rattle.sdv_graph.specs.Path.{Fork, Node, Place, sends, phases, lets, tests, flags, heads, jumps, stops, Stand, arrive, Move, Goes, Does, Halts, way_of, move_with, node_move, move}
-use Rattle.sdv_graph.specs.declared.graph.Action.{Action}
+use Rattle.sdv_graph.specs.Path.{Case, Action, Point, sends, phases, lets, tests, flags, heads, jumps, stops, Stand, arrive, Move, Goes, Does, Halts, way_of, move_with, action_move, move}
+use Rattle.sdv_graph.specs.declared.graph.Action.{Action as CodeAction}
 use Rattle.sdv_graph.specs.declared.graph.Action.TheVariants as actions
-use Rattle.sdv_graph.specs.Graph.{Flow, WhereverTo, Lasts, begin, node_of}
-use Rattle.sdv_graph.specs.Nested.{InBox, Same, EachFork, EachTarget, Lands}
-use Rattle.sdv_graph.specs.Limits.{node_keeps_limits, keeps_limits, all_keep_limits}
+use Rattle.sdv_graph.specs.Graph.{Graph, WhereverTo, Lasts, begin, seen_action}
+use Rattle.sdv_graph.specs.Nested.{InBox, Same, EachCase, EachTarget, Lands}
+use Rattle.sdv_graph.specs.Limits.{action_keeps_limits, keeps_limits, all_keep_limits}
 use Rattle.sdv_graph.specs.GraphOf.{IsSound}
 use Rattle.sdv_run.specs.Moves.{IsNarrow, IsInRange}
 
@@ -37,30 +37,30 @@ one_of : (a b : Bool) → a && b ≡ true → (a ≡ true) × (b ≡ true)
 one_of true b p = (refl, p)
 one_of false b p = absurd (cc)
 
-keeps_at : (ps : List Place) (i : ℕ) (p : Place) → all_keep_limits ps ≡ true → slice_get ps i ≡ Some p → keeps_limits p ≡ true
+keeps_at : (ps : List Point) (i : ℕ) (p : Point) → all_keep_limits ps ≡ true → slice_get ps i ≡ Some p → keeps_limits p ≡ true
 keeps_at [] i p all here = absurd (cc)
 keeps_at (q ∷ ps) zero p all here =
     let e : q ≡ p = cc in
     subst (λ q. keeps_limits q ≡ true) e (one_of (keeps_limits q) (all_keep_limits ps) all).0
 keeps_at (q ∷ ps) (suc i) p all here = keeps_at ps i p (one_of (keeps_limits q) (all_keep_limits ps) all).1 here
 
-few_at : (ps : List Place) (i : ℕ) (p : Place) → all_keep_limits ps ≡ true → slice_get ps i ≡ Some p →
-    (node_keeps_limits p.node ≡ true) × (length p.most ≤ max_loops)
+few_at : (ps : List Point) (i : ℕ) (p : Point) → all_keep_limits ps ≡ true → slice_get ps i ≡ Some p →
+    (action_keeps_limits p.action ≡ true) × (length p.most ≤ max_loops)
 few_at ps i p all here =
-    let keeps = one_of (node_keeps_limits p.node) (nat_le (length p.most) max_loops) (keeps_at ps i p all here) in
+    let keeps = one_of (action_keeps_limits p.action) (nat_le (length p.most) max_loops) (keeps_at ps i p all here) in
     (keeps.0, leb-true (length p.most) max_loops keeps.1)
 
-module _ (k : Kind) (g : List Place) where
+module _ (k : Kind) (g : List Point) where
   -- the turns left are those that the point can have
   abbrev pub Sits : Stand → Type 0
-  Sits s = (p : Place) → slice_get g s.point ≡ Some p → InBox s.turns p.most
+  Sits s = (p : Point) → slice_get g s.point ≡ Some p → InBox s.turns p.most
 
   -- A run that lasts stands at a point.
   abbrev pub StandsAt : ℕ → Stand → Type 0
-  StandsAt n s = (p : Place) × (slice_get g s.point ≡ Some p) × WhereverTo (Lasts k g (n - 1)) (node_move k p.node s.turns s.host)
+  StandsAt n s = (p : Point) × (slice_get g s.point ≡ Some p) × WhereverTo (Lasts k g (n - 1)) (action_move k p.action s.turns s.host)
 
-  found : (n : ℕ) (s : Stand) (o : Option Place) → slice_get g s.point ≡ o → WhereverTo (Lasts k g n) (move k o s.turns s.host) →
-      (p : Place) × (slice_get g s.point ≡ Some p) × WhereverTo (Lasts k g n) (node_move k p.node s.turns s.host)
+  found : (n : ℕ) (s : Stand) (o : Option Point) → slice_get g s.point ≡ o → WhereverTo (Lasts k g n) (move k o s.turns s.host) →
+      (p : Point) × (slice_get g s.point ≡ Some p) × WhereverTo (Lasts k g n) (action_move k p.action s.turns s.host)
   found n s None here lasts = absurd lasts
   found n s (Some p) here lasts = (p, here, lasts)
 
@@ -68,7 +68,7 @@ module _ (k : Kind) (g : List Place) where
   stands_at zero s lasts = absurd lasts
   stands_at (suc n) s lasts =
       let e : n ≡ suc n - 1 = omega arith in
-      subst (λ m. (p : Place) × (slice_get g s.point ≡ Some p) × WhereverTo (Lasts k g m) (node_move k p.node s.turns s.host)) e
+      subst (λ m. (p : Point) × (slice_get g s.point ≡ Some p) × WhereverTo (Lasts k g m) (action_move k p.action s.turns s.host)) e
       (found n s (slice_get g s.point) refl lasts)
 
   -- It leads to where it sits again.
@@ -80,7 +80,7 @@ module _ (k : Kind) (g : List Place) where
     either_lands true t u p q = p
     either_lands false t u p q = q
 
-    way_lands : (ws : List Fork) (other : Target) (returned : Return) → EachFork ws (Lands g most) → Lands g most Same other →
+    way_lands : (ws : List Case) (other : Target) (returned : Return) → EachCase ws (Lands g most) → Lands g most Same other →
         Lands g most Same (way_of k ws other returned)
     way_lands [] other returned each o = o
     way_lands (w ∷ ws) other returned each o =
@@ -90,7 +90,7 @@ module _ (k : Kind) (g : List Place) where
     with_onward P None on f = tt
     with_onward P (Some n) on f = f n
 
-    sits_on : (node : Node) (ts : List ℕ) (h : Host) → InBox ts most → EachTarget node (Lands g most) → Onward Sits (node_move k node ts h)
+    sits_on : (action : Action) (ts : List ℕ) (h : Host) → InBox ts most → EachTarget action (Lands g most) → Onward Sits (action_move k action ts h)
     sits_on (sends c ways other) ts h box each =
         with_onward Sits (position_of_command h c.address)
         (λ position. Does (command_deed k c h position) h (λ returned h'. arrive (way_of k ways other returned) ts h'))
@@ -109,7 +109,7 @@ module _ (k : Kind) (g : List Place) where
     sits_on (stops last) ts h box each = tt
 
 -- few loops stand round a place where a run stands
-short_at : (k : Kind) (g : List Place) (n : ℕ) (s : Stand) → all_keep_limits g ≡ true → Lasts k g n s → Sits k g s → length s.turns ≤ 4
+short_at : (k : Kind) (g : List Point) (n : ℕ) (s : Stand) → all_keep_limits g ≡ true → Lasts k g n s → Sits k g s → length s.turns ≤ 4
 short_at k g n s limits lasts sits =
     let there = stands_at k g n s lasts in
     let same = box_length s.turns there.0.most (sits there.0 there.1) in
@@ -125,7 +125,7 @@ with_end_fits : (o : Option ℕ) (on : ℕ → Move) → ((n : ℕ) → EndFits 
 with_end_fits None on f = lit≤ tt
 with_end_fits (Some n) on f = f n
 
-end_fits : (k : Kind) (node : Node) (ts : List ℕ) (h : Host) → node_keeps_limits node ≡ true → EndFits (node_move k node ts h)
+end_fits : (k : Kind) (action : Action) (ts : List ℕ) (h : Host) → action_keeps_limits action ≡ true → EndFits (action_move k action ts h)
 end_fits k (sends c ways other) ts h keeps =
     with_end_fits (position_of_command h c.address)
     (λ position. Does (command_deed k c h position) h (λ returned h'. arrive (way_of k ways other returned) ts h')) (λ n. tt)
@@ -143,7 +143,7 @@ end_fits k (stops Finished) ts h keeps = tt
 end_fits k (stops (Failed name)) ts h keeps = leb-true (length name) max_name keeps
 end_fits k (stops Open) ts h keeps = tt
 
-pub narrow : (k : Kind) (g : List Place) (n : ℕ) (m : Move) → all_keep_limits g ≡ true → WhereverTo (Lasts k g n) m → Onward (Sits k g) m → EndFits m →
+pub narrow : (k : Kind) (g : List Point) (n : ℕ) (m : Move) → all_keep_limits g ≡ true → WhereverTo (Lasts k g n) m → Onward (Sits k g) m → EndFits m →
     IsNarrow m
 narrow k g n (Goes next) limits lasts sits fits = short_at k g n next limits lasts sits
 narrow k g n (Does deed before next) limits lasts sits fits =
@@ -155,50 +155,50 @@ narrow k g n (Halts (Failed name)) limits lasts sits fits = fits
 narrow k g n (Halts Open) limits lasts sits fits = absurd lasts
 
 -- A point of a sound graph where a run stands, with all that a move there needs.
-pub record Ready (k : Kind) (g : List Place) (n : ℕ) (s : Stand) (p : Place) : Type 0 where
-  pub keeps : node_keeps_limits p.node ≡ true
-  pub narrow : IsNarrow (node_move k p.node s.turns s.host)
-  pub lasts : WhereverTo (Lasts k g (n - 1)) (node_move k p.node s.turns s.host)
-  pub sits : Onward (Sits k g) (node_move k p.node s.turns s.host)
+pub record Ready (k : Kind) (g : List Point) (n : ℕ) (s : Stand) (p : Point) : Type 0 where
+  pub keeps : action_keeps_limits p.action ≡ true
+  pub narrow : IsNarrow (action_move k p.action s.turns s.host)
+  pub lasts : WhereverTo (Lasts k g (n - 1)) (action_move k p.action s.turns s.host)
+  pub sits : Onward (Sits k g) (action_move k p.action s.turns s.host)
 
-pub ready : (f : Flow) (n : ℕ) (s : Stand) (p : Place) → IsSound f → Lasts f.kind f.places n s → Sits f.kind f.places s → slice_get f.places s.point ≡ Some p →
-    Ready f.kind f.places n s p
+pub ready : (f : Graph) (n : ℕ) (s : Stand) (p : Point) → IsSound f → Lasts f.kind f.points n s → Sits f.kind f.points s → slice_get f.points s.point ≡ Some p →
+    Ready f.kind f.points n s p
 ready f n s p sound lasts sits here =
     let k = f.kind in
-    let g = f.places in
+    let g = f.points in
     let there = stands_at k g n s lasts in
     let same : there.0 ≡ p = cc in
-    let more : WhereverTo (Lasts k g (n - 1)) (node_move k p.node s.turns s.host) =
-    subst (λ q. WhereverTo (Lasts k g (n - 1)) (node_move k q.node s.turns s.host)) same there.2 in
+    let more : WhereverTo (Lasts k g (n - 1)) (action_move k p.action s.turns s.host) =
+    subst (λ q. WhereverTo (Lasts k g (n - 1)) (action_move k q.action s.turns s.host)) same there.2 in
     let keeps = few_at g s.point p sound.limits here in
-    let on = sits_on k g p.most p.node s.turns s.host (sits p here) (sound.nested.lands s.point p here) in
+    let on = sits_on k g p.most p.action s.turns s.host (sits p here) (sound.nested.lands s.point p here) in
     record {
       keeps = keeps.0;
-      narrow = narrow k g (n - 1) (node_move k p.node s.turns s.host) sound.limits more on (end_fits k p.node s.turns s.host keeps.0);
+      narrow = narrow k g (n - 1) (action_move k p.action s.turns s.host) sound.limits more on (end_fits k p.action s.turns s.host keeps.0);
       lasts = more;
       sits = on;
     }
 
-within : (ps : List Place) (i : ℕ) (p : Place) → slice_get ps i ≡ Some p → i < length ps
+within : (ps : List Point) (i : ℕ) (p : Point) → slice_get ps i ≡ Some p → i < length ps
 within [] i p here = absurd (cc)
 within (q ∷ ps) zero p here = omega arith
 within (q ∷ ps) (suc i) p here = let lt = within ps i p here in omega (arith, lt)
 
 -- it is one of the graph's points
-pub is_point : (k : Kind) (g : List Place) (n : ℕ) (s : Stand) → Lasts k g n s → s.point < length g
+pub is_point : (k : Kind) (g : List Point) (n : ℕ) (s : Stand) → Lasts k g n s → s.point < length g
 is_point k g n s lasts = let there = stands_at k g n s lasts in within g s.point there.0 there.1
 
 -- a run begins so
-pub begins_sitting : (f : Flow) → IsSound f → Sits f.kind f.places (begin f)
+pub begins_sitting : (f : Graph) → IsSound f → Sits f.kind f.points (begin f)
 begins_sitting f sound p here =
-    let at : slice_get f.places 0 ≡ Some p = subst (λ i. slice_get f.places i ≡ Some p) sound.nested.first_point here in
+    let at : slice_get f.points 0 ≡ Some p = subst (λ i. slice_get f.points i ≡ Some p) sound.nested.first_point here in
     sound.nested.first_turns p at
 
-pub begins_short : (f : Flow) → IsSound f → length (begin f).turns ≤ 4
-begins_short f sound = short_at f.kind f.places f.steps (begin f) sound.limits sound.ends (begins_sitting f sound)
+pub begins_short : (f : Graph) → IsSound f → length (begin f).turns ≤ 4
+begins_short f sound = short_at f.kind f.points f.steps (begin f) sound.limits sound.ends (begins_sitting f sound)
 
 -- A statement that keeps the limits is in range.
-pub in_range : (a : Action) → node_keeps_limits (node_of a) ≡ true → IsInRange a
+pub in_range : (a : CodeAction) → action_keeps_limits (seen_action a) ≡ true → IsInRange a
 in_range (actions.Send c ways other) keeps = ltb-true c.ask.index 64 keeps
 in_range (actions.Phase phase well other) keeps = tt
 in_range (actions.Let l t) keeps = tt

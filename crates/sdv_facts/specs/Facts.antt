@@ -7,7 +7,7 @@ use Rattle.sdv_graph.specs.Counts.{max_number}
 use Rattle.sdv_facts.specs.declared.numbers.VarFacts.{VarFacts}
 use Rattle.sdv_facts.specs.declared.numbers.Numbers.{Numbers}
 
-pub record Known : Type 0 where
+pub record Facts : Type 0 where
   pub shapes : List Shape
   pub numbers : Numbers
 
