@@ -1,6 +1,6 @@
 //! Certificates of scripts in files.
 use crate::testing::{
-    BRING_UP, CERTIFICATE, Expected, SMALLEST, expect, expect_certify, prints, says,
+    BRING_UP, CERTIFICATE, SMALLEST, answers, expect, expect_certify, prints, says,
 };
 use sdv_words::program::program;
 use std::io::{self, Write};
@@ -52,46 +52,57 @@ const TOO_MANY: &str = "card sd
 send 0 { else { } } loop 257 { loop 65535 { loop 65535 { send 0 { else { } } } else { } } else { } } else { }
 fault stop";
 
+// Scripts, and what the program answers: its status, what it prints, and what it says.
+static CERTIFIED: [(&str, u8, &str, &str); 13] = [
+    (SMALLEST, 0, CERTIFICATE, ""),
+    ("card sd\nsend 16 @\n", 1, "", "script fault Token line 2\n"),
+    ("", 1, "", "script fault Syntax line 1\n"),
+    ("card sd\nset hc\n", 1, "", "script fault Name line 2\n"),
+    (
+        "card sd\nsend 1 { else { } }\n",
+        1,
+        "",
+        "script fault Command line 2\n",
+    ),
+    (
+        "card sd\nsend 17 { else { } }\n",
+        1,
+        "",
+        "script fault Argument line 2\n",
+    ),
+    (
+        "card sd\nsend 16 { ocr.ready { } else { } }\n",
+        1,
+        "",
+        "script fault Guard line 2\n",
+    ),
+    (
+        "card sd\nnums a b c d e f g h i\n",
+        1,
+        "",
+        "script fault Limit line 2\n",
+    ),
+    ("card sd\n", 1, "", "script fault NoEnd line 2\n"),
+    (
+        ILLEGAL,
+        1,
+        "",
+        "refused Illegal point 0 shape 0000000000002000\n",
+    ),
+    (ADDRESS, 1, "", "refused Address point 22\n"),
+    (END_STATE, 1, "", "refused EndState point 1\n"),
+    (TOO_MANY, 1, "", "refused TooMany\n"),
+];
+
 #[test]
 fn certifies_files(rt: HostRuntime) -> Result<(), Fail> {
     let file = "certified.sdv";
-    let rows: [(&[u8], Expected<'_>); 14] = [
-        (SMALLEST.as_bytes(), prints(CERTIFICATE)),
-        (
-            b"card sd\nsend 16 @\n",
-            says(1, "script fault Token line 2\n"),
-        ),
-        (b"", says(1, "script fault Syntax line 1\n")),
-        (b"card sd\nset hc\n", says(1, "script fault Name line 2\n")),
-        (
-            b"card sd\nsend 1 { else { } }\n",
-            says(1, "script fault Command line 2\n"),
-        ),
-        (
-            b"card sd\nsend 17 { else { } }\n",
-            says(1, "script fault Argument line 2\n"),
-        ),
-        (
-            b"card sd\nsend 16 { ocr.ready { } else { } }\n",
-            says(1, "script fault Guard line 2\n"),
-        ),
-        (
-            b"card sd\nnums a b c d e f g h i\n",
-            says(1, "script fault Limit line 2\n"),
-        ),
-        (b"card sd\n", says(1, "script fault NoEnd line 2\n")),
-        (
-            ILLEGAL.as_bytes(),
-            says(1, "refused Illegal point 0 shape 0000000000002000\n"),
-        ),
-        (ADDRESS.as_bytes(), says(1, "refused Address point 22\n")),
-        (END_STATE.as_bytes(), says(1, "refused EndState point 1\n")),
-        (TOO_MANY.as_bytes(), says(1, "refused TooMany\n")),
-        (b"card sd\n\xff", says(2, "cannot use certified.sdv\n")),
-    ];
-    for (script, expected) in rows {
-        expect_certify(&rt, file, script, expected)?;
+    for &(script, status, printed, said) in CERTIFIED.iter() {
+        let expected = answers(status, printed, said);
+        expect_certify(&rt, file, script.as_bytes(), expected)?;
     }
+    let no_text = says(2, "cannot use certified.sdv\n");
+    expect_certify(&rt, file, b"card sd\n\xff", no_text)?;
     expect(
         &rt,
         &["certify", "missing.sdv"],
@@ -101,26 +112,23 @@ fn certifies_files(rt: HostRuntime) -> Result<(), Fail> {
     Ok(())
 }
 
+// Scripts, and the status of their explanation, words of it, and what is said.
+static EXPLAINED: [(&str, u8, &str, &str); 4] = [
+    (SMALLEST, 0, "line 2, point 0: CMD0", ""),
+    (
+        ILLEGAL,
+        1,
+        "a way there:",
+        "refused Illegal point 0 shape 0000000000002000\n",
+    ),
+    (TOO_MANY, 1, "", "refused TooMany\n"),
+    ("card sd\nsend 16 @\n", 1, "", "script fault Token line 2\n"),
+];
+
 #[test]
 fn explains_files(rt: HostRuntime) -> Result<(), Fail> {
     let file = "explained.sdv";
-    let rows: [(&[u8], u8, &str, &str); 4] = [
-        (SMALLEST.as_bytes(), 0, "line 2, point 0: CMD0", ""),
-        (
-            ILLEGAL.as_bytes(),
-            1,
-            "a way there:",
-            "refused Illegal point 0 shape 0000000000002000\n",
-        ),
-        (TOO_MANY.as_bytes(), 1, "", "refused TooMany\n"),
-        (
-            b"card sd\nsend 16 @\n",
-            1,
-            "",
-            "script fault Token line 2\n",
-        ),
-    ];
-    for (script, status, told, said) in rows {
+    for &(script, status, told, said) in EXPLAINED.iter() {
         let (mut out, mut err) = (Vec::new(rt.alloc()), Vec::new(rt.alloc()));
         fs::write(&rt, file, script)?;
         assert_eq!(rt;

@@ -1,5 +1,5 @@
 //! Checks of scripts and certificates in files, and in memory.
-use crate::testing::{CERTIFICATE, Expected, SMALLEST, expect, expect_check, prints, says};
+use crate::testing::{CERTIFICATE, SMALLEST, answers, expect, expect_check, says};
 use sdv_faults::{Store, bytes_within};
 use sdv_run_command::NewImage;
 use sdv_words::program::{answer, program};
@@ -143,41 +143,40 @@ p 1 b 1 m 1 s 0000000000002c04
 p 2 b 0 m 1 s 0000000000002000 0000000000002800 0000000000002c00 0000000000002c04
 ";
 
+// Scripts and certificates, and the status, what is printed, and what is said.
+static CHECKED: [(&str, &str, u8, &str, &str); 13] = [
+    (SMALLEST, CERTIFICATE, 0, "accepted 1\n", ""),
+    ("card sd\n", CUT, 1, "", "script fault NoEnd line 2\n"),
+    (
+        SMALLEST,
+        "sdv-cert 3\n",
+        1,
+        "",
+        "certificate fault Header\n",
+    ),
+    (SMALLEST, CUT, 1, "", "certificate fault Syntax line 3\n"),
+    (SMALLEST, FALLING, 1, "", "certificate fault Order line 3\n"),
+    (SMALLEST, ONE_POINT, 1, "", "refused Points\n"),
+    (SMALLEST, FEWER_AT_START, 1, "", "refused Start\n"),
+    (ILLEGAL, CERTIFICATE, 1, "", "refused Illegal point 0\n"),
+    (AT_BYTE, BLOCK_ADDRESSED, 1, "", "refused Address point 1\n"),
+    (SMALLEST, FEWER_AFTER, 1, "", "refused Shape point 0\n"),
+    (SMALLEST, LARGER_AFTER, 1, "", "refused Number point 0\n"),
+    (SMALLEST, NO_COMMAND, 1, "", "refused Bound point 0\n"),
+    (
+        "card sd done",
+        ONE_POINT,
+        1,
+        "",
+        "refused EndState point 0\n",
+    ),
+];
+
 #[test]
 fn checks_files(rt: HostRuntime) -> Result<(), Fail> {
-    let rows: [(&str, &str, Expected<'_>); 13] = [
-        (SMALLEST, CERTIFICATE, prints("accepted 1\n")),
-        ("card sd\n", CUT, says(1, "script fault NoEnd line 2\n")),
-        (
-            SMALLEST,
-            "sdv-cert 3\n",
-            says(1, "certificate fault Header\n"),
-        ),
-        (SMALLEST, CUT, says(1, "certificate fault Syntax line 3\n")),
-        (
-            SMALLEST,
-            FALLING,
-            says(1, "certificate fault Order line 3\n"),
-        ),
-        (SMALLEST, ONE_POINT, says(1, "refused Points\n")),
-        (SMALLEST, FEWER_AT_START, says(1, "refused Start\n")),
-        (ILLEGAL, CERTIFICATE, says(1, "refused Illegal point 0\n")),
-        (
-            AT_BYTE,
-            BLOCK_ADDRESSED,
-            says(1, "refused Address point 1\n"),
-        ),
-        (SMALLEST, FEWER_AFTER, says(1, "refused Shape point 0\n")),
-        (SMALLEST, LARGER_AFTER, says(1, "refused Number point 0\n")),
-        (SMALLEST, NO_COMMAND, says(1, "refused Bound point 0\n")),
-        (
-            "card sd done",
-            ONE_POINT,
-            says(1, "refused EndState point 0\n"),
-        ),
-    ];
-    for (script, certificate, expected) in rows {
+    for &(script, certificate, status, printed, said) in CHECKED.iter() {
         let texts = [script.as_bytes(), certificate.as_bytes()];
+        let expected = answers(status, printed, said);
         expect_check(&rt, ["checked.sdv", "checked.cert"], texts, expected)?;
     }
     Ok(())
@@ -198,37 +197,33 @@ fn refuses_a_certificate_above_16_mebibytes(rt: HostRuntime) -> Result<(), Fail>
 #[test]
 fn names_files_that_it_cannot_use(rt: HostRuntime) -> Result<(), Fail> {
     let bytes: &[u8] = b"card sd\n\xff";
-    let rows: [([&str; 2], [&[u8]; 2], &str); 2] = [
-        (
-            ["bytes.sdv", "used.cert"],
-            [bytes, CERTIFICATE.as_bytes()],
-            "cannot use bytes.sdv\n",
-        ),
-        (
-            ["used.sdv", "bytes.cert"],
-            [SMALLEST.as_bytes(), bytes],
-            "cannot use bytes.cert\n",
-        ),
-    ];
-    for (files, texts, said) in rows {
-        expect_check(&rt, files, texts, says(2, said))?;
+    let (files, texts) = (["bytes.sdv", "used.cert"], [bytes, CERTIFICATE.as_bytes()]);
+    expect_check(&rt, files, texts, says(2, "cannot use bytes.sdv\n"))?;
+    let (files, texts) = (["used.sdv", "bytes.cert"], [SMALLEST.as_bytes(), bytes]);
+    expect_check(&rt, files, texts, says(2, "cannot use bytes.cert\n"))?;
+    Ok(())
+}
+
+// Words that name a file which is not there, or a folder, and what is said.
+static MISSING: [(&[&str], &str); 3] = [
+    (
+        &["check", "missing.sdv", "missing.cert"],
+        "cannot use missing.sdv\n",
+    ),
+    (
+        &["check", "there.sdv", "missing.cert"],
+        "cannot use missing.cert\n",
+    ),
+    (&["check", ".", "missing.cert"], "cannot use .\n"),
+];
+
+#[test]
+fn names_files_that_are_missing(rt: HostRuntime) -> Result<(), Fail> {
+    fs::write(&rt, "there.sdv", SMALLEST)?;
+    for &(words, said) in MISSING.iter() {
+        expect(&rt, words, says(2, said));
     }
-    fs::write(&rt, "used.sdv", SMALLEST)?;
-    let rows: [([&str; 3], &str); 3] = [
-        (
-            ["check", "missing.sdv", "missing.cert"],
-            "cannot use missing.sdv\n",
-        ),
-        (
-            ["check", "used.sdv", "missing.cert"],
-            "cannot use missing.cert\n",
-        ),
-        (["check", ".", "missing.cert"], "cannot use .\n"),
-    ];
-    for (words, said) in rows {
-        expect(&rt, &words, says(2, said));
-    }
-    fs::remove_file(&rt, "used.sdv")?;
+    fs::remove_file(&rt, "there.sdv")?;
     Ok(())
 }
 
@@ -260,18 +255,19 @@ fn answers_from_texts_in_memory(rt: HostRuntime) {
     }
 }
 
+// The bytes of a reader, whether it fails, the limit, and how many bytes are given.
+static LIMITS: [(usize, bool, u64, Option<usize>); 6] = [
+    (0, false, 2, Some(0)),
+    (0, false, 1, None),
+    (3, false, 8, Some(3)),
+    (3, false, 7, None),
+    (3, true, 100, None),
+    (3, false, 0, None),
+];
+
 #[test]
 fn reads_within_a_limit(rt: HostRuntime) {
-    // The bytes of the reader, whether it fails, the limit, and how many bytes are given.
-    let rows: [(usize, bool, u64, Option<usize>); 6] = [
-        (0, false, 2, Some(0)),
-        (0, false, 1, None),
-        (3, false, 8, Some(3)),
-        (3, false, 7, None),
-        (3, true, 100, None),
-        (3, false, 0, None),
-    ];
-    for (left, fails, limit, want) in rows {
+    for &(left, fails, limit, want) in LIMITS.iter() {
         let mut file = Slow {
             left,
             interrupted: false,

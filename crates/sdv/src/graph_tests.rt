@@ -1,5 +1,5 @@
 //! Drawings and tokens of scripts in files, and the pages of a line of one word.
-use crate::testing::{BRING_UP, Expected, SMALLEST, USAGE, expect, prints, says};
+use crate::testing::{BRING_UP, SMALLEST, USAGE, answers, expect, says};
 use sdv_words::page::{HELP, VERSION, page_of, print_page};
 use sdv_words::program::program;
 use std::io::{self, Write};
@@ -40,27 +40,24 @@ const ILLEGAL_DRAWN: &str = "digraph script {
 }
 ";
 
+// Scripts, and the status, what is printed, and what is said.
+static DRAWN: [(&str, u8, &str, &str); 3] = [
+    (SMALLEST, 0, SMALLEST_DRAWN, ""),
+    (
+        ILLEGAL,
+        1,
+        ILLEGAL_DRAWN,
+        "refused Illegal point 0 shape 0000000000002000\n",
+    ),
+    ("card sd\nsend 16 @\n", 1, "", "script fault Token line 2\n"),
+];
+
 #[test]
 fn draws_files(rt: HostRuntime) -> Result<(), Fail> {
     let file = "drawn.sdv";
-    let rows: [(&str, Expected<'_>); 3] = [
-        (SMALLEST, prints(SMALLEST_DRAWN)),
-        (
-            ILLEGAL,
-            Expected {
-                status: 1,
-                printed: ILLEGAL_DRAWN,
-                said: "refused Illegal point 0 shape 0000000000002000\n",
-            },
-        ),
-        (
-            "card sd\nsend 16 @\n",
-            says(1, "script fault Token line 2\n"),
-        ),
-    ];
-    for (script, expected) in rows {
+    for &(script, status, printed, said) in DRAWN.iter() {
         fs::write(&rt, file, script)?;
-        expect(&rt, &["graph", file], expected);
+        expect(&rt, &["graph", file], answers(status, printed, said));
         fs::remove_file(&rt, file)?;
     }
     expect(
@@ -71,24 +68,25 @@ fn draws_files(rt: HostRuntime) -> Result<(), Fail> {
     Ok(())
 }
 
+// The same of their tokens.
+static PRINTED: [(&str, u8, &str, &str); 3] = [
+    (
+        "# none\ncard sd\nsend 0 {else{ }}\n fault stop",
+        0,
+        "card sd send 0 { else { } } fault stop \n",
+        "",
+    ),
+    // what is refused by the writer has tokens too
+    (ILLEGAL, 0, "card sd send 7 { else { } } fault stop \n", ""),
+    ("card sd\nsend 16 @\n", 1, "", "script fault Token line 2\n"),
+];
+
 #[test]
 fn prints_files(rt: HostRuntime) -> Result<(), Fail> {
     let file = "tokens.sdv";
-    let rows: [(&str, Expected<'_>); 3] = [
-        (
-            "# none\ncard sd\nsend 0 {else{ }}\n fault stop",
-            prints("card sd send 0 { else { } } fault stop \n"),
-        ),
-        // what is refused by the writer has tokens too
-        (ILLEGAL, prints("card sd send 7 { else { } } fault stop \n")),
-        (
-            "card sd\nsend 16 @\n",
-            says(1, "script fault Token line 2\n"),
-        ),
-    ];
-    for (script, expected) in rows {
+    for &(script, status, printed, said) in PRINTED.iter() {
         fs::write(&rt, file, script)?;
-        expect(&rt, &["print", file], expected);
+        expect(&rt, &["print", file], answers(status, printed, said));
         fs::remove_file(&rt, file)?;
     }
     expect(
@@ -118,20 +116,22 @@ fn prints_the_same_script(rt: HostRuntime) -> Result<(), Fail> {
     Ok(())
 }
 
+// The same of words.
+static PAGES: [(&[&str], u8, &str, &str); 8] = [
+    (&["--help"], 0, HELP, ""),
+    (&["-h"], 0, HELP, ""),
+    (&["--version"], 0, VERSION, ""),
+    (&["-V"], 0, VERSION, ""),
+    (&["help"], 2, "", USAGE),
+    (&["--help", "--help"], 2, "", USAGE),
+    (&["frame", "--help"], 2, "", USAGE),
+    (&["--versions"], 2, "", USAGE),
+];
+
 #[test]
 fn answers_pages(rt: HostRuntime) -> Result<(), Fail> {
-    let rows: [(&[&str], Expected<'_>); 8] = [
-        (&["--help"], prints(HELP)),
-        (&["-h"], prints(HELP)),
-        (&["--version"], prints(VERSION)),
-        (&["-V"], prints(VERSION)),
-        (&["help"], says(2, USAGE)),
-        (&["--help", "--help"], says(2, USAGE)),
-        (&["frame", "--help"], says(2, USAGE)),
-        (&["--versions"], says(2, USAGE)),
-    ];
-    for (words, expected) in rows {
-        expect(&rt, words, expected);
+    for &(words, status, printed, said) in PAGES.iter() {
+        expect(&rt, words, answers(status, printed, said));
     }
     assert_eq!(rt; page_of(&["--help"]), Some(HELP));
     assert_eq!(rt; page_of(&["certify", "--help"]), None);

@@ -1,5 +1,5 @@
 //! Runs of scripts beside simulated cards, over files on disk.
-use crate::testing::{BRING_UP, Expected, USAGE, expect, prints, says};
+use crate::testing::{BRING_UP, CERTIFICATE, USAGE, answers, expect, says};
 use sdv_words::program::program;
 use std::alloc::{AllocError, Global};
 use std::process::Abort;
@@ -112,80 +112,78 @@ fn store_certified<R: Files + AllocGlobal + Abort>(rt: &R, script: &str) -> io::
     fs::write(rt, "run.cert", certificate.as_slice())
 }
 
-fn ends<'a>(status: u8, printed: &'a str, said: &'a str) -> Expected<'a> {
-    Expected {
-        status,
-        printed,
-        said,
-    }
-}
+// A script, a card, an image and a schedule, and the status, what is printed, and what is said.
+static RUNS: [(&str, &str, &str, &str, u8, &str, &str); 9] = [
+    (BRING_UP, BLOCK_CARD, "new:1024", "", 0, BROUGHT_UP, ""),
+    (BRING_UP, BLOCK_CARD, "new:0x400", "0 0\r\n02", 1, LOST, ""),
+    (
+        BRING_UP,
+        BLOCK_CARD,
+        "new:1023",
+        "",
+        1,
+        "",
+        "card fault ImageLength\n",
+    ),
+    (
+        BRING_UP,
+        BLOCK_CARD,
+        "new:1023",
+        "00\t",
+        1,
+        "",
+        "card fault Description\n",
+    ),
+    (
+        BRING_UP,
+        "card sd\n",
+        "new:1024",
+        "",
+        1,
+        "",
+        "card fault Description\n",
+    ),
+    (
+        BRING_UP,
+        "card emmc\nunit byte\ncsize 4095\ncmult 7\nrbl 11\n",
+        "new:1024",
+        "",
+        1,
+        "",
+        "card fault Capacity\n",
+    ),
+    (
+        BRING_UP,
+        DEVICE,
+        "new:2048",
+        "",
+        1,
+        "CMD0 00000000 -\nCMD8 000001aa timeout\nCMD55 00000000 timeout\nfault lost55\n",
+        "",
+    ),
+    (
+        DEVICE_BRING_UP,
+        DEVICE,
+        "new:2048",
+        "",
+        0,
+        DEVICE_BROUGHT_UP,
+        "",
+    ),
+    (
+        OVERFLOWS,
+        BLOCK_CARD,
+        "new:1024",
+        "",
+        1,
+        "fault number\n",
+        "",
+    ),
+];
 
 #[test]
 fn runs_beside_cards(rt: HostRuntime) -> Result<(), Fail> {
-    let rows: [(&str, &str, &str, &str, Expected<'_>); 9] = [
-        (BRING_UP, BLOCK_CARD, "new:1024", "", prints(BROUGHT_UP)),
-        (
-            BRING_UP,
-            BLOCK_CARD,
-            "new:0x400",
-            "0 0\r\n02",
-            ends(1, LOST, ""),
-        ),
-        (
-            BRING_UP,
-            BLOCK_CARD,
-            "new:1023",
-            "",
-            says(1, "card fault ImageLength\n"),
-        ),
-        (
-            BRING_UP,
-            BLOCK_CARD,
-            "new:1023",
-            "00\t",
-            says(1, "card fault Description\n"),
-        ),
-        (
-            BRING_UP,
-            "card sd\n",
-            "new:1024",
-            "",
-            says(1, "card fault Description\n"),
-        ),
-        (
-            BRING_UP,
-            "card emmc\nunit byte\ncsize 4095\ncmult 7\nrbl 11\n",
-            "new:1024",
-            "",
-            says(1, "card fault Capacity\n"),
-        ),
-        (
-            BRING_UP,
-            DEVICE,
-            "new:2048",
-            "",
-            ends(
-                1,
-                "CMD0 00000000 -\nCMD8 000001aa timeout\nCMD55 00000000 timeout\nfault lost55\n",
-                "",
-            ),
-        ),
-        (
-            DEVICE_BRING_UP,
-            DEVICE,
-            "new:2048",
-            "",
-            prints(DEVICE_BROUGHT_UP),
-        ),
-        (
-            OVERFLOWS,
-            BLOCK_CARD,
-            "new:1024",
-            "",
-            ends(1, "fault number\n", ""),
-        ),
-    ];
-    for (script, card, image, schedule, expected) in rows {
+    for &(script, card, image, schedule, status, printed, said) in RUNS.iter() {
         store_certified(&rt, script)?;
         fs::write(&rt, "run.card", card)?;
         fs::write(&rt, "run.schedule", schedule)?;
@@ -197,7 +195,7 @@ fn runs_beside_cards(rt: HostRuntime) -> Result<(), Fail> {
             image,
             "run.schedule",
         ];
-        expect(&rt, &words, expected);
+        expect(&rt, &words, answers(status, printed, said));
     }
     Ok(())
 }
@@ -223,51 +221,79 @@ fn trace_of<R: Files + AllocGlobal + Abort>(
     Ok(String::from_utf8(out)?)
 }
 
+static WITH_OUTPUT: [&str; 7] = [
+    "run",
+    "run.sdv",
+    "run.cert",
+    "run.card",
+    "run.image",
+    "--out",
+    "run.out",
+];
+
+static WITH_INPUT: [&str; 7] = [
+    "run",
+    "run.sdv",
+    "run.cert",
+    "run.card",
+    "run.image",
+    "--in",
+    "run.in",
+];
+
+static WITH_BOTH: [&str; 9] = [
+    "run",
+    "run.sdv",
+    "run.cert",
+    "run.card",
+    "run.image",
+    "--in",
+    "run.in",
+    "--out",
+    "run.out",
+];
+
 #[test]
-fn reads_and_writes_images(rt: HostRuntime) -> Result<(), Fail> {
-    let alloc = rt.alloc();
-    let blocks = four_blocks(alloc, [0, 1, 2, 0x5a])?;
+fn reads_images(rt: HostRuntime) -> Result<(), Fail> {
+    let blocks = four_blocks(rt.alloc(), [0, 1, 2, 0x5a])?;
     fs::write(&rt, "run.card", BYTE_CARD)?;
     fs::write(&rt, "run.image", blocks.as_slice())?;
     fs::write(&rt, "run.out", "old bytes")?;
     store_certified(&rt, brought_up_and(&rt, READS_LAST)?.as_str())?;
-    let words = [
-        "run",
-        "run.sdv",
-        "run.cert",
-        "run.card",
-        "run.image",
-        "--out",
-        "run.out",
-    ];
-    let trace = trace_of(&rt, &words, 0)?;
+    let trace = trace_of(&rt, &WITH_OUTPUT, 0)?;
     assert!(rt; trace.contains("\nCMD8 000001aa timeout\n"));
     assert!(rt; trace.contains("\nCMD9 00010000 R2 000000000009000000000000000000\n"));
     assert!(rt; trace.ends_with("\nCMD17 00000600 R1 00000900\nIN 1 ok\ndone\n"));
     assert!(rt; fs::read(&rt, "run.out")?.as_slice() == [0x5a; 512].as_slice());
     assert!(rt; fs::read(&rt, "run.image")?.as_slice() == blocks.as_slice());
+    Ok(())
+}
 
-    store_certified(&rt, brought_up_and(&rt, WRITES_ONE)?.as_str())?;
+#[test]
+fn writes_images(rt: HostRuntime) -> Result<(), Fail> {
+    let blocks = four_blocks(rt.alloc(), [0, 1, 2, 0x5a])?;
+    fs::write(&rt, "run.card", BYTE_CARD)?;
+    fs::write(&rt, "run.image", blocks.as_slice())?;
     fs::write(&rt, "run.in", [0x77; 512].as_slice())?;
-    let words = [
-        "run",
-        "run.sdv",
-        "run.cert",
-        "run.card",
-        "run.image",
-        "--in",
-        "run.in",
-    ];
-    let trace = trace_of(&rt, &words, 0)?;
+    store_certified(&rt, brought_up_and(&rt, WRITES_ONE)?.as_str())?;
+    let trace = trace_of(&rt, &WITH_INPUT, 0)?;
     assert!(rt;
         trace.ends_with(
             "\nCMD24 00000200 R1 00000900\nOUT 1 ok\nWAIT ok\nCMD13 00010000 R1 00000900\ndone\n"
         )
     );
-    let written = four_blocks(alloc, [0, 0x77, 2, 0x5a])?;
+    let written = four_blocks(rt.alloc(), [0, 0x77, 2, 0x5a])?;
     assert!(rt; fs::read(&rt, "run.image")?.as_slice() == written.as_slice());
     Ok(())
 }
+
+// The bytes of an image, and the status, what is printed, and what is said.
+static IMAGES: [(usize, u8, &str, &str); 4] = [
+    (524_288, 0, BROUGHT_UP, ""),
+    (523_776, 1, "", "card fault ImageLength\n"),
+    (513, 1, "", "card fault ImageLength\n"),
+    (0, 1, "", "card fault ImageLength\n"),
+];
 
 /// Files that are images of as many blocks as the card has, and files that are none.
 #[test]
@@ -275,16 +301,10 @@ fn takes_image_files(rt: HostRuntime) -> Result<(), Fail> {
     fs::write(&rt, "run.card", BLOCK_CARD)?;
     store_certified(&rt, BRING_UP)?;
     let words = ["run", "run.sdv", "run.cert", "run.card", "run.image"];
-    let rows: [(usize, Expected<'_>); 4] = [
-        (524_288, prints(BROUGHT_UP)),
-        (523_776, says(1, "card fault ImageLength\n")),
-        (513, says(1, "card fault ImageLength\n")),
-        (0, says(1, "card fault ImageLength\n")),
-    ];
-    for (bytes, expected) in rows {
+    for &(bytes, status, printed, said) in IMAGES.iter() {
         let zeros = vec![in rt.alloc(); 0; bytes]?;
         fs::write(&rt, "run.image", zeros.as_slice())?;
-        expect(&rt, &words, expected);
+        expect(&rt, &words, answers(status, printed, said));
         assert!(rt; fs::read(&rt, "run.image")?.as_slice() == zeros.as_slice());
     }
     fs::remove_file(&rt, "run.image")?;
@@ -312,18 +332,7 @@ fn stores_long_transfers(rt: HostRuntime) -> Result<(), Fail> {
     fs::write(&rt, "run.image", blocks.as_slice())?;
     fs::write(&rt, "run.in", written.as_slice())?;
     store_certified(&rt, brought_up_and(&rt, WRITES_FORTY)?.as_str())?;
-    let words = [
-        "run",
-        "run.sdv",
-        "run.cert",
-        "run.card",
-        "run.image",
-        "--in",
-        "run.in",
-        "--out",
-        "run.out",
-    ];
-    let trace = trace_of(&rt, &words, 0)?;
+    let trace = trace_of(&rt, &WITH_BOTH, 0)?;
     assert!(rt; trace.contains("\nCMD25 00000007 R1 00000900\nOUT 40 ok\n"));
     assert!(rt; fs::read(&rt, "run.out")?.as_slice() == written.as_slice());
     let mut changed = filled(rt.alloc(), 3_584)?;
@@ -333,34 +342,58 @@ fn stores_long_transfers(rt: HostRuntime) -> Result<(), Fail> {
     Ok(())
 }
 
-/// Inputs that are no blocks, or none, or two; and an output that is emptied whatever comes of the script.
+// Words with an input that is no whole block, and with two inputs.
+static OTHER_INPUTS: [(&[&str], &str); 2] = [
+    (
+        &[
+            "run", "run.sdv", "run.cert", "run.card", "new:4", "--in", "run.in",
+        ],
+        "cannot use run.in\n",
+    ),
+    (
+        &[
+            "run", "run.sdv", "run.cert", "run.card", "new:4", "--in", "run.in", "--in", "run.in",
+        ],
+        USAGE,
+    ),
+];
+
+/// Inputs that are no blocks, or none, or two.
 #[test]
 fn refuses_inputs(rt: HostRuntime) -> Result<(), Fail> {
-    let alloc = rt.alloc();
     fs::write(&rt, "run.card", BYTE_CARD)?;
     fs::write(&rt, "run.in", [0x77; 511].as_slice())?;
     store_certified(&rt, brought_up_and(&rt, WRITES_ONE)?.as_str())?;
-    let words = [
-        "run", "run.sdv", "run.cert", "run.card", "new:4", "--in", "run.in",
-    ];
-    expect(&rt, &words, says(2, "cannot use run.in\n"));
-    let words = [
-        "run", "run.sdv", "run.cert", "run.card", "new:4", "--in", "run.in", "--in", "run.in",
-    ];
-    expect(&rt, &words, says(2, USAGE));
-    let mut out = Vec::new(alloc);
-    let mut err = Vec::new(alloc);
+    for &(words, said) in OTHER_INPUTS.iter() {
+        expect(&rt, words, says(2, said));
+    }
+    let mut out = Vec::new(rt.alloc());
+    let mut err = Vec::new(rt.alloc());
     let words = ["run", "run.sdv", "run.cert", "run.card", "new:4"];
     assert_eq!(rt; program(&rt, &words, &mut out, &mut err), 1);
     assert!(rt; err.as_slice() == b"run fault Input\n".as_slice());
     assert!(rt; out.as_slice().ends_with(b"CMD24 00000200 R1 00000900\n"));
+    Ok(())
+}
 
+/// The output is emptied whatever comes of the script.
+#[test]
+fn empties_the_output(rt: HostRuntime) -> Result<(), Fail> {
+    fs::write(&rt, "run.card", BYTE_CARD)?;
+    fs::write(&rt, "run.cert", CERTIFICATE)?;
     fs::write(&rt, "run.out", "old bytes")?;
     let words = [
         "run", "run.card", "run.cert", "run.card", "new:4", "--out", "run.out",
     ];
     expect(&rt, &words, says(1, "script fault Syntax line 2\n"));
     assert!(rt; fs::read(&rt, "run.out")?.is_empty());
+    Ok(())
+}
+
+#[test]
+fn names_no_file_new(rt: HostRuntime) -> Result<(), Fail> {
+    fs::write(&rt, "run.card", BYTE_CARD)?;
+    store_certified(&rt, BRING_UP)?;
     let words = [
         "run", "run.sdv", "run.cert", "run.card", "new:", "--out", "run.out",
     ];

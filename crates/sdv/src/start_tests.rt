@@ -1,6 +1,6 @@
 //! The program on the words of a process.
 
-use crate::testing::{Expected, USAGE, prints, says};
+use crate::testing::{Expected, USAGE, answers, says};
 use sdv_words::start::start;
 use std::io::{self, ErrorKind};
 use std::process::Abort;
@@ -22,26 +22,30 @@ fn expect_start<R: Files + AllocGlobal + Abort>(
     assert!(rt; (status, printed, said) == wanted, "{expected:?}");
 }
 
+// Words of a process, and the status, what is printed, and what is said.
+static STARTS: [(&[&str], u8, &str, &str); 5] = [
+    (&["sdv", "frame", "0", "0"], 0, "40 00 00 00 00 95\n", ""),
+    (&["frame", "0", "0"], 2, "", USAGE),
+    (&["sdv"], 2, "", USAGE),
+    (&[], 2, "", USAGE),
+    (
+        &["sdv", "certify", "started.sdv"],
+        1,
+        "",
+        "refused EndState point 0\n",
+    ),
+];
+
 #[test]
 fn starts_on_words(rt: HostRuntime) -> Result<(), Fail> {
     let file = "started.sdv";
     fs::write(&rt, file, "card sd\ndone\n")?;
-    let rows: [(&[&str], Expected<'_>); 5] = [
-        (&["sdv", "frame", "0", "0"], prints("40 00 00 00 00 95\n")),
-        (&["frame", "0", "0"], says(2, USAGE)),
-        (&["sdv"], says(2, USAGE)),
-        (&[], says(2, USAGE)),
-        (
-            &["sdv", "certify", file],
-            says(1, "refused EndState point 0\n"),
-        ),
-    ];
-    for (words, expected) in rows {
+    for &(words, status, printed, said) in STARTS.iter() {
         let mut all = Vec::new(rt.alloc());
         for word in words {
             all.push(String::from_str(rt.alloc(), word)?)?;
         }
-        expect_start(&rt, Ok(all), expected);
+        expect_start(&rt, Ok(all), answers(status, printed, said));
     }
     fs::remove_file(&rt, file)?;
     let unread = Err(io::Error::from(ErrorKind::OutOfMemory));

@@ -46,6 +46,15 @@ pub struct Expected<'a> {
     pub said: &'a str,
 }
 
+/// An answer with all of its parts.
+pub fn answers<'a>(status: u8, printed: &'a str, said: &'a str) -> Expected<'a> {
+    Expected {
+        status,
+        printed,
+        said,
+    }
+}
+
 /// An answer that was printed.
 pub fn prints(printed: &str) -> Expected<'_> {
     Expected {

@@ -24,15 +24,17 @@ impl Write for Full {
     }
 }
 
+// An index and an argument, and the line of their frame.
+static FRAMES: [(&str, &str, &str); 4] = [
+    ("0", "0", "40 00 00 00 00 95\n"),
+    ("8", "0x1AA", "48 00 00 01 aa 87\n"),
+    ("41", "0x40FF8000", "69 40 ff 80 00 17\n"),
+    ("1", "0x40ff8080", "41 40 ff 80 80 89\n"),
+];
+
 #[test]
 fn prints_frames(rt: HostRuntime) {
-    let rows = [
-        ("0", "0", "40 00 00 00 00 95\n"),
-        ("8", "0x1AA", "48 00 00 01 aa 87\n"),
-        ("41", "0x40FF8000", "69 40 ff 80 00 17\n"),
-        ("1", "0x40ff8080", "41 40 ff 80 80 89\n"),
-    ];
-    for (index, argument, line) in rows {
+    for &(index, argument, line) in FRAMES.iter() {
         let mut out = Vec::new(rt.alloc());
         let mut err = Vec::new(rt.alloc());
         let status = program(&rt, &["frame", index, argument], &mut out, &mut err);
@@ -42,20 +44,22 @@ fn prints_frames(rt: HostRuntime) {
     }
 }
 
+// Requests, and a line of their script.
+static BATCHES: [(&str, &str); 2] = [
+    (
+        "write 3 1",
+        "send 24 at by hc 3 { clean { } else { fault write } }\n",
+    ),
+    (
+        " read\t0x10 2\nread 0 1",
+        "send 18 at by hc 16 count 2 { clean { } else { fault read } }\n",
+    ),
+];
+
 #[test]
 fn prints_batches(rt: HostRuntime) -> Result<(), Fail> {
     let alloc = rt.alloc();
-    let rows = [
-        (
-            "write 3 1",
-            "send 24 at by hc 3 { clean { } else { fault write } }\n",
-        ),
-        (
-            " read\t0x10 2\nread 0 1",
-            "send 18 at by hc 16 count 2 { clean { } else { fault read } }\n",
-        ),
-    ];
-    for (requests, line) in rows {
+    for &(requests, line) in BATCHES.iter() {
         let mut out = Vec::new(alloc);
         let mut err = Vec::new(alloc);
         assert_eq!(rt;
@@ -76,41 +80,43 @@ fn prints_batches(rt: HostRuntime) -> Result<(), Fail> {
     Ok(())
 }
 
+// Words that are no line of the program.
+static OTHER_WORDS: [&[&str]; 30] = [
+    &[],
+    &["frame"],
+    &["frame", "0"],
+    &["frame", "0", "0", "0"],
+    &["frames", "0", "0"],
+    &["0", "0"],
+    &["--", "frame", "0", "0"],
+    &["frame", "64", "0"],
+    &["frame", "0", "4294967296"],
+    &["frame", "0", "0x100000000"],
+    &["frame", "0x", "0"],
+    &["frame", "0X1", "0"],
+    &["frame", "", "0"],
+    &["frame", "+1", "0"],
+    &["frame", "1f", "0"],
+    &["certify"],
+    &["certify", "a", "b"],
+    &["certifies", "a"],
+    &["run", "a", "b", "c"],
+    &["run", "a", "b", "c", "d", "e", "f"],
+    &["run", "a", "b", "c", "d", "--out"],
+    &["run", "a", "b", "c", "d", "--out", "e", "--out", "f"],
+    &["batch", "sd"],
+    &["batch", "mmc", "read 0 1"],
+    &["batch", "sd", "read 0"],
+    &["batch", "sd", "erase 0 1"],
+    &["help"],
+    &["--help", "frame"],
+    &["frame", "-h"],
+    &["graph"],
+];
+
 #[test]
 fn refuses_other_words(rt: HostRuntime) {
-    let rows: [&[&str]; 30] = [
-        &[],
-        &["frame"],
-        &["frame", "0"],
-        &["frame", "0", "0", "0"],
-        &["frames", "0", "0"],
-        &["0", "0"],
-        &["--", "frame", "0", "0"],
-        &["frame", "64", "0"],
-        &["frame", "0", "4294967296"],
-        &["frame", "0", "0x100000000"],
-        &["frame", "0x", "0"],
-        &["frame", "0X1", "0"],
-        &["frame", "", "0"],
-        &["frame", "+1", "0"],
-        &["frame", "1f", "0"],
-        &["certify"],
-        &["certify", "a", "b"],
-        &["certifies", "a"],
-        &["run", "a", "b", "c"],
-        &["run", "a", "b", "c", "d", "e", "f"],
-        &["run", "a", "b", "c", "d", "--out"],
-        &["run", "a", "b", "c", "d", "--out", "e", "--out", "f"],
-        &["batch", "sd"],
-        &["batch", "mmc", "read 0 1"],
-        &["batch", "sd", "read 0"],
-        &["batch", "sd", "erase 0 1"],
-        &["help"],
-        &["--help", "frame"],
-        &["frame", "-h"],
-        &["graph"],
-    ];
-    for (row, words) in rows.iter().enumerate() {
+    for (row, words) in OTHER_WORDS.iter().enumerate() {
         let mut out = Vec::new(rt.alloc());
         let mut err = Vec::new(rt.alloc());
         let status = program(&rt, words, &mut out, &mut err);
@@ -154,28 +160,30 @@ fn reads_a_line(rt: HostRuntime) {
     assert!(rt; out.as_slice() == b"7f ff ff ff ff 19\n".as_slice());
 }
 
+// Faults, and the status and the line of each.
+static FAULTS: [(Fault<'static>, u8, &str); 8] = [
+    (Fault::Usage, 2, USAGE),
+    (
+        Fault::Card(SimFault::ImageRead),
+        1,
+        "card fault ImageRead\n",
+    ),
+    (Fault::Run(RunFault::Reply), 1, "run fault Reply\n"),
+    (Fault::Run(RunFault::Output), 1, "run fault Output\n"),
+    (Fault::Run(RunFault::Trace), 1, "run fault Trace\n"),
+    (Fault::Named, 1, ""),
+    (Fault::Output, 2, ""),
+    (Fault::Memory, 3, "out of memory\n"),
+];
+
 #[test]
 fn names_faults(rt: HostRuntime) -> Result<(), Fail> {
     let alloc = rt.alloc();
     assert!(rt; LineFault::Usage.to_string(alloc)?.as_str() == USAGE.trim_end());
     assert!(rt; LineFault::Memory.to_string(alloc)?.as_str() == "out of memory");
-    let rows = [
-        (Fault::Usage, 2, USAGE),
-        (
-            Fault::Card(SimFault::ImageRead),
-            1,
-            "card fault ImageRead\n",
-        ),
-        (Fault::Run(RunFault::Reply), 1, "run fault Reply\n"),
-        (Fault::Run(RunFault::Output), 1, "run fault Output\n"),
-        (Fault::Run(RunFault::Trace), 1, "run fault Trace\n"),
-        (Fault::Named, 1, ""),
-        (Fault::Output, 2, ""),
-        (Fault::Memory, 3, "out of memory\n"),
-    ];
-    for (fault, status, line) in rows {
+    for (fault, status, line) in FAULTS.iter() {
         let mut err = Vec::new(alloc);
-        assert_eq!(rt; fault.report(&mut err), status);
+        assert_eq!(rt; fault.report(&mut err), *status);
         assert!(rt; err.as_slice() == line.as_bytes(), "at {line}");
     }
     Ok(())

@@ -11,6 +11,7 @@ use Rattle.sdv_card.specs.CommandTable.{is_line, is_counted, order_if, sd_order,
 use Rattle.sdv_card.proofs.Members.{and_left, and_right, both_true}
 use Rattle.sdv_behavior.specs.Commands.{sd_order_read, emmc_order_read, order_read}
 use Rattle.sdv_behavior.specs.LinesRead.{read_as}
+use Rattle.sdv_card.proofs.OrdersOfAsks.{line_index, line_argument}
 
 record Reads (read : ℕ → ℕ → ℕ → Option Order) (ask : Ask) (order : Order) : Type 0 where
   same : (preset rca address : ℕ) → read preset ask.index (order_argument order ask.argument rca address) ≡ Some (read_as preset order)
@@ -20,12 +21,6 @@ line : (read : ℕ → ℕ → ℕ → Option Order) (ask : Ask) (order : Order)
     order_if is o rest ≡ Some order → (rest ≡ Some order → Reads read ask order) → Reads read ask order
 line read ask order true o rest here e later = let f : o ≡ order = cc in subst (λ v. Reads read ask v) f (here refl)
 line read ask order false o rest here e later = later e
-
-line_index : (ask : Ask) (index : ℕ) (aim : Aim) (argument count : ℕ) → is_line ask index aim argument count ≡ true → ask.index ≡ index
-line_index ask index aim argument count i = eqb-true ask.index index (and_left _ _ (and_left _ _ (and_left _ _ i)))
-
-line_argument : (ask : Ask) (index : ℕ) (aim : Aim) (argument count : ℕ) → is_line ask index aim argument count ≡ true → ask.argument ≡ argument
-line_argument ask index aim argument count i = eqb-true ask.argument argument (and_right _ _ (and_left _ _ i))
 
 -- by the index and the ask's own argument
 at : (read : ℕ → ℕ → ℕ → Option Order) (ask : Ask) (order : Order) (index : ℕ) (aim : Aim) (argument count : ℕ) → is_line ask index aim argument count ≡ true →

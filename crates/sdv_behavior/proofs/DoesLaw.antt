@@ -42,6 +42,7 @@ use Rattle.sdv_behavior.proofs.Told.{Tells, LeavesBlocks}
 use Rattle.sdv_behavior.specs.Words.{status_word, address_word, conditions_word}
 use Rattle.sdv_behavior.proofs.TakenLaw.{announced_with, is_refused, taken_law, stayed_law}
 use Rattle.sdv_behavior.proofs.WordLaws.{status_shows, conditions_show, sd_unit, emmc_unit, address_shows}
+use Rattle.sdv_card.proofs.ExampleAnswers.{no_error}
 
 -- an answer of the tables at t, which leaves u, as the reply tells it
 pub record RowTold (order : Order) (row : Row) (argument : ℕ) (t u : Card) (reply : Option Reply) : Type 0 where
@@ -94,13 +95,6 @@ announced_by deed row before = announced_with row before
 unheard_answer : (order : Order) → Tells None (unaddressed_answer order)
 unheard_answer DeselectCards = inl refl
 unheard_answer order = inr refl
-
--- an error that is not pending is shown by no status
-no_error : (t u : Card) (shown : Bool) → t.unshown_error ≡ false → u.unshown_error ≡ false → ErrorShown t shown u
-no_error t u shown before after = record {
-  ends = after ∙ sym (ap (λ v. v && not shown) before);
-  must = λ tran pending. absurd (let f : true ≡ false = sym pending ∙ before in cc);
-}
 
 -- a card that is asked for its conditions is ready, or idle
 conditions_state : (k : Kind) (high ready : Bool) (state : State) {target : State} → May (targets (rows k (Acmd41 high)) state) target →
@@ -181,7 +175,8 @@ module _ (d : CardDesc) (is : IsDescribed d) (csd : IsRegister 15 d.csd) (order 
   lost row f = record { answer = TimeOut; told = inr refl; is_reply = tt; answered = inl refl }
 
   -- the answer did not reach the host
-  unheard_row : (row : Row) (u : Card) → DeedFits TakesUnheard row → Taken row argument before u → false ≡ u.unshown_error → RowTold order row argument before u None
+  unheard_row : (row : Row) (u : Card) → DeedFits TakesUnheard row → Taken row argument before u → false ≡ u.unshown_error
+      → RowTold order row argument before u None
   unheard_row Cmd0 u f taken error = absurd f
   unheard_row Cmd7NotAddressed u f taken error =
       record { answer = unaddressed_answer order; told = unheard_answer order; is_reply = tt; answered = (refl, inr (record { card = taken; error = error })) }

@@ -8,7 +8,7 @@ ghost use Rattle.sdv_behavior.specs.Accepts.{fields_at, has_blocks, accepts};
 use crate::card_state::CardState;
 use crate::heard::matches;
 use crate::rows::block_of;
-use sdv_card::laws::order_legal;
+use sdv_card::state_table::order_legal;
 use sdv_card::{Fields, Kind, Order};
 use sdv_description::CardDesc;
 use sdv_emmc::EmmcTable;

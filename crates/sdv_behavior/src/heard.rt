@@ -13,7 +13,7 @@ use crate::card_state::CardState;
 use crate::commands::order_read;
 use crate::replies::reply_of;
 use crate::rows::{stays, taken_by};
-use sdv_card::laws::{own_target, response, taken_as};
+use sdv_card::state_table::{own_target, response, taken_as};
 use sdv_card::{Order, Response, Row, TakenAs, Transfer};
 use sdv_description::CardDesc;
 use sdv_frames::{Command, Reply};

@@ -6,7 +6,7 @@ ghost use Rattle.sdv_behavior.specs.SimSteps.{cuts, phase_over, length_fits, wai
 
 use crate::behavior::Behavior;
 use crate::card_state::CardState;
-use sdv_card::laws::{after_phase, after_wait};
+use sdv_card::state_table::{after_phase, after_wait};
 use sdv_card::{DataEnd, WaitEnd};
 use sdv_description::CardDesc;
 

@@ -7,7 +7,7 @@ ghost use Rattle.sdv_behavior.specs.RowTaken.{state_next, rca_next, app_next, le
 ghost use Rattle.sdv_card.specs.Taken.{block_of};
 
 use crate::card_state::CardState;
-use sdv_card::laws::{Rows, erase_after, transfer_after};
+use sdv_card::state_table::{Rows, erase_after, transfer_after};
 use sdv_card::{Kind, Row, State};
 use sdv_description::CardDesc;
 use sdv_emmc::EmmcTable;

@@ -8,7 +8,7 @@ use Rattle.sdv_card.specs.declared.guard.Guard.TheVariants.{Answer, Clean}
 use Rattle.sdv_card.specs.Card.{Card}
 use Rattle.sdv_card.specs.Host.{Host}
 use Rattle.sdv_card.proofs.Same.{same_both}
-use Rattle.sdv_graph.specs.AddressSent.{is_flag_set}
+use Rattle.sdv_card.specs.ShapeBits.{is_flag_set}
 use Rattle.sdv_graph.specs.Tree.{Statements, first, send}
 use Rattle.sdv_graph.specs.Walk.{Pair, Ending, Rest, walk_statements, given}
 use Rattle.sdv_facts.specs.Keeps.{IsHonest}

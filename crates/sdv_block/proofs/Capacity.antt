@@ -23,7 +23,7 @@ use Rattle.sdv_card.proofs.Same.{same_both, same_itself, steps_keep_same}
 use Rattle.sdv_graph.specs.declared.tree.Atom.TheVariants as atoms
 use Rattle.sdv_graph.specs.declared.tree.Let.{Let}
 use Rattle.sdv_graph.specs.declared.tree.Phase.TheVariants as phases
-use Rattle.sdv_graph.specs.AddressSent.{is_flag_set}
+use Rattle.sdv_card.specs.ShapeBits.{is_flag_set}
 use Rattle.sdv_graph.specs.Counts.{max_number}
 use Rattle.sdv_graph.specs.Tree.{Statements, Ways, nothing, first, otherwise, way, phase, setting}
 use Rattle.sdv_graph.specs.ValueOfLet.{number, with_number, in_range, value_of_let}

@@ -232,7 +232,8 @@ stop_heard : (k : Kind) (app matched : Bool) (argument : ℕ) (t u : Card) (answ
     SettledAnswer (taken_as_of StopTransmission app matched) StopTransmission argument t answer u →
     answer_passes k Clean answer ≡ true → t.unshown_error ≡ u.unshown_error
 stop_heard k true matched argument t u answer a clean = absurd a
-stop_heard k false matched argument t u (Replied (R1 index word)) a clean = unshown t.unshown_error (has_doubt word) u.unshown_error a.error.ends (clean_word k word clean)
+stop_heard k false matched argument t u (Replied (R1 index word)) a clean = unshown t.unshown_error (has_doubt word) u.unshown_error a.error.ends
+    (clean_word k word clean)
 stop_heard k false matched argument t u (Replied reply) a clean = absurd a
 stop_heard k false matched argument t u answer a clean = absurd (let f : false ≡ true = clean in cc)
 

@@ -86,7 +86,8 @@ module _ (k : Kind) (e : Ending) (block count : ℕ) (fell broke : Rest) (h : Ho
   abbrev after_give : Return → Rest
   after_give = after_phase k e nothing (fails (codes "write")) fell broke
 
-  stored_or_not : (u : Card) (blocks : List Block) → Stored c blocks u ⊎ (true ≡ u.unshown_error) → (take count (drop block u.contents) ≡ blocks) ⊎ (true ≡ u.unshown_error)
+  stored_or_not : (u : Card) (blocks : List Block) → Stored c blocks u ⊎ (true ≡ u.unshown_error)
+      → (take count (drop block u.contents) ≡ blocks) ⊎ (true ≡ u.unshown_error)
   stored_or_not u blocks (inl s) = inl (stored_blocks block count c.announced c.next_block u.contents blocks announced next s.stored)
   stored_or_not u blocks (inr d) = inr d
 

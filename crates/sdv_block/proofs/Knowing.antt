@@ -29,6 +29,7 @@ use Rattle.sdv_block.proofs.Addresses.{order_flags}
 use Rattle.sdv_block.proofs.CardSteps.{send_keeps, send_same}
 use Rattle.sdv_block.proofs.Parts.{Halts, halts_in_fault, either, argument_at, command_at, Sent, send_part, Past}
 use Rattle.sdv_block.proofs.Quiet.{Quiet, quiet_both, HaltedQuiet, halted_later, halted_here}
+use Rattle.sdv_facts.proofs.StepLaws.{order_numbers}
 
 -- WHAT A HOST KNOWS
 
@@ -47,11 +48,8 @@ profile_kept c u k h pair same of = record {
   told = rw (sym same.kind, sym same.block_unit, sym same.csd, sym same.ext_csd, sym same.capacity) of.told;
 }
 
-order_numbers : (o : Option Order) (answer : Answer) (h : Host) → (host_after_order o answer h).numbers ≡ h.numbers
-order_numbers None answer h = refl
-order_numbers (Some order) answer h = refl
-
-pub known_after : (k : Kind) (command : ScriptCommand) (position : ℕ) (c u : Card) (h : Host) (answer : Answer) → (command.ask.index ≡ 38 → ⊥) → IsHonest k c h →
+pub known_after : (k : Kind) (command : ScriptCommand) (position : ℕ) (c u : Card) (h : Host) (answer : Answer) → (command.ask.index ≡ 38 → ⊥)
+    → IsHonest k c h →
     IsAllowed (command_at k command h position) c → Sends command.ask (argument_at k command h position) c answer u →
     Knowing k c h ((command_at k command h position, Answered answer) ∷ []) u (host_after k (command_at k command h position) (Answered answer) h)
 known_after k command position c u h answer other honest allowed s =

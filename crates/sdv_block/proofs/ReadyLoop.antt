@@ -24,8 +24,8 @@ use Rattle.sdv_card.specs.Takes.{taken_as_of, matches}
 use Rattle.sdv_card.proofs.Members.{and_left, and_right}
 use Rattle.sdv_card.proofs.Same.{same_both, same_itself}
 use Rattle.sdv_graph.specs.declared.tree.ScriptCommand.{ScriptCommand}
-use Rattle.sdv_graph.specs.AddressSent.{is_flag_set}
-use Rattle.sdv_graph.specs.Conditions.{put_bit, with_flag}
+use Rattle.sdv_card.specs.ShapeBits.{is_flag_set, put_bit}
+use Rattle.sdv_graph.specs.Conditions.{with_flag}
 use Rattle.sdv_graph.specs.Tree.{Statement, nothing, first, send, way, otherwise}
 use Rattle.sdv_graph.specs.Walk.{Pair, Ending, Open, Failed, Rest, Stops, Either, all_pass, rounds, walk_statements, walk_ways, given}
 use Rattle.sdv_facts.specs.Keeps.{IsHonest}

@@ -80,7 +80,8 @@ pub record WroteBlocks (block count : ℕ) (c : Card) (front : List Pair) (u : C
   pub blocks : AreBlocks c.capacity u.contents
 
 -- no error is left, so the blocks were stored
-surely_stored : (block count : ℕ) (u : Card) (new : List Block) → (take count (drop block u.contents) ≡ new) ⊎ (true ≡ u.unshown_error) → u.unshown_error ≡ false →
+surely_stored : (block count : ℕ) (u : Card) (new : List Block) → (take count (drop block u.contents) ≡ new) ⊎ (true ≡ u.unshown_error)
+    → u.unshown_error ≡ false →
     take count (drop block u.contents) ≡ new
 surely_stored block count u new (inl s) e = s
 surely_stored block count u new (inr d) e = absurd (let f : true ≡ false = d ∙ e in cc)

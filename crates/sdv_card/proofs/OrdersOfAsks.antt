@@ -66,10 +66,11 @@ line : (k : Kind) (ask : Ask) (order : Order) (is : Bool) (o : Order) (rest : Op
 line k ask order true o rest here e later = let f : o ≡ order = cc in subst (λ v. LineOf k ask v) f (here refl)
 line k ask order false o rest here e later = later e
 
-line_index : (ask : Ask) (index : ℕ) (aim : Aim) (argument count : ℕ) → is_line ask index aim argument count ≡ true → ask.index ≡ index
+-- what the parts of a line are
+pub line_index : (ask : Ask) (index : ℕ) (aim : Aim) (argument count : ℕ) → is_line ask index aim argument count ≡ true → ask.index ≡ index
 line_index ask index aim argument count i = eqb-true ask.index index (and_left _ _ (and_left _ _ (and_left _ _ i)))
 
-line_argument : (ask : Ask) (index : ℕ) (aim : Aim) (argument count : ℕ) → is_line ask index aim argument count ≡ true → ask.argument ≡ argument
+pub line_argument : (ask : Ask) (index : ℕ) (aim : Aim) (argument count : ℕ) → is_line ask index aim argument count ≡ true → ask.argument ≡ argument
 line_argument ask index aim argument count i = eqb-true ask.argument argument (and_right _ _ (and_left _ _ i))
 
 line_count : (ask : Ask) (index : ℕ) (aim : Aim) (argument count : ℕ) → is_line ask index aim argument count ≡ true → ask.count ≡ count

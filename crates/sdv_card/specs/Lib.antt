@@ -21,6 +21,7 @@ pub mod Phases
 pub mod Legal
 pub mod Step
 pub mod Code
+pub mod ShapeBits
 pub mod Shapes
 pub mod Outcomes
 pub mod LegalShapes

@@ -11,10 +11,10 @@ mod event;
 pub mod examples;
 mod fields;
 mod guard;
-pub mod laws;
 mod port;
 mod shape;
 mod state;
+pub mod state_table;
 mod table;
 
 pub use answer::{Answer, DataEnd, WaitEnd};

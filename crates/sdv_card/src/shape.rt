@@ -1,6 +1,7 @@
-ghost use Rattle.std.specs.Prelude.{◌≡◌, ◌<◌, IfSome};
+ghost use Rattle.std.specs.Prelude.{◌≡◌, ◌<◌, ◌%◌, ◌^◌, ◌+◌, IfSome};
 ghost use Rattle.sdv_card.specs.States.{state_number};
 ghost use Rattle.sdv_card.specs.Code.{code_of, digits, fields_of, transfer_number, erase_number, bool_number, state_of, transfer_of, erase_of};
+ghost use Rattle.sdv_card.specs.ShapeBits.{has_block_addresses, has_flag, with_flag_shown};
 
 use crate::fields::Fields;
 use crate::state::{EraseStage, State, Transfer};
@@ -26,6 +27,23 @@ pub struct Shape(pub u64);
 /// The shapes of a card before the first command: byte addresses with another block length than 512, byte addresses
 /// with block length 512, and block addresses.
 pub const START_SHAPES: [Shape; 3] = [Shape(0x2000), Shape(0x2800), Shape(0x2c00)];
+
+// Bit 0 of each field above the state, as the table above has them.
+const TRANSFER: u64 = 1 << 4;
+
+const ERASE_STAGE: u64 = 1 << 8;
+
+const BLOCK_ADDRESSES: u64 = 1 << 10;
+
+const LENGTH_512: u64 = 1 << 11;
+
+const APPLICATION: u64 = 1 << 12;
+
+const MATCHED: u64 = 1 << 13;
+
+const FLAGS: u64 = 1 << 16;
+
+const PRESET: u64 = 1 << 32;
 
 impl State {
     /// The number in a card status and in a shape.
@@ -145,14 +163,14 @@ impl Fields {
     {
         Shape(
             u64::from(self.state.number())
-                + 16 * u64::from(self.transfer.number())
-                + 256 * u64::from(self.erase.number())
-                + 1024 * bit(self.block_unit)
-                + 2048 * bit(self.length_512)
-                + 4096 * bit(self.app)
-                + 8192 * bit(self.matched)
-                + 65536 * u64::from(self.flags)
-                + 4294967296 * u64::from(self.preset),
+                + TRANSFER * u64::from(self.transfer.number())
+                + ERASE_STAGE * u64::from(self.erase.number())
+                + BLOCK_ADDRESSES * bit(self.block_unit)
+                + LENGTH_512 * bit(self.length_512)
+                + APPLICATION * bit(self.app)
+                + MATCHED * bit(self.matched)
+                + FLAGS * u64::from(self.flags)
+                + PRESET * u64::from(self.preset),
         )
     }
 
@@ -164,14 +182,14 @@ impl Fields {
     {
         Fields {
             state: State::of(code % 16),
-            transfer: Transfer::of(code / 16 % 16),
-            erase: EraseStage::of(code / 256 % 4),
-            block_unit: code / 1024 % 2 == 1,
-            length_512: code / 2048 % 2 == 1,
-            app: code / 4096 % 2 == 1,
-            matched: code / 8192 % 2 == 1,
-            flags: (code / 65536 % 16) as u8,
-            preset: (code / 4294967296 % 65536) as u16,
+            transfer: Transfer::of(code / TRANSFER % 16),
+            erase: EraseStage::of(code / ERASE_STAGE % 4),
+            block_unit: code / BLOCK_ADDRESSES % 2 == 1,
+            length_512: code / LENGTH_512 % 2 == 1,
+            app: code / APPLICATION % 2 == 1,
+            matched: code / MATCHED % 2 == 1,
+            flags: (code / FLAGS % 16) as u8,
+            preset: (code / PRESET % 65536) as u16,
         }
     }
 }
@@ -190,5 +208,61 @@ impl Shape {
         } else {
             None
         }
+    }
+
+    /// The card's state.
+    pub fn state(self) -> State
+        ensures { result ≡ state_of (self.0 % 16) }
+    {
+        State::of(self.0 % 16)
+    }
+
+    /// The card has block addresses.
+    #[tactic(auto, unfolding(crate::specs::Code::digits))]
+    pub fn has_block_addresses(self) -> bool
+        ensures { result ≡ has_block_addresses self }
+    {
+        self.0 / BLOCK_ADDRESSES % 2 == 1
+    }
+
+    /// The script's flag in this place, from 0, is set. There are four places.
+    #[tactic(auto, unfolding(crate::specs::Code::digits), using(crate::proofs::ShapeFlags::no_flag))]
+    pub fn flag(self, place: usize) -> bool
+        ensures { result ≡ has_flag self place }
+    {
+        let flags = self.0 / FLAGS % 16;
+        match place {
+            0 => flags % 2 == 1,
+            1 => flags / 2 % 2 == 1,
+            2 => flags / 4 % 2 == 1,
+            3 => flags / 8 % 2 == 1,
+            _ => false,
+        }
+    }
+
+    /// The shape with the script's flag in this place, from 0, set or clear.
+    #[tactic(auto, using(crate::proofs::ShapeFlags::room_for_flag, crate::proofs::ShapeFlags::flag_is_there))]
+    pub fn with_flag(self, place: usize, on: bool) -> Shape
+        requires few { place < 4 }
+        ensures { result ≡ with_flag_shown self place on }
+    {
+        match (self.flag(place), on) {
+            (false, true) => Shape(self.0 + bit_of_flag(place)),
+            (true, false) => Shape(self.0 - bit_of_flag(place)),
+            _ => self,
+        }
+    }
+}
+
+/// The bit of the flag in this place, from 0.
+fn bit_of_flag(place: usize) -> u64
+    requires few { place < 4 }
+    ensures { result ≡ 2 ^ (16 + place) }
+{
+    match place {
+        0 => 1 << 16,
+        1 => 1 << 17,
+        2 => 1 << 18,
+        _ => 1 << 19,
     }
 }

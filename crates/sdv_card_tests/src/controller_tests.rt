@@ -98,51 +98,53 @@ const STATUS: Reply = Reply::R1 {
     status: 0x900,
 };
 
+// How a wire ends, what is waited for, and the answer.
+static ANSWERS: [(WireEnd, Expect, Answer); 11] = [
+    (WireEnd::Silent, Expect::R1(17), Answer::TimeOut),
+    (WireEnd::Silent, Expect::Nothing, Answer::Sent),
+    (WireEnd::Bytes(6), Expect::Nothing, Answer::Sent),
+    (WireEnd::Bytes(6), Expect::R1(17), Answer::Reply(STATUS)),
+    (
+        WireEnd::Bytes(17),
+        Expect::R1(17),
+        Answer::Damaged(FrameFault::Length),
+    ),
+    (
+        WireEnd::Bytes(18),
+        Expect::R1(17),
+        Answer::Damaged(FrameFault::Length),
+    ),
+    (
+        WireEnd::Bytes(usize::MAX),
+        Expect::R2,
+        Answer::Damaged(FrameFault::Length),
+    ),
+    (
+        WireEnd::Bytes(5),
+        Expect::R1(17),
+        Answer::Damaged(FrameFault::Length),
+    ),
+    (
+        WireEnd::Bytes(6),
+        Expect::R1(18),
+        Answer::Damaged(FrameFault::Index),
+    ),
+    (
+        WireEnd::Bytes(6),
+        Expect::R7,
+        Answer::Damaged(FrameFault::Index),
+    ),
+    (
+        WireEnd::Bytes(6),
+        Expect::R2,
+        Answer::Damaged(FrameFault::Length),
+    ),
+];
+
 /// What the wire gives, what is waited for, and the answer.
 #[test]
 fn answers(rt: HostRuntime) {
-    let rows = [
-        (WireEnd::Silent, Expect::R1(17), Answer::TimeOut),
-        (WireEnd::Silent, Expect::Nothing, Answer::Sent),
-        (WireEnd::Bytes(6), Expect::Nothing, Answer::Sent),
-        (WireEnd::Bytes(6), Expect::R1(17), Answer::Reply(STATUS)),
-        (
-            WireEnd::Bytes(17),
-            Expect::R1(17),
-            Answer::Damaged(FrameFault::Length),
-        ),
-        (
-            WireEnd::Bytes(18),
-            Expect::R1(17),
-            Answer::Damaged(FrameFault::Length),
-        ),
-        (
-            WireEnd::Bytes(usize::MAX),
-            Expect::R2,
-            Answer::Damaged(FrameFault::Length),
-        ),
-        (
-            WireEnd::Bytes(5),
-            Expect::R1(17),
-            Answer::Damaged(FrameFault::Length),
-        ),
-        (
-            WireEnd::Bytes(6),
-            Expect::R1(18),
-            Answer::Damaged(FrameFault::Index),
-        ),
-        (
-            WireEnd::Bytes(6),
-            Expect::R7,
-            Answer::Damaged(FrameFault::Index),
-        ),
-        (
-            WireEnd::Bytes(6),
-            Expect::R2,
-            Answer::Damaged(FrameFault::Length),
-        ),
-    ];
-    for (end, expect, answer) in rows {
+    for &(end, expect, answer) in ANSWERS.iter() {
         let mut controller = Controller::new(playing(&FRAME, end));
         let found = ask(&mut controller, expect);
         let wire = controller.into_wire();

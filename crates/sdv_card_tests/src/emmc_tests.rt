@@ -7,41 +7,44 @@ use crate::shared::send;
 use sdv_card::{Aim, Event, Kind, Seen, Shape};
 use sdv_emmc::EmmcTable;
 
+// A shape, the index, aim, argument and count of a command, and whether it is legal there.
+static LEGAL: [(u64, u8, Aim, u32, u16, bool); 29] = [
+    (0x2000, 1, Aim::Plain, 0, 0, true),
+    (0x2001, 1, Aim::Plain, 0, 0, false),
+    (0x2002, 3, Aim::Plain, 0, 0, true),
+    (0x2003, 3, Aim::Plain, 0, 0, false),
+    (0x0003, 9, Aim::Rca, 0, 0, true),
+    (0x0004, 7, Aim::Rca, 0, 0, true),
+    (0x2804, 8, Aim::Plain, 0, 0, true),
+    (0x2000, 8, Aim::Plain, 0, 0, false),
+    (0x2825, 12, Aim::Plain, 0, 0, true),
+    (0x2855, 12, Aim::Plain, 0, 0, false),
+    (0x2804, 23, Aim::Plain, 0, 8, true),
+    (0x2804, 23, Aim::Plain, 0, 0, false),
+    (0x8_0000_2804, 18, Aim::Plain, 0, 8, true),
+    (0x8_0000_2804, 18, Aim::Plain, 0, 4, false),
+    (0x8_0000_2804, 25, Aim::Plain, 0, 4, false),
+    (0x8_0000_2804, 17, Aim::Plain, 0, 1, true),
+    (0x2804, 36, Aim::Plain, 0, 0, false),
+    (0x2904, 36, Aim::Plain, 0, 0, true),
+    (0x2904, 38, Aim::Plain, 0, 0, false),
+    (0x2a04, 38, Aim::Plain, 1, 0, true),
+    (0x2a04, 38, Aim::Plain, 2, 0, false),
+    (0x2a04, 38, Aim::Plain, 3, 0, true),
+    (0x2804, 32, Aim::Plain, 0, 0, false),
+    (0x2804, 55, Aim::Rca, 0, 0, false),
+    (0x2804, 51, Aim::Plain, 0, 0, false),
+    (0x2855, 0, Aim::Plain, 0, 0, true),
+    (0x2835, 0, Aim::Plain, 0, 0, false),
+    (0x3804, 0, Aim::Plain, 0, 0, false),
+    (0x0002, 0, Aim::Plain, 0, 0, false),
+];
+
 /// Commands at shapes of e.MMC devices, with and without a preset count of 8, and at codes that are no shape of one; and
 /// how many shapes there are without flags and preset, and the most outcomes at them with a preset count.
 #[test]
 fn legal_at_shapes_of_emmc(rt: HostRuntime) {
-    for (code, index, aim, argument, count, legal) in [
-        (0x2000, 1, Aim::Plain, 0, 0, true),
-        (0x2001, 1, Aim::Plain, 0, 0, false),
-        (0x2002, 3, Aim::Plain, 0, 0, true),
-        (0x2003, 3, Aim::Plain, 0, 0, false),
-        (0x0003, 9, Aim::Rca, 0, 0, true),
-        (0x0004, 7, Aim::Rca, 0, 0, true),
-        (0x2804, 8, Aim::Plain, 0, 0, true),
-        (0x2000, 8, Aim::Plain, 0, 0, false),
-        (0x2825, 12, Aim::Plain, 0, 0, true),
-        (0x2855, 12, Aim::Plain, 0, 0, false),
-        (0x2804, 23, Aim::Plain, 0, 8, true),
-        (0x2804, 23, Aim::Plain, 0, 0, false),
-        (0x8_0000_2804, 18, Aim::Plain, 0, 8, true),
-        (0x8_0000_2804, 18, Aim::Plain, 0, 4, false),
-        (0x8_0000_2804, 25, Aim::Plain, 0, 4, false),
-        (0x8_0000_2804, 17, Aim::Plain, 0, 1, true),
-        (0x2804, 36, Aim::Plain, 0, 0, false),
-        (0x2904, 36, Aim::Plain, 0, 0, true),
-        (0x2904, 38, Aim::Plain, 0, 0, false),
-        (0x2a04, 38, Aim::Plain, 1, 0, true),
-        (0x2a04, 38, Aim::Plain, 2, 0, false),
-        (0x2a04, 38, Aim::Plain, 3, 0, true),
-        (0x2804, 32, Aim::Plain, 0, 0, false),
-        (0x2804, 55, Aim::Rca, 0, 0, false),
-        (0x2804, 51, Aim::Plain, 0, 0, false),
-        (0x2855, 0, Aim::Plain, 0, 0, true),
-        (0x2835, 0, Aim::Plain, 0, 0, false),
-        (0x3804, 0, Aim::Plain, 0, 0, false),
-        (0x0002, 0, Aim::Plain, 0, 0, false),
-    ] {
+    for &(code, index, aim, argument, count, legal) in LEGAL.iter() {
         let event = send(index, aim, argument, count);
         let found = follow::<EmmcTable>(Shape(code), &event).is_some();
         assert!(rt; found == legal, "command {index} at {code:x}");

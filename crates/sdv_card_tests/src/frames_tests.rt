@@ -7,18 +7,20 @@ use sdv_frames::{
 use std::process::Abort;
 use std::test::Fail;
 
+// The index and the argument of a command, and its frame.
+static COMMANDS: [(u8, u32, [u8; 6]); 5] = [
+    (0, 0, [0x40, 0x00, 0x00, 0x00, 0x00, 0x95]),
+    (8, 0x1aa, [0x48, 0x00, 0x00, 0x01, 0xaa, 0x87]),
+    (17, 0, [0x51, 0x00, 0x00, 0x00, 0x00, 0x55]),
+    (41, 0x40ff8000, [0x69, 0x40, 0xff, 0x80, 0x00, 0x17]),
+    (1, 0x40ff8080, [0x41, 0x40, 0xff, 0x80, 0x80, 0x89]),
+];
+
 /// Frames of commands. `0x75` is the value that CRC-7/MMC is known by.
 #[test]
 fn command_frames(rt: HostRuntime) {
     assert!(rt; crc7(b"123456789") == 0x75);
-    let rows = [
-        (0, 0, [0x40, 0x00, 0x00, 0x00, 0x00, 0x95]),
-        (8, 0x1aa, [0x48, 0x00, 0x00, 0x01, 0xaa, 0x87]),
-        (17, 0, [0x51, 0x00, 0x00, 0x00, 0x00, 0x55]),
-        (41, 0x40ff8000, [0x69, 0x40, 0xff, 0x80, 0x00, 0x17]),
-        (1, 0x40ff8080, [0x41, 0x40, 0xff, 0x80, 0x80, 0x89]),
-    ];
-    for (index, argument, frame) in rows {
+    for &(index, argument, frame) in COMMANDS.iter() {
         let command = Command { index, argument };
         assert!(rt; command.index < 64);
         assert!(rt;
@@ -46,21 +48,25 @@ fn single_bits(rt: &impl Abort, frame: &[u8; 6]) {
     }
 }
 
+const STATUS: Reply = Reply::R1 {
+    index: 17,
+    status: 0x900,
+};
+
+// What is waited for, a reply, and its frame.
+static REPLIES: [(Expect, Reply, [u8; 6]); 2] = [
+    (Expect::R1(17), STATUS, [0x11, 0, 0, 0x09, 0, 0x67]),
+    (
+        Expect::R3,
+        Reply::R3(0x80ff8000),
+        [0x3f, 0x80, 0xff, 0x80, 0, 0xff],
+    ),
+];
+
 /// Frames of responses that were seen elsewhere.
 #[test]
 fn reply_frames(rt: HostRuntime) {
-    let status = Reply::R1 {
-        index: 17,
-        status: 0x900,
-    };
-    for (expect, reply, frame) in [
-        (Expect::R1(17), status, [0x11, 0, 0, 0x09, 0, 0x67]),
-        (
-            Expect::R3,
-            Reply::R3(0x80ff8000),
-            [0x3f, 0x80, 0xff, 0x80, 0, 0xff],
-        ),
-    ] {
+    for &(expect, reply, frame) in REPLIES.iter() {
         let written = frame_of(&rt, reply);
         assert!(rt;
             decode_reply(expect, &frame) == Ok(reply) && written.as_slice() == frame.as_slice()
@@ -68,58 +74,61 @@ fn reply_frames(rt: HostRuntime) {
     }
 }
 
+// What is waited for, a frame, and the fault that answers it.
+static REFUSED_REPLIES: [(Expect, [u8; 6], FrameFault); 11] = [
+    (
+        Expect::R1(17),
+        [0x11, 0, 0, 0x09, 0, 0x66],
+        FrameFault::EndBit,
+    ),
+    (Expect::R1(17), [0x11, 0, 0, 0x09, 0, 0x65], FrameFault::Crc),
+    (Expect::R1(17), [0x11, 0, 0, 0x09, 0, 0x64], FrameFault::Crc),
+    (
+        Expect::R1(17),
+        [0x91, 0, 0, 0x09, 0, 0x67],
+        FrameFault::StartBit,
+    ),
+    (
+        Expect::R1(17),
+        [0x51, 0, 0, 0x09, 0, 0x67],
+        FrameFault::Direction,
+    ),
+    (
+        Expect::R1(17),
+        [0x12, 0, 0, 0x09, 0, 0x67],
+        FrameFault::Index,
+    ),
+    (
+        Expect::R1(81),
+        [0x11, 0, 0, 0x09, 0, 0x67],
+        FrameFault::Index,
+    ),
+    (
+        Expect::R1(17),
+        [0x3f, 0x80, 0xff, 0x80, 0, 0xff],
+        FrameFault::Index,
+    ),
+    (
+        Expect::R3,
+        [0x3f, 0x80, 0xff, 0x80, 0, 0x7f],
+        FrameFault::Reserved,
+    ),
+    (
+        Expect::R3,
+        [0x3f, 0x80, 0xff, 0x80, 0, 0xfe],
+        FrameFault::EndBit,
+    ),
+    (
+        Expect::R3,
+        [0x3e, 0x80, 0xff, 0x80, 0, 0xff],
+        FrameFault::Index,
+    ),
+];
+
 /// The same frames with one byte changed, or where another response is waited for, and the fault that answers them.
 #[test]
 fn refused_replies(rt: HostRuntime) {
-    for (expect, frame, fault) in [
-        (
-            Expect::R1(17),
-            [0x11, 0, 0, 0x09, 0, 0x66],
-            FrameFault::EndBit,
-        ),
-        (Expect::R1(17), [0x11, 0, 0, 0x09, 0, 0x65], FrameFault::Crc),
-        (Expect::R1(17), [0x11, 0, 0, 0x09, 0, 0x64], FrameFault::Crc),
-        (
-            Expect::R1(17),
-            [0x91, 0, 0, 0x09, 0, 0x67],
-            FrameFault::StartBit,
-        ),
-        (
-            Expect::R1(17),
-            [0x51, 0, 0, 0x09, 0, 0x67],
-            FrameFault::Direction,
-        ),
-        (
-            Expect::R1(17),
-            [0x12, 0, 0, 0x09, 0, 0x67],
-            FrameFault::Index,
-        ),
-        (
-            Expect::R1(81),
-            [0x11, 0, 0, 0x09, 0, 0x67],
-            FrameFault::Index,
-        ),
-        (
-            Expect::R1(17),
-            [0x3f, 0x80, 0xff, 0x80, 0, 0xff],
-            FrameFault::Index,
-        ),
-        (
-            Expect::R3,
-            [0x3f, 0x80, 0xff, 0x80, 0, 0x7f],
-            FrameFault::Reserved,
-        ),
-        (
-            Expect::R3,
-            [0x3f, 0x80, 0xff, 0x80, 0, 0xfe],
-            FrameFault::EndBit,
-        ),
-        (
-            Expect::R3,
-            [0x3e, 0x80, 0xff, 0x80, 0, 0xff],
-            FrameFault::Index,
-        ),
-    ] {
+    for &(expect, frame, fault) in REFUSED_REPLIES.iter() {
         assert!(rt; decode_reply(expect, &frame) == Err(fault), "{frame:?}");
     }
 }
@@ -134,19 +143,21 @@ fn round_trips(rt: HostRuntime) {
     }
 }
 
+// What is waited for, and how many bytes its frame has.
+static LENGTHS: [(Expect, Option<usize>); 6] = [
+    (Expect::Nothing, None),
+    (Expect::R1(0), Some(6)),
+    (Expect::R2, Some(17)),
+    (Expect::R3, Some(6)),
+    (Expect::R6, Some(6)),
+    (Expect::R7, Some(6)),
+];
+
 /// No other length is read, and none where nothing is waited for.
 #[test]
 fn lengths(rt: HostRuntime) {
     let bytes = [0u8; 18];
-    let rows = [
-        (Expect::Nothing, None),
-        (Expect::R1(0), Some(6)),
-        (Expect::R2, Some(17)),
-        (Expect::R3, Some(6)),
-        (Expect::R6, Some(6)),
-        (Expect::R7, Some(6)),
-    ];
-    for (expect, wanted) in rows {
+    for &(expect, wanted) in LENGTHS.iter() {
         for length in 0..=18usize {
             let refused = decode_reply(expect, &bytes[..length]) == Err(FrameFault::Length);
             assert!(rt; refused == (wanted != Some(length)), "{expect:?} {length}");
@@ -154,21 +165,22 @@ fn lengths(rt: HostRuntime) {
     }
 }
 
+static FAULT_TEXTS: [(FrameFault, &str); 7] = [
+    (FrameFault::Length, "the frame has another length"),
+    (FrameFault::StartBit, "the start bit is not 0"),
+    (
+        FrameFault::Direction,
+        "the direction bit is that of the other side",
+    ),
+    (FrameFault::Index, "the command index is another one"),
+    (FrameFault::Crc, "the CRC7 is wrong"),
+    (FrameFault::EndBit, "the end bit is not 1"),
+    (FrameFault::Reserved, "reserved bits are not all 1"),
+];
+
 #[test]
 fn fault_texts(rt: HostRuntime) -> Result<(), Fail> {
-    let rows = [
-        (FrameFault::Length, "the frame has another length"),
-        (FrameFault::StartBit, "the start bit is not 0"),
-        (
-            FrameFault::Direction,
-            "the direction bit is that of the other side",
-        ),
-        (FrameFault::Index, "the command index is another one"),
-        (FrameFault::Crc, "the CRC7 is wrong"),
-        (FrameFault::EndBit, "the end bit is not 1"),
-        (FrameFault::Reserved, "reserved bits are not all 1"),
-    ];
-    for (fault, text) in rows {
+    for &(fault, text) in FAULT_TEXTS.iter() {
         assert_eq!(rt; fault.to_string(rt.alloc())?.as_str(), text);
     }
     Ok(())

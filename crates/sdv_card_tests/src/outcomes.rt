@@ -8,7 +8,7 @@ ghost use Rattle.sdv_card.specs.LegalShapes.{legal_code};
 
 use crate::shared::send;
 use arrayvec::ArrayVec;
-use sdv_card::laws::is_shape;
+use sdv_card::state_table::is_shape;
 use sdv_card::{Aim, CardTable, Event, Kind, Outcome, Seen, Shape};
 use std::process::Abort;
 

@@ -7,22 +7,24 @@ use sdv_registers::{
 };
 use std::test::Fail;
 
+// A card status: its state, whether it is ready, awaits an application command, or refuses one, and its text.
+static STATUSES: [(u32, (u8, bool, bool, bool), &str); 3] = [
+    (
+        0x0000_0900,
+        (4, true, false, false),
+        "00000900 tran READY_FOR_DATA",
+    ),
+    (
+        0x0040_0120,
+        (0, true, true, true),
+        "00400120 idle ILLEGAL_COMMAND READY_FOR_DATA APP_CMD",
+    ),
+    (0x0000_1e00, (15, false, false, false), "00001e00 reserved"),
+];
+
 #[test]
 fn reads_statuses(rt: HostRuntime) -> Result<(), Fail> {
-    let rows = [
-        (
-            0x0000_0900,
-            (4, true, false, false),
-            "00000900 tran READY_FOR_DATA",
-        ),
-        (
-            0x0040_0120,
-            (0, true, true, true),
-            "00400120 idle ILLEGAL_COMMAND READY_FOR_DATA APP_CMD",
-        ),
-        (0x0000_1e00, (15, false, false, false), "00001e00 reserved"),
-    ];
-    for (word, wanted, text) in rows {
+    for &(word, wanted, text) in STATUSES.iter() {
         let status = Status(word);
         let found = (
             status.state(),
@@ -33,10 +35,14 @@ fn reads_statuses(rt: HostRuntime) -> Result<(), Fail> {
         assert!(rt; found == wanted && !status.is_switch_error(), "{text}");
         assert_eq!(rt; format!(in rt.alloc(); "{status}")?.as_str(), text);
     }
+    Ok(())
+}
+
+#[test]
+fn reads_a_published_address(rt: HostRuntime) {
     let word = PublishedRca(0x1234_0500);
     let found = (word.rca(), word.state(), word.is_ready_for_data());
     assert!(rt; found == (0x1234, 2, true));
-    Ok(())
 }
 
 /// Each bit of the card status: whether it is a doubt, and whether a reply with it is clean.
@@ -88,7 +94,7 @@ fn reads_the_operation_conditions(rt: HostRuntime) {
 }
 
 #[test]
-fn reads_cids(rt: HostRuntime) {
+fn reads_sd_cids(rt: HostRuntime) {
     let register = [
         0x00, 0x58, 0x58, 0x53, 0x44, 0x56, 0x20, 0x20, 0x10, 0x00, 0x00, 0x00, 0x01, 0x01, 0x81,
     ];
@@ -103,6 +109,10 @@ fn reads_cids(rt: HostRuntime) {
     );
     assert!(rt; found == (0, 0x5858, 0x10, 1, 24, 1) && cid.pnm() == b"SDV  ".as_slice());
     assert!(rt; Cid::new(Kind::Sd, register) == Cid::Sd(cid));
+}
+
+#[test]
+fn reads_emmc_cids(rt: HostRuntime) {
     let register = [
         0x00, 0x01, 0x58, 0x53, 0x44, 0x56, 0x45, 0x52, 0x49, 0x10, 0x00, 0x00, 0x00, 0x01, 0x17,
     ];
@@ -162,37 +172,79 @@ fn high(block_length: u8, size: [u8; 3]) -> [u8; 15] {
     ]
 }
 
-/// Registers, and the capacity or the fault that they give.
+/// The bytes of a CSD.
+#[derive(Clone, Copy, Debug)]
+enum CsdBytes {
+    /// Of version 1, with this CSD_STRUCTURE in its first byte and READ_BL_LEN in its sixth.
+    Standard(u8, u8),
+    /// Of version 2, with this READ_BL_LEN in its sixth byte, and C_SIZE.
+    High(u8, [u8; 3]),
+    /// Of an e.MMC device whose EXT_CSD has the capacity.
+    Sectors,
+}
+
+impl CsdBytes {
+    fn register(self) -> [u8; 15] {
+        match self {
+            CsdBytes::Standard(structure, block_length) => standard(structure, block_length),
+            CsdBytes::High(block_length, size) => high(block_length, size),
+            CsdBytes::Sectors => [
+                0xd0, 0, 0, 0, 0, 0x09, 0x03, 0xff, 0xc0, 0x03, 0x80, 0, 0, 0, 0,
+            ],
+        }
+    }
+}
+
+// Registers, and the capacity or the fault that they give.
+static CAPACITIES: [(Kind, CsdBytes, Result<u64, RegisterFault>); 10] = [
+    (
+        Kind::Sd,
+        CsdBytes::High(0x09, [0, 0xed, 0xc8]),
+        Ok(62_333_952),
+    ),
+    (
+        Kind::Sd,
+        CsdBytes::High(0x09, [0x3f, 0xff, 0xff]),
+        Ok(4_294_967_296),
+    ),
+    (Kind::Sd, CsdBytes::Standard(0, 0x0a), Ok(3_969_024)),
+    (
+        Kind::Sd,
+        CsdBytes::Standard(0, 0x0c),
+        Err(RegisterFault::BlockLength),
+    ),
+    (
+        Kind::Sd,
+        CsdBytes::Standard(0, 0x08),
+        Err(RegisterFault::BlockLength),
+    ),
+    (
+        Kind::Sd,
+        CsdBytes::Standard(0x80, 0x0c),
+        Err(RegisterFault::Structure),
+    ),
+    (
+        Kind::Sd,
+        CsdBytes::High(0x0c, [0, 0xed, 0xc8]),
+        Ok(62_333_952),
+    ),
+    (Kind::Emmc, CsdBytes::Standard(0, 0x0a), Ok(3_969_024)),
+    (
+        Kind::Emmc,
+        CsdBytes::Standard(0x80, 0x0c),
+        Err(RegisterFault::BlockLength),
+    ),
+    (Kind::Emmc, CsdBytes::Sectors, Ok(2_097_152)),
+];
+
 #[test]
 fn tells_capacities(rt: HostRuntime) {
-    let sectors = [
-        0xd0, 0, 0, 0, 0, 0x09, 0x03, 0xff, 0xc0, 0x03, 0x80, 0, 0, 0, 0,
-    ];
-    let cases = [
-        (Kind::Sd, high(0x09, [0, 0xed, 0xc8]), Ok(62_333_952)),
-        (Kind::Sd, high(0x09, [0x3f, 0xff, 0xff]), Ok(4_294_967_296)),
-        (Kind::Sd, standard(0, 0x0a), Ok(3_969_024)),
-        (Kind::Sd, standard(0, 0x0c), Err(RegisterFault::BlockLength)),
-        (Kind::Sd, standard(0, 0x08), Err(RegisterFault::BlockLength)),
-        (
-            Kind::Sd,
-            standard(0x80, 0x0c),
-            Err(RegisterFault::Structure),
-        ),
-        (Kind::Sd, high(0x0c, [0, 0xed, 0xc8]), Ok(62_333_952)),
-        (Kind::Emmc, standard(0, 0x0a), Ok(3_969_024)),
-        (
-            Kind::Emmc,
-            standard(0x80, 0x0c),
-            Err(RegisterFault::BlockLength),
-        ),
-        (Kind::Emmc, sectors, Ok(2_097_152)),
-    ];
-    for (kind, register, expected) in cases {
+    for &(kind, bytes, expected) in CAPACITIES.iter() {
+        let register = bytes.register();
         assert_eq!(rt;
             Csd::read(kind, &register).map(|csd| csd.blocks()),
             expected,
-            "{kind:?} {register:?}"
+            "{kind:?} {bytes:?}"
         );
     }
 }
@@ -222,12 +274,14 @@ fn reads_csds(rt: HostRuntime) {
     }
 }
 
+static SCRS: [([u8; 8], (u8, u8, bool, u8, bool, bool)); 2] = [
+    ([0x02, 0x05, 0, 0, 0, 0, 0, 0], (0, 2, false, 5, true, true)),
+    ([0x10, 0x81, 0, 0, 0, 0, 0, 0], (1, 0, true, 1, true, false)),
+];
+
 #[test]
 fn reads_scrs(rt: HostRuntime) {
-    for (register, wanted) in [
-        ([0x02, 0x05, 0, 0, 0, 0, 0, 0], (0, 2, false, 5, true, true)),
-        ([0x10, 0x81, 0, 0, 0, 0, 0, 0], (1, 0, true, 1, true, false)),
-    ] {
+    for &(register, wanted) in SCRS.iter() {
         let scr = Scr::new(register);
         let found = (
             scr.scr_structure(),

@@ -7,32 +7,35 @@ use crate::shared::send;
 use sdv_card::{Aim, Event, Kind, Seen, Shape};
 use sdv_sd::SdTable;
 
+// A shape, the index, aim and count of a command, and whether it is legal there.
+static LEGAL: [(u64, u8, Aim, u16, bool); 21] = [
+    (0x2001, 55, Aim::Rca, 0, false),
+    (0x2865, 12, Aim::Plain, 0, false),
+    (0x28b6, 12, Aim::Plain, 0, true),
+    (0x2805, 13, Aim::Rca, 0, false),
+    (0x3003, 7, Aim::Rca, 0, false),
+    (0x2003, 7, Aim::Rca, 0, true),
+    (0x2003, 3, Aim::Plain, 0, true),
+    (0x2004, 17, Aim::Plain, 1, false),
+    (0x2804, 17, Aim::Plain, 1, true),
+    (0x2804, 17, Aim::Plain, 2, false),
+    (0x2804, 33, Aim::Plain, 0, false),
+    (0x2904, 33, Aim::Plain, 0, true),
+    (0x3_2000, 0, Aim::Plain, 0, true),
+    (0xf_2804, 17, Aim::Plain, 1, true),
+    (0x5_3107, 55, Aim::Rca, 0, true),
+    (0x2005, 0, Aim::Plain, 0, false),
+    (0x2c85, 0, Aim::Plain, 0, false),
+    (0x4000, 0, Aim::Plain, 0, false),
+    (0x10_2000, 0, Aim::Plain, 0, false),
+    (0x8_0000_2804, 18, Aim::Plain, 8, false),
+    (0xffff_ffff_ffff_ffff, 0, Aim::Plain, 0, false),
+];
+
 /// Commands at shapes of SD cards, also with flags of the script, and at codes that are no shape of an SD card.
 #[test]
 fn legal_at_shapes_of_sd(rt: HostRuntime) {
-    for (code, index, aim, count, legal) in [
-        (0x2001, 55, Aim::Rca, 0, false),
-        (0x2865, 12, Aim::Plain, 0, false),
-        (0x28b6, 12, Aim::Plain, 0, true),
-        (0x2805, 13, Aim::Rca, 0, false),
-        (0x3003, 7, Aim::Rca, 0, false),
-        (0x2003, 7, Aim::Rca, 0, true),
-        (0x2003, 3, Aim::Plain, 0, true),
-        (0x2004, 17, Aim::Plain, 1, false),
-        (0x2804, 17, Aim::Plain, 1, true),
-        (0x2804, 17, Aim::Plain, 2, false),
-        (0x2804, 33, Aim::Plain, 0, false),
-        (0x2904, 33, Aim::Plain, 0, true),
-        (0x3_2000, 0, Aim::Plain, 0, true),
-        (0xf_2804, 17, Aim::Plain, 1, true),
-        (0x5_3107, 55, Aim::Rca, 0, true),
-        (0x2005, 0, Aim::Plain, 0, false),
-        (0x2c85, 0, Aim::Plain, 0, false),
-        (0x4000, 0, Aim::Plain, 0, false),
-        (0x10_2000, 0, Aim::Plain, 0, false),
-        (0x8_0000_2804, 18, Aim::Plain, 8, false),
-        (0xffff_ffff_ffff_ffff, 0, Aim::Plain, 0, false),
-    ] {
+    for &(code, index, aim, count, legal) in LEGAL.iter() {
         let event = send(index, aim, 0, count);
         let found = follow::<SdTable>(Shape(code), &event).is_some();
         assert!(rt; found == legal, "command {index} at {code:x}");

@@ -34,7 +34,8 @@ each_at (x ∷ xs) zero p s e = let f : x ≡ p = cc in subst (λ (y : Point). A
 each_at (x ∷ xs) (suc i) p s e = each_at xs i p s.1 e
 
 mutual
-  of_statements : (b : Statements) (at : ℕ) (next brk : Target) (most : List ℕ) → StatementsTestNoNumber b → EachAction (points_of_statements b at next brk most)
+  of_statements : (b : Statements) (at : ℕ) (next brk : Target) (most : List ℕ) → StatementsTestNoNumber b
+      → EachAction (points_of_statements b at next brk most)
   of_statements nothing at next brk most h = tt
   of_statements (first s rest) at next brk most h =
       both (points_of_statement s at (entry rest (at + statement_count s) next) brk most) (points_of_statements rest (at + statement_count s) next brk most)

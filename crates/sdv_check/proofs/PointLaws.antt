@@ -65,7 +65,8 @@ module _ (k : Kind) (ps : List PointFacts) (place : Point) (p : PointFacts) wher
       let B : Rule = NumberRule ps in
       let C : Rule = BoundRule ps place p in
       let AB : Rule = λ pass t s ns. A pass t s ns × B pass t s ns in
-      let all = edges_both k p.facts place.action s AB C (edges_both k p.facts place.action s A B (closed.shape s m) (closed.number s m)) (closed.bound s m) in (
+      let all = edges_both k p.facts place.action s AB C (edges_both k p.facts place.action s A B (closed.shape s m) (closed.number s m))
+      (closed.bound s m) in (
         closed.legal s m,
         edges_map (λ pass t s ns. AB pass t s ns × C pass t s ns) (RuleOf rules.All ps place p)
             (λ pass t s ns r. (r.0.0, r.0.1, r.1)) k p.facts place.action s all,

@@ -46,7 +46,8 @@ abbrev pub AskedAt : Asked → Kind → List PointFacts → Point → PointFacts
 AskedAt asks.Legal k ps place p s = LegalAt k place.action s
 AskedAt (asks.Edges r) k ps place p s = EachEdge k p.facts place.action s (RuleOf r ps place p)
 AskedAt asks.EndState k ps place p s = EndsAt place.action s
-AskedAt asks.All k ps place p s = LegalAt k place.action s × EachEdge k p.facts place.action s (RuleOf rules.All ps place p)
+AskedAt asks.All k ps place p s =
+    LegalAt k place.action s × EachEdge k p.facts place.action s (RuleOf rules.All ps place p)
     × EndsAt place.action s
 
 -- the same of a source

@@ -142,17 +142,23 @@ static REFUSED: [(&str, CertFault); 61] = [
 ];
 
 #[test]
-fn refusals(rt: HostRuntime) -> Result<(), Fail> {
+fn refusals(rt: HostRuntime) {
     for &(text, fault) in REFUSED.iter() {
         refused(&rt, rt.alloc(), text, fault);
     }
-    for (fault, text) in [
-        (HEADER, "certificate fault Header"),
-        (SYNTAX_5, "certificate fault Syntax line 5"),
-        (ORDER_3, "certificate fault Order line 3"),
-        (LIMIT, "certificate fault Limit"),
-        (CertFault::Memory, "certificate fault Memory"),
-    ] {
+}
+
+static FAULT_TEXTS: [(CertFault, &str); 5] = [
+    (HEADER, "certificate fault Header"),
+    (SYNTAX_5, "certificate fault Syntax line 5"),
+    (ORDER_3, "certificate fault Order line 3"),
+    (LIMIT, "certificate fault Limit"),
+    (CertFault::Memory, "certificate fault Memory"),
+];
+
+#[test]
+fn fault_texts(rt: HostRuntime) -> Result<(), Fail> {
+    for &(fault, text) in FAULT_TEXTS.iter() {
         assert_eq!(rt; fault.to_string(rt.alloc())?.as_str(), text);
     }
     Ok(())
@@ -219,7 +225,13 @@ fn changed_texts(rt: HostRuntime) -> Result<(), Fail> {
             "at {from}"
         );
     }
-    // cut before each byte
+    Ok(())
+}
+
+// The smallest certificate, cut before each byte.
+#[test]
+fn cut_texts(rt: HostRuntime) -> Result<(), Fail> {
+    let alloc = rt.alloc();
     let mut front = Vec::new(alloc);
     let mut fault = HEADER;
     let mut line: u32 = 1;
@@ -248,19 +260,26 @@ fn many_shapes(alloc: Global, counts: [u64; 2]) -> Result<String, Fail> {
     Ok(text)
 }
 
+// How many shapes the points have, and why there is no certificate, if so.
+static COUNTS: [([u64; 2], Option<CertFault>); 3] = [
+    ([65_535, 1], None),
+    ([65_537, 0], Some(LIMIT)),
+    ([65_536, 1], Some(LIMIT)),
+];
+
 #[test]
 fn limits(rt: HostRuntime) -> Result<(), Fail> {
     let alloc = rt.alloc();
-    // shapes over all points
-    for (counts, fault) in [
-        ([65_535, 1], None),
-        ([65_537, 0], Some(LIMIT)),
-        ([65_536, 1], Some(LIMIT)),
-    ] {
+    for &(counts, fault) in COUNTS.iter() {
         let text = many_shapes(alloc, counts)?;
         assert_eq!(rt; read(alloc, &text).err(), fault, "{counts:?}");
     }
-    // the longest text
+    Ok(())
+}
+
+#[test]
+fn longest_texts(rt: HostRuntime) -> Result<(), Fail> {
+    let alloc = rt.alloc();
     for (len, fault) in [(16_777_217, LIMIT), (16_777_216, HEADER)] {
         let text = vec![in alloc; b'x'; len]?;
         assert_eq!(rt; read(alloc, str::from_utf8(&text)?).err(), Some(fault));

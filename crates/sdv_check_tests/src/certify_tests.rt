@@ -4,6 +4,7 @@ use crate::common::{CERTIFICATE, SMALLEST};
 use sdv_certify::{certify, write};
 use sdv_script::parse;
 use std::alloc::Global;
+use std::process::Abort;
 use std::str;
 use std::test::Fail;
 
@@ -79,12 +80,22 @@ fn certificates(rt: HostRuntime) -> Result<(), Fail> {
         let text = written(alloc, script)?;
         assert_eq!(rt; str::from_utf8(&text)?, wanted, "{script}");
     }
+    Ok(())
+}
+
+// The points of a certificate's text have these bounds.
+fn has_bounds(rt: &impl Abort, text: &str, wanted: &[&str]) {
+    for (line, bound) in text.lines().skip(2).zip(wanted) {
+        let known = line.split_once(" m ").expect(rt, "a point");
+        assert_eq!(rt; known.0, *bound, "{text}");
+    }
+}
+
+#[test]
+fn bounds(rt: HostRuntime) -> Result<(), Fail> {
     for &(script, wanted) in BOUNDS.iter() {
-        let text = written(alloc, script)?;
-        for (line, bound) in str::from_utf8(&text)?.lines().skip(2).zip(wanted) {
-            let known = line.split_once(" m ").expect(&rt, "a point");
-            assert_eq!(rt; known.0, *bound, "{script}");
-        }
+        let text = written(rt.alloc(), script)?;
+        has_bounds(&rt, str::from_utf8(&text)?, wanted);
     }
     Ok(())
 }

@@ -311,26 +311,40 @@ static ANSWERS: [(&str, &[&str], Result<u64, CheckFault>); 55] = [
 
 #[test]
 fn certificates(rt: HostRuntime) -> Result<(), Fail> {
-    let alloc = rt.alloc();
     for &(script, points, wanted) in ANSWERS.iter() {
-        let found = match verify(alloc, script, &certificate(alloc, points)?) {
-            Ok(accepted) => Ok(accepted.bound()),
-            Err(VerifyFault::Check(fault)) => Err(fault),
-            Err(fault) => return Err(fault.into()),
-        };
+        let text = certificate(rt.alloc(), points)?;
+        let found = answered(rt.alloc(), script, &text)?;
         assert_eq!(rt; found, wanted, "{script} {points:?}");
     }
-    for (script, text, wanted) in [
-        ("card sd\n", "", "script fault NoEnd line 2"),
-        (SMALLEST, "", "certificate fault Header"),
-        (
-            SMALLEST,
-            "sdv-cert 1\npoints 2\np 0 b 1 m",
-            "certificate fault Syntax line 3",
-        ),
-    ] {
-        let fault = verify(alloc, script, text).err().expect(&rt, "a fault");
-        assert_eq!(rt; fault.to_string(alloc)?.as_str(), wanted);
+    Ok(())
+}
+
+// The bound that is accepted, or why the certificate is refused.
+fn answered(alloc: Global, script: &str, text: &str) -> Result<Result<u64, CheckFault>, Fail> {
+    match verify(alloc, script, text) {
+        Ok(accepted) => Ok(Ok(accepted.bound())),
+        Err(VerifyFault::Check(fault)) => Ok(Err(fault)),
+        Err(fault) => Err(fault.into()),
+    }
+}
+
+// Texts of which one is no script or no certificate, and what is said.
+static OTHER_TEXTS: [(&str, &str, &str); 3] = [
+    ("card sd\n", "", "script fault NoEnd line 2"),
+    (SMALLEST, "", "certificate fault Header"),
+    (
+        SMALLEST,
+        "sdv-cert 1\npoints 2\np 0 b 1 m",
+        "certificate fault Syntax line 3",
+    ),
+];
+
+#[test]
+fn other_texts(rt: HostRuntime) -> Result<(), Fail> {
+    for &(script, text, wanted) in OTHER_TEXTS.iter() {
+        let answer = verify(rt.alloc(), script, text);
+        let fault = answer.err().expect(&rt, "a fault");
+        assert_eq!(rt; fault.to_string(rt.alloc())?.as_str(), wanted);
     }
     Ok(())
 }

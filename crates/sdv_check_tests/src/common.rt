@@ -1,5 +1,6 @@
 //! Texts and a writer that tests share.
 
+use std::alloc::Global;
 use std::io::{self, Error, ErrorKind, Write};
 
 /// A script that brings a card up to the transfer state.
@@ -58,6 +59,16 @@ pub struct Room {
     pub taken: Vec<u8>,
     /// How many it takes.
     pub room: usize,
+}
+
+impl Room {
+    /// A writer that took nothing yet.
+    pub fn new(alloc: Global, room: usize) -> Room {
+        Room {
+            taken: Vec::new(alloc),
+            room,
+        }
+    }
 }
 
 impl Write for Room {

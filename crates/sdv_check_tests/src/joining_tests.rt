@@ -72,6 +72,12 @@ fn shapes(rt: HostRuntime) -> Result<(), Fail> {
             assert_eq!(&rt; holds_shape(&facts, Shape(code)), set.contains(&code));
         }
     }
+    Ok(())
+}
+
+#[test]
+fn shapes_of_both(rt: HostRuntime) -> Result<(), Fail> {
+    let alloc = rt.alloc();
     for &(known, carried, both) in JOINED.iter() {
         let mut facts = facts_of(alloc, known, numbers(1, ZERO))?;
         let more = facts_of(alloc, carried, numbers(1, ZERO))?;

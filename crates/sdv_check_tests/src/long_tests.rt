@@ -5,10 +5,12 @@ use crate::port::{Play, PlayPort};
 use sdv_card::{Answer, DataEnd, Shape};
 use sdv_certify::CertifyFault::{Address, EndState, Illegal, TooMany};
 use sdv_certify::{CertifyFault, certify, write};
-use sdv_check::{CertFault, CheckFault, VerifyFault, check, read, verify};
+use sdv_check::{Accepted, CertFault, CheckFault, VerifyFault, check, read, verify};
+use sdv_graph::Graph;
 use sdv_run::{End, RunFault, run, run_graph};
 use sdv_script::{FaultKind, ScriptFault, parse};
 use std::alloc::{AllocError, Global};
+use std::process::Abort;
 use std::str;
 use std::test::Fail;
 
@@ -81,21 +83,34 @@ send 8 { echo { set b } else { } }
 send 8 { echo { set c } else { } }
 ";
 
+/// How many statements a script has, and why it has no certificate, if so.
+fn surveyed(alloc: Global, text: &str) -> Result<(usize, Option<CertifyFault>), Fail> {
+    let script = parse(alloc, text)?;
+    let statements = script.graph(alloc)?.len();
+    Ok((statements, certify(alloc, &script).err()))
+}
+
 #[test]
 fn certificates_of_long_scripts(rt: HostRuntime) -> Result<(), Fail> {
-    let alloc = rt.alloc();
     for &(last, tail, fault) in LAST.iter() {
-        let text = plain(alloc, last, tail)?;
-        let script = parse(alloc, &text)?;
-        assert_eq!(rt; script.graph(alloc)?.len(), MOST, "{last}");
-        assert_eq!(rt; certify(alloc, &script).err(), fault, "{last}");
+        let text = plain(rt.alloc(), last, tail)?;
+        assert_eq!(rt; surveyed(rt.alloc(), &text)?, (MOST, fault), "{last}");
     }
-    let text = long(alloc, MANY, 6, "fault stop", 1)?;
-    let found = certify(alloc, &parse(alloc, &text)?).err();
-    assert_eq!(rt; found, Some(TooMany));
-    let text = brought_up(alloc, "send 17 at block 0 { else { } } fault stop", 2)?;
-    let found = certify(alloc, &parse(alloc, &text)?).err();
-    assert_eq!(rt; found, Some(Address { point: 4_094 }));
+    Ok(())
+}
+
+#[test]
+fn certificates_of_many_shapes(rt: HostRuntime) -> Result<(), Fail> {
+    let text = long(rt.alloc(), MANY, 6, "fault stop", 1)?;
+    assert_eq!(rt; surveyed(rt.alloc(), &text)?, (MOST, Some(TooMany)));
+    Ok(())
+}
+
+#[test]
+fn certificates_behind_a_bring_up(rt: HostRuntime) -> Result<(), Fail> {
+    let text = brought_up(rt.alloc(), "send 17 at block 0 { else { } } fault stop", 2)?;
+    let fault = Some(Address { point: 4_094 });
+    assert_eq!(rt; surveyed(rt.alloc(), &text)?, (MOST, fault));
     Ok(())
 }
 
@@ -106,23 +121,43 @@ fn accepted_pair(alloc: Global) -> Result<(String, String), Fail> {
     Ok((text, certificate))
 }
 
+/// How many points a certificate has, and what the checker answers of it and a script.
+fn checked(
+    alloc: Global,
+    script: &str,
+    certificate: &str,
+) -> Result<(usize, Result<u64, CheckFault>), Fail> {
+    let known = read(alloc, certificate)?;
+    let script = parse(alloc, script)?;
+    let graph = script.graph(alloc)?;
+    Ok((known.points().len(), check(&graph, &known)))
+}
+
 #[test]
 fn long_scripts_with_certificates(rt: HostRuntime) -> Result<(), Fail> {
-    let alloc = rt.alloc();
-    let (text, certificate) = accepted_pair(alloc)?;
-    let known = read(alloc, &certificate)?;
-    assert_eq!(rt; known.points().len(), MOST);
-    let script = parse(alloc, &text)?;
-    assert_eq!(rt; check(&script.graph(alloc)?, &known), Ok(1));
+    let (text, certificate) = accepted_pair(rt.alloc())?;
+    let found = checked(rt.alloc(), &text, &certificate)?;
+    assert_eq!(rt; found, (MOST, Ok(1)));
+    Ok(())
+}
 
-    let accepted = verify(alloc, &text, &certificate)?;
+/// Runs an accepted script over a port that sends one command: whether it ends in a fault that the script names.
+fn run_once(rt: &impl Abort, alloc: Global, accepted: &Accepted<'_>) -> Result<bool, Fail> {
     let plays = [Play::Answer(Answer::Sent)];
     let mut port = PlayPort::new(&plays);
     let (mut out, mut trace) = (Vec::new(alloc), Vec::new(alloc));
-    let end = run(alloc, &accepted, &mut port, &[], &mut out, &mut trace)?;
-    assert_eq!(rt; (accepted.bound(), port.calls), (1, 1));
-    assert!(rt; matches!(end, End::Fault(_)));
+    let end = run(alloc, accepted, &mut port, &[], &mut out, &mut trace)?;
+    assert_eq!(rt; port.calls, 1);
     assert_eq!(rt; str::from_utf8(&trace)?, "CMD0 00000000 -\nfault stop\n");
+    Ok(matches!(end, End::Fault(_)))
+}
+
+#[test]
+fn runs_of_accepted_scripts(rt: HostRuntime) -> Result<(), Fail> {
+    let (text, certificate) = accepted_pair(rt.alloc())?;
+    let accepted = verify(rt.alloc(), &text, &certificate)?;
+    assert_eq!(rt; accepted.bound(), 1);
+    assert!(rt; run_once(&rt, rt.alloc(), &accepted)?);
     Ok(())
 }
 
@@ -184,50 +219,76 @@ static CERTIFICATES: [(&str, &str, VerifyFault); 10] = [
     ),
 ];
 
-/// What stands in place of the last command, and what is wrong with it.
-static SCRIPTS: [(&str, FaultKind); 7] = [
-    ("send 0 @", FaultKind::Token),
-    ("else", FaultKind::Syntax),
-    ("set g", FaultKind::Name),
-    ("send 1 { else { } }", FaultKind::Command),
-    ("send 17 { else { } }", FaultKind::Argument),
-    ("send 16 { ocr.ready { } else { } }", FaultKind::Guard),
-    ("set f set f", FaultKind::Limit),
+const LAST_COMMAND: &str = "send 0 { else { } }";
+
+/// A part of the script, what stands in its place, and what is wrong with it.
+static SCRIPTS: [(&str, &str, FaultKind); 8] = [
+    (LAST_COMMAND, "send 0 @", FaultKind::Token),
+    (LAST_COMMAND, "else", FaultKind::Syntax),
+    (LAST_COMMAND, "set g", FaultKind::Name),
+    (LAST_COMMAND, "send 1 { else { } }", FaultKind::Command),
+    (LAST_COMMAND, "send 17 { else { } }", FaultKind::Argument),
+    (
+        LAST_COMMAND,
+        "send 16 { ocr.ready { } else { } }",
+        FaultKind::Guard,
+    ),
+    (LAST_COMMAND, "set f set f", FaultKind::Limit),
+    ("fault stop", "set f", FaultKind::NoEnd),
 ];
 
 #[test]
-fn long_scripts_that_are_refused(rt: HostRuntime) -> Result<(), Fail> {
-    let alloc = rt.alloc();
-    let (text, certificate) = accepted_pair(alloc)?;
+fn long_certificates_that_are_refused(rt: HostRuntime) -> Result<(), Fail> {
+    let (text, certificate) = accepted_pair(rt.alloc())?;
     for &(old, new, fault) in CERTIFICATES.iter() {
-        let other = certificate.replace(alloc, old, new)?;
-        assert_eq!(rt; refused(alloc, &text, &other), Some(fault), "{new}");
+        let other = certificate.replace(rt.alloc(), old, new)?;
+        assert_eq!(rt; refused(rt.alloc(), &text, &other), Some(fault), "{new}");
     }
-    for &(new, kind) in SCRIPTS.iter() {
-        let other = text.replace(alloc, "send 0 { else { } }", new)?;
+    Ok(())
+}
+
+#[test]
+fn long_scripts_that_are_refused(rt: HostRuntime) -> Result<(), Fail> {
+    let (text, certificate) = accepted_pair(rt.alloc())?;
+    for &(old, new, kind) in SCRIPTS.iter() {
+        let other = text.replace(rt.alloc(), old, new)?;
         let fault = VerifyFault::Script(ScriptFault { kind, line: 4_096 });
-        assert_eq!(rt; refused(alloc, &other, &certificate), Some(fault), "{new}");
+        assert_eq!(rt;
+            refused(rt.alloc(), &other, &certificate),
+            Some(fault),
+            "{new}"
+        );
     }
-    let open = text.replace(alloc, "fault stop", "set f")?;
-    let (kind, line) = (FaultKind::NoEnd, 4_096);
-    let fault = VerifyFault::Script(ScriptFault { kind, line });
-    assert_eq!(rt; refused(alloc, &open, &certificate), Some(fault));
+    Ok(())
+}
 
-    let illegal = text.replace(alloc, "send 0 {", "send 2 {")?;
+#[test]
+fn last_commands_that_are_illegal(rt: HostRuntime) -> Result<(), Fail> {
+    let (text, certificate) = accepted_pair(rt.alloc())?;
+    let illegal = text.replace(rt.alloc(), "send 0 {", "send 2 {")?;
     let fault = VerifyFault::Check(CheckFault::Illegal(4_094));
-    assert_eq!(rt; refused(alloc, &illegal, &certificate), Some(fault));
-    let stops = certified(alloc, &plain(alloc, "fault stop", 1)?)?;
-    let fault = VerifyFault::Check(CheckFault::EndState(4_095));
-    let ends = plain(alloc, "done", 1)?;
-    assert_eq!(rt; refused(alloc, &ends, &stops), Some(fault));
+    assert_eq!(rt; refused(rt.alloc(), &illegal, &certificate), Some(fault));
+    Ok(())
+}
 
+#[test]
+fn last_statements_with_the_certificate_of_others(rt: HostRuntime) -> Result<(), Fail> {
+    let alloc = rt.alloc();
+    let stops = certified(alloc, &plain(alloc, "fault stop", 1)?)?;
+    let ends = plain(alloc, "done", 1)?;
+    let fault = VerifyFault::Check(CheckFault::EndState(4_095));
+    assert_eq!(rt; refused(alloc, &ends, &stops), Some(fault));
+    Ok(())
+}
+
+#[test]
+fn last_reads_with_the_certificate_of_others(rt: HostRuntime) -> Result<(), Fail> {
+    let alloc = rt.alloc();
     let asks = brought_up(alloc, "send 13 { else { } } fault stop", 2)?;
+    let certificate = certified(alloc, &asks)?;
     let reads = brought_up(alloc, "send 17 at block 0 { else { } } fault stop", 2)?;
     let fault = VerifyFault::Check(CheckFault::Address(4_094));
-    assert_eq!(rt;
-        refused(alloc, &reads, &certified(alloc, &asks)?),
-        Some(fault)
-    );
+    assert_eq!(rt; refused(alloc, &reads, &certificate), Some(fault));
     Ok(())
 }
 
@@ -258,22 +319,21 @@ static ENDS: [(&str, usize, usize, Result<(), RunFault>); 5] = [
 #[test]
 fn runs_of_long_scripts(rt: HostRuntime) -> Result<(), Fail> {
     let alloc = rt.alloc();
-    let plays = [Play::R1(17, 0x900), Play::Data(DataEnd::Ok, 0x5a)];
     for &(last, tail, room, wanted) in ENDS.iter() {
         let text = plain(alloc, last, tail)?;
         let script = parse(alloc, &text)?;
         let graph = script.graph(alloc)?;
-        let mut port = PlayPort::new(&plays);
-        let mut out = Room {
-            taken: Vec::new(alloc),
-            room: 511,
-        };
-        let mut trace = Room {
-            taken: Vec::new(alloc),
-            room,
-        };
-        let ended = run_graph(alloc, &graph, &mut port, &[], &mut out, &mut trace);
-        assert!(rt; ended.map(|_| ()) == wanted, "{last}");
+        assert!(rt; ended(alloc, &graph, room) == wanted, "{last}");
     }
     Ok(())
+}
+
+/// How a run ends over a port that answers one read, where the trace takes so many bytes.
+fn ended(alloc: Global, graph: &Graph<'_>, room: usize) -> Result<(), RunFault> {
+    let plays = [Play::R1(17, 0x900), Play::Data(DataEnd::Ok, 0x5a)];
+    let mut port = PlayPort::new(&plays);
+    let mut out = Room::new(alloc, 511);
+    let mut trace = Room::new(alloc, room);
+    let end = run_graph(alloc, graph, &mut port, &[], &mut out, &mut trace);
+    end.map(|_| ())
 }

@@ -7,9 +7,12 @@ use sdv_certify::write;
 use sdv_check::read;
 use sdv_facts::{Certificate, Facts, Numbers, PointFacts, VarFacts};
 use std::alloc::{AllocError, Global};
-use std::io::ErrorKind;
+use std::io::{self, ErrorKind};
 use std::str;
 use std::test::Fail;
+
+const ONE_POINT: &str =
+    "sdv-cert 1\npoints 1\np 0 b 6 12 8 m 10 v 0 9 - v 3 5 7 s 0000000000002c04\n";
 
 // A certificate with a point in two loops, with two variables and one shape.
 fn one_point(alloc: Global) -> Result<Certificate, AllocError> {
@@ -33,17 +36,27 @@ fn one_point(alloc: Global) -> Result<Certificate, AllocError> {
 }
 
 #[test]
-fn written_and_read(rt: HostRuntime) -> Result<(), Fail> {
+fn written(rt: HostRuntime) -> Result<(), Fail> {
     let alloc = rt.alloc();
     let mut out = Vec::new(alloc);
     write(&one_point(alloc)?, &mut out)?;
-    let text = "sdv-cert 1\npoints 1\np 0 b 6 12 8 m 10 v 0 9 - v 3 5 7 s 0000000000002c04\n";
-    assert_eq!(rt; str::from_utf8(&out)?, text);
-    for text in [text, CERTIFICATE, WIDE, "sdv-cert 1\npoints 0\n"] {
-        let certificate = read(alloc, text)?;
-        let mut out = Vec::new(alloc);
-        write(&certificate, &mut out)?;
-        assert_eq!(rt; str::from_utf8(&out)?, text);
+    assert_eq!(rt; str::from_utf8(&out)?, ONE_POINT);
+    Ok(())
+}
+
+// The text of the certificate that is read from a text.
+fn written_again(alloc: Global, text: &str) -> Result<Vec<u8>, Fail> {
+    let certificate = read(alloc, text)?;
+    let mut out = Vec::new(alloc);
+    write(&certificate, &mut out)?;
+    Ok(out)
+}
+
+#[test]
+fn read_and_written_again(rt: HostRuntime) -> Result<(), Fail> {
+    for text in [ONE_POINT, CERTIFICATE, WIDE, "sdv-cert 1\npoints 0\n"] {
+        let again = written_again(rt.alloc(), text)?;
+        assert_eq!(rt; str::from_utf8(&again)?, text);
     }
     Ok(())
 }
@@ -53,19 +66,25 @@ fn writers_that_fail(rt: HostRuntime) -> Result<(), Fail> {
     let alloc = rt.alloc();
     let certificate = read(alloc, WIDE)?;
     for room in 0..WIDE.len() + 1 {
-        let taken = Vec::new(alloc);
-        let mut out = Room { taken, room };
         let wanted = if room == WIDE.len() {
             None
         } else {
             Some(ErrorKind::StorageFull)
         };
-        let found = match write(&certificate, &mut out) {
-            Ok(()) => None,
-            Err(error) => Some(error.kind()),
-        };
-        assert!(rt; found == wanted, "{room} bytes");
+        let mut out = Room::new(alloc, room);
+        assert!(rt;
+            kind_of(write(&certificate, &mut out)) == wanted,
+            "{room} bytes"
+        );
         assert_eq!(rt; out.taken.as_slice(), &WIDE.as_bytes()[..room]);
     }
     Ok(())
+}
+
+// Why a writer failed, if it did.
+fn kind_of(written: io::Result<()>) -> Option<ErrorKind> {
+    match written {
+        Ok(()) => None,
+        Err(error) => Some(error.kind()),
+    }
 }

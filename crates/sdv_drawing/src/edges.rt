@@ -62,7 +62,8 @@ fn put_case(text: &mut Text, points: usize, from: usize, case: &Case) -> Result<
 
 /// Adds the lines of the cases of a command.
 fn put_cases(text: &mut Text, points: usize, from: usize, cases: &[Case]) -> Result<(), AllocError>
-    ensures { OnOk result (text.new.items ≡ text.old.items ++ flat_map (case_line points from) (map seen_case cases.now)) }
+    ensures { OnOk result
+        (text.new.items ≡ text.old.items ++ flat_map (case_line points from) (map seen_case cases.now)) }
 {
     for case in cases {
         put_case(text, points, from, case)?;

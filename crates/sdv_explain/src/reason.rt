@@ -5,7 +5,7 @@ ghost use Rattle.sdv_card.specs.LegalShapes.{row_legal, settled_legal, order_leg
 ghost use Rattle.sdv_card.specs.RowRules.{length_allows, erase_allows, preset_allows};
 ghost use Rattle.sdv_card.specs.Takes.{taken_as_of};
 
-use sdv_card::laws::{
+use sdv_card::state_table::{
     Rows, give_legal, is_shape, order, own_target, recv_legal, recv_reg_legal, taken_as, wait_legal,
 };
 use sdv_card::{EraseStage, Event, Fields, Order, Row, Shape, State, TakenAs, Transfer};

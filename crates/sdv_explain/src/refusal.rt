@@ -13,18 +13,18 @@ use crate::visit::Visit;
 use sdv_card::{Event, Kind, Shape};
 use sdv_certify::CertifyFault;
 use sdv_emmc::EmmcTable;
-use sdv_facts::{Facts, PointFacts, ends_at, event_of_phase, has_flag};
+use sdv_facts::{Facts, PointFacts, ends_at, event_of_phase};
 use sdv_graph::{Action, Address, Change, Condition, Graph, Unit};
 use sdv_sd::SdTable;
 use std::alloc::AllocError;
 
 /// The unit of an address is that of the shape.
 fn fits_unit(unit: Unit, shape: Shape) -> bool {
-    let has_blocks = shape.0 / 1024 % 2 == 1;
+    let has_blocks = shape.has_block_addresses();
     match unit {
         Unit::Block => has_blocks,
         Unit::Byte => !has_blocks,
-        Unit::By(flag) => has_flag(shape, flag) == has_blocks,
+        Unit::By(flag) => shape.flag(flag) == has_blocks,
     }
 }
 

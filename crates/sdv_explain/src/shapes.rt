@@ -4,9 +4,6 @@ use crate::text::{Text, put, put_numbered};
 use sdv_card::{EraseStage, Fields, Shape, State, Transfer};
 use std::alloc::{AllocError, Global};
 
-/// The bits of a shape that vary on one line: its unit, its block length, and the script's flags.
-const VARYING: u64 = 0x000f_0c00;
-
 /// The word of a state, as scripts write it.
 pub fn state_word(state: State) -> &'static str {
     match state {
@@ -88,21 +85,11 @@ fn put_unit(text: &mut Text, fields: &Fields) -> Result<(), AllocError> {
     }
 }
 
-/// The flag in a place is set.
-fn is_set(flags: u8, place: usize) -> bool {
-    match place {
-        0 => flags % 2 == 1,
-        1 => flags / 2 % 2 == 1,
-        2 => flags / 4 % 2 == 1,
-        _ => flags / 8 % 2 == 1,
-    }
-}
-
 /// Adds the names of the flags that are set.
-fn put_flags(text: &mut Text, flags: u8, names: &[&[u8]]) -> Result<(), AllocError> {
+fn put_flags(text: &mut Text, shape: Shape, names: &[&[u8]]) -> Result<(), AllocError> {
     let mut sign = " [";
     for (place, name) in names.iter().enumerate() {
-        if is_set(flags, place) {
+        if shape.flag(place) {
             put(text, sign)?;
             text.extend_from_slice(name)?;
             sign = " ";
@@ -122,12 +109,19 @@ pub fn put_shape(text: &mut Text, shape: Shape, names: &[&[u8]]) -> Result<(), A
     put_state(text, &fields)?;
     put(text, ": ")?;
     put_unit(text, &fields)?;
-    put_flags(text, fields.flags, names)
+    put_flags(text, shape, names)
 }
 
-/// What a shape has in common with those on its line.
-fn line_of(shape: Shape) -> u64 {
-    shape.0 & !VARYING
+/// What a shape has in common with those on its line: all but its unit, its block length and the script's flags.
+fn line_of(shape: Shape) -> Option<u64> {
+    let fields = shape.decode()?;
+    let line = Fields {
+        block_unit: false,
+        length_512: false,
+        flags: 0,
+        ..fields
+    };
+    Some(line.encode().0)
 }
 
 /// Adds a shape behind another one: what varies, where both stand on one line, and else a line of its own.
@@ -141,7 +135,7 @@ fn put_behind(
         (Some(last), Some(fields)) if line_of(last) == line_of(shape) => {
             put(text, "; ")?;
             put_unit(text, &fields)?;
-            put_flags(text, fields.flags, names)
+            put_flags(text, shape, names)
         }
         (Some(_), _) => {
             put(text, "\n    ")?;

@@ -18,8 +18,8 @@ use Rattle.sdv_facts.specs.Facts.{Facts, var}
 use Rattle.sdv_facts.specs.FactsHold.{GapHolds, NumbersHold}
 use Rattle.sdv_graph.specs.ValueOfLet.{number}
 use Rattle.sdv_graph.specs.AddressSent.{position_of, sends_block}
-use Rattle.sdv_facts.specs.AfterLet.{has_block_unit}
-use Rattle.sdv_facts.specs.AddressFits.{has_flag, unit_fits, gap_allows, variable_fits, position_fits, address_fits}
+use Rattle.sdv_card.specs.ShapeBits.{has_block_addresses, has_flag}
+use Rattle.sdv_facts.specs.AddressFits.{unit_fits, gap_allows, variable_fits, position_fits, address_fits}
 use Rattle.sdv_facts.specs.Keeps.{IsOnCard}
 use Rattle.sdv_facts.proofs.UnitLaws.{both, all-member, negated, unit_shown, flag_shown}
 
@@ -37,11 +37,11 @@ either_true false b e = inr e
 unit_is : (k : Kind) (c : Card) (h : Host) (shapes : List Shape) (unit : AddressUnit) → IsPair k c h → May shapes (record { 0 = pair_code c h })
     → unit_fits shapes unit ≡ true →
     sends_block h unit ≡ c.block_unit
-unit_is k c h shapes Block pair shape e = sym (all-member has_block_unit shapes _ e shape) ∙ unit_shown k c h pair
-unit_is k c h shapes Byte pair shape e = sym (negated _ (all-member (λ s. not (has_block_unit s)) shapes _ e shape)) ∙ unit_shown k c h pair
+unit_is k c h shapes Block pair shape e = sym (all-member has_block_addresses shapes _ e shape) ∙ unit_shown k c h pair
+unit_is k c h shapes Byte pair shape e = sym (negated _ (all-member (λ s. not (has_block_addresses s)) shapes _ e shape)) ∙ unit_shown k c h pair
 unit_is k c h shapes (By flag) pair shape e =
-    let same : has_flag (record { 0 = pair_code c h }) flag ≡ has_block_unit (record { 0 = pair_code c h })
-    = same_bools _ _ (all-member (λ s. beq (has_flag s flag) (has_block_unit s)) shapes _ e shape) in
+    let same : has_flag (record { 0 = pair_code c h }) flag ≡ has_block_addresses (record { 0 = pair_code c h })
+    = same_bools _ _ (all-member (λ s. beq (has_flag s flag) (has_block_addresses s)) shapes _ e shape) in
     sym (flag_shown k c h pair flag) ∙ (same ∙ unit_shown k c h pair)
 
 gap_room : (g : Option ℕ) (n x capacity : ℕ) → gap_allows g n ≡ true → GapHolds g x capacity → x + n ≤ capacity

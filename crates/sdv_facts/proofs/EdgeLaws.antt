@@ -17,7 +17,7 @@ use Rattle.sdv_facts.specs.declared.numbers.Numbers.{Numbers}
 use Rattle.sdv_facts.specs.declared.test.Test.{Test}
 use Rattle.sdv_facts.specs.declared.test.Test.TheVariants.{AtLeast, Below}
 use Rattle.sdv_facts.specs.Facts.{Facts}
-use Rattle.sdv_facts.specs.AddressFits.{has_flag}
+use Rattle.sdv_card.specs.ShapeBits.{has_flag}
 use Rattle.sdv_facts.specs.AfterLet.{after_let}
 use Rattle.sdv_facts.specs.AfterTest.{after_test}
 use Rattle.sdv_facts.specs.Bounds.{BoundFalls, commands_of}

@@ -7,9 +7,8 @@ use Rattle.sdv_card.specs.Card.{Card}
 use Rattle.sdv_card.specs.Code.{code_of}
 use Rattle.sdv_card.specs.Host.{Host}
 use Rattle.sdv_card.specs.Shapes.{view, pair_code, IsPair}
-use Rattle.sdv_graph.specs.AddressSent.{is_flag_set}
-use Rattle.sdv_graph.specs.Conditions.{put_bit, with_flag}
-use Rattle.sdv_facts.specs.Edges.{with_flag_shown}
+use Rattle.sdv_card.specs.ShapeBits.{is_flag_set, put_bit, with_flag_shown}
+use Rattle.sdv_graph.specs.Conditions.{with_flag}
 use Rattle.sdv_facts.proofs.UnitLaws.{flag_shown}
 
 power : (f : ℕ) → f < 4 → 2 ^ (16 + f) ≡ 65536 * 2 ^ f

@@ -23,7 +23,8 @@ use Rattle.sdv_facts.specs.Facts.{Facts, var, with_var}
 use Rattle.sdv_facts.specs.FactsHold.{VarHolds, FactsHold, Carries}
 use Rattle.sdv_graph.specs.ValueOfLet.{number, with_number, value_of_atom, in_range, changed}
 use Rattle.sdv_facts.specs.Gaps.{gap_less, gap_more}
-use Rattle.sdv_facts.specs.AfterLet.{has_block_unit, all_block_unit, all_byte_unit, csd_tells, ext_csd_tells, register_facts, atom_facts, changed_facts, after_let}
+use Rattle.sdv_facts.specs.AfterLet.{all_block_unit, all_byte_unit, csd_tells, ext_csd_tells, register_facts, atom_facts, changed_facts, after_let}
+use Rattle.sdv_card.specs.ShapeBits.{has_block_addresses}
 use Rattle.sdv_facts.specs.Keeps.{MayStandIn, IsHonest, KeptByLet}
 use Rattle.sdv_facts.proofs.GapLaws.{less_holds, more_holds}
 use Rattle.sdv_facts.proofs.RegisterLaws.{csd_small, sec_count_small, told_by_csd, told_by_ext_csd}
@@ -41,10 +42,10 @@ module _ (k : Kind) (c : Card) (h : Host) (honest : IsHonest k c h) (shapes : Li
   told = subst (λ kind. told_blocks kind c.block_unit c.csd c.ext_csd ≡ c.capacity) (sym honest.pair.kind) honest.profile.told
 
   byte_unit : all_byte_unit shapes ≡ true → c.block_unit ≡ false
-  byte_unit e = sym (unit_shown k c h honest.pair) ∙ negated _ (all-member (λ s. not (has_block_unit s)) shapes _ e shape)
+  byte_unit e = sym (unit_shown k c h honest.pair) ∙ negated _ (all-member (λ s. not (has_block_addresses s)) shapes _ e shape)
 
   block_unit : all_block_unit shapes ≡ true → c.block_unit ≡ true
-  block_unit e = sym (unit_shown k c h honest.pair) ∙ all-member has_block_unit shapes _ e shape
+  block_unit e = sym (unit_shown k c h honest.pair) ∙ all-member has_block_addresses shapes _ e shape
 
   csd_unit : csd_tells k shapes ≡ true → k ≡ Emmc → c.block_unit ≡ false
   csd_unit tells e = byte_unit (subst (λ kind. csd_tells kind shapes ≡ true) e tells)

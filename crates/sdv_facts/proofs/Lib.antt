@@ -2,7 +2,6 @@ pub mod AddressLaws
 pub mod ArgumentLaws
 pub mod EdgeLaws
 pub mod FlagLaws
-pub mod Flags
 mod GapLaws
 pub mod Headline
 pub mod InternLaws

@@ -92,7 +92,8 @@ set_sound : (n : ℕ) (ns : Numbers) (x : ℕ) (o : Option VarFacts) → Numbers
 set_sound n ns x None s h = tt
 set_sound n ns x (Some v) s h = with_sound n ns x ns.m v s h s.some s.limits.m
 
-pub let_sound : (k : Kind) (known : Facts) (l : Let) (n : ℕ) → AtomInLimits l.atom → NumbersSound n known.numbers → IfSome (after_let k known l) (NumbersSound n)
+pub let_sound : (k : Kind) (known : Facts) (l : Let) (n : ℕ) → AtomInLimits l.atom → NumbersSound n known.numbers
+    → IfSome (after_let k known l) (NumbersSound n)
 let_sound k known l n a s = set_sound n known.numbers l.target _ s (changed_small l.change _ (atom_small k known l.atom a s.limits))
 
 least_small : (g : Option ℕ) (lo m : ℕ) → m ≤ 2 ^ 40 → least_by g lo m ≤ 2 ^ 40
@@ -111,7 +112,8 @@ at_least_sound true n ns x k h s =
     (least_more (var ns x).gap (max (var ns x).lo k) ns.m s.some) (least_small (var ns x).gap (max (var ns x).lo k) ns.m s.limits.m)
 at_least_sound false n ns x k h s = tt
 
-below_sound : (b : Bool) (n : ℕ) (ns : Numbers) (x k : ℕ) → NumbersSound n ns → IfSome (cond b (Some (with_var ns x (lowered (var ns x) k))) None) (NumbersSound n)
+below_sound : (b : Bool) (n : ℕ) (ns : Numbers) (x k : ℕ) → NumbersSound n ns
+    → IfSome (cond b (Some (with_var ns x (lowered (var ns x) k))) None) (NumbersSound n)
 below_sound true n ns x k s =
     let v = at_small ns.vars.items x s.limits.vars in
     with_sound n ns x ns.m (lowered (var ns x) k) s (record { lo = v.lo; hi = omega (arith, v.hi); gap = v.gap }) s.some s.limits.m

@@ -47,7 +47,8 @@ use Rattle.sdv_graph.specs.declared.tree.Condition.TheVariants as conditions
 use Rattle.sdv_graph.specs.declared.tree.Let.{Let}
 use Rattle.sdv_graph.specs.declared.tree.Phase.{Phase}
 use Rattle.sdv_graph.specs.declared.tree.Phase.TheVariants as kinds
-use Rattle.sdv_graph.specs.AddressSent.{position_of_command, address_of_command, address_sent, position_of, is_flag_set}
+use Rattle.sdv_graph.specs.AddressSent.{position_of_command, address_of_command, address_sent, position_of}
+use Rattle.sdv_card.specs.ShapeBits.{is_flag_set, with_flag_shown}
 use Rattle.sdv_graph.specs.Conditions.{condition_holds, with_flag}
 use Rattle.sdv_graph.specs.Graph.{Graph}
 use Rattle.sdv_graph.specs.Nested.{Pass, Same, Again, Over, InBox, Turned, Nested}
@@ -65,7 +66,7 @@ use Rattle.sdv_facts.specs.AfterTest.{after_test, TestHolds}
 use Rattle.sdv_facts.specs.Beside.{commands_in}
 use Rattle.sdv_facts.specs.Bounds.{bound, commands_of}
 use Rattle.sdv_facts.specs.Closed.{PointsMatch, PointClosed, Closed, AddressKnown, EndsAt}
-use Rattle.sdv_facts.specs.Edges.{with_flag_shown, EachOutcome, EachTest, EachCondition, EachEdge, event_of_phase, well_or}
+use Rattle.sdv_facts.specs.Edges.{EachOutcome, EachTest, EachCondition, EachEdge, event_of_phase, well_or}
 use Rattle.sdv_facts.specs.FactsHold.{VarHolds, NumbersHold, FactsHold, Carries}
 use Rattle.sdv_facts.specs.Keeps.{MayStandIn, IsHonest}
 use Rattle.sdv_facts.specs.Stands.{GuardsSuit, CasesSuit, ActionSuits, EachActionSuits, Arrived, HaltsWell, MovesWell, PointsStepWell, StepsWell}
@@ -115,7 +116,7 @@ has_point (x ∷ xs) (suc i) lt = has_point xs i (omega arith)
 -- THE HOST
 
 -- no event changes the script's variables and flags
-order_numbers : (o : Option Order) (answer : Answer) (h : Host) → (host_after_order o answer h).numbers ≡ h.numbers
+pub order_numbers : (o : Option Order) (answer : Answer) (h : Host) → (host_after_order o answer h).numbers ≡ h.numbers
 order_numbers None answer h = refl
 order_numbers (Some order) answer h = refl
 
@@ -468,7 +469,8 @@ module _ (g : Graph) (ps : List PointFacts) (laws : Laws g.kind) (points : Point
   halts_well (Failed name) place p c h is closed holds pair = tt
   halts_well Open place p c h is closed holds pair = tt
 
-  action_well : (action : Action) (most : List ℕ) (p : PointFacts) (ts : List ℕ) (c : Card) (h : Host) → PointClosed g.kind ps (record { action = action; most = most }) p
+  action_well : (action : Action) (most : List ℕ) (p : PointFacts) (ts : List ℕ) (c : Card) (h : Host)
+      → PointClosed g.kind ps (record { action = action; most = most }) p
       → ActionSuits g.kind action → Here (record { action = action; most = most }) p ts c h →
       EachEdge g.kind p.facts action (shape c h) (Reaches g.points ps (record { action = action; most = most }) p)
       → MovesWell g ps (bound p ts) (action_move g.kind action ts h) c

@@ -55,7 +55,8 @@ action_at k (heads n body other) e l = tt
 action_at k (jumps t) e l = tt
 action_at k (stops last) e l = tt
 
-actions_at : (k : Kind) (ps : List Point) → all_suit k ps ≡ true → all_keep_limits ps ≡ true → (i : ℕ) (p : Point) → slice_get ps i ≡ Some p → ActionSuits k p.action
+actions_at : (k : Kind) (ps : List Point) → all_suit k ps ≡ true → all_keep_limits ps ≡ true → (i : ℕ) (p : Point) → slice_get ps i ≡ Some p
+    → ActionSuits k p.action
 actions_at k [] e l i p is = absurd (cc)
 actions_at k (q ∷ ps) e l zero p is =
     let same : q ≡ p = cc in

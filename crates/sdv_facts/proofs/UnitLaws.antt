@@ -7,9 +7,7 @@ use Rattle.sdv_card.specs.Host.{Host}
 use Rattle.sdv_card.specs.Code.{digits}
 use Rattle.sdv_card.specs.Shapes.{view, pair_code, IsPair}
 use Rattle.sdv_card.proofs.Digits.{digits_law}
-use Rattle.sdv_facts.specs.AfterLet.{has_block_unit}
-use Rattle.sdv_graph.specs.AddressSent.{is_flag_set}
-use Rattle.sdv_facts.specs.AddressFits.{has_flag}
+use Rattle.sdv_card.specs.ShapeBits.{has_block_addresses, is_flag_set, has_flag}
 
 pub both : (a b : Bool) → a && b ≡ true → (a ≡ true) × (b ≡ true)
 both true b e = (refl, e)
@@ -31,7 +29,7 @@ module _ (k : Kind) (c : Card) (h : Host) (pair : IsPair k c h) where
   shown : digits (pair_code c h) ≡ view c h
   shown = digits_law (view c h) pair.flags pair.card.preset
 
-  pub unit_shown : has_block_unit (record { 0 = pair_code c h }) ≡ c.block_unit
+  pub unit_shown : has_block_addresses (record { 0 = pair_code c h }) ≡ c.block_unit
   unit_shown = ap (λ f. f.block_unit) shown
 
   pub flag_shown : (flag : ℕ) → has_flag (record { 0 = pair_code c h }) flag ≡ is_flag_set h.flags flag

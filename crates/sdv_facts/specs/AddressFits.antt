@@ -3,7 +3,7 @@
 use Rattle.std.specs.Prelude.{◌+◌, ℕ, List, Bool, false, ◌&&◌, ◌||◌, nat_le, Option, Some, None}
 use mathlib.Core.Bool.{beq}
 use Rattle.sdv_card.specs.declared.shape.Shape.{Shape}
-use Rattle.sdv_card.specs.Code.{digits}
+use Rattle.sdv_card.specs.ShapeBits.{has_block_addresses, has_flag}
 use Rattle.sdv_card.specs.Lists.{all}
 use Rattle.sdv_graph.specs.declared.tree.Address.{Address}
 use Rattle.sdv_graph.specs.declared.tree.Unit.{Unit as AddressUnit}
@@ -12,18 +12,13 @@ use Rattle.sdv_graph.specs.declared.tree.Position.{Position}
 use Rattle.sdv_graph.specs.declared.tree.Position.TheVariants.{Number, Variable}
 use Rattle.sdv_facts.specs.declared.numbers.Numbers.{Numbers}
 use Rattle.sdv_facts.specs.Facts.{Facts, var}
-use Rattle.sdv_facts.specs.AfterLet.{has_block_unit, all_block_unit, all_byte_unit}
-use Rattle.sdv_graph.specs.AddressSent.{is_flag_set}
-
--- the shape has the flag in this place set
-abbrev pub has_flag : Shape → ℕ → Bool
-has_flag s flag = is_flag_set (digits s.0).flags flag
+use Rattle.sdv_facts.specs.AfterLet.{all_block_unit, all_byte_unit}
 
 -- the unit is that of every shape
 abbrev pub unit_fits : List Shape → AddressUnit → Bool
 unit_fits shapes Block = all_block_unit shapes
 unit_fits shapes Byte = all_byte_unit shapes
-unit_fits shapes (By flag) = all (λ s. beq (has_flag s flag) (has_block_unit s)) shapes
+unit_fits shapes (By flag) = all (λ s. beq (has_flag s flag) (has_block_addresses s)) shapes
 
 -- from a number with this gap on there are n blocks
 abbrev pub gap_allows : Option ℕ → ℕ → Bool

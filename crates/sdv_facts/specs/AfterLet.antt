@@ -5,7 +5,7 @@ use Rattle.std.specs.Prelude.{◌+◌, ◌-◌, ◌^◌, ℕ, List, Bool, true, 
 use Rattle.sdv_registers.specs.declared.kind.Kind.{Kind}
 use Rattle.sdv_registers.specs.declared.kind.Kind.TheVariants.{Sd, Emmc}
 use Rattle.sdv_card.specs.declared.shape.Shape.{Shape}
-use Rattle.sdv_card.specs.Code.{digits}
+use Rattle.sdv_card.specs.ShapeBits.{has_block_addresses}
 use Rattle.sdv_card.specs.Lists.{all}
 use Rattle.sdv_graph.specs.declared.tree.Let.{Let}
 use Rattle.sdv_graph.specs.declared.tree.Atom.{Atom}
@@ -18,15 +18,11 @@ use Rattle.sdv_facts.specs.declared.numbers.Numbers.{Numbers}
 use Rattle.sdv_facts.specs.Facts.{Facts, var, with_var}
 use Rattle.sdv_facts.specs.Gaps.{gap_less, gap_more}
 
--- the shape has block addresses
-abbrev pub has_block_unit : Shape → Bool
-has_block_unit s = (digits s.0).block_unit
-
 abbrev pub all_block_unit : List Shape → Bool
-all_block_unit shapes = all has_block_unit shapes
+all_block_unit shapes = all has_block_addresses shapes
 
 abbrev pub all_byte_unit : List Shape → Bool
-all_byte_unit shapes = all (λ s. not (has_block_unit s)) shapes
+all_byte_unit shapes = all (λ s. not (has_block_addresses s)) shapes
 
 -- the CSD tells the capacity of each SD card, and of a byte-addressed e.MMC device
 abbrev pub csd_tells : Kind → List Shape → Bool

@@ -38,4 +38,3 @@ pub use setting::after_let;
 pub use statement::{address_holds, ends_at, event_of_phase, legal_at};
 pub use steps::Steps;
 pub use test::Test;
-pub use units::{has_flag, with_flag};

@@ -9,7 +9,7 @@ use sdv_block::Request;
 use sdv_fuse::{Call, FuseImage};
 use sdv_registers::Kind;
 use sdv_sim::{CardDesc, MemImage};
-use std::alloc::Global;
+use std::alloc::{AllocError, Global};
 use std::process::Abort;
 use std::test::Fail;
 
@@ -341,49 +341,65 @@ static ROWS: [Row; 28] = [
 /// What comes of a run where one call fails, and what is left of its image.
 #[test]
 fn one_call_fails(rt: HostRuntime) -> Result<(), Fail> {
-    let alloc = rt.alloc();
-    for (row, (number, failing, good, line, behind, end, bytes, received)) in ROWS
-        .iter()
-        .enumerate()
-    {
-        let worked = WORKED.get(*number).ok_or("no such run")?;
-        let (_, _, bring_up, rest) = *worked;
-        let lines = format!(in alloc; "{bring_up}{rest}")?;
-        let (word, at) = *line;
-        let wanted = cut_at(alloc, &lines, place_of(&lines, word, at), behind)?;
-        let (outcome, image) = failed(alloc, worked, *failing, *good)?;
-        assert_eq!(&rt; outcome.end.as_str(), *end, "row {row}");
-        assert_eq!(&rt; outcome.lines.as_str(), wanted.as_str(), "row {row}");
-        assert_eq!(&rt;
-            outcome.output.len(),
-            received.saturating_mul(512),
-            "row {row}"
-        );
-        assert_eq!(&rt; written(&rt, &image), *bytes, "row {row}");
+    for (row, wanted) in ROWS.iter().enumerate() {
+        comes_out(&rt, rt.alloc(), row, wanted)?;
     }
     Ok(())
+}
+
+/// A run comes out as its row says.
+fn comes_out(rt: &impl Abort, alloc: Global, row: usize, wanted: &Row) -> Result<(), Fail> {
+    let (number, failing, good, _, _, end, bytes, received) = *wanted;
+    let worked = WORKED.get(number).ok_or("no such run")?;
+    let lines = lines_of(alloc, worked, wanted)?;
+    let (outcome, image) = failed(alloc, worked, failing, good)?;
+    let output = outcome.output.len();
+    assert_eq!(rt;
+        (outcome.end.as_str(), output),
+        (end, received.saturating_mul(512)),
+        "row {row}"
+    );
+    assert_eq!(rt; outcome.lines.as_str(), lines.as_str(), "row {row}");
+    assert_eq!(rt; written(rt, &image), bytes, "row {row}");
+    Ok(())
+}
+
+/// The lines of a run up to the one at which it ends, and those in its place.
+fn lines_of(alloc: Global, worked: &Worked, wanted: &Row) -> Result<String, AllocError> {
+    let (_, _, bring_up, rest) = *worked;
+    let (_, _, _, (word, at), behind, ..) = *wanted;
+    let lines = format!(in alloc; "{bring_up}{rest}")?;
+    cut_at(alloc, &lines, place_of(&lines, word, at), behind)
 }
 
 /// Each line of each trace fails in turn: those before it were printed.
 #[test]
 fn each_line_fails(rt: HostRuntime) -> Result<(), Fail> {
     let alloc = rt.alloc();
-    for (number, worked) in WORKED.iter().enumerate() {
+    for worked in WORKED.iter() {
         let (_, _, bring_up, rest) = *worked;
         let lines = format!(in alloc; "{bring_up}{rest}")?;
         for good in 0..21 {
-            let place = place_of(&lines, "", good);
-            let end = if place.is_some() { "Trace" } else { "done" };
-            let wanted = cut_at(alloc, &lines, place, "")?;
-            let (outcome, image) = failed(alloc, worked, Trace, good)?;
-            assert_eq!(&rt; outcome.end.as_str(), end, "{number}, line {good}");
-            assert_eq!(&rt;
-                outcome.lines.as_str(),
-                wanted.as_str(),
-                "{number}, line {good}"
-            );
-            let _ = written(&rt, &image);
+            line_fails(&rt, alloc, worked, &lines, good)?;
         }
     }
+    Ok(())
+}
+
+/// The line after so many good ones fails, or there is none, and the run is whole.
+fn line_fails(
+    rt: &impl Abort,
+    alloc: Global,
+    worked: &Worked,
+    lines: &str,
+    good: u64,
+) -> Result<(), Fail> {
+    let place = place_of(lines, "", good);
+    let end = if place.is_some() { "Trace" } else { "done" };
+    let wanted = cut_at(alloc, lines, place, "")?;
+    let (outcome, image) = failed(alloc, worked, Trace, good)?;
+    assert_eq!(rt; outcome.end.as_str(), end, "line {good} of {lines}");
+    assert_eq!(rt; outcome.lines.as_str(), wanted.as_str(), "line {good}");
+    let _ = written(rt, &image);
     Ok(())
 }

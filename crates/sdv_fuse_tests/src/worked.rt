@@ -69,11 +69,7 @@ fn end_of<P: CardPort, O: Write, T: Write>(
     trace: &mut T,
 ) -> Result<String, Fail> {
     let outcome = match work {
-        Work::Script(text) => {
-            let certificate = certificate_of(alloc, text)?;
-            let accepted = verify(alloc, text, &certificate)?;
-            run(alloc, &accepted, port, input, out, trace)
-        }
+        Work::Script(text) => script_end(alloc, text, port, input, out, trace)?,
         Work::Requests(kind, requests) => {
             match serve(alloc, kind, requests, port, input, out, trace) {
                 Ok(end) => Ok(end),
@@ -83,6 +79,20 @@ fn end_of<P: CardPort, O: Write, T: Write>(
         }
     };
     Ok(String::from_str(alloc, name_of(&outcome))?)
+}
+
+/// Certifies a script, and runs it.
+fn script_end<P: CardPort, O: Write, T: Write>(
+    alloc: Global,
+    text: &str,
+    port: &mut P,
+    input: &[[u8; 512]],
+    out: &mut O,
+    trace: &mut T,
+) -> Result<Result<End, RunFault>, Fail> {
+    let certificate = certificate_of(alloc, text)?;
+    let accepted = verify(alloc, text, &certificate)?;
+    Ok(run(alloc, &accepted, port, input, out, trace))
 }
 
 /// Where there is no card.

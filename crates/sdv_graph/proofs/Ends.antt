@@ -60,7 +60,8 @@ module _ (k : Kind) (g : List Point) where
   outside_lasts j n t ts a h = subst (λ l. Lasts k g j (record { point = t.to; turns = entered t.enter (left l (n ∷ ts)); host = h })) (sym (add-one t.leave))
       (a h)
 
-  rounds_last : (i at sa sb n : ℕ) (most : List ℕ) (a b : Target) (ts : List ℕ) → slice_get g at ≡ Some (point_with (heads i a (outside b)) most) → At (sb + n) b ts
+  rounds_last : (i at sa sb n : ℕ) (most : List ℕ) (a b : Target) (ts : List ℕ) → slice_get g at ≡ Some (point_with (heads i a (outside b)) most)
+      → At (sb + n) b ts
       → ((m t : ℕ) → n ≤ m → At m (again at) (t ∷ ts) → At (sa + m) a (t ∷ ts)) → (t : ℕ) → At (1 + (t * (1 + sa) + sb) + n) (again at) (t ∷ ts)
   rounds_last i at sa sb n most a b ts here ob ib zero h =
       at_point (point_with (heads i a (outside b)) most) at (sb + n) (1 + (zero * (1 + sa) + sb) + n) (zero ∷ ts) h (omega arith) here

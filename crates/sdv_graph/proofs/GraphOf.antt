@@ -21,7 +21,8 @@ graph_of_body k n f b = record { kind = k; numbers = n; flags = f; points = poin
 
 -- a graph of these parts
 pub graph_is : (k : Kind) (names : Declared) (b : Statements) {ps : List Point} {t : Target} {n f m : ℕ} → ps ≡ points_of b → t ≡ first_of b
-    → n ≡ length names.numbers → f ≡ length names.flags → m ≡ statements_moves b → parts k n f ps t m ≡ graph_of_body k (length names.numbers) (length names.flags) b
+    → n ≡ length names.numbers → f ≡ length names.flags → m ≡ statements_moves b
+    → parts k n f ps t m ≡ graph_of_body k (length names.numbers) (length names.flags) b
 graph_is k names b {ps} {t} {n} {f} {m} p q x y z =
     ap (λ ps. parts k n f ps t m) p ∙ ap (λ t. parts k n f (points_of b) t m) q ∙ ap (λ n. parts k n f (points_of b) (first_of b) m) x
     ∙ ap (λ f. parts k (length names.numbers) f (points_of b) (first_of b) m) y

@@ -65,7 +65,8 @@ module _ (g : List Point) where
   plain_in action at most here p there ts box = found at (point_with action most) p (λ p. InBox ts p.most) here there box
 
   -- a loop is entered with all its turns
-  enters : (action : Action) (at n : ℕ) (most : List ℕ) → slice_get g at ≡ Some (point_with action (n ∷ most)) → In most (record { to = at; leave = 0; enter = Some n })
+  enters : (action : Action) (at n : ℕ) (most : List ℕ) → slice_get g at ≡ Some (point_with action (n ∷ most))
+      → In most (record { to = at; leave = 0; enter = Some n })
   enters action at n most here p there ts box = found at (point_with action (n ∷ most)) p (λ p. InBox (n ∷ ts) p.most) here there (omega arith, box)
 
   start_in : (s : Statement) (at : ℕ) (next brk : Target) (most : List ℕ) → HasAt g at (points_of_statement s at next brk most) → In most (start_of s at)

@@ -183,7 +183,8 @@ module _ (k : Kind) (g : List Point) (e : Ending) where
         (λ x h es. outside_is next t ts (fell h es) h es (nx h es))) n h es
     statement_is break at next brk most ts fell broke has nx br h es = at_point (point_with (jumps brk) most) at ts h es _ has.0 (br refl h es)
     statement_is done at next brk most ts fell broke has nx br h es = at_point (point_with (stops Finished) most) at ts h es _ has.0 (λ s. s, λ s. s)
-    statement_is (fault name) at next brk most ts fell broke has nx br h es = at_point (point_with (stops (Failed name)) most) at ts h es _ has.0 (λ s. s, λ s. s)
+    statement_is (fault name) at next brk most ts fell broke has nx br h es = at_point (point_with (stops (Failed name)) most) at ts h es _ has.0
+        (λ s. s, λ s. s)
 
 -- there is no point past the last
 past_is : (k : Kind) (b : Statements) (e : Ending) → Is k (points_of b) e (after_all e Fell) [] (past b)

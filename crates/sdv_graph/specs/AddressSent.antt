@@ -1,7 +1,8 @@
 -- Which address a script's command sends. Positions count blocks, in whatever unit they are sent.
 -- SD Physical Layer Simplified Specification, section 4.3.14; JESD84-B51, section 6.6.2.
-use Rattle.std.specs.Prelude.{◌+◌, ◌*◌, ◌/◌, ◌%◌, ◌^◌, ◌==◌, ℕ, Bool, true, false, nat_le, Option, Some, None, if◌then◌else◌}
+use Rattle.std.specs.Prelude.{◌+◌, ◌*◌, ℕ, Bool, true, false, nat_le, Option, Some, None, if◌then◌else◌}
 use Rattle.sdv_card.specs.Host.{Host}
+use Rattle.sdv_card.specs.ShapeBits.{is_flag_set}
 use Rattle.sdv_graph.specs.declared.tree.Address.{Address}
 use Rattle.sdv_graph.specs.declared.tree.Unit.{Unit as AddressUnit}
 use Rattle.sdv_graph.specs.declared.tree.Unit.TheVariants.{Block, Byte, By}
@@ -15,10 +16,6 @@ abbrev pub position_of : Host → Position → ℕ
 position_of h (Number n) = n
 position_of h (Variable x None) = number h x
 position_of h (Variable x (Some k)) = number h x + k
-
--- the flag in this place, from 0, is set in the bits of these flags
-abbrev pub is_flag_set : (flags flag : ℕ) → Bool
-is_flag_set flags flag = flags / 2 ^ flag % 2 == 1
 
 -- the number of the block is sent, and not 512 times it
 abbrev pub sends_block : Host → AddressUnit → Bool

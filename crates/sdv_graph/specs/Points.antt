@@ -77,7 +77,8 @@ abbrev mutual
   points_of_statement (clear f) at next brk most = point_with (flags f false next) most ∷ []
   -- a body's end leads back to the head; the else block stands outside the loop
   points_of_statement (turns n a b) at next brk most =
-      point_with (heads n (entry a (at + 1) (again at)) (outside (entry b (at + 1 + statements_count a) next))) (n ∷ most)
+      point_with (heads n (entry a (at + 1) (again at)) (outside (entry b (at + 1 + statements_count a) next)))
+      (n ∷ most)
       ∷ (points_of_statements a (at + 1) (again at) (outside next) ((n - 1) ∷ most)
       ++ points_of_statements b (at + 1 + statements_count a) next brk most)
   points_of_statement break at next brk most = point_with (jumps brk) most ∷ []

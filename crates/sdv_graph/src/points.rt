@@ -1,16 +1,17 @@
 //! From the syntax tree of a script to the points of its graph.
 
-ghost use Rattle.std.specs.Prelude.{◌≡◌, ◌+◌, ◌-◌, ◌<◌, ◌^◌, ◌++◌, ◌∷◌, [], IfOk, OnOk, map};
+ghost use Rattle.std.specs.Prelude.{◌≡◌, ◌+◌, ◌-◌, ◌<◌, ◌^◌, ◌++◌, ◌∷◌, [], IfOk, OnOk, map, take, drop};
 ghost use Rattle.sdv_graph.specs.Tree.{statements_of, ways_of, statement_of};
 ghost use Rattle.sdv_graph.specs.Counts.{statements_count, ways_count, statement_count};
 ghost use Rattle.sdv_graph.specs.Moves.{statements_moves};
-ghost use Rattle.sdv_graph.specs.Points.{start_of, entry, outside, again, cases_of, other_of, points_of_statements, points_of_ways, points_of_statement};
+ghost use Rattle.sdv_graph.specs.Path.{sends, heads};
+ghost use Rattle.sdv_graph.specs.Points.{start_of, point_with, entry, outside, again, cases_of, other_of, points_of_statements, points_of_ways, points_of_statement};
 ghost use Rattle.sdv_graph.specs.Graph.{seen_case, seen_action, seen_point, seen_points, declared_names};
 ghost use Rattle.sdv_graph.specs.GraphOf.{CanRun, SuitsKind, IsGraphOf};
 
 use crate::graph::{Action, Case, Graph, Point, Target};
 use crate::moves::moves;
-use crate::tree::{Block, Cases, Names, Stmt};
+use crate::tree::{Block, Cases, Names, ScriptCommand, Stmt};
 use std::alloc::{AllocError, Global};
 
 /// The graph of a script, by what it declares and its statements. It is refused only for want of memory.
@@ -153,15 +154,104 @@ fn with_turns(alloc: Global, turns: u16, most: &[u16]) -> Result<Vec<u16>, Alloc
 }
 
 fn put<'a>(
+    alloc: Global,
     points: &mut Vec<Point<'a>>,
     action: Action<'a>,
-    most_turns: Vec<u16>,
+    most: &[u16],
 ) -> Result<(), AllocError>
     ensures { OnOk result (seen_points points.new.items
-        ≡ seen_points points.old.items ++ record { action = seen_action action.entry; most = most_turns.items } ∷ []) }
+        ≡ seen_points points.old.items ++ point_with (seen_action action.entry) most.now ∷ []) }
 {
+    let most_turns = Vec::from_slice(alloc, most)?;
     points.push(Point { action, most_turns })?;
     Ok(())
+}
+
+// To each of two blocks, one after the other: the first one's first statement has the number `at`.
+fn entries_of(a: &Block<'_>, b: &Block<'_>, at: usize, next: Target) -> (Target, Target)
+    requires { at + statements_count (statements_of a.now) < 2 ^ 64 }
+    ensures { result ≡ (
+      entry (statements_of a.now) at next,
+      entry (statements_of b.now) (at + statements_count (statements_of a.now)) next,
+    ) }
+{
+    (entry_of(a, at, next), entry_of(b, at + count(a), next))
+}
+
+// A command, whose first case's first statement has the number `at`.
+fn send_action<'a>(
+    alloc: Global,
+    at: usize,
+    command: &ScriptCommand,
+    cases: &Cases<'a>,
+    next: Target,
+) -> Result<Action<'a>, AllocError>
+    requires { at + ways_count (ways_of cases.now) < 2 ^ 64 }
+    ensures { IfOk result (λ action. seen_action action
+        ≡ sends command.now (cases_of (ways_of cases.now) at next) (other_of (ways_of cases.now) at next)) }
+{
+    let mut listed = Vec::new(alloc);
+    list_cases(alloc, &mut listed, at, cases, next)?;
+    let other = other_target(at, cases, next);
+    Ok(Action::Send(*command, listed, other))
+}
+
+// Appends the point of a loop, which is its head.
+fn put_head<'a>(
+    alloc: Global,
+    points: &mut Vec<Point<'a>>,
+    turns: u16,
+    body: Target,
+    other: Target,
+    most: &[u16],
+) -> Result<(), AllocError>
+    ensures { OnOk result (seen_points points.new.items
+        ≡ seen_points points.old.items ++ point_with (heads turns body other) (turns ∷ most.now) ∷ []) }
+{
+    let at_head = with_turns(alloc, turns, most)?;
+    put(alloc, points, Action::Loop(turns, body, other), &at_head)
+}
+
+// Appends the statement's own point: it has the number `at`, its end leads to `next`, a `break` to `brk`, and `most` are
+// the most turns left of the loops round it.
+fn put_own<'a>(
+    alloc: Global,
+    points: &mut Vec<Point<'a>>,
+    at: usize,
+    stmt: &Stmt<'a>,
+    next: Target,
+    brk: Target,
+    most: &[u16],
+) -> Result<(), AllocError>
+    requires { at + statement_count (statement_of stmt.now) + next.leave < 2 ^ 64 }
+    ensures { OnOk result (seen_points points.new.items
+        ≡ seen_points points.old.items ++ take 1 (points_of_statement (statement_of stmt.now) at next brk most.now)) }
+{
+    match stmt {
+        Stmt::Send(command, cases) => {
+            let action = send_action(alloc, at + 1, command, cases, next)?;
+            put(alloc, points, action, most)
+        }
+        Stmt::Phase(phase, a, b) => {
+            let (well, other) = entries_of(a, b, at + 1, next);
+            put(alloc, points, Action::Phase(*phase, well, other), most)
+        }
+        Stmt::If(condition, a, b) => {
+            let (holds, other) = entries_of(a, b, at + 1, next);
+            put(alloc, points, Action::If(*condition, holds, other), most)
+        }
+        Stmt::Loop(turns, a, b) => {
+            let body = entry_of(a, at + 1, head_of(at));
+            let other = outside_of(entry_of(b, at + 1 + count(a), next));
+            put_head(alloc, points, *turns, body, other, most)
+        }
+        Stmt::Let(setting) => put(alloc, points, Action::Let(*setting, next), most),
+        Stmt::Set(flag) => put(alloc, points, Action::Flag(*flag, true, next), most),
+        Stmt::Clear(flag) => put(alloc, points, Action::Flag(*flag, false, next), most),
+        Stmt::Break => put(alloc, points, Action::Break(brk), most),
+        Stmt::Done => put(alloc, points, Action::Done, most),
+        Stmt::Fault(name) => put(alloc, points, Action::Fault(name), most),
+    }
 }
 
 // Appends the points of a list of statements: its first statement has the number `at`, its end leads to `next`, a
@@ -185,7 +275,8 @@ fn put_block<'a>(
         Block::Then(stmt, rest) => {
             let mid = at + count_stmt(stmt);
             let after = entry_of(rest, mid, next);
-            put_stmt(alloc, points, at, stmt, after, brk, most)?;
+            put_own(alloc, points, at, stmt, after, brk, most)?;
+            put_inside(alloc, points, at, stmt, after, brk, most)?;
             put_block(alloc, points, mid, rest, next, brk, most)
         }
     }
@@ -214,8 +305,9 @@ fn put_cases<'a>(
     }
 }
 
+// Appends the points of what stands in a statement, which has the number `at`.
 #[cycle(put)]
-fn put_stmt<'a>(
+fn put_inside<'a>(
     alloc: Global,
     points: &mut Vec<Point<'a>>,
     at: usize,
@@ -226,38 +318,16 @@ fn put_stmt<'a>(
 ) -> Result<(), AllocError>
     requires { at + statement_count (statement_of stmt.now) + next.leave < 2 ^ 64 }
     ensures { OnOk result (seen_points points.new.items
-        ≡ seen_points points.old.items ++ points_of_statement (statement_of stmt.now) at next brk most.now) }
+        ≡ seen_points points.old.items ++ drop 1 (points_of_statement (statement_of stmt.now) at next brk most.now)) }
 {
-    let here = Vec::from_slice(alloc, most)?;
     match stmt {
-        Stmt::Send(command, cases) => {
-            let mut listed = Vec::new(alloc);
-            list_cases(alloc, &mut listed, at + 1, cases, next)?;
-            let other = other_target(at + 1, cases, next);
-            put(points, Action::Send(*command, listed, other), here)?;
-            put_cases(alloc, points, at + 1, cases, next, brk, most)
-        }
-        Stmt::Phase(phase, a, b) => {
-            let mid = at + 1 + count(a);
-            let (well, other) = (entry_of(a, at + 1, next), entry_of(b, mid, next));
-            put(points, Action::Phase(*phase, well, other), here)?;
+        Stmt::Send(_, cases) => put_cases(alloc, points, at + 1, cases, next, brk, most),
+        Stmt::Phase(_, a, b) | Stmt::If(_, a, b) => {
             put_block(alloc, points, at + 1, a, next, brk, most)?;
-            put_block(alloc, points, mid, b, next, brk, most)
-        }
-        Stmt::If(condition, a, b) => {
-            let mid = at + 1 + count(a);
-            let (holds, other) = (entry_of(a, at + 1, next), entry_of(b, mid, next));
-            put(points, Action::If(*condition, holds, other), here)?;
-            put_block(alloc, points, at + 1, a, next, brk, most)?;
-            put_block(alloc, points, mid, b, next, brk, most)
+            put_block(alloc, points, at + 1 + count(a), b, next, brk, most)
         }
         Stmt::Loop(turns, a, b) => {
-            let mid = at + 1 + count(a);
-            let body = entry_of(a, at + 1, head_of(at));
-            let other = outside_of(entry_of(b, mid, next));
-            let at_head = with_turns(alloc, *turns, most)?;
             let in_body = with_turns(alloc, turns.saturating_sub(1), most)?;
-            put(points, Action::Loop(*turns, body, other), at_head)?;
             put_block(
                 alloc,
                 points,
@@ -267,13 +337,8 @@ fn put_stmt<'a>(
                 outside_of(next),
                 &in_body,
             )?;
-            put_block(alloc, points, mid, b, next, brk, most)
+            put_block(alloc, points, at + 1 + count(a), b, next, brk, most)
         }
-        Stmt::Let(setting) => put(points, Action::Let(*setting, next), here),
-        Stmt::Set(flag) => put(points, Action::Flag(*flag, true, next), here),
-        Stmt::Clear(flag) => put(points, Action::Flag(*flag, false, next), here),
-        Stmt::Break => put(points, Action::Break(brk), here),
-        Stmt::Done => put(points, Action::Done, here),
-        Stmt::Fault(name) => put(points, Action::Fault(name), here),
+        _ => Ok(()),
     }
 }

@@ -69,14 +69,18 @@ program_shape = record (new_app (codes "sdv")).top {
   disable_help_subcommand = true;
 }
 
--- `sdv`, and its commands
+-- `sdv`, and the commands that go from a script to its run
+abbrev pub running_line : App
+running_line =
+    with_subcommand (with_subcommand (with_subcommand (with_subcommand
+    (record { top = program_shape; subs = [] })
+    frame_command.top) certify_command.top) check_command.top) run_command.top
+
+-- `sdv`, and its commands: those, and the ones that write and show scripts
 abbrev pub command_line : App
 command_line =
-    with_subcommand (with_subcommand (with_subcommand
-    (with_subcommand (with_subcommand (with_subcommand (with_subcommand (with_subcommand
-    (record { top = program_shape; subs = [] })
-    frame_command.top) certify_command.top) check_command.top) run_command.top) batch_command.top) explain_command.top)
-    graph_command.top) print_command.top
+    with_subcommand (with_subcommand (with_subcommand (with_subcommand running_line
+    batch_command.top) explain_command.top) graph_command.top) print_command.top
 
 -- the files of a run, by their names
 pub record RunNames : Type 0 where

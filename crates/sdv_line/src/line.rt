@@ -2,14 +2,14 @@
 ghost use Rattle.std.specs.Prelude.{◌≡◌, ◌≢◌, [], true, Some, IfErr, IfOk};
 ghost use Rattle.std.specs.Prelude.{option_and_then, option_map};
 ghost use Rattle.std.specs.Str.{bytes_eq};
-ghost use Rattle.clap.specs.Words.{app_of, fault_of, found_of, kind_of, rows_of};
-ghost use Rattle.clap.specs.Words.{subcommand_rows_of, takes};
+ghost use Rattle.clap.specs.Words.{App, app_of, fault_of, found_of, kind_of, rows_of};
+ghost use Rattle.clap.specs.Words.{subcommand_rows_of, takes, with_rule, with_subcommand};
 ghost use Rattle.clap.specs.Walk.{texts};
 ghost use Rattle.clap.specs.declared.error.kind.ErrorKind.TheVariants.{OutOfMemory};
 ghost use Rattle.sdv_line.specs.CommandLine.{batch_command, batch_request, explain_command, explain_request};
 ghost use Rattle.sdv_line.specs.CommandLine.{graph_command, graph_request, print_command, print_request};
 ghost use Rattle.sdv_line.specs.CommandLine.{certify_command, certify_request, check_command, check_request, command_line};
-ghost use Rattle.sdv_line.specs.CommandLine.{frame_command, frame_request, meaning_of, program_shape, request_in, request_of};
+ghost use Rattle.sdv_line.specs.CommandLine.{frame_command, frame_request, meaning_of, program_shape, request_in, request_of, required, running_line};
 ghost use Rattle.sdv_line.specs.CommandLine.{run_command, run_files_command, run_request};
 
 use clap::error::ErrorKind;
@@ -134,92 +134,107 @@ fn top_command<'a>(alloc: Global) -> Command<'a>
 fn program_command<'a>(alloc: Global) -> Result<Command<'a>, AllocError>
     ensures { IfOk result (λ command. app_of command ≡ command_line) }
 {
-    top_command(alloc)
-        .subcommand(frame_command(alloc)?)?
-        .subcommand(certify_command(alloc)?)?
-        .subcommand(check_command(alloc)?)?
-        .subcommand(run_command(alloc)?)?
-        .subcommand(batch_command(alloc)?)?
-        .subcommand(explain_command(alloc)?)?
-        .subcommand(graph_command(alloc)?)?
-        .subcommand(print_command(alloc)?)
+    let app = running_commands(alloc)?;
+    let app = with_command(app, batch_command(alloc))?;
+    let app = with_command(app, explain_command(alloc))?;
+    let app = with_command(app, graph_command(alloc))?;
+    with_command(app, print_command(alloc))
+}
+
+// `sdv` with the commands that go from a script to its run.
+fn running_commands<'a>(alloc: Global) -> Result<Command<'a>, AllocError>
+    ensures { IfOk result (λ command. app_of command ≡ running_line) }
+{
+    let app = with_command(top_command(alloc), frame_command(alloc))?;
+    let app = with_command(app, certify_command(alloc))?;
+    let app = with_command(app, check_command(alloc))?;
+    with_command(app, run_command(alloc))
+}
+
+// The program with one command more, where there was memory for that one.
+fn with_command<'a>(
+    program: Command<'a>,
+    command: Result<Command<'a>, AllocError>,
+) -> Result<Command<'a>, AllocError>
+    ensures { (app : App) → app.top.is_plain ≡ true → IfOk command.entry (λ given. app_of given ≡ app)
+        → IfOk result (λ more. app_of more ≡ with_subcommand (app_of program.entry) app.top) }
+{
+    program.subcommand(command?)
+}
+
+// The command with one word more, which may not be left out.
+fn with_word<'a>(
+    alloc: Global,
+    command: Command<'a>,
+    name: &'a str,
+) -> Result<Command<'a>, AllocError>
+    ensures { IfOk result (λ more. app_of more ≡ with_rule (app_of command.entry) (required name.entry.now)) }
+{
+    command.arg(Arg::new(alloc, name).required(true))
 }
 
 fn frame_command<'a>(alloc: Global) -> Result<Command<'a>, AllocError>
     ensures { IfOk result (λ command. app_of command ≡ frame_command) }
 {
-    let index = Arg::new(alloc, "INDEX").required(true);
-    let argument = Arg::new(alloc, "ARG").required(true);
-    Command::new(alloc, "frame").arg(index)?.arg(argument)
+    let command = with_word(alloc, Command::new(alloc, "frame"), "INDEX")?;
+    with_word(alloc, command, "ARG")
 }
 
 fn certify_command<'a>(alloc: Global) -> Result<Command<'a>, AllocError>
     ensures { IfOk result (λ command. app_of command ≡ certify_command) }
 {
-    let script = Arg::new(alloc, "SCRIPT").required(true);
-    Command::new(alloc, "certify").arg(script)
+    with_word(alloc, Command::new(alloc, "certify"), "SCRIPT")
 }
 
 fn check_command<'a>(alloc: Global) -> Result<Command<'a>, AllocError>
     ensures { IfOk result (λ command. app_of command ≡ check_command) }
 {
-    let script = Arg::new(alloc, "SCRIPT").required(true);
-    let certificate = Arg::new(alloc, "CERT").required(true);
-    Command::new(alloc, "check").arg(script)?.arg(certificate)
+    let command = with_word(alloc, Command::new(alloc, "check"), "SCRIPT")?;
+    with_word(alloc, command, "CERT")
 }
 
 fn explain_command<'a>(alloc: Global) -> Result<Command<'a>, AllocError>
     ensures { IfOk result (λ command. app_of command ≡ explain_command) }
 {
-    let script = Arg::new(alloc, "SCRIPT").required(true);
-    Command::new(alloc, "explain").arg(script)
+    with_word(alloc, Command::new(alloc, "explain"), "SCRIPT")
 }
 
 fn graph_command<'a>(alloc: Global) -> Result<Command<'a>, AllocError>
     ensures { IfOk result (λ command. app_of command ≡ graph_command) }
 {
-    let script = Arg::new(alloc, "SCRIPT").required(true);
-    Command::new(alloc, "graph").arg(script)
+    with_word(alloc, Command::new(alloc, "graph"), "SCRIPT")
 }
 
 fn print_command<'a>(alloc: Global) -> Result<Command<'a>, AllocError>
     ensures { IfOk result (λ command. app_of command ≡ print_command) }
 {
-    let script = Arg::new(alloc, "SCRIPT").required(true);
-    Command::new(alloc, "print").arg(script)
+    with_word(alloc, Command::new(alloc, "print"), "SCRIPT")
 }
 
 fn batch_command<'a>(alloc: Global) -> Result<Command<'a>, AllocError>
     ensures { IfOk result (λ command. app_of command ≡ batch_command) }
 {
-    let kind = Arg::new(alloc, "KIND").required(true);
-    let requests = Arg::new(alloc, "REQUESTS").required(true);
-    Command::new(alloc, "batch").arg(kind)?.arg(requests)
+    let command = with_word(alloc, Command::new(alloc, "batch"), "KIND")?;
+    with_word(alloc, command, "REQUESTS")
 }
 
 fn run_command<'a>(alloc: Global) -> Result<Command<'a>, AllocError>
     ensures { IfOk result (λ command. app_of command ≡ run_command) }
 {
-    let files = run_files_command(alloc)?;
-    let schedule = Arg::new(alloc, "SCHEDULE");
-    let input = Arg::new(alloc, "in").long("in");
-    let output = Arg::new(alloc, "out").long("out");
-    files.arg(schedule)?.arg(input)?.arg(output)
+    run_files_command(alloc)?
+        .arg(Arg::new(alloc, "SCHEDULE"))?
+        .arg(Arg::new(alloc, "in").long("in"))?
+        .arg(Arg::new(alloc, "out").long("out"))
 }
 
 // The files that every run needs.
 fn run_files_command<'a>(alloc: Global) -> Result<Command<'a>, AllocError>
     ensures { IfOk result (λ command. app_of command ≡ run_files_command) }
 {
-    let script = Arg::new(alloc, "SCRIPT").required(true);
-    let certificate = Arg::new(alloc, "CERT").required(true);
-    let card = Arg::new(alloc, "CARD").required(true);
-    let image = Arg::new(alloc, "IMAGE").required(true);
-    Command::new(alloc, "run")
-        .arg(script)?
-        .arg(certificate)?
-        .arg(card)?
-        .arg(image)
+    let command = with_word(alloc, Command::new(alloc, "run"), "SCRIPT")?;
+    let command = with_word(alloc, command, "CERT")?;
+    let command = with_word(alloc, command, "CARD")?;
+    with_word(alloc, command, "IMAGE")
 }
 
 fn line_in<'a>(matches: &ArgMatches<'a>) -> Option<Line<'a>>

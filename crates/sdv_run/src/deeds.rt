@@ -10,7 +10,7 @@ use crate::host::HostState;
 use crate::trace::{
     write_all, write_blocks_in, write_blocks_out, write_command, write_register, write_wait,
 };
-use sdv_card::laws::order;
+use sdv_card::state_table::order;
 use sdv_card::{Answer, Ask, CardPort, DataEnd, WaitEnd};
 use sdv_frames::Command;
 use std::io::Write;

@@ -13,7 +13,7 @@ use crate::fault::RunFault;
 use crate::guards::way;
 use crate::host::HostState;
 use crate::standing::Standing;
-use sdv_card::laws::order;
+use sdv_card::state_table::order;
 use sdv_card::{Ask, CardPort, DataEnd, WaitEnd};
 use sdv_graph::{Case, ScriptCommand, Target};
 use std::io::Write;
@@ -52,8 +52,8 @@ pub fn send_and_go<P: CardPort, T: Write>(
 ) -> Result<(), RunFault>
     requires index { ask.now.index < 64 }
     requires narrow { (returned : Return) →
-        length (turns_at (way_of standing.old.host.kind (map seen_case cases.now) other returned) standing.old.turns.items)
-        ≤ 4 }
+        length (turns_at (way_of standing.old.host.kind (map seen_case cases.now) other returned)
+        standing.old.turns.items) ≤ 4 }
     ensures sent { SendsOn standing.old.host.kind P.steps ask.now argument
         (way_of standing.old.host.kind (map seen_case cases.now) other) port.old port.new standing.old.turns.items
         (host_of standing.old.host) (stand_of standing.new) (T.contents trace.old) (T.contents trace.new) result }

@@ -196,11 +196,12 @@ pub fn step<P: CardPort, O: Write, T: Write>(
     trace: &mut T,
 ) -> Result<Option<End>, RunFault>
     requires in_range { IsInRange action.now }
-    requires narrow { IsNarrow
-        (action_move standing.old.host.kind (seen_action action.now) standing.old.turns.items (host_of standing.old.host)) }
+    requires narrow { IsNarrow (action_move standing.old.host.kind (seen_action action.now)
+        standing.old.turns.items (host_of standing.old.host)) }
     requires room { standing.old.host.announced ≤ length buffer.old }
     ensures stepped { Stepped standing.old.host.kind P.steps
-        (action_move standing.old.host.kind (seen_action action.now) standing.old.turns.items (host_of standing.old.host))
+        (action_move standing.old.host.kind (seen_action action.now)
+        standing.old.turns.items (host_of standing.old.host))
         (record { port = port.old; input = input.old.now; out = O.contents out.old; trace = T.contents trace.old })
         (record { port = port.new; input = input.new.now; out = O.contents out.new; trace = T.contents trace.new })
         (stand_of standing.new) result }

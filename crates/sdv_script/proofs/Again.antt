@@ -157,7 +157,8 @@ addressed-again names c None count r fit p q ok = absurd ok
 addressed-again names c (Some a) count r fit p q ok = bind_is _ _ _ _ (address-again names a (Mark sign.OpenBrace ∷ r) fit ok tt)
     (made c (ask_with c.ask.index Plain 0 count) (Some a) _ p q)
 
-counted-again : (names : Declared) (c : ScriptCommand) (address : Option Address) (r : List Token) → NamesFit names → c.ask ≡ ask_with c.ask.index Plain 0 c.ask.count
+counted-again : (names : Declared) (c : ScriptCommand) (address : Option Address) (r : List Token) → NamesFit names
+    → c.ask ≡ ask_with c.ask.index Plain 0 c.ask.count
     → c.address ≡ address → AddressFits names address → 1 ≤ c.ask.count → c.ask.count ≤ 65535
     → read_counted names c.ask.index (address_if_any names address (Key word.Count ∷ Number c.ask.count ∷ Mark sign.OpenBrace ∷ r))
     ≡ Some (c, Mark sign.OpenBrace ∷ r)

@@ -34,7 +34,8 @@ or_cases : {P : Type 0} (a b : Bool) → (a ≡ true → P) → (b ≡ true → 
 or_cases true b p q e = p refl
 or_cases false b p q e = q e
 
-by_operand : (P : Option Operand → Type 0) (is : Bool) (operand : Operand) (others : Option Operand) → (is ≡ true → P (Some operand)) → P others → P (either is operand others)
+by_operand : (P : Option Operand → Type 0) (is : Bool) (operand : Operand) (others : Option Operand) → (is ≡ true → P (Some operand)) → P others
+    → P (either is operand others)
 by_operand P true operand others p q = p refl
 by_operand P false operand others p q = q
 

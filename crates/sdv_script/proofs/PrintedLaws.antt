@@ -156,7 +156,8 @@ sign_within b bs =
 run_within : (test : ℕ → Bool) (text : List ℕ) → run test text ≤ length text
 run_within test text = rw (length-prefix_len test text) (prefix_len-le-length test text)
 
-first_within : (b : ℕ) (bs : List ℕ) → (first_found (b ∷ bs)).1 ≤ length (b ∷ bs)
+-- a token at the front of a text is no longer than the text
+pub first_within : (b : ℕ) (bs : List ℕ) → (first_found (b ∷ bs)).1 ≤ length (b ∷ bs)
 first_within b bs =
     within_if (is_lower b) _ _ (length (b ∷ bs)) (run_within goes_on (b ∷ bs)) (λ _.
     within_if (is_digit b) _ _ (length (b ∷ bs)) (run_within is_joined (b ∷ bs)) (λ _. sign_within b bs))
@@ -176,7 +177,8 @@ unfolding after_gap
 gap_head [] c b bs e = absurd (cc)
 gap_head (x ∷ xs) c b bs e = gap_head_by (gap_step c x) c x b xs bs refl (λ c' later. gap_head xs c' b bs later) e
 
-gap_here : (b : ℕ) (bs : List ℕ) → gap_step false b ≡ None → after_gap false (b ∷ bs) ≡ b ∷ bs
+-- no gap stands before what is no gap
+pub gap_here : (b : ℕ) (bs : List ℕ) → gap_step false b ≡ None → after_gap false (b ∷ bs) ≡ b ∷ bs
 unfolding after_gap
 gap_here b bs e = rw e refl
 

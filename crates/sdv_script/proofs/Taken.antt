@@ -165,7 +165,8 @@ erase-took : (names : Declared) (index : ℕ) (ts : List Token) → IfSome (read
 erase-took names index (Number n ∷ ts) = IfSome-given (is_erase n) _ _ (λ e. (refl, (refl, e, refl), refl))
 erase-took names index ts = tt
 
-operand-took : (names : Declared) (index : ℕ) (operand : Operand) (ts : List Token) → IfSome (read_operand names index operand ts) (Commanded names operand index ts)
+operand-took : (names : Declared) (index : ℕ) (operand : Operand) (ts : List Token)
+    → IfSome (read_operand names index operand ts) (Commanded names operand index ts)
 operand-took names index (Bare aim) ts = (refl, (refl, refl), refl)
 operand-took names index Select ts = select-took names index ts
 operand-took names index Conditions ts = conditions-took names index ts
@@ -178,7 +179,8 @@ joined : (names : Declared) (n i : ℕ) (o : Option Operand) (operand : Operand)
     → ts ≡ operand_written operand names c rest → Number n ∷ ts ≡ Number i ∷ operand_if_any o names c rest
 joined names n i o operand ts rest c p q e = rw (p, q, e) refl
 
-fits_as : (names : Declared) (o : Option Operand) (operand : Operand) (c : ScriptCommand) → o ≡ Some operand → OperandFits names (Some operand) c → OperandFits names o c
+fits_as : (names : Declared) (o : Option Operand) (operand : Operand) (c : ScriptCommand) → o ≡ Some operand → OperandFits names (Some operand) c
+    → OperandFits names o c
 fits_as names o operand c e p = rw e p
 
 written_as : (names : Declared) (n : ℕ) (operand : Operand) (ts : List Token) (c : ScriptCommand × List Token) → operand_of names.kind n ≡ Some operand

@@ -374,6 +374,16 @@ abbrev pub starts : Keyword → Depth → Bool
 starts word.Break depth = nat_lt 0 depth.loops
 starts keyword depth = begins keyword
 
+-- a statement without blocks, after its first word
+abbrev pub read_plain : Declared → Keyword → Progress → Reading Statement
+read_plain names word.Let at = moved setting at.begun (read_let names at.tokens)
+read_plain names word.Set at = moved set at.begun (read_flag names at.tokens)
+read_plain names word.Clear at = moved clear at.begun (read_flag names at.tokens)
+read_plain names word.Break at = Some (break, at)
+read_plain names word.Done at = Some (done, at)
+read_plain names word.Fault at = moved fault at.begun (read_fault at.tokens)
+read_plain names keyword at = None
+
 -- a statement after its first word
 abbrev pub read_after : Blocks → WaysOf → Declared → Depth → Keyword → Progress → Reading Statement
 read_after blocks ways names depth word.Send at = read_send ways names depth at
@@ -381,15 +391,9 @@ read_after blocks ways names depth word.Recv at =
     read_receive at.tokens >>= λ p. read_phase blocks depth p.0 (progress_to p.1 at.begun)
 read_after blocks ways names depth word.Give at = read_phase blocks depth phases.GiveBlocks at
 read_after blocks ways names depth word.Wait at = read_phase blocks depth phases.Wait at
-read_after blocks ways names depth word.Let at = moved setting at.begun (read_let names at.tokens)
 read_after blocks ways names depth word.If at = read_if blocks names depth at
-read_after blocks ways names depth word.Set at = moved set at.begun (read_flag names at.tokens)
-read_after blocks ways names depth word.Clear at = moved clear at.begun (read_flag names at.tokens)
 read_after blocks ways names depth word.Loop at = read_loop blocks depth at
-read_after blocks ways names depth word.Break at = Some (break, at)
-read_after blocks ways names depth word.Done at = Some (done, at)
-read_after blocks ways names depth word.Fault at = moved fault at.begun (read_fault at.tokens)
-read_after blocks ways names depth keyword at = None
+read_after blocks ways names depth keyword at = read_plain names keyword at
 
 abbrev pub read_statement : Blocks → WaysOf → Declared → Depth → List Token → ℕ → Reading Statement
 read_statement blocks ways names depth (Key k ∷ ts) begun =

@@ -88,13 +88,14 @@ OperandFits names (Some (Bare aim)) c = (c.ask ≡ ask_with c.ask.index aim 0 0)
 OperandFits names (Some Select) c = (c.ask ≡ ask_with c.ask.index c.ask.aim 0 0) × (c.address ≡ None)
 OperandFits names (Some Conditions) c = (c.ask ≡ ask_with c.ask.index Plain c.ask.argument 0)
     × IsTrue (is_conditions c.ask.argument) × (c.address ≡ None)
-OperandFits names (Some (Addressed count)) c = (c.ask ≡ ask_with c.ask.index Plain 0 count) × AddressFits names c.address
+OperandFits names (Some (Addressed count)) c =
+    (c.ask ≡ ask_with c.ask.index Plain 0 count) × AddressFits names c.address
 OperandFits names (Some Counted) c = (c.ask ≡ ask_with c.ask.index Plain 0 c.ask.count) × (1 ≤ c.ask.count)
     × (c.ask.count ≤ 65535) × AddressFits names c.address
 OperandFits names (Some Preset) c = (c.ask ≡ ask_with c.ask.index Plain 0 c.ask.count) × (1 ≤ c.ask.count)
     × (c.ask.count ≤ 65535) × (c.address ≡ None)
-OperandFits names (Some Erase) c = (c.ask ≡ ask_with c.ask.index Plain c.ask.argument 0) × IsTrue (is_erase c.ask.argument)
-    × (c.address ≡ None)
+OperandFits names (Some Erase) c = (c.ask ≡ ask_with c.ask.index Plain c.ask.argument 0)
+    × IsTrue (is_erase c.ask.argument) × (c.address ≡ None)
 
 abbrev pub CommandFits : Declared → ScriptCommand → Type 0
 CommandFits names c = OperandFits names (operand_of names.kind c.ask.index) c

@@ -2,12 +2,13 @@
 //!
 //! `left` bounds how much deeper the tree may still grow: a text of the size limit never uses it up.
 
+ghost use Rattle.std.specs.Box.{box_value};
 ghost use Rattle.std.specs.Prelude.{◌≡◌, IfOk, map};
 ghost use Rattle.sdv_script.specs.Place.{tokens_at, names_of, progress_of};
 ghost use Rattle.sdv_graph.specs.Tree.{nothing, statements_of, ways_of, statement_of, before};
 ghost use Rattle.sdv_script.specs.InRow.{in_row};
 ghost use Rattle.sdv_script.specs.GuardedOf.{guarded_of};
-ghost use Rattle.sdv_script.specs.Reading.{Gives, begins, starts, closes, last_way, read_case, read_statement, read_after};
+ghost use Rattle.sdv_script.specs.Reading.{Gives, begins, starts, closes, last_way, read_case, read_statement, read_after, read_if, read_plain};
 ghost use Rattle.sdv_script.specs.Reading.{read_send, read_phase, read_loop, read_branches, read_block, read_statements, read_ways};
 
 use crate::commands::command;
@@ -20,7 +21,7 @@ use crate::keyword::Keyword;
 use crate::progress::Progress;
 use crate::token::{Sign, Token};
 use crate::values::{condition, fault_name, receive, setting};
-use sdv_card::laws::order;
+use sdv_card::state_table::order;
 use sdv_card::{Guard, Order};
 use sdv_graph::{Block, Cases, MAX_STATEMENTS, Names, Phase, Stmt};
 use std::alloc::{AllocError, Global};
@@ -122,17 +123,26 @@ fn after_word<'a>(
         }
         Keyword::Give => ends(alloc, names, left, depth, Phase::GiveBlocks, from),
         Keyword::Wait => ends(alloc, names, left, depth, Phase::Wait, from),
+        Keyword::If => choice(alloc, names, left, depth, from),
+        Keyword::Loop => turns(alloc, names, left, depth, word, from),
+        _ => plain_statement(names, keyword, word, from),
+    }
+}
+
+// A statement without blocks, after its first word, which stands at a place that is given too.
+fn plain_statement<'a>(
+    names: &Names<'a>,
+    keyword: Keyword,
+    word: Cursor<'a>,
+    from: Progress<'a>,
+) -> Result<(Stmt<'a>, Progress<'a>), Stop>
+    ensures { Gives (λ x. (statement_of x.0, progress_of x.1)) result
+        (read_plain (names_of names.now) keyword (progress_of from.entry)) }
+{
+    match keyword {
         Keyword::Let => {
             let (setting, at) = setting(names, from.at)?;
             Ok((Stmt::Let(setting), from.to(at)))
-        }
-        Keyword::If => {
-            let (condition, at) = condition(names, from.at)?;
-            let (body, other, from) = branches(alloc, names, left, depth, depth, from.to(at))?;
-            Ok((
-                Stmt::If(condition, Box::new(alloc, body)?, Box::new(alloc, other)?),
-                from,
-            ))
         }
         Keyword::Set => {
             let (f, at) = flag(names, from.at, FaultKind::Syntax)?;
@@ -142,7 +152,6 @@ fn after_word<'a>(
             let (f, at) = flag(names, from.at, FaultKind::Syntax)?;
             Ok((Stmt::Clear(f), from.to(at)))
         }
-        Keyword::Loop => turns(alloc, names, left, depth, word, from),
         Keyword::Break => Ok((Stmt::Break, from)),
         Keyword::Done => Ok((Stmt::Done, from)),
         Keyword::Fault => {
@@ -221,10 +230,24 @@ fn ends<'a>(
     let at = ok_word(at)?;
     let (good, other, from) = branches(alloc, names, left, inside, inside, from.to(at))?;
     let at = close_brace(from.at)?;
-    Ok((
-        Stmt::Phase(phase, Box::new(alloc, good)?, Box::new(alloc, other)?),
-        from.to(at),
-    ))
+    Ok((Stmt::Phase(phase, good, other), from.to(at)))
+}
+
+// What a condition leads to.
+#[cycle(blocks)]
+fn choice<'a>(
+    alloc: Global,
+    names: &Names<'a>,
+    left: usize,
+    depth: Depth,
+    from: Progress<'a>,
+) -> Result<(Stmt<'a>, Progress<'a>), Stop>
+    ensures { let names = names_of names.now in Gives (λ x. (statement_of x.0, progress_of x.1)) result
+        (read_if (read_statements left names) names depth (progress_of from.entry)) }
+{
+    let (condition, at) = condition(names, from.at)?;
+    let (body, other, from) = branches(alloc, names, left, depth, depth, from.to(at))?;
+    Ok((Stmt::If(condition, body, other), from))
 }
 
 // A loop, whose first word stands at a place that is given too.
@@ -249,10 +272,7 @@ fn turns<'a>(
     };
     let (turns, at) = count(from.at, FaultKind::Syntax, FaultKind::Limit)?;
     let (body, other, from) = branches(alloc, names, left, inside, depth, from.to(at))?;
-    Ok((
-        Stmt::Loop(turns, Box::new(alloc, body)?, Box::new(alloc, other)?),
-        from,
-    ))
+    Ok((Stmt::Loop(turns, body, other), from))
 }
 
 // Two blocks, with `else` between them; the first may stand in one more loop.
@@ -264,14 +284,30 @@ fn branches<'a>(
     inside: Depth,
     depth: Depth,
     from: Progress<'a>,
-) -> Result<(Block<'a>, Block<'a>, Progress<'a>), Stop>
-    ensures { Gives (λ x. ((statements_of x.0, statements_of x.1), progress_of x.2)) result
+) -> Result<(Box<Block<'a>>, Box<Block<'a>>, Progress<'a>), Stop>
+    ensures { Gives (λ x. ((statements_of (box_value x.0), statements_of (box_value x.1)), progress_of x.2)) result
         (read_branches (read_statements left (names_of names.now)) inside depth (progress_of from.entry)) }
 {
-    let (first, from) = block(alloc, names, left, inside, from)?;
+    let (first, from) = boxed_block(alloc, names, left, inside, from)?;
     let at = else_word(from.at)?;
-    let (second, from) = block(alloc, names, left, depth, from.to(at))?;
+    let (second, from) = boxed_block(alloc, names, left, depth, from.to(at))?;
     Ok((first, second, from))
+}
+
+// Statements in braces, in a box.
+#[cycle(blocks)]
+fn boxed_block<'a>(
+    alloc: Global,
+    names: &Names<'a>,
+    left: usize,
+    depth: Depth,
+    from: Progress<'a>,
+) -> Result<(Box<Block<'a>>, Progress<'a>), Stop>
+    ensures { Gives (λ x. (statements_of (box_value x.0), progress_of x.1)) result
+        (read_block (read_statements left (names_of names.now)) depth (progress_of from.entry)) }
+{
+    let (block, from) = block(alloc, names, left, depth, from)?;
+    Ok((Box::new(alloc, block)?, from))
 }
 
 // Statements in braces.
@@ -354,8 +390,8 @@ fn last_case<'a>(
     ensures { Gives (λ x. (ways_of x.0, progress_of x.1)) result
         (last_way (read_statements left (names_of names.now)) depth (progress_of from.entry)) }
 {
-    let (block, from) = block(alloc, names, left, depth, from)?;
-    Ok((Cases::Else(Box::new(alloc, block)?), from))
+    let (block, from) = boxed_block(alloc, names, left, depth, from)?;
+    Ok((Cases::Else(block), from))
 }
 
 // The guards and the block of a case.
@@ -372,7 +408,6 @@ fn case<'a>(
         (read_case (read_statements left (names_of names.now)) depth order (progress_of from.entry)) }
 {
     let (guards, at) = guard_list(alloc, order, from.at)?;
-    let (block, from) = block(alloc, names, left, depth, from.to(at))?;
-    let block = Box::new(alloc, block)?;
+    let (block, from) = boxed_block(alloc, names, left, depth, from.to(at))?;
     Ok((Guarded { guards, block }, from))
 }

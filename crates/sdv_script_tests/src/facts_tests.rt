@@ -182,6 +182,12 @@ fn lets(rt: HostRuntime) -> Result<(), Fail> {
             "{known:?}"
         );
     }
+    Ok(())
+}
+
+#[test]
+fn lets_of_registers(rt: HostRuntime) -> Result<(), Fail> {
+    let alloc = rt.alloc();
     for &(kind, codes, atom, after) in REGISTERS.iter() {
         let facts = facts_of(alloc, &codes, numbers(100, ZERO, ZERO))?;
         assert_eq!(&rt;
@@ -256,7 +262,7 @@ static TARGETS: [(u64, Known, bool); 7] = [
 ];
 
 #[test]
-fn comparisons_and_targets(rt: HostRuntime) -> Result<(), Fail> {
+fn comparisons(rt: HostRuntime) -> Result<(), Fail> {
     for &(x, test, after) in COMPARISONS.iter() {
         let facts = facts_of(rt.alloc(), &[BYTE], numbers(10, x, UP_TO_NINE))?;
         let wanted = match after {
@@ -265,6 +271,11 @@ fn comparisons_and_targets(rt: HostRuntime) -> Result<(), Fail> {
         };
         assert_eq!(&rt; after_test(&facts, &test), wanted, "{test:?}");
     }
+    Ok(())
+}
+
+#[test]
+fn targets(rt: HostRuntime) {
     let y = (0, 9, None);
     let carried = numbers(10, (3, 5, Some(7)), y);
     for &(m, x, covered) in TARGETS.iter() {
@@ -272,11 +283,14 @@ fn comparisons_and_targets(rt: HostRuntime) -> Result<(), Fail> {
     }
     let (with, without) = ((0, 9, Some(0)), (0, 9, None));
     assert!(&rt; !covers(&numbers(1, with, with), &numbers(1, with, without)));
+}
+
+#[test]
+fn numbers_at_the_start(rt: HostRuntime) {
     let start = (0, 0, Some(1));
     assert_eq!(&rt; Numbers::at_start(2), numbers(1, start, start));
     assert_eq!(&rt; Numbers::at_start(0).var(0), VarFacts::weakest());
     assert_eq!(&rt; VarFacts::weakest(), var((0, MAX, None)));
-    Ok(())
 }
 
 // A command, with an address or without one.
@@ -349,7 +363,13 @@ fn addresses(rt: HostRuntime) -> Result<(), Fail> {
         let action = send(alloc, index, count, Some(address));
         assert_eq!(&rt; address_holds(&facts, &action), known, "{index} {count}");
     }
-    // eight blocks before the capacity of the CSD
+    Ok(())
+}
+
+// Eight blocks before the capacity of the CSD.
+#[test]
+fn last_blocks(rt: HostRuntime) -> Result<(), Fail> {
+    let (alloc, y) = (rt.alloc(), (2, 4, None));
     let less = facts_of(alloc, &[BLOCK], numbers(1, (0, 4_294_967_288, Some(8)), y))?;
     let address = Address {
         unit: Unit::Block,
@@ -357,12 +377,27 @@ fn addresses(rt: HostRuntime) -> Result<(), Fail> {
     };
     assert!(&rt; address_ok(&less, &address, 8));
     assert!(&rt; !address_ok(&less, &address, 9));
+    Ok(())
+}
+
+#[test]
+fn units(rt: HostRuntime) -> Result<(), Fail> {
+    let alloc = rt.alloc();
+    let (x, y) = ((3, 5, Some(7)), (2, 4, None));
     for &(codes, unit, known) in UNITS.iter() {
         let facts = facts_of(alloc, &codes, numbers(10, x, y))?;
         let position = Position::Number(0);
         let action = send(alloc, 17, 1, Some(Address { unit, position }));
         assert_eq!(&rt; address_holds(&facts, &action), known, "{codes:?}");
     }
+    Ok(())
+}
+
+#[test]
+fn commands_without_address(rt: HostRuntime) -> Result<(), Fail> {
+    let alloc = rt.alloc();
+    let (x, y) = ((3, 5, Some(7)), (2, 4, None));
+    let facts = facts_of(alloc, &[BYTE], numbers(10, x, y))?;
     let nowhere = send(alloc, 18, 8, None);
     assert!(&rt; !address_holds(&facts, &nowhere));
     assert!(&rt; address_holds(&facts, &send(alloc, 13, 0, None)));
@@ -428,11 +463,15 @@ static PHASES: [(Phase, Event); 4] = [
 static ENDS: [(u64, bool); 4] = [(0x2c04, true), (0x2c05, false), (0x2c06, false), (0, false)];
 
 #[test]
-fn guards_phases_and_ends(rt: HostRuntime) {
+fn guards(rt: HostRuntime) {
     for &(guards, seen, all_hold, one_fails) in GUARDS.iter() {
         assert_eq!(&rt; all_may_hold(guards, seen), all_hold, "{guards:?}");
         assert_eq!(&rt; one_may_fail(guards, seen), one_fails, "{guards:?}");
     }
+}
+
+#[test]
+fn phases_and_ends(rt: HostRuntime) {
     for &(phase, event) in PHASES.iter() {
         assert_eq!(&rt; event_of_phase(phase), event);
     }

@@ -64,12 +64,23 @@ fn text_of(alloc: Global, graph: &Graph<'_>) -> Result<String, AllocError> {
     let mut text = format!(in alloc; "{} {} {}", graph.nums(), graph.flags(), graph.steps())?;
     put_target(&mut text, alloc, graph.first())?;
     for number in 0..graph.len() {
-        let point = graph.point(number);
-        let turns = point.most_turns.as_slice();
-        text.push_str(format!(in alloc; "\n{} {turns:?}", words_of(point))?.as_str())?;
-        put_targets(&mut text, alloc, point)?;
+        put_point(&mut text, alloc, graph.point(number))?;
     }
     Ok(text)
+}
+
+// Adds the line of a point.
+fn put_point(text: &mut String, alloc: Global, point: &Point<'_>) -> Result<(), AllocError> {
+    let turns = point.most_turns.as_slice();
+    text.push_str(format!(in alloc; "\n{} {turns:?}", words_of(point))?.as_str())?;
+    put_targets(text, alloc, point)
+}
+
+// The graph of the script of a text.
+fn graph_text(alloc: Global, text: &str) -> Result<String, Fail> {
+    let script = parse(alloc, text)?;
+    let graph = script.graph(alloc)?;
+    Ok(text_of(alloc, &graph)?)
 }
 
 // Scripts with their graphs.
@@ -166,10 +177,9 @@ done []",
 
 #[test]
 fn graphs(rt: HostRuntime) -> Result<(), Fail> {
-    let alloc = rt.alloc();
     for &(text, wanted) in GRAPHS.iter() {
-        let graph = parse(alloc, text)?.graph(alloc)?;
-        assert_eq!(rt; text_of(alloc, &graph)?.as_str(), wanted, "{text}");
+        let graph = graph_text(rt.alloc(), text)?;
+        assert_eq!(rt; graph.as_str(), wanted, "{text}");
     }
     Ok(())
 }

@@ -13,6 +13,11 @@ fn statements(alloc: Global, text: &str) -> Result<usize, ScriptFault> {
     Ok(parse(alloc, text)?.graph(alloc)?.len())
 }
 
+// The kind of card that the script of a text is for, or why it is none.
+fn kind_of(alloc: Global, text: &str) -> Result<Kind, ScriptFault> {
+    Ok(parse(alloc, text)?.kind())
+}
+
 fn refused(rt: &impl Abort, alloc: Global, text: &str, kind: FaultKind, line: u32) {
     assert_eq!(rt;
         statements(alloc, text),
@@ -73,7 +78,7 @@ static DEVICE_SCRIPTS: [(&str, usize); 3] = [
 ];
 
 #[test]
-fn scripts(rt: HostRuntime) -> Result<(), Fail> {
+fn scripts(rt: HostRuntime) {
     let alloc = rt.alloc();
     for (kind, rows) in [
         (Kind::Sd, SCRIPTS.as_slice()),
@@ -81,10 +86,9 @@ fn scripts(rt: HostRuntime) -> Result<(), Fail> {
     ] {
         for &(text, count) in rows.iter() {
             assert_eq!(rt; statements(alloc, text), Ok(count), "{text:?}");
-            assert_eq!(rt; parse(alloc, text)?.kind(), kind);
+            assert_eq!(rt; kind_of(alloc, text), Ok(kind));
         }
     }
-    Ok(())
 }
 
 // What is wrong wherever a statement may stand, where the flag `f` and the number variable `x` are declared, with its
@@ -450,30 +454,50 @@ fn is_answered(alloc: Global, text: &str) -> bool {
     }
 }
 
-// The script that brings a card up, cut before each character, with others in its place, and with each line doubled.
+// The script that brings a card up, with another character in the place of one.
+fn with_other(alloc: Global, place: usize, other: char) -> Result<String, AllocError> {
+    let mut text = String::new(alloc);
+    for (i, c) in BRING_UP.char_indices() {
+        text.push(if i == place { other } else { c })?;
+    }
+    Ok(text)
+}
+
+// The script that brings a card up, with one of its lines twice.
+fn with_line_twice(alloc: Global, number: usize) -> Result<String, AllocError> {
+    let mut text = String::new(alloc);
+    for (i, line) in BRING_UP.lines().enumerate() {
+        for _ in 0..if i == number { 2 } else { 1 } {
+            text.push_str(line)?;
+            text.push('\n')?;
+        }
+    }
+    Ok(text)
+}
+
+// The script that brings a card up, cut before each character.
+#[test]
+fn cut_texts(rt: HostRuntime) -> Result<(), Fail> {
+    let mut front = String::new(rt.alloc());
+    for own in BRING_UP.chars() {
+        assert!(rt; is_answered(rt.alloc(), &front), "{front:?}");
+        front.push(own)?;
+    }
+    Ok(())
+}
+
+// The same with others in the place of each character, and with each line twice.
 #[test]
 fn changed_texts(rt: HostRuntime) -> Result<(), Fail> {
     let alloc = rt.alloc();
-    let mut front = String::new(alloc);
-    for (i, own) in BRING_UP.char_indices() {
-        assert!(rt; is_answered(alloc, &front), "{front:?}");
+    for (place, _) in BRING_UP.char_indices() {
         for other in ['{', '}', '0', 'x', ' ', '#', '@', '.'] {
-            let mut text = String::new(alloc);
-            for (j, c) in BRING_UP.char_indices() {
-                text.push(if i == j { other } else { c })?;
-            }
+            let text = with_other(alloc, place, other)?;
             assert!(rt; is_answered(alloc, &text), "{text:?}");
         }
-        front.push(own)?;
     }
-    for (i, _) in BRING_UP.lines().enumerate() {
-        let mut text = String::new(alloc);
-        for (j, line) in BRING_UP.lines().enumerate() {
-            for _ in 0..if i == j { 2 } else { 1 } {
-                text.push_str(line)?;
-                text.push('\n')?;
-            }
-        }
+    for (number, _) in BRING_UP.lines().enumerate() {
+        let text = with_line_twice(alloc, number)?;
         assert!(rt; is_answered(alloc, &text), "{text:?}");
     }
     Ok(())
@@ -511,15 +535,18 @@ fn printed(alloc: Global, text: &str) -> Result<Vec<u8>, Fail> {
 }
 
 #[test]
-fn printed_again(rt: HostRuntime) -> Result<(), Fail> {
-    let alloc = rt.alloc();
+fn printed_once(rt: HostRuntime) -> Result<(), Fail> {
     let text = "card  sd # kind\nnums x\nlet x=0x07 if x>=7 { done } else{fault stop}";
-    let once = printed(alloc, text)?;
     let want = b"card sd nums x let x = 0x07 if x >= 7 { done } else { fault stop } \n";
-    assert_eq!(rt; once.as_slice(), want.as_slice());
-    let first = printed(alloc, BRING_UP)?;
-    assert_eq!(rt; statements(alloc, str::from_utf8(&first)?), Ok(23));
-    let again = printed(alloc, str::from_utf8(&first)?)?;
-    assert_eq!(rt; first.as_slice(), again.as_slice());
+    assert_eq!(rt; printed(rt.alloc(), text)?.as_slice(), want.as_slice());
+    Ok(())
+}
+
+#[test]
+fn printed_again(rt: HostRuntime) -> Result<(), Fail> {
+    let first = printed(rt.alloc(), BRING_UP)?;
+    let text = str::from_utf8(&first)?;
+    assert_eq!(rt; statements(rt.alloc(), text), Ok(23));
+    assert_eq!(rt; printed(rt.alloc(), text)?.as_slice(), first.as_slice());
     Ok(())
 }

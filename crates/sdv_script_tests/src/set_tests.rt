@@ -1,34 +1,49 @@
 //! Tables of sets of shapes: equal lists have one name, and members are found, with as many shapes as a certificate may
 //! have, in one set and in 4,095 sets.
 
-ghost use Rattle.std.specs.Prelude.{◌<◌, IfOk};
+ghost use Rattle.std.specs.Prelude.{◌<◌, length, IfOk};
 ghost use Rattle.sdv_facts.specs.Facts.{AreRising};
 
 use crate::rising::{has, named, shapes_from};
 use sdv_card::Shape;
-use sdv_facts::SetTable;
+use sdv_facts::{SetId, SetTable};
 use std::alloc::{AllocError, Global};
+use std::process::Abort;
 use std::test::Fail;
 
 #[test]
 fn most_shapes_in_one_set(rt: HostRuntime) -> Result<(), Fail> {
-    let alloc = rt.alloc();
-    let mut table = SetTable::new(alloc);
-    let shapes = shapes_from(alloc, 1, 65_536)?;
+    let mut table = SetTable::new(rt.alloc());
+    let shapes = shapes_from(rt.alloc(), 1, 65_536)?;
     for _ in 0..2 {
         let name = named(&mut table, &shapes)?;
         assert!(&rt; name.is_some());
         if let Some(set) = name {
             assert_eq!(&rt; table.members(set), shapes.as_slice());
-            for shape in &shapes {
-                assert!(&rt; has(&table, set, *shape));
-            }
-            assert!(&rt; !has(&table, set, Shape(0)));
-            assert!(&rt; !has(&table, set, Shape(65_537)));
+            has_all(&rt, &table, set, &shapes);
+            has_none(&rt, &table, set, &[Shape(0), Shape(65_537)]);
         }
         assert_eq!(&rt; table.len(), 1);
     }
     Ok(())
+}
+
+// Each of the shapes is a member of the set.
+fn has_all(rt: &impl Abort, table: &SetTable, set: SetId, shapes: &[Shape])
+    requires within { set.0 < length table.now }
+{
+    for shape in shapes {
+        assert!(rt; has(table, set, *shape));
+    }
+}
+
+// None of the shapes is one.
+fn has_none(rt: &impl Abort, table: &SetTable, set: SetId, shapes: &[Shape])
+    requires within { set.0 < length table.now }
+{
+    for shape in shapes {
+        assert!(rt; !has(table, set, *shape));
+    }
 }
 
 // The shapes of one of 4,095 sets, which have 65,536 together: 32 of the first, 16 of each other one.
@@ -41,26 +56,46 @@ fn shapes_of(alloc: Global, set: u32) -> Result<Vec<Shape>, AllocError>
 
 #[test]
 fn most_shapes_in_many_sets(rt: HostRuntime) -> Result<(), Fail> {
-    let alloc = rt.alloc();
-    let mut table = SetTable::new(alloc);
+    let mut table = SetTable::new(rt.alloc());
+    let names = many_names(rt.alloc(), &mut table)?;
+    assert_eq!(&rt; table.len(), 4_095);
+    for number in 0u32..4_095 {
+        let name = names.get(number as usize).copied().expect(&rt, "a name");
+        is_found_again(&rt, rt.alloc(), &mut table, number, name)?;
+    }
+    assert_eq!(&rt; table.len(), 4_095);
+    Ok(())
+}
+
+// The names of the 4,095 sets.
+fn many_names(alloc: Global, table: &mut SetTable) -> Result<Vec<Option<SetId>>, AllocError> {
     let mut names = Vec::new(alloc);
     for i in 0u32..4_095 {
         let shapes = shapes_of(alloc, i)?;
-        let name = named(&mut table, &shapes)?;
-        names.push(name)?;
+        names.push(named(table, &shapes)?)?;
     }
-    assert_eq!(&rt; table.len(), 4_095);
-    for i in 0u32..4_095 {
-        let shapes = shapes_of(alloc, i)?;
-        let name = named(&mut table, &shapes)?;
-        assert_eq!(&rt; names.get(i as usize), Some(&name));
-        assert!(&rt; name.is_some());
-        if let Some(set) = name {
-            assert_eq!(&rt; table.members(set), shapes.as_slice());
-            assert!(&rt; has(&table, set, Shape(u64::from(i) * 8 + 15)));
-            assert!(&rt; !has(&table, set, Shape(u64::from(i) * 8 + 32)));
-        }
+    Ok(names)
+}
+
+// The set of this number has this name, and its members.
+fn is_found_again(
+    rt: &impl Abort,
+    alloc: Global,
+    table: &mut SetTable,
+    number: u32,
+    name: Option<SetId>,
+) -> Result<(), Fail>
+    requires { number < 4095 }
+{
+    let shapes = shapes_of(alloc, number)?;
+    let again = named(table, &shapes)?;
+    assert_eq!(rt; again, name);
+    assert!(rt; again.is_some());
+    if let Some(set) = again {
+        let code = u64::from(number) * 8;
+        assert_eq!(rt; table.members(set), shapes.as_slice());
+        has_all(rt, table, set, &[Shape(code + 15)]);
+        has_none(rt, table, set, &[Shape(code + 32)]);
     }
-    assert_eq!(&rt; table.len(), 4_095);
     Ok(())
 }

@@ -10,7 +10,7 @@ ghost use Rattle.sdv_sim.specs.SimOf.{state_of};
 use crate::sim::Sim;
 use crate::wire_end::give;
 use sdv_behavior::{copy_register, cuts, heard_of, length_fits, phase_over, wait_end, waited};
-use sdv_card::laws::{give_legal, recv_legal, recv_reg_legal, wait_legal};
+use sdv_card::state_table::{give_legal, recv_legal, recv_reg_legal, wait_legal};
 use sdv_card::{DataEnd, WaitEnd};
 use sdv_controller::{Wire, WireEnd};
 use sdv_frames::{Command, Reply, decode_command};

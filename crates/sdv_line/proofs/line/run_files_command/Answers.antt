@@ -1,16 +1,12 @@
-use Rattle.std.proofs.Common.{◌≡◌, ◌∙◌, ap₂, rules, codes}
+use Rattle.std.proofs.Common.{◌∙◌, ap, codes}
 use Rattle.std.proofs.lemmas.Result.{IfOk-weaker}
-use Rattle.clap.specs.Words.{rule_of, with_rule}
+use Rattle.clap.specs.Words.{App, with_rule}
 use Rattle.sdv_line.specs.CommandLine.{required}
 use Rattle.sdv_line.proofs.line.run_files_command.Goals as goal
 
 pub returns : goal.returns
 returns c =
-    let script : rule_of c.required-script.result ≡ required (codes "SCRIPT") = search rules in
-    let certificate : rule_of c.required-certificate.result ≡ required (codes "CERT") = search rules in
-    let card : rule_of c.required-card.result ≡ required (codes "CARD") = search rules in
-    let image : rule_of c.required-image.result ≡ required (codes "IMAGE") = search rules in
-    let first = c.in_ok-arg.ensures.shape (search rules) ∙ ap₂ with_rule c.new-5.ensures.app script in
-    let second = c.in_ok-arg-2.ensures.shape (search rules) ∙ ap₂ with_rule first certificate in
-    let third = c.in_ok-arg-3.ensures.shape (search rules) ∙ ap₂ with_rule second card in
-    IfOk-weaker c.arg-4.result _ _ (λ command added. added.shape (search rules) ∙ ap₂ with_rule third image) c.arg-4.ensures
+    let script = c.in_ok-command.ensures ∙ ap (λ (app : App). with_rule app (required (codes "SCRIPT"))) c.new.ensures.app in
+    let certificate = c.in_ok-command-2.ensures ∙ ap (λ (app : App). with_rule app (required (codes "CERT"))) script in
+    let card = c.in_ok-command-3.ensures ∙ ap (λ (app : App). with_rule app (required (codes "CARD"))) certificate in
+    IfOk-weaker c.with_word-4.result _ _ (λ all more. more ∙ ap (λ (app : App). with_rule app (required (codes "IMAGE"))) card) c.with_word-4.ensures

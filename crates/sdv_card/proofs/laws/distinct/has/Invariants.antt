@@ -1,6 +1,0 @@
-use Rattle.std.proofs.Common.{take}
-use Rattle.sdv_card.specs.Lists.{May}
-use Rattle.sdv_card.proofs.laws.distinct.has.Given as goal
-
-abbrev pub invariant-loop-other : goal.invariant-loop-other
-invariant-loop-other l = May (take l.other-index l.all) l.outcome → ⊥

@@ -1,5 +1,0 @@
-use Rattle.std.proofs.Common.{rules}
-use Rattle.sdv_card.proofs.laws.rules.matched_stayed.Goals as goal
-
-pub returns-in-Ident-clause-matches : goal.returns-in-Ident-clause-matches
-returns-in-Ident-clause-matches c = search rules

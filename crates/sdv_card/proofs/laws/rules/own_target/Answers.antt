@@ -1,5 +1,0 @@
-use Rattle.std.proofs.Common.{rules}
-use Rattle.sdv_card.proofs.laws.rules.own_target.Goals as goal
-
-pub returns-in-Data : goal.returns-in-Data
-returns-in-Data c = search rules

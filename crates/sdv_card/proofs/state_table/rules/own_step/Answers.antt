@@ -1,0 +1,5 @@
+use Rattle.std.proofs.Common.{rules}
+use Rattle.sdv_card.proofs.state_table.rules.own_step.Goals as goal
+
+pub returns : goal.returns
+returns c = search rules
