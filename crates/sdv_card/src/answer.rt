@@ -1,3 +1,5 @@
+//! What a call of a port answers.
+
 use sdv_frames::{FrameFault, Reply};
 
 /// What came of a command.

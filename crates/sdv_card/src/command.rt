@@ -1,3 +1,5 @@
+//! Commands as a card reads them, and the rows of the state tables that say how each is taken.
+
 use crate::state::State;
 
 /// A command that the command table of a kind has, by its name in the standard.

@@ -1,3 +1,5 @@
+//! The events of a script at a card, and what is seen of each.
+
 use crate::fields::Fields;
 use crate::shape::Shape;
 

@@ -1,3 +1,5 @@
+//! Values that show what the definitions of this crate say.
+
 ghost use Rattle.std.specs.Prelude.{◌≡◌, map};
 ghost use Rattle.sdv_card.specs.Shapes.{start_codes};
 ghost use Rattle.sdv_card.specs.BringUp.{BringUpHappens, LostAnswerHappens, ProgrammingEnds, DoubtStays, StopIsNotLegal, LastBlockIsBound, UnitIsTheCards};

@@ -1,3 +1,5 @@
+//! What a shape says, field by field.
+
 use crate::state::{EraseStage, State, Transfer};
 
 /// What a shape says of a card, its host and the script's flags.

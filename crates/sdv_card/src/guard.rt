@@ -1,3 +1,5 @@
+//! Guards: what a script asks of an answer.
+
 use crate::state::State;
 
 /// A test of what came of an event, as a script writes it.

@@ -1,3 +1,5 @@
+//! The port by which a host reaches a card.
+
 ghost use Rattle.std.specs.Prelude.{◌<◌, length, Option};
 ghost use Rattle.sdv_card.specs.Card.{Card};
 ghost use Rattle.sdv_card.specs.ScriptEvent.{Return, Answered, BlocksIn, RegisterIn, BlocksOut, Waited};

@@ -1,3 +1,5 @@
+//! Shapes: the codes of cards beside their hosts.
+
 ghost use Rattle.std.specs.Prelude.{◌≡◌, ◌<◌, ◌%◌, ◌^◌, ◌+◌, IfSome};
 ghost use Rattle.sdv_card.specs.States.{state_number};
 ghost use Rattle.sdv_card.specs.Code.{code_of, digits, fields_of, transfer_number, erase_number, bool_number, state_of, transfer_of, erase_of};

@@ -1,3 +1,5 @@
+//! The states, data transfers and erase stages of a card.
+
 /// The state of a card.
 #[derive(Clone, Copy, Debug, Default, PartialEq, Eq)]
 pub enum State {

@@ -1,3 +1,5 @@
+//! The state table of a kind of card.
+
 ghost use Rattle.std.specs.Prelude.{◌↔◌, IsTrue};
 ghost use Rattle.sdv_registers.specs.declared.kind.Kind.{Kind};
 ghost use Rattle.sdv_card.specs.declared.event.Outcome.{Outcome};

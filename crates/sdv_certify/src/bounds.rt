@@ -189,9 +189,7 @@ fn within_limits(alloc: Global, forms: &[Form]) -> Result<Vec<Form>, CertifyFaul
         if !in_limits(&form) {
             return Err(CertifyFault::TooMany);
         }
-        let Ok(()) = within.push(form) else {
-            return Err(CertifyFault::Memory);
-        };
+        push(&mut within, form)?;
     }
     Ok(within)
 }
@@ -210,9 +208,7 @@ pub fn bound_forms(alloc: Global, script: &Script<'_>) -> Result<Vec<Form>, Cert
         → All FormInLimits (map full_form (forms_of (shown script.now).body)) → ⊥) }
 {
     let mut forms = Vec::new(alloc);
-    let Ok(_) = put_block(alloc, &mut forms, script.body(), None, None) else {
-        return Err(CertifyFault::Memory);
-    };
+    put_block(alloc, &mut forms, script.body(), None, None)?;
     forms.reverse();
     within_limits(alloc, &forms)
 }

@@ -1,4 +1,9 @@
+//! Why a script has no certificate.
+
+ghost use Rattle.std.specs.Prelude.{◌≡◌};
+
 use sdv_card::Shape;
+use std::alloc::AllocError;
 use thiserror::Error;
 
 /// Why a script has no certificate. A point is named by its number, from 0.
@@ -30,4 +35,14 @@ pub enum CertifyFault {
     /// Memory was refused.
     #[error("out of memory")]
     Memory,
+}
+
+impl From<AllocError> for CertifyFault {
+    ghost use Rattle.sdv_certify.specs.declared.fault.CertifyFault.TheVariants.{Memory};
+
+    ghost from_gives = { λ _ fault. fault ≡ Memory };
+
+    fn from(_refused: AllocError) -> CertifyFault {
+        CertifyFault::Memory
+    }
 }

@@ -7,10 +7,11 @@ use Rattle.std.proofs.lemmas.Nat.{be_bytes_8, from_be_bytes-to_be_bytes_8}
 use Rattle.hex.specs.Hex.{IsBytes, lower_digits, encode_lower, decode_of, decode_sized}
 use Rattle.hex.specs.declared.error.FromHexError.{FromHexError}
 use Rattle.hex.proofs.HexLemmas.{decode_of-encode_lower, decode_of-ok, decode_of-even, decode_sized-ok, decode_sized-twice, length-encode_with}
+use Rattle.sdv_text.proofs.FrontLaws.{bind_some, some_is, tested, not_tested, after_takes}
+use Rattle.sdv_text.specs.Fronts.{after}
 use Rattle.sdv_card.specs.declared.shape.Shape.{Shape}
 use Rattle.sdv_facts.specs.CertificateText.{shape_written}
-use Rattle.sdv_check.specs.Reading.{after, ends_item, has_upper, word_of, code_of, code_item, read_shape, is_above, read_rising}
-use Rattle.sdv_check.proofs.Words.{bind_some, some_is, tested, not_tested, after_takes}
+use Rattle.sdv_check.specs.Reading.{ends_item, has_upper, word_of, code_of, code_item, read_shape, is_above, read_rising}
 use Rattle.sdv_check.proofs.Digits.{encode_back, lower_again}
 
 eight : (n : ℕ) → IsBytes (to_be_bytes w64 n)

@@ -1,11 +1,12 @@
 -- Lists of items: what is read is what was written, what was written is read again, and how a loop goes over them.
 use Rattle.std.proofs.Common.{◌≡◌, ℕ, zero, suc, ◌-◌, ◌<◌, ◌≤◌, Bool, true, false, List, [], ◌∷◌, ◌++◌, length, Option, Some, None, inl, inr, refl, sym, ap, subst, ◌∙◌, append_assoc, arith, length-append}
 use Rattle.std.proofs.lemmas.List.{append-nil}
+use Rattle.sdv_text.proofs.FrontLaws.{bind_some, some_is, either}
+use Rattle.sdv_text.specs.Fronts.{◌>>=◌, Read}
 use Rattle.sdv_facts.specs.CertificateText.{each_written}
 use Rattle.sdv_check.specs.declared.text.fault.CertFault.{CertFault}
 use Rattle.sdv_check.specs.declared.text.fault.CertFault.TheVariants.{Header, Syntax, Order, Limit, Memory}
-use Rattle.sdv_check.specs.Reading.{Read, Fails, read_each, ends_item, ◌>>=◌}
-use Rattle.sdv_check.proofs.Words.{bind_some, some_is, either}
+use Rattle.sdv_check.specs.Reading.{Fails, read_each, ends_item}
 
 -- each item stands in a relation with the one before it
 abbrev pub Each : {A : Type 0} → (Option A → A → Type 0) → Option A → List A → Type 0

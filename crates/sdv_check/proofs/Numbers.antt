@@ -1,51 +1,22 @@
 -- A number that is read is the number that was written, and what was written is read again.
-use Rattle.std.proofs.Common.{◌≡◌, ℕ, suc, ◌+◌, ◌-◌, ◌*◌, ◌^◌, ◌<◌, ◌≤◌, min, Bool, true, false, ◌&&◌, nat_le, List, [], ◌∷◌, ◌++◌, length, take, drop, get_or, Some, decimal, inl, inr, refl, sym, ap, ◌∙◌, arith, rules, add-one, one-add, drop-cons, take_at, drop_at}
+use Rattle.std.proofs.Common.{◌≡◌, ℕ, ◌^◌, ◌<◌, ◌≤◌, true, false, ◌&&◌, nat_le, List, [], ◌∷◌, ◌++◌, length, take, drop, get_or, Some, decimal, inl, inr, refl, sym, ap, ◌∙◌, arith, rules, one-add, take_at, drop_at}
 use Rattle.std.specs.List.{prefix_len}
 use Rattle.std.specs.Str.{all_ascii_digits}
-use Rattle.std.proofs.Math.ListN.{drop_of_length-le}
 use Rattle.std.proofs.lemmas.Bool.{and_parts, cases_eq, le-leb, leb-true}
 use Rattle.std.proofs.lemmas.Bool.Decides.{nat_tests}
 use Rattle.std.proofs.lemmas.List.{take-append-drop}
-use Rattle.std.proofs.lemmas.List.Folds.{length-prefix_len}
 use Rattle.std.proofs.lemmas.Fmt.{decimal_digit, decimal-digits_value, digits_decimal, digits_value-decimal, decimal_nonempty, first_decimal}
 use Rattle.std.proofs.lemmas.Str.Parse.{IsNumeralModel, numerals_by_fold, tells_all_ascii_digits}
+use Rattle.sdv_text.proofs.FrontLaws.{bind_some, some_is, tested, either, both, after_takes, run_is}
+use Rattle.sdv_text.specs.Fronts.{after, is_digit, run, number_after}
 use Rattle.sdv_facts.specs.CertificateText.{number_written}
-use Rattle.sdv_check.specs.Reading.{after, ends_item, is_digit, run, number_after, is_plain, figure, read_figure, read_number}
-use Rattle.sdv_check.proofs.Words.{bind_some, some_is, tested, either, after_takes}
-
--- CAPPED VALUES
-
-capped_step : (d x y cap : ℕ) → min x cap ≡ min y cap → min (x * 10 + d) cap ≡ min (y * 10 + d) cap
-capped_step d x y cap e = omega arith
-
-pub capped : (x y cap : ℕ) (bs : List ℕ) → min x cap ≡ min y cap → min (number_after x bs) cap ≡ min (number_after y bs) cap
-unfolding number_after
-capped x y cap [] e = e
-capped x y cap (d ∷ bs) e = capped (x * 10 + (d - 48)) (y * 10 + (d - 48)) cap bs (capped_step (d - 48) x y cap e)
-
--- one more digit
-pub capped_more : (before value i : ℕ) (digits : List ℕ) → i < length digits → value ≡ min (before * 10 + (get_or digits i 0 - 48)) (2 ^ 40 + 1)
-    → min (number_after value (drop (i + 1) digits)) (2 ^ 40 + 1) ≡ min (number_after before (drop i digits)) (2 ^ 40 + 1)
-unfolding number_after
-capped_more before value i digits lt e =
-    rw (add-one, drop-cons digits i 0) (capped value (before * 10 + (get_or digits i 0 - 48)) (2 ^ 40 + 1) (drop (suc i) digits) (omega arith))
-
--- no more digits
-pub capped_end : (before i : ℕ) (digits : List ℕ) → length digits ≤ i → before ≤ 2 ^ 40 + 1 → min (number_after before (drop i digits)) (2 ^ 40 + 1) ≡ before
-unfolding number_after
-capped_end before i digits le small = rw (drop_of_length-le digits le) (omega arith)
+use Rattle.sdv_check.specs.Reading.{ends_item, is_plain, figure, read_figure, read_number}
 
 -- DIGITS
 
 own : IsNumeralModel (λ ds. all_ascii_digits ds ≡ true) (number_after 0)
 unfolding number_after
 own = numerals_by_fold _ tells_all_ascii_digits number_after (search rules)
-
-run_is : (bs : List ℕ) → run is_digit bs ≡ prefix_len is_digit bs
-run_is bs = length-prefix_len is_digit bs
-
-both : (x y : Bool) → x ≡ true → y ≡ true → (x && y) ≡ true
-both x y p q = rw (p, q) refl
 
 front_digits : (bs : List ℕ) → all_ascii_digits (take (prefix_len is_digit bs) bs) ≡ true
 front_digits [] = refl

@@ -1,9 +1,10 @@
 -- Lines of points, read one after the other as a loop does.
 use Rattle.std.proofs.Common.{◌≡◌, ℕ, suc, ◌+◌, ◌-◌, ◌<◌, ◌≤◌, List, [], ◌∷◌, ◌++◌, length, Some, None, refl, sym, ap, ◌∙◌, append_assoc, arith}
 use Rattle.std.proofs.lemmas.List.{append-nil}
+use Rattle.sdv_text.specs.Fronts.{◌>>=◌, Read}
 use Rattle.sdv_facts.specs.declared.certificate.PointFacts.{PointFacts}
 use Rattle.sdv_check.specs.declared.text.fault.CertFault.{CertFault}
-use Rattle.sdv_check.specs.Reading.{Read, Fails, read_point, read_points, ◌>>=◌}
+use Rattle.sdv_check.specs.Reading.{Fails, read_point, read_points}
 use Rattle.sdv_check.proofs.Lists.{fails_with}
 
 -- what was read before, and what is still read

@@ -6,6 +6,8 @@ use Rattle.std.proofs.lemmas.Bool.{and_parts}
 use Rattle.std.proofs.lemmas.Bool.Decides.{nat_tests}
 use Rattle.std.proofs.lemmas.Fmt.{decimal_nonempty}
 use Rattle.std.proofs.lemmas.List.Elements.{All-from_recursion, recursion_from_All}
+use Rattle.sdv_text.proofs.FrontLaws.{bind_some, some_is, tested, after_takes}
+use Rattle.sdv_text.specs.Fronts.{after, is_digit}
 use Rattle.sdv_card.specs.declared.shape.Shape.{Shape}
 use Rattle.sdv_facts.specs.declared.numbers.VarFacts.{VarFacts}
 use Rattle.sdv_facts.specs.declared.numbers.Numbers.{Numbers}
@@ -13,8 +15,7 @@ use Rattle.sdv_facts.specs.declared.certificate.PointFacts.{PointFacts}
 use Rattle.sdv_facts.specs.Facts.{AreRising}
 use Rattle.sdv_facts.specs.Limits.{IsInLimits, VarInLimits, NumbersInLimits, PointInLimits}
 use Rattle.sdv_facts.specs.CertificateText.{number_written, gap_written, var_written, shape_written, each_written, point_written, points_written, shape_count, PointFits}
-use Rattle.sdv_check.specs.Reading.{after, ends_item, is_digit, begins_number, begins_var, begins_shape, gap_from, some_gap, read_number, read_gap, read_var, read_rising, read_turns, read_vars, read_shapes, read_place, read_numbers, read_bound, read_point, read_points}
-use Rattle.sdv_check.proofs.Words.{bind_some, some_is, tested, after_takes}
+use Rattle.sdv_check.specs.Reading.{ends_item, begins_number, begins_var, begins_shape, gap_from, some_gap, read_number, read_gap, read_var, read_rising, read_turns, read_vars, read_shapes, read_place, read_numbers, read_bound, read_point, read_points}
 use Rattle.sdv_check.proofs.Numbers.{number_takes, number_again, decimal_digits}
 use Rattle.sdv_check.proofs.Codes.{IsNext, rising_takes, rising_again}
 use Rattle.sdv_check.proofs.Lists.{each_takes, each_again, each_ends}

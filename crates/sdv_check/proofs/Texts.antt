@@ -3,13 +3,14 @@ use Rattle.std.proofs.Common.{◌≡◌, ◌≢◌, ℕ, ◌≤◌, Bool, true, 
 use Rattle.std.specs.List.{AllByRecursion}
 use Rattle.std.proofs.lemmas.List.{nil_from_length}
 use Rattle.std.proofs.lemmas.List.Elements.{All-from_recursion}
+use Rattle.sdv_text.proofs.FrontLaws.{bind_some, some_is, tested, after_takes}
+use Rattle.sdv_text.specs.Fronts.{◌>>=◌, after}
 use Rattle.sdv_facts.specs.declared.certificate.PointFacts.{PointFacts}
 use Rattle.sdv_facts.specs.Limits.{PointInLimits}
 use Rattle.sdv_facts.specs.CertificateText.{number_written, points_written, text_of, max_bytes, max_points, max_shapes, shape_count, PointFits, WithinLimits}
 use Rattle.sdv_check.specs.declared.text.fault.CertFault.{CertFault}
 use Rattle.sdv_check.specs.declared.text.fault.CertFault.TheVariants.{Header, Syntax, Order, Limit, Memory}
-use Rattle.sdv_check.specs.Reading.{after, Fails, read_number, read_count, read_points, read_lines, read_text, ◌>>=◌}
-use Rattle.sdv_check.proofs.Words.{bind_some, some_is, tested, after_takes}
+use Rattle.sdv_check.specs.Reading.{Fails, read_number, read_count, read_points, read_lines, read_text}
 use Rattle.sdv_check.proofs.Numbers.{number_takes, number_again}
 use Rattle.sdv_check.proofs.TextPoints.{points_take, points_again}
 

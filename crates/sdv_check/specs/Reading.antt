@@ -1,10 +1,11 @@
 -- Reading the text of a certificate from left to right: the part that it begins with, and what follows; none where it
 -- begins with no such part. The laws of reading say that what is read is what is written.
-use Rattle.std.specs.Prelude.{◌≡◌, ℕ, zero, suc, ◌+◌, ◌-◌, ◌*◌, List, [], ◌∷◌, length, take, drop, Bool, true, false, ◌&&◌, ◌||◌, ◌==◌, nat_lt, nat_le, not, take_while, slice_index, codes, Option, Some, None, Result, Ok, Err, if◌then◌else◌}
+use Rattle.std.specs.Prelude.{◌≡◌, ℕ, zero, suc, ◌-◌, List, [], ◌∷◌, length, take, drop, Bool, true, false, ◌&&◌, ◌||◌, ◌==◌, nat_lt, nat_le, not, slice_index, codes, Option, Some, None, Result, Ok, Err, if◌then◌else◌}
 use Rattle.std.specs.List.{list_any}
 use Rattle.std.specs.Int.{w64, from_be_bytes}
 use Rattle.hex.specs.Hex.{decode_sized}
 use Rattle.hex.specs.declared.error.FromHexError.{FromHexError}
+use Rattle.sdv_text.specs.Fronts.{◌>>=◌, Read, after, is_digit, run, number_after}
 use Rattle.sdv_card.specs.declared.shape.Shape.{Shape}
 use Rattle.sdv_script.specs.Rules.{max_number}
 use Rattle.sdv_facts.specs.declared.numbers.VarFacts.{VarFacts}
@@ -13,11 +14,6 @@ use Rattle.sdv_facts.specs.declared.certificate.PointFacts.{PointFacts}
 use Rattle.sdv_facts.specs.CertificateText.{max_bytes, max_points, max_shapes}
 use Rattle.sdv_check.specs.declared.text.fault.CertFault.{CertFault}
 use Rattle.sdv_check.specs.declared.text.fault.CertFault.TheVariants as faults
-
-infixl 10 ◌>>=◌
-abbrev pub ◌>>=◌ : {A B : Type 0} → Option A → (A → Option B) → Option B
-None >>= f = None
-(Some x) >>= f = f x
 
 abbrev pub Fails : {Y : Type 0} → CertFault → Option Y → Type 0
 Fails faults.Memory read = Unit {0}
@@ -28,16 +24,7 @@ abbrev pub Gives : {X Y : Type 0} → (X → Y) → Result X CertFault → Optio
 Gives view (Ok x) read = read ≡ Some (view x)
 Gives view (Err e) read = Fails e read
 
-abbrev pub Read : Type 0 → Type 0
-Read A = Option (A × List ℕ)
-
--- WORDS AND ENDS
-
--- what follows a word
-abbrev pub after : List ℕ → List ℕ → Option (List ℕ)
-after [] bs = Some bs
-after (w ∷ ws) [] = None
-after (w ∷ ws) (b ∷ bs) = if b == w then after ws bs else None
+-- ENDS
 
 -- an item ends before this
 abbrev pub ends_item : List ℕ → Bool
@@ -45,18 +32,6 @@ ends_item [] = true
 ends_item (b ∷ bs) = (b == 32) || (b == 10)
 
 -- NUMBERS
-
-abbrev pub is_digit : ℕ → Bool
-is_digit b = nat_le 48 b && nat_le b 57
-
--- how many bytes at the front pass a test
-abbrev pub run : (ℕ → Bool) → List ℕ → ℕ
-run test bs = length (take_while test bs)
-
--- the number that digits spell after what stands before them
-unfoldable pub number_after : (before : ℕ) → List ℕ → ℕ
-number_after before [] = before
-number_after before (b ∷ bs) = number_after (before * 10 + (b - 48)) bs
 
 -- one digit or more, and no zero before others
 abbrev pub is_plain : List ℕ → Bool

@@ -1,3 +1,5 @@
+//! A script that was accepted.
+
 use sdv_graph::Graph;
 use std::marker::Model;
 

@@ -1,3 +1,5 @@
+//! The ways out of a point.
+
 use sdv_graph::{Case, Target};
 
 /// Where an event may lead, but for the last exit, that of every other answer.

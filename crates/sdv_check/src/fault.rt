@@ -1,3 +1,5 @@
+//! Why a certificate is refused.
+
 use crate::text::CertFault;
 use sdv_script::ScriptFault;
 use thiserror::Error;

@@ -1,3 +1,5 @@
+//! Scripts and certificates, verified by their texts.
+
 ghost use Rattle.std.specs.Prelude.{◌≡◌, ◌≢◌, IfOk, MatchResult};
 ghost use Rattle.sdv_check.specs.Headline.{EachRunOf};
 ghost use Rattle.sdv_check.specs.Verified.{IsGraphOfText, IsNoScript, fault_of_script, Verified};

@@ -1,4 +1,4 @@
-pub mod Words
+pub mod Lines
 pub mod Numbers
 pub mod ReadLaws
 pub mod CsdLaws

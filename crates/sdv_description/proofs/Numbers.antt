@@ -1,41 +1,15 @@
 -- Numbers that are read are those that stand there.
-use Rattle.std.proofs.Common.{◌≡◌, ℕ, suc, ◌+◌, ◌-◌, ◌*◌, ◌^◌, ◌<◌, ◌≤◌, min, true, ◌&&◌, nat_le, nat_lt, List, [], ◌∷◌, ◌++◌, length, take, drop, get_or, Option, Some, inl, inr, refl, sym, ap, ◌∙◌, arith, add-one, one-add, drop-cons, take_at, drop_at, append_assoc}
+use Rattle.std.proofs.Common.{◌≡◌, ℕ, ◌≤◌, true, ◌&&◌, nat_le, nat_lt, List, [], ◌∷◌, ◌++◌, length, take, drop, Option, Some, inl, inr, refl, sym, ap, ◌∙◌, arith, one-add, take_at, drop_at, append_assoc}
 use Rattle.std.specs.List.{prefix_len}
-use Rattle.std.proofs.Math.ListN.{drop_of_length-le}
 use Rattle.std.proofs.lemmas.Bool.{and_parts, le-leb, leb-true}
 use Rattle.std.proofs.lemmas.Bool.Decides.{nat_tests}
 use Rattle.std.proofs.lemmas.List.{take-append-drop}
-use Rattle.std.proofs.lemmas.List.Folds.{length-prefix_len}
-use Rattle.sdv_description.specs.Grammar.{is_digit, are_digits, number_after, NumberLine}
-use Rattle.sdv_description.specs.Reading.{◌>>=◌, after, run, ended, figure, read_figure, read_number}
-use Rattle.sdv_description.proofs.Words.{bind_some, some_is, tested, either, both, after_takes, after_again}
-
--- CAPPED VALUES
-
-capped_step : (d x y cap : ℕ) → min x cap ≡ min y cap → min (x * 10 + d) cap ≡ min (y * 10 + d) cap
-capped_step d x y cap e = omega arith
-
-pub capped : (x y cap : ℕ) (bs : List ℕ) → min x cap ≡ min y cap → min (number_after x bs) cap ≡ min (number_after y bs) cap
-unfolding number_after
-capped x y cap [] e = e
-capped x y cap (d ∷ bs) e = capped (x * 10 + (d - 48)) (y * 10 + (d - 48)) cap bs (capped_step (d - 48) x y cap e)
-
--- one more digit
-pub capped_more : (before value i : ℕ) (digits : List ℕ) → i < length digits → value ≡ min (before * 10 + (get_or digits i 0 - 48)) (2 ^ 32) →
-    min (number_after value (drop (i + 1) digits)) (2 ^ 32) ≡ min (number_after before (drop i digits)) (2 ^ 32)
-unfolding number_after
-capped_more before value i digits lt e =
-    rw (add-one, drop-cons digits i 0) (capped value (before * 10 + (get_or digits i 0 - 48)) (2 ^ 32) (drop (suc i) digits) (omega arith))
-
--- no more digits
-pub capped_end : (before i : ℕ) (digits : List ℕ) → length digits ≤ i → before ≤ 2 ^ 32 → min (number_after before (drop i digits)) (2 ^ 32) ≡ before
-unfolding number_after
-capped_end before i digits le small = rw (drop_of_length-le digits le) (omega arith)
+use Rattle.sdv_text.proofs.FrontLaws.{bind_some, some_is, tested, either, both, after_takes, after_again, run_is}
+use Rattle.sdv_text.specs.Fronts.{◌>>=◌, after, is_digit, run, number_after}
+use Rattle.sdv_description.specs.Grammar.{are_digits, NumberLine}
+use Rattle.sdv_description.specs.Reading.{ended, figure, read_figure, read_number}
 
 -- DIGITS
-
-run_is : (bs : List ℕ) → run is_digit bs ≡ prefix_len is_digit bs
-run_is bs = length-prefix_len is_digit bs
 
 front_digits : (bs : List ℕ) → are_digits (take (prefix_len is_digit bs) bs) ≡ true
 front_digits [] = refl

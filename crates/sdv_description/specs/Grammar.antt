@@ -1,23 +1,16 @@
 -- What the text of a description is: lines, one for each thing that it says, in a fixed order, each with an end of line
 -- (10) behind it and nothing after the last one. The format is this project's own.
-use Rattle.std.specs.Prelude.{◌≡◌, ℕ, ◌+◌, ◌-◌, ◌*◌, List, [], ◌∷◌, ◌++◌, Bool, true, ◌&&◌, ◌||◌, ◌==◌, nat_le, codes, IsTrue}
+use Rattle.std.specs.Prelude.{◌≡◌, ℕ, List, [], ◌∷◌, ◌++◌, Bool, true, ◌&&◌, ◌||◌, ◌==◌, nat_le, codes, IsTrue}
+use Rattle.sdv_text.specs.Fronts.{is_digit, number_after}
 use Rattle.sdv_description.specs.declared.description.Size.{Size}
 use Rattle.sdv_description.specs.declared.description.Description.{Description}
 use Rattle.sdv_description.specs.declared.description.Description.TheVariants.{SdBytes, SdBlocks, EmmcBytes, EmmcBlocks}
 
 -- NUMBERS are written in decimal, with zeros before them or without
 
-abbrev pub is_digit : ℕ → Bool
-is_digit b = nat_le 48 b && nat_le b 57
-
 abbrev pub are_digits : List ℕ → Bool
 are_digits [] = true
 are_digits (b ∷ bs) = is_digit b && are_digits bs
-
--- the number that digits spell after what stands before them
-unfoldable pub number_after : (before : ℕ) → List ℕ → ℕ
-number_after before [] = before
-number_after before (b ∷ bs) = number_after (before * 10 + (b - 48)) bs
 
 -- LINES
 

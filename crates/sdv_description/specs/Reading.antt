@@ -1,33 +1,14 @@
 -- Reading the text of a description from left to right: what its front says, and what follows; none where it is no such
 -- front. The laws of reading say that what is read is what the text says by its grammar.
-use Rattle.std.specs.Prelude.{ℕ, List, [], ◌∷◌, length, take, drop, Bool, true, false, ◌&&◌, ◌||◌, ◌==◌, nat_lt, nat_le, take_while, codes, Option, Some, None, if◌then◌else◌}
+use Rattle.std.specs.Prelude.{ℕ, List, [], ◌∷◌, length, take, drop, Bool, true, false, ◌&&◌, ◌||◌, ◌==◌, nat_lt, nat_le, codes, Option, Some, None, if◌then◌else◌}
+use Rattle.sdv_text.specs.Fronts.{◌>>=◌, Read, after, is_digit, run, number_after}
 use Rattle.sdv_description.specs.declared.description.Size.{Size}
 use Rattle.sdv_description.specs.declared.description.Description.{Description}
 use Rattle.sdv_description.specs.declared.description.Description.TheVariants.{SdBytes, SdBlocks, EmmcBytes, EmmcBlocks}
-use Rattle.sdv_description.specs.Grammar.{number_after}
-pub use Rattle.sdv_description.specs.Grammar.{is_digit}
-
-infixl 10 ◌>>=◌
-abbrev pub ◌>>=◌ : {A B : Type 0} → Option A → (A → Option B) → Option B
-None >>= f = None
-(Some x) >>= f = f x
-
-abbrev pub Read : Type 0 → Type 0
-Read A = Option (A × List ℕ)
-
--- what follows a word
-abbrev pub after : List ℕ → List ℕ → Option (List ℕ)
-after [] bs = Some bs
-after (w ∷ ws) [] = None
-after (w ∷ ws) (b ∷ bs) = if b == w then after ws bs else None
 
 -- what follows a line
 abbrev pub read_line : List ℕ → List ℕ → Option (List ℕ)
 read_line words text = after words text >>= after (10 ∷ [])
-
--- how many bytes at the front pass a test
-abbrev pub run : (ℕ → Bool) → List ℕ → ℕ
-run test bs = length (take_while test bs)
 
 abbrev pub ended : ℕ → List ℕ → Read ℕ
 ended n bs = after (10 ∷ []) bs >>= λ rest. Some (n, rest)

@@ -1,8 +1,9 @@
 //! Reading a description from its first line to its last.
 
 ghost use Rattle.std.specs.Prelude.{◌≡◌, ◌^◌, ◌++◌, ◌∷◌, [], length, min, option_map};
-ghost use Rattle.sdv_description.specs.Grammar.{size_fits, number_after};
-ghost use Rattle.sdv_description.specs.Reading.{after, run, is_digit, read_line, read_figure, read_number, read_size, read_rca, read_sd, read_sd_bytes, read_sd_blocks, read_emmc, read_emmc_bytes, read_emmc_blocks, read_description};
+ghost use Rattle.sdv_text.specs.Fronts.{after, is_digit, run, number_after};
+ghost use Rattle.sdv_description.specs.Grammar.{size_fits};
+ghost use Rattle.sdv_description.specs.Reading.{read_line, read_figure, read_number, read_size, read_rca, read_sd, read_sd_bytes, read_sd_blocks, read_emmc, read_emmc_bytes, read_emmc_blocks, read_description};
 
 use crate::description::{Description, Size};
 

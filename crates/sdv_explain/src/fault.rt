@@ -1,3 +1,5 @@
+//! Why nothing is explained.
+
 ghost use Rattle.std.specs.Prelude.{◌≡◌};
 
 use sdv_certify::CertifyFault;

@@ -1,3 +1,5 @@
+//! The places by which a way leads.
+
 use sdv_card::{Seen, Shape};
 
 /// Where a way comes to: a point of a script, with the shape of a card beside its host there.

@@ -1,3 +1,5 @@
+//! Addresses that lie on the card, by what is known of the numbers.
+
 ghost use Rattle.std.specs.Prelude.{◌≡◌, ◌+◌, nat_le, IsTrue};
 ghost use Rattle.sdv_facts.specs.AddressFits.{gap_allows, variable_fits, position_fits, address_fits};
 ghost use Rattle.sdv_facts.specs.Keeps.{IsOnCard};

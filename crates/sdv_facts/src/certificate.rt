@@ -1,3 +1,5 @@
+//! Certificates: what is known at each point of a script.
+
 ghost use Rattle.std.specs.Prelude.{◌≡◌, All};
 ghost use Rattle.sdv_facts.specs.Limits.{PointInLimits};
 

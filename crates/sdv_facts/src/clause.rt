@@ -1,3 +1,5 @@
+//! What a certificate has to say of a point, clause by clause.
+
 /// What a certificate has to say of a point, by the name of the fault where it does not. The clauses are tried in this
 /// order.
 #[derive(Clone, Copy, Debug, PartialEq, Eq)]

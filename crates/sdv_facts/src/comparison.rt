@@ -1,3 +1,5 @@
+//! What is known after a comparison.
+
 ghost use Rattle.std.specs.Prelude.{◌≡◌, IfSome};
 ghost use Rattle.sdv_facts.specs.declared.test.Test.TheVariants.{AtLeast, Below};
 ghost use Rattle.sdv_facts.specs.AfterTest.{least_by, after_test};

@@ -1,3 +1,5 @@
+//! What is known at one place, carried to another that knows no more.
+
 ghost use Rattle.std.specs.Prelude.{◌≡◌, ◌↔◌, IsTrue, length};
 ghost use Rattle.sdv_facts.specs.Covers.{GapCovers, VarCovers, Covers};
 ghost use Rattle.sdv_facts.specs.Keeps.{HoldsAtTarget};

@@ -1,3 +1,5 @@
+//! What is known of the number variables and of the capacity.
+
 ghost use Rattle.std.specs.Prelude.{◌≡◌, ◌≤◌};
 ghost use Rattle.sdv_facts.specs.Facts.{weakest, var, with_var};
 ghost use Rattle.sdv_facts.specs.Limits.{VarInLimits, NumbersInLimits};

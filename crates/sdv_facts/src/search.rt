@@ -1,3 +1,5 @@
+//! Shapes, looked up among those of a point.
+
 ghost use Rattle.std.specs.Prelude.{◌↔◌, IsTrue};
 ghost use Rattle.sdv_card.specs.Lists.{May};
 

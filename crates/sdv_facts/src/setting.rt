@@ -1,3 +1,5 @@
+//! What is known after a number variable is set.
+
 ghost use Rattle.std.specs.Prelude.{◌≡◌, IfSome};
 ghost use Rattle.sdv_facts.specs.AfterLet.{register_facts, atom_facts, changed_facts, after_let};
 ghost use Rattle.sdv_facts.specs.Limits.{AtomInLimits, VarInLimits, NumbersInLimits};

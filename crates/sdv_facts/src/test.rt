@@ -1,3 +1,5 @@
+//! The comparison along an edge.
+
 /// The comparison that holds along an edge.
 #[derive(Clone, Copy, Debug, PartialEq, Eq)]
 pub enum Test {

@@ -1,3 +1,5 @@
+//! Files of blocks.
+
 ghost use Rattle.std.specs.Prelude.{◌≡◌, ◌<◌, ◌≤◌, ◌/◌, ◌∷◌, [], ℕ, List, Option, OnOk, OnErr};
 ghost use Rattle.sdv_card.specs.Card.{Block};
 ghost use Rattle.sdv_image.specs.Images.{HasFailed, Shown, OnlyAt, AreSized};

@@ -1,3 +1,5 @@
+//! An image that is kept in a file.
+
 ghost use Rattle.std.specs.Prelude.{◌≡◌, ◌<◌, ◌≤◌, ◌/◌, ◌%◌, ℕ, vec_len, OnOk, OnErr, IfOk, IfErr, MatchResult, Some, option_map, [], ◌∷◌};
 ghost use Rattle.sdv_image.specs.Images.{HasFailed, Shown};
 ghost use Rattle.sdv_file_image.specs.Buffers.{AreSound};

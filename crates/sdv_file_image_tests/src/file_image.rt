@@ -1,3 +1,5 @@
+//! Images over files that count, fail and run out of fuel.
+
 use crate::counting_file::CountingFile;
 use sdv_file_image::{BlockFile, FileImage};
 use sdv_fuse::{Call, Fuse, FuseFile};

@@ -1,3 +1,5 @@
+//! Why bytes are no frame.
+
 use thiserror::Error;
 
 /// Why bytes are no frame. Of several faults the first in this order is answered.

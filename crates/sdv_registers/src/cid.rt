@@ -1,3 +1,5 @@
+//! The card identification register of either kind.
+
 ghost use Rattle.std.specs.Prelude.{◌≡◌};
 
 use crate::emmc_cid::EmmcCid;

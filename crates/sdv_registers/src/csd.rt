@@ -1,3 +1,5 @@
+//! The card specific data register, and the capacity that it gives.
+
 ghost use Rattle.std.specs.Prelude.{◌≡◌, ◌+◌, ◌-◌, ◌*◌, ◌^◌, ◌<◌, ◌≤◌, Some, None, IfOk, IfSome, MatchResult, IsTrue, is_none};
 ghost use Rattle.sdv_frames.specs.Bits.{bits_of};
 ghost use Rattle.sdv_registers.specs.Csd.{csd_structure, read_bl_len, c_size, c_size_mult_of, layout, fault, blocks};

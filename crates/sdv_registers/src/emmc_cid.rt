@@ -1,3 +1,5 @@
+//! The device identification register of an e.MMC device.
+
 ghost use Rattle.std.specs.Prelude.{◌≡◌};
 ghost use Rattle.sdv_frames.specs.Bits.{bits_of};
 ghost use Rattle.sdv_registers.specs.EmmcCid.{mid, cbx, oid, pnm, prv, psn, mdt};

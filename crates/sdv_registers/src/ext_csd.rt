@@ -1,3 +1,5 @@
+//! The extended CSD register of an e.MMC device.
+
 ghost use Rattle.std.specs.Prelude.{◌≡◌, ◌+◌, ◌-◌, ◌^◌, ◌<◌, ◌≤◌};
 ghost use Rattle.sdv_registers.specs.ExtCsd.{bytes, partition_config, partition_access, bus_width, ext_csd_rev, sec_count, boot_size_mult};
 

@@ -1,3 +1,5 @@
+//! Why a register is not read.
+
 use thiserror::Error;
 
 /// Why a register is not read. Of several faults the first in this order is answered.

@@ -1,4 +1,4 @@
-// How fields are cut out of registers: everywhere by `cut`.
+//! How fields are cut out of registers: everywhere by `cut`.
 
 ghost use Rattle.std.specs.Prelude.{◌≡◌, ◌+◌, ◌-◌, ◌*◌, ◌/◌, ◌%◌, ◌^◌, ◌<◌, ◌≤◌, length, take, drop};
 ghost use Rattle.sdv_frames.specs.Bits.{bits, bits_of};

@@ -1,3 +1,5 @@
+//! The operation conditions register.
+
 ghost use Rattle.std.specs.Prelude.{◌≡◌};
 ghost use Rattle.sdv_registers.specs.Ocr.{is_powered_up, ccs, access_mode, is_block_addressed, voltage_windows, has_low_voltage};
 

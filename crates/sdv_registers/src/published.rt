@@ -1,3 +1,5 @@
+//! The word by which an SD card publishes its relative card address.
+
 ghost use Rattle.std.specs.Prelude.{◌≡◌};
 ghost use Rattle.sdv_registers.specs.Status.{state, is_ready_for_data, has_doubt_r6, is_clean_r6, rca};
 

@@ -1,3 +1,5 @@
+//! The SD card configuration register.
+
 ghost use Rattle.std.specs.Prelude.{◌≡◌, ◌+◌, ◌-◌, ◌^◌, ◌<◌, ◌≤◌};
 ghost use Rattle.sdv_frames.specs.Bits.{bits_of};
 ghost use Rattle.sdv_registers.specs.Field.{field};

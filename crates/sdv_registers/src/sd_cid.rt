@@ -1,3 +1,5 @@
+//! The card identification register of an SD card.
+
 ghost use Rattle.std.specs.Prelude.{◌≡◌};
 ghost use Rattle.sdv_frames.specs.Bits.{bits_of};
 ghost use Rattle.sdv_registers.specs.SdCid.{mid, oid, pnm, prv, psn, mdt_year, mdt_month};

@@ -1,3 +1,5 @@
+//! The card status.
+
 ghost use Rattle.std.specs.Prelude.{⊤, ◌≡◌, [], ◌∷◌, codes};
 ghost use Rattle.sdv_registers.specs.Status.{state, is_ready_for_data, is_switch_error, is_app_cmd, has_doubt, is_clean, clean_mask};
 

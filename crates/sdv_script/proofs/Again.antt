@@ -4,6 +4,7 @@ use Rattle.std.specs.Prelude.{◌&&◌}
 use Rattle.std.specs.Str.{bytes_eq}
 use Rattle.std.proofs.lemmas.Slice.Eq.{bytes_eq-Decides}
 use Rattle.std.proofs.lemmas.Bool.{lt-ltb, le-leb}
+use Rattle.sdv_text.specs.Fronts.{◌>>=◌}
 use Rattle.sdv_card.specs.declared.event.Aim.{Aim}
 use Rattle.sdv_card.specs.declared.event.Aim.TheVariants.{Rca, Plain}
 use Rattle.sdv_card.specs.declared.event.Ask.{Ask}
@@ -34,7 +35,7 @@ use Rattle.sdv_script.specs.Commands.{operand_of, fits_order}
 use Rattle.sdv_graph.specs.Tree.{Declared}
 use Rattle.sdv_script.specs.Grammar.{flag_name, number_name, unit_written, position_written, address_written, address_if_any, select_written, operand_written, operand_if_any, command_written, state_word, guard_written, guards_written, atom_written, change_written, condition_written}
 use Rattle.sdv_script.specs.Rules.{max_number, max_name, place_from, place_of, AreNew, NamesFit, UnitFits, PositionFits, AddressFits, ask_with, OperandFits, CommandFits, GuardsFit, AtomFits, ChangeFits, LetFits, ConditionFits}
-use Rattle.sdv_script.specs.Reading.{◌>>=◌, Read, read_figure, read_count, read_flag, read_number_name, read_unit, read_sum, read_position, read_address, read_select, read_counted, read_operand, read_command, state_of, read_guard, read_guards, read_atom, read_change, read_let, read_test, read_condition, read_fault}
+use Rattle.sdv_script.specs.Reading.{Read, read_figure, read_count, read_flag, read_number_name, read_unit, read_sum, read_position, read_address, read_select, read_counted, read_operand, read_command, state_of, read_guard, read_guards, read_atom, read_change, read_let, read_test, read_condition, read_fault}
 use Rattle.sdv_script.proofs.GuardLaws.{read_guards-is}
 
 pub bind_is : {A B : Type 0} (o : Option A) (a : A) (f : A → Option B) (r : Option B) → o ≡ Some a → f a ≡ r → (o >>= f) ≡ r

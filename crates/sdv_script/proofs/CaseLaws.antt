@@ -3,6 +3,7 @@ use Rattle.std.proofs.Common.{◌≡◌, ℕ, suc, List, [], ◌∷◌, ◌++◌
 use Rattle.std.specs.Prelude.{option_to_list}
 use Rattle.std.specs.Box.{box_value}
 use Rattle.std.proofs.lemmas.List.{map-append}
+use Rattle.sdv_text.specs.Fronts.{◌>>=◌}
 use Rattle.sdv_card.specs.declared.command.Order.{Order}
 use Rattle.sdv_script.specs.declared.keyword.Keyword.TheVariants as word
 use Rattle.sdv_script.specs.declared.depth.Depth.{Depth}
@@ -12,7 +13,7 @@ use Rattle.sdv_graph.specs.Tree.{Declared, statements_of, Ways, way, Guarded, be
 use Rattle.sdv_script.specs.GuardedOf.{guarded_of}
 use Rattle.sdv_script.specs.declared.fault.Stop.{Stop}
 use Rattle.sdv_script.specs.declared.fault.Stop.TheVariants as stop
-use Rattle.sdv_script.specs.Reading.{◌>>=◌, Fails, Progress, progress_to, Reading, Blocks, WaysOf, after_else, read_case, last_way, next_way, more_ways, read_statements, read_ways}
+use Rattle.sdv_script.specs.Reading.{Fails, Progress, progress_to, Reading, Blocks, WaysOf, after_else, read_case, last_way, next_way, more_ways, read_statements, read_ways}
 use Rattle.sdv_script.proofs.LevelLaws.{ways_more, ways_none}
 
 abbrev pub ahead : List Guarded → Reading Ways → Reading Ways

@@ -1,5 +1,6 @@
 -- Reading guards, guard by guard.
 use Rattle.std.proofs.Common.{◌≡◌, ℕ, zero, suc, ◌<◌, ◌≤◌, List, [], ◌∷◌, ◌++◌, length, refl, sym, subst, ap, append_assoc, ◌∙◌, arith, Option, Some, None}
+use Rattle.sdv_text.specs.Fronts.{◌>>=◌}
 use Rattle.sdv_card.specs.declared.guard.Guard.{Guard}
 use Rattle.sdv_script.specs.declared.token.Sign.TheVariants as sign
 use Rattle.sdv_script.specs.Tokens.{Token, Key, Mark}
@@ -16,7 +17,7 @@ use Rattle.sdv_script.specs.Grammar.{state_word, guard_written, guards_written}
 use Rattle.sdv_script.specs.Rules.{GuardsFit}
 use Rattle.sdv_script.specs.declared.fault.Stop.{Stop}
 use Rattle.sdv_script.specs.declared.fault.Stop.TheVariants as stop
-use Rattle.sdv_script.specs.Reading.{◌>>=◌, Fails, Read, after_and, more_if, after_equals, state_of, read_state, guard_of, read_state_guard, read_word_guard, read_guard, more_guards, guards_within, read_guards}
+use Rattle.sdv_script.specs.Reading.{Fails, Read, after_and, more_if, after_equals, state_of, read_state, guard_of, read_state_guard, read_word_guard, read_guard, more_guards, guards_within, read_guards}
 
 -- one guard, and what follows it
 abbrev pub guards_by : (List Guard → List Token → Read (List Guard)) → List Guard → Read Guard → Read (List Guard)

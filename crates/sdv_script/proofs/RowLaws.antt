@@ -2,13 +2,14 @@
 use Rattle.std.proofs.Common.{◌≡◌, ℕ, suc, List, [], ◌∷◌, ◌++◌, true, false, refl, sym, ap, ◌∙◌, map, Some, None}
 use Rattle.std.specs.Prelude.{option_to_list}
 use Rattle.std.proofs.lemmas.List.{map-append}
+use Rattle.sdv_text.specs.Fronts.{◌>>=◌}
 use Rattle.sdv_script.specs.declared.depth.Depth.{Depth}
 use Rattle.sdv_graph.specs.declared.tree.Stmt.{Stmt}
 use Rattle.sdv_graph.specs.Tree.{Declared, Statement, Statements, nothing, first, statement_of}
 use Rattle.sdv_script.specs.InRow.{in_row}
 use Rattle.sdv_script.specs.declared.fault.Stop.{Stop}
 use Rattle.sdv_script.specs.declared.fault.Stop.TheVariants as stop
-use Rattle.sdv_script.specs.Reading.{◌>>=◌, Fails, Progress, Reading, Blocks, WaysOf, closes, read_statement, more_statements, read_statements, read_ways}
+use Rattle.sdv_script.specs.Reading.{Fails, Progress, Reading, Blocks, WaysOf, closes, read_statement, more_statements, read_statements, read_ways}
 use Rattle.sdv_script.proofs.LevelLaws.{statements_more, statements_none}
 
 abbrev pub behind : List Statement → Reading Statements → Reading Statements

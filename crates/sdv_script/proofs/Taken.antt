@@ -4,6 +4,7 @@ use Rattle.std.specs.Prelude.{IfSome, ◌&&◌, nat_lt, nat_le}
 use Rattle.std.specs.Str.{bytes_eq}
 use Rattle.std.proofs.lemmas.Slice.Eq.{bytes_eq-Decides}
 use Rattle.std.proofs.lemmas.Bool.{ltb-true, leb-true}
+use Rattle.sdv_text.specs.Fronts.{◌>>=◌}
 use Rattle.sdv_script.specs.declared.depth.Depth.{Depth}
 use Rattle.sdv_script.specs.declared.token.Sign.TheVariants as sign
 use Rattle.sdv_script.specs.declared.keyword.Keyword.TheVariants as word
@@ -17,7 +18,7 @@ use Rattle.sdv_script.specs.Commands.{operand_of, is_conditions, is_erase, has_e
 use Rattle.sdv_graph.specs.Tree.{Declared}
 use Rattle.sdv_script.specs.Grammar.{kind_word, flag_name, number_name, unit_written, position_written, address_written, operand_written, operand_if_any, command_written, atom_written, change_written, let_written, condition_written, phase_written}
 use Rattle.sdv_script.specs.Rules.{max_number, max_name, max_braces, place_from, place_of, UnitFits, PositionFits, AddressFits, OperandFits, CommandFits, AtomFits, ChangeFits, LetFits, ConditionFits, deeper, HasRoom}
-use Rattle.sdv_script.specs.Reading.{◌>>=◌, after_open, after_close, after_equals, after_else, after_ok, after_at, after_count, after_card, read_kind, read_figure, read_count, read_flag, read_number_name, read_unit, read_sum, read_position, read_address, read_select, read_conditions, read_counted, read_preset, read_erase, read_operand, read_command, read_atom, read_change, read_let, read_test, condition_by, read_condition, read_receive, read_fault}
+use Rattle.sdv_script.specs.Reading.{after_open, after_close, after_equals, after_else, after_ok, after_at, after_count, after_card, read_kind, read_figure, read_count, read_flag, read_number_name, read_unit, read_sum, read_position, read_address, read_select, read_conditions, read_counted, read_preset, read_erase, read_operand, read_command, read_atom, read_change, read_let, read_test, condition_by, read_condition, read_receive, read_fault}
 use Rattle.sdv_script.proofs.WhereRead.{IfSome-bind, IfSome-given, IfSome-known, IfSome-map, both}
 
 -- SINGLE TOKENS

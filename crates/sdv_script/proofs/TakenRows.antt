@@ -2,6 +2,7 @@
 use Rattle.std.proofs.Common.{◌≡◌, ℕ, zero, suc, ◌+◌, ◌<◌, ◌≤◌, Bool, true, false, List, [], ◌∷◌, length, get_or, refl, sym, subst, ap, ◌∙◌, arith, cond, Some, Option}
 use Rattle.std.specs.Prelude.{IfSome, ◌&&◌, nat_lt}
 use Rattle.std.proofs.lemmas.Bool.{ltb-true}
+use Rattle.sdv_text.specs.Fronts.{◌>>=◌}
 use Rattle.sdv_card.specs.declared.command.Order.{Order}
 use Rattle.sdv_card.specs.CommandTable.{order_of}
 use Rattle.sdv_script.specs.declared.depth.Depth.{Depth}
@@ -14,7 +15,7 @@ use Rattle.sdv_script.specs.Tokens.{Token, Key, Name, Mark}
 use Rattle.sdv_graph.specs.Tree.{Declared, Statements, nothing, first, Ways, Guarded, Statement, setting, set, clear, fault}
 use Rattle.sdv_script.specs.Grammar.{guards_written, phase_written, statements_written, ways_written, statement_written}
 use Rattle.sdv_script.specs.Rules.{max_statements, max_loops, GuardsFit, deeper, in_loop, HasRoom, StatementsFit, WaysFit, StatementFits, statements_count, ways_count, statement_count}
-use Rattle.sdv_script.specs.Reading.{◌>>=◌, Progress, progress_to, Blocks, WaysOf, Pair, after_open, after_close, after_else, after_ok, read_count, read_command, read_condition, read_receive, read_let, read_flag, read_fault, read_guards, read_block, read_branches, read_ends, read_phase, read_send, read_if, read_loop, moved, starts, read_after, read_statement, closes, last_way, read_case, next_way, more_ways, read_statements, read_ways}
+use Rattle.sdv_script.specs.Reading.{Progress, progress_to, Blocks, WaysOf, Pair, after_open, after_close, after_else, after_ok, read_count, read_command, read_condition, read_receive, read_let, read_flag, read_fault, read_guards, read_block, read_branches, read_ends, read_phase, read_send, read_if, read_loop, moved, starts, read_after, read_statement, closes, last_way, read_case, next_way, more_ways, read_statements, read_ways}
 use Rattle.sdv_script.proofs.WhereRead.{IfSome-bind, IfSome-test, IfSome-map, both}
 use Rattle.sdv_script.proofs.Taken.{after_open-took, after_close-took, after_else-took, after_ok-took, count-took, command-took, condition-took, receive-took, let-took, flag-took, fault-took}
 use Rattle.sdv_script.proofs.GuardLaws.{read_guards-took}

@@ -1,8 +1,8 @@
 -- Where reading gives something.
 use Rattle.std.proofs.Common.{◌≡◌, Bool, true, false, List, refl, cond, Option, Some, None}
 use Rattle.std.specs.Prelude.{IfSome, ◌&&◌}
+use Rattle.sdv_text.specs.Fronts.{◌>>=◌}
 use Rattle.sdv_script.specs.Tokens.{Token}
-use Rattle.sdv_script.specs.Reading.{◌>>=◌}
 
 pub IfSome-bind : {A B : Type 0} (o : Option A) (f : A → Option B) (P : A → Type 0) (Q : B → Type 0) → IfSome o P → ((a : A) → P a → IfSome (f a) Q)
     → IfSome (o >>= f) Q

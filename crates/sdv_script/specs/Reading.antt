@@ -1,6 +1,7 @@
 -- Reading a script's tokens from left to right: the part of a tree that they begin with, and the tokens after it; none
 -- where they begin with no such part. The laws of reading say that this is the grammar.
 use Rattle.std.specs.Prelude.{◌≡◌, ℕ, zero, suc, ◌+◌, List, [], ◌∷◌, ◌++◌, length, Bool, true, false, ◌&&◌, nat_lt, nat_le, Option, Some, None, is_none, Result, Ok, Err, if◌then◌else◌}
+use Rattle.sdv_text.specs.Fronts.{◌>>=◌}
 use Rattle.sdv_registers.specs.declared.kind.Kind.{Kind}
 use Rattle.sdv_registers.specs.declared.kind.Kind.TheVariants.{Sd, Emmc}
 use Rattle.sdv_card.specs.declared.event.Aim.TheVariants.{Rca, Plain}
@@ -38,11 +39,6 @@ use Rattle.sdv_script.specs.Tokens.{Token, Key, Name, Number, Mark}
 use Rattle.sdv_script.specs.Commands.{operand_of, is_conditions, is_erase, has_ext_csd, fits_order}
 use Rattle.sdv_script.specs.Rules.{place_of, ask_with, deeper, in_loop, max_number, max_braces, max_loops, max_statements, max_name, max_flags, max_numbers, max_bytes, statements_fall}
 use Rattle.sdv_graph.specs.Tree.{Statements, nothing, first, Ways, otherwise, way, Statement, send, phase, setting, choice, set, clear, turns, break, done, fault, Declared, Guarded}
-
-infixl 10 ◌>>=◌
-abbrev pub ◌>>=◌ : {A B : Type 0} → Option A → (A → Option B) → Option B
-None >>= f = None
-(Some x) >>= f = f x
 
 abbrev pub Fails : {Y : Type 0} → Stop → Option Y → Type 0
 Fails stop.Memory read = Unit {0}

@@ -1,3 +1,5 @@
+//! How deep in a text a statement stands.
+
 /// Where a statement stands.
 #[derive(Clone, Copy)]
 pub struct Depth {

@@ -1,3 +1,5 @@
+//! Why a text is no script.
+
 ghost use Rattle.std.specs.Prelude.{◌≡◌};
 ghost use Rattle.sdv_script.specs.declared.fault.Stop.TheVariants.{Memory};
 

@@ -1,3 +1,5 @@
+//! What is written after the index of a command.
+
 ghost use Rattle.std.specs.Prelude.{◌≡◌};
 ghost use Rattle.sdv_script.specs.Commands.{operand_of, sd_operand, emmc_operand};
 

@@ -1,3 +1,5 @@
+//! How far reading has come.
+
 ghost use Rattle.std.specs.Prelude.{◌≡◌};
 
 use crate::cursor::Cursor;

@@ -1,3 +1,5 @@
+//! The state table of SD cards.
+
 ghost use Rattle.sdv_registers.specs.declared.kind.Kind.TheVariants.{Sd};
 
 use crate::rows;

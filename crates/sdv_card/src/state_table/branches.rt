@@ -1,3 +1,5 @@
+//! What may follow an event, before each outcome is listed once.
+
 ghost use Rattle.std.specs.Prelude.{◌≡◌, ◌≤◌, ◌+◌, ◌*◌, ◌++◌, length, map};
 ghost use Rattle.arrayvec.specs.ArrayVec.{array_vec_len};
 ghost use Rattle.sdv_card.specs.Outcomes.{branch, with_seen, with_status, with_conditions, app_shown, statuses, unaddressed_seen, status_seen, conditions_seen, phase_ends, wait_ends, phase_seen, wait_seen, placed};

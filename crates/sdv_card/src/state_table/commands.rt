@@ -1,3 +1,5 @@
+//! The command table of each kind.
+
 ghost use Rattle.std.specs.Prelude.{◌≡◌};
 ghost use Rattle.sdv_card.specs.CommandTable.{sd_order, emmc_order, order_of};
 

@@ -1,3 +1,5 @@
+//! Where data phases and waits are legal, and where they lead.
+
 ghost use Rattle.std.specs.Prelude.{◌≡◌, ◌≤◌, length};
 ghost use Rattle.sdv_card.specs.Phases.{after_phase, after_wait, read_due, register_due, write_due};
 ghost use Rattle.sdv_card.specs.Legal.{recv_legal, recv_reg_legal, give_legal, wait_legal};

@@ -1,3 +1,5 @@
+//! What a row asks of each part of a card, and what it leaves there.
+
 ghost use Rattle.std.specs.Prelude.{◌≡◌, ◌≤◌, length};
 ghost use Rattle.sdv_card.specs.States.{is_open, own_target};
 ghost use Rattle.sdv_card.specs.RowRules.{erase_after, matched_stayed, counted, transfer_after, length_allows, erase_allows, preset_allows};

@@ -1,3 +1,5 @@
+//! Which fields are those of a shape.
+
 ghost use Rattle.std.specs.Prelude.{◌≡◌};
 ghost use Rattle.sdv_card.specs.Card.{transfer_fits, kind_fits, length_fits};
 ghost use Rattle.sdv_card.specs.Shapes.{is_shape, match_fits};

@@ -1,3 +1,5 @@
+//! How a card takes an order, by its application flag and the address that it is sent to.
+
 ghost use Rattle.std.specs.Prelude.{◌≡◌};
 ghost use Rattle.sdv_card.specs.Takes.{taken_as_of};
 

@@ -1,7 +1,8 @@
 //! Places in the text of a certificate, and the words and ends that are wanted there.
 
 ghost use Rattle.std.specs.Prelude.{◌≡◌, [], ◌∷◌, option_map};
-ghost use Rattle.sdv_check.specs.Reading.{Gives, after, ends_item};
+ghost use Rattle.sdv_text.specs.Fronts.{after};
+ghost use Rattle.sdv_check.specs.Reading.{Gives, ends_item};
 
 use crate::text::fault::CertFault;
 

@@ -1,7 +1,8 @@
 //! The items of a line.
 
 ghost use Rattle.std.specs.Prelude.{◌≡◌, ◌+◌, ◌^◌, min, length};
-ghost use Rattle.sdv_check.specs.Reading.{Gives, run, is_digit, is_plain, number_after, read_number, read_gap, read_var, code_of, read_shape, has_upper};
+ghost use Rattle.sdv_text.specs.Fronts.{is_digit, run, number_after};
+ghost use Rattle.sdv_check.specs.Reading.{Gives, is_plain, read_number, read_gap, read_var, code_of, read_shape, has_upper};
 
 use crate::text::cursor::{TextCursor, ends_item, expect, skip};
 use crate::text::fault::CertFault;

@@ -1,3 +1,5 @@
+//! Certificates, read from their texts.
+
 ghost use Rattle.std.specs.Prelude.{◌≡◌, ◌≢◌, ◌<◌, List, length, IfOk, IfErr, Err, All};
 ghost use Rattle.sdv_facts.specs.declared.certificate.PointFacts.{PointFacts};
 ghost use Rattle.sdv_facts.specs.CertificateText.{text_of, max_bytes, WithinLimits};

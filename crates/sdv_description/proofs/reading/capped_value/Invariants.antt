@@ -1,5 +1,5 @@
 use Rattle.std.proofs.Common.{◌≡◌, ◌≤◌, ◌^◌, min, drop}
-use Rattle.sdv_description.specs.Grammar.{number_after}
+use Rattle.sdv_text.specs.Fronts.{number_after}
 use Rattle.sdv_description.proofs.reading.capped_value.Given as goal
 
 -- what is left to read after the value so far gives what all digits spell

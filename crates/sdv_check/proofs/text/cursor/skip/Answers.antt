@@ -1,5 +1,5 @@
 use Rattle.std.proofs.Common.{sym}
-use Rattle.sdv_check.proofs.Words.{after_some, after_none}
+use Rattle.sdv_text.proofs.FrontLaws.{after_some, after_none}
 use Rattle.sdv_check.proofs.text.cursor.skip.Goals as goal
 
 pub returns-in-Some : goal.returns-in-Some

@@ -1,5 +1,5 @@
 use Rattle.std.proofs.Common.{◌≡◌, ◌≤◌, ◌^◌, ◌+◌, min, drop}
-use Rattle.sdv_check.specs.Reading.{number_after}
+use Rattle.sdv_text.specs.Fronts.{number_after}
 use Rattle.sdv_check.proofs.text.items.capped_value.Given as goal
 
 abbrev pub invariant-loop-digit : goal.invariant-loop-digit

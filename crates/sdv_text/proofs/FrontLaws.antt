@@ -1,8 +1,11 @@
--- Words at the front of a text, and steps of reading.
-use Rattle.std.proofs.Common.{◌≡◌, ℕ, Bool, true, false, cond, ◌&&◌, nat_eq, List, [], ◌∷◌, ◌++◌, length, take, drop, Option, Some, None, ◌⊎◌, inl, inr, refl, sym, ap, ◌∙◌, eq-eqb}
+-- Words and digits at the front of a text, and steps of reading.
+use Rattle.std.proofs.Common.{◌≡◌, ℕ, suc, ◌+◌, ◌-◌, ◌*◌, ◌<◌, ◌≤◌, min, Bool, true, false, cond, ◌&&◌, nat_eq, List, [], ◌∷◌, ◌++◌, length, take, drop, get_or, Option, Some, None, ◌⊎◌, inl, inr, refl, ap, arith, add-one, drop-cons, eq-eqb}
+use Rattle.std.specs.List.{prefix_len}
 use Rattle.std.specs.Cmp.Lexicographic.{pointwise}
+use Rattle.std.proofs.Math.ListN.{drop_of_length-le}
 use Rattle.std.proofs.lemmas.Bool.{and_parts, eqb-true}
-use Rattle.sdv_description.specs.Reading.{◌>>=◌, after, read_line, is_end}
+use Rattle.std.proofs.lemmas.List.Folds.{length-prefix_len}
+use Rattle.sdv_text.specs.Fronts.{◌>>=◌, after, is_digit, run, number_after}
 
 -- STEPS
 
@@ -19,16 +22,16 @@ pub tested : {A : Type 0} (b : Bool) (x : Option A) (y : A) → cond b x None �
 tested true x y e = (refl, e)
 tested false x y e = absurd (cc)
 
+pub not_tested : {A : Type 0} (b : Bool) (x : Option A) (y : A) → cond b None x ≡ Some y → (b ≡ false) × (x ≡ Some y)
+not_tested true x y e = absurd (cc)
+not_tested false x y e = (refl, e)
+
 pub either : (b : Bool) → (b ≡ true) ⊎ (b ≡ false)
 either true = inl refl
 either false = inr refl
 
 pub both : (x y : Bool) → x ≡ true → y ≡ true → (x && y) ≡ true
 both x y p q = rw (p, q) refl
-
-pub ends : (rest : List ℕ) → is_end rest ≡ true → [] ≡ rest
-ends [] e = refl
-ends (b ∷ bs) e = absurd (let f : false ≡ true = e in cc)
 
 -- WORDS
 
@@ -60,13 +63,29 @@ pub after_again : (word rest : List ℕ) → after word (word ++ rest) ≡ Some 
 after_again [] rest = refl
 after_again (w ∷ ws) rest = rw (eq-eqb w w refl) (after_again ws rest)
 
--- LINES
+-- DIGITS
 
-pub line_takes : (words bs rest : List ℕ) → read_line words bs ≡ Some rest → words ++ 10 ∷ rest ≡ bs
-line_takes words bs rest e =
-    let p = bind_some (after words bs) (after (10 ∷ [])) rest e in
-    ap (λ (l : List ℕ). words ++ l) (sym (after_takes (10 ∷ []) p.0 rest p.2)) ∙ sym (after_takes words bs p.0 p.1)
+pub run_is : (bs : List ℕ) → run is_digit bs ≡ prefix_len is_digit bs
+run_is bs = length-prefix_len is_digit bs
 
-pub line_again : (words bs rest : List ℕ) → words ++ 10 ∷ rest ≡ bs → read_line words bs ≡ Some rest
-line_again words bs rest e =
-    ap (λ (l : List ℕ). read_line words l) (sym e) ∙ ap (λ (r : Option (List ℕ)). r >>= after (10 ∷ [])) (after_again words (10 ∷ rest))
+-- NUMBERS, up to a cap
+
+capped_step : (d x y cap : ℕ) → min x cap ≡ min y cap → min (x * 10 + d) cap ≡ min (y * 10 + d) cap
+capped_step d x y cap e = omega arith
+
+capped : (x y cap : ℕ) (bs : List ℕ) → min x cap ≡ min y cap → min (number_after x bs) cap ≡ min (number_after y bs) cap
+unfolding number_after
+capped x y cap [] e = e
+capped x y cap (d ∷ bs) e = capped (x * 10 + (d - 48)) (y * 10 + (d - 48)) cap bs (capped_step (d - 48) x y cap e)
+
+-- one more digit
+pub capped_more : (cap before value i : ℕ) (digits : List ℕ) → i < length digits → value ≡ min (before * 10 + (get_or digits i 0 - 48)) cap
+    → min (number_after value (drop (i + 1) digits)) cap ≡ min (number_after before (drop i digits)) cap
+unfolding number_after
+capped_more cap before value i digits lt e =
+    rw (add-one, drop-cons digits i 0) (capped value (before * 10 + (get_or digits i 0 - 48)) cap (drop (suc i) digits) (omega arith))
+
+-- no more digits
+pub capped_end : (cap before i : ℕ) (digits : List ℕ) → length digits ≤ i → before ≤ cap → min (number_after before (drop i digits)) cap ≡ before
+unfolding number_after
+capped_end cap before i digits le small = rw (drop_of_length-le digits le) (omega arith)
