@@ -1,11 +1,11 @@
-//! Certificates of scripts in files.
-use crate::testing::{
-    BRING_UP, CERTIFICATE, SMALLEST, answers, expect, expect_certify, prints, says,
-};
+//! Certificates and explanations of scripts in files.
+use crate::testing::Piece::{Bytes, Text};
+use crate::testing::Step::{self, Call, Replace, Store, Write};
+use crate::testing::Wanted::{Has, Is, Lines, Starts};
+use crate::testing::{BRING_UP, CERTIFICATE, ILLEGAL, SMALLEST, call, play, write};
 use sdv_words::program::program;
-use std::io::{self, Write};
+use std::io;
 use std::test::Fail;
-use std::{fs, str};
 
 /// A writer that takes one byte at a time, so many and no more, and keeps them.
 #[derive(Drop)]
@@ -14,7 +14,7 @@ struct Small {
     room: usize,
 }
 
-impl Write for Small {
+impl io::Write for Small {
     fn write(&mut self, buf: &[u8]) -> io::Result<usize> {
         if self.taken.len() == self.room {
             return Ok(0);
@@ -32,8 +32,6 @@ impl Write for Small {
         Ok(())
     }
 }
-
-const ILLEGAL: &str = "card sd send 7 { else { } } fault stop";
 
 const ADDRESS: &str = "card sd flags hc nums cap
 send 0 { else { } } send 8 { else { } }
@@ -96,109 +94,105 @@ static CERTIFIED: [(&str, u8, &str, &str); 13] = [
 
 #[test]
 fn certifies_files(rt: HostRuntime) -> Result<(), Fail> {
-    let file = "certified.sdv";
+    let words = ["certify", "certified.sdv"];
     for &(script, status, printed, said) in CERTIFIED.iter() {
-        let expected = answers(status, printed, said);
-        expect_certify(&rt, file, script.as_bytes(), expected)?;
+        write(&rt, "certified.sdv", &[Text(script)])?;
+        call(&rt, &words, status, &[Is(printed)], said)?;
     }
-    let no_text = says(2, "cannot use certified.sdv\n");
-    expect_certify(&rt, file, b"card sd\n\xff", no_text)?;
-    expect(
-        &rt,
-        &["certify", "missing.sdv"],
-        says(2, "cannot use missing.sdv\n"),
-    );
-    expect(&rt, &["certify", "."], says(2, "cannot use .\n"));
     Ok(())
 }
 
-// Scripts, and the status of their explanation, words of it, and what is said.
-static EXPLAINED: [(&str, u8, &str, &str); 4] = [
-    (SMALLEST, 0, "line 2, point 0: CMD0", ""),
-    (
-        ILLEGAL,
+const EXPLAIN: &[&str] = &["explain", "explained.sdv"];
+
+static EXPLAINED: [Step<'static>; 9] = [
+    Write("explained.sdv", &[Text(SMALLEST)]),
+    Call(EXPLAIN, 0, &[Has("line 2, point 0: CMD0")], ""),
+    Write("explained.sdv", &[Text(ILLEGAL)]),
+    Call(
+        EXPLAIN,
         1,
-        "a way there:",
+        &[Has("a way there:")],
         "refused Illegal point 0 shape 0000000000002000\n",
     ),
-    (TOO_MANY, 1, "", "refused TooMany\n"),
-    ("card sd\nsend 16 @\n", 1, "", "script fault Token line 2\n"),
+    Write("explained.sdv", &[Text(TOO_MANY)]),
+    Call(EXPLAIN, 1, &[Is("")], "refused TooMany\n"),
+    Write("explained.sdv", &[Text("card sd\nsend 16 @\n")]),
+    Call(EXPLAIN, 1, &[Is("")], "script fault Token line 2\n"),
+    Call(
+        &["explain", "missing.sdv"],
+        2,
+        &[Is("")],
+        "cannot use missing.sdv\n",
+    ),
 ];
 
 #[test]
 fn explains_files(rt: HostRuntime) -> Result<(), Fail> {
-    let file = "explained.sdv";
-    for &(script, status, told, said) in EXPLAINED.iter() {
-        let (mut out, mut err) = (Vec::new(rt.alloc()), Vec::new(rt.alloc()));
-        fs::write(&rt, file, script)?;
-        assert_eq!(rt;
-            program(&rt, &["explain", file], &mut out, &mut err),
-            status,
-            "{said}"
-        );
-        fs::remove_file(&rt, file)?;
-        assert!(rt; str::from_utf8(&out)?.contains(told), "{said}");
-        assert_eq!(rt; out.is_empty(), told.is_empty(), "{said}");
-        assert_eq!(rt; str::from_utf8(&err), Ok(said));
-    }
-    expect(
-        &rt,
-        &["explain", "missing.sdv"],
-        says(2, "cannot use missing.sdv\n"),
-    );
-    Ok(())
+    play(&rt, &EXPLAINED)
 }
 
-/// The certificate of a script that brings a card up is accepted, and is refused with its bound lowered by one.
+static UNUSABLE: [Step<'static>; 4] = [
+    Write("bytes.sdv", &[Bytes(b"card sd\n\xff")]),
+    Call(
+        &["certify", "bytes.sdv"],
+        2,
+        &[Is("")],
+        "cannot use bytes.sdv\n",
+    ),
+    Call(
+        &["certify", "missing.sdv"],
+        2,
+        &[Is("")],
+        "cannot use missing.sdv\n",
+    ),
+    Call(&["certify", "."], 2, &[Is("")], "cannot use .\n"),
+];
+
+#[test]
+fn certifies_no_other_files(rt: HostRuntime) -> Result<(), Fail> {
+    play(&rt, &UNUSABLE)
+}
+
+const CHECK: &[&str] = &["check", "bring_up.sdv", "bring_up.cert"];
+
+// The certificate of a script that brings a card up is accepted, and is refused with its bound lowered by one.
+static LOWERED: [Step<'static>; 6] = [
+    Write("bring_up.sdv", BRING_UP),
+    Call(
+        &["certify", "bring_up.sdv"],
+        0,
+        &[Starts("sdv-cert 1\npoints 23\np 0 "), Lines(25)],
+        "",
+    ),
+    Store(&["certify", "bring_up.sdv"], "bring_up.cert"),
+    Call(CHECK, 0, &[Is("accepted 2007\n")], ""),
+    Replace("bring_up.cert", "p 0 b 2007", "p 0 b 2006"),
+    Call(CHECK, 1, &[Is("")], "refused Bound point 0\n"),
+];
+
 #[test]
 fn checks_what_it_certified(rt: HostRuntime) -> Result<(), Fail> {
-    let (script, certificate) = ("bring_up.sdv", "bring_up.cert");
-    fs::write(&rt, script, BRING_UP)?;
-    let mut out = Vec::new(rt.alloc());
-    let mut err = Vec::new(rt.alloc());
-    let status = program(&rt, &["certify", script], &mut out, &mut err);
-    assert_eq!(rt; status, 0);
-    assert!(rt; err.is_empty());
-
-    let text = String::from_utf8(out)?;
-    assert_eq!(rt; text.lines().count(), 25);
-    assert!(rt; text.starts_with("sdv-cert 1\npoints 23\np 0 "));
-    fs::write(&rt, certificate, text.as_str())?;
-    let words = ["check", script, certificate];
-    expect(&rt, &words, prints("accepted 2007\n"));
-
-    assert_eq!(rt; text.matches("p 0 b 2007").count(), 1);
-    let lowered = text.replace(rt.alloc(), "p 0 b 2007", "p 0 b 2006")?;
-    fs::write(&rt, certificate, lowered.as_str())?;
-    expect(&rt, &words, says(1, "refused Bound point 0\n"));
-    fs::remove_file(&rt, script)?;
-    fs::remove_file(&rt, certificate)?;
-    Ok(())
+    play(&rt, &LOWERED)
 }
 
 #[test]
 fn certifies_into_a_full_writer(rt: HostRuntime) -> Result<(), Fail> {
-    let file = "printed.sdv";
-    fs::write(&rt, file, SMALLEST)?;
+    write(&rt, "printed.sdv", &[Text(SMALLEST)])?;
+    let words = ["certify", "printed.sdv"];
     for room in 0..=CERTIFICATE.len() {
         let mut err = Vec::new(rt.alloc());
         let mut out = Small {
             taken: Vec::new(rt.alloc()),
             room,
         };
-        let status = if room == CERTIFICATE.len() { 0 } else { 2 };
-        let words = ["certify", file];
-        assert_eq!(rt;
-            program(&rt, &words, &mut out, &mut err),
-            status,
-            "at {room}"
-        );
+        let status = program(&rt, &words, &mut out, &mut err);
+        assert_eq!(rt; status == 0, room == CERTIFICATE.len(), "at {room}");
+        assert!(rt; status == 0 || status == 2, "at {room}");
         assert!(rt;
             out.taken.as_slice() == &CERTIFICATE.as_bytes()[..room],
             "at {room}"
         );
         assert!(rt; err.is_empty(), "at {room}");
     }
-    fs::remove_file(&rt, file)?;
     Ok(())
 }

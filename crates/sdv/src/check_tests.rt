@@ -1,11 +1,13 @@
 //! Checks of scripts and certificates in files, and in memory.
-use crate::testing::{CERTIFICATE, SMALLEST, answers, expect, expect_check, says};
+use crate::testing::Piece::{Bytes, Fill, Text};
+use crate::testing::Step::{self, Call, Shut, Write};
+use crate::testing::Wanted::Is;
+use crate::testing::{CERTIFICATE, Full, ILLEGAL, SMALLEST, call, play, write};
 use sdv_faults::{Store, bytes_within};
 use sdv_run_command::NewImage;
 use sdv_words::program::{answer, program};
 use std::alloc::{AllocError, Global};
-use std::fs;
-use std::io::{self, ErrorKind, Read, Write};
+use std::io::{self, ErrorKind, Read};
 use std::test::Fail;
 
 /// A script beside its certificate in memory: whatever file is asked for by the name `script` or by another.
@@ -52,20 +54,6 @@ impl Store for Pair {
 
     fn finish(&self, _file: &str, _sink: Full) -> bool {
         false
-    }
-}
-
-/// A writer that takes nothing.
-#[derive(Drop)]
-struct Full;
-
-impl Write for Full {
-    fn write(&mut self, _buf: &[u8]) -> io::Result<usize> {
-        Ok(0)
-    }
-
-    fn flush(&mut self) -> io::Result<()> {
-        Ok(())
     }
 }
 
@@ -132,8 +120,6 @@ p 0 b 0 m 1 s 0000000000002000 0000000000002800 0000000000002c00
 p 1 b 0 m 1 s 0000000000002000 0000000000002800 0000000000002c00
 ";
 
-const ILLEGAL: &str = "card sd send 7 { else { } } fault stop";
-
 const AT_BYTE: &str = "card sd flags f if f { send 17 at byte 0 { else { } } } else { } fault stop";
 
 const BLOCK_ADDRESSED: &str = "sdv-cert 1
@@ -174,71 +160,86 @@ static CHECKED: [(&str, &str, u8, &str, &str); 13] = [
 
 #[test]
 fn checks_files(rt: HostRuntime) -> Result<(), Fail> {
+    let words = ["check", "checked.sdv", "checked.cert"];
     for &(script, certificate, status, printed, said) in CHECKED.iter() {
-        let texts = [script.as_bytes(), certificate.as_bytes()];
-        let expected = answers(status, printed, said);
-        expect_check(&rt, ["checked.sdv", "checked.cert"], texts, expected)?;
+        write(&rt, "checked.sdv", &[Text(script)])?;
+        write(&rt, "checked.cert", &[Text(certificate)])?;
+        call(&rt, &words, status, &[Is(printed)], said)?;
     }
     Ok(())
 }
 
-#[test]
-fn refuses_a_certificate_above_16_mebibytes(rt: HostRuntime) -> Result<(), Fail> {
-    let long = vec![in rt.alloc(); b'x'; 16_777_217]?;
-    expect_check(
-        &rt,
-        ["long.sdv", "long.cert"],
-        [SMALLEST.as_bytes(), long.as_slice()],
-        says(1, "certificate fault Limit\n"),
-    )?;
-    Ok(())
-}
-
-#[test]
-fn names_files_that_it_cannot_use(rt: HostRuntime) -> Result<(), Fail> {
-    let bytes: &[u8] = b"card sd\n\xff";
-    let (files, texts) = (["bytes.sdv", "used.cert"], [bytes, CERTIFICATE.as_bytes()]);
-    expect_check(&rt, files, texts, says(2, "cannot use bytes.sdv\n"))?;
-    let (files, texts) = (["used.sdv", "bytes.cert"], [SMALLEST.as_bytes(), bytes]);
-    expect_check(&rt, files, texts, says(2, "cannot use bytes.cert\n"))?;
-    Ok(())
-}
-
-// Words that name a file which is not there, or a folder, and what is said.
-static MISSING: [(&[&str], &str); 3] = [
-    (
-        &["check", "missing.sdv", "missing.cert"],
-        "cannot use missing.sdv\n",
+// A certificate of 16 mebibytes and one byte.
+static LONG: [Step<'static>; 3] = [
+    Write("above.sdv", &[Text(SMALLEST)]),
+    Write("above.cert", &[Fill(b'x', 16_777_217)]),
+    Call(
+        &["check", "above.sdv", "above.cert"],
+        1,
+        &[Is("")],
+        "certificate fault Limit\n",
     ),
-    (
-        &["check", "there.sdv", "missing.cert"],
-        "cannot use missing.cert\n",
-    ),
-    (&["check", ".", "missing.cert"], "cannot use .\n"),
 ];
 
 #[test]
-fn names_files_that_are_missing(rt: HostRuntime) -> Result<(), Fail> {
-    fs::write(&rt, "there.sdv", SMALLEST)?;
-    for &(words, said) in MISSING.iter() {
-        expect(&rt, words, says(2, said));
-    }
-    fs::remove_file(&rt, "there.sdv")?;
-    Ok(())
+fn refuses_a_certificate_above_16_mebibytes(rt: HostRuntime) -> Result<(), Fail> {
+    play(&rt, &LONG)
 }
+
+// Files that are no texts, and files that are missing.
+static UNUSABLE: [Step<'static>; 9] = [
+    Write("used.sdv", &[Text(SMALLEST)]),
+    Write("used.cert", &[Text(CERTIFICATE)]),
+    Write("bytes.sdv", &[Bytes(b"card sd\n\xff")]),
+    Write("bytes.cert", &[Bytes(b"card sd\n\xff")]),
+    Call(
+        &["check", "bytes.sdv", "used.cert"],
+        2,
+        &[Is("")],
+        "cannot use bytes.sdv\n",
+    ),
+    Call(
+        &["check", "used.sdv", "bytes.cert"],
+        2,
+        &[Is("")],
+        "cannot use bytes.cert\n",
+    ),
+    Call(
+        &["check", "missing.sdv", "missing.cert"],
+        2,
+        &[Is("")],
+        "cannot use missing.sdv\n",
+    ),
+    Call(
+        &["check", "used.sdv", "missing.cert"],
+        2,
+        &[Is("")],
+        "cannot use missing.cert\n",
+    ),
+    Call(
+        &["check", ".", "missing.cert"],
+        2,
+        &[Is("")],
+        "cannot use .\n",
+    ),
+];
+
+#[test]
+fn names_files_that_it_cannot_use(rt: HostRuntime) -> Result<(), Fail> {
+    play(&rt, &UNUSABLE)
+}
+
+static SHUT: [Step<'static>; 3] = [
+    Write("full.sdv", &[Text(SMALLEST)]),
+    Write("full.cert", &[Text(CERTIFICATE)]),
+    Shut(&["check", "full.sdv", "full.cert"]),
+];
 
 #[test]
 fn checks_into_a_full_writer(rt: HostRuntime) -> Result<(), Fail> {
-    fs::write(&rt, "full.sdv", SMALLEST)?;
-    fs::write(&rt, "full.cert", CERTIFICATE)?;
-    let words = ["check", "full.sdv", "full.cert"];
-    let mut err = Vec::new(rt.alloc());
-    assert_eq!(rt; program(&rt, &words, &mut Full, &mut err), 2);
-    assert!(rt; err.is_empty());
+    play(&rt, &SHUT)?;
     let words = ["check", "missing.sdv", "full.cert"];
     assert_eq!(rt; program(&rt, &words, &mut Full, &mut Full), 2);
-    fs::remove_file(&rt, "full.sdv")?;
-    fs::remove_file(&rt, "full.cert")?;
     Ok(())
 }
 

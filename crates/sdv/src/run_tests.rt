@@ -1,11 +1,9 @@
 //! Runs of scripts beside simulated cards, over files on disk.
-use crate::testing::{BRING_UP, CERTIFICATE, USAGE, answers, expect, says};
-use sdv_words::program::program;
-use std::alloc::{AllocError, Global};
-use std::process::Abort;
-use std::rt::Files;
+use crate::testing::Piece::{self, Blocks, Fill, Text};
+use crate::testing::Step::{self, Call, Folder, Holds, Remove, RemoveFolder, Store, Write};
+use crate::testing::Wanted::{Ends, Has, Is};
+use crate::testing::{BRING_UP, CERTIFICATE, TO_TRANSFER, USAGE, call, play, store, write};
 use std::test::Fail;
-use std::{fs, io};
 
 /// An SD card of 1,024 blocks, with block addresses.
 const BLOCK_CARD: &str = "card sd\nversion 2\nunit block\ncsize 0\nrca 4660\n";
@@ -61,13 +59,13 @@ REG 512 ok
 done
 ";
 
-/// Behind a bring-up: the last block is read.
+/// Behind the bring-up: the last block is read.
 const READS_LAST: &str =
     "if cap >= 1 { let x = cap - 1 send 17 at by hc x { clean { recv { ok { } else { fault rd } } } else { fault rd } } } else { fault rd }
 done
 ";
 
-/// Behind a bring-up: a block is written, and the card waits for its programming.
+/// Behind the bring-up: a block is written, and the card waits for its programming.
 const WRITES_ONE: &str = "if cap >= 2 { } else { fault small }
 send 24 at by hc 1 { clean { } else { fault wr } }
 give { ok { } else { fault wr } }
@@ -76,7 +74,7 @@ send 13 { clean & state=tran { } else { fault wr } }
 done
 ";
 
-/// Behind a bring-up: forty blocks are written in one transfer, and read in another.
+/// Behind the bring-up: forty blocks are written in one transfer, and read in another.
 const WRITES_FORTY: &str = "if cap >= 47 { } else { fault small }
 send 25 at by hc 7 count 40 { clean { } else { fault wr } }
 give { ok { } else { fault wr } }
@@ -96,24 +94,8 @@ send 17 at block x { else { fault stop } }
 fault stop
 ";
 
-/// The bring-up of an SD card, with two numbers, and with this in place of its end.
-fn brought_up_and<R: AllocGlobal>(rt: &R, last: &str) -> Result<String, Fail> {
-    let text = BRING_UP.replace(rt.alloc(), "nums cap", "nums cap x")?;
-    Ok(text.replace(rt.alloc(), "done\n", last)?)
-}
-
-/// Writes a script and the certificate that the program writes for it.
-fn store_certified<R: Files + AllocGlobal + Abort>(rt: &R, script: &str) -> io::Result<()> {
-    fs::write(rt, "run.sdv", script)?;
-    let mut certificate = Vec::new(rt.alloc());
-    let mut err = Vec::new(rt.alloc());
-    let status = program(rt, &["certify", "run.sdv"], &mut certificate, &mut err);
-    assert_eq!(rt; status, 0, "{script}");
-    fs::write(rt, "run.cert", certificate.as_slice())
-}
-
 // A script, a card, an image and a schedule, and the status, what is printed, and what is said.
-static RUNS: [(&str, &str, &str, &str, u8, &str, &str); 9] = [
+static RUNS: [(&[Piece<'static>], &str, &str, &str, u8, &str, &str); 9] = [
     (BRING_UP, BLOCK_CARD, "new:1024", "", 0, BROUGHT_UP, ""),
     (BRING_UP, BLOCK_CARD, "new:0x400", "0 0\r\n02", 1, LOST, ""),
     (
@@ -162,7 +144,7 @@ static RUNS: [(&str, &str, &str, &str, u8, &str, &str); 9] = [
         "",
     ),
     (
-        DEVICE_BRING_UP,
+        &[Text(DEVICE_BRING_UP)],
         DEVICE,
         "new:2048",
         "",
@@ -171,7 +153,7 @@ static RUNS: [(&str, &str, &str, &str, u8, &str, &str); 9] = [
         "",
     ),
     (
-        OVERFLOWS,
+        &[Text(OVERFLOWS)],
         BLOCK_CARD,
         "new:1024",
         "",
@@ -184,9 +166,10 @@ static RUNS: [(&str, &str, &str, &str, u8, &str, &str); 9] = [
 #[test]
 fn runs_beside_cards(rt: HostRuntime) -> Result<(), Fail> {
     for &(script, card, image, schedule, status, printed, said) in RUNS.iter() {
-        store_certified(&rt, script)?;
-        fs::write(&rt, "run.card", card)?;
-        fs::write(&rt, "run.schedule", schedule)?;
+        write(&rt, "run.sdv", script)?;
+        store(&rt, CERTIFY, "run.cert")?;
+        write(&rt, "run.card", &[Text(card)])?;
+        write(&rt, "run.schedule", &[Text(schedule)])?;
         let words = [
             "run",
             "run.sdv",
@@ -195,33 +178,16 @@ fn runs_beside_cards(rt: HostRuntime) -> Result<(), Fail> {
             image,
             "run.schedule",
         ];
-        expect(&rt, &words, answers(status, printed, said));
+        call(&rt, &words, status, &[Is(printed)], said)?;
     }
     Ok(())
 }
 
-/// An image of four blocks, each of which has one byte 512 times.
-fn four_blocks(alloc: Global, blocks: [u8; 4]) -> Result<Vec<u8>, AllocError> {
-    let mut bytes = Vec::new(alloc);
-    for byte in blocks {
-        bytes.extend_from_slice(&[byte; 512])?;
-    }
-    Ok(bytes)
-}
+const CERTIFY: &[&str] = &["certify", "run.sdv"];
 
-fn trace_of<R: Files + AllocGlobal + Abort>(
-    rt: &R,
-    words: &[&str],
-    status: u8,
-) -> Result<String, Fail> {
-    let mut out = Vec::new(rt.alloc());
-    let mut err = Vec::new(rt.alloc());
-    assert_eq!(rt; program(rt, words, &mut out, &mut err), status);
-    assert!(rt; err.is_empty());
-    Ok(String::from_utf8(out)?)
-}
+const WITH_IMAGE: &[&str] = &["run", "run.sdv", "run.cert", "run.card", "run.image"];
 
-static WITH_OUTPUT: [&str; 7] = [
+const WITH_OUTPUT: &[&str] = &[
     "run",
     "run.sdv",
     "run.cert",
@@ -231,7 +197,7 @@ static WITH_OUTPUT: [&str; 7] = [
     "run.out",
 ];
 
-static WITH_INPUT: [&str; 7] = [
+const WITH_INPUT: &[&str] = &[
     "run",
     "run.sdv",
     "run.cert",
@@ -241,7 +207,7 @@ static WITH_INPUT: [&str; 7] = [
     "run.in",
 ];
 
-static WITH_BOTH: [&str; 9] = [
+const WITH_BOTH: &[&str] = &[
     "run",
     "run.sdv",
     "run.cert",
@@ -251,152 +217,185 @@ static WITH_BOTH: [&str; 9] = [
     "run.in",
     "--out",
     "run.out",
+];
+
+static READS: [Step<'static>; 8] = [
+    Write("run.card", &[Text(BYTE_CARD)]),
+    Write("run.image", &[Blocks(&[0, 1, 2, 0x5a])]),
+    Write("run.out", &[Text("old bytes")]),
+    Write("run.sdv", &[Text(TO_TRANSFER), Text(READS_LAST)]),
+    Store(CERTIFY, "run.cert"),
+    Call(
+        WITH_OUTPUT,
+        0,
+        &[
+            Has("\nCMD8 000001aa timeout\n"),
+            Has("\nCMD9 00010000 R2 000000000009000000000000000000\n"),
+            Ends("\nCMD17 00000600 R1 00000900\nIN 1 ok\ndone\n"),
+        ],
+        "",
+    ),
+    Holds("run.out", &[Blocks(&[0x5a])]),
+    Holds("run.image", &[Blocks(&[0, 1, 2, 0x5a])]),
 ];
 
 #[test]
 fn reads_images(rt: HostRuntime) -> Result<(), Fail> {
-    let blocks = four_blocks(rt.alloc(), [0, 1, 2, 0x5a])?;
-    fs::write(&rt, "run.card", BYTE_CARD)?;
-    fs::write(&rt, "run.image", blocks.as_slice())?;
-    fs::write(&rt, "run.out", "old bytes")?;
-    store_certified(&rt, brought_up_and(&rt, READS_LAST)?.as_str())?;
-    let trace = trace_of(&rt, &WITH_OUTPUT, 0)?;
-    assert!(rt; trace.contains("\nCMD8 000001aa timeout\n"));
-    assert!(rt; trace.contains("\nCMD9 00010000 R2 000000000009000000000000000000\n"));
-    assert!(rt; trace.ends_with("\nCMD17 00000600 R1 00000900\nIN 1 ok\ndone\n"));
-    assert!(rt; fs::read(&rt, "run.out")?.as_slice() == [0x5a; 512].as_slice());
-    assert!(rt; fs::read(&rt, "run.image")?.as_slice() == blocks.as_slice());
-    Ok(())
+    play(&rt, &READS)
 }
+
+static WRITES: [Step<'static>; 7] = [
+    Write("run.card", &[Text(BYTE_CARD)]),
+    Write("run.image", &[Blocks(&[0, 1, 2, 0x5a])]),
+    Write("run.in", &[Blocks(&[0x77])]),
+    Write("run.sdv", &[Text(TO_TRANSFER), Text(WRITES_ONE)]),
+    Store(CERTIFY, "run.cert"),
+    Call(
+        WITH_INPUT,
+        0,
+        &[Ends(
+            "\nCMD24 00000200 R1 00000900\nOUT 1 ok\nWAIT ok\nCMD13 00010000 R1 00000900\ndone\n",
+        )],
+        "",
+    ),
+    Holds("run.image", &[Blocks(&[0, 0x77, 2, 0x5a])]),
+];
 
 #[test]
 fn writes_images(rt: HostRuntime) -> Result<(), Fail> {
-    let blocks = four_blocks(rt.alloc(), [0, 1, 2, 0x5a])?;
-    fs::write(&rt, "run.card", BYTE_CARD)?;
-    fs::write(&rt, "run.image", blocks.as_slice())?;
-    fs::write(&rt, "run.in", [0x77; 512].as_slice())?;
-    store_certified(&rt, brought_up_and(&rt, WRITES_ONE)?.as_str())?;
-    let trace = trace_of(&rt, &WITH_INPUT, 0)?;
-    assert!(rt;
-        trace.ends_with(
-            "\nCMD24 00000200 R1 00000900\nOUT 1 ok\nWAIT ok\nCMD13 00010000 R1 00000900\ndone\n"
-        )
-    );
-    let written = four_blocks(rt.alloc(), [0, 0x77, 2, 0x5a])?;
-    assert!(rt; fs::read(&rt, "run.image")?.as_slice() == written.as_slice());
-    Ok(())
+    play(&rt, &WRITES)
 }
 
-// The bytes of an image, and the status, what is printed, and what is said.
-static IMAGES: [(usize, u8, &str, &str); 4] = [
-    (524_288, 0, BROUGHT_UP, ""),
-    (523_776, 1, "", "card fault ImageLength\n"),
-    (513, 1, "", "card fault ImageLength\n"),
-    (0, 1, "", "card fault ImageLength\n"),
+// Images of as many blocks as the card has, and files that are none.
+static IMAGES: [Step<'static>; 20] = [
+    Write("run.card", &[Text(BLOCK_CARD)]),
+    Write("run.sdv", BRING_UP),
+    Store(CERTIFY, "run.cert"),
+    Write("run.image", &[Fill(0, 524_288)]),
+    Call(WITH_IMAGE, 0, &[Is(BROUGHT_UP)], ""),
+    Holds("run.image", &[Fill(0, 524_288)]),
+    Write("run.image", &[Fill(0, 523_776)]),
+    Call(WITH_IMAGE, 1, &[Is("")], "card fault ImageLength\n"),
+    Holds("run.image", &[Fill(0, 523_776)]),
+    Write("run.image", &[Fill(0, 513)]),
+    Call(WITH_IMAGE, 1, &[Is("")], "card fault ImageLength\n"),
+    Holds("run.image", &[Fill(0, 513)]),
+    Write("run.image", &[]),
+    Call(WITH_IMAGE, 1, &[Is("")], "card fault ImageLength\n"),
+    Holds("run.image", &[]),
+    Remove("run.image"),
+    Call(WITH_IMAGE, 2, &[Is("")], "cannot use run.image\n"),
+    Folder("run.image"),
+    Call(WITH_IMAGE, 2, &[Is("")], "cannot use run.image\n"),
+    RemoveFolder("run.image"),
 ];
 
-/// Files that are images of as many blocks as the card has, and files that are none.
 #[test]
 fn takes_image_files(rt: HostRuntime) -> Result<(), Fail> {
-    fs::write(&rt, "run.card", BLOCK_CARD)?;
-    store_certified(&rt, BRING_UP)?;
-    let words = ["run", "run.sdv", "run.cert", "run.card", "run.image"];
-    for &(bytes, status, printed, said) in IMAGES.iter() {
-        let zeros = vec![in rt.alloc(); 0; bytes]?;
-        fs::write(&rt, "run.image", zeros.as_slice())?;
-        expect(&rt, &words, answers(status, printed, said));
-        assert!(rt; fs::read(&rt, "run.image")?.as_slice() == zeros.as_slice());
-    }
-    fs::remove_file(&rt, "run.image")?;
-    expect(&rt, &words, says(2, "cannot use run.image\n"));
-    fs::create_dir(&rt, "run.image")?;
-    expect(&rt, &words, says(2, "cannot use run.image\n"));
-    fs::remove_dir(&rt, "run.image")?;
-    Ok(())
+    play(&rt, &IMAGES)
 }
 
-/// So many bytes of an image that nothing wrote.
-fn filled(alloc: Global, count: usize) -> Result<Vec<u8>, AllocError> {
-    vec![in alloc; 0x11; count]
-}
+const FORTY: Piece<'static> = Blocks(&[
+    0, 1, 2, 3, 4, 5, 6, 7, 8, 9, 10, 11, 12, 13, 14, 15, 16, 17, 18, 19, 20, 21, 22, 23, 24, 25,
+    26, 27, 28, 29, 30, 31, 32, 33, 34, 35, 36, 37, 38, 39,
+]);
 
-/// A transfer of more blocks than an image keeps in buffers is in the file after the run, and no other block changed.
+// A transfer of more blocks than an image keeps in buffers is in the file after the run, and no other block changed.
+static LONG_TRANSFER: [Step<'static>; 8] = [
+    Write("run.card", &[Text(BLOCK_CARD)]),
+    Write("run.image", &[Fill(0x11, 524_288)]),
+    Write("run.in", &[FORTY]),
+    Write("run.sdv", &[Text(TO_TRANSFER), Text(WRITES_FORTY)]),
+    Store(CERTIFY, "run.cert"),
+    Call(
+        WITH_BOTH,
+        0,
+        &[Has("\nCMD25 00000007 R1 00000900\nOUT 40 ok\n")],
+        "",
+    ),
+    Holds("run.out", &[FORTY]),
+    Holds(
+        "run.image",
+        &[Fill(0x11, 3_584), FORTY, Fill(0x11, 500_224)],
+    ),
+];
+
 #[test]
 fn stores_long_transfers(rt: HostRuntime) -> Result<(), Fail> {
-    let blocks = filled(rt.alloc(), 524_288)?;
-    let mut written = Vec::new(rt.alloc());
-    for number in 0..40u8 {
-        written.extend_from_slice(&[number; 512])?;
-    }
-    fs::write(&rt, "run.card", BLOCK_CARD)?;
-    fs::write(&rt, "run.image", blocks.as_slice())?;
-    fs::write(&rt, "run.in", written.as_slice())?;
-    store_certified(&rt, brought_up_and(&rt, WRITES_FORTY)?.as_str())?;
-    let trace = trace_of(&rt, &WITH_BOTH, 0)?;
-    assert!(rt; trace.contains("\nCMD25 00000007 R1 00000900\nOUT 40 ok\n"));
-    assert!(rt; fs::read(&rt, "run.out")?.as_slice() == written.as_slice());
-    let mut changed = filled(rt.alloc(), 3_584)?;
-    changed.extend_from_slice(written.as_slice())?;
-    changed.extend_from_slice(filled(rt.alloc(), 500_224)?.as_slice())?;
-    assert!(rt; fs::read(&rt, "run.image")?.as_slice() == changed.as_slice());
-    Ok(())
+    play(&rt, &LONG_TRANSFER)
 }
 
-// Words with an input that is no whole block, and with two inputs.
-static OTHER_INPUTS: [(&[&str], &str); 2] = [
-    (
+// Inputs that are no blocks, or none, or two.
+static INPUTS: [Step<'static>; 7] = [
+    Write("run.card", &[Text(BYTE_CARD)]),
+    Write("run.in", &[Fill(0x77, 511)]),
+    Write("run.sdv", &[Text(TO_TRANSFER), Text(WRITES_ONE)]),
+    Store(CERTIFY, "run.cert"),
+    Call(
         &[
             "run", "run.sdv", "run.cert", "run.card", "new:4", "--in", "run.in",
         ],
+        2,
+        &[Is("")],
         "cannot use run.in\n",
     ),
-    (
+    Call(
         &[
             "run", "run.sdv", "run.cert", "run.card", "new:4", "--in", "run.in", "--in", "run.in",
         ],
+        2,
+        &[Is("")],
         USAGE,
+    ),
+    Call(
+        &["run", "run.sdv", "run.cert", "run.card", "new:4"],
+        1,
+        &[Ends("CMD24 00000200 R1 00000900\n")],
+        "run fault Input\n",
     ),
 ];
 
-/// Inputs that are no blocks, or none, or two.
 #[test]
 fn refuses_inputs(rt: HostRuntime) -> Result<(), Fail> {
-    fs::write(&rt, "run.card", BYTE_CARD)?;
-    fs::write(&rt, "run.in", [0x77; 511].as_slice())?;
-    store_certified(&rt, brought_up_and(&rt, WRITES_ONE)?.as_str())?;
-    for &(words, said) in OTHER_INPUTS.iter() {
-        expect(&rt, words, says(2, said));
-    }
-    let mut out = Vec::new(rt.alloc());
-    let mut err = Vec::new(rt.alloc());
-    let words = ["run", "run.sdv", "run.cert", "run.card", "new:4"];
-    assert_eq!(rt; program(&rt, &words, &mut out, &mut err), 1);
-    assert!(rt; err.as_slice() == b"run fault Input\n".as_slice());
-    assert!(rt; out.as_slice().ends_with(b"CMD24 00000200 R1 00000900\n"));
-    Ok(())
+    play(&rt, &INPUTS)
 }
 
-/// The output is emptied whatever comes of the script.
+// The output is emptied whatever comes of the script.
+static OUTPUTS: [Step<'static>; 5] = [
+    Write("run.card", &[Text(BYTE_CARD)]),
+    Write("run.cert", &[Text(CERTIFICATE)]),
+    Write("run.out", &[Text("old bytes")]),
+    Call(
+        &[
+            "run", "run.card", "run.cert", "run.card", "new:4", "--out", "run.out",
+        ],
+        1,
+        &[Is("")],
+        "script fault Syntax line 2\n",
+    ),
+    Holds("run.out", &[]),
+];
+
 #[test]
 fn empties_the_output(rt: HostRuntime) -> Result<(), Fail> {
-    fs::write(&rt, "run.card", BYTE_CARD)?;
-    fs::write(&rt, "run.cert", CERTIFICATE)?;
-    fs::write(&rt, "run.out", "old bytes")?;
-    let words = [
-        "run", "run.card", "run.cert", "run.card", "new:4", "--out", "run.out",
-    ];
-    expect(&rt, &words, says(1, "script fault Syntax line 2\n"));
-    assert!(rt; fs::read(&rt, "run.out")?.is_empty());
-    Ok(())
+    play(&rt, &OUTPUTS)
 }
+
+static NO_COUNT: [Step<'static>; 4] = [
+    Write("run.card", &[Text(BYTE_CARD)]),
+    Write("run.sdv", BRING_UP),
+    Store(CERTIFY, "run.cert"),
+    Call(
+        &[
+            "run", "run.sdv", "run.cert", "run.card", "new:", "--out", "run.out",
+        ],
+        2,
+        &[Is("")],
+        "cannot use new:\n",
+    ),
+];
 
 #[test]
 fn names_no_file_new(rt: HostRuntime) -> Result<(), Fail> {
-    fs::write(&rt, "run.card", BYTE_CARD)?;
-    store_certified(&rt, BRING_UP)?;
-    let words = [
-        "run", "run.sdv", "run.cert", "run.card", "new:", "--out", "run.out",
-    ];
-    expect(&rt, &words, says(2, "cannot use new:\n"));
-    Ok(())
+    play(&rt, &NO_COUNT)
 }

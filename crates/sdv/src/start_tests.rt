@@ -1,25 +1,33 @@
 //! The program on the words of a process.
-
-use crate::testing::{Expected, USAGE, answers, says};
+use crate::testing::Piece::Text;
+use crate::testing::{USAGE, write};
 use sdv_words::start::start;
 use std::io::{self, ErrorKind};
 use std::process::Abort;
 use std::rt::Files;
+use std::str;
 use std::test::Fail;
-use std::{fs, str};
 
 fn expect_start<R: Files + AllocGlobal + Abort>(
     rt: &R,
     words: io::Result<Vec<String>>,
-    expected: Expected<'_>,
+    status: u8,
+    printed: &str,
+    said: &str,
 ) {
     let mut out = Vec::new(rt.alloc());
     let mut err = Vec::new(rt.alloc());
-    let status = start(rt, words, &mut out, &mut err);
-    let said = str::from_utf8(&err);
-    let printed = str::from_utf8(&out);
-    let wanted = (expected.status, Ok(expected.printed), Ok(expected.said));
-    assert!(rt; (status, printed, said) == wanted, "{expected:?}");
+    assert_eq!(rt; start(rt, words, &mut out, &mut err), status, "{said}");
+    assert_eq!(rt; str::from_utf8(&out), Ok(printed), "{said}");
+    assert_eq!(rt; str::from_utf8(&err), Ok(said));
+}
+
+fn owned<R: AllocGlobal>(rt: &R, words: &[&str]) -> Result<Vec<String>, Fail> {
+    let mut all = Vec::new(rt.alloc());
+    for word in words {
+        all.push(String::from_str(rt.alloc(), word)?)?;
+    }
+    Ok(all)
 }
 
 // Words of a process, and the status, what is printed, and what is said.
@@ -38,19 +46,22 @@ static STARTS: [(&[&str], u8, &str, &str); 5] = [
 
 #[test]
 fn starts_on_words(rt: HostRuntime) -> Result<(), Fail> {
-    let file = "started.sdv";
-    fs::write(&rt, file, "card sd\ndone\n")?;
+    write(&rt, "started.sdv", &[Text("card sd\ndone\n")])?;
     for &(words, status, printed, said) in STARTS.iter() {
-        let mut all = Vec::new(rt.alloc());
-        for word in words {
-            all.push(String::from_str(rt.alloc(), word)?)?;
-        }
-        expect_start(&rt, Ok(all), answers(status, printed, said));
+        expect_start(&rt, Ok(owned(&rt, words)?), status, printed, said);
     }
-    fs::remove_file(&rt, file)?;
-    let unread = Err(io::Error::from(ErrorKind::OutOfMemory));
-    expect_start(&rt, unread, says(3, "out of memory\n"));
-    let unread = Err(io::Error::from(ErrorKind::InvalidData));
-    expect_start(&rt, unread, says(2, USAGE));
     Ok(())
+}
+
+// Why the words of a process cannot be had, and the status, and what is said.
+static UNREAD: [(ErrorKind, u8, &str); 2] = [
+    (ErrorKind::OutOfMemory, 3, "out of memory\n"),
+    (ErrorKind::InvalidData, 2, USAGE),
+];
+
+#[test]
+fn starts_on_no_words(rt: HostRuntime) {
+    for &(kind, status, said) in UNREAD.iter() {
+        expect_start(&rt, Err(io::Error::from(kind)), status, "", said);
+    }
 }

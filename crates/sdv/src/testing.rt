@@ -1,8 +1,11 @@
-//! Texts that tests share, and the call of the program.
+//! Tests as lists of steps: files are written, the program is called, and what comes of it is compared.
 use sdv_words::program::program;
+use std::alloc::{AllocError, Global};
+use std::io::{self, Write};
 use std::process::Abort;
 use std::rt::Files;
-use std::{fs, io, str};
+use std::test::Fail;
+use std::{fs, str};
 
 /// The smallest script.
 pub const SMALLEST: &str = "card sd\nsend 0 { else { } }\nfault stop\n";
@@ -14,12 +17,12 @@ p 0 b 1 m 1 s 0000000000002000 0000000000002800 0000000000002c00
 p 1 b 0 m 1 s 0000000000002000 0000000000002800 0000000000002c00
 ";
 
-/// A script that brings a card up.
-pub const BRING_UP: &str =
+/// The bring-up of a card, up to the end of a script.
+pub const TO_TRANSFER: &str =
     "# Brings a card up: from power-on to the transfer state, with its capacity known and block lengths of 512 bytes.
 card sd
 flags hc
-nums cap
+nums cap x
 send 0 { else { } }
 send 8 { else { } }
 loop 1000 { send 55 { app { send 41 0x40ff8000 { ocr.ready & ocr.block { set hc break } ocr.ready { break } answer { } else { fault lost41 } } } else { fault lost55 } } } else { fault busy }
@@ -29,87 +32,242 @@ send 9 { answer { } else { fault csd } }
 send 7 { clean { } else { fault select } }
 send 16 { clean { } else { fault blen } }
 let cap = csd.blocks
-done
 ";
+
+/// A script that brings a card up.
+pub const BRING_UP: &[Piece<'static>] = &[Piece::Text(TO_TRANSFER), Piece::Text("done\n")];
+
+/// A script whose first command is not legal.
+pub const ILLEGAL: &str = "card sd send 7 { else { } } fault stop";
 
 /// What it says of words that are none of its lines.
 pub const USAGE: &str =
     "usage: sdv frame INDEX ARG | sdv certify SCRIPT | sdv check SCRIPT CERT | sdv run SCRIPT CERT CARD IMAGE [SCHEDULE] [--in FILE] [--out FILE] | sdv batch KIND REQUESTS | sdv explain SCRIPT | sdv graph SCRIPT | sdv print SCRIPT\n";
 
-/// What the program has to answer.
-#[derive(Clone, Copy, Debug)]
-pub struct Expected<'a> {
-    pub status: u8,
-    /// All of standard output.
-    pub printed: &'a str,
-    /// All of standard error.
-    pub said: &'a str,
+/// A piece of a file.
+#[derive(Clone, Copy)]
+pub enum Piece<'a> {
+    Text(&'a str),
+    Bytes(&'a [u8]),
+    /// A text so many times.
+    Times(&'a str, usize),
+    /// A byte so many times.
+    Fill(u8, usize),
+    /// A block for each byte, which it has 512 times.
+    Blocks(&'a [u8]),
 }
 
-/// An answer with all of its parts.
-pub fn answers<'a>(status: u8, printed: &'a str, said: &'a str) -> Expected<'a> {
-    Expected {
-        status,
-        printed,
-        said,
+/// What is wanted of all that is printed.
+#[derive(Clone, Copy)]
+pub enum Wanted<'a> {
+    Is(&'a str),
+    Starts(&'a str),
+    Has(&'a str),
+    Ends(&'a str),
+    /// It has so many lines.
+    Lines(usize),
+}
+
+/// A step of a test. A file is named as the words of the program name it.
+#[derive(Clone, Copy)]
+pub enum Step<'a> {
+    /// The file has these pieces from here on.
+    Write(&'a str, &'a [Piece<'a>]),
+    /// The file is there, and is removed.
+    Remove(&'a str),
+    /// A folder of this name is made.
+    Folder(&'a str),
+    /// A folder of this name is there, and is removed.
+    RemoveFolder(&'a str),
+    /// The file has the first text once, and the second in its place from here on.
+    Replace(&'a str, &'a str, &'a str),
+    /// The file is made of these pieces.
+    Holds(&'a str, &'a [Piece<'a>]),
+    /// The files have the same bytes.
+    Same(&'a str, &'a str),
+    /// The program answers these words with a status, with what is wanted on standard output, and with all of that on standard
+    /// error.
+    Call(&'a [&'a str], u8, &'a [Wanted<'a>], &'a str),
+    /// The program answers these words with status 0, and its standard output goes to the file.
+    Store(&'a [&'a str], &'a str),
+    /// The program answers these words with status 2 and nothing on standard error, where standard output takes nothing.
+    Shut(&'a [&'a str]),
+    /// The program answers these words with a status, where standard error takes nothing.
+    Mute(&'a [&'a str], u8),
+}
+
+/// A writer that takes nothing.
+#[derive(Drop)]
+pub struct Full;
+
+impl Write for Full {
+    fn write(&mut self, _buf: &[u8]) -> io::Result<usize> {
+        Ok(0)
+    }
+
+    fn flush(&mut self) -> io::Result<()> {
+        Ok(())
     }
 }
 
-/// An answer that was printed.
-pub fn prints(printed: &str) -> Expected<'_> {
-    Expected {
-        status: 0,
-        printed,
-        said: "",
+/// Takes steps, one after another.
+pub fn play<R: Files + AllocGlobal + Abort>(rt: &R, steps: &[Step<'_>]) -> Result<(), Fail> {
+    for step in steps {
+        take(rt, step)?;
+    }
+    Ok(())
+}
+
+fn take<R: Files + AllocGlobal + Abort>(rt: &R, step: &Step<'_>) -> Result<(), Fail> {
+    match *step {
+        Step::Write(file, pieces) => write(rt, file, pieces),
+        Step::Remove(file) => Ok(fs::remove_file(rt, file)?),
+        Step::Folder(name) => Ok(fs::create_dir(rt, name)?),
+        Step::RemoveFolder(name) => Ok(fs::remove_dir(rt, name)?),
+        Step::Replace(file, from, to) => replace(rt, file, from, to),
+        Step::Holds(file, pieces) => holds(rt, file, pieces),
+        Step::Same(one, other) => same(rt, one, other),
+        Step::Call(words, status, wanted, said) => call(rt, words, status, wanted, said),
+        Step::Store(words, file) => store(rt, words, file),
+        Step::Shut(words) => shut(rt, words),
+        Step::Mute(words, status) => mute(rt, words, status),
     }
 }
 
-/// A line on standard error, and nothing printed.
-pub fn says(status: u8, said: &str) -> Expected<'_> {
-    Expected {
-        status,
-        printed: "",
-        said,
+fn put(bytes: &mut Vec<u8>, piece: Piece<'_>) -> Result<(), AllocError> {
+    match piece {
+        Piece::Text(text) => bytes.extend_from_slice(text.as_bytes()),
+        Piece::Bytes(more) => bytes.extend_from_slice(more),
+        Piece::Times(text, count) => put_times(bytes, text.as_bytes(), count),
+        Piece::Fill(byte, count) => put_times(bytes, &[byte], count),
+        Piece::Blocks(numbers) => put_blocks(bytes, numbers),
     }
 }
 
-/// Runs the program on words, and compares what it answers.
-pub fn expect<R: Files + AllocGlobal + Abort>(rt: &R, words: &[&str], expected: Expected<'_>) {
-    let Expected {
-        status,
-        printed,
-        said,
-    } = expected;
-    let mut out = Vec::new(rt.alloc());
-    let mut err = Vec::new(rt.alloc());
-    assert_eq!(rt; program(rt, words, &mut out, &mut err), status, "{said}");
-    assert_eq!(rt; str::from_utf8(&out), Ok(printed), "{said}");
-    assert_eq!(rt; str::from_utf8(&err), Ok(said));
+fn put_times(bytes: &mut Vec<u8>, more: &[u8], count: usize) -> Result<(), AllocError> {
+    for _ in 0..count {
+        bytes.extend_from_slice(more)?;
+    }
+    Ok(())
 }
 
-/// Has a script certified that stands in the file of this name as long as that takes.
-pub fn expect_certify<R: Files + AllocGlobal + Abort>(
+fn put_blocks(bytes: &mut Vec<u8>, numbers: &[u8]) -> Result<(), AllocError> {
+    for number in numbers {
+        bytes.extend_from_slice(&[*number; 512])?;
+    }
+    Ok(())
+}
+
+fn bytes_of(alloc: Global, pieces: &[Piece<'_>]) -> Result<Vec<u8>, AllocError> {
+    let mut bytes = Vec::new(alloc);
+    for piece in pieces {
+        put(&mut bytes, *piece)?;
+    }
+    Ok(bytes)
+}
+
+/// Writes a file of these pieces.
+pub fn write<R: Files + AllocGlobal + Abort>(
     rt: &R,
     file: &str,
-    script: &[u8],
-    expected: Expected<'_>,
-) -> io::Result<()> {
-    fs::write(rt, file, script)?;
-    expect(rt, &["certify", file], expected);
-    fs::remove_file(rt, file)
+    pieces: &[Piece<'_>],
+) -> Result<(), Fail> {
+    let bytes = bytes_of(rt.alloc(), pieces)?;
+    Ok(fs::write(rt, file, bytes.as_slice())?)
 }
 
-/// Has a script checked with a certificate, which stand in the files of these names as long as that takes.
-pub fn expect_check<R: Files + AllocGlobal + Abort>(
+fn replace<R: Files + AllocGlobal + Abort>(
     rt: &R,
-    files: [&str; 2],
-    texts: [&[u8]; 2],
-    expected: Expected<'_>,
-) -> io::Result<()> {
-    let [script, certificate] = files;
-    fs::write(rt, script, texts[0])?;
-    fs::write(rt, certificate, texts[1])?;
-    expect(rt, &["check", script, certificate], expected);
-    fs::remove_file(rt, script)?;
-    fs::remove_file(rt, certificate)
+    file: &str,
+    from: &str,
+    to: &str,
+) -> Result<(), Fail> {
+    let text = String::from_utf8(fs::read(rt, file)?)?;
+    assert_eq!(rt; text.matches(from).count(), 1, "{from}");
+    let replaced = text.replace(rt.alloc(), from, to)?;
+    Ok(fs::write(rt, file, replaced.as_str())?)
+}
+
+fn holds<R: Files + AllocGlobal + Abort>(
+    rt: &R,
+    file: &str,
+    pieces: &[Piece<'_>],
+) -> Result<(), Fail> {
+    let bytes = bytes_of(rt.alloc(), pieces)?;
+    assert!(rt;
+        fs::read(rt, file)?.as_slice() == bytes.as_slice(),
+        "{file}"
+    );
+    Ok(())
+}
+
+fn same<R: Files + AllocGlobal + Abort>(rt: &R, one: &str, other: &str) -> Result<(), Fail> {
+    let bytes = fs::read(rt, one)?;
+    assert!(rt;
+        fs::read(rt, other)?.as_slice() == bytes.as_slice(),
+        "{one} {other}"
+    );
+    Ok(())
+}
+
+fn is_wanted(text: &str, wanted: Wanted<'_>) -> bool {
+    match wanted {
+        Wanted::Is(whole) => text == whole,
+        Wanted::Starts(front) => text.starts_with(front),
+        Wanted::Has(part) => text.contains(part),
+        Wanted::Ends(back) => text.ends_with(back),
+        Wanted::Lines(count) => text.lines().count() == count,
+    }
+}
+
+fn compare<R: Abort>(rt: &R, text: &str, wanted: &[Wanted<'_>]) {
+    for part in wanted {
+        assert!(rt; is_wanted(text, *part), "{text}");
+    }
+}
+
+/// Calls the program with words, and compares its status, what it prints, and all that it says on standard error.
+pub fn call<R: Files + AllocGlobal + Abort>(
+    rt: &R,
+    words: &[&str],
+    status: u8,
+    wanted: &[Wanted<'_>],
+    said: &str,
+) -> Result<(), Fail> {
+    let mut out = Vec::new(rt.alloc());
+    let mut err = Vec::new(rt.alloc());
+    assert_eq!(rt; program(rt, words, &mut out, &mut err), status, "{words:?}");
+    assert_eq!(rt; str::from_utf8(&err), Ok(said), "{words:?}");
+    compare(rt, str::from_utf8(&out)?, wanted);
+    Ok(())
+}
+
+/// Calls the program with words that it answers with status 0, and stores what it prints in a file.
+pub fn store<R: Files + AllocGlobal + Abort>(
+    rt: &R,
+    words: &[&str],
+    file: &str,
+) -> Result<(), Fail> {
+    let mut out = Vec::new(rt.alloc());
+    let mut err = Vec::new(rt.alloc());
+    assert_eq!(rt; program(rt, words, &mut out, &mut err), 0, "{words:?}");
+    assert!(rt; err.is_empty(), "{words:?}");
+    Ok(fs::write(rt, file, out.as_slice())?)
+}
+
+fn shut<R: Files + AllocGlobal + Abort>(rt: &R, words: &[&str]) -> Result<(), Fail> {
+    let mut err = Vec::new(rt.alloc());
+    assert_eq!(rt; program(rt, words, &mut Full, &mut err), 2, "{words:?}");
+    assert!(rt; err.is_empty(), "{words:?}");
+    Ok(())
+}
+
+fn mute<R: Files + AllocGlobal + Abort>(rt: &R, words: &[&str], status: u8) -> Result<(), Fail> {
+    let mut out = Vec::new(rt.alloc());
+    assert_eq!(rt;
+        program(rt, words, &mut out, &mut Full),
+        status,
+        "{words:?}"
+    );
+    Ok(())
 }

@@ -1,83 +1,76 @@
 //! The program over writers in memory, and over one that takes nothing.
-use crate::testing::{USAGE, expect, says};
+use crate::testing::Step::{self, Call, Mute, Shut};
+use crate::testing::Wanted::{Has, Is, Starts};
+use crate::testing::{USAGE, call, play};
 use sdv_faults::Fault;
 use sdv_frames::Command;
 use sdv_line::{Line, LineFault, line_of, number_of};
 use sdv_run::RunFault;
 use sdv_sim::SimFault;
 use sdv_words::frame::{command_of, write_frame};
-use sdv_words::program::program;
-use std::io::{self, Write};
-use std::str;
 use std::test::Fail;
 
-#[derive(Drop)]
-struct Full;
-
-impl Write for Full {
-    fn write(&mut self, _buf: &[u8]) -> io::Result<usize> {
-        Ok(0)
-    }
-
-    fn flush(&mut self) -> io::Result<()> {
-        Ok(())
-    }
-}
-
-// An index and an argument, and the line of their frame.
-static FRAMES: [(&str, &str, &str); 4] = [
-    ("0", "0", "40 00 00 00 00 95\n"),
-    ("8", "0x1AA", "48 00 00 01 aa 87\n"),
-    ("41", "0x40FF8000", "69 40 ff 80 00 17\n"),
-    ("1", "0x40ff8080", "41 40 ff 80 80 89\n"),
+static FRAMES: [Step<'static>; 7] = [
+    Call(&["frame", "0", "0"], 0, &[Is("40 00 00 00 00 95\n")], ""),
+    Call(
+        &["frame", "8", "0x1AA"],
+        0,
+        &[Is("48 00 00 01 aa 87\n")],
+        "",
+    ),
+    Call(
+        &["frame", "41", "0x40FF8000"],
+        0,
+        &[Is("69 40 ff 80 00 17\n")],
+        "",
+    ),
+    Call(
+        &["frame", "1", "0x40ff8080"],
+        0,
+        &[Is("41 40 ff 80 80 89\n")],
+        "",
+    ),
+    Shut(&["frame", "0", "0"]),
+    Mute(&["frame", "0"], 2),
+    Mute(&["frame", "0", "0"], 0),
 ];
 
 #[test]
-fn prints_frames(rt: HostRuntime) {
-    for &(index, argument, line) in FRAMES.iter() {
-        let mut out = Vec::new(rt.alloc());
-        let mut err = Vec::new(rt.alloc());
-        let status = program(&rt, &["frame", index, argument], &mut out, &mut err);
-        assert_eq!(rt; status, 0, "at {line}");
-        assert!(rt; out.as_slice() == line.as_bytes(), "at {line}");
-        assert!(rt; err.is_empty(), "at {line}");
-    }
+fn prints_frames(rt: HostRuntime) -> Result<(), Fail> {
+    play(&rt, &FRAMES)
 }
 
-// Requests, and a line of their script.
-static BATCHES: [(&str, &str); 2] = [
-    (
-        "write 3 1",
-        "send 24 at by hc 3 { clean { } else { fault write } }\n",
+static BATCHES: [Step<'static>; 4] = [
+    Call(
+        &["batch", "sd", "write 3 1"],
+        0,
+        &[
+            Starts("card sd\n"),
+            Has("send 24 at by hc 3 { clean { } else { fault write } }\n"),
+        ],
+        "",
     ),
-    (
-        " read\t0x10 2\nread 0 1",
-        "send 18 at by hc 16 count 2 { clean { } else { fault read } }\n",
+    Call(
+        &["batch", "sd", " read\t0x10 2\nread 0 1"],
+        0,
+        &[
+            Starts("card sd\n"),
+            Has("send 18 at by hc 16 count 2 { clean { } else { fault read } }\n"),
+        ],
+        "",
+    ),
+    Call(&["batch", "sd", ""], 1, &[Is("")], "refused Empty\n"),
+    Call(
+        &["batch", "emmc", "read 0 0"],
+        1,
+        &[Is("")],
+        "refused Range\n",
     ),
 ];
 
 #[test]
 fn prints_batches(rt: HostRuntime) -> Result<(), Fail> {
-    let alloc = rt.alloc();
-    for &(requests, line) in BATCHES.iter() {
-        let mut out = Vec::new(alloc);
-        let mut err = Vec::new(alloc);
-        assert_eq!(rt;
-            program(&rt, &["batch", "sd", requests], &mut out, &mut err),
-            0
-        );
-        let text = str::from_utf8(&out)?;
-        assert!(rt; text.starts_with("card sd\n"), "at {line}");
-        assert!(rt; text.contains(line), "at {line}");
-        assert!(rt; err.is_empty(), "at {line}");
-    }
-    expect(&rt, &["batch", "sd", ""], says(1, "refused Empty\n"));
-    expect(
-        &rt,
-        &["batch", "emmc", "read 0 0"],
-        says(1, "refused Range\n"),
-    );
-    Ok(())
+    play(&rt, &BATCHES)
 }
 
 // Words that are no line of the program.
@@ -115,25 +108,11 @@ static OTHER_WORDS: [&[&str]; 30] = [
 ];
 
 #[test]
-fn refuses_other_words(rt: HostRuntime) {
-    for (row, words) in OTHER_WORDS.iter().enumerate() {
-        let mut out = Vec::new(rt.alloc());
-        let mut err = Vec::new(rt.alloc());
-        let status = program(&rt, words, &mut out, &mut err);
-        assert_eq!(rt; status, 2, "at row {row}");
-        assert!(rt; out.is_empty(), "at row {row}");
-        assert!(rt; err.as_slice() == USAGE.as_bytes(), "at row {row}");
+fn refuses_other_words(rt: HostRuntime) -> Result<(), Fail> {
+    for words in OTHER_WORDS.iter() {
+        call(&rt, words, 2, &[Is("")], USAGE)?;
     }
-}
-
-#[test]
-fn goes_by_the_output_alone(rt: HostRuntime) {
-    let mut out = Vec::new(rt.alloc());
-    let mut err = Vec::new(rt.alloc());
-    assert_eq!(rt; program(&rt, &["frame", "0", "0"], &mut Full, &mut err), 2);
-    assert!(rt; err.is_empty());
-    assert_eq!(rt; program(&rt, &["frame", "0"], &mut out, &mut Full), 2);
-    assert_eq!(rt; program(&rt, &["frame", "0", "0"], &mut out, &mut Full), 0);
+    Ok(())
 }
 
 #[test]
