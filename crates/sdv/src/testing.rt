@@ -17,7 +17,7 @@ p 0 b 1 m 1 s 0000000000002000 0000000000002800 0000000000002c00
 p 1 b 0 m 1 s 0000000000002000 0000000000002800 0000000000002c00
 ";
 
-/// The bring-up of a card, up to the end of a script.
+/// A script that brings an SD card up, without its end.
 pub const TO_TRANSFER: &str =
     "# Brings a card up: from power-on to the transfer state, with its capacity known and block lengths of 512 bytes.
 card sd

@@ -1,7 +1,7 @@
 //! Texts that go out whole, or in part where the writer fails.
 //!
 //! `specs/Written.antt` says what a writer then holds. Whatever prints here, scripts, certificates, traces and the
-//! lines of the program, is said in its words.
+//! lines of the program, is said in its words. `specs/Fronts.antt` says what a text begins with, for the readers above.
 #![tactic(auto)]
 
 ghost use Rattle.std.specs.Prelude.{flat_map};
