@@ -17,7 +17,7 @@ use Rattle.sdv_card.specs.declared.command.Order.TheVariants.{DeselectCards}
 use Rattle.sdv_card.specs.declared.command.Row.{Row}
 use Rattle.sdv_card.specs.declared.command.Row.TheVariants.{Cmd0, Cmd1, Cmd2, Cmd3Sd, Cmd7NotAddressed, Cmd8Sd, Cmd9, Cmd10, Cmd38, Cmd55, Acmd41}
 use Rattle.sdv_card.specs.Agrees.{ErrorShown}
-use Rattle.sdv_card.specs.Card.{Card, Block, IsRegister}
+use Rattle.sdv_card.specs.Card.{Card, Block, IsRegister, accessed_capacity, accessed_blocks}
 use Rattle.sdv_card.specs.Exchange.{RowAnswer, unaddressed_answer}
 use Rattle.sdv_card.specs.Legal.{RowLegal}
 use Rattle.sdv_card.specs.Lists.{May}
@@ -111,10 +111,10 @@ op_cond_state Emmc true Idle m = refl
 op_cond_state Emmc false Idle m = refl
 op_cond_state Emmc ready state m = absurd m.one
 
-left_after : (row : Row) (capacity : ℕ) (contents after : List Block) → LeavesBlocks (is_erase row) capacity contents after →
-    ContentsAfter row capacity contents after
-left_after Cmd38 capacity contents after l = l
-left_after row capacity contents after l = l
+left_after : (row : Row) (t u : Card) → LeavesBlocks (is_erase row) (accessed_capacity t) (accessed_blocks t t.contents) (accessed_blocks t u.contents) →
+    ContentsAfter row t u
+left_after Cmd38 t u l = record { blocks = l }
+left_after row t u l = l
 
 register_reply : (bytes : List ℕ) → IsRegister 15 bytes → IsReply (R2 bytes)
 register_reply bytes r = (r.size, recursion_from_All _ bytes r.bytes_fit)
@@ -322,10 +322,11 @@ module _ (d : CardDesc) (is : IsDescribed d) (csd : IsRegister 15 d.csd) (order 
       (does d deed row argument ready t).reply
   does_law Loses row ready contents' f only legal left = subst (λ cs. RowTold order row argument before (card_with d t announced cs) None) left (lost row f)
   does_law TakesUnheard row ready contents' f only legal left =
-      unheard_row row _ f (taken_law d is row argument t announced contents ready contents' only legal (left_after row d.capacity contents contents' left)) refl
+      unheard_row row _ f
+      (taken_law d is row argument t announced contents ready contents' only legal (left_after row before (taken row ready contents') left)) refl
   does_law (Takes error) row ready contents' f only legal left =
       answered_row row error ready contents' legal
-      (taken_law d is row argument t announced contents ready contents' only legal (left_after row d.capacity contents contents' left))
+      (taken_law d is row argument t announced contents ready contents' only legal (left_after row before (taken row ready contents') left))
   does_law Stays row ready contents' f only legal left =
       subst (λ cs. RowTold order row argument before (card_with d (stays t) announced cs) (reply_of d row t.state false true ready)) left
       (stayed_row row ready f)

@@ -134,7 +134,7 @@ same_card d t u n m contents contents' =
 module _ (d : CardDesc) (is : IsDescribed d) (row : Row) (argument : ℕ) (t : CardState) (announced : ℕ) (contents : List Block) where
   pub taken_law : (ready : Bool) (contents' : List Block) → (is_refused row d.block_unit ≡ true → ready ≡ false) →
       RowLegal row (card_with d t announced contents) →
-      ContentsAfter row d.capacity contents contents' →
+      ContentsAfter row (card_with d t announced contents) (card_with d (taken_by d row argument ready t) (announced_with row announced) contents') →
       Taken row argument (card_with d t announced contents) (card_with d (taken_by d row argument ready t) (announced_with row announced) contents')
   taken_law ready contents' only legal left =
       let m = May-targets legal.has_row in

@@ -290,13 +290,13 @@ expects_38 SendRelativeAddress i e = cc
 expects_38 SendIfCond i e = cc
 expects_38 order i e = cc
 
-row_keeps : (row : Row) (capacity : ℕ) (before after : List Block) → (row ≡ Cmd38 → ⊥) → ContentsAfter row capacity before after → before ≡ after
-row_keeps Cmd38 capacity before after other e = absurd (other refl)
-row_keeps row capacity before after other e = e
+row_keeps : (row : Row) (t u : Card) → (row ≡ Cmd38 → ⊥) → ContentsAfter row t u → t.contents ≡ u.contents
+row_keeps Cmd38 t u other e = absurd (other refl)
+row_keeps row t u other e = e
 
 became_keeps : (way : TakenAs) (argument : ℕ) (t u : Card) → (way ≡ By Cmd38 → ⊥) → Became way argument t u → t.contents ≡ u.contents
 became_keeps way argument t u other (inl e) = ap (λ (v : Card). v.contents) e
-became_keeps way argument t u other (inr (inl m)) = row_keeps m.row t.capacity t.contents u.contents (λ e. other (m.by ∙ ap By e)) m.taken.contents
+became_keeps way argument t u other (inr (inl m)) = row_keeps m.row t u (λ e. other (m.by ∙ ap By e)) m.taken.contents
 became_keeps way argument t u other (inr (inr m)) = m.stayed.contents
 
 pub send_keeps : (ask : Ask) (argument : ℕ) (c u : Card) (answer : Answer) → (ask.index ≡ 38 → ⊥) → Sends ask argument c answer u → c.contents ≡ u.contents

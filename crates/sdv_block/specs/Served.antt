@@ -2,7 +2,7 @@
 use Rattle.std.specs.Prelude.{◌≡◌, ◌⊎◌, ◌<◌, List, [], ◌∷◌, ◌++◌, codes, false}
 use Rattle.std.specs.Str.{bytes_eq}
 use Rattle.sdv_card.specs.declared.answer.DataEnd.TheVariants as ends
-use Rattle.sdv_card.specs.Card.{Card, Block}
+use Rattle.sdv_card.specs.Card.{Card, Block, accessed_capacity, accessed_blocks}
 use Rattle.sdv_card.specs.ScriptEvent.{Return, BlocksIn}
 use Rattle.sdv_card.specs.Step.{Step}
 use Rattle.sdv_graph.specs.Walk.{Pair, Ending, Finished, Failed, Open, given}
@@ -30,9 +30,13 @@ IsEarly Open = Unit {0}
 IsEarly (Failed name) = bytes_eq name (codes "beyond") ≡ false
 IsEarly e = ⊥
 
--- the disk that a card is, with what is left of an input
+-- the blocks of the disk that a card is
+abbrev pub disk_blocks : Card → List Block
+disk_blocks c = accessed_blocks c c.contents
+
+-- that disk, with what is left of an input
 abbrev pub disk_of : Card → (input output : List Block) → Disk
-disk_of c input output = record { blocks = c.contents; input = input; output = output }
+disk_of c input output = record { blocks = disk_blocks c; input = input; output = output }
 
 -- The walk ended in `done`, and reached what the plain disk reaches; or it ended earlier, and read
 -- no more than that disk.
@@ -50,13 +54,13 @@ pub record Served (rs : List Request) (e : Ending) (es : List Pair) (c last : Ca
   -- in `done` each request was served
   pub all : e ≡ Finished → (left output : List Block) → AllServed rs (disk_of c (given es ++ left) output)
   -- no block changed that the batch does not write
-  pub outside : SameOutside rs c.contents last.contents
+  pub outside : SameOutside rs (disk_blocks c) (disk_blocks last)
 
 -- A walk of a whole batch, from a card before its first command to another.
 pub record ServedBatch (rs : List Request) (e : Ending) (es : List Pair) (c last : Card) : Type 0 where
   -- whatever is left of the input
   pub ends : (left : List Block) →
       EndsAs e (disk_of last left (blocks_read es)) (after_batch rs (disk_of c (given es ++ left) []))
-  pub outside : SameOutside rs c.contents last.contents
+  pub outside : SameOutside rs (disk_blocks c) (disk_blocks last)
   -- in the fault `beyond` only where a request passes the end of the disk
-  pub beyond : e ≡ Failed (codes "beyond") → c.capacity < greatest_end rs
+  pub beyond : e ≡ Failed (codes "beyond") → accessed_capacity c < greatest_end rs

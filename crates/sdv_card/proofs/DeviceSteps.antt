@@ -42,7 +42,8 @@ host rca csd = record (host_at_start 0) { rca = rca; csd = csd }
 taken : (row : Row) (argument : ℕ) (contents : List Block) (s s' : State) (r r' : Option ℕ) (x : Transfer) →
     May (rows Emmc row) (s to s') → IsTrue (may_reach row true s') → May (app_after row) false → RcaAfter row r r' →
     erase_after row Outside ≡ Outside → LengthAfter row true 512 512 → May (preset_after Emmc row 0) 0 → transfer_after row 0 Nothing ≡ x →
-    BlocksAfter row argument (device contents s r Nothing) (device contents s' r' x) → ContentsAfter row 1024 contents contents →
+    BlocksAfter row argument (device contents s r Nothing) (device contents s' r' x) →
+    ContentsAfter row (device contents s r Nothing) (device contents s' r' x) →
     Taken row argument (device contents s r Nothing) (device contents s' r' x)
 taken row argument contents s s' r r' x state reached app rca erase length preset transfer blocks same = record {
   same = record { kind = refl; version = refl; block_unit = refl; capacity = refl; csd = refl; cid = refl; ext_csd = refl; scr = refl; sd_status = refl };

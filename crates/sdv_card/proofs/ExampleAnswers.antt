@@ -44,7 +44,8 @@ module _ (cs : List Block) (n : ℕ) where
   pub taken : (row : Row) (argument : ℕ) (s s' : State) (r r' : Option ℕ) (a a' : Bool) →
       May (rows Sd row) (s to s') → IsTrue (may_reach row true s') → May (app_after row) a' → RcaAfter row r r' →
       erase_after row Outside ≡ Outside → LengthAfter row true 512 512 → May (preset_after Sd row 0) 0 → transfer_after row 0 Nothing ≡ Nothing →
-      BlocksAfter row argument (card s r a) (card s' r' a') → ContentsAfter row 1024 cs cs → Taken row argument (card s r a) (card s' r' a')
+      BlocksAfter row argument (card s r a) (card s' r' a') → ContentsAfter row (card s r a) (card s' r' a') →
+      Taken row argument (card s r a) (card s' r' a')
   taken row argument s s' r r' a a' state reached app rca erase length preset transfer blocks same = record {
     same = record { kind = refl; version = refl; block_unit = refl; capacity = refl; csd = refl; cid = refl; ext_csd = refl; scr = refl; sd_status = refl };
     state = state;

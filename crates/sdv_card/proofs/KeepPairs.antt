@@ -21,7 +21,7 @@ use Rattle.sdv_card.specs.Takes.{matches}
 use Rattle.sdv_card.specs.CommandTable.{order_of}
 use Rattle.sdv_card.specs.RowRules.{transfer_after}
 use Rattle.sdv_card.specs.ScriptEvent.{SendCommand, ReceiveBlocks, ReceiveRegister, GiveBlocks, AwaitReady, Answered, BlocksIn, RegisterIn, BlocksOut, Waited}
-use Rattle.sdv_card.specs.Card.{Card, IsCard, AddressFits, AreBlocks, transfer_fits, kind_fits, length_fits}
+use Rattle.sdv_card.specs.Card.{Card, IsCard, AddressFits, ContentsFit, transfer_fits, kind_fits, length_fits}
 use Rattle.sdv_card.specs.Host.{Host, host_after, host_after_order, rca_known}
 use Rattle.sdv_card.specs.Taken.{Taken, Stayed}
 use Rattle.sdv_card.specs.Exchange.{SettledAnswer, Exchanges, card_takes}
@@ -29,13 +29,13 @@ use Rattle.sdv_card.specs.Phases.{after_phase, after_wait, Moved, MovedWriting, 
 use Rattle.sdv_card.specs.Shapes.{IsPair}
 use Rattle.sdv_card.specs.Laws.{StepsKeepPairs}
 use Rattle.sdv_card.proofs.Became.{Became, became}
-use Rattle.sdv_card.proofs.Same.{settled_same, became_same, steps_keep_same}
+use Rattle.sdv_card.proofs.Same.{same_but_contents, settled_same, became_same, steps_keep_same}
 use Rattle.sdv_card.proofs.SettledCard.{Fits, card_after, kind_of_none, kind_of_blocks, settled_is_card}
 use Rattle.sdv_card.proofs.RowsOfOrders.{same_count, says, ignored_rca, row_count, row_rca}
 use Rattle.sdv_card.proofs.OrdersOfAsks.{of_ask}
 use Rattle.sdv_card.proofs.RowsKeep.{Leads, leads}
 use Rattle.sdv_card.proofs.PhasePlaces.{Calm, calm_place}
-use Rattle.sdv_card.proofs.PartsKept.{kept_small, preset_small, kind_none_taken, kind_none_stayed, kind_again, kind_taken, length_kept, announced_small, contents_kept, rca_small}
+use Rattle.sdv_card.proofs.PartsKept.{kept_small, preset_small, kind_none_taken, kind_none_stayed, kind_again, kind_taken, length_kept, announced_small, contents_same, contents_put, contents_kept, rca_small}
 
 -- A COMMAND
 
@@ -57,7 +57,7 @@ fits_taken row argument t u count card m =
           (length_kept row t.block_unit t.block_length u.block_length m.block_length card.block_length);
       preset = preset_small t.kind row t.preset u.preset count card.preset m.preset;
       announced = announced_small row argument t u count card.announced m.blocks;
-      contents = subst (λ n. AreBlocks n u.contents) m.same.capacity (contents_kept row t.capacity t.contents u.contents m.contents card.contents);
+      contents = contents_kept row t u m.same m.contents card.contents;
     }
 
 fits_stayed : (row : Row) (t u : Card) → IsCard t → Stayed row t u → Fits u
@@ -77,7 +77,7 @@ fits_stayed row t u card m =
           (subst (λ n. length_fits t.block_unit (n == 512) ≡ true) m.block_length card.block_length);
       preset = kept_small t.kind t.preset u.preset card.preset m.preset;
       announced = subst (λ n. n < 65536) m.blocks.count_is card.announced;
-      contents = subst (λ n. AreBlocks n u.contents) m.same.capacity (subst (λ v. AreBlocks t.capacity v) m.contents card.contents);
+      contents = contents_same t u m.same m.contents card.contents;
     }
 
 -- the card after a command whose rows have counts in their range
@@ -112,7 +112,8 @@ some_transfer : (x : Transfer) (end : DataEnd) (p : Place) → IsOneOf (after_ph
 some_transfer x end p m e = subst (λ y. IsOneOf (after_phase y end) p) (sym e) m
 
 -- a card after a phase, with blocks of its own
-fits_placed : (c : Card) (end : DataEnd) (p : Place) (d : Card) → IsCard c → May (after_phase c.transfer end) p → AreBlocks c.capacity d.contents →
+fits_placed : (c : Card) (end : DataEnd) (p : Place) (d : Card) → IsCard c → May (after_phase c.transfer end) p →
+    ContentsFit (record c { contents = d.contents }) →
     Fits (record c { state = p.state; transfer = p.transfer; contents = d.contents; unshown_error = d.unshown_error })
 fits_placed c end p d card may blocks =
     let calm : Calm p = calm_place c.transfer end p may in
@@ -130,7 +131,9 @@ fits_moved : (c u : Card) (end : DataEnd) → IsCard c → Moved end c u → Fit
 fits_moved c u end card m = subst (λ v. Fits v) m.card (fits_placed c end m.place c card m.may card.contents)
 
 fits_moved_writing : (c u : Card) (end : DataEnd) → IsCard c → OnlyAddressed c u → MovedWriting end c u → Fits u
-fits_moved_writing c u end card others m = subst (λ v. Fits v) m.card (fits_placed c end m.place u card m.may others.blocks)
+fits_moved_writing c u end card others m =
+    subst (λ v. Fits v) m.card
+    (fits_placed c end m.place u card m.may (contents_put c (record c { contents = u.contents }) (same_but_contents c u) others.blocks))
 
 -- A WAIT
 

@@ -1,5 +1,5 @@
 -- What a row leaves of the preset count, the application flag, the block length and the contents keeps the rules of a card.
-use Rattle.std.proofs.Common.{◌≡◌, ℕ, ◌<◌, ◌/◌, ◌%◌, ◌^◌, inl, inr, refl, ap, subst, sym, Bool, true, false, not, List, [], ◌∷◌, ◌==◌, arith}
+use Rattle.std.proofs.Common.{◌≡◌, ℕ, ◌<◌, ◌/◌, ◌%◌, ◌^◌, inl, inr, refl, ap, subst, sym, Bool, true, false, not, [], ◌∷◌, ◌==◌, arith}
 use Rattle.sdv_registers.specs.declared.kind.Kind.{Kind}
 use Rattle.sdv_registers.specs.declared.kind.Kind.TheVariants.{Sd, Emmc}
 use Rattle.std.proofs.lemmas.Nat.{mod_below}
@@ -18,8 +18,8 @@ use Rattle.sdv_card.specs.Lists.{May, IsOneOf}
 use Rattle.sdv_card.specs.StateTable.{◌to◌, rows}
 use Rattle.sdv_card.specs.RowRules.{app_after, preset_after, preset_kept, transfer_after}
 use Rattle.sdv_card.specs.Responses.{response_of}
-use Rattle.sdv_card.specs.Card.{Card, Block, AreBlocks, kind_fits, length_fits}
-use Rattle.sdv_card.specs.Taken.{LengthAfter, ContentsAfter, BlocksAfter}
+use Rattle.sdv_card.specs.Card.{Card, AreBlocks, accessed_capacity, accessed_blocks, ContentsFit, kind_fits, length_fits}
+use Rattle.sdv_card.specs.Taken.{SameCard, LengthAfter, ContentsAfter, BlocksAfter}
 use Rattle.sdv_card.specs.Exchange.{RowAnswer}
 use Rattle.sdv_card.proofs.RowsOfOrders.{row_count, row_rca}
 use Rattle.sdv_card.proofs.SettledCard.{kind_of_none, kind_of_blocks}
@@ -127,10 +127,17 @@ announced_small Cmd24 argument t u count small b = subst (λ n. n < 65536) b.cou
 announced_small (Cmd25 n) argument t u count small b = subst (λ n. n < 65536) b.count_is count
 announced_small row argument t u count small b = subst (λ n. n < 65536) b.count_is small
 
-pub contents_kept : (row : Row) (capacity : ℕ) (contents after : List Block) → ContentsAfter row capacity contents after → AreBlocks capacity contents
-    → AreBlocks capacity after
-contents_kept Cmd38 capacity contents after m b = m
-contents_kept row capacity contents after m b = subst (λ v. AreBlocks capacity v) m b
+-- the same contents, of a card of the same size
+pub contents_same : (t u : Card) → SameCard t u → t.contents ≡ u.contents → ContentsFit t → ContentsFit u
+contents_same t u same e b = subst (λ n. AreBlocks n u.contents) same.capacity (subst (λ v. AreBlocks t.capacity v) e b)
+
+-- other blocks in access, of a card of the same size
+pub contents_put : (t u : Card) → SameCard t u → AreBlocks (accessed_capacity t) (accessed_blocks t u.contents) → ContentsFit u
+contents_put t u same blocks = subst (λ n. AreBlocks n u.contents) same.capacity blocks
+
+pub contents_kept : (row : Row) (t u : Card) → SameCard t u → ContentsAfter row t u → ContentsFit t → ContentsFit u
+contents_kept Cmd38 t u same m b = contents_put t u same m.blocks
+contents_kept row t u same m b = contents_same t u same m b
 
 -- THE HOST'S ADDRESS
 

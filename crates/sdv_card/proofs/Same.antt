@@ -32,6 +32,11 @@ same_both c t u a b = record {
   sd_status = a.sd_status ∙ b.sd_status;
 }
 
+-- a card with the contents of another
+pub same_but_contents : (c u : Card) → SameCard c (record c { contents = u.contents })
+same_but_contents c u =
+    record { kind = refl; version = refl; block_unit = refl; capacity = refl; csd = refl; cid = refl; ext_csd = refl; scr = refl; sd_status = refl }
+
 -- a card in another state, with another transfer, other contents and another error
 same_moved : (c d u : Card) → SameCard c d → d ≡ u → SameCard c u
 same_moved c d u s e = subst (λ v. SameCard c v) e s

@@ -7,7 +7,7 @@ use Rattle.sdv_card.specs.declared.state.State.TheVariants.{Idle, Ready, Ident, 
 use Rattle.sdv_card.specs.declared.state.Transfer.{Transfer}
 use Rattle.sdv_card.specs.declared.state.Transfer.TheVariants.{Nothing, ScrDue, SdStatusDue, ExtCsdDue}
 use Rattle.sdv_card.specs.States.{is_open, own_target}
-use Rattle.sdv_card.specs.Card.{Card, IsCard, IsRegister, DataRegisters, AddressFits, AreBlocks, transfer_fits, kind_fits, length_fits}
+use Rattle.sdv_card.specs.Card.{Card, IsCard, IsRegister, DataRegisters, AddressFits, ContentsFit, transfer_fits, kind_fits, length_fits}
 use Rattle.sdv_card.specs.Settled.{Settled}
 use Rattle.sdv_card.specs.Phases.{register_due}
 use Rattle.sdv_card.specs.Taken.{SameCard}
@@ -28,7 +28,7 @@ pub record Fits (u : Card) : Type 0 where
   pub block_length : length_fits u.block_unit (u.block_length == 512) ≡ true
   pub preset : u.preset < 65536
   pub announced : u.announced < 65536
-  pub contents : AreBlocks u.capacity u.contents
+  pub contents : ContentsFit u
 
 pub card_after : (c u : Card) → IsCard c → SameCard c u → Fits u → IsCard u
 card_after c u card same fits = record {

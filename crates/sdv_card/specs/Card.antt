@@ -48,6 +48,16 @@ pub record Card : Type 0 where
   pub unshown_error : Bool
   pub contents : List Block
 
+-- THE BLOCKS IN ACCESS, which commands with an address and data phases concern
+
+-- how many they are
+abbrev pub accessed_capacity : Card → ℕ
+accessed_capacity c = c.capacity
+
+-- which they are, of what a card holds or may hold later
+abbrev pub accessed_blocks : Card → (contents : List Block) → List Block
+accessed_blocks c contents = contents
+
 -- THE RULES OF A CARD
 
 abbrev pub IsByte : ℕ → Type 0
@@ -110,6 +120,10 @@ abbrev pub DataRegisters : Kind → Card → Type 0
 DataRegisters Sd c = SdRegisters c
 DataRegisters Emmc c = IsRegister 512 c.ext_csd
 
+-- a card holds as many blocks as its capacity says
+abbrev pub ContentsFit : Card → Type 0
+ContentsFit c = AreBlocks c.capacity c.contents
+
 -- a card, as every step leaves it
 pub record IsCard (c : Card) : Type 0 where
   pub csd : IsRegister 15 c.csd
@@ -121,4 +135,4 @@ pub record IsCard (c : Card) : Type 0 where
   pub block_length : IsTrue (length_fits c.block_unit (c.block_length == 512))
   pub preset : c.preset < 65536
   pub announced : c.announced < 65536
-  pub contents : AreBlocks c.capacity c.contents
+  pub contents : ContentsFit c

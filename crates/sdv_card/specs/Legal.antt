@@ -15,7 +15,7 @@ use Rattle.sdv_card.specs.StateTable.{◌to◌, rows}
 use Rattle.sdv_card.specs.RowRules.{length_allows, erase_allows, preset_allows}
 use Rattle.sdv_card.specs.CommandTable.{Asks, addressed_blocks}
 use Rattle.sdv_card.specs.ScriptEvent.{ScriptEvent, SendCommand, ReceiveBlocks, ReceiveRegister, GiveBlocks, AwaitReady}
-use Rattle.sdv_card.specs.Card.{Card}
+use Rattle.sdv_card.specs.Card.{Card, accessed_capacity}
 use Rattle.sdv_card.specs.Settled.{Settled}
 use Rattle.sdv_card.specs.Exchange.{card_takes}
 use Rattle.sdv_card.specs.Phases.{read_due, register_due, write_due, blocks_due}
@@ -73,7 +73,7 @@ EventLegal AwaitReady c = IsTrue (wait_legal c.state)
 -- from there on
 pub record Within (c : Card) (position argument count : ℕ) : Type 0 where
   pub unit : argument ≡ (if c.block_unit then position else 512 * position)
-  pub room : position + count ≤ c.capacity
+  pub room : position + count ≤ accessed_capacity c
 
 abbrev pub BlocksWithin : Option ℕ → Card → (position argument : ℕ) → Type 0
 BlocksWithin None c position argument = Unit {0}
@@ -90,7 +90,7 @@ InBounds AwaitReady c = Unit {0}
 -- the card has the blocks that its transfer addresses, which are some
 pub record HasBlocks (c : Card) : Type 0 where
   pub some : 0 < c.announced
-  pub room : c.next_block + c.announced ≤ c.capacity
+  pub room : c.next_block + c.announced ≤ accessed_capacity c
 
 -- so it is where a block phase is due, as legal commands in bounds leave it
 abbrev pub TransferOnCard : Card → Type 0

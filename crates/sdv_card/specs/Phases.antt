@@ -12,7 +12,7 @@ use Rattle.sdv_card.specs.declared.answer.DataEnd.TheVariants.{Ok, Cut}
 use Rattle.sdv_card.specs.declared.answer.WaitEnd.{WaitEnd}
 use Rattle.sdv_card.specs.declared.answer.WaitEnd.TheVariants.{Ok as Over, Late}
 use Rattle.sdv_card.specs.Lists.{May}
-use Rattle.sdv_card.specs.Card.{Card, Block, AreBlocks}
+use Rattle.sdv_card.specs.Card.{Card, Block, AreBlocks, accessed_capacity, accessed_blocks}
 
 -- WHERE A CARD IS AFTERWARDS
 
@@ -83,7 +83,7 @@ pub record Moved (end : DataEnd) (c u : Card) : Type 0 where
 
 -- the blocks that a transfer addresses
 abbrev pub addressed : Card → List Block → List Block
-addressed c contents = take c.announced (drop c.next_block contents)
+addressed c contents = take c.announced (drop c.next_block (accessed_blocks c contents))
 
 -- a phase that ended well gives the contents, from the addressed block on
 abbrev pub BlocksTrue : DataEnd → Card → List Block → Type 0
@@ -115,9 +115,10 @@ pub record PhaseInRegister (count : ℕ) (end : DataEnd) (bytes : List ℕ) (c u
 
 -- of u's blocks, only those that c's transfer addresses are others than c's
 pub record OnlyAddressed (c u : Card) : Type 0 where
-  pub blocks : AreBlocks c.capacity u.contents
-  pub below : take c.next_block c.contents ≡ take c.next_block u.contents
-  pub above : drop (c.next_block + c.announced) c.contents ≡ drop (c.next_block + c.announced) u.contents
+  pub blocks : AreBlocks (accessed_capacity c) (accessed_blocks c u.contents)
+  pub below : take c.next_block (accessed_blocks c c.contents) ≡ take c.next_block (accessed_blocks c u.contents)
+  pub above : drop (c.next_block + c.announced) (accessed_blocks c c.contents)
+      ≡ drop (c.next_block + c.announced) (accessed_blocks c u.contents)
 
 pub record Stored (c : Card) (blocks : List Block) (u : Card) : Type 0 where
   pub stored : addressed c u.contents ≡ blocks

@@ -1,12 +1,12 @@
 -- What becomes of a settled card that takes a row, and of one that was reached by the command and stayed.
 -- SD Physical Layer Simplified Specification, sections 4.2.3, 4.3 and 4.8; JESD84-B51, sections 6.4, 6.6 and 6.11.
-use Rattle.std.specs.Prelude.{◌≡◌, ◌<◌, ◌/◌, Bool, true, false, IsTrue, ℕ, List, Option, Some, None}
+use Rattle.std.specs.Prelude.{◌≡◌, ◌<◌, ◌/◌, Bool, true, false, IsTrue, ℕ, Option, Some, None}
 use Rattle.sdv_card.specs.declared.command.Row.{Row}
 use Rattle.sdv_card.specs.declared.command.Row.TheVariants.{Cmd0, Cmd3Sd, Cmd3Emmc, Cmd16, Cmd17, Cmd18, Cmd24, Cmd25, Cmd38}
 use Rattle.sdv_card.specs.Lists.{May}
 use Rattle.sdv_card.specs.StateTable.{◌to◌, rows}
 use Rattle.sdv_card.specs.RowRules.{may_reach, app_after, erase_after, erase_stayed, preset_after, preset_kept, transfer_after}
-use Rattle.sdv_card.specs.Card.{Card, Block, AreBlocks}
+use Rattle.sdv_card.specs.Card.{Card, AreBlocks, accessed_capacity, accessed_blocks}
 
 -- what no step changes
 pub record SameCard (t u : Card) : Type 0 where
@@ -55,10 +55,14 @@ BlocksAfter Cmd24 argument t u = Begins argument 1 u
 BlocksAfter (Cmd25 n) argument t u = Begins argument n u
 BlocksAfter row argument t u = SameBlocks t u
 
--- the contents: an erase may leave anything in any block
-abbrev pub ContentsAfter : Row → ℕ → List Block → List Block → Type 0
-ContentsAfter Cmd38 capacity contents after = AreBlocks capacity after
-ContentsAfter row capacity contents after = contents ≡ after
+-- an erase may leave anything in any block in access
+pub record Erased (t u : Card) : Type 0 where
+  pub blocks : AreBlocks (accessed_capacity t) (accessed_blocks t u.contents)
+
+-- the contents: an erase alone changes them
+abbrev pub ContentsAfter : Row → Card → Card → Type 0
+ContentsAfter Cmd38 t u = Erased t u
+ContentsAfter row t u = t.contents ≡ u.contents
 
 -- u is t after the row. Whether an error is still to be shown depends on the answer, and is said there.
 pub record Taken (row : Row) (argument : ℕ) (t u : Card) : Type 0 where
@@ -72,7 +76,7 @@ pub record Taken (row : Row) (argument : ℕ) (t u : Card) : Type 0 where
   pub rca : RcaAfter row t.rca u.rca
   pub transfer : transfer_after row t.preset t.transfer ≡ u.transfer
   pub blocks : BlocksAfter row argument t u
-  pub contents : ContentsAfter row t.capacity t.contents u.contents
+  pub contents : ContentsAfter row t u
 
 -- u is t, which did not take the row: it lost the application flag, and perhaps its erase stage and preset count
 pub record Stayed (row : Row) (t u : Card) : Type 0 where
