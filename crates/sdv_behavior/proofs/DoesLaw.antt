@@ -175,29 +175,37 @@ module _ (d : CardDesc) (is : IsDescribed d) (csd : IsRegister 15 d.csd) (order 
   lost row f = record { answer = TimeOut; told = inr refl; is_reply = tt; answered = inl refl }
 
   -- the answer did not reach the host
-  unheard_row : (row : Row) (u : Card) → DeedFits TakesUnheard row → Taken row argument before u → false ≡ u.unshown_error
-      → RowTold order row argument before u None
+  unheard_row : (row : Row) (u : Card) → DeedFits TakesUnheard row → ((heard : Bool) → Taken row heard argument before u) →
+      false ≡ u.unshown_error → RowTold order row argument before u None
   unheard_row Cmd0 u f taken error = absurd f
-  unheard_row Cmd7NotAddressed u f taken error =
-      record { answer = unaddressed_answer order; told = unheard_answer order; is_reply = tt; answered = (refl, inr (record { card = taken; error = error })) }
-  unheard_row row u f taken error = record { answer = TimeOut; told = inr refl; is_reply = tt; answered = inr (inl (record { card = taken; error = error })) }
+  unheard_row Cmd7NotAddressed u f taken error = record {
+    answer = unaddressed_answer order;
+    told = unheard_answer order;
+    is_reply = tt;
+    answered = (refl, inr (record { card = taken true; error = error }));
+  }
+  unheard_row row u f taken error =
+      record { answer = TimeOut; told = inr refl; is_reply = tt; answered = inr (inl (record { card = taken false; error = error })) }
 
   -- CMD8 of an SD card, by its version
-  interface : (contents' : List Block) (ready is_2 : Bool) → (d.version == 2) ≡ is_2 → Taken Cmd8Sd argument before (taken Cmd8Sd ready contents') →
+  interface : (contents' : List Block) (ready is_2 : Bool) → (d.version == 2) ≡ is_2 →
+      ((heard : Bool) → Taken Cmd8Sd heard argument before (taken Cmd8Sd ready contents')) →
       RowTold order Cmd8Sd argument before (taken Cmd8Sd ready contents') (if is_2 then Some (R7 0x1aa) else None)
   interface contents' ready true e card = record {
     answer = Replied (R7 0x1aa);
     told = refl;
     is_reply = lit< tt;
-    answered = record { shown = record { is_word = lit< tt; echo = refl; version = eqb-true d.version 2 e }; card = card; error = refl };
+    answered = record { shown = record { is_word = lit< tt; echo = refl; version = eqb-true d.version 2 e }; card = card true; error = refl };
   }
   interface contents' ready false e card =
-      record { answer = TimeOut; told = inr refl; is_reply = tt; answered = inr (inl (record { card = card; error = refl })) }
+      record { answer = TimeOut; told = inr refl; is_reply = tt; answered = inr (inl (record { card = card false; error = refl })) }
 
   -- it takes the row and answers
-  answered_row : (row : Row) (error ready : Bool) (contents' : List Block) → RowLegal row before → Taken row argument before (taken row ready contents') →
+  answered_row : (row : Row) (error ready : Bool) (contents' : List Block) → RowLegal row before →
+      ((heard : Bool) → Taken row heard argument before (taken row ready contents')) →
       RowTold order row argument before (taken row ready contents') (reply_of d row t.state true error ready)
-  answered_row Cmd0 error ready contents' legal card = record { answer = Sent; told = inl refl; is_reply = tt; answered = record { card = card; error = refl } }
+  answered_row Cmd0 error ready contents' legal card =
+      record { answer = Sent; told = inl refl; is_reply = tt; answered = record { card = card true; error = refl } }
   answered_row Cmd1 error ready contents' legal card =
       let s = conditions_show Emmc d.block_unit ready in
       let e = op_cond_state d.kind ready t.state (May-targets legal.has_row) in
@@ -211,26 +219,41 @@ module _ (d : CardDesc) (is : IsDescribed d) (csd : IsRegister 15 d.csd) (order 
           ready = s.ready ∙ sym e;
           unit = λ r. let is : ready ≡ true = sym e ∙ r in
               subst (λ v. access_mode (conditions_word Emmc d.block_unit v) ≡ (if d.block_unit then 2 else 0)) (sym is) (emmc_unit d.block_unit);
-          card = card;
+          card = card true;
           error = refl;
         };
       }
   answered_row Cmd2 error ready contents' legal card =
-      record { answer = Replied (R2 (cid_of d.kind)); told = refl; is_reply = cid_reply d.kind; answered = record { shown = refl; card = card; error = refl } }
+      record {
+        answer = Replied (R2 (cid_of d.kind));
+        told = refl;
+        is_reply = cid_reply d.kind;
+        answered = record { shown = refl; card = card true; error = refl };
+      }
   answered_row Cmd3Sd error ready contents' legal card =
       let s = address_shows d.rca error t.state is.address_fits in
       record {
         answer = Replied (R6 (address_word d.rca t.state error));
         told = refl;
         is_reply = s.is_word;
-        answered = record { is_word = s.is_word; state = s.state; card = inl (record { card = card; rca = ap Some s.rca }); error = refl };
+        answered = record { is_word = s.is_word; state = s.state; card = inl (record { card = card true; rca = ap Some s.rca }); error = refl };
       }
   answered_row Cmd7NotAddressed error ready contents' legal card = unheard_row Cmd7NotAddressed _ tt card refl
   answered_row Cmd8Sd error ready contents' legal card = interface contents' ready (d.version == 2) refl card
   answered_row Cmd9 error ready contents' legal card =
-      record { answer = Replied (R2 d.csd); told = refl; is_reply = register_reply d.csd csd; answered = record { shown = refl; card = card; error = refl } }
+      record {
+        answer = Replied (R2 d.csd);
+        told = refl;
+        is_reply = register_reply d.csd csd;
+        answered = record { shown = refl; card = card true; error = refl };
+      }
   answered_row Cmd10 error ready contents' legal card =
-      record { answer = Replied (R2 (cid_of d.kind)); told = refl; is_reply = cid_reply d.kind; answered = record { shown = refl; card = card; error = refl } }
+      record {
+        answer = Replied (R2 (cid_of d.kind));
+        told = refl;
+        is_reply = cid_reply d.kind;
+        answered = record { shown = refl; card = card true; error = refl };
+      }
   answered_row (Acmd41 high) error ready contents' legal card =
       let s = conditions_show Sd d.block_unit ready in
       let e = conditions_state d.kind high ready t.state (May-targets legal.has_row) in
@@ -243,7 +266,7 @@ module _ (d : CardDesc) (is : IsDescribed d) (csd : IsRegister 15 d.csd) (order 
           windows = s.windows;
           ready = s.ready ∙ sym e;
           unit = λ r. let is : ready ≡ true = sym e ∙ r in subst (λ v. ccs (conditions_word Sd d.block_unit v) ≡ d.block_unit) (sym is) (sd_unit d.block_unit);
-          card = card;
+          card = card true;
           error = refl;
         };
       }
@@ -253,7 +276,7 @@ module _ (d : CardDesc) (is : IsDescribed d) (csd : IsRegister 15 d.csd) (order 
         answer = Replied (R1 55 (status_word t.state true error));
         told = refl;
         is_reply = (lit< tt, s.is_word);
-        answered = record { is_word = s.is_word; same_index = refl; state = s.state; card = inl card; app = s.app; error = no_error _ _ _ refl refl };
+        answered = record { is_word = s.is_word; same_index = refl; state = s.state; card = inl (card true); app = s.app; error = no_error _ _ _ refl refl };
       }
   answered_row row error ready contents' legal card =
       let s = status_shows (shows_app row) error t.state in
@@ -261,7 +284,7 @@ module _ (d : CardDesc) (is : IsDescribed d) (csd : IsRegister 15 d.csd) (order 
         answer = Replied (R1 (row_index row) (status_word t.state (shows_app row) error));
         told = refl;
         is_reply = (index_small row, s.is_word);
-        answered = record { is_word = s.is_word; same_index = refl; state = s.state; card = inl card; app = tt; error = no_error _ _ _ refl refl };
+        answered = record { is_word = s.is_word; same_index = refl; state = s.state; card = inl (card true); app = tt; error = no_error _ _ _ refl refl };
       }
 
   -- it did not take the row, and answers with an error

@@ -135,8 +135,9 @@ module _ (d : CardDesc) (is : IsDescribed d) (row : Row) (argument : ℕ) (t : C
   pub taken_law : (ready : Bool) (contents' : List Block) → (is_refused row d.block_unit ≡ true → ready ≡ false) →
       RowLegal row (card_with d t announced contents) →
       ContentsAfter row (card_with d t announced contents) (card_with d (taken_by d row argument ready t) (announced_with row announced) contents') →
-      Taken row argument (card_with d t announced contents) (card_with d (taken_by d row argument ready t) (announced_with row announced) contents')
-  taken_law ready contents' only legal left =
+      (heard : Bool) →
+      Taken row heard argument (card_with d t announced contents) (card_with d (taken_by d row argument ready t) (announced_with row announced) contents')
+  taken_law ready contents' only legal left heard =
       let m = May-targets legal.has_row in
       record {
         same = same_card d t (taken_by d row argument ready t) announced (announced_with row announced) contents contents';
@@ -152,7 +153,7 @@ module _ (d : CardDesc) (is : IsDescribed d) (row : Row) (argument : ℕ) (t : C
         contents = left;
       }
 
-  pub stayed_law : Stayed row (card_with d t announced contents) (card_with d (stays t) announced contents)
+  pub stayed_law : Stayed row true (card_with d t announced contents) (card_with d (stays t) announced contents)
   stayed_law = record {
     same = same_card d t (stays t) announced announced contents contents;
     state = refl;

@@ -103,7 +103,7 @@ part_of_clean Emmc = refl
 pub clean_word : (k : Kind) (word : ℕ) → status_is_clean k word ≡ true → has_doubt word ≡ false
 clean_word k word clean = ap not (eq-eqb _ _ (met_zero word (clean_mask k) doubt_mask (part_of_clean k) (eqb-true _ _ clean)))
 
-surely_taken : (row : Row) (argument : ℕ) (t u : Card) (doubt : Bool) → TakenOrStayed row argument t doubt u → doubt ≡ false → Taken row argument t u
+surely_taken : (row : Row) (argument : ℕ) (t u : Card) (doubt : Bool) → TakenOrStayed row argument t doubt u → doubt ≡ false → Taken row true argument t u
 surely_taken row argument t u doubt (inl m) e = m
 surely_taken row argument t u doubt (inr m) e = absurd (let f : true ≡ false = sym m.0 ∙ e in cc)
 
@@ -117,7 +117,7 @@ pub record Begun (count argument : ℕ) (c u : Card) : Type 0 where
   pub count_is : count ≡ u.announced
 
 clean_taken : (k : Kind) (order : Order) (row : Row) (argument : ℕ) (t u : Card) (answer : Answer) → RowAnswer CardStatus order row argument t answer u →
-    answer_passes k Clean answer ≡ true → Taken row argument t u
+    answer_passes k Clean answer ≡ true → Taken row true argument t u
 clean_taken k order row argument t u (Replied (R1 index word)) a clean = surely_taken row argument t u (has_doubt word) a.card (clean_word k word clean)
 clean_taken k order row argument t u (Replied reply) a clean = absurd a
 clean_taken k order row argument t u answer a clean = absurd (let f : false ≡ true = clean in cc)
@@ -125,7 +125,7 @@ clean_taken k order row argument t u answer a clean = absurd (let f : false ≡ 
 -- how a settled card takes an order that begins a transfer
 abbrev Takes : Kind → Order → Row → ℕ → Answer → Type 0
 Takes k order row argument answer = (app matched : Bool) (t u : Card) → SettledLegal (taken_as_of order app matched) t →
-    SettledAnswer (taken_as_of order app matched) order argument t answer u → answer_passes k Clean answer ≡ true → Taken row argument t u
+    SettledAnswer (taken_as_of order app matched) order argument t answer u → answer_passes k Clean answer ≡ true → Taken row true argument t u
 
 takes_single_read : (k : Kind) (argument : ℕ) (answer : Answer) → Takes k ReadSingleBlock Cmd17 argument answer
 takes_single_read k argument answer true matched t u legal a clean = absurd legal
@@ -145,11 +145,11 @@ takes_multiple_write k n argument answer false matched t u legal a clean = clean
 
 module _ (k : Kind) (ask : Ask) (order : Order) (row : Row) (count argument : ℕ) (c u : Card) (answer : Answer) (clean : answer_passes k Clean answer ≡ true)
     (ordered : (o : Order) → order_of c.kind ask ≡ Some o → o ≡ order) (takes : Takes k order row argument answer)
-    (begins : (t : Card) → Taken row argument t u → Begins argument count u × (t.contents ≡ u.contents)) where
+    (begins : (t : Card) → Taken row true argument t u → Begins argument count u × (t.contents ≡ u.contents)) where
   begun_by : SendLegal ask argument c → Sends ask argument c answer u → Begun count argument c u
   begun_by legal s =
       let t : Card = s.exchange.settled_card in
-      let m : Taken row argument t u =
+      let m : Taken row true argument t u =
       takes t.app (matches t.rca (argument / 65536)) t u
       (subst (λ o. SettledLegal (card_takes t o argument) t) (ordered legal.order legal.asks.line) (legal.settled t s.exchange.settled))
       (subst (λ o. SettledAnswer (card_takes t o argument) o argument t answer u) (ordered s.order s.asks.line) s.exchange.answered) clean in

@@ -44,7 +44,7 @@ taken : (row : Row) (argument : ℕ) (contents : List Block) (s s' : State) (r r
     erase_after row Outside ≡ Outside → LengthAfter row true 512 512 → May (preset_after Emmc row 0) 0 → transfer_after row 0 Nothing ≡ x →
     BlocksAfter row argument (device contents s r Nothing) (device contents s' r' x) →
     ContentsAfter row (device contents s r Nothing) (device contents s' r' x) →
-    Taken row argument (device contents s r Nothing) (device contents s' r' x)
+    Taken row true argument (device contents s r Nothing) (device contents s' r' x)
 taken row argument contents s s' r r' x state reached app rca erase length preset transfer blocks same = record {
   same = record { kind = refl; version = refl; block_unit = refl; capacity = refl; csd = refl; cid = refl; ext_csd = refl; scr = refl; sd_status = refl };
   state = state;

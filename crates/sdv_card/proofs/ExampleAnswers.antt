@@ -41,11 +41,11 @@ module _ (cs : List Block) (n : ℕ) where
   card state rca app = record (example_card cs) { state = state; rca = rca; app = app; announced = n }
 
   -- a row that changes state, address and flag alone
-  pub taken : (row : Row) (argument : ℕ) (s s' : State) (r r' : Option ℕ) (a a' : Bool) →
+  pub taken : {heard : Bool} (row : Row) (argument : ℕ) (s s' : State) (r r' : Option ℕ) (a a' : Bool) →
       May (rows Sd row) (s to s') → IsTrue (may_reach row true s') → May (app_after row) a' → RcaAfter row r r' →
       erase_after row Outside ≡ Outside → LengthAfter row true 512 512 → May (preset_after Sd row 0) 0 → transfer_after row 0 Nothing ≡ Nothing →
       BlocksAfter row argument (card s r a) (card s' r' a') → ContentsAfter row (card s r a) (card s' r' a') →
-      Taken row argument (card s r a) (card s' r' a')
+      Taken row heard argument (card s r a) (card s' r' a')
   taken row argument s s' r r' a a' state reached app rca erase length preset transfer blocks same = record {
     same = record { kind = refl; version = refl; block_unit = refl; capacity = refl; csd = refl; cid = refl; ext_csd = refl; scr = refl; sd_status = refl };
     state = state;
@@ -117,8 +117,8 @@ module _ (cs : List Block) (n : ℕ) where
   }
 
   -- ACMD41, with which the card gets ready or not yet
-  pub goes_ready : (high : Bool) (argument : ℕ) → IsTrue (may_reach (Acmd41 high) true Ready)
-      → Taken (Acmd41 high) argument (card Idle None true) (card Ready None false)
+  pub goes_ready : {heard : Bool} (high : Bool) (argument : ℕ) → IsTrue (may_reach (Acmd41 high) true Ready)
+      → Taken (Acmd41 high) heard argument (card Idle None true) (card Ready None false)
   goes_ready high argument may = taken (Acmd41 high) argument Idle Ready None None true false (here refl) may (here refl) refl refl refl (here refl) refl
       (no_blocks _ _ refl refl) refl
 

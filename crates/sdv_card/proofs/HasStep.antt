@@ -47,7 +47,7 @@ any_length : (b : Bool) (n : ℕ) → LengthAfter Cmd0 b n 512
 any_length true n = refl
 any_length false n = tt
 
-reset_taken : (argument : ℕ) (t : Card) (l : RowLegal Cmd0 t) → Taken Cmd0 argument t (after_reset t l.target)
+reset_taken : (argument : ℕ) (t : Card) (l : RowLegal Cmd0 t) → Taken Cmd0 true argument t (after_reset t l.target)
 unfolding after_reset
 reset_taken argument t l = record {
   same = record { kind = refl; version = refl; block_unit = refl; capacity = refl; csd = refl; cid = refl; ext_csd = refl; scr = refl; sd_status = refl };

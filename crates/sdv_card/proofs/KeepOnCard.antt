@@ -62,25 +62,28 @@ record Announced (c : Card) (row : Row) (position argument : ℕ) : Type 0 where
   some : (n : ℕ) → row_announces row ≡ Some n → 0 < n
   within : (n : ℕ) → row_announces row ≡ Some n → Within c position argument n
 
-taken_on_card : (row : Row) (position argument : ℕ) (c t u : Card) → SameCard c t → SameCard c u → Taken row argument t u →
+taken_on_card : (row : Row) (heard : Bool) (position argument : ℕ) (c t u : Card) → SameCard c t → SameCard c u → Taken row heard argument t u →
     Announced c row position argument → TransferOnCard t → TransferOnCard u
-taken_on_card Cmd17 position argument c t u ct cu m within on due = within_same c u position argument 1 cu (within.some 1 refl) (within.within 1 refl) m.blocks
-taken_on_card (Cmd18 n) position argument c t u ct cu m within on due =
+taken_on_card Cmd17 heard position argument c t u ct cu m within on due =
+    within_same c u position argument 1 cu (within.some 1 refl) (within.within 1 refl) m.blocks
+taken_on_card (Cmd18 n) heard position argument c t u ct cu m within on due =
     within_same c u position argument n cu (within.some n refl) (within.within n refl) m.blocks
-taken_on_card Cmd24 position argument c t u ct cu m within on due = within_same c u position argument 1 cu (within.some 1 refl) (within.within 1 refl) m.blocks
-taken_on_card (Cmd25 n) position argument c t u ct cu m within on due =
+taken_on_card Cmd24 heard position argument c t u ct cu m within on due =
+    within_same c u position argument 1 cu (within.some 1 refl) (within.within 1 refl) m.blocks
+taken_on_card (Cmd25 n) heard position argument c t u ct cu m within on due =
     within_same c u position argument n cu (within.some n refl) (within.within n refl) m.blocks
-taken_on_card Cmd0 position argument c t u ct cu m within on due = absurd (no_due _ u.transfer refl m.transfer due)
-taken_on_card Cmd8Emmc position argument c t u ct cu m within on due = absurd (no_due _ u.transfer refl m.transfer due)
-taken_on_card Cmd12 position argument c t u ct cu m within on due = absurd (no_due _ u.transfer refl m.transfer due)
-taken_on_card Acmd13 position argument c t u ct cu m within on due = absurd (no_due _ u.transfer refl m.transfer due)
-taken_on_card Acmd51 position argument c t u ct cu m within on due = absurd (no_due _ u.transfer refl m.transfer due)
-taken_on_card row position argument c t u ct cu m within on due = stood t u m.same m.transfer m.blocks on due
+taken_on_card Cmd0 heard position argument c t u ct cu m within on due = absurd (no_due _ u.transfer refl m.transfer due)
+taken_on_card Cmd8Emmc heard position argument c t u ct cu m within on due = absurd (no_due _ u.transfer refl m.transfer due)
+taken_on_card Cmd12 heard position argument c t u ct cu m within on due = absurd (no_due _ u.transfer refl m.transfer due)
+taken_on_card Acmd13 heard position argument c t u ct cu m within on due = absurd (no_due _ u.transfer refl m.transfer due)
+taken_on_card Acmd51 heard position argument c t u ct cu m within on due = absurd (no_due _ u.transfer refl m.transfer due)
+taken_on_card row heard position argument c t u ct cu m within on due = stood t u m.same m.transfer m.blocks on due
 
 became_on_card : (way : TakenAs) (position argument : ℕ) (c t u : Card) → SameCard c t → SameCard c u →
     ((row : Row) → way ≡ By row → Announced c row position argument) → Became way argument t u → TransferOnCard t → TransferOnCard u
 became_on_card way position argument c t u ct cu within (inl e) on = subst (λ v. TransferOnCard v) e on
-became_on_card way position argument c t u ct cu within (inr (inl m)) on = taken_on_card m.row position argument c t u ct cu m.taken (within m.row m.by) on
+became_on_card way position argument c t u ct cu within (inr (inl m)) on =
+    taken_on_card m.row m.heard position argument c t u ct cu m.taken (within m.row m.by) on
 became_on_card way position argument c t u ct cu within (inr (inr m)) on = stood t u m.stayed.same m.stayed.transfer m.stayed.blocks on
 
 settled_on_card : (c t : Card) → Settled c t → TransferOnCard c → TransferOnCard t

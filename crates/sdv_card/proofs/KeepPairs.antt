@@ -39,8 +39,8 @@ use Rattle.sdv_card.proofs.PartsKept.{kept_small, preset_small, kind_none_taken,
 
 -- A COMMAND
 
-fits_taken : (row : Row) (argument : ℕ) (t u : Card) → row_count row < 65536 → IsCard t → Taken row argument t u → Fits u
-fits_taken row argument t u count card m =
+fits_taken : (row : Row) (heard : Bool) (argument : ℕ) (t u : Card) → row_count row < 65536 → IsCard t → Taken row heard argument t u → Fits u
+fits_taken row heard argument t u count card m =
     let lead : Leads row t.state u.state = leads t.kind row t.state u.state m.state.one in
     let none : kind_fits t.kind Nothing u.app u.preset ≡ true =
     kind_none_taken t.kind row t.transfer t.app u.app t.preset u.preset t.state u.state m.state.one card.kind_rules m.app m.preset in
@@ -60,8 +60,8 @@ fits_taken row argument t u count card m =
       contents = contents_kept row t u m.same m.contents card.contents;
     }
 
-fits_stayed : (row : Row) (t u : Card) → IsCard t → Stayed row t u → Fits u
-fits_stayed row t u card m =
+fits_stayed : (row : Row) (heard : Bool) (t u : Card) → IsCard t → Stayed row heard t u → Fits u
+fits_stayed row heard t u card m =
     let none : kind_fits t.kind Nothing u.app u.preset ≡ true =
     kind_none_stayed t.kind t.transfer t.app u.app t.preset u.preset card.kind_rules m.app m.preset in
     let kind : kind_fits t.kind t.transfer u.app u.preset ≡ true =
@@ -85,8 +85,8 @@ card_became : (way : TakenAs) (argument : ℕ) (t u : Card) → ((row : Row) →
     Became way argument t u → IsCard u
 card_became way argument t u count card (inl e) = subst (λ v. IsCard v) e card
 card_became way argument t u count card (inr (inl m)) =
-    card_after t u card m.taken.same (fits_taken m.row argument t u (count m.row m.by) card m.taken)
-card_became way argument t u count card (inr (inr m)) = card_after t u card m.stayed.same (fits_stayed m.row t u card m.stayed)
+    card_after t u card m.taken.same (fits_taken m.row m.heard argument t u (count m.row m.by) card m.taken)
+card_became way argument t u count card (inr (inr m)) = card_after t u card m.stayed.same (fits_stayed m.row m.heard t u card m.stayed)
 
 -- the host's address after a command
 rca_after : (way : TakenAs) (order : Order) (argument : ℕ) (t u : Card) (answer : Answer) (rca : ℕ) →

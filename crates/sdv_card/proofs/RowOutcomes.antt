@@ -69,7 +69,7 @@ timed_out response k order row argument h t u is other at a =
 
 -- the card took the row, and the host heard it
 pub heard_taken : (k : Kind) (order : Order) (row : Row) (argument : ℕ) (h : Host) (t u : Card) (answer : Answer) →
-    (NewAddress ≡ response_of row → ⊥) → AtRow k order row t → Taken row argument t u →
+    (NewAddress ≡ response_of row → ⊥) → AtRow k order row t → Taken row true argument t u →
     May (taken k row true (view t h)) (view u (heard order answer h))
 heard_taken k order row argument h t u answer other at m =
     taken_law k row true argument h (heard order answer h) t u at.kind m refl
@@ -102,15 +102,15 @@ status_cases k order row argument h t u answer d is at (inl m) =
 status_cases k order row argument h t u answer d is at (inr m) =
     inr (
       m.0,
-      stayed_law k row (matches t.rca h.rca ∷ []) h (heard order answer h) t u at.kind m.1 refl
-          (here (stayed_match row h (heard order answer h) t u m.1
+      stayed_law k row true (matches t.rca h.rca ∷ []) h (heard order answer h) t u at.kind m.1 refl
+          (here (stayed_match row true h (heard order answer h) t u m.1
           (heard_same order row answer h t.rca at.says (same_status row answer t.rca h.rca is at.given)))),
     )
 
 -- NEW ADDRESS
 
 pub address_cases : (k : Kind) (argument : ℕ) (h h' : Host) (t u : Card) (word : ℕ) (d : Bool) → k ≡ t.kind → IsCard t → h.flags ≡ h'.flags →
-    published_rca word ≡ h'.rca → Published Cmd3Sd argument t word u ⊎ ((d ≡ true) × Stayed Cmd3Sd t u) →
+    published_rca word ≡ h'.rca → Published Cmd3Sd argument t word u ⊎ ((d ≡ true) × Stayed Cmd3Sd true t u) →
     May (taken k Cmd3Sd true (view t h)) (view u h')
     ⊎ ((d ≡ true) × May (stayed k Cmd3Sd (matched_stayed t.state) (view t h)) (view u h'))
 address_cases k argument h h' t u word d kind card flags e (inl m) =
@@ -118,7 +118,7 @@ address_cases k argument h h' t u word d kind card flags e (inl m) =
 address_cases k argument h h' t u word d kind card flags e (inr m) =
     inr (
       m.0,
-      stayed_law k Cmd3Sd (matched_stayed t.state) h h' t u kind m.1 flags
+      stayed_law k Cmd3Sd true (matched_stayed t.state) h h' t u kind m.1 flags
           (subst (λ v. May (matched_stayed t.state) (matches v h'.rca)) m.1.rca (stayed_matches t.state t.rca h'.rca card.address)),
     )
 

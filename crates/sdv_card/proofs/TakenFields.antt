@@ -26,11 +26,11 @@ length_law Cmd0 false before after e = May-either (after == 512)
 length_law Cmd16 unit before after e = here (sym (ap (λ n. n == 512) e))
 length_law row unit before after e = here (ap (λ n. n == 512) e)
 
-pub taken_law : (k : Kind) (row : Row) (known : Bool) (argument : ℕ) (h h' : Host) (t u : Card) →
-    k ≡ t.kind → Taken row argument t u → h.flags ≡ h'.flags →
-    May (matched_after row known (matches t.rca h.rca)) (matches u.rca h'.rca) →
-    May (taken k row known (view t h)) (view u h')
-taken_law k row known argument h h' t u kind m flags matched =
+pub taken_law : (k : Kind) (row : Row) (heard : Bool) (argument : ℕ) (h h' : Host) (t u : Card) →
+    k ≡ t.kind → Taken row heard argument t u → h.flags ≡ h'.flags →
+    May (matched_after row heard (matches t.rca h.rca)) (matches u.rca h'.rca) →
+    May (taken k row heard (view t h)) (view u h')
+taken_law k row heard argument h h' t u kind m flags matched =
     let after : Fields = record (view t h) {
       transfer = transfer_after row t.preset t.transfer;
       erase = erase_after row t.erase;
@@ -48,10 +48,10 @@ taken_law k row known argument h h' t u kind m flags matched =
     (same_fields refl m.transfer m.erase m.same.block_unit refl refl refl flags refl)
     (May-map (λ preset. record after { preset = preset }) (subst (λ v. May (preset_after v row t.preset) u.preset) (sym kind) m.preset))))))
 
-pub stayed_law : (k : Kind) (row : Row) (ms : List Bool) (h h' : Host) (t u : Card) →
-    k ≡ t.kind → Stayed row t u → h.flags ≡ h'.flags → May ms (matches u.rca h'.rca) →
+pub stayed_law : (k : Kind) (row : Row) (heard : Bool) (ms : List Bool) (h h' : Host) (t u : Card) →
+    k ≡ t.kind → Stayed row heard t u → h.flags ≡ h'.flags → May ms (matches u.rca h'.rca) →
     May (stayed k row ms (view t h)) (view u h')
-stayed_law k row ms h h' t u kind m flags matched =
+stayed_law k row heard ms h h' t u kind m flags matched =
     let after : Fields = record (view t h) { app = false; erase = u.erase; matched = matches u.rca h'.rca } in
     May-each _ u.erase m.erase
     (May-each _ (matches u.rca h'.rca) matched
@@ -66,23 +66,23 @@ pub same_view : (h h' : Host) (t : Card) → h.flags ≡ h'.flags → matches t.
 same_view h h' t e f = same_fields refl refl refl refl refl refl f e refl
 
 -- a card that stayed has the address that it had
-pub stayed_match : (row : Row) (h h' : Host) (t u : Card) → Stayed row t u → matches t.rca h.rca ≡ matches t.rca h'.rca →
+pub stayed_match : (row : Row) (heard : Bool) (h h' : Host) (t u : Card) → Stayed row heard t u → matches t.rca h.rca ≡ matches t.rca h'.rca →
     matches t.rca h.rca ≡ matches u.rca h'.rca
-stayed_match row h h' t u m same = same ∙ ap (λ v. matches v h'.rca) m.rca
+stayed_match row heard h h' t u m same = same ∙ ap (λ v. matches v h'.rca) m.rca
 
 lost_stayed_law : (response : Response) (k : Kind) (row : Row) (h h' : Host) (t u : Card) → k ≡ t.kind → h.flags ≡ h'.flags →
     matches t.rca h.rca ≡ matches t.rca h'.rca → LostStayed response row t u →
     May (lost_stayed k response row (view t h)) (view u h')
 lost_stayed_law CardStatus k row h h' t u kind flags same m =
-    stayed_law k row (matches t.rca h.rca ∷ []) h h' t u kind m.card flags (here (stayed_match row h h' t u m.card same))
+    stayed_law k row false (matches t.rca h.rca ∷ []) h h' t u kind m.card flags (here (stayed_match row false h h' t u m.card same))
 lost_stayed_law NewAddress k row h h' t u kind flags same m =
-    stayed_law k row (matches t.rca h.rca ∷ []) h h' t u kind m.card flags (here (stayed_match row h h' t u m.card same))
+    stayed_law k row false (matches t.rca h.rca ∷ []) h h' t u kind m.card flags (here (stayed_match row false h h' t u m.card same))
 lost_stayed_law response k row h h' t u kind flags same m = absurd m
 
 -- without a response the card is as it was, or took the row, or stayed
 pub lost_law : (response : Response) (k : Kind) (row : Row) (argument : ℕ) (h h' : Host) (t u : Card) → k ≡ t.kind → h.flags ≡ h'.flags →
     matches t.rca h.rca ≡ matches t.rca h'.rca →
-    (Taken row argument t u → May (matched_after row false (matches t.rca h.rca)) (matches u.rca h'.rca)) →
+    (Taken row false argument t u → May (matched_after row false (matches t.rca h.rca)) (matches u.rca h'.rca)) →
     Lost response row argument t u → May (lost k response row (view t h)) (view u h')
 lost_law response k row argument h h' t u kind flags same matched (inl e) =
     here (subst (λ v. view t h ≡ view v h') e (same_view h h' t flags same))

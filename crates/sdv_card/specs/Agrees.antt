@@ -28,7 +28,7 @@ pub record ErrorShown (t : Card) (shown : Bool) (u : Card) : Type 0 where
 
 -- the card took the row; or, if the response leaves a doubt, it stayed
 abbrev pub TakenOrStayed : Row → ℕ → Card → Bool → Card → Type 0
-TakenOrStayed row argument t doubt u = Taken row argument t u ⊎ ((doubt ≡ true) × Stayed row t u)
+TakenOrStayed row argument t doubt u = Taken row true argument t u ⊎ ((doubt ≡ true) × Stayed row true t u)
 
 -- bit 5 of a response to CMD55 is the application flag of u
 abbrev pub AppShown : Row → ℕ → Card → Type 0
@@ -46,14 +46,14 @@ pub record StatusAgrees (row : Row) (argument : ℕ) (t : Card) (index word : �
 
 -- an SD card that took CMD3 shows its new relative address in bits 31..16
 pub record Published (row : Row) (argument : ℕ) (t : Card) (word : ℕ) (u : Card) : Type 0 where
-  pub card : Taken row argument t u
+  pub card : Taken row true argument t u
   pub rca : Some (published_rca word) ≡ u.rca
 
 -- R6: a card that stayed shows any number there
 pub record AddressAgrees (row : Row) (argument : ℕ) (t : Card) (word : ℕ) (u : Card) : Type 0 where
   pub is_word : IsWord word
   pub state : state_field word ≡ state_number t.state
-  pub card : Published row argument t word u ⊎ ((in_doubt (R6 word) ≡ true) × Stayed row t u)
+  pub card : Published row argument t word u ⊎ ((in_doubt (R6 word) ≡ true) × Stayed row true t u)
   pub error : t.unshown_error ≡ u.unshown_error
 
 -- the unit in an OCR: bit 30 of an SD card; bits 30..29 of an e.MMC device, 10 for block and 00 for byte addresses
@@ -67,7 +67,7 @@ pub record ConditionsAgree (row : Row) (argument : ℕ) (t : Card) (word : ℕ) 
   pub windows : voltage_windows word ≡ 511
   pub ready : is_powered_up word ≡ is_ready u.state
   pub unit : IsTrue (is_ready u.state) → UnitShown row word u.block_unit
-  pub card : Taken row argument t u
+  pub card : Taken row true argument t u
   pub error : t.unshown_error ≡ u.unshown_error
 
 -- R7: bits 11..0 are those that the host sent; a card of version 1 has no response
@@ -86,7 +86,7 @@ ContentsShown row t reply = ⊥
 
 pub record ContentsAgree (row : Row) (argument : ℕ) (t : Card) (reply : Reply) (u : Card) : Type 0 where
   pub shown : ContentsShown row t reply
-  pub card : Taken row argument t u
+  pub card : Taken row true argument t u
   pub error : t.unshown_error ≡ u.unshown_error
 
 -- the response is of the row's format, and fits it from t to u

@@ -1,7 +1,7 @@
 -- One command and what comes of it: the exchanges that a card makes.
 -- SD Physical Layer Simplified Specification, sections 4.6 (error conditions) and 4.12 (timings); JESD84-B51, section
 -- 6.8. Which commands and responses are lost, and what a loss leaves, is this project's profile.
-use Rattle.std.specs.Prelude.{◌≡◌, ◌⊎◌, ◌/◌, false, ℕ}
+use Rattle.std.specs.Prelude.{◌≡◌, ◌⊎◌, ◌/◌, true, false, ℕ}
 use Rattle.sdv_card.specs.declared.command.Order.{Order}
 use Rattle.sdv_card.specs.declared.command.Order.TheVariants.{DeselectCards}
 use Rattle.sdv_card.specs.declared.command.Row.{Row}
@@ -24,16 +24,16 @@ card_takes t order argument = taken_as_of order t.app (matches t.rca (argument /
 
 -- CMD0 ends an error that no status has shown
 pub record Reset (row : Row) (argument : ℕ) (t u : Card) : Type 0 where
-  pub card : Taken row argument t u
+  pub card : Taken row true argument t u
   pub error : false ≡ u.unshown_error
 
 -- the response was lost, and with it an error that no status has shown
 pub record TakenUnheard (row : Row) (argument : ℕ) (t u : Card) : Type 0 where
-  pub card : Taken row argument t u
+  pub card : Taken row false argument t u
   pub error : false ≡ u.unshown_error
 
 pub record StayedUnheard (row : Row) (t u : Card) : Type 0 where
-  pub card : Stayed row t u
+  pub card : Stayed row false t u
   pub error : false ≡ u.unshown_error
 
 -- with a status or an address as response a card may have stayed
@@ -48,7 +48,7 @@ Lost response row argument t u = (t ≡ u) ⊎ (TakenUnheard row argument t u �
 
 -- a card that is not addressed takes the row unseen
 pub record TakenUnseen (row : Row) (argument : ℕ) (t u : Card) : Type 0 where
-  pub card : Taken row argument t u
+  pub card : Taken row true argument t u
   pub error : t.unshown_error ≡ u.unshown_error
 
 -- what a host hears where no card is addressed: it waits for a response, unless it addressed none

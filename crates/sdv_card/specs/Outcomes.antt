@@ -71,12 +71,12 @@ with_states t states apps lengths matches presets =
 abbrev pub with_erases : Fields → List EraseStage → List Bool → List ℕ → List Fields
 with_erases t erases matches presets = each erases (λ erase. with_matches (record t { erase = erase }) matches presets)
 
--- TAKEN: a settled t after the row; known: the host saw the address that an SD card chose
-abbrev pub taken : Kind → Row → Bool → Fields → List Fields
-taken k row known t =
+-- TAKEN: a settled t after the row; heard: the host heard the answer, or there is none
+abbrev pub taken : Kind → Row → (heard : Bool) → Fields → List Fields
+taken k row heard t =
     with_states (record t { transfer = transfer_after row t.preset t.transfer; erase = erase_after row t.erase })
     (states_after k row t.block_unit t.state) (app_after row) (length_after row t.block_unit t.length_512)
-    (matched_after row known t.matched) (preset_after k row t.preset)
+    (matched_after row heard t.matched) (preset_after k row t.preset)
 
 -- STAYED: a settled t that lost its application flag, with each match of a list
 abbrev pub stayed : Kind → Row → List Bool → Fields → List Fields

@@ -65,13 +65,14 @@ length_after Cmd0 false length_512 = false ∷ true ∷ []
 length_after Cmd16 block_unit length_512 = true ∷ []
 length_after row block_unit length_512 = length_512 ∷ []
 
--- MATCH of the card's relative address and the host's; known: the host saw the address that an SD card chose
-abbrev pub matched_after : Row → (known matched : Bool) → List Bool
-matched_after Cmd0 known matched = true ∷ []
+-- MATCH of the card's relative address and the host's; a host that heard the answer saw the address that an SD card
+-- chose
+abbrev pub matched_after : Row → (heard matched : Bool) → List Bool
+matched_after Cmd0 heard matched = true ∷ []
 matched_after Cmd3Sd true matched = true ∷ []
 matched_after Cmd3Sd false matched = false ∷ true ∷ []
-matched_after Cmd3Emmc known matched = true ∷ []
-matched_after row known matched = matched ∷ []
+matched_after Cmd3Emmc heard matched = true ∷ []
+matched_after row heard matched = matched ∷ []
 
 -- of a card that stayed, where the host took the number that it was shown for the card's address
 abbrev pub matched_stayed : State → List Bool

@@ -64,8 +64,9 @@ abbrev pub ContentsAfter : Row → Card → Card → Type 0
 ContentsAfter Cmd38 t u = Erased t u
 ContentsAfter row t u = t.contents ≡ u.contents
 
--- u is t after the row. Whether an error is still to be shown depends on the answer, and is said there.
-pub record Taken (row : Row) (argument : ℕ) (t u : Card) : Type 0 where
+-- u is t after the row; heard: the host heard the answer, or there is none. Whether an error is still to be shown
+-- depends on the answer, and is said there.
+pub record Taken (row : Row) (heard : Bool) (argument : ℕ) (t u : Card) : Type 0 where
   pub same : SameCard t u
   pub state : May (rows t.kind row) (t.state to u.state)
   pub reached : IsTrue (may_reach row t.block_unit u.state)
@@ -79,7 +80,7 @@ pub record Taken (row : Row) (argument : ℕ) (t u : Card) : Type 0 where
   pub contents : ContentsAfter row t u
 
 -- u is t, which did not take the row: it lost the application flag, and perhaps its erase stage and preset count
-pub record Stayed (row : Row) (t u : Card) : Type 0 where
+pub record Stayed (row : Row) (heard : Bool) (t u : Card) : Type 0 where
   pub same : SameCard t u
   pub state : t.state ≡ u.state
   pub app : false ≡ u.app

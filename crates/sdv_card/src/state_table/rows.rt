@@ -57,9 +57,9 @@ fn with_presets<const N: usize>(all: &mut ArrayVec<Fields, N>, card: Fields, pre
     }
 }
 
-/// A settled card after a row; `known`: the host saw the address that an SD card chose.
-pub fn taken<T: Rows>(row: Row, known: bool, t: &Fields) -> ArrayVec<Fields, 4>
-    ensures { result.items ≡ taken T.kind row known t.now }
+/// A settled card after a row; `heard`: the host heard the answer, or there is none.
+pub fn taken<T: Rows>(row: Row, heard: bool, t: &Fields) -> ArrayVec<Fields, 4>
+    ensures { result.items ≡ taken T.kind row heard t.now }
 {
     let mut all = ArrayVec::new();
     let Some(state) = T::next(row, t.state) else {
@@ -101,7 +101,7 @@ pub fn taken<T: Rows>(row: Row, known: bool, t: &Fields) -> ArrayVec<Fields, 4>
             with_presets(&mut all, idle, kept);
         }
         Row::Cmd3Sd => {
-            if !known {
+            if !heard {
                 let unknown = Fields {
                     matched: false,
                     ..u

@@ -7,8 +7,8 @@ returns-after-not-t g c = search rules
 pub returns-in-Cmd1 : goal.returns-in-Cmd1
 returns-in-Cmd1 g c = search rules
 
-pub returns-after-not-known : goal.returns-after-not-known
-returns-after-not-known g c = search rules
+pub returns-after-not-heard : goal.returns-after-not-heard
+returns-after-not-heard g c = search rules
 
 pub returns-in-Cmd3Emmc : goal.returns-in-Cmd3Emmc
 returns-in-Cmd3Emmc g c = search rules
