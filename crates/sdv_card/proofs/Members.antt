@@ -15,6 +15,13 @@ here e = record { one = inl e }
 pub there : {A : Type 0} {y x : A} {ys : List A} → May ys x → May (y ∷ ys) x
 there m = record { one = inr m.one }
 
+pub only : {A : Type 0} {y x : A} → May (y ∷ []) x → y ≡ x
+only {y = y} {x = x} m = go y x m.one
+  where
+    go : {A : Type 0} → (y x : A) → IsOneOf (y ∷ []) x → y ≡ x
+    go y x (inl e) = e
+    go y x (inr e) = absurd e
+
 append_left : {A : Type 0} → (xs ys : List A) (x : A) → IsOneOf xs x → IsOneOf (xs ++ ys) x
 append_left [] ys x m = absurd m
 append_left (y ∷ xs) ys x (inl e) = inl e

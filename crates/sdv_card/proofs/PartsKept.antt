@@ -1,5 +1,5 @@
 -- What a row leaves of the preset count, the application flag, the block length and the contents keeps the rules of a card.
-use Rattle.std.proofs.Common.{◌≡◌, ℕ, ◌<◌, ◌/◌, ◌%◌, ◌^◌, inl, inr, refl, ap, subst, sym, Bool, true, false, not, [], ◌∷◌, ◌==◌, arith}
+use Rattle.std.proofs.Common.{◌≡◌, ℕ, ◌<◌, ◌/◌, ◌%◌, ◌^◌, inl, inr, refl, ap, subst, sym, Bool, true, false, not, ◌==◌, arith}
 use Rattle.sdv_registers.specs.declared.kind.Kind.{Kind}
 use Rattle.sdv_registers.specs.declared.kind.Kind.TheVariants.{Sd, Emmc}
 use Rattle.std.proofs.lemmas.Nat.{mod_below}
@@ -24,13 +24,7 @@ use Rattle.sdv_card.specs.Exchange.{RowAnswer}
 use Rattle.sdv_card.proofs.RowsOfOrders.{row_count, row_rca}
 use Rattle.sdv_card.proofs.SettledCard.{kind_of_none, kind_of_blocks}
 use Rattle.sdv_card.proofs.RowsKeep.{either}
-
-only : {A : Type 0} {y x : A} → May (y ∷ []) x → y ≡ x
-only {y = y} {x = x} m = go y x m.one
-  where
-    go : {A : Type 0} → (y x : A) → IsOneOf (y ∷ []) x → y ≡ x
-    go y x (inl e) = e
-    go y x (inr e) = absurd e
+use Rattle.sdv_card.proofs.Members.{only}
 
 -- PRESET COUNT
 

@@ -32,7 +32,7 @@ use Rattle.sdv_card.specs.Shapes.{view}
 use Rattle.sdv_card.specs.Outcomes.{branch, with_seen, taken, stayed, lost, statuses, status_seen, with_status, app_shown, unaddressed_seen}
 use Rattle.sdv_card.proofs.Members.{here, there, May-append_left, May-append_right, May-map}
 use Rattle.sdv_card.proofs.RowsOfOrders.{Says, row_rca}
-use Rattle.sdv_card.proofs.TakenFields.{taken_law, stayed_law, stayed_match, same_view, lost_law}
+use Rattle.sdv_card.proofs.TakenFields.{Allowed, taken_law, stayed_law, stayed_cases, stayed_match, same_view, lost_law}
 use Rattle.sdv_card.proofs.Matches.{GivenAddress, taken_unheard, taken_heard, same_unheard, same_status, same_unaddressed, published_matches, stayed_matches}
 
 -- a settled card t, and an order by which it takes a row
@@ -41,6 +41,7 @@ pub record AtRow (k : Kind) (order : Order) (row : Row) (t : Card) : Type 0 wher
   pub card : IsCard t
   pub says : Says order row
   pub given : GivenAddress row t.rca
+  pub allowed : Allowed row t
 
 -- the host after an answer
 abbrev pub heard : Order → Answer → Host → Host
@@ -63,7 +64,7 @@ pub timed_out : (response : Response) (k : Kind) (order : Order) (row : Row) (ar
     May (with_seen SeenTimeOut (lost k response row (view t h))) (branch (view u (heard order TimeOut h)) SeenTimeOut)
 timed_out response k order row argument h t u is other at a =
     May-map (λ v. branch v SeenTimeOut)
-    (lost_law response k row argument h (heard order TimeOut h) t u at.kind refl
+    (lost_law response k row argument h (heard order TimeOut h) t u at.kind at.allowed refl
     (heard_same order row TimeOut h t.rca at.says (same_unheard row t.rca h.rca (λ e. other (e ∙ sym is)) at.given))
     (λ m. heard_rca order row TimeOut h u.rca _ at.says (taken_unheard row TimeOut t.rca u.rca h.rca m.rca)) a)
 
@@ -100,12 +101,12 @@ pub status_cases : (k : Kind) (order : Order) (row : Row) (argument : ℕ) (h : 
 status_cases k order row argument h t u answer d is at (inl m) =
     inl (heard_taken k order row argument h t u answer (λ e. let f : NewAddress ≡ CardStatus = e ∙ sym is in cc) at m)
 status_cases k order row argument h t u answer d is at (inr m) =
-    inr (
-      m.0,
-      stayed_law k row true (matches t.rca h.rca ∷ []) h (heard order answer h) t u at.kind m.1 refl
-          (here (stayed_match row true h (heard order answer h) t u m.1
-          (heard_same order row answer h t.rca at.says (same_status row answer t.rca h.rca is at.given)))),
-    )
+    elim (stayed_cases k row true argument h (heard order answer h) t u at.kind at.allowed m.1 refl
+    (stayed_match row true h (heard order answer h) t u m.1
+    (heard_same order row answer h t.rca at.says (same_status row answer t.rca h.rca is at.given)))) [
+      | inl n ↦ inl n
+      | inr n ↦ inr (m.0, n)
+    ]
 
 -- NEW ADDRESS
 
@@ -118,7 +119,7 @@ address_cases k argument h h' t u word d kind card flags e (inl m) =
 address_cases k argument h h' t u word d kind card flags e (inr m) =
     inr (
       m.0,
-      stayed_law k Cmd3Sd true (matched_stayed t.state) h h' t u kind m.1 flags
+      stayed_law k Cmd3Sd true (matched_stayed t.state) h h' t u (λ e. cc) kind m.1 flags
           (subst (λ v. May (matched_stayed t.state) (matches v h'.rca)) m.1.rca (stayed_matches t.state t.rca h'.rca card.address)),
     )
 

@@ -1,9 +1,9 @@
 -- Each step of a card beside its host is among the outcomes at their code.
-use Rattle.std.proofs.Common.{◌≡◌, ℕ, inl, inr, ap, subst, sym, ◌∙◌, ◌++◌, map, Option, Some}
+use Rattle.std.proofs.Common.{◌≡◌, ℕ, inl, inr, ap, subst, sym, ◌∙◌, List, [], ◌∷◌, ◌++◌, map, Option, Some}
 use Rattle.sdv_registers.specs.declared.kind.Kind.{Kind}
 use Rattle.sdv_registers.specs.declared.kind.Kind.TheVariants.{Sd, Emmc}
 use Rattle.sdv_card.specs.declared.state.State.{State}
-use Rattle.sdv_card.specs.declared.state.State.TheVariants.{Ident}
+use Rattle.sdv_card.specs.declared.state.State.TheVariants.{Ident, Stby, Tran, Data, Rcv, Prg, Dis}
 use Rattle.sdv_card.specs.declared.answer.Answer.{Answer}
 use Rattle.sdv_card.specs.declared.answer.DataEnd.{DataEnd}
 use Rattle.sdv_card.specs.declared.answer.DataEnd.TheVariants.{Ok, Cut}
@@ -11,11 +11,11 @@ use Rattle.sdv_card.specs.declared.answer.WaitEnd.{WaitEnd}
 use Rattle.sdv_card.specs.declared.answer.WaitEnd.TheVariants.{Ok as Over, Late}
 use Rattle.sdv_card.specs.declared.command.Order.{Order}
 use Rattle.sdv_card.specs.declared.command.Row.{Row}
-use Rattle.sdv_card.specs.declared.command.Row.TheVariants.{Cmd3Emmc}
+use Rattle.sdv_card.specs.declared.command.Row.TheVariants.{Cmd3Emmc, Cmd13}
 use Rattle.sdv_card.specs.declared.command.TakenAs.{TakenAs}
 use Rattle.sdv_card.specs.declared.command.TakenAs.TheVariants.{By}
 use Rattle.sdv_card.specs.Lists.{May, IsOneOf}
-use Rattle.sdv_card.specs.StateTable.{◌to◌, rows}
+use Rattle.sdv_card.specs.StateTable.{◌to◌, unchanged, rows}
 use Rattle.sdv_card.specs.Takes.{taken_as_of, matches}
 use Rattle.sdv_card.specs.CommandTable.{order_of}
 use Rattle.sdv_card.specs.ScriptEvent.{ScriptEvent, SendCommand, ReceiveBlocks, ReceiveRegister, GiveBlocks, AwaitReady, Return, Answered, BlocksIn, RegisterIn, BlocksOut, Waited, event_of}
@@ -38,16 +38,22 @@ use Rattle.sdv_card.proofs.SettledCard.{settled_is_card}
 use Rattle.sdv_card.proofs.AddressSent.{AddressSent, address_sent}
 use Rattle.sdv_card.proofs.RowsOfOrders.{says, ignored_rca}
 use Rattle.sdv_card.proofs.Matches.{GivenAddress}
+use Rattle.sdv_card.proofs.TakenFields.{Allowed}
 use Rattle.sdv_card.proofs.LegalExact.{settled_law}
 use Rattle.sdv_card.proofs.AnswerOutcomes.{settled_answer_law}
 
 -- AN EXCHANGE
 
--- each settled card to which an order gives an address had none
-abbrev GivesAddress : Order → Card → Host → Type 0
-GivesAddress order c h = (t : Card) → Settled c t → (row : Row) → taken_as_of order t.app (matches t.rca h.rca) ≡ By row → GivenAddress row t.rca
+-- what a legal row says of a card: one to which the row gives an address had none
+record Allows (row : Row) (t : Card) : Type 0 where
+  given : GivenAddress row t.rca
+  allowed : Allowed row t
 
-exchange_law : (order : Order) (argument : ℕ) (c u : Card) (h : Host) (answer : Answer) → IsCard c → AddressSent order argument h → GivesAddress order c h →
+-- so it is at each settled card
+abbrev OrderAllows : Order → Card → Host → Type 0
+OrderAllows order c h = (t : Card) → Settled c t → (row : Row) → taken_as_of order t.app (matches t.rca h.rca) ≡ By row → Allows row t
+
+exchange_law : (order : Order) (argument : ℕ) (c u : Card) (h : Host) (answer : Answer) → IsCard c → AddressSent order argument h → OrderAllows order c h →
     Exchanges order argument c answer u →
     May (order_branches c.kind order (view c h)) (branch (view u (host_after_order (Some order) answer h)) (answer_seen c.kind answer))
 exchange_law order argument c u h answer card sent given x =
@@ -60,7 +66,8 @@ exchange_law order argument c u h answer card sent given x =
       kind = (settled_same c t x.settled).kind;
       card = settled_is_card c t card x.settled;
       says = says order t.app (matches t.rca h.rca) row e;
-      given = given t x.settled row e;
+      given = (given t x.settled row e).given;
+      allowed = (given t x.settled row e).allowed;
     })
     (subst (λ w. SettledAnswer w order argument t answer u) (sent.way t.app t.rca) x.answered))
 
@@ -94,12 +101,12 @@ either_wait Late c u h m = May-append_right (wait_ends Over (view c h)) m
 
 -- EVENTS
 
--- each settled card to which the event gives an address had none
-abbrev EventGivesAddress : ScriptEvent → Card → Host → Type 0
-EventGivesAddress (SendCommand ask position argument) c h = (order : Order) → order_of c.kind ask ≡ Some order → GivesAddress order c h
-EventGivesAddress event c h = Unit {0}
+-- and so at an event
+abbrev EventAllows : ScriptEvent → Card → Host → Type 0
+EventAllows (SendCommand ask position argument) c h = (order : Order) → order_of c.kind ask ≡ Some order → OrderAllows order c h
+EventAllows event c h = Unit {0}
 
-event_law : (event : ScriptEvent) (c : Card) (h : Host) (returned : Return) (u : Card) → IsCard c → Makes c.kind event h → EventGivesAddress event c h →
+event_law : (event : ScriptEvent) (c : Card) (h : Host) (returned : Return) (u : Card) → IsCard c → Makes c.kind event h → EventAllows event c h →
     Step event c returned u →
     May (event_branches c.kind (event_of event) (view c h)) (branch (view u (host_after c.kind event returned h)) (seen_of c.kind returned))
 event_law (SendCommand ask position argument) c h (Answered answer) u card made given s =
@@ -112,7 +119,7 @@ event_law AwaitReady c h (Waited end) u card made given s = either_wait end c u 
 event_law event c h returned u card made given s = absurd s
 
 outcomes_law : (k : Kind) (event : ScriptEvent) (c : Card) (h : Host) (returned : Return) (u : Card) →
-    IsPair k c h → Makes k event h → EventGivesAddress event c h → Step event c returned u →
+    IsPair k c h → Makes k event h → EventAllows event c h → Step event c returned u →
     May (outcomes_code k (pair_code c h) (event_of event)) (outcome_of (branch (view u (host_after k event returned h)) (seen_of k returned)))
 outcomes_law k event c h returned u pair made given s =
     subst (λ v. May (map outcome_of (branches_at k (event_of event) v)) (outcome_of (branch (view u (host_after k event returned h)) (seen_of k returned))))
@@ -129,22 +136,39 @@ given_by_row Emmc Cmd3Emmc a b rca (inr e) fits = absurd e
 given_by_row Sd Cmd3Emmc a b rca m fits = absurd m
 given_by_row k row a b rca m fits = tt
 
+unchanged_same : (ss : List State) (a b : State) → IsOneOf (unchanged ss) (a to b) → a ≡ b
+unchanged_same [] a b m = absurd m
+unchanged_same (s ∷ ss) a b (inl e) = let f : s ≡ a = ap (λ m. m.source) e in let g : s ≡ b = ap (λ m. m.target) e in sym f ∙ g
+unchanged_same (s ∷ ss) a b (inr m) = unchanged_same ss a b m
+
+status_stays : (k : Kind) (a b : State) → IsOneOf (rows k Cmd13) (a to b) → a ≡ b
+status_stays Sd a b m = unchanged_same (Stby ∷ Tran ∷ Data ∷ Rcv ∷ Prg ∷ Dis ∷ []) a b m
+status_stays Emmc a b m = unchanged_same (Stby ∷ Tran ∷ Data ∷ Rcv ∷ Prg ∷ Dis ∷ []) a b m
+
+-- CMD13 keeps the state
+allowed_by_row : (row : Row) (t : Card) → RowLegal row t → Allowed row t
+allowed_by_row Cmd13 t l = subst (λ s. May (rows t.kind Cmd13) (t.state to s)) (sym (status_stays t.kind t.state l.target l.has_row.one)) l.has_row
+allowed_by_row row t l = tt
+
 some_same : {A : Type 0} → (x y : A) (o : Option A) → o ≡ Some x → o ≡ Some y → x ≡ y
 some_same x y o e f = cc
 
-legal_gives : (event : ScriptEvent) (c : Card) (h : Host) → IsCard c → Makes c.kind event h → EventLegal event c → EventGivesAddress event c h
-legal_gives (SendCommand ask position argument) c h card made legal = λ order e t settles row by.
+legal_allows : (event : ScriptEvent) (c : Card) (h : Host) → IsCard c → Makes c.kind event h → EventLegal event c → EventAllows event c h
+legal_allows (SendCommand ask position argument) c h card made legal = λ order e t settles row by.
     let same : legal.order ≡ order = some_same legal.order order (order_of c.kind ask) legal.asks.line e in
     let at_t : SettledLegal (card_takes t order argument) t = subst (λ o. SettledLegal (card_takes t o argument) t) same (legal.settled t settles) in
     let sent : AddressSent order argument h = address_sent c.kind ask argument h order made e in
     let at_row : RowLegal row t = subst (λ way. SettledLegal way t) (sent.way t.app t.rca ∙ by) at_t in
-    given_by_row t.kind row t.state at_row.target t.rca at_row.has_row.one (settled_is_card c t card settles).address
-legal_gives (ReceiveBlocks count) c h card made legal = tt
-legal_gives (ReceiveRegister count) c h card made legal = tt
-legal_gives (GiveBlocks blocks) c h card made legal = tt
-legal_gives AwaitReady c h card made legal = tt
+    record {
+      given = given_by_row t.kind row t.state at_row.target t.rca at_row.has_row.one (settled_is_card c t card settles).address;
+      allowed = allowed_by_row row t at_row;
+    }
+legal_allows (ReceiveBlocks count) c h card made legal = tt
+legal_allows (ReceiveRegister count) c h card made legal = tt
+legal_allows (GiveBlocks blocks) c h card made legal = tt
+legal_allows AwaitReady c h card made legal = tt
 
 pub steps_are_outcomes : (k : Kind) → StepsAreOutcomes k
 steps_are_outcomes k event c h returned u pair made legal s =
     outcomes_law k event c h returned u pair made
-    (legal_gives event c h pair.card (subst (λ v. Makes v event h) pair.kind made) legal) s
+    (legal_allows event c h pair.card (subst (λ v. Makes v event h) pair.kind made) legal) s

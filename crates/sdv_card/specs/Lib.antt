@@ -24,6 +24,7 @@ pub mod Code
 pub mod ShapeBits
 pub mod Shapes
 pub mod Outcomes
+pub mod Room
 pub mod LegalShapes
 pub mod Seen
 pub mod Guards

@@ -20,7 +20,7 @@ use Rattle.sdv_card.specs.declared.answer.WaitEnd.TheVariants.{Ok as Over, Late}
 use Rattle.sdv_card.specs.declared.command.Order.{Order}
 use Rattle.sdv_card.specs.declared.command.Order.TheVariants.{DeselectCards}
 use Rattle.sdv_card.specs.declared.command.Row.{Row}
-use Rattle.sdv_card.specs.declared.command.Row.TheVariants.{Cmd55}
+use Rattle.sdv_card.specs.declared.command.Row.TheVariants.{Cmd13, Cmd55}
 use Rattle.sdv_card.specs.declared.command.Response.{Response}
 use Rattle.sdv_card.specs.declared.command.Response.TheVariants.{Absent, NotAddressed, CardStatus, NewAddress, Contents, Conditions}
 use Rattle.sdv_card.specs.declared.command.TakenAs.{TakenAs}
@@ -78,8 +78,10 @@ taken k row heard t =
     (states_after k row t.block_unit t.state) (app_after row) (length_after row t.block_unit t.length_512)
     (matched_after row heard t.matched) (preset_after k row t.preset)
 
--- STAYED: a settled t that lost its application flag, with each match of a list
+-- STAYED: a settled t that lost its application flag, with each match of a list. CMD13 leaves a card that stayed as it
+-- may leave one that took it, so none are listed there.
 abbrev pub stayed : Kind → Row → List Bool → Fields → List Fields
+stayed k Cmd13 matches t = []
 stayed k row matches t = with_erases (record t { app = false }) (erase_stayed row t.erase) matches
     (preset_kept k t.preset)
 

@@ -12,7 +12,7 @@ use crate::fields::Fields;
 use crate::state::State;
 use arrayvec::ArrayVec;
 
-/// Room for all that may follow an event: at most 16 branches of each of two settled cards.
+/// Room for all that may follow an event: the branches of both settled cards.
 pub type Branches = ArrayVec<Branch, 32>;
 
 /// Adds the same branch for each of the fields.

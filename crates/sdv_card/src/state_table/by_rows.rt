@@ -8,6 +8,7 @@ ghost use Rattle.sdv_card.specs.declared.event.Seen.TheVariants.{TimeOut};
 ghost use Rattle.sdv_card.specs.Lists.{May, AreDistinct};
 ghost use Rattle.sdv_card.specs.Takes.{taken_as_of};
 ghost use Rattle.sdv_card.specs.Responses.{response_of};
+ghost use Rattle.sdv_card.specs.Room.{row_room, way_room};
 ghost use Rattle.sdv_card.specs.LegalShapes.{settled_legal, order_legal, event_legal, legal_code};
 ghost use Rattle.sdv_card.specs.Outcomes.{with_seen, lost, row_branches, settled_branches, order_branches, event_branches, outcomes_code};
 
@@ -122,6 +123,7 @@ fn ask_branches<T: Rows>(all: &mut Branches, ask: &Ask, fields: &Fields)
     }
 }
 
+#[tactic(auto, using(crate::proofs::RoomLaws::way_fits))]
 fn order_branches<T: Rows>(all: &mut Branches, order: Order, fields: &Fields)
     requires { array_vec_len all.old ≤ 0 }
     ensures items { all.new.items ≡ all.old.items ++ order_branches T.kind order fields.now }
@@ -134,10 +136,11 @@ fn order_branches<T: Rows>(all: &mut Branches, order: Order, fields: &Fields)
 }
 
 fn settled_branches<T: Rows>(all: &mut Branches, order: Order, t: &Fields)
-    requires { array_vec_len all.old ≤ 16 }
+    requires { array_vec_len all.old + way_room (taken_as_of order t.now.app t.now.matched) t.now.state ≤ 32 }
     ensures items { all.new.items ≡ all.old.items ++ settled_branches T.kind order t.now
         (taken_as_of order t.now.app t.now.matched) }
-    ensures few { array_vec_len all.new ≤ array_vec_len all.old + 16 }
+    ensures few { array_vec_len all.new
+        ≤ array_vec_len all.old + way_room (taken_as_of order t.now.app t.now.matched) t.now.state }
 {
     match taken_as(order, t.app, t.matched) {
         TakenAs::Forbidden => {}
@@ -147,9 +150,9 @@ fn settled_branches<T: Rows>(all: &mut Branches, order: Order, t: &Fields)
 }
 
 fn row_branches<T: Rows>(all: &mut Branches, order: Order, row: Row, t: &Fields)
-    requires { array_vec_len all.old ≤ 16 }
+    requires { array_vec_len all.old + row_room row t.now.state ≤ 32 }
     ensures items { all.new.items ≡ all.old.items ++ row_branches T.kind order row (response_of row) t.now }
-    ensures few { array_vec_len all.new ≤ array_vec_len all.old + 16 }
+    ensures few { array_vec_len all.new ≤ array_vec_len all.old + row_room row t.now.state }
 {
     let took = taken::<T>(row, true, t);
     match response(row) {
@@ -182,7 +185,7 @@ fn row_branches<T: Rows>(all: &mut Branches, order: Order, row: Row, t: &Fields)
 
 /// Adds what may follow a row whose command or response was lost: the card is as it was, took the row or stayed.
 fn add_lost<T: Rows>(all: &mut Branches, row: Row, t: &Fields)
-    requires { array_vec_len all.old ≤ 16 }
+    requires { array_vec_len all.old + row_room row t.now.state ≤ 32 }
     ensures items { all.new.items ≡ all.old.items ++ with_seen TimeOut (lost T.kind (response_of row) row t.now) }
     ensures few { array_vec_len all.new ≤ array_vec_len all.old + 7 }
 {

@@ -156,18 +156,21 @@ fn with_matches(all: &mut ArrayVec<Fields, 8>, card: Fields, matches: &[bool], p
 }
 
 /// A settled card that did not take a row, with each match: it lost its application flag, and perhaps its erase stage
-/// or its preset count.
+/// or its preset count. At CMD13 it is as one that took it may be, and is not listed.
 pub fn stayed<T: Rows>(row: Row, matches: &[bool], t: &Fields) -> ArrayVec<Fields, 8>
     requires { length matches.now ≤ 2 }
     ensures items { result.items ≡ stayed T.kind row matches.now t.now }
     ensures few { array_vec_len result ≤ 4 * length matches.now }
 {
+    let mut all = ArrayVec::new();
+    if let Row::Cmd13 = row {
+        return all;
+    }
     let u = Fields { app: false, ..*t };
     let kept = T::preset_kept(t.preset);
-    let mut all = ArrayVec::new();
     with_matches(&mut all, u, matches, kept.as_slice());
     match row {
-        Row::Cmd13 | Row::Acmd13 => {}
+        Row::Acmd13 => {}
         _ => {
             let ended = Fields {
                 erase: EraseStage::Outside,
