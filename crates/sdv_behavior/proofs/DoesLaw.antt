@@ -114,7 +114,7 @@ op_cond_state Emmc ready state m = absurd m.one
 left_after : (row : Row) (t u : Card) → LeavesBlocks (is_erase row) (accessed_capacity t) (accessed_blocks t t.contents) (accessed_blocks t u.contents) →
     ContentsAfter row t u
 left_after Cmd38 t u l = record { blocks = l }
-left_after row t u l = l
+left_after row t u l = ap (λ (v : List Block). record { user = v }) l
 
 register_reply : (bytes : List ℕ) → IsRegister 15 bytes → IsReply (R2 bytes)
 register_reply bytes r = (r.size, recursion_from_All _ bytes r.bytes_fit)

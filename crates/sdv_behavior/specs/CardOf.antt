@@ -30,7 +30,7 @@ card_with d s announced contents = record {
   next_block = s.next_block;
   announced = announced;
   unshown_error = false;
-  contents = contents;
+  contents = record { user = contents };
 }
 
 abbrev pub card_of : CardDesc → CardState → List Block → Card

@@ -9,7 +9,7 @@ use Rattle.sdv_facts.specs.Beside.{StepsOf, IsGood}
 use Rattle.sdv_block.specs.declared.request.Request.{Request}
 use Rattle.sdv_block.specs.BringUpStatements.{batch_names, batch_body}
 use Rattle.sdv_block.specs.Disk.{Disk, after_batch, HasRead, greatest_end}
-use Rattle.sdv_block.specs.Served.{blocks_read, IsEarly, disk_of, EndsAs, ServedBatch}
+use Rattle.sdv_block.specs.Served.{blocks_read, IsEarly, disk_blocks, disk_of, EndsAs, ServedBatch}
 use Rattle.sdv_block.proofs.DiskLaws.{grows, same_outside}
 use Rattle.sdv_block.proofs.Parts.{allowed_steps}
 use Rattle.sdv_block.proofs.Serving.{not_early}
@@ -41,12 +41,12 @@ undone rs e es c last f read left =
 of_outcome : (rs : List Request) (e : Ending) (es : List Pair) (c last : Card) → Outcome (greatest_end rs) rs e es c last → ServedBatch rs e es c last
 of_outcome rs e es c last (inl q) = record {
   ends = undone rs e es c last (not_early e q.early) q.read;
-  outside = same_outside rs c.contents last.contents q.contents;
+  outside = same_outside rs (disk_blocks c) (disk_blocks last) q.contents;
   beyond = λ is. absurd (not_beyond e q.early is);
 }
 of_outcome rs e es c last (inr (inl r)) = record {
   ends = undone rs e es c last (λ is. done_not_beyond e is r.is) r.read;
-  outside = same_outside rs c.contents last.contents r.contents;
+  outside = same_outside rs (disk_blocks c) (disk_blocks last) r.contents;
   beyond = λ is. r.small;
 }
 of_outcome rs e es c last (inr (inr s)) = record {

@@ -32,7 +32,7 @@ use Rattle.sdv_facts.specs.Beside.{IsAllowed}
 use Rattle.sdv_facts.specs.Keeps.{IsHonest}
 use Rattle.sdv_block.specs.RequestStatements.{fails}
 use Rattle.sdv_block.specs.BringUpStatements.{plain, cap_from, ext_csd_statement, capacity_statement, capacity_test}
-use Rattle.sdv_block.specs.Served.{AllowedSteps, blocks_read}
+use Rattle.sdv_block.specs.Served.{AllowedSteps, blocks_read, disk_blocks}
 use Rattle.sdv_block.proofs.Knowing.{Knowing, profile_kept, known_after}
 use Rattle.sdv_block.proofs.Parts.{Halts, halts, halts_in_fault, either, command_at, Acted, made, Sent, send_part, after_phase, phase_part, Past}
 use Rattle.sdv_block.proofs.Quiet.{HaltedQuiet, halted_later, halted_here, moved_contents, read_none, gave_none}
@@ -78,10 +78,10 @@ ext_csd_value c h n honest told e = go h.ext_csd refl e
 
 pub record Counted (c : Card) (front : List Pair) (u : Card) (h' : Host) : Type 0 where
   pub same : SameCard c u
-  pub contents : c.contents ≡ u.contents
+  pub contents : disk_blocks c ≡ disk_blocks u
   pub read : blocks_read front ≡ []
   pub gave : given front ≡ []
-  pub blocks : AreBlocks u.capacity u.contents
+  pub blocks : AreBlocks u.capacity (disk_blocks u)
   pub cap : number h' 0 ≡ u.capacity
 
 abbrev pub CountOutcome : Ending → Rest → List Pair → (c last : Card) → Type 0

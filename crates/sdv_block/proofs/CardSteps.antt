@@ -1,5 +1,5 @@
 -- What the steps of a card say that reads and writes make.
-use Rattle.std.proofs.Common.{◌≡◌, ℕ, zero, suc, ◌/◌, inl, inr, refl, sym, ap, ◌∙◌, subst, Bool, true, false, not, List, Some, None, ◌==◌, eqb-true, eq-eqb}
+use Rattle.std.proofs.Common.{◌≡◌, ℕ, zero, suc, ◌/◌, inl, inr, refl, sym, ap, ◌∙◌, subst, Bool, true, false, not, Some, None, ◌==◌, eqb-true, eq-eqb}
 use Rattle.std.specs.Prelude.{IsTrue, bit_and, ◌&&◌}
 use Rattle.std.proofs.lemmas.Nat.{and_assoc}
 use Rattle.std.specs.Int.Bits.{and_zero_l}
@@ -20,7 +20,7 @@ use Rattle.sdv_card.specs.declared.command.TakenAs.{TakenAs}
 use Rattle.sdv_card.specs.declared.command.TakenAs.TheVariants.{By}
 use Rattle.sdv_card.specs.declared.guard.Guard.TheVariants.{Clean, State as InState}
 use Rattle.sdv_card.specs.Agrees.{TakenOrStayed}
-use Rattle.sdv_card.specs.Card.{Card, Block}
+use Rattle.sdv_card.specs.Card.{Card, Partitions}
 use Rattle.sdv_card.specs.CommandTable.{is_counted, order_if, order_of, order_expect}
 use Rattle.sdv_card.specs.ScriptEvent.{SendCommand, Answered}
 use Rattle.sdv_card.specs.declared.event.Aim.TheVariants.{Plain}
@@ -40,12 +40,17 @@ use Rattle.sdv_card.proofs.OrdersOfAsks.{of_ask}
 use Rattle.sdv_card.proofs.RowsOfOrders.{order_index, says}
 use Rattle.sdv_script.specs.Rules.{ask_with}
 use Rattle.sdv_block.specs.RequestStatements.{read_ask, write_ask, stop_ask, status_ask}
+use Rattle.sdv_block.specs.Served.{disk_blocks}
 
 -- ITS OWN STEP changes neither the blocks nor an error that is still to be shown
 
-pub settled_contents : (c t : Card) → Settled c t → c.contents ≡ t.contents
-settled_contents c t (inl e) = ap (λ (v : Card). v.contents) e
-settled_contents c t (inr x) = ap (λ (v : Card). v.contents) x.2
+-- the same contents are the same disk
+same_contents : (t u : Card) → t.contents ≡ u.contents → disk_blocks t ≡ disk_blocks u
+same_contents t u e = ap (λ (v : Partitions). v.user) e
+
+pub settled_contents : (c t : Card) → Settled c t → disk_blocks c ≡ disk_blocks t
+settled_contents c t (inl e) = ap (λ (v : Card). disk_blocks v) e
+settled_contents c t (inr x) = ap (λ (v : Card). disk_blocks v) x.2
 
 pub settled_error : (c t : Card) → Settled c t → c.unshown_error ≡ t.unshown_error
 settled_error c t (inl e) = ap (λ (v : Card). v.unshown_error) e
@@ -112,7 +117,7 @@ surely_taken row argument t u doubt (inr m) e = absurd (let f : true ≡ false =
 -- a transfer of so many blocks began at the block that the argument names
 pub record Begun (count argument : ℕ) (c u : Card) : Type 0 where
   pub same : SameCard c u
-  pub contents : c.contents ≡ u.contents
+  pub contents : disk_blocks c ≡ disk_blocks u
   pub block : block_of u.block_unit argument ≡ u.next_block
   pub count_is : count ≡ u.announced
 
@@ -145,7 +150,7 @@ takes_multiple_write k n argument answer false matched t u legal a clean = clean
 
 module _ (k : Kind) (ask : Ask) (order : Order) (row : Row) (count argument : ℕ) (c u : Card) (answer : Answer) (clean : answer_passes k Clean answer ≡ true)
     (ordered : (o : Order) → order_of c.kind ask ≡ Some o → o ≡ order) (takes : Takes k order row argument answer)
-    (begins : (t : Card) → Taken row true argument t u → Begins argument count u × (t.contents ≡ u.contents)) where
+    (begins : (t : Card) → Taken row true argument t u → Begins argument count u × (disk_blocks t ≡ disk_blocks u)) where
   begun_by : SendLegal ask argument c → Sends ask argument c answer u → Begun count argument c u
   begun_by legal s =
       let t : Card = s.exchange.settled_card in
@@ -165,28 +170,28 @@ multiple_read_begun : (k : Kind) (n argument : ℕ) (c u : Card) (answer : Answe
     SendLegal (ask_with 18 Plain 0 n) argument c → Sends (ask_with 18 Plain 0 n) argument c answer u → Begun n argument c u
 multiple_read_begun k n argument c u answer clean legal s =
     begun_by k (ask_with 18 Plain 0 n) (ReadMultipleBlock n) (Cmd18 n) n argument c u answer clean (multiple_read c.kind n)
-    (takes_multiple_read k n argument answer) (λ t m. (m.blocks, m.contents)) legal s
+    (takes_multiple_read k n argument answer) (λ t m. (m.blocks, same_contents t u m.contents)) legal s
 
 pub read_begun : (k : Kind) (count argument : ℕ) (c u : Card) (answer : Answer) → answer_passes k Clean answer ≡ true →
     SendLegal (read_ask count) argument c → Sends (read_ask count) argument c answer u → Begun count argument c u
 read_begun k zero argument c u answer clean legal s = multiple_read_begun k zero argument c u answer clean legal s
 read_begun k (suc zero) argument c u answer clean legal s =
     begun_by k (read_ask 1) ReadSingleBlock Cmd17 1 argument c u answer clean (single_read c.kind) (takes_single_read k argument answer)
-    (λ t m. (m.blocks, m.contents)) legal s
+    (λ t m. (m.blocks, same_contents t u m.contents)) legal s
 read_begun k (suc (suc n)) argument c u answer clean legal s = multiple_read_begun k (suc (suc n)) argument c u answer clean legal s
 
 multiple_write_begun : (k : Kind) (n argument : ℕ) (c u : Card) (answer : Answer) → answer_passes k Clean answer ≡ true →
     SendLegal (ask_with 25 Plain 0 n) argument c → Sends (ask_with 25 Plain 0 n) argument c answer u → Begun n argument c u
 multiple_write_begun k n argument c u answer clean legal s =
     begun_by k (ask_with 25 Plain 0 n) (WriteMultipleBlock n) (Cmd25 n) n argument c u answer clean (multiple_write c.kind n)
-    (takes_multiple_write k n argument answer) (λ t m. (m.blocks, m.contents)) legal s
+    (takes_multiple_write k n argument answer) (λ t m. (m.blocks, same_contents t u m.contents)) legal s
 
 pub write_begun : (k : Kind) (count argument : ℕ) (c u : Card) (answer : Answer) → answer_passes k Clean answer ≡ true →
     SendLegal (write_ask count) argument c → Sends (write_ask count) argument c answer u → Begun count argument c u
 write_begun k zero argument c u answer clean legal s = multiple_write_begun k zero argument c u answer clean legal s
 write_begun k (suc zero) argument c u answer clean legal s =
     begun_by k (write_ask 1) WriteBlock Cmd24 1 argument c u answer clean (single_write c.kind) (takes_single_write k argument answer)
-    (λ t m. (m.blocks, m.contents)) legal s
+    (λ t m. (m.blocks, same_contents t u m.contents)) legal s
 write_begun k (suc (suc n)) argument c u answer clean legal s = multiple_write_begun k (suc (suc n)) argument c u answer clean legal s
 
 -- no command of a request is an erase
@@ -290,16 +295,17 @@ expects_38 SendRelativeAddress i e = cc
 expects_38 SendIfCond i e = cc
 expects_38 order i e = cc
 
-row_keeps : (row : Row) (t u : Card) → (row ≡ Cmd38 → ⊥) → ContentsAfter row t u → t.contents ≡ u.contents
+row_keeps : (row : Row) (t u : Card) → (row ≡ Cmd38 → ⊥) → ContentsAfter row t u → disk_blocks t ≡ disk_blocks u
 row_keeps Cmd38 t u other e = absurd (other refl)
-row_keeps row t u other e = e
+row_keeps row t u other e = same_contents t u e
 
-became_keeps : (way : TakenAs) (argument : ℕ) (t u : Card) → (way ≡ By Cmd38 → ⊥) → Became way argument t u → t.contents ≡ u.contents
-became_keeps way argument t u other (inl e) = ap (λ (v : Card). v.contents) e
+became_keeps : (way : TakenAs) (argument : ℕ) (t u : Card) → (way ≡ By Cmd38 → ⊥) → Became way argument t u → disk_blocks t ≡ disk_blocks u
+became_keeps way argument t u other (inl e) = ap (λ (v : Card). disk_blocks v) e
 became_keeps way argument t u other (inr (inl m)) = row_keeps m.row t u (λ e. other (m.by ∙ ap By e)) m.taken.contents
-became_keeps way argument t u other (inr (inr m)) = m.stayed.contents
+became_keeps way argument t u other (inr (inr m)) = same_contents t u m.stayed.contents
 
-pub send_keeps : (ask : Ask) (argument : ℕ) (c u : Card) (answer : Answer) → (ask.index ≡ 38 → ⊥) → Sends ask argument c answer u → c.contents ≡ u.contents
+pub send_keeps : (ask : Ask) (argument : ℕ) (c u : Card) (answer : Answer) → (ask.index ≡ 38 → ⊥) → Sends ask argument c answer u →
+    disk_blocks c ≡ disk_blocks u
 send_keeps ask argument c u answer other s =
     let t : Card = s.exchange.settled_card in
     let way : TakenAs = card_takes t s.order argument in

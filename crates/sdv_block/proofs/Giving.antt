@@ -17,7 +17,7 @@ use Rattle.sdv_facts.specs.Beside.{IsAllowed}
 use Rattle.sdv_card.proofs.Same.{steps_keep_same}
 use Rattle.sdv_block.specs.RequestStatements.{fails}
 use Rattle.sdv_block.specs.Disk.{with_blocks}
-use Rattle.sdv_block.specs.Served.{AllowedSteps, IsEarly, blocks_read}
+use Rattle.sdv_block.specs.Served.{AllowedSteps, IsEarly, blocks_read, disk_blocks}
 use Rattle.sdv_block.proofs.Parts.{Halts, halts_in_fault, Acted, after_phase, phase_part, Past}
 use Rattle.sdv_block.proofs.Quiet.{HaltedQuiet, halted_here, at_rest}
 
@@ -45,16 +45,16 @@ pub record Gave (block count : ℕ) (c : Card) (h : Host) (front : List Pair) (u
   pub size : length new ≡ count
   pub gave : given front ≡ new
   pub read : blocks_read front ≡ []
-  pub outside : SameBut block count c.contents u.contents
-  pub blocks : AreBlocks c.capacity u.contents
+  pub outside : SameBut block count (disk_blocks c) (disk_blocks u)
+  pub blocks : AreBlocks c.capacity (disk_blocks u)
   -- it stored the blocks, or an error is still to be shown
-  pub stored : (take count (drop block u.contents) ≡ new) ⊎ (true ≡ u.unshown_error)
+  pub stored : (take count (drop block (disk_blocks u)) ≡ new) ⊎ (true ≡ u.unshown_error)
   pub host : h' ≡ h
 
 -- it halted, read nothing, and changed no other block
 pub record HaltedWriting (block count : ℕ) (e : Ending) (es : List Pair) (c last : Card) : Type 0 where
   pub early : IsEarly e
-  pub outside : SameBut block count c.contents last.contents
+  pub outside : SameBut block count (disk_blocks c) (disk_blocks last)
   pub read : blocks_read es ≡ []
 
 pub same_but : (block count : ℕ) (before after : List Block) → before ≡ after → SameBut block count before after
@@ -68,7 +68,7 @@ same_but_then block count before between after s e = subst (λ bs. SameBut block
 -- a halt that changed nothing is one
 pub halted_quietly : (block count : ℕ) (e : Ending) (es : List Pair) (c last : Card) → HaltedQuiet e es c last → HaltedWriting block count e es c last
 halted_quietly block count e es c last q =
-    record { early = q.early; outside = same_but block count c.contents last.contents q.contents; read = q.read }
+    record { early = q.early; outside = same_but block count (disk_blocks c) (disk_blocks last) q.contents; read = q.read }
 
 addressed_blocks : (block count announced next : ℕ) (before after : List Block) → count ≡ announced → block ≡ next → take next before ≡ take next after →
     drop (next + announced) before ≡ drop (next + announced) after → SameBut block count before after
@@ -87,12 +87,12 @@ module _ (k : Kind) (e : Ending) (block count : ℕ) (fell broke : Rest) (h : Ho
   after_give = after_phase k e nothing (fails (codes "write")) fell broke
 
   stored_or_not : (u : Card) (blocks : List Block) → Stored c blocks u ⊎ (true ≡ u.unshown_error)
-      → (take count (drop block u.contents) ≡ blocks) ⊎ (true ≡ u.unshown_error)
-  stored_or_not u blocks (inl s) = inl (stored_blocks block count c.announced c.next_block u.contents blocks announced next s.stored)
+      → (take count (drop block (disk_blocks u)) ≡ blocks) ⊎ (true ≡ u.unshown_error)
+  stored_or_not u blocks (inl s) = inl (stored_blocks block count c.announced c.next_block (disk_blocks u) blocks announced next s.stored)
   stored_or_not u blocks (inr d) = inr d
 
-  outside_of : (u : Card) → OnlyAddressed c u → SameBut block count c.contents u.contents
-  outside_of u o = addressed_blocks block count c.announced c.next_block c.contents u.contents announced next o.below o.above
+  outside_of : (u : Card) → OnlyAddressed c u → SameBut block count (disk_blocks c) (disk_blocks u)
+  outside_of u o = addressed_blocks block count c.announced c.next_block (disk_blocks c) (disk_blocks u) announced next o.below o.above
 
   give_by : (blocks : List Block) → length blocks ≡ c.announced → (returned : Return) (rest : List Pair) (u : Card) →
       es ≡ (GiveBlocks blocks, returned) ∷ rest →
@@ -121,8 +121,8 @@ module _ (k : Kind) (e : Ending) (block count : ℕ) (fell broke : Rest) (h : Ho
       let halt = halts_in_fault e (codes "write") rest refl on in
       inl (record {
         early = halt.early;
-        outside = same_but_then block count c.contents u.contents last.contents (outside_of u step.others)
-            (ap (λ (x : Card). x.contents) (at_rest e rest u last halt steps));
+        outside = same_but_then block count (disk_blocks c) (disk_blocks u) (disk_blocks last) (outside_of u step.others)
+            (ap (λ (x : Card). disk_blocks x) (at_rest e rest u last halt steps));
         read = ap blocks_read (same ∙ ap (λ (r : List Pair). (GiveBlocks blocks, BlocksOut Cut) ∷ r) halt.none);
       })
   give_by blocks size returned rest u same step on steps = absurd step

@@ -7,7 +7,7 @@ use Rattle.sdv_card.specs.Phases.{Moved}
 use Rattle.sdv_card.specs.Taken.{SameCard}
 use Rattle.sdv_graph.specs.Walk.{Pair, Ending, given, given_by}
 use Rattle.sdv_card.proofs.Same.{same_itself, same_both}
-use Rattle.sdv_block.specs.Served.{AllowedSteps, IsEarly, blocks_in, blocks_read}
+use Rattle.sdv_block.specs.Served.{AllowedSteps, IsEarly, blocks_in, blocks_read, disk_blocks}
 use Rattle.sdv_block.proofs.Parts.{Halts}
 
 -- the events of two parts
@@ -31,14 +31,14 @@ pub gave_none : (f g : List Pair) → given f ≡ [] → given g ≡ [] → give
 gave_none f g p q = none_after (given (f ++ g)) (given f) (given g) (given-append f g) p q
 
 -- a phase that moves no block into the card leaves its blocks
-pub moved_contents : (end : DataEnd) (u v : Card) → Moved end u v → u.contents ≡ v.contents
-moved_contents end u v m = ap (λ (x : Card). x.contents) m.card
+pub moved_contents : (end : DataEnd) (u v : Card) → Moved end u v → disk_blocks u ≡ disk_blocks v
+moved_contents end u v m = ap (λ (x : Card). disk_blocks x) m.card
 
 -- PARTS
 
 pub record Quiet (c : Card) (h : Host) (front : List Pair) (u : Card) (h' : Host) : Type 0 where
   pub same : SameCard c u
-  pub contents : c.contents ≡ u.contents
+  pub contents : disk_blocks c ≡ disk_blocks u
   pub read : blocks_read front ≡ []
   pub gave : given front ≡ []
   pub flags : h'.flags ≡ h.flags
@@ -55,13 +55,13 @@ quiet_both c u v h i j f g a b = record {
   flags = b.flags ∙ a.flags;
 }
 
-pub same_blocks : (c u : Card) → AreBlocks c.capacity c.contents → SameCard c u → c.contents ≡ u.contents → AreBlocks u.capacity u.contents
-same_blocks c u b same contents = subst (λ n. AreBlocks n u.contents) same.capacity (subst (λ bs. AreBlocks c.capacity bs) contents b)
+pub same_blocks : (c u : Card) → AreBlocks c.capacity (disk_blocks c) → SameCard c u → disk_blocks c ≡ disk_blocks u → AreBlocks u.capacity (disk_blocks u)
+same_blocks c u b same contents = subst (λ n. AreBlocks n (disk_blocks u)) same.capacity (subst (λ bs. AreBlocks c.capacity bs) contents b)
 
 -- it halted, read and gave nothing, and changed no block
 pub record HaltedQuiet (e : Ending) (es : List Pair) (c last : Card) : Type 0 where
   pub early : IsEarly e
-  pub contents : c.contents ≡ last.contents
+  pub contents : disk_blocks c ≡ disk_blocks last
   pub read : blocks_read es ≡ []
   pub gave : given es ≡ []
 
@@ -81,7 +81,7 @@ at_rest e rest u last halt steps = subst (λ es. AllowedSteps u es last) halt.no
 pub halted_here : (e : Ending) (es : List Pair) (c last : Card) → Halts e es → AllowedSteps c es last → HaltedQuiet e es c last
 halted_here e es c last halt steps = record {
   early = halt.early;
-  contents = ap (λ (x : Card). x.contents) (at_rest e es c last halt steps);
+  contents = ap (λ (x : Card). disk_blocks x) (at_rest e es c last halt steps);
   read = ap blocks_read halt.none;
   gave = ap given halt.none;
 }

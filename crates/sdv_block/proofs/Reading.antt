@@ -15,7 +15,7 @@ use Rattle.sdv_graph.specs.Walk.{Pair, Ending, Rest, exactly, walk_statements, g
 use Rattle.sdv_card.proofs.Members.{and_left}
 use Rattle.sdv_card.proofs.Same.{same_both, steps_keep_same}
 use Rattle.sdv_block.specs.RequestStatements.{read_command, fails, stop_reading, read_statements}
-use Rattle.sdv_block.specs.Served.{AllowedSteps, IsEarly, blocks_read}
+use Rattle.sdv_block.specs.Served.{AllowedSteps, IsEarly, blocks_read, disk_blocks}
 use Rattle.sdv_block.proofs.Addresses.{position_is, named, named_within}
 use Rattle.sdv_block.proofs.Asking.{Asked, asked_part}
 use Rattle.sdv_block.proofs.CardSteps.{Begun, read_begun, read_keeps, read_within}
@@ -26,16 +26,16 @@ use Rattle.sdv_block.proofs.Stopping.{QuietOutcome, stop_reading_part}
 -- it read the blocks, and changed nothing
 pub record ReadBlocks (block count : ℕ) (c : Card) (front : List Pair) (u : Card) (h : Host) : Type 0 where
   pub same : SameCard c u
-  pub contents : c.contents ≡ u.contents
-  pub read : blocks_read front ≡ take count (drop block c.contents)
+  pub contents : disk_blocks c ≡ disk_blocks u
+  pub read : blocks_read front ≡ take count (drop block (disk_blocks c))
   pub gave : given front ≡ []
   pub room : block + count ≤ c.capacity
 
 -- it halted after it had read the blocks
 pub record HaltedRead (block count : ℕ) (e : Ending) (es : List Pair) (c last : Card) : Type 0 where
   pub early : IsEarly e
-  pub contents : c.contents ≡ last.contents
-  pub read : blocks_read es ≡ take count (drop block c.contents)
+  pub contents : disk_blocks c ≡ disk_blocks last
+  pub read : blocks_read es ≡ take count (drop block (disk_blocks c))
   pub gave : given es ≡ []
   pub room : block + count ≤ c.capacity
 
@@ -57,8 +57,8 @@ read_before f g blocks p q =
 
 pub record Received (block count : ℕ) (u : Card) (front : List Pair) (v : Card) (h : Host) : Type 0 where
   pub same : SameCard u v
-  pub contents : u.contents ≡ v.contents
-  pub read : blocks_read front ≡ take count (drop block u.contents)
+  pub contents : disk_blocks u ≡ disk_blocks v
+  pub read : blocks_read front ≡ take count (drop block (disk_blocks u))
   pub gave : given front ≡ []
 
 module _ (k : Kind) (e : Ending) (block count : ℕ) (fell broke : Rest) (h : Host) (es : List Pair) (u last : Card) (announced : count ≡ u.announced)
@@ -78,7 +78,7 @@ module _ (k : Kind) (e : Ending) (block count : ℕ) (fell broke : Rest) (h : Ho
     did = record {
       same = steps_keep_same u.kind (ReceiveBlocks n) u (BlocksIn Ok blocks) v refl step;
       contents = moved_contents Ok u v step.moved;
-      read = append-nil blocks ∙ phase_blocks u.announced u.next_block blocks u.contents count block announced next step.truth;
+      read = append-nil blocks ∙ phase_blocks u.announced u.next_block blocks (disk_blocks u) count block announced next step.truth;
       gave = refl;
     };
     on = on;
@@ -89,7 +89,7 @@ module _ (k : Kind) (e : Ending) (block count : ℕ) (fell broke : Rest) (h : Ho
       let whole : es ≡ (ReceiveBlocks n, BlocksIn Cut blocks) ∷ [] = same ∙ ap (λ (r : List Pair). (ReceiveBlocks n, BlocksIn Cut blocks) ∷ r) halt.none in
       inl (record {
         early = halt.early;
-        contents = moved_contents Cut u v step.moved ∙ ap (λ (x : Card). x.contents) (at_rest e rest v last halt steps);
+        contents = moved_contents Cut u v step.moved ∙ ap (λ (x : Card). disk_blocks x) (at_rest e rest v last halt steps);
         read = ap blocks_read whole;
         gave = ap given whole;
       })
@@ -128,14 +128,14 @@ module _ (k : Kind) (e : Ending) (block count : ℕ) (rest : Statements) (fell b
   of_stopped w (inl halt) = inr (inl (record {
     early = halt.early;
     contents = w.did.contents ∙ halt.contents;
-    read = ap blocks_read w.split ∙ read_before w.front w.rest (take count (drop block c.contents)) w.did.read halt.read;
+    read = ap blocks_read w.split ∙ read_before w.front w.rest (take count (drop block (disk_blocks c))) w.did.read halt.read;
     gave = ap given w.split ∙ gave_none w.front w.rest w.did.gave halt.gave;
     room = w.did.room;
   }))
   of_stopped w (inr r) = inr (inr (past_both stopping on es last w r (record {
     same = same_both c w.card r.card w.did.same r.did.same;
     contents = w.did.contents ∙ r.did.contents;
-    read = read_before w.front r.front (take count (drop block c.contents)) w.did.read r.did.read;
+    read = read_before w.front r.front (take count (drop block (disk_blocks c))) w.did.read r.did.read;
     gave = gave_none w.front r.front w.did.gave r.did.gave;
     room = w.did.room;
   })))
@@ -148,7 +148,7 @@ module _ (k : Kind) (e : Ending) (block count : ℕ) (rest : Statements) (fell b
       let both = past_both receiving stopping es last w r (record {
         same = same_both c w.card r.card w.did.quiet.same r.did.same;
         contents = w.did.quiet.contents ∙ r.did.contents;
-        read = read_alone w.front r.front (take count (drop block c.contents)) w.did.quiet.read
+        read = read_alone w.front r.front (take count (drop block (disk_blocks c))) w.did.quiet.read
             (r.did.read ∙ ap (λ (bs : List Block). take count (drop block bs)) (sym w.did.quiet.contents));
         gave = gave_none w.front r.front w.did.quiet.gave r.did.gave;
         room = room;

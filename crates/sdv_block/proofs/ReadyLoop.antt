@@ -31,7 +31,7 @@ use Rattle.sdv_graph.specs.Walk.{Pair, Ending, Open, Failed, Rest, Stops, Either
 use Rattle.sdv_facts.specs.Keeps.{IsHonest}
 use Rattle.sdv_block.specs.RequestStatements.{fails}
 use Rattle.sdv_block.specs.BringUpStatements.{plain, ocr_ways, ocr_statement, app_statement, op_cond_statement}
-use Rattle.sdv_block.specs.Served.{AllowedSteps, blocks_read}
+use Rattle.sdv_block.specs.Served.{AllowedSteps, blocks_read, disk_blocks}
 use Rattle.sdv_block.proofs.Knowing.{Knowing, known_after}
 use Rattle.sdv_block.proofs.Parts.{Halts, halts, halts_in_fault, either, command_at, argument_at, Sent, send_part, Past}
 use Rattle.sdv_block.proofs.Quiet.{HaltedQuiet, halted_later, halted_here, read_none, gave_none}
@@ -100,7 +100,7 @@ op_cond_unit argument c u answer kind s ready =
 
 pub record FoundUnit (k : Kind) (c : Card) (h : Host) (front : List Pair) (u : Card) (h' : Host) : Type 0 where
   pub same : SameCard c u
-  pub contents : c.contents ≡ u.contents
+  pub contents : disk_blocks c ≡ disk_blocks u
   pub read : blocks_read front ≡ []
   pub gave : given front ≡ []
   pub honest : IsHonest k u h'

@@ -11,7 +11,7 @@ use Rattle.sdv_block.specs.declared.request.Request.{Request}
 use Rattle.sdv_block.specs.declared.request.Request.TheVariants.{Read, Write}
 use Rattle.sdv_block.specs.RequestStatements.{batch_statements}
 use Rattle.sdv_block.specs.Disk.{Disk, with_blocks, can_serve, after_request, after_batch, AllServed, HasRead, SameOutside, writes}
-use Rattle.sdv_block.specs.Served.{AllowedSteps, blocks_read, IsEarly, disk_of, EndsAs, Served}
+use Rattle.sdv_block.specs.Served.{AllowedSteps, blocks_read, IsEarly, disk_blocks, disk_of, EndsAs, Served}
 use Rattle.sdv_block.proofs.DiskLaws.{same_at, same_outside, outside_both, grows, first_served, same_disk}
 use Rattle.sdv_block.proofs.Giving.{HaltedWriting}
 use Rattle.sdv_block.proofs.Reading.{ReadBlocks, HaltedRead, read_part}
@@ -32,7 +32,7 @@ read_nothing : (output read : List Block) → read ≡ [] → output ≡ output 
 read_nothing output read e = rw e (sym (append-nil output))
 
 pub halted_early : (rs : List Request) (e : Ending) (es : List Pair) (c last : Card) → IsEarly e → blocks_read es ≡ [] →
-    SameOutside rs c.contents last.contents → Served rs e es c last
+    SameOutside rs (disk_blocks c) (disk_blocks last) → Served rs e es c last
 halted_early rs e es c last early read outside = record {
   ends = λ left output. ends_early e (disk_of last left (output ++ blocks_read es)) (after_batch rs (disk_of c (given es ++ left) output)) early
       (subst (λ o. HasRead o (after_batch rs (disk_of c (given es ++ left) output))) (read_nothing output (blocks_read es) read)
@@ -47,11 +47,11 @@ halted_early rs e es c last early read outside = record {
 done_by : (e : Ending) (es : List Pair) (c last : Card) → es ≡ [] → e ≡ Finished → c ≡ last → Served [] e es c last
 done_by e es c last none is same = record {
   ends = λ left output. subst (λ e. EndsAs e (disk_of last left (output ++ blocks_read es)) (disk_of c (given es ++ left) output)) (sym is)
-      (same_disk c.contents last.contents (given es ++ left) left output (output ++ blocks_read es) (ap (λ (x : Card). x.contents) same)
+      (same_disk (disk_blocks c) (disk_blocks last) (given es ++ left) left output (output ++ blocks_read es) (ap (λ (x : Card). disk_blocks x) same)
       (ap (λ (es : List Pair). given es ++ left) none) (read_nothing output (blocks_read es) (ap blocks_read none)));
   over = inl is;
   all = λ is left output. tt;
-  outside = same_outside [] c.contents last.contents (ap (λ (x : Card). x.contents) same);
+  outside = same_outside [] (disk_blocks c) (disk_blocks last) (ap (λ (x : Card). disk_blocks x) same);
 }
 
 -- as many elements as the first list has
@@ -72,7 +72,7 @@ record Step (r : Request) (es front rest : List Pair) (c u : Card) : Type 0 wher
   can : (left output : List Block) → can_serve (disk_of c (given es ++ left) output) r ≡ true
   -- the blocks that it read
   now : (left output : List Block) → after_request r (disk_of c (given es ++ left) output) ≡ disk_of u (given rest ++ left) (output ++ blocks_read front)
-  outside : (block : ℕ) → writes r block ≡ false → slice_get u.contents block ≡ slice_get c.contents block
+  outside : (block : ℕ) → writes r block ≡ false → slice_get (disk_blocks u) block ≡ slice_get (disk_blocks c) block
 
 and_then : (r : Request) (rs : List Request) (e : Ending) (es front rest : List Pair) (c u last : Card) → Step r es front rest c u → Served rs e rest u last →
     Served (r ∷ rs) e es c last
@@ -89,37 +89,37 @@ and_then r rs e es front rest c u last step s = record {
       (subst (λ y. EndsAs e (disk_of last left ((output ++ blocks_read front) ++ blocks_read rest)) y) served (s.ends left (output ++ blocks_read front))));
   over = s.over;
   all = λ is left output. (step.can left output, subst (λ d. AllServed rs d) (sym (step.now left output)) (s.all is left (output ++ blocks_read front)));
-  outside = outside_both r rs c.contents u.contents last.contents step.outside s.outside;
+  outside = outside_both r rs (disk_blocks c) (disk_blocks u) (disk_blocks last) step.outside s.outside;
 }
 
 -- blocks that were read
-read_step : (block count : ℕ) (es front rest : List Pair) (c u : Card) (h : Host) → AreBlocks c.capacity c.contents → es ≡ front ++ rest →
+read_step : (block count : ℕ) (es front rest : List Pair) (c u : Card) (h : Host) → AreBlocks c.capacity (disk_blocks c) → es ≡ front ++ rest →
     ReadBlocks block count c front u h →
     Step (Read block count) es front rest c u
 read_step block count es front rest c u h blocks split did = record {
   split = split;
-  can = λ left output. le-leb (block + count) (length c.contents) (subst (λ n. block + count ≤ n) (sym blocks.size) did.room);
-  now = λ left output. same_disk c.contents u.contents (given es ++ left) (given rest ++ left) _ _ did.contents
+  can = λ left output. le-leb (block + count) (length (disk_blocks c)) (subst (λ n. block + count ≤ n) (sym blocks.size) did.room);
+  now = λ left output. same_disk (disk_blocks c) (disk_blocks u) (given es ++ left) (given rest ++ left) _ _ did.contents
       (ap (λ (bs : List Block). bs ++ left) (ap given split ∙ (given-append front rest ∙ ap (λ (bs : List Block). bs ++ given rest) did.gave)))
       (ap (λ (bs : List Block). output ++ bs) (sym did.read));
   outside = λ i other. ap (λ (bs : List Block). slice_get bs i) (sym did.contents);
 }
 
 -- blocks that were written
-write_step : (block count : ℕ) (es front rest : List Pair) (c u : Card) (h : Host) → AreBlocks c.capacity c.contents → es ≡ front ++ rest →
+write_step : (block count : ℕ) (es front rest : List Pair) (c u : Card) (h : Host) → AreBlocks c.capacity (disk_blocks c) → es ≡ front ++ rest →
     Wrote block count c front u h →
     Step (Write block count) es front rest c u
 write_step block count es front rest c u h blocks split did = record {
   split = split;
   can = λ left output.
-      both_true _ _ (le-leb (block + count) (length c.contents) (subst (λ n. block + count ≤ n) (sym blocks.size) did.room))
+      both_true _ _ (le-leb (block + count) (length (disk_blocks c)) (subst (λ n. block + count ≤ n) (sym blocks.size) did.room))
       (le-leb count (length (given es ++ left)) (enough left));
-  now = λ left output. same_disk (with_blocks block (take count (given es ++ left)) c.contents) u.contents (drop count (given es ++ left))
+  now = λ left output. same_disk (with_blocks block (take count (given es ++ left)) (disk_blocks c)) (disk_blocks u) (drop count (given es ++ left))
       (given rest ++ left) output
       (output ++ blocks_read front)
-      (ap (λ (bs : List Block). with_blocks block bs c.contents) (taken left) ∙ sym did.wrote.contents) (dropped left)
+      (ap (λ (bs : List Block). with_blocks block bs (disk_blocks c)) (taken left) ∙ sym did.wrote.contents) (dropped left)
       (read_nothing output (blocks_read front) did.wrote.read);
-  outside = λ i other. same_at block count i c.contents u.contents did.wrote.outside other;
+  outside = λ i other. same_at block count i (disk_blocks c) (disk_blocks u) did.wrote.outside other;
 }
   where
     new : List Block
@@ -142,28 +142,29 @@ write_step block count es front rest c u h blocks split did = record {
     dropped left = ap (λ (bs : List Block). drop count bs) (input left) ∙ drop_all_of count new (given rest ++ left) did.wrote.size
 
 -- A WALK THAT HALTED after it had read the blocks of a request
-halted_reading : (block count : ℕ) (rs : List Request) (e : Ending) (es : List Pair) (c last : Card) → AreBlocks c.capacity c.contents →
+halted_reading : (block count : ℕ) (rs : List Request) (e : Ending) (es : List Pair) (c last : Card) → AreBlocks c.capacity (disk_blocks c) →
     HaltedRead block count e es c last →
     Served (Read block count ∷ rs) e es c last
 halted_reading block count rs e es c last blocks q = record {
   ends = λ left output. (
       let d = disk_of c (given es ++ left) output in
-      let can : can_serve d (Read block count) ≡ true = le-leb (block + count) (length c.contents) (subst (λ n. block + count ≤ n) (sym blocks.size) q.room) in
-      let more : HasRead (output ++ take count (drop block c.contents)) (after_batch rs (after_request (Read block count) d)) =
+      let can : can_serve d (Read block count) ≡ true =
+      le-leb (block + count) (length (disk_blocks c)) (subst (λ n. block + count ≤ n) (sym blocks.size) q.room) in
+      let more : HasRead (output ++ take count (drop block (disk_blocks c))) (after_batch rs (after_request (Read block count) d)) =
       grows rs (after_request (Read block count) d) in
       ends_early e (disk_of last left (output ++ blocks_read es)) (after_batch (Read block count ∷ rs) d) q.early
       (subst (λ served. HasRead (output ++ blocks_read es) served) (sym (first_served (Read block count) rs d can))
       (subst (λ (bs : List Block). HasRead (output ++ bs) (after_batch rs (after_request (Read block count) d))) (sym q.read) more)));
   over = inr q.early;
   all = λ is. absurd (not_early e q.early is);
-  outside = same_outside (Read block count ∷ rs) c.contents last.contents q.contents;
+  outside = same_outside (Read block count ∷ rs) (disk_blocks c) (disk_blocks last) q.contents;
 }
 
 -- THE BATCH
 
 module _ (k : Kind) (e : Ending) (last : Card) (fell broke : Rest) where
   abbrev Serves : List Request → Type 0
-  Serves rs = (h : Host) (es : List Pair) (c : Card) → AreBlocks c.capacity c.contents → walk_statements k e (batch_statements rs) fell broke h es →
+  Serves rs = (h : Host) (es : List Pair) (c : Card) → AreBlocks c.capacity (disk_blocks c) → walk_statements k e (batch_statements rs) fell broke h es →
       AllowedSteps c es last →
       Served rs e es c last
 
@@ -171,29 +172,30 @@ module _ (k : Kind) (e : Ending) (last : Card) (fell broke : Rest) where
   abbrev others : List Request → Rest
   others rs = walk_statements k e (batch_statements rs) fell broke
 
-  of_read : (block count : ℕ) (rs : List Request) → Serves rs → (es : List Pair) (c : Card) → AreBlocks c.capacity c.contents →
+  of_read : (block count : ℕ) (rs : List Request) → Serves rs → (es : List Pair) (c : Card) → AreBlocks c.capacity (disk_blocks c) →
       HaltedQuiet e es c last ⊎ (HaltedRead block count e es c last ⊎ Past (ReadBlocks block count c) (others rs) es last) →
       Served (Read block count ∷ rs) e es c last
   of_read block count rs later es c blocks (inl q) =
-      halted_early (Read block count ∷ rs) e es c last q.early q.read (same_outside (Read block count ∷ rs) c.contents last.contents q.contents)
+      halted_early (Read block count ∷ rs) e es c last q.early q.read (same_outside (Read block count ∷ rs) (disk_blocks c) (disk_blocks last) q.contents)
   of_read block count rs later es c blocks (inr (inl q)) = halted_reading block count rs e es c last blocks q
   of_read block count rs later es c blocks (inr (inr r)) =
       and_then (Read block count) rs e es r.front r.rest c r.card last (read_step block count es r.front r.rest c r.card r.host blocks r.split r.did)
       (later r.host r.rest r.card (same_blocks c r.card blocks r.did.same r.did.contents) r.on r.steps)
 
-  of_write : (block count : ℕ) (rs : List Request) → Serves rs → (es : List Pair) (c : Card) → AreBlocks c.capacity c.contents →
+  of_write : (block count : ℕ) (rs : List Request) → Serves rs → (es : List Pair) (c : Card) → AreBlocks c.capacity (disk_blocks c) →
       HaltedWriting block count e es c last ⊎ Past (Wrote block count c) (others rs) es last → Served (Write block count ∷ rs) e es c last
   of_write block count rs later es c blocks (inl q) = halted_early (Write block count ∷ rs) e es c last q.early q.read
-      (outside_both (Write block count) rs c.contents last.contents last.contents (λ i other. same_at block count i c.contents last.contents q.outside other)
-      (same_outside rs last.contents last.contents refl))
+      (outside_both (Write block count) rs (disk_blocks c) (disk_blocks last) (disk_blocks last)
+      (λ i other. same_at block count i (disk_blocks c) (disk_blocks last) q.outside other)
+      (same_outside rs (disk_blocks last) (disk_blocks last) refl))
   of_write block count rs later es c blocks (inr r) =
       and_then (Write block count) rs e es r.front r.rest c r.card last (write_step block count es r.front r.rest c r.card r.host blocks r.split r.did)
-      (later r.host r.rest r.card (subst (λ n. AreBlocks n r.card.contents) r.did.wrote.same.capacity r.did.wrote.blocks) r.on r.steps)
+      (later r.host r.rest r.card (subst (λ n. AreBlocks n (disk_blocks r.card)) r.did.wrote.same.capacity r.did.wrote.blocks) r.on r.steps)
 
   pub serves : (rs : List Request) → Serves rs
   serves [] h es c b (inl s) steps =
       let q = halted_here e es c last (halts e Open es tt s) steps in
-      halted_early [] e es c last q.early q.read (same_outside [] c.contents last.contents q.contents)
+      halted_early [] e es c last q.early q.read (same_outside [] (disk_blocks c) (disk_blocks last) q.contents)
   serves [] h es c b (inr s) steps = done_by e es c last s.0 s.1 (subst (λ es. AllowedSteps c es last) s.0 steps)
   serves (Read block count ∷ rs) h es c b walk steps =
       of_read block count rs (serves rs) es c b (read_part k e block count (batch_statements rs) fell broke h es c last walk steps)

@@ -12,7 +12,7 @@ use Rattle.sdv_graph.specs.Tree.{nothing, first, phase, break}
 use Rattle.sdv_graph.specs.Walk.{Pair, Ending, Open, Rest, exactly, rounds, walk_statements}
 use Rattle.sdv_card.proofs.Same.{steps_keep_same}
 use Rattle.sdv_block.specs.RequestStatements.{fails}
-use Rattle.sdv_block.specs.Served.{AllowedSteps}
+use Rattle.sdv_block.specs.Served.{AllowedSteps, disk_blocks}
 use Rattle.sdv_block.proofs.Parts.{Halts, halts, halts_in_fault, Acted, made, after_phase, phase_part, Past}
 use Rattle.sdv_block.proofs.Quiet.{Quiet, quiet_both, HaltedQuiet, halted_later, halted_here}
 
@@ -38,7 +38,7 @@ module _ (k : Kind) (e : Ending) (fell broke : Rest) where
   waited c v h (Waited end) step = record {
     quiet = record {
       same = steps_keep_same c.kind AwaitReady c (Waited end) v refl step;
-      contents = ap (λ (x : Card). x.contents) step.card;
+      contents = ap (λ (x : Card). disk_blocks x) step.card;
       read = refl;
       gave = refl;
       flags = refl;

@@ -15,7 +15,7 @@ use Rattle.sdv_block.specs.declared.request.Request.{Request}
 use Rattle.sdv_block.specs.RequestStatements.{batch_statements}
 use Rattle.sdv_block.specs.BringUpStatements.{batch_names, capacity_statement, capacity_test, batch_body}
 use Rattle.sdv_block.specs.Disk.{AllServed, after_batch}
-use Rattle.sdv_block.specs.Served.{AllowedSteps, blocks_read, disk_of, EndsAs, Served}
+use Rattle.sdv_block.specs.Served.{AllowedSteps, blocks_read, disk_blocks, disk_of, EndsAs, Served}
 use Rattle.sdv_block.proofs.BringUp.{unit_part}
 use Rattle.sdv_block.proofs.Capacity.{Counted, CountOutcome, capacity_part, TooSmall, Enough, test_part}
 use Rattle.sdv_block.proofs.ReadyLoop.{FoundUnit}
@@ -28,7 +28,7 @@ use Rattle.sdv_block.proofs.Serving.{serves}
 pub record Refused (least : ℕ) (e : Ending) (es : List Pair) (c last : Card) : Type 0 where
   pub is : e ≡ Failed (codes "beyond")
   pub small : c.capacity < least
-  pub contents : c.contents ≡ last.contents
+  pub contents : disk_blocks c ≡ disk_blocks last
   pub read : blocks_read es ≡ []
   pub gave : given es ≡ []
 
@@ -43,7 +43,7 @@ Outcome least rs e es c last = HaltedQuiet e es c last ⊎ (Refused least e es c
 
 -- what was served from a card with the same blocks was served from the card itself
 later_served : (rs : List Request) (e : Ending) (es front rest : List Pair) (c u last : Card) → es ≡ front ++ rest → blocks_read front ≡ [] → given front ≡ [] →
-    c.contents ≡ u.contents → Served rs e rest u last → Served rs e es c last
+    disk_blocks c ≡ disk_blocks u → Served rs e rest u last → Served rs e es c last
 later_served rs e es front rest c u last split read gave contents s = record {
   ends = λ left output.
       subst (λ r. EndsAs e (disk_of last left (output ++ r)) (after_batch rs (disk_of c (given es ++ left) output))) (sym read_is)
@@ -60,7 +60,7 @@ later_served rs e es front rest c u last split read gave contents s = record {
     given_is = ap given split ∙ (given-append front rest ∙ ap (λ (bs : List Block). bs ++ given rest) gave)
 
     same : (left output : List Block) → disk_of u (given rest ++ left) output ≡ disk_of c (given es ++ left) output
-    same left output = same_disk u.contents c.contents (given rest ++ left) (given es ++ left) output output (sym contents)
+    same left output = same_disk (disk_blocks u) (disk_blocks c) (given rest ++ left) (given es ++ left) output output (sym contents)
         (ap (λ (bs : List Block). bs ++ left) (sym given_is)) refl
 
 module _ (k : Kind) (e : Ending) (least : ℕ) (rs : List Request) (fell broke : Rest) (h : Host) (es : List Pair) (c last : Card) where
@@ -90,7 +90,7 @@ module _ (k : Kind) (e : Ending) (least : ℕ) (rs : List Request) (fell broke :
   after_test w (inr (inl x)) = inr (inl (record {
     is = x.is;
     small = subst (λ n. n < least) (w.did.cap ∙ sym w.did.same.capacity) x.small;
-    contents = w.did.contents ∙ ap (λ (u : Card). u.contents) (subst (λ es. AllowedSteps w.card es last) x.none w.steps);
+    contents = w.did.contents ∙ ap (λ (u : Card). disk_blocks u) (subst (λ es. AllowedSteps w.card es last) x.none w.steps);
     read = ap blocks_read w.split ∙ read_none w.front w.rest w.did.read (ap blocks_read x.none);
     gave = ap given w.split ∙ gave_none w.front w.rest w.did.gave (ap given x.none);
   }))

@@ -14,7 +14,7 @@ use Rattle.sdv_card.proofs.Members.{and_left}
 use Rattle.sdv_card.proofs.Same.{same_both}
 use Rattle.sdv_block.specs.RequestStatements.{write_command, status_command, only_if, fails, settle_statements, stop_writing, write_statements}
 use Rattle.sdv_block.specs.Disk.{with_blocks}
-use Rattle.sdv_block.specs.Served.{AllowedSteps, blocks_read}
+use Rattle.sdv_block.specs.Served.{AllowedSteps, blocks_read, disk_blocks}
 use Rattle.sdv_block.proofs.Addresses.{position_is, named, named_within}
 use Rattle.sdv_block.proofs.Asking.{Asked, asked_part}
 use Rattle.sdv_block.proofs.CardSteps.{Begun, write_begun, write_keeps, write_within}
@@ -75,14 +75,14 @@ pub record WroteBlocks (block count : ℕ) (c : Card) (front : List Pair) (u : C
   pub size : length new ≡ count
   pub gave : given front ≡ new
   pub read : blocks_read front ≡ []
-  pub contents : u.contents ≡ with_blocks block new c.contents
-  pub outside : SameBut block count c.contents u.contents
-  pub blocks : AreBlocks c.capacity u.contents
+  pub contents : disk_blocks u ≡ with_blocks block new (disk_blocks c)
+  pub outside : SameBut block count (disk_blocks c) (disk_blocks u)
+  pub blocks : AreBlocks c.capacity (disk_blocks u)
 
 -- no error is left, so the blocks were stored
-surely_stored : (block count : ℕ) (u : Card) (new : List Block) → (take count (drop block u.contents) ≡ new) ⊎ (true ≡ u.unshown_error)
+surely_stored : (block count : ℕ) (u : Card) (new : List Block) → (take count (drop block (disk_blocks u)) ≡ new) ⊎ (true ≡ u.unshown_error)
     → u.unshown_error ≡ false →
-    take count (drop block u.contents) ≡ new
+    take count (drop block (disk_blocks u)) ≡ new
 surely_stored block count u new (inl s) e = s
 surely_stored block count u new (inr d) e = absurd (let f : true ≡ false = d ∙ e in cc)
 
@@ -104,11 +104,11 @@ module _ (k : Kind) (e : Ending) (block count : ℕ) (rest : Statements) (fell b
       StoredOutcome
   of_settled w (inl halt) = inl (record {
     early = halt.early;
-    outside = same_but_then block count c.contents w.card.contents last.contents w.did.outside halt.contents;
+    outside = same_but_then block count (disk_blocks c) (disk_blocks w.card) (disk_blocks last) w.did.outside halt.contents;
     read = ap blocks_read w.split ∙ read_none w.front w.rest w.did.read halt.read;
   })
   of_settled w (inr r) =
-      let stored = rebuilt block count c.contents w.card.contents w.did.new w.did.outside w.did.size
+      let stored = rebuilt block count (disk_blocks c) (disk_blocks w.card) w.did.new w.did.outside w.did.size
       (surely_stored block count w.card w.did.new w.did.stored r.did.no_error) in
       inr (past_both stopping on_stored es last w r (record {
         same = same_both c w.card r.card w.did.same r.did.quiet.same;
@@ -117,7 +117,7 @@ module _ (k : Kind) (e : Ending) (block count : ℕ) (rest : Statements) (fell b
         gave = gave_then w.front r.front w.did.new w.did.gave r.did.quiet.gave;
         read = read_none w.front r.front w.did.read r.did.quiet.read;
         contents = sym r.did.quiet.contents ∙ stored;
-        outside = same_but_then block count c.contents w.card.contents r.card.contents w.did.outside r.did.quiet.contents;
+        outside = same_but_then block count (disk_blocks c) (disk_blocks w.card) (disk_blocks r.card) w.did.outside r.did.quiet.contents;
         blocks = subst (λ bs. AreBlocks c.capacity bs) r.did.quiet.contents w.did.blocks;
       }))
 
@@ -154,7 +154,7 @@ module _ (k : Kind) (e : Ending) (block count : ℕ) (rest : Statements) (fell b
       HaltedWriting block count e w.rest w.card last ⊎ Past (WroteBlocks block count w.card) on w.rest last → Outcome
   of_stored w room (inl halt) = inl (record {
     early = halt.early;
-    outside = subst (λ bs. SameBut block count bs last.contents) (sym w.did.quiet.contents) halt.outside;
+    outside = subst (λ bs. SameBut block count bs (disk_blocks last)) (sym w.did.quiet.contents) halt.outside;
     read = ap blocks_read w.split ∙ read_none w.front w.rest w.did.quiet.read halt.read;
   })
   of_stored w room (inr r) = inr (past_both giving on es last w r (record {
@@ -165,8 +165,8 @@ module _ (k : Kind) (e : Ending) (block count : ℕ) (rest : Statements) (fell b
       gave = given-append w.front r.front ∙ (ap (λ (bs : List Block). bs ++ given r.front) w.did.quiet.gave ∙ r.did.gave);
       read = read_none w.front r.front w.did.quiet.read r.did.read;
       contents = r.did.contents ∙ ap (λ (bs : List Block). with_blocks block r.did.new bs) (sym w.did.quiet.contents);
-      outside = subst (λ bs. SameBut block count bs r.card.contents) (sym w.did.quiet.contents) r.did.outside;
-      blocks = subst (λ n. AreBlocks n r.card.contents) (sym w.did.quiet.same.capacity) r.did.blocks;
+      outside = subst (λ bs. SameBut block count bs (disk_blocks r.card)) (sym w.did.quiet.contents) r.did.outside;
+      blocks = subst (λ n. AreBlocks n (disk_blocks r.card)) (sym w.did.quiet.same.capacity) r.did.blocks;
     };
     room = room;
   }))

@@ -18,7 +18,7 @@ use Rattle.sdv_card.specs.Lists.{May, IsOneOf}
 use Rattle.sdv_card.specs.StateTable.{◌to◌, rows}
 use Rattle.sdv_card.specs.RowRules.{app_after, preset_after, preset_kept, transfer_after}
 use Rattle.sdv_card.specs.Responses.{response_of}
-use Rattle.sdv_card.specs.Card.{Card, AreBlocks, accessed_capacity, accessed_blocks, ContentsFit, kind_fits, length_fits}
+use Rattle.sdv_card.specs.Card.{Card, Partitions, AreBlocks, accessed_capacity, accessed_blocks, ContentsFit, kind_fits, length_fits}
 use Rattle.sdv_card.specs.Taken.{SameCard, LengthAfter, ContentsAfter, BlocksAfter}
 use Rattle.sdv_card.specs.Exchange.{RowAnswer}
 use Rattle.sdv_card.proofs.RowsOfOrders.{row_count, row_rca}
@@ -123,11 +123,11 @@ announced_small row argument t u count small b = subst (λ n. n < 65536) b.count
 
 -- the same contents, of a card of the same size
 pub contents_same : (t u : Card) → SameCard t u → t.contents ≡ u.contents → ContentsFit t → ContentsFit u
-contents_same t u same e b = subst (λ n. AreBlocks n u.contents) same.capacity (subst (λ v. AreBlocks t.capacity v) e b)
+contents_same t u same e b = subst (λ n. AreBlocks n u.contents.user) same.capacity (subst (λ (v : Partitions). AreBlocks t.capacity v.user) e b)
 
 -- other blocks in access, of a card of the same size
 pub contents_put : (t u : Card) → SameCard t u → AreBlocks (accessed_capacity t) (accessed_blocks t u.contents) → ContentsFit u
-contents_put t u same blocks = subst (λ n. AreBlocks n u.contents) same.capacity blocks
+contents_put t u same blocks = subst (λ n. AreBlocks n u.contents.user) same.capacity blocks
 
 pub contents_kept : (row : Row) (t u : Card) → SameCard t u → ContentsAfter row t u → ContentsFit t → ContentsFit u
 contents_kept Cmd38 t u same m b = contents_put t u same m.blocks

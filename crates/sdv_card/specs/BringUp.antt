@@ -67,7 +67,7 @@ example_card contents = record {
   next_block = 0;
   announced = 0;
   unshown_error = false;
-  contents = contents;
+  contents = record { user = contents };
 }
 
 -- the card when it is selected

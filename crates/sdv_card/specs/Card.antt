@@ -13,6 +13,10 @@ use Rattle.sdv_card.specs.declared.state.EraseStage.{EraseStage}
 abbrev pub Block : Type 0
 Block = List ℕ
 
+-- what a card holds: the blocks of its user area
+pub record Partitions : Type 0 where
+  pub user : List Block
+
 pub record Card : Type 0 where
   -- WHAT NO STEP CHANGES
   pub kind : Kind
@@ -46,7 +50,7 @@ pub record Card : Type 0 where
   pub announced : ℕ
   -- an error of an earlier write that no status has shown yet
   pub unshown_error : Bool
-  pub contents : List Block
+  pub contents : Partitions
 
 -- THE BLOCKS IN ACCESS, which commands with an address and data phases concern
 
@@ -55,8 +59,8 @@ abbrev pub accessed_capacity : Card → ℕ
 accessed_capacity c = c.capacity
 
 -- which they are, of what a card holds or may hold later
-abbrev pub accessed_blocks : Card → (contents : List Block) → List Block
-accessed_blocks c contents = contents
+abbrev pub accessed_blocks : Card → (contents : Partitions) → List Block
+accessed_blocks c contents = contents.user
 
 -- THE RULES OF A CARD
 
@@ -122,7 +126,7 @@ DataRegisters Emmc c = IsRegister 512 c.ext_csd
 
 -- a card holds as many blocks as its capacity says
 abbrev pub ContentsFit : Card → Type 0
-ContentsFit c = AreBlocks c.capacity c.contents
+ContentsFit c = AreBlocks c.capacity c.contents.user
 
 -- a card, as every step leaves it
 pub record IsCard (c : Card) : Type 0 where

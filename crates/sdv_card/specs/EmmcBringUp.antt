@@ -47,7 +47,7 @@ example_device contents = record {
   next_block = 0;
   announced = 0;
   unshown_error = false;
-  contents = contents;
+  contents = record { user = contents };
 }
 
 -- the device when it is selected

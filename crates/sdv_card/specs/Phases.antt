@@ -12,7 +12,7 @@ use Rattle.sdv_card.specs.declared.answer.DataEnd.TheVariants.{Ok, Cut}
 use Rattle.sdv_card.specs.declared.answer.WaitEnd.{WaitEnd}
 use Rattle.sdv_card.specs.declared.answer.WaitEnd.TheVariants.{Ok as Over, Late}
 use Rattle.sdv_card.specs.Lists.{May}
-use Rattle.sdv_card.specs.Card.{Card, Block, AreBlocks, accessed_capacity, accessed_blocks}
+use Rattle.sdv_card.specs.Card.{Card, Block, Partitions, AreBlocks, accessed_capacity, accessed_blocks}
 
 -- WHERE A CARD IS AFTERWARDS
 
@@ -82,7 +82,7 @@ pub record Moved (end : DataEnd) (c u : Card) : Type 0 where
   pub card : MovedTo c place u
 
 -- the blocks that a transfer addresses
-abbrev pub addressed : Card → List Block → List Block
+abbrev pub addressed : Card → Partitions → List Block
 addressed c contents = take c.announced (drop c.next_block (accessed_blocks c contents))
 
 -- a phase that ended well gives the contents, from the addressed block on
