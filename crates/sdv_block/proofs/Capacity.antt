@@ -12,6 +12,7 @@ use Rattle.sdv_card.specs.declared.event.Aim.TheVariants.{Plain}
 use Rattle.sdv_card.specs.declared.guard.Guard.TheVariants.{Clean}
 use Rattle.sdv_card.specs.Card.{Card, AreBlocks}
 use Rattle.sdv_card.specs.Host.{Host, host_after}
+use Rattle.sdv_card.specs.HostEvents.{Makes}
 use Rattle.sdv_card.specs.Profile.{told_blocks}
 use Rattle.sdv_card.specs.ScriptEvent.{ScriptEvent, ReceiveRegister, Return, Answered, RegisterIn}
 use Rattle.sdv_card.specs.Shapes.{IsPair}
@@ -149,13 +150,14 @@ register_known k c v h (RegisterIn end bytes) honest allowed step =
     let event : ScriptEvent = ReceiveRegister h.register_length in
     let h' : Host = host_after k event (RegisterIn end bytes) h in
     let same : SameCard c v = steps_keep_same k event c (RegisterIn end bytes) v honest.pair.kind step in
-    let pair : IsPair k v h' = steps_keep_pairs k event c h (RegisterIn end bytes) v honest.pair refl step in
+    let made : Makes k event h = record { size = refl } in
+    let pair : IsPair k v h' = steps_keep_pairs k event c h (RegisterIn end bytes) v honest.pair made step in
     record {
       quiet = record { same = same; contents = moved_contents end c v step.moved; read = refl; gave = refl; flags = refl };
       honest = record {
         pair = pair;
         profile = profile_kept c v k h' pair same honest.profile;
-        sound = steps_keep_sound k event c h (RegisterIn end bytes) v honest.pair refl allowed.legal step honest.sound;
+        sound = steps_keep_sound k event c h (RegisterIn end bytes) v honest.pair made allowed.legal step honest.sound;
       };
       numbers = refl;
     }

@@ -26,7 +26,7 @@ use Rattle.sdv_card.specs.Shapes.{view}
 use Rattle.sdv_card.specs.Outcomes.{branch, with_seen, taken, stayed, lost, statuses, with_conditions, conditions_seen, unaddressed_seen, row_branches, settled_branches}
 use Rattle.sdv_card.proofs.Members.{here, May-append_left, May-append_right, May-map}
 use Rattle.sdv_card.proofs.TakenFields.{same_view}
-use Rattle.sdv_card.proofs.RowOutcomes.{AtRow, heard, timed_out, heard_taken, statuses_law, app_law, same_status_seen, status_cases, address_cases, bare_seen, unit_law, conditions_law, unaddressed_law, unseen_cases}
+use Rattle.sdv_card.proofs.RowOutcomes.{AtRow, heard, heard_host, timed_out, heard_taken, statuses_law, app_law, same_status_seen, status_cases, address_cases, bare_seen, unit_law, conditions_law, unaddressed_law, unseen_cases}
 
 status_law : (k : Kind) (order : Order) (row : Row) (argument : ℕ) (h : Host) (t u : Card) (answer : Answer) → CardStatus ≡ response_of row
     → AtRow k order row t →
@@ -58,7 +58,8 @@ address_answer k order argument h t u (Replied (R6 word)) at a =
     (subst (λ v. May (statuses Cmd3Sd (view t h) (taken k Cmd3Sd true (view t h)) (stayed k Cmd3Sd (matched_stayed t.state) (view t h))) (branch (view u h') v))
     (sym (same_status_seen a.state refl))
     (statuses_law Cmd3Sd (view t h) (view u h') _ _ (in_doubt (R6 word))
-    (address_cases k argument h h' t u word (in_doubt (R6 word)) at.kind at.card refl (sym (at.says.rca (Replied (R6 word)) h.rca)) a.card)))
+    (address_cases k argument h h' t u word (in_doubt (R6 word)) at.kind at.card (heard_host order (Replied (R6 word)) h)
+    (sym (at.says.rca (Replied (R6 word)) h.rca)) a.card)))
 address_answer k order argument h t u answer at a = absurd a
 
 address_law : (k : Kind) (order : Order) (row : Row) (argument : ℕ) (h : Host) (t u : Card) (answer : Answer) → Cmd3Sd ≡ row → AtRow k order row t →
@@ -133,7 +134,7 @@ ignored_law : (k : Kind) (order : Order) (h : Host) (t u : Card) (answer : Answe
 ignored_law k order h t u answer rca a =
     subst (λ v. May (branch (view t h) SeenTimeOut ∷ []) (branch (view u (heard order v h)) (answer_seen k v))) a.0
     (subst (λ v. May (branch (view t h) SeenTimeOut ∷ []) (branch (view v (heard order TimeOut h)) SeenTimeOut)) a.1
-    (here (ap (λ v. branch v SeenTimeOut) (same_view h (heard order TimeOut h) t refl (ap (λ n. matches t.rca n) (sym rca))))))
+    (here (ap (λ v. branch v SeenTimeOut) (same_view h (heard order TimeOut h) t (heard_host order TimeOut h) (ap (λ n. matches t.rca n) (sym rca))))))
 
 -- whatever comes of an order at a settled card, by the way in which the card takes it
 pub settled_answer_law : (way : TakenAs) (k : Kind) (order : Order) (argument : ℕ) (h : Host) (t u : Card) (answer : Answer) →

@@ -186,7 +186,7 @@ extended_data cs =
 register_phase : (cs : List Block) →
     Happens read_ext_csd (device cs Data (Some 1) ExtCsdDue) (record (host 1 (Some device_csd)) { register_length = 512 }) (device cs Tran (Some 1) Nothing)
 register_phase cs = record {
-  made = refl;
+  made = record { size = refl };
   legal = refl;
   bounds = lit< tt;
   step = record { due = refl; size = refl; truth = refl; moved = record { place = Tran with Nothing; may = first; card = refl } };

@@ -34,6 +34,7 @@ use Rattle.sdv_card.proofs.SettledCard.{Fits, card_after, kind_of_none, kind_of_
 use Rattle.sdv_card.proofs.RowsOfOrders.{same_count, says, ignored_rca, row_count, row_rca}
 use Rattle.sdv_card.proofs.OrdersOfAsks.{of_ask}
 use Rattle.sdv_card.proofs.RowsKeep.{Leads, leads}
+use Rattle.sdv_card.proofs.TakenFields.{SameHost}
 use Rattle.sdv_card.proofs.PhasePlaces.{Calm, calm_place}
 use Rattle.sdv_card.proofs.PartsKept.{kept_small, preset_small, kind_none_taken, kind_none_stayed, kind_again, kind_taken, length_kept, announced_small, contents_same, contents_put, contents_kept, rca_small}
 
@@ -170,11 +171,11 @@ fits_waited c u end card w =
 
 -- EVENTS
 
-pair_after : (k : Kind) (c u : Card) (h h' : Host) → IsPair k c h → IsCard u → c.kind ≡ u.kind → h.flags ≡ h'.flags → h'.rca < 65536 → IsPair k u h'
-pair_after k c u h h' pair card kind flags rca = record {
+pair_after : (k : Kind) (c u : Card) (h h' : Host) → IsPair k c h → IsCard u → c.kind ≡ u.kind → SameHost h h' → h'.rca < 65536 → IsPair k u h'
+pair_after k c u h h' pair card kind host rca = record {
   kind = pair.kind ∙ kind;
   card = card;
-  flags = subst (λ n. n < 16) flags pair.flags;
+  flags = subst (λ n. n < 16) host.flags pair.flags;
   rca = rca;
 }
 
@@ -189,7 +190,7 @@ exchange_pair k ask order argument c u h answer pair e x =
     (card_became way argument t u
     (λ row by. subst (λ n. n < 65536) (same_count (says order t.app m row by)) (of_ask k ask order e).count)
     (settled_is_card c t pair.card x.settled) came)
-    ((settled_same c t x.settled).kind ∙ (became_same way argument t u came).kind) refl
+    ((settled_same c t x.settled).kind ∙ (became_same way argument t u came).kind) (record { flags = refl })
     (rca_after way order argument t u answer h.rca (ignored_rca order t.app m h.rca)
     (λ row by. (says order t.app m row by).rca answer h.rca) x.answered pair.rca)
 
@@ -199,15 +200,16 @@ steps_keep_pairs k (SendCommand ask position argument) c h (Answered answer) u p
     subst (λ o. IsPair k u (host_after_order o answer h)) (sym e) (exchange_pair k ask s.order argument c u h answer pair e s.exchange)
 steps_keep_pairs k (ReceiveBlocks count) c h (BlocksIn end blocks) u pair made s =
     let same = steps_keep_same k (ReceiveBlocks count) c (BlocksIn end blocks) u pair.kind s in
-    pair_after k c u h h pair (card_after c u pair.card same (fits_moved c u end pair.card s.moved)) same.kind refl pair.rca
+    pair_after k c u h h pair (card_after c u pair.card same (fits_moved c u end pair.card s.moved)) same.kind (record { flags = refl }) pair.rca
 steps_keep_pairs k (ReceiveRegister count) c h (RegisterIn end bytes) u pair made s =
     let same = steps_keep_same k (ReceiveRegister count) c (RegisterIn end bytes) u pair.kind s in
     pair_after k c u h (host_after k (ReceiveRegister count) (RegisterIn end bytes) h) pair
-    (card_after c u pair.card same (fits_moved c u end pair.card s.moved)) same.kind refl pair.rca
+    (card_after c u pair.card same (fits_moved c u end pair.card s.moved)) same.kind (record { flags = refl }) pair.rca
 steps_keep_pairs k (GiveBlocks blocks) c h (BlocksOut end) u pair made s =
     let same = steps_keep_same k (GiveBlocks blocks) c (BlocksOut end) u pair.kind s in
-    pair_after k c u h h pair (card_after c u pair.card same (fits_moved_writing c u end pair.card s.others s.moved)) same.kind refl pair.rca
+    pair_after k c u h h pair
+    (card_after c u pair.card same (fits_moved_writing c u end pair.card s.others s.moved)) same.kind (record { flags = refl }) pair.rca
 steps_keep_pairs k AwaitReady c h (Waited end) u pair made s =
     let same = steps_keep_same k AwaitReady c (Waited end) u pair.kind s in
-    pair_after k c u h h pair (card_after c u pair.card same (fits_waited c u end pair.card s)) same.kind refl pair.rca
+    pair_after k c u h h pair (card_after c u pair.card same (fits_waited c u end pair.card s)) same.kind (record { flags = refl }) pair.rca
 steps_keep_pairs k event c h returned u pair made s = absurd s

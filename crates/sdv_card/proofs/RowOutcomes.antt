@@ -32,7 +32,7 @@ use Rattle.sdv_card.specs.Shapes.{view}
 use Rattle.sdv_card.specs.Outcomes.{branch, with_seen, taken, stayed, lost, statuses, status_seen, with_status, app_shown, unaddressed_seen}
 use Rattle.sdv_card.proofs.Members.{here, there, May-append_left, May-append_right, May-map}
 use Rattle.sdv_card.proofs.RowsOfOrders.{Says, row_rca}
-use Rattle.sdv_card.proofs.TakenFields.{Allowed, taken_law, stayed_law, stayed_cases, stayed_match, same_view, lost_law}
+use Rattle.sdv_card.proofs.TakenFields.{SameHost, Allowed, taken_law, stayed_law, stayed_cases, stayed_match, same_view, lost_law}
 use Rattle.sdv_card.proofs.Matches.{GivenAddress, taken_unheard, taken_heard, same_unheard, same_status, same_unaddressed, published_matches, stayed_matches}
 
 -- a settled card t, and an order by which it takes a row
@@ -46,6 +46,10 @@ pub record AtRow (k : Kind) (order : Order) (row : Row) (t : Card) : Type 0 wher
 -- the host after an answer
 abbrev pub heard : Order → Answer → Host → Host
 heard order answer h = host_after_order (Some order) answer h
+
+-- an answer tells of a card alone
+pub heard_host : (order : Order) (answer : Answer) (h : Host) → SameHost h (heard order answer h)
+heard_host order answer h = record { flags = refl }
 
 -- MATCHES, with the host after an answer
 
@@ -64,7 +68,7 @@ pub timed_out : (response : Response) (k : Kind) (order : Order) (row : Row) (ar
     May (with_seen SeenTimeOut (lost k response row (view t h))) (branch (view u (heard order TimeOut h)) SeenTimeOut)
 timed_out response k order row argument h t u is other at a =
     May-map (λ v. branch v SeenTimeOut)
-    (lost_law response k row argument h (heard order TimeOut h) t u at.kind at.allowed refl
+    (lost_law response k row argument h (heard order TimeOut h) t u at.kind at.allowed (heard_host order TimeOut h)
     (heard_same order row TimeOut h t.rca at.says (same_unheard row t.rca h.rca (λ e. other (e ∙ sym is)) at.given))
     (λ m. heard_rca order row TimeOut h u.rca _ at.says (taken_unheard row TimeOut t.rca u.rca h.rca m.rca)) a)
 
@@ -73,7 +77,7 @@ pub heard_taken : (k : Kind) (order : Order) (row : Row) (argument : ℕ) (h : H
     (NewAddress ≡ response_of row → ⊥) → AtRow k order row t → Taken row true argument t u →
     May (taken k row true (view t h)) (view u (heard order answer h))
 heard_taken k order row argument h t u answer other at m =
-    taken_law k row true argument h (heard order answer h) t u at.kind m refl
+    taken_law k row true argument h (heard order answer h) t u at.kind m (heard_host order answer h)
     (heard_rca order row answer h u.rca _ at.says (taken_heard row answer t.rca u.rca h.rca other m.rca))
 
 -- STATUS
@@ -101,7 +105,7 @@ pub status_cases : (k : Kind) (order : Order) (row : Row) (argument : ℕ) (h : 
 status_cases k order row argument h t u answer d is at (inl m) =
     inl (heard_taken k order row argument h t u answer (λ e. let f : NewAddress ≡ CardStatus = e ∙ sym is in cc) at m)
 status_cases k order row argument h t u answer d is at (inr m) =
-    elim (stayed_cases k row true argument h (heard order answer h) t u at.kind at.allowed m.1 refl
+    elim (stayed_cases k row true argument h (heard order answer h) t u at.kind at.allowed m.1 (heard_host order answer h)
     (stayed_match row true h (heard order answer h) t u m.1
     (heard_same order row answer h t.rca at.says (same_status row answer t.rca h.rca is at.given)))) [
       | inl n ↦ inl n
@@ -110,16 +114,16 @@ status_cases k order row argument h t u answer d is at (inr m) =
 
 -- NEW ADDRESS
 
-pub address_cases : (k : Kind) (argument : ℕ) (h h' : Host) (t u : Card) (word : ℕ) (d : Bool) → k ≡ t.kind → IsCard t → h.flags ≡ h'.flags →
+pub address_cases : (k : Kind) (argument : ℕ) (h h' : Host) (t u : Card) (word : ℕ) (d : Bool) → k ≡ t.kind → IsCard t → SameHost h h' →
     published_rca word ≡ h'.rca → Published Cmd3Sd argument t word u ⊎ ((d ≡ true) × Stayed Cmd3Sd true t u) →
     May (taken k Cmd3Sd true (view t h)) (view u h')
     ⊎ ((d ≡ true) × May (stayed k Cmd3Sd (matched_stayed t.state) (view t h)) (view u h'))
-address_cases k argument h h' t u word d kind card flags e (inl m) =
-    inl (taken_law k Cmd3Sd true argument h h' t u kind m.card flags (here (published_matches u.rca h'.rca (ap Some (sym e) ∙ m.rca))))
-address_cases k argument h h' t u word d kind card flags e (inr m) =
+address_cases k argument h h' t u word d kind card host e (inl m) =
+    inl (taken_law k Cmd3Sd true argument h h' t u kind m.card host (here (published_matches u.rca h'.rca (ap Some (sym e) ∙ m.rca))))
+address_cases k argument h h' t u word d kind card host e (inr m) =
     inr (
       m.0,
-      stayed_law k Cmd3Sd true (matched_stayed t.state) h h' t u (λ e. cc) kind m.1 flags
+      stayed_law k Cmd3Sd true (matched_stayed t.state) h h' t u (λ e. cc) kind m.1 host
           (subst (λ v. May (matched_stayed t.state) (matches v h'.rca)) m.1.rca (stayed_matches t.state t.rca h'.rca card.address)),
     )
 
@@ -164,6 +168,7 @@ pub unseen_cases : (k : Kind) (order : Order) (row : Row) (argument : ℕ) (h : 
     AtRow k order row t → (t ≡ u) ⊎ TakenUnseen row argument t u → May (view t h ∷ taken k row true (view t h)) (view u (heard order answer h))
 unseen_cases k order row argument h t u answer is at (inl e) =
     here (subst (λ v. view t h ≡ view v (heard order answer h)) e
-    (same_view h (heard order answer h) t refl (heard_same order row answer h t.rca at.says (same_unaddressed row answer t.rca h.rca is))))
+    (same_view h (heard order answer h) t (heard_host order answer h)
+    (heard_same order row answer h t.rca at.says (same_unaddressed row answer t.rca h.rca is))))
 unseen_cases k order row argument h t u answer is at (inr m) =
     there (heard_taken k order row argument h t u answer (λ e. let f : NewAddress ≡ NotAddressed = e ∙ sym is in cc) at m.card)

@@ -27,11 +27,15 @@ length_law Cmd0 false before after e = May-either (after == 512)
 length_law Cmd16 unit before after e = here (sym (ap (λ n. n == 512) e))
 length_law row unit before after e = here (ap (λ n. n == 512) e)
 
+-- hosts that differ in what they know of a card alone
+pub record SameHost (h h' : Host) : Type 0 where
+  pub flags : h.flags ≡ h'.flags
+
 pub taken_law : (k : Kind) (row : Row) (heard : Bool) (argument : ℕ) (h h' : Host) (t u : Card) →
-    k ≡ t.kind → Taken row heard argument t u → h.flags ≡ h'.flags →
+    k ≡ t.kind → Taken row heard argument t u → SameHost h h' →
     May (matched_after row heard (matches t.rca h.rca)) (matches u.rca h'.rca) →
     May (taken k row heard (view t h)) (view u h')
-taken_law k row heard argument h h' t u kind m flags matched =
+taken_law k row heard argument h h' t u kind m host matched =
     let after : Fields = record (view t h) {
       transfer = transfer_after row t.preset t.transfer;
       erase = erase_after row t.erase;
@@ -46,28 +50,28 @@ taken_law k row heard argument h h' t u kind m flags matched =
     (May-each _ (u.block_length == 512) (length_law row _ _ _ m.block_length)
     (May-each _ (matches u.rca h'.rca) matched
     (subst (λ v. May (with_presets after (preset_after k row t.preset)) v)
-    (same_fields refl m.transfer m.erase m.same.block_unit refl refl refl flags refl)
+    (same_fields refl m.transfer m.erase m.same.block_unit refl refl refl host.flags refl)
     (May-map (λ preset. record after { preset = preset }) (subst (λ v. May (preset_after v row t.preset) u.preset) (sym kind) m.preset))))))
 
 -- a card that stayed is seen among all with some erase stages and matches
 erases_law : (k : Kind) (row : Row) (heard : Bool) (es : List EraseStage) (ms : List Bool) (h h' : Host) (t u : Card) →
-    k ≡ t.kind → Stayed row heard t u → h.flags ≡ h'.flags → May es u.erase → May ms (matches u.rca h'.rca) →
+    k ≡ t.kind → Stayed row heard t u → SameHost h h' → May es u.erase → May ms (matches u.rca h'.rca) →
     May (with_erases (record (view t h) { app = false }) es ms (preset_kept k t.preset)) (view u h')
-erases_law k row heard es ms h h' t u kind m flags erase matched =
+erases_law k row heard es ms h h' t u kind m host erase matched =
     let after : Fields = record (view t h) { app = false; erase = u.erase; matched = matches u.rca h'.rca } in
     May-each _ u.erase erase
     (May-each _ (matches u.rca h'.rca) matched
     (subst (λ v. May (with_presets after (preset_kept k t.preset)) v)
-    (same_fields m.state m.transfer refl m.same.block_unit (ap (λ n. n == 512) m.block_length) m.app refl flags refl)
+    (same_fields m.state m.transfer refl m.same.block_unit (ap (λ n. n == 512) m.block_length) m.app refl host.flags refl)
     (May-map (λ preset. record after { preset = preset }) (subst (λ v. May (preset_kept v t.preset) u.preset) (sym kind) m.preset))))
 
 -- a card that stayed at another command than CMD13
 pub stayed_law : (k : Kind) (row : Row) (heard : Bool) (ms : List Bool) (h h' : Host) (t u : Card) → (Cmd13 ≡ row → ⊥) →
-    k ≡ t.kind → Stayed row heard t u → h.flags ≡ h'.flags → May ms (matches u.rca h'.rca) →
+    k ≡ t.kind → Stayed row heard t u → SameHost h h' → May ms (matches u.rca h'.rca) →
     May (stayed k row ms (view t h)) (view u h')
-stayed_law k Cmd13 heard ms h h' t u other kind m flags matched = absurd (other refl)
-stayed_law k row heard ms h h' t u other kind m flags matched =
-    erases_law k row heard (erase_stayed row t.erase) ms h h' t u kind m flags m.erase matched
+stayed_law k Cmd13 heard ms h h' t u other kind m host matched = absurd (other refl)
+stayed_law k row heard ms h h' t u other kind m host matched =
+    erases_law k row heard (erase_stayed row t.erase) ms h h' t u kind m host m.erase matched
 
 -- what a legal row says of a card: one that takes CMD13 keeps its state
 abbrev pub Allowed : Row → Card → Type 0
@@ -92,44 +96,44 @@ stayed_status heard argument t u allowed m = record {
 
 -- a card that stayed is among those that stayed, or among those that took the row
 pub stayed_cases : (k : Kind) (row : Row) (heard : Bool) (argument : ℕ) (h h' : Host) (t u : Card) → k ≡ t.kind → Allowed row t → Stayed row heard t u →
-    h.flags ≡ h'.flags → matches t.rca h.rca ≡ matches u.rca h'.rca →
+    SameHost h h' → matches t.rca h.rca ≡ matches u.rca h'.rca →
     May (taken k row heard (view t h)) (view u h') ⊎ May (stayed k row (matches t.rca h.rca ∷ []) (view t h)) (view u h')
-stayed_cases k Cmd13 heard argument h h' t u kind allowed m flags matched =
-    inl (taken_law k Cmd13 heard argument h h' t u kind (stayed_status heard argument t u allowed m) flags (here matched))
-stayed_cases k row heard argument h h' t u kind allowed m flags matched =
-    inr (stayed_law k row heard (matches t.rca h.rca ∷ []) h h' t u (λ e. cc) kind m flags (here matched))
+stayed_cases k Cmd13 heard argument h h' t u kind allowed m host matched =
+    inl (taken_law k Cmd13 heard argument h h' t u kind (stayed_status heard argument t u allowed m) host (here matched))
+stayed_cases k row heard argument h h' t u kind allowed m host matched =
+    inr (stayed_law k row heard (matches t.rca h.rca ∷ []) h h' t u (λ e. cc) kind m host (here matched))
 
 pub same_match : (a b : Option ℕ) (m n : ℕ) → a ≡ b → m ≡ n → matches a m ≡ matches b n
 same_match a b m n e f = cc
 
-pub same_view : (h h' : Host) (t : Card) → h.flags ≡ h'.flags → matches t.rca h.rca ≡ matches t.rca h'.rca → view t h ≡ view t h'
-same_view h h' t e f = same_fields refl refl refl refl refl refl f e refl
+pub same_view : (h h' : Host) (t : Card) → SameHost h h' → matches t.rca h.rca ≡ matches t.rca h'.rca → view t h ≡ view t h'
+same_view h h' t e f = same_fields refl refl refl refl refl refl f e.flags refl
 
 -- a card that stayed has the address that it had
 pub stayed_match : (row : Row) (heard : Bool) (h h' : Host) (t u : Card) → Stayed row heard t u → matches t.rca h.rca ≡ matches t.rca h'.rca →
     matches t.rca h.rca ≡ matches u.rca h'.rca
 stayed_match row heard h h' t u m same = same ∙ ap (λ v. matches v h'.rca) m.rca
 
-lost_stayed_law : (response : Response) (k : Kind) (row : Row) (argument : ℕ) (h h' : Host) (t u : Card) → k ≡ t.kind → Allowed row t → h.flags ≡ h'.flags →
+lost_stayed_law : (response : Response) (k : Kind) (row : Row) (argument : ℕ) (h h' : Host) (t u : Card) → k ≡ t.kind → Allowed row t → SameHost h h' →
     matches t.rca h.rca ≡ matches t.rca h'.rca → LostStayed response row t u →
     May (taken k row false (view t h)) (view u h') ⊎ May (lost_stayed k response row (view t h)) (view u h')
-lost_stayed_law CardStatus k row argument h h' t u kind allowed flags same m =
-    stayed_cases k row false argument h h' t u kind allowed m.card flags (stayed_match row false h h' t u m.card same)
-lost_stayed_law NewAddress k row argument h h' t u kind allowed flags same m =
-    stayed_cases k row false argument h h' t u kind allowed m.card flags (stayed_match row false h h' t u m.card same)
-lost_stayed_law response k row argument h h' t u kind allowed flags same m = absurd m
+lost_stayed_law CardStatus k row argument h h' t u kind allowed host same m =
+    stayed_cases k row false argument h h' t u kind allowed m.card host (stayed_match row false h h' t u m.card same)
+lost_stayed_law NewAddress k row argument h h' t u kind allowed host same m =
+    stayed_cases k row false argument h h' t u kind allowed m.card host (stayed_match row false h h' t u m.card same)
+lost_stayed_law response k row argument h h' t u kind allowed host same m = absurd m
 
 -- without a response the card is as it was, or took the row, or stayed
-pub lost_law : (response : Response) (k : Kind) (row : Row) (argument : ℕ) (h h' : Host) (t u : Card) → k ≡ t.kind → Allowed row t → h.flags ≡ h'.flags →
+pub lost_law : (response : Response) (k : Kind) (row : Row) (argument : ℕ) (h h' : Host) (t u : Card) → k ≡ t.kind → Allowed row t → SameHost h h' →
     matches t.rca h.rca ≡ matches t.rca h'.rca →
     (Taken row false argument t u → May (matched_after row false (matches t.rca h.rca)) (matches u.rca h'.rca)) →
     Lost response row argument t u → May (lost k response row (view t h)) (view u h')
-lost_law response k row argument h h' t u kind allowed flags same matched (inl e) =
-    here (subst (λ v. view t h ≡ view v h') e (same_view h h' t flags same))
-lost_law response k row argument h h' t u kind allowed flags same matched (inr (inl m)) =
-    there (May-append_left _ (taken_law k row false argument h h' t u kind m.card flags (matched m.card)))
-lost_law response k row argument h h' t u kind allowed flags same matched (inr (inr m)) =
-    elim (lost_stayed_law response k row argument h h' t u kind allowed flags same m) [
+lost_law response k row argument h h' t u kind allowed host same matched (inl e) =
+    here (subst (λ v. view t h ≡ view v h') e (same_view h h' t host same))
+lost_law response k row argument h h' t u kind allowed host same matched (inr (inl m)) =
+    there (May-append_left _ (taken_law k row false argument h h' t u kind m.card host (matched m.card)))
+lost_law response k row argument h h' t u kind allowed host same matched (inr (inr m)) =
+    elim (lost_stayed_law response k row argument h h' t u kind allowed host same m) [
       | inl n ↦ there (May-append_left _ n)
       | inr n ↦ there (May-append_right (taken k row false (view t h)) n)
     ]

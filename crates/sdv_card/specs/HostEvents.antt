@@ -13,10 +13,14 @@ pub record ArgumentFits (k : Kind) (ask : Ask) (argument : ℕ) (h : Host) : Typ
   pub address : ℕ
   pub same : argument ≡ argument_of k ask h.rca address
 
+-- a phase of a host has the size that is due
+pub record PhaseFits (h : Host) (count due : ℕ) : Type 0 where
+  pub size : count ≡ due
+
 -- a phase is as long as was announced, or asked for, last
 abbrev pub Makes : Kind → ScriptEvent → Host → Type 0
 Makes k (SendCommand ask position argument) h = ArgumentFits k ask argument h
-Makes k (ReceiveBlocks count) h = count ≡ h.announced
-Makes k (ReceiveRegister count) h = count ≡ h.register_length
-Makes k (GiveBlocks blocks) h = length blocks ≡ h.announced
+Makes k (ReceiveBlocks count) h = PhaseFits h count h.announced
+Makes k (ReceiveRegister count) h = PhaseFits h count h.register_length
+Makes k (GiveBlocks blocks) h = PhaseFits h (length blocks) h.announced
 Makes k AwaitReady h = Unit {0}

@@ -369,7 +369,8 @@ module _ (g : Graph) (ps : List PointFacts) (laws : Laws g.kind) (points : Point
       subst (λ e. IsFine g.kind e c h × ((returned : Return) (u : Card) → Step e c returned u
       → Arrived g ps (bound p ts) (commands_in e) (arrive (if passes g.kind WentWell returned then well else other) ts (host_after g.kind e returned h)) u))
       (sym deed)
-      (well_way p ts well other (ReceiveBlocks h.announced) c h (does place p ts (ReceiveBlocks h.announced) (well_or well) other c h at cost refl legal
+      (well_way p ts well other (ReceiveBlocks h.announced) c h
+      (does place p ts (ReceiveBlocks h.announced) (well_or well) other c h at cost (record { size = refl }) legal
       (λ l. at.honest.sound.blocks (read_blocks c.state c.transfer l))
       (λ returned u step. phase_holds well (ReceiveBlocks h.announced) c h returned u refl at.honest.pair step) edge))
   phases_well kinds.ReceiveRegister place p ts well other c h at cost legal edge = λ event deed.
@@ -377,14 +378,15 @@ module _ (g : Graph) (ps : List PointFacts) (laws : Laws g.kind) (points : Point
       → Arrived g ps (bound p ts) (commands_in e) (arrive (if passes g.kind WentWell returned then well else other) ts (host_after g.kind e returned h)) u))
       (sym deed)
       (well_way p ts well other (ReceiveRegister h.register_length) c h
-      (does place p ts (ReceiveRegister h.register_length) (well_or well) other c h at cost refl legal
+      (does place p ts (ReceiveRegister h.register_length) (well_or well) other c h at cost (record { size = refl }) legal
       (λ l. at.honest.sound.register (register_blocks c.state c.transfer l))
       (λ returned u step. phase_holds well (ReceiveRegister h.register_length) c h returned u refl at.honest.pair step) edge))
   phases_well kinds.GiveBlocks place p ts well other c h at cost legal edge = λ event deed.
       subst (λ e. IsFine g.kind e c h × ((returned : Return) (u : Card) → Step e c returned u
       → Arrived g ps (bound p ts) (commands_in e) (arrive (if passes g.kind WentWell returned then well else other) ts (host_after g.kind e returned h)) u))
       (sym deed.2)
-      (well_way p ts well other (GiveBlocks deed.0) c h (does place p ts (GiveBlocks deed.0) (well_or well) other c h at cost deed.1 legal
+      (well_way p ts well other (GiveBlocks deed.0) c h
+      (does place p ts (GiveBlocks deed.0) (well_or well) other c h at cost (record { size = deed.1 }) legal
       (λ l. deed.1 ∙ at.honest.sound.blocks (give_blocks c.state c.transfer l))
       (λ returned u step. phase_holds well (GiveBlocks deed.0) c h returned u refl at.honest.pair step) edge))
   phases_well kinds.Wait place p ts well other c h at cost legal edge = λ event deed.
