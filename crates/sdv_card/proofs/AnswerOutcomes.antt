@@ -19,7 +19,7 @@ use Rattle.sdv_card.specs.Responses.{response_of}
 use Rattle.sdv_card.specs.ResponseStatus.{in_doubt}
 use Rattle.sdv_card.specs.Seen.{answer_seen, app_of}
 use Rattle.sdv_card.specs.Takes.{matches}
-use Rattle.sdv_card.specs.Card.{Card}
+use Rattle.sdv_card.specs.Card.{Card, switch_pending}
 use Rattle.sdv_card.specs.Host.{Host, rca_known}
 use Rattle.sdv_card.specs.Exchange.{RowAnswer, SettledAnswer}
 use Rattle.sdv_card.specs.Shapes.{view}
@@ -31,7 +31,7 @@ use Rattle.sdv_card.proofs.RowOutcomes.{AtRow, heard, heard_host, timed_out, hea
 status_law : (k : Kind) (order : Order) (row : Row) (argument : ℕ) (h : Host) (t u : Card) (answer : Answer) → CardStatus ≡ response_of row
     → AtRow k order row t →
     RowAnswer CardStatus order row argument t answer u →
-    May (row_branches k order row CardStatus (view t h)) (branch (view u (heard order answer h)) (answer_seen k answer))
+    May (row_branches k order row CardStatus (view t h)) (branch (view u (heard order answer h)) (answer_seen k (switch_pending t) answer))
 status_law k order row argument h t u TimeOut is at a =
     May-append_left _ (timed_out CardStatus k order row argument h t u is (λ e. let f : Absent ≡ CardStatus = e in cc) at a)
 status_law k order row argument h t u (Replied (R1 index word)) is at a =
@@ -49,7 +49,7 @@ new_address row e = absurd (cc)
 
 address_answer : (k : Kind) (order : Order) (argument : ℕ) (h : Host) (t u : Card) (answer : Answer) → AtRow k order Cmd3Sd t →
     RowAnswer NewAddress order Cmd3Sd argument t answer u →
-    May (row_branches k order Cmd3Sd NewAddress (view t h)) (branch (view u (heard order answer h)) (answer_seen k answer))
+    May (row_branches k order Cmd3Sd NewAddress (view t h)) (branch (view u (heard order answer h)) (answer_seen k (switch_pending t) answer))
 address_answer k order argument h t u TimeOut at a =
     May-append_left _ (timed_out NewAddress k order Cmd3Sd argument h t u refl (λ e. let f : Absent ≡ NewAddress = e in cc) at a)
 address_answer k order argument h t u (Replied (R6 word)) at a =
@@ -64,23 +64,23 @@ address_answer k order argument h t u answer at a = absurd a
 
 address_law : (k : Kind) (order : Order) (row : Row) (argument : ℕ) (h : Host) (t u : Card) (answer : Answer) → Cmd3Sd ≡ row → AtRow k order row t →
     RowAnswer NewAddress order row argument t answer u →
-    May (row_branches k order row NewAddress (view t h)) (branch (view u (heard order answer h)) (answer_seen k answer))
+    May (row_branches k order row NewAddress (view t h)) (branch (view u (heard order answer h)) (answer_seen k (switch_pending t) answer))
 address_law k order row argument h t u answer e at a =
-    subst (λ r. May (row_branches k order r NewAddress (view t h)) (branch (view u (heard order answer h)) (answer_seen k answer))) e
+    subst (λ r. May (row_branches k order r NewAddress (view t h)) (branch (view u (heard order answer h)) (answer_seen k (switch_pending t) answer))) e
     (address_answer k order argument h t u answer (subst (λ r. AtRow k order r t) (sym e) at)
     (subst (λ r. RowAnswer NewAddress order r argument t answer u) (sym e) a))
 
 contents_law : (k : Kind) (order : Order) (row : Row) (argument : ℕ) (h : Host) (t u : Card) (answer : Answer) → Contents ≡ response_of row
     → AtRow k order row t →
     RowAnswer Contents order row argument t answer u →
-    May (row_branches k order row Contents (view t h)) (branch (view u (heard order answer h)) (answer_seen k answer))
+    May (row_branches k order row Contents (view t h)) (branch (view u (heard order answer h)) (answer_seen k (switch_pending t) answer))
 contents_law k order row argument h t u TimeOut is at a =
     May-append_left _ (timed_out Contents k order row argument h t u is (λ e. let f : Absent ≡ Contents = e in cc) at a)
 contents_law k order row argument h t u (Replied reply) is at a =
     let h' : Host = heard order (Replied reply) h in
     May-append_right (with_seen SeenTimeOut (lost k Contents row (view t h)))
     (subst (λ v. May (with_seen Bare (taken k row true (view t h))) (branch (view u h') v))
-    (bare_seen k row t reply a.shown)
+    (bare_seen k (switch_pending t) row t reply a.shown)
     (May-map (λ v. branch v Bare)
     (heard_taken k order row argument h t u (Replied reply) (λ e. let f : NewAddress ≡ Contents = e ∙ sym is in cc) at a.card)))
 contents_law k order row argument h t u answer is at a = absurd a
@@ -88,7 +88,7 @@ contents_law k order row argument h t u answer is at a = absurd a
 conditions_answer : (k : Kind) (order : Order) (row : Row) (argument : ℕ) (h : Host) (t u : Card) (answer : Answer) → Conditions ≡ response_of row
     → AtRow k order row t →
     RowAnswer Conditions order row argument t answer u →
-    May (row_branches k order row Conditions (view t h)) (branch (view u (heard order answer h)) (answer_seen k answer))
+    May (row_branches k order row Conditions (view t h)) (branch (view u (heard order answer h)) (answer_seen k (switch_pending t) answer))
 conditions_answer k order row argument h t u TimeOut is at a =
     May-append_left _ (timed_out Conditions k order row argument h t u is (λ e. let f : Absent ≡ Conditions = e in cc) at a)
 conditions_answer k order row argument h t u (Replied (R3 word)) is at a =
@@ -103,7 +103,7 @@ conditions_answer k order row argument h t u answer is at a = absurd a
 
 absent_law : (k : Kind) (order : Order) (row : Row) (argument : ℕ) (h : Host) (t u : Card) (answer : Answer) → Absent ≡ response_of row → AtRow k order row t →
     RowAnswer Absent order row argument t answer u →
-    May (row_branches k order row Absent (view t h)) (branch (view u (heard order answer h)) (answer_seen k answer))
+    May (row_branches k order row Absent (view t h)) (branch (view u (heard order answer h)) (answer_seen k (switch_pending t) answer))
 absent_law k order row argument h t u Sent is at a =
     May-map (λ v. branch v SeenSent)
     (heard_taken k order row argument h t u Sent (λ e. let f : NewAddress ≡ Absent = e ∙ sym is in cc) at a.card)
@@ -112,16 +112,16 @@ absent_law k order row argument h t u answer is at a = absurd a
 not_addressed_law : (k : Kind) (order : Order) (row : Row) (argument : ℕ) (h : Host) (t u : Card) (answer : Answer) → NotAddressed ≡ response_of row
     → AtRow k order row t →
     RowAnswer NotAddressed order row argument t answer u →
-    May (row_branches k order row NotAddressed (view t h)) (branch (view u (heard order answer h)) (answer_seen k answer))
+    May (row_branches k order row NotAddressed (view t h)) (branch (view u (heard order answer h)) (answer_seen k (switch_pending t) answer))
 not_addressed_law k order row argument h t u answer is at a =
     subst (λ v. May (with_seen (unaddressed_seen order) (view t h ∷ taken k row true (view t h))) (branch (view u (heard order answer h)) v))
-    (unaddressed_law k order answer a.0)
+    (unaddressed_law k (switch_pending t) order answer a.0)
     (May-map (λ v. branch v (unaddressed_seen order)) (unseen_cases k order row argument h t u answer is at a.1))
 
 row_law : (response : Response) (k : Kind) (order : Order) (row : Row) (argument : ℕ) (h : Host) (t u : Card) (answer : Answer) → response ≡ response_of row
     → AtRow k order row t →
     RowAnswer response order row argument t answer u →
-    May (row_branches k order row response (view t h)) (branch (view u (heard order answer h)) (answer_seen k answer))
+    May (row_branches k order row response (view t h)) (branch (view u (heard order answer h)) (answer_seen k (switch_pending t) answer))
 row_law Absent k order row argument h t u answer is at a = absent_law k order row argument h t u answer is at a
 row_law NotAddressed k order row argument h t u answer is at a = not_addressed_law k order row argument h t u answer is at a
 row_law CardStatus k order row argument h t u answer is at a = status_law k order row argument h t u answer is at a
@@ -130,9 +130,9 @@ row_law Contents k order row argument h t u answer is at a = contents_law k orde
 row_law Conditions k order row argument h t u answer is at a = conditions_answer k order row argument h t u answer is at a
 
 ignored_law : (k : Kind) (order : Order) (h : Host) (t u : Card) (answer : Answer) → rca_known order TimeOut h.rca ≡ h.rca →
-    (TimeOut ≡ answer) × (t ≡ u) → May (branch (view t h) SeenTimeOut ∷ []) (branch (view u (heard order answer h)) (answer_seen k answer))
+    (TimeOut ≡ answer) × (t ≡ u) → May (branch (view t h) SeenTimeOut ∷ []) (branch (view u (heard order answer h)) (answer_seen k (switch_pending t) answer))
 ignored_law k order h t u answer rca a =
-    subst (λ v. May (branch (view t h) SeenTimeOut ∷ []) (branch (view u (heard order v h)) (answer_seen k v))) a.0
+    subst (λ v. May (branch (view t h) SeenTimeOut ∷ []) (branch (view u (heard order v h)) (answer_seen k (switch_pending t) v))) a.0
     (subst (λ v. May (branch (view t h) SeenTimeOut ∷ []) (branch (view v (heard order TimeOut h)) SeenTimeOut)) a.1
     (here (ap (λ v. branch v SeenTimeOut) (same_view h (heard order TimeOut h) t (heard_host order TimeOut h) (ap (λ n. matches t.rca n) (sym rca))))))
 
@@ -140,7 +140,7 @@ ignored_law k order h t u answer rca a =
 pub settled_answer_law : (way : TakenAs) (k : Kind) (order : Order) (argument : ℕ) (h : Host) (t u : Card) (answer : Answer) →
     (way ≡ Ignored → rca_known order TimeOut h.rca ≡ h.rca) → ((row : Row) → way ≡ By row → AtRow k order row t) →
     SettledAnswer way order argument t answer u →
-    May (settled_branches k order (view t h) way) (branch (view u (heard order answer h)) (answer_seen k answer))
+    May (settled_branches k order (view t h) way) (branch (view u (heard order answer h)) (answer_seen k (switch_pending t) answer))
 settled_answer_law Forbidden k order argument h t u answer ignored at a = absurd a
 settled_answer_law Ignored k order argument h t u answer ignored at a = ignored_law k order h t u answer (ignored refl) a
 settled_answer_law (By row) k order argument h t u answer ignored at a =

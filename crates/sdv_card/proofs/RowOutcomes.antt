@@ -129,12 +129,12 @@ address_cases k argument h h' t u word d kind card host e (inr m) =
 
 -- CONTENTS
 
-pub bare_seen : (k : Kind) (row : Row) (t : Card) (reply : Reply) → ContentsShown row t reply → Bare ≡ answer_seen k (Replied reply)
-bare_seen k Cmd2 t (R2 bytes) s = refl
-bare_seen k Cmd8Sd t (R7 word) s = refl
-bare_seen k Cmd9 t (R2 bytes) s = refl
-bare_seen k Cmd10 t (R2 bytes) s = refl
-bare_seen k row t reply s = absurd s
+pub bare_seen : (k : Kind) (pending : Bool) (row : Row) (t : Card) (reply : Reply) → ContentsShown row t reply → Bare ≡ answer_seen k pending (Replied reply)
+bare_seen k pending Cmd2 t (R2 bytes) s = refl
+bare_seen k pending Cmd8Sd t (R7 word) s = refl
+bare_seen k pending Cmd9 t (R2 bytes) s = refl
+bare_seen k pending Cmd10 t (R2 bytes) s = refl
+bare_seen k pending row t reply s = absurd s
 
 -- CONDITIONS
 
@@ -157,12 +157,13 @@ conditions_law false w v unit e f = rw e refl
 
 -- NOT ADDRESSED
 
-pub unaddressed_law : (k : Kind) (order : Order) (answer : Answer) → unaddressed_answer order ≡ answer → unaddressed_seen order ≡ answer_seen k answer
-unaddressed_law k order answer e = rw (sym e) (same k order)
+pub unaddressed_law : (k : Kind) (pending : Bool) (order : Order) (answer : Answer) → unaddressed_answer order ≡ answer →
+    unaddressed_seen order ≡ answer_seen k pending answer
+unaddressed_law k pending order answer e = rw (sym e) (same k pending order)
   where
-    same : (k : Kind) (order : Order) → unaddressed_seen order ≡ answer_seen k (unaddressed_answer order)
-    same k DeselectCards = refl
-    same k order = refl
+    same : (k : Kind) (pending : Bool) (order : Order) → unaddressed_seen order ≡ answer_seen k pending (unaddressed_answer order)
+    same k pending DeselectCards = refl
+    same k pending order = refl
 
 pub unseen_cases : (k : Kind) (order : Order) (row : Row) (argument : ℕ) (h : Host) (t u : Card) (answer : Answer) → NotAddressed ≡ response_of row →
     AtRow k order row t → (t ≡ u) ⊎ TakenUnseen row argument t u → May (view t h ∷ taken k row true (view t h)) (view u (heard order answer h))

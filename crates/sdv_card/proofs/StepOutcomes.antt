@@ -19,7 +19,7 @@ use Rattle.sdv_card.specs.StateTable.{◌to◌, unchanged, rows}
 use Rattle.sdv_card.specs.Takes.{taken_as_of, matches}
 use Rattle.sdv_card.specs.CommandTable.{order_of}
 use Rattle.sdv_card.specs.ScriptEvent.{ScriptEvent, SendCommand, ReceiveBlocks, ReceiveRegister, GiveBlocks, AwaitReady, Return, Answered, BlocksIn, RegisterIn, BlocksOut, Waited, event_of}
-use Rattle.sdv_card.specs.Card.{Card, IsCard, AddressFits}
+use Rattle.sdv_card.specs.Card.{Card, switch_pending, IsCard, AddressFits}
 use Rattle.sdv_card.specs.Host.{Host, host_after, host_after_order}
 use Rattle.sdv_card.specs.HostEvents.{Makes}
 use Rattle.sdv_card.specs.Settled.{Settled}
@@ -55,7 +55,7 @@ OrderAllows order c h = (t : Card) → Settled c t → (row : Row) → taken_as_
 
 exchange_law : (order : Order) (argument : ℕ) (c u : Card) (h : Host) (answer : Answer) → IsCard c → AddressSent order argument h → OrderAllows order c h →
     Exchanges order argument c answer u →
-    May (order_branches c.kind order (view c h)) (branch (view u (host_after_order (Some order) answer h)) (answer_seen c.kind answer))
+    May (order_branches c.kind order (view c h)) (branch (view u (host_after_order (Some order) answer h)) (answer_seen c.kind (switch_pending c) answer))
 exchange_law order argument c u h answer card sent given x =
     let t : Card = x.settled_card in
     let way : TakenAs = taken_as_of order t.app (matches t.rca h.rca) in
@@ -108,9 +108,10 @@ EventAllows event c h = Unit {0}
 
 event_law : (event : ScriptEvent) (c : Card) (h : Host) (returned : Return) (u : Card) → IsCard c → Makes c.kind event h → EventAllows event c h →
     Step event c returned u →
-    May (event_branches c.kind (event_of event) (view c h)) (branch (view u (host_after c.kind event returned h)) (seen_of c.kind returned))
+    May (event_branches c.kind (event_of event) (view c h)) (branch (view u (host_after c.kind event returned h)) (seen_of c.kind (switch_pending c) returned))
 event_law (SendCommand ask position argument) c h (Answered answer) u card made given s =
-    subst (λ o. May (ask_branches c.kind o (view c h)) (branch (view u (host_after_order o answer h)) (answer_seen c.kind answer))) (sym s.asks.line)
+    subst (λ o. May (ask_branches c.kind o (view c h)) (branch (view u (host_after_order o answer h)) (answer_seen c.kind (switch_pending c) answer)))
+    (sym s.asks.line)
     (exchange_law s.order argument c u h answer card (address_sent c.kind ask argument h s.order made s.asks.line) (given s.order s.asks.line) s.exchange)
 event_law (ReceiveBlocks count) c h (BlocksIn end blocks) u card made given s = either_end end c u h (moved_law end c u h s.moved)
 event_law (ReceiveRegister count) c h (RegisterIn end bytes) u card made given s = either_end end c u h (moved_law end c u h s.moved)
@@ -120,12 +121,15 @@ event_law event c h returned u card made given s = absurd s
 
 outcomes_law : (k : Kind) (event : ScriptEvent) (c : Card) (h : Host) (returned : Return) (u : Card) →
     IsPair k c h → Makes k event h → EventAllows event c h → Step event c returned u →
-    May (outcomes_code k (pair_code c h) (event_of event)) (outcome_of (branch (view u (host_after k event returned h)) (seen_of k returned)))
+    May (outcomes_code k (pair_code c h) (event_of event))
+    (outcome_of (branch (view u (host_after k event returned h)) (seen_of k (switch_pending c) returned)))
 outcomes_law k event c h returned u pair made given s =
-    subst (λ v. May (map outcome_of (branches_at k (event_of event) v)) (outcome_of (branch (view u (host_after k event returned h)) (seen_of k returned))))
+    subst (λ v. May (map outcome_of (branches_at k (event_of event) v))
+    (outcome_of (branch (view u (host_after k event returned h)) (seen_of k (switch_pending c) returned))))
     (sym (fields_law (view c h) pair.flags pair.card.preset))
     (May-map outcome_of
-    (subst (λ v. May (event_branches v (event_of event) (view c h)) (branch (view u (host_after v event returned h)) (seen_of v returned))) (sym pair.kind)
+    (subst (λ v. May (event_branches v (event_of event) (view c h)) (branch (view u (host_after v event returned h)) (seen_of v (switch_pending c) returned)))
+    (sym pair.kind)
     (event_law event c h returned u pair.card (subst (λ v. Makes v event h) pair.kind made) given s)))
 
 -- A LEGAL COMMAND gives an address only in identification state, where a card has none

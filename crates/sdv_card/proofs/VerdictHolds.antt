@@ -21,9 +21,10 @@ use Rattle.sdv_card.specs.States.{state_number}
 use Rattle.sdv_card.specs.ResponseStatus.{in_doubt, is_clean}
 use Rattle.sdv_card.specs.Takes.{matches}
 use Rattle.sdv_card.specs.CommandTable.{order_of}
-use Rattle.sdv_card.specs.ScriptEvent.{ScriptEvent, SendCommand, ReceiveBlocks, ReceiveRegister, GiveBlocks, AwaitReady, Return, Answered, BlocksIn, RegisterIn, BlocksOut, Waited}
+use Rattle.sdv_card.specs.ScriptEvent.{SendCommand, ReceiveBlocks, ReceiveRegister, GiveBlocks, AwaitReady, Return, Answered, BlocksIn, RegisterIn, BlocksOut, Waited}
 use Rattle.sdv_card.specs.Exchange.{card_takes}
 use Rattle.sdv_card.specs.Seen.{seen_of, answer_seen, app_of}
+use Rattle.sdv_card.specs.Card.{switch_pending}
 use Rattle.sdv_card.specs.Guards.{Verdict, Holds, Fails, Open, guard_fits, answer_passes, passes, exactly, exactly_if_shown, is_set, verdict, may_hold, may_fail}
 use Rattle.sdv_card.specs.Laws.{VerdictHolds, VerdictsHold, fits_order}
 use Rattle.sdv_card.proofs.RowsOfOrders.{says}
@@ -84,67 +85,62 @@ block_agrees false block = tt
 
 -- AN ANSWER
 
-answer_agrees : (k : Kind) (guard : Guard) (order : Order) (answer : Answer) → guard_fits guard order ≡ true → AnswerFits order answer →
-    Agree (answer_passes k guard answer) (verdict guard (answer_seen k answer))
-answer_agrees k guard order (Damaged fault) fit f = absurd f
-answer_agrees k WentWell order answer fit f = absurd (let g : false ≡ true = fit in cc)
-answer_agrees k Clean order (Replied (R1 index word)) fit f =
+answer_agrees : (k : Kind) (pending : Bool) (guard : Guard) (order : Order) (answer : Answer) → guard_fits guard order ≡ true → AnswerFits order answer →
+    Agree (answer_passes k guard answer) (verdict guard (answer_seen k pending answer))
+answer_agrees k pending guard order (Damaged fault) fit f = absurd f
+answer_agrees k pending WentWell order answer fit f = absurd (let g : false ≡ true = fit in cc)
+answer_agrees k pending Clean order (Replied (R1 index word)) fit f =
     clean_agrees (in_doubt (R1 index word)) (is_clean k (R1 index word)) (state_field word) (app_of index word)
     (λ d. met_wider word (clean_mask k) doubt_mask (part_of_clean k) d)
-answer_agrees k Clean order (Replied (R6 word)) fit f =
+answer_agrees k pending Clean order (Replied (R6 word)) fit f =
     clean_agrees (in_doubt (R6 word)) (is_clean k (R6 word)) (state_field word) None (λ d. met_wider word clean_mask_r6 doubt_mask_r6 refl d)
-answer_agrees k ReadyForData order (Replied (R1 index word)) fit f = tt
-answer_agrees k ReadyForData order (Replied (R6 word)) fit f = tt
-answer_agrees k App AppCommand (Replied (R1 index word)) fit f = app_agrees index word f.0
-answer_agrees k App order (Replied (R1 index word)) fit f = absurd (let g : false ≡ true = fit in cc)
-answer_agrees k Echo SendIfCond (Replied (R7 word)) fit f = eq-eqb _ _ f.1
-answer_agrees k Echo SendIfCond (Replied (R2 bytes)) fit f = absurd f.1
-answer_agrees k Echo order (Replied (R7 word)) fit f = absurd (let g : false ≡ true = fit in cc)
-answer_agrees k Echo order (Replied (R2 bytes)) fit f = absurd (let g : false ≡ true = fit in cc)
-answer_agrees k OcrReady order (Replied (R3 word)) fit f = exactly_agrees (is_powered_up word)
-answer_agrees k OcrBlock order (Replied (R3 word)) fit f = block_agrees (is_powered_up word) (is_block_addressed k word)
-answer_agrees k (InState s) order (Replied (R1 index word)) fit f = exactly_agrees (state_field word == state_number s)
-answer_agrees k (InState s) order (Replied (R6 word)) fit f = exactly_agrees (state_field word == state_number s)
-answer_agrees k guard order (Replied (R1 index word)) fit f = refl
-answer_agrees k guard order (Replied (R2 bytes)) fit f = refl
-answer_agrees k guard order (Replied (R3 word)) fit f = refl
-answer_agrees k guard order (Replied (R6 word)) fit f = refl
-answer_agrees k guard order (Replied (R7 word)) fit f = refl
-answer_agrees k guard order answer fit f = refl
+answer_agrees k pending ReadyForData order (Replied (R1 index word)) fit f = tt
+answer_agrees k pending ReadyForData order (Replied (R6 word)) fit f = tt
+answer_agrees k pending App AppCommand (Replied (R1 index word)) fit f = app_agrees index word f.0
+answer_agrees k pending App order (Replied (R1 index word)) fit f = absurd (let g : false ≡ true = fit in cc)
+answer_agrees k pending Echo SendIfCond (Replied (R7 word)) fit f = eq-eqb _ _ f.1
+answer_agrees k pending Echo SendIfCond (Replied (R2 bytes)) fit f = absurd f.1
+answer_agrees k pending Echo order (Replied (R7 word)) fit f = absurd (let g : false ≡ true = fit in cc)
+answer_agrees k pending Echo order (Replied (R2 bytes)) fit f = absurd (let g : false ≡ true = fit in cc)
+answer_agrees k pending OcrReady order (Replied (R3 word)) fit f = exactly_agrees (is_powered_up word)
+answer_agrees k pending OcrBlock order (Replied (R3 word)) fit f = block_agrees (is_powered_up word) (is_block_addressed k word)
+answer_agrees k pending (InState s) order (Replied (R1 index word)) fit f = exactly_agrees (state_field word == state_number s)
+answer_agrees k pending (InState s) order (Replied (R6 word)) fit f = exactly_agrees (state_field word == state_number s)
+answer_agrees k pending guard order (Replied (R1 index word)) fit f = refl
+answer_agrees k pending guard order (Replied (R2 bytes)) fit f = refl
+answer_agrees k pending guard order (Replied (R3 word)) fit f = refl
+answer_agrees k pending guard order (Replied (R6 word)) fit f = refl
+answer_agrees k pending guard order (Replied (R7 word)) fit f = refl
+answer_agrees k pending guard order answer fit f = refl
 
-answer_holds : (k : Kind) (guard : Guard) (order : Order) (answer : Answer) → guard_fits guard order ≡ true → AnswerFits order answer →
-    VerdictHolds k guard (Answered answer)
-answer_holds k guard order answer fit f =
-    let agree : Agree (answer_passes k guard answer) (verdict guard (answer_seen k answer)) = answer_agrees k guard order answer fit f in
+answer_holds : (k : Kind) (pending : Bool) (guard : Guard) (order : Order) (answer : Answer) → guard_fits guard order ≡ true → AnswerFits order answer →
+    VerdictHolds k guard pending (Answered answer)
+answer_holds k pending guard order answer fit f =
+    let agree : Agree (answer_passes k guard answer) (verdict guard (answer_seen k pending answer)) = answer_agrees k pending guard order answer fit f in
     record { held = λ e. agree_held _ _ agree e; failed = λ e. agree_failed _ _ agree e }
 
 -- A PHASE AND A WAIT
 
-went_well : (k : Kind) (event : ScriptEvent) (returned : Return) (v : Verdict) → Agree (passes k WentWell returned) v
-    → v ≡ verdict WentWell (seen_of k returned) →
-    VerdictHolds k WentWell returned
-went_well k event returned v agree e =
-    let at : Agree (passes k WentWell returned) (verdict WentWell (seen_of k returned)) = subst (λ w. Agree (passes k WentWell returned) w) e agree in
-    record { held = λ e. agree_held _ _ at e; failed = λ e. agree_failed _ _ at e }
+went_well : (k : Kind) (pending : Bool) (returned : Return) → Agree (passes k WentWell returned) (verdict WentWell (seen_of k pending returned)) →
+    VerdictHolds k WentWell pending returned
+went_well k pending returned agree = record { held = λ e. agree_held _ _ agree e; failed = λ e. agree_failed _ _ agree e }
 
-phase_holds : (k : Kind) (event : ScriptEvent) (returned : Return) → Agree (passes k WentWell returned) (verdict WentWell (seen_of k returned)) →
-    (guard : Guard) → guard ≡ WentWell → VerdictHolds k guard returned
-phase_holds k event returned agree guard e = subst (λ g. VerdictHolds k g returned) (sym e) (went_well k event returned _ agree refl)
+phase_holds : (k : Kind) (pending : Bool) (returned : Return) → Agree (passes k WentWell returned) (verdict WentWell (seen_of k pending returned)) →
+    (guard : Guard) → guard ≡ WentWell → VerdictHolds k guard pending returned
+phase_holds k pending returned agree guard e = subst (λ g. VerdictHolds k g pending returned) (sym e) (went_well k pending returned agree)
 
 pub verdicts_hold : (k : Kind) → VerdictsHold k
 verdicts_hold k guard (SendCommand ask position argument) c h (Answered answer) u pair fit s =
     let e : order_of k ask ≡ Some s.order = subst (λ v. order_of v ask ≡ Some s.order) (sym pair.kind) s.asks.line in
-    answer_holds k guard s.order answer (subst (λ o. fits_order guard o ≡ true) e fit)
+    answer_holds k (switch_pending c) guard s.order answer (subst (λ o. fits_order guard o ≡ true) e fit)
     (answer_fits (card_takes s.exchange.settled_card s.order argument) s.order argument s.exchange.settled_card u answer
     (λ row by. says s.order s.exchange.settled_card.app (matches s.exchange.settled_card.rca (argument / 65536)) row by) s.exchange.answered)
-verdicts_hold k guard (ReceiveBlocks count) c h (BlocksIn Ok blocks) u pair fit s = phase_holds k (ReceiveBlocks count) (BlocksIn Ok blocks) refl guard fit
-verdicts_hold k guard (ReceiveBlocks count) c h (BlocksIn Cut blocks) u pair fit s = phase_holds k (ReceiveBlocks count) (BlocksIn Cut blocks) refl guard fit
-verdicts_hold k guard (ReceiveRegister count) c h (RegisterIn Ok bytes) u pair fit s =
-    phase_holds k (ReceiveRegister count) (RegisterIn Ok bytes) refl guard fit
-verdicts_hold k guard (ReceiveRegister count) c h (RegisterIn Cut bytes) u pair fit s =
-    phase_holds k (ReceiveRegister count) (RegisterIn Cut bytes) refl guard fit
-verdicts_hold k guard (GiveBlocks blocks) c h (BlocksOut Ok) u pair fit s = phase_holds k (GiveBlocks blocks) (BlocksOut Ok) refl guard fit
-verdicts_hold k guard (GiveBlocks blocks) c h (BlocksOut Cut) u pair fit s = phase_holds k (GiveBlocks blocks) (BlocksOut Cut) refl guard fit
-verdicts_hold k guard AwaitReady c h (Waited Over) u pair fit s = phase_holds k AwaitReady (Waited Over) refl guard fit
-verdicts_hold k guard AwaitReady c h (Waited Late) u pair fit s = phase_holds k AwaitReady (Waited Late) refl guard fit
+verdicts_hold k guard (ReceiveBlocks count) c h (BlocksIn Ok blocks) u pair fit s = phase_holds k (switch_pending c) (BlocksIn Ok blocks) refl guard fit
+verdicts_hold k guard (ReceiveBlocks count) c h (BlocksIn Cut blocks) u pair fit s = phase_holds k (switch_pending c) (BlocksIn Cut blocks) refl guard fit
+verdicts_hold k guard (ReceiveRegister count) c h (RegisterIn Ok bytes) u pair fit s = phase_holds k (switch_pending c) (RegisterIn Ok bytes) refl guard fit
+verdicts_hold k guard (ReceiveRegister count) c h (RegisterIn Cut bytes) u pair fit s = phase_holds k (switch_pending c) (RegisterIn Cut bytes) refl guard fit
+verdicts_hold k guard (GiveBlocks blocks) c h (BlocksOut Ok) u pair fit s = phase_holds k (switch_pending c) (BlocksOut Ok) refl guard fit
+verdicts_hold k guard (GiveBlocks blocks) c h (BlocksOut Cut) u pair fit s = phase_holds k (switch_pending c) (BlocksOut Cut) refl guard fit
+verdicts_hold k guard AwaitReady c h (Waited Over) u pair fit s = phase_holds k (switch_pending c) (Waited Over) refl guard fit
+verdicts_hold k guard AwaitReady c h (Waited Late) u pair fit s = phase_holds k (switch_pending c) (Waited Late) refl guard fit
 verdicts_hold k guard event c h returned u pair fit s = absurd s

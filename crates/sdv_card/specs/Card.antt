@@ -52,6 +52,10 @@ pub record Card : Type 0 where
   pub unshown_error : Bool
   pub contents : Partitions
 
+-- an error of a switch command that no status has told yet: no card has one, since no row is that of a switch command
+abbrev pub switch_pending : Card → Bool
+switch_pending c = false
+
 -- THE BLOCKS IN ACCESS, which commands with an address and data phases concern
 
 -- how many they are

@@ -10,7 +10,7 @@ use Rattle.sdv_card.specs.declared.event.Ask.{Ask}
 use Rattle.sdv_card.specs.declared.event.Event.{Event}
 use Rattle.sdv_card.specs.declared.event.Outcome.{Outcome}
 use Rattle.sdv_card.specs.Lists.{May}
-use Rattle.sdv_card.specs.Card.{Card}
+use Rattle.sdv_card.specs.Card.{Card, switch_pending}
 use Rattle.sdv_card.specs.Host.{Host, host_after}
 use Rattle.sdv_card.specs.ScriptEvent.{ScriptEvent, SendCommand, Return, event_of}
 use Rattle.sdv_card.specs.CommandTable.{order_of, addressed_blocks}
@@ -68,7 +68,7 @@ abbrev pub StepsAreOutcomes : Kind → Type 0
 StepsAreOutcomes k = (event : ScriptEvent) (c : Card) (h : Host) (returned : Return) (u : Card) →
     IsPair k c h → Makes k event h → EventLegal event c → Step event c returned u →
     May (outcomes_code k (pair_code c h) (event_of event))
-    (outcome_of (branch (view u (host_after k event returned h)) (seen_of k returned)))
+    (outcome_of (branch (view u (host_after k event returned h)) (seen_of k (switch_pending c) returned)))
 
 -- what each step returns is what the host waits for
 abbrev pub StepsAreExpected : Kind → Type 0
@@ -132,10 +132,11 @@ FitsEvent k guard (SendCommand ask position argument) = IsTrue (fits_order guard
 FitsEvent k guard event = guard ≡ WentWell
 
 -- a guard that holds of an answer may hold of what is seen there, and one that fails may fail
-pub record VerdictHolds (k : Kind) (guard : Guard) (returned : Return) : Type 0 where
-  pub held : IsTrue (passes k guard returned) → IsTrue (may_hold (verdict guard (seen_of k returned)))
-  pub failed : passes k guard returned ≡ false → IsTrue (may_fail (verdict guard (seen_of k returned)))
+pub record VerdictHolds (k : Kind) (guard : Guard) (pending : Bool) (returned : Return) : Type 0 where
+  pub held : IsTrue (passes k guard returned) → IsTrue (may_hold (verdict guard (seen_of k pending returned)))
+  pub failed : passes k guard returned ≡ false → IsTrue (may_fail (verdict guard (seen_of k pending returned)))
 
 abbrev pub VerdictsHold : Kind → Type 0
 VerdictsHold k = (guard : Guard) (event : ScriptEvent) (c : Card) (h : Host) (returned : Return) (u : Card) →
-    IsPair k c h → FitsEvent k guard event → Step event c returned u → VerdictHolds k guard returned
+    IsPair k c h → FitsEvent k guard event → Step event c returned u →
+    VerdictHolds k guard (switch_pending c) returned

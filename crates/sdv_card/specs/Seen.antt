@@ -18,25 +18,26 @@ use Rattle.sdv_card.specs.Outcomes.{phase_seen, wait_seen}
 abbrev pub app_of : ℕ → ℕ → Option Bool
 app_of index word = if index == 55 then Some (is_app_cmd word) else None
 
-abbrev pub reply_seen : Kind → Reply → Seen
-reply_seen k (R1 index word) = Status (state_field word) (in_doubt (R1 index word)) (app_of index word)
-reply_seen k (R2 bytes) = Bare
-reply_seen k (R3 word) = Ocr (is_powered_up word)
+-- pending: the card has a switch error that is not told yet, of which no reply shows anything so far
+abbrev pub reply_seen : Kind → (pending : Bool) → Reply → Seen
+reply_seen k pending (R1 index word) = Status (state_field word) (in_doubt (R1 index word)) (app_of index word)
+reply_seen k pending (R2 bytes) = Bare
+reply_seen k pending (R3 word) = Ocr (is_powered_up word)
     (if is_powered_up word then Some (is_block_addressed k word) else None)
-reply_seen k (R6 word) = Status (state_field word) (in_doubt (R6 word)) None
-reply_seen k (R7 word) = Bare
+reply_seen k pending (R6 word) = Status (state_field word) (in_doubt (R6 word)) None
+reply_seen k pending (R7 word) = Bare
 
 -- a damaged response counts as none
-abbrev pub answer_seen : Kind → Answer → Seen
-answer_seen k WasSent = Sent
-answer_seen k TimedOut = TimeOut
-answer_seen k (Replied reply) = reply_seen k reply
-answer_seen k (Damaged fault) = TimeOut
+abbrev pub answer_seen : Kind → (pending : Bool) → Answer → Seen
+answer_seen k pending WasSent = Sent
+answer_seen k pending TimedOut = TimeOut
+answer_seen k pending (Replied reply) = reply_seen k pending reply
+answer_seen k pending (Damaged fault) = TimeOut
 
 -- what is seen of what an event returned
-abbrev pub seen_of : Kind → Return → Seen
-seen_of k (Answered answer) = answer_seen k answer
-seen_of k (BlocksIn end blocks) = phase_seen end
-seen_of k (RegisterIn end bytes) = phase_seen end
-seen_of k (BlocksOut end) = phase_seen end
-seen_of k (Waited end) = wait_seen end
+abbrev pub seen_of : Kind → (pending : Bool) → Return → Seen
+seen_of k pending (Answered answer) = answer_seen k pending answer
+seen_of k pending (BlocksIn end blocks) = phase_seen end
+seen_of k pending (RegisterIn end bytes) = phase_seen end
+seen_of k pending (BlocksOut end) = phase_seen end
+seen_of k pending (Waited end) = wait_seen end

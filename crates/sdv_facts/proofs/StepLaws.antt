@@ -18,7 +18,7 @@ use Rattle.sdv_card.specs.declared.state.State.{State}
 use Rattle.sdv_card.specs.declared.state.State.TheVariants.{Tran, Data, Rcv}
 use Rattle.sdv_card.specs.declared.state.Transfer.{Transfer}
 use Rattle.sdv_card.specs.declared.state.Transfer.TheVariants.{ReadDue, OpenReadDue, ScrDue, SdStatusDue, ExtCsdDue, WriteDue, OpenWriteDue}
-use Rattle.sdv_card.specs.Card.{Card}
+use Rattle.sdv_card.specs.Card.{Card, switch_pending}
 use Rattle.sdv_card.specs.Code.{digits, state_of}
 use Rattle.sdv_card.specs.CommandTable.{order_of, argument_of, argument_or_none, order_argument, addressed_blocks}
 use Rattle.sdv_card.specs.Guards.{passes}
@@ -269,7 +269,7 @@ module _ (g : Graph) (ps : List PointFacts) (laws : Laws g.kind) (points : Point
   does : (place : Point) (p : PointFacts) (ts : List ℕ) (e : ScriptEvent) (ways : List Case) (other : Target) (c : Card) (h : Host) → Here place p ts c h
       → commands_of place.action ≡ commands_in e →
       Makes g.kind e h → legal_code g.kind (pair_code c h) (event_of e) ≡ true → (EventLegal e c → InBounds e c)
-      → ((returned : Return) (u : Card) → Step e c returned u → CasesHold g.kind returned ways) →
+      → ((returned : Return) (u : Card) → Step e c returned u → CasesHold g.kind (switch_pending c) returned ways) →
       EachOutcome g.kind (event_of e) ways other p.facts.numbers (shape c h) (Reaches g.points ps place p) → Goes-well p ts ways other e c h
   does place p ts e ways other c h at cost made legal bounds holds edge =
       let k = g.kind in
@@ -281,9 +281,9 @@ module _ (g : Graph) (ps : List PointFacts) (laws : Laws g.kind) (points : Point
             let h' : Host = host_after k e returned h in
             let after : IsPair k u h' = laws.steps_keep_pairs e c h returned u pair made step in
             let same : SameCard c u = laws.steps_keep_same e c returned u pair.kind step in
-            let o : Outcome = outcome_of (branch (view u h') (seen_of k returned)) in
+            let o : Outcome = outcome_of (branch (view u h') (seen_of k (switch_pending c) returned)) in
             let r : Reaches g.points ps place p Same (way_of k ways other returned) (shape u h') p.facts.numbers =
-            way_taken k returned ways other (λ t. Reaches g.points ps place p Same t (shape u h') p.facts.numbers) (holds returned u step)
+            way_taken k (switch_pending c) returned ways other (λ t. Reaches g.points ps place p Same t (shape u h') p.facts.numbers) (holds returned u step)
             (edge legal o (laws.steps_are_outcomes e c h returned u pair made fine step)) in
             subst (λ n. Arrived g ps (bound p ts) n (arrive (way_of k ways other returned) ts h') u) cost
             (arrives place p Same (way_of k ways other returned) (shape u h') p.facts.numbers r ts ts at.box refl u h' refl
@@ -300,12 +300,13 @@ module _ (g : Graph) (ps : List PointFacts) (laws : Laws g.kind) (points : Point
   -- COMMANDS
 
   cases_hold : (e : ScriptEvent) (c : Card) (h : Host) (returned : Return) (u : Card) (ask : Ask) (position argument : ℕ) (ways : List Case)
-      → e ≡ SendCommand ask position argument → IsPair g.kind c h → Step e c returned u → CasesSuit g.kind ask ways → CasesHold g.kind returned ways
+      → e ≡ SendCommand ask position argument → IsPair g.kind c h → Step e c returned u → CasesSuit g.kind ask ways
+      → CasesHold g.kind (switch_pending c) returned ways
   cases_hold e c h returned u ask position argument [] is pair step suit = tt
   cases_hold e c h returned u ask position argument (w ∷ ws) is pair step suit =
       (guards w.guards suit.0, cases_hold e c h returned u ask position argument ws is pair step suit.1)
     where
-      guards : (gs : List Guard) → GuardsSuit g.kind ask gs → AllHold g.kind returned gs
+      guards : (gs : List Guard) → GuardsSuit g.kind ask gs → AllHold g.kind (switch_pending c) returned gs
       guards [] s = tt
       guards (x ∷ xs) s = (laws.verdicts_hold x e c h returned u pair (subst (λ e. FitsEvent g.kind x e) (sym is) s.0) step, guards xs s.1)
 
@@ -357,7 +358,7 @@ module _ (g : Graph) (ps : List PointFacts) (laws : Laws g.kind) (points : Point
   )
 
   phase_holds : (well : Target) (e : ScriptEvent) (c : Card) (h : Host) (returned : Return) (u : Card) → FitsEvent g.kind WentWell e → IsPair g.kind c h
-      → Step e c returned u → CasesHold g.kind returned (well_or well)
+      → Step e c returned u → CasesHold g.kind (switch_pending c) returned (well_or well)
   phase_holds well e c h returned u fits pair step = ((laws.verdicts_hold WentWell e c h returned u pair fits step, tt), tt)
 
   phases_well : (phase : Phase) (place : Point) (p : PointFacts) (ts : List ℕ) (well other : Target) (c : Card) (h : Host) → Here place p ts c h

@@ -36,31 +36,31 @@ failed_of : (a b : Bool) → a && b ≡ false → (a ≡ false) ⊎ (b ≡ false
 failed_of true b e = inr e
 failed_of false b e = inl refl
 
-module _ (k : Kind) (returned : Return) where
+module _ (k : Kind) (pending : Bool) (returned : Return) where
   -- what is said of each guard of a list
   abbrev pub AllHold : List Guard → Type 0
   AllHold [] = Unit {0}
-  AllHold (g ∷ gs) = VerdictHolds k g returned × AllHold gs
+  AllHold (g ∷ gs) = VerdictHolds k g pending returned × AllHold gs
 
   abbrev pub CasesHold : List Case → Type 0
   CasesHold [] = Unit {0}
   CasesHold (w ∷ ws) = AllHold w.guards × CasesHold ws
 
-  all_held : (gs : List Guard) → AllHold gs → all_pass k gs returned ≡ true → all_may_hold gs (seen_of k returned) ≡ true
+  all_held : (gs : List Guard) → AllHold gs → all_pass k gs returned ≡ true → all_may_hold gs (seen_of k pending returned) ≡ true
   all_held [] f e = refl
   all_held (g ∷ gs) f e =
       let p = both (passes k g returned) (all_pass k gs returned) e in
-      and_true (may_hold (verdict g (seen_of k returned))) (all_may_hold gs (seen_of k returned)) (f.0.held p.0) (all_held gs f.1 p.1)
+      and_true (may_hold (verdict g (seen_of k pending returned))) (all_may_hold gs (seen_of k pending returned)) (f.0.held p.0) (all_held gs f.1 p.1)
 
-  one_failed : (gs : List Guard) → AllHold gs → all_pass k gs returned ≡ false → one_may_fail gs (seen_of k returned) ≡ true
+  one_failed : (gs : List Guard) → AllHold gs → all_pass k gs returned ≡ false → one_may_fail gs (seen_of k pending returned) ≡ true
   one_failed [] f e = absurd (cc)
   one_failed (g ∷ gs) f e =
       elim (failed_of (passes k g returned) (all_pass k gs returned) e) [
-        | inl x ↦ or_first (may_fail (verdict g (seen_of k returned))) (one_may_fail gs (seen_of k returned)) (f.0.failed x)
-        | inr x ↦ or_second (may_fail (verdict g (seen_of k returned))) (one_may_fail gs (seen_of k returned)) (one_failed gs f.1 x)
+        | inl x ↦ or_first (may_fail (verdict g (seen_of k pending returned))) (one_may_fail gs (seen_of k pending returned)) (f.0.failed x)
+        | inr x ↦ or_second (may_fail (verdict g (seen_of k pending returned))) (one_may_fail gs (seen_of k pending returned)) (one_failed gs f.1 x)
       ]
 
-  pub way_taken : (ways : List Case) (other : Target) (P : Target → Type 0) → CasesHold ways → EachWay ways other (seen_of k returned) P
+  pub way_taken : (ways : List Case) (other : Target) (P : Target → Type 0) → CasesHold ways → EachWay ways other (seen_of k pending returned) P
       → P (way_of k ways other returned)
   way_taken [] other P f p = p
   way_taken (w ∷ ws) other P f p =
