@@ -19,7 +19,7 @@ use Rattle.sdv_card.specs.Shapes.{IsPair}
 use Rattle.sdv_card.specs.Step.{Step}
 use Rattle.sdv_card.specs.Taken.{SameCard}
 use Rattle.sdv_card.proofs.KeepPairs.{steps_keep_pairs}
-use Rattle.sdv_card.proofs.KeepSound.{steps_keep_sound}
+use Rattle.sdv_card.proofs.KeepSound.{same_sectors, steps_keep_sound}
 use Rattle.sdv_card.proofs.Same.{same_both, same_itself, steps_keep_same}
 use Rattle.sdv_graph.specs.declared.tree.Atom.TheVariants as atoms
 use Rattle.sdv_graph.specs.declared.tree.Let.{Let}
@@ -73,7 +73,7 @@ ext_csd_value c h n honest told e = go h.ext_csd refl e
     go None held e = absurd (cc)
     go (Some bytes) held e =
         sym (in_range_is (sec_count bytes) n e)
-        ∙ (ap sec_count (honest.sound.ext_csd bytes (sym honest.pair.kind) held) ∙ told)
+        ∙ (same_sectors bytes c.ext_csd (honest.sound.ext_csd bytes (sym honest.pair.kind) held) ∙ told)
 
 -- PAST THE STATEMENT
 

@@ -2,6 +2,7 @@
 use Rattle.std.proofs.Common.{◌≡◌, ℕ, ◌<◌, ◌/◌, inl, inr, refl, ap, subst, sym, ◌∙◌, Bool, true, false, List, length, take, ◌==◌, eqb-true, Option, Some, None, if◌then◌else◌, arith}
 use Rattle.std.proofs.lemmas.List.{take_all}
 use Rattle.sdv_registers.specs.declared.kind.Kind.{Kind}
+use Rattle.sdv_registers.specs.ExtCsd.{sec_count}
 use Rattle.sdv_registers.specs.declared.kind.Kind.TheVariants.{Sd, Emmc}
 use Rattle.sdv_frames.specs.declared.reply.Reply.TheVariants.{R2}
 use Rattle.sdv_card.specs.declared.state.State.{State}
@@ -32,7 +33,7 @@ use Rattle.sdv_card.specs.Taken.{SameCard, BlocksAfter}
 use Rattle.sdv_card.specs.Exchange.{RowAnswer, SettledAnswer, card_takes}
 use Rattle.sdv_card.specs.Phases.{blocks_due, register_due, due_register, RegisterTrue, Moved, MovedWriting}
 use Rattle.sdv_card.specs.Legal.{SettledLegal}
-use Rattle.sdv_card.specs.Laws.{Sound, StepsKeepSound}
+use Rattle.sdv_card.specs.Laws.{SameSizes, Sound, StepsKeepSound}
 use Rattle.sdv_card.proofs.Became.{Became, became}
 use Rattle.sdv_card.proofs.Same.{settled_same, became_same, steps_keep_same}
 use Rattle.sdv_card.proofs.SettledCard.{settled_is_card}
@@ -43,13 +44,21 @@ use Rattle.sdv_card.proofs.PhasePlaces.{calm_place}
 no_due : (f : Transfer → Bool) (x y : Transfer) → f x ≡ false → x ≡ y → f y ≡ true → ⊥
 no_due f x y none e due = let g : false ≡ true = sym none ∙ (ap f e ∙ due) in cc
 
+-- of a card with the same register
+same_sizes : (held a b : List ℕ) → SameSizes held a → a ≡ b → SameSizes held b
+same_sizes held a b s e = subst (λ v. SameSizes held v) e s
+
+-- the capacity in sectors that the host reads is the card's
+pub same_sectors : (held register : List ℕ) → SameSizes held register → sec_count held ≡ sec_count register
+same_sectors held register s = ap sec_count s.bytes
+
 settled_sound : (c t : Card) (h : Host) → Settled c t → Sound c h → Sound t h
 settled_sound c t h (inl e) sound = subst (λ v. Sound v h) e sound
 settled_sound c t h (inr x) sound =
     let same : SameCard c t = settled_same c t (inr x) in
     record {
       csd = λ bytes e. sound.csd bytes e ∙ same.csd;
-      ext_csd = λ bytes emmc e. sound.ext_csd bytes (same.kind ∙ emmc) e ∙ same.ext_csd;
+      ext_csd = λ bytes emmc e. same_sizes bytes c.ext_csd t.ext_csd (sound.ext_csd bytes (same.kind ∙ emmc) e) same.ext_csd;
       blocks = λ due. absurd (no_due blocks_due _ t.transfer refl (ap (λ v. v.transfer) x.2) due);
       register = λ due. absurd (no_due register_due _ t.transfer refl (ap (λ v. v.transfer) x.2) due);
     }
@@ -216,7 +225,7 @@ exchange_sound order argument c t u h answer card sound same legal a =
     let came : Became way argument t u = became way order argument t u answer a in
     record {
       csd = λ bytes e. csd_holds way order argument t u answer h.csd (says order t.app m) a sound.csd bytes e ∙ same.csd;
-      ext_csd = λ bytes emmc e. sound.ext_csd bytes (same.kind ∙ emmc) e ∙ same.ext_csd;
+      ext_csd = λ bytes emmc e. same_sizes bytes t.ext_csd u.ext_csd (sound.ext_csd bytes (same.kind ∙ emmc) e) same.ext_csd;
       blocks = λ due.
           order_announced order h.announced
           ∙ blocks_hold way order argument t u h.announced (says order t.app m)
@@ -225,13 +234,22 @@ exchange_sound order argument c t u h answer card sound same legal a =
       register = λ due. register_holds way order argument t u h.register_length (says order t.app m) sound.register came due;
     }
 
+-- THE EXT_CSD
+
+-- the bytes that a host holds after a phase tell the sizes of a register
+abbrev Tells : Option (List ℕ) → List ℕ → Type 0
+Tells held register = (bytes : List ℕ) → held ≡ Some bytes → SameSizes bytes register
+
+told_now : (b register : List ℕ) → SameSizes b register → Tells (Some b) register
+told_now b register s bytes f = let g : b ≡ bytes = cc in subst (λ v. SameSizes v register) g s
+
 -- PHASES: no transfer is due after one
 
 calm_sound : (c u : Card) (h h' : Host) → SameCard c u → blocks_due u.transfer ≡ false → register_due u.transfer ≡ false →
-    Holds h'.csd c.csd → (c.kind ≡ Emmc → Holds h'.ext_csd c.ext_csd) → Sound u h'
+    Holds h'.csd c.csd → (c.kind ≡ Emmc → Tells h'.ext_csd c.ext_csd) → Sound u h'
 calm_sound c u h h' same no_blocks no_register csd ext_csd = record {
   csd = λ bytes e. csd bytes e ∙ same.csd;
-  ext_csd = λ bytes emmc e. ext_csd (same.kind ∙ emmc) bytes e ∙ same.ext_csd;
+  ext_csd = λ bytes emmc e. same_sizes bytes c.ext_csd u.ext_csd (ext_csd (same.kind ∙ emmc) bytes e) same.ext_csd;
   blocks = λ due. absurd (no_due blocks_due u.transfer u.transfer no_blocks refl due);
   register = λ due. absurd (no_due register_due u.transfer u.transfer no_register refl due);
 }
@@ -257,18 +275,19 @@ only_ext_csd ExtCsdDue app preset c fits due = refl
 only_ext_csd x app preset c fits due = absurd (let e : false ≡ true = due in cc)
 
 whole_register : (register bytes : List ℕ) → length register ≡ 512 → length bytes ≡ 512 → take (length register) bytes ≡ take (length bytes) register
-    → bytes ≡ register
-whole_register register bytes long read e =
-    sym (take_all (length register) bytes (omega (arith, long, read))) ∙ (e ∙ take_all (length bytes) register (omega (arith, long, read)))
+    → SameSizes bytes register
+whole_register register bytes long read e = record {
+  bytes = sym (take_all (length register) bytes (omega (arith, long, read))) ∙ (e ∙ take_all (length bytes) register (omega (arith, long, read)));
+}
 
-known_now : (b : Bool) (bytes register : List ℕ) (held : Option (List ℕ)) → (b ≡ true → bytes ≡ register) → Holds held register →
-    Holds (if b then Some bytes else held) register
-known_now true bytes register held now old = held_now bytes register (now refl)
+known_now : (b : Bool) (bytes register : List ℕ) (held : Option (List ℕ)) → (b ≡ true → SameSizes bytes register) → Tells held register →
+    Tells (if b then Some bytes else held) register
+known_now true bytes register held now old = told_now bytes register (now refl)
 known_now false bytes register held now old = old
 
 ext_csd_holds : (end : DataEnd) (count : ℕ) (bytes : List ℕ) (c : Card) (h : Host) → IsRegister 512 c.ext_csd → due_register c.transfer c ≡ c.ext_csd →
-    length bytes ≡ count → RegisterTrue end (due_register c.transfer c) bytes → Holds h.ext_csd c.ext_csd →
-    Holds (ext_csd_known count end bytes h.ext_csd) c.ext_csd
+    length bytes ≡ count → RegisterTrue end (due_register c.transfer c) bytes → Tells h.ext_csd c.ext_csd →
+    Tells (ext_csd_known count end bytes h.ext_csd) c.ext_csd
 ext_csd_holds Cut count bytes c h register only size truth old = old
 ext_csd_holds Ok count bytes c h register only size truth old =
     known_now (count == 512) bytes c.ext_csd h.ext_csd

@@ -27,11 +27,15 @@ use Rattle.sdv_card.specs.LegalShapes.{legal_code}
 use Rattle.sdv_card.specs.Seen.{seen_of}
 use Rattle.sdv_card.specs.Guards.{guard_fits, passes, verdict, may_hold, may_fail}
 
+-- what the EXT_CSD that a host holds has of the card's register: each byte, and so the sizes that it tells
+pub record SameSizes (held register : List ℕ) : Type 0 where
+  pub bytes : held ≡ register
+
 -- what a host knows of a card is true
 pub record Sound (c : Card) (h : Host) : Type 0 where
   -- the registers that it holds are the card's; an SD card has no EXT_CSD
   pub csd : (bytes : List ℕ) → h.csd ≡ Some bytes → bytes ≡ c.csd
-  pub ext_csd : (bytes : List ℕ) → c.kind ≡ Emmc → h.ext_csd ≡ Some bytes → bytes ≡ c.ext_csd
+  pub ext_csd : (bytes : List ℕ) → c.kind ≡ Emmc → h.ext_csd ≡ Some bytes → SameSizes bytes c.ext_csd
   -- a block transfer that is due has the count that it announced last
   pub blocks : IsTrue (blocks_due c.transfer) → h.announced ≡ c.announced
   -- where a register is due, it sent a command that fixes the register's length

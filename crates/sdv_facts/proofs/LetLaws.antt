@@ -25,6 +25,7 @@ use Rattle.sdv_graph.specs.ValueOfLet.{number, with_number, value_of_atom, in_ra
 use Rattle.sdv_facts.specs.Gaps.{gap_less, gap_more}
 use Rattle.sdv_facts.specs.AfterLet.{all_block_unit, all_byte_unit, csd_tells, ext_csd_tells, register_facts, atom_facts, changed_facts, after_let}
 use Rattle.sdv_card.specs.ShapeBits.{has_block_addresses}
+use Rattle.sdv_card.proofs.KeepSound.{same_sectors}
 use Rattle.sdv_facts.specs.Keeps.{MayStandIn, IsHonest, KeptByLet}
 use Rattle.sdv_facts.proofs.GapLaws.{less_holds, more_holds}
 use Rattle.sdv_facts.proofs.RegisterLaws.{csd_small, sec_count_small, told_by_csd, told_by_ext_csd}
@@ -70,7 +71,7 @@ module _ (k : Kind) (c : Card) (h : Host) (honest : IsHonest k c h) (shapes : Li
   ext_csd_holds None m n kind is least e = absurd (cc)
   ext_csd_holds (Some bytes) m n kind is least e =
       let value : sec_count bytes ≡ n = cc in
-      let of_card : sec_count c.ext_csd ≡ n = ap sec_count (sym (honest.sound.ext_csd bytes (sym honest.pair.kind ∙ kind) is)) ∙ value in
+      let of_card : sec_count c.ext_csd ≡ n = sym (same_sectors bytes c.ext_csd (honest.sound.ext_csd bytes (sym honest.pair.kind ∙ kind) is)) ∙ value in
       register_holds (ext_csd_tells shapes) m c.capacity n least (subst (λ v. v ≤ 2 ^ 32) value (sec_count_small bytes))
       (λ tells. sym of_card ∙ ext_csd_is_capacity kind tells)
 
