@@ -14,7 +14,7 @@ use Rattle.sdv_graph.specs.Graph.{Graph}
 use Rattle.sdv_graph.specs.Walk.{Pair, Ending, Open, Walk}
 use Rattle.sdv_script.specs.Script.{IsScript}
 use Rattle.sdv_script.proofs.ScriptLaws.{one_tree_lem}
-use Rattle.sdv_facts.specs.declared.certificate.PointFacts.{PointFacts}
+use Rattle.sdv_facts.specs.Facts.{PointFacts}
 use Rattle.sdv_facts.specs.Bounds.{bound_of}
 use Rattle.sdv_facts.specs.Closed.{Closed}
 use Rattle.sdv_check.specs.declared.fault.CheckFault.{CheckFault}

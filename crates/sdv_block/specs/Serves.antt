@@ -9,7 +9,7 @@ use Rattle.sdv_script.specs.declared.fault.ScriptFault.{ScriptFault}
 use Rattle.sdv_script.specs.declared.script.Script.{Script as Tree}
 use Rattle.sdv_script.specs.Script.{IsScript}
 use Rattle.sdv_script.specs.Shown.{shown}
-use Rattle.sdv_facts.specs.declared.certificate.PointFacts.{PointFacts}
+use Rattle.sdv_facts.specs.Facts.{PointFacts}
 use Rattle.sdv_facts.specs.Closed.{Closed}
 use Rattle.sdv_certify.specs.declared.fault.CertifyFault.{CertifyFault}
 use Rattle.sdv_certify.specs.declared.fault.CertifyFault.TheVariants.{Memory as WriterMemory}

@@ -10,7 +10,7 @@ use Rattle.sdv_graph.specs.Path.{Case, Action, Point, sends, phases, lets, tests
 use Rattle.sdv_graph.specs.Points.{start_of, entry, outside, again, cases_of, other_of, points_of_statements, points_of_ways, points_of_statement, past, points_of}
 use Rattle.sdv_graph.specs.Nested.{InBox, Pass, Same, Again, Over, EachCase, EachTarget}
 use Rattle.sdv_facts.specs.Bounds.{turns_cost, bound, commands_of, BoundFalls}
-use Rattle.sdv_facts.specs.declared.certificate.PointFacts.{PointFacts}
+use Rattle.sdv_facts.specs.Facts.{PointFacts}
 use Rattle.sdv_certify.specs.declared.form.Form.{Form}
 use Rattle.sdv_certify.specs.Spans.{spans_statements}
 use Rattle.sdv_certify.specs.Forms.{either_form, end_form, leads_to, sends_then, inside, inside_too, form_statements, form_ways, form_before, form_of_loop, forms_of_statements, forms_of_ways, forms_of_statement, forms_of, first_of}

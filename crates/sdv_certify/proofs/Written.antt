@@ -6,7 +6,7 @@ use Rattle.sdv_card.specs.declared.shape.Shape.{Shape}
 use Rattle.sdv_text.specs.Written.{AppendsPart, Writes}
 use Rattle.sdv_text.proofs.WrittenLaws.{appends_none, appends_more, part_after, part_before, then_more}
 use Rattle.sdv_facts.specs.declared.numbers.VarFacts.{VarFacts}
-use Rattle.sdv_facts.specs.declared.certificate.PointFacts.{PointFacts}
+use Rattle.sdv_facts.specs.Facts.{PointFacts}
 use Rattle.sdv_facts.specs.CertificateText.{number_written, gap_written, var_written, shape_written, each_written, point_written, points_written, text_of}
 use Rattle.sdv_certify.specs.Pieces.{number_text, gap_text, var_text, shape_text, bound_text, numbers_text, shapes_text, line_text, lines_text, title_text, PassesOn}
 

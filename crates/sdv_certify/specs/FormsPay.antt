@@ -5,7 +5,7 @@ use Rattle.sdv_graph.specs.Tree.{Statements}
 use Rattle.sdv_graph.specs.Nested.{Pass, Turned, EachTarget}
 use Rattle.sdv_graph.specs.Path.{Point, turns_at}
 use Rattle.sdv_graph.specs.Points.{points_of}
-use Rattle.sdv_facts.specs.declared.certificate.PointFacts.{PointFacts}
+use Rattle.sdv_facts.specs.Facts.{PointFacts}
 use Rattle.sdv_facts.specs.Bounds.{turns_cost, commands_of, BoundFalls}
 use Rattle.sdv_certify.specs.declared.form.Form.{Form}
 use Rattle.sdv_certify.specs.Forms.{forms_of, with_loops}

@@ -6,7 +6,7 @@ use Rattle.std.proofs.lemmas.Option.{slice_get-get_or, slice_get_within}
 use Rattle.sdv_graph.specs.Graph.{Graph}
 use Rattle.sdv_graph.specs.Limits.{action_keeps_limits, keeps_limits, all_keep_limits}
 use Rattle.sdv_graph.specs.Path.{Action, Point, sends, phases, lets, tests, flags, heads, jumps, stops}
-use Rattle.sdv_facts.specs.declared.certificate.PointFacts.{PointFacts}
+use Rattle.sdv_facts.specs.Facts.{PointFacts}
 use Rattle.sdv_facts.specs.declared.clause.Clause.{Clause}
 use Rattle.sdv_facts.specs.declared.clause.Clause.TheVariants as clauses
 use Rattle.sdv_facts.specs.Closed.{PointMatches, PointsMatch, StartCovers, PointClosed, FirstFails, FailsAt, Closed}

@@ -16,7 +16,7 @@ use Rattle.sdv_card.proofs.Distinct.{May-push_cases, May-at}
 use Rattle.sdv_graph.specs.declared.graph.Target.{Target}
 use Rattle.sdv_graph.specs.Nested.{Pass}
 use Rattle.sdv_graph.specs.Path.{Point}
-use Rattle.sdv_facts.specs.declared.certificate.PointFacts.{PointFacts}
+use Rattle.sdv_facts.specs.Facts.{PointFacts}
 use Rattle.sdv_facts.specs.declared.clause.Clause.TheVariants.{Address as AddressOff}
 use Rattle.sdv_facts.specs.declared.numbers.Numbers.{Numbers}
 use Rattle.sdv_facts.specs.Closed.{ShapeRule, NumberRule, BoundRule, ClauseHolds, PointClosed}

@@ -2,7 +2,7 @@
 use Rattle.std.proofs.Common.{◌≡◌, ℕ, suc, ◌+◌, ◌-◌, ◌<◌, ◌≤◌, List, [], ◌∷◌, ◌++◌, length, Some, None, refl, sym, ap, ◌∙◌, append_assoc, arith}
 use Rattle.std.proofs.lemmas.List.{append-nil}
 use Rattle.sdv_text.specs.Fronts.{◌>>=◌, Read}
-use Rattle.sdv_facts.specs.declared.certificate.PointFacts.{PointFacts}
+use Rattle.sdv_facts.specs.Facts.{PointFacts}
 use Rattle.sdv_check.specs.declared.text.fault.CertFault.{CertFault}
 use Rattle.sdv_check.specs.Reading.{Fails, read_point, read_points}
 use Rattle.sdv_check.proofs.Lists.{fails_with}

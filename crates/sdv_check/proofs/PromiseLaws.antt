@@ -4,7 +4,7 @@ use Rattle.std.specs.Prelude.{Result, Ok, Err, IfOk}
 use Rattle.sdv_graph.specs.Graph.{Graph, begin}
 use Rattle.sdv_graph.specs.GraphOf.{IsSound}
 use Rattle.sdv_graph.specs.Path.{Path}
-use Rattle.sdv_facts.specs.declared.certificate.PointFacts.{PointFacts}
+use Rattle.sdv_facts.specs.Facts.{PointFacts}
 use Rattle.sdv_facts.specs.Beside.{RunsWell}
 use Rattle.sdv_facts.proofs.Headline.{each_step, each_path}
 use Rattle.sdv_facts.proofs.RunLaws.{runs_end}

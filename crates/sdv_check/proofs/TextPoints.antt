@@ -11,8 +11,7 @@ use Rattle.sdv_text.specs.Fronts.{after, is_digit}
 use Rattle.sdv_card.specs.declared.shape.Shape.{Shape}
 use Rattle.sdv_facts.specs.declared.numbers.VarFacts.{VarFacts}
 use Rattle.sdv_facts.specs.declared.numbers.Numbers.{Numbers}
-use Rattle.sdv_facts.specs.declared.certificate.PointFacts.{PointFacts}
-use Rattle.sdv_facts.specs.Facts.{AreRising}
+use Rattle.sdv_facts.specs.Facts.{AreRising, PointFacts}
 use Rattle.sdv_facts.specs.Limits.{IsInLimits, VarInLimits, NumbersInLimits, PointInLimits}
 use Rattle.sdv_facts.specs.CertificateText.{number_written, gap_written, var_written, shape_written, each_written, point_written, points_written, shape_count, PointFits}
 use Rattle.sdv_check.specs.Reading.{ends_item, begins_number, begins_var, begins_shape, gap_from, some_gap, read_number, read_gap, read_var, read_rising, read_turns, read_vars, read_shapes, read_place, read_numbers, read_bound, read_point, read_points}

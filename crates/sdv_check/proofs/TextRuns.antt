@@ -9,7 +9,7 @@ use Rattle.sdv_graph.specs.Tree.{Statements, Declared}
 use Rattle.sdv_graph.specs.Walk.{Walk}
 use Rattle.sdv_graph.proofs.FaultNames.{names_fault}
 use Rattle.sdv_script.proofs.ScriptLaws.{one_tree_lem}
-use Rattle.sdv_facts.specs.declared.certificate.PointFacts.{PointFacts}
+use Rattle.sdv_facts.specs.Facts.{PointFacts}
 use Rattle.sdv_facts.specs.Beside.{RunsEnd, RunsWell}
 use Rattle.sdv_facts.proofs.RunLaws.{same_runs, walks_end}
 use Rattle.sdv_check.specs.Headline.{EachRunOf}

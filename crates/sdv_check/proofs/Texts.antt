@@ -5,7 +5,7 @@ use Rattle.std.proofs.lemmas.List.{nil_from_length}
 use Rattle.std.proofs.lemmas.List.Elements.{All-from_recursion}
 use Rattle.sdv_text.proofs.FrontLaws.{bind_some, some_is, tested, after_takes}
 use Rattle.sdv_text.specs.Fronts.{◌>>=◌, after}
-use Rattle.sdv_facts.specs.declared.certificate.PointFacts.{PointFacts}
+use Rattle.sdv_facts.specs.Facts.{PointFacts}
 use Rattle.sdv_facts.specs.Limits.{PointInLimits}
 use Rattle.sdv_facts.specs.CertificateText.{number_written, points_written, text_of, max_bytes, max_points, max_shapes, shape_count, PointFits, WithinLimits}
 use Rattle.sdv_check.specs.declared.text.fault.CertFault.{CertFault}

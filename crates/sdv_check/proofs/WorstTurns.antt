@@ -6,7 +6,7 @@ use Rattle.std.proofs.lemmas.Bool.{cases_lt}
 use Rattle.sdv_graph.specs.declared.graph.Target.{Target}
 use Rattle.sdv_graph.specs.Nested.{Pass, Same, Again, Over, InBox, Turned}
 use Rattle.sdv_graph.specs.Path.{left, entered, turns_at}
-use Rattle.sdv_facts.specs.declared.certificate.PointFacts.{PointFacts}
+use Rattle.sdv_facts.specs.Facts.{PointFacts}
 use Rattle.sdv_facts.specs.Bounds.{turns_cost, bound, bound_at, BoundFalls}
 use Rattle.sdv_check.specs.Turns.{excess, most_after, turn_taken, entering, inside, costs, FallsAtWorst}
 

@@ -7,13 +7,12 @@ use Rattle.sdv_graph.specs.Graph.{seen_point}
 use Rattle.sdv_script.specs.Nested as nested
 use Rattle.sdv_graph.specs.Path.{Action, Point, lets, flags}
 use Rattle.sdv_facts.specs.declared.numbers.Numbers.{Numbers}
-use Rattle.sdv_facts.specs.declared.certificate.PointFacts.{PointFacts}
 use Rattle.sdv_facts.specs.AfterLet.{after_let}
 use Rattle.sdv_facts.specs.Bounds.{BoundFalls, commands_of}
 use Rattle.sdv_facts.specs.Closed.{LegalAt, EndsAt, ShapeRule, NumberRule, BoundRule}
 use Rattle.sdv_facts.specs.Covers.{Covers}
 use Rattle.sdv_facts.specs.Edges.{Rule, EachEdge}
-use Rattle.sdv_facts.specs.Facts.{Facts}
+use Rattle.sdv_facts.specs.Facts.{Facts, PointFacts}
 use Rattle.sdv_check.specs.declared.source.Pass.{Pass}
 use Rattle.sdv_check.specs.declared.source.Pass.TheVariants.{Same, Again, Over}
 use Rattle.sdv_check.specs.declared.source.Rules.{Rules}

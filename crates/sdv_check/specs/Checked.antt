@@ -1,7 +1,7 @@
 -- What the checker answers: the bound of a certificate that is closed, or the first clause that fails.
 use Rattle.std.specs.Prelude.{◌≡◌, ℕ, List, Result, Ok, Err}
 use Rattle.sdv_graph.specs.Graph.{Graph}
-use Rattle.sdv_facts.specs.declared.certificate.PointFacts.{PointFacts}
+use Rattle.sdv_facts.specs.Facts.{PointFacts}
 use Rattle.sdv_facts.specs.declared.clause.Clause.TheVariants as clauses
 use Rattle.sdv_facts.specs.Bounds.{bound_of}
 use Rattle.sdv_facts.specs.Closed.{PointsMatch, StartCovers, FailsAt, Closed}

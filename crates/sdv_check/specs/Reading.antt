@@ -10,7 +10,7 @@ use Rattle.sdv_card.specs.declared.shape.Shape.{Shape}
 use Rattle.sdv_script.specs.Rules.{max_number}
 use Rattle.sdv_facts.specs.declared.numbers.VarFacts.{VarFacts}
 use Rattle.sdv_facts.specs.declared.numbers.Numbers.{Numbers}
-use Rattle.sdv_facts.specs.declared.certificate.PointFacts.{PointFacts}
+use Rattle.sdv_facts.specs.Facts.{PointFacts}
 use Rattle.sdv_facts.specs.CertificateText.{max_bytes, max_points, max_shapes}
 use Rattle.sdv_check.specs.declared.text.fault.CertFault.{CertFault}
 use Rattle.sdv_check.specs.declared.text.fault.CertFault.TheVariants as faults

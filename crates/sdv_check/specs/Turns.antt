@@ -4,7 +4,7 @@ use Rattle.std.specs.Prelude.{ℕ, zero, suc, ◌+◌, ◌*◌, ◌-◌, ◌≤�
 use Rattle.sdv_graph.specs.declared.graph.Target.{Target}
 use Rattle.sdv_graph.specs.Nested.{Pass, Same, Again, Over}
 use Rattle.sdv_graph.specs.Path.{left}
-use Rattle.sdv_facts.specs.declared.certificate.PointFacts.{PointFacts}
+use Rattle.sdv_facts.specs.Facts.{PointFacts}
 
 -- the most by which a target's bound exceeds a source's over the loops that they share: all turns left where a turn
 -- costs more at the target, and none where it does not

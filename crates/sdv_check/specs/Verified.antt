@@ -6,7 +6,7 @@ use Rattle.sdv_script.specs.declared.fault.FaultKind.TheVariants.{Memory as NoMe
 use Rattle.sdv_script.specs.Script.{Parsed, IsScript}
 use Rattle.sdv_graph.specs.Graph.{Graph}
 use Rattle.sdv_graph.specs.GraphOf.{IsGraphOf}
-use Rattle.sdv_facts.specs.declared.certificate.PointFacts.{PointFacts}
+use Rattle.sdv_facts.specs.Facts.{PointFacts}
 use Rattle.sdv_facts.specs.Bounds.{bound_of}
 use Rattle.sdv_facts.specs.CertificateText.{text_of, WithinLimits}
 use Rattle.sdv_facts.specs.Closed.{Closed}

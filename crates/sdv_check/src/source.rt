@@ -1,7 +1,7 @@
 //! What is asked of a point, at one of its shapes.
 
 ghost use Rattle.std.specs.Prelude.{◌≡◌, ℕ, Some, slice_get, length};
-ghost use Rattle.sdv_facts.specs.declared.certificate.PointFacts.{PointFacts};
+ghost use Rattle.sdv_facts.specs.Facts.{PointFacts};
 
 use sdv_card::Kind;
 use sdv_facts::PointFacts;

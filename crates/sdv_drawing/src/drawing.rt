@@ -1,7 +1,7 @@
 //! The drawing of a script.
 
 ghost use Rattle.std.specs.Prelude.{◌≡◌, ◌≢◌, IfErr, IfOk, IfNone, IfSome, List};
-ghost use Rattle.sdv_facts.specs.declared.certificate.PointFacts.{PointFacts};
+ghost use Rattle.sdv_facts.specs.Facts.{PointFacts};
 ghost use Rattle.sdv_script.specs.Script.{IsScript, Parsed};
 ghost use Rattle.sdv_certify.specs.Assembled.{CertificateOf, RefusedFor};
 ghost use Rattle.sdv_drawing.specs.Drawing.{drawing};

@@ -3,7 +3,7 @@
 ghost use Rattle.std.specs.Prelude.{◌≡◌, ◌≢◌, [], ◌⊎◌, IfErr, IfOk, IfSome, None, ℕ, List};
 ghost use Rattle.sdv_graph.specs.Graph.{Graph};
 ghost use Rattle.sdv_graph.specs.GraphOf.{IsGraphOf};
-ghost use Rattle.sdv_facts.specs.declared.certificate.PointFacts.{PointFacts};
+ghost use Rattle.sdv_facts.specs.Facts.{PointFacts};
 ghost use Rattle.sdv_script.specs.Shown.{shown};
 ghost use Rattle.sdv_certify.specs.Assembled.{CertificateOf, RefusedFor, SurveyOf};
 ghost use Rattle.sdv_explain.specs.Explained.{Explains, HasWay, IsRefusal, LeadsThere, NamesPoint, Unexplained};

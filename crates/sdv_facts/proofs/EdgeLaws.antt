@@ -12,11 +12,10 @@ use Rattle.sdv_graph.specs.declared.tree.Condition.{Condition}
 use Rattle.sdv_graph.specs.declared.tree.Condition.TheVariants as conditions
 use Rattle.sdv_graph.specs.Nested.{Pass, Same, EachCase, EachTarget, Lands}
 use Rattle.sdv_graph.specs.Path.{Case, Action, sends, phases, lets, tests, flags, heads, jumps, stops, Point}
-use Rattle.sdv_facts.specs.declared.certificate.PointFacts.{PointFacts}
 use Rattle.sdv_facts.specs.declared.numbers.Numbers.{Numbers}
 use Rattle.sdv_facts.specs.declared.test.Test.{Test}
 use Rattle.sdv_facts.specs.declared.test.Test.TheVariants.{AtLeast, Below}
-use Rattle.sdv_facts.specs.Facts.{Facts}
+use Rattle.sdv_facts.specs.Facts.{Facts, PointFacts}
 use Rattle.sdv_card.specs.ShapeBits.{has_flag}
 use Rattle.sdv_facts.specs.AfterLet.{after_let}
 use Rattle.sdv_facts.specs.AfterTest.{after_test}

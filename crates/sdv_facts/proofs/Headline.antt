@@ -6,7 +6,7 @@ use Rattle.sdv_graph.specs.Tree.{Statements, Declared}
 use Rattle.sdv_graph.specs.Walk.{Pair, Ending, Walk}
 use Rattle.sdv_card.specs.Card.{Card}
 use Rattle.sdv_card.specs.Profile.{IsAtStart}
-use Rattle.sdv_facts.specs.declared.certificate.PointFacts.{PointFacts}
+use Rattle.sdv_facts.specs.Facts.{PointFacts}
 use Rattle.std.specs.Prelude.{◌≡◌, List}
 use Rattle.sdv_facts.specs.Beside.{RunsWell}
 use Rattle.sdv_facts.specs.Bounds.{bound_of}

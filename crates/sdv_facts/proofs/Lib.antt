@@ -11,6 +11,7 @@ pub mod RegisterLaws
 mod Rising
 pub mod RunLaws
 pub mod SetLaws
+pub mod SharedLaws
 pub mod SoundLaws
 pub mod StartLaws
 mod StatementLaws

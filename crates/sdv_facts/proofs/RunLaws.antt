@@ -22,7 +22,7 @@ use Rattle.sdv_graph.specs.Path.{Action, sends, phases, lets, tests, flags, head
 use Rattle.sdv_graph.specs.Tree.{Statements, Declared}
 use Rattle.sdv_graph.specs.Walk.{Pair, Ending, Fell, Broke, Finished, Failed, Open, Stops, Deed, exactly, giving, IsDeed, command_deed, Walk}
 use Rattle.sdv_graph.proofs.FewEvents.{few_events}
-use Rattle.sdv_facts.specs.declared.certificate.PointFacts.{PointFacts}
+use Rattle.sdv_facts.specs.Facts.{PointFacts}
 use Rattle.sdv_facts.specs.Beside.{StepsOf, commands_in, commands, Walks, IsOver, EndsWell, IsGood, RunsEnd, RunsWell}
 use Rattle.sdv_facts.specs.Bounds.{bound, bound_at, bound_of}
 use Rattle.sdv_facts.specs.Closed.{StartsAt, Closed}

@@ -56,11 +56,10 @@ use Rattle.sdv_graph.specs.Path.{Case, Action, sends, phases, lets, tests, flags
 use Rattle.sdv_graph.specs.Counts.{max_number}
 use Rattle.sdv_graph.specs.ValueOfLet.{value_of_let, with_number, number}
 use Rattle.sdv_graph.specs.Walk.{command_deed, phase_deed, Fell, Broke, Finished, Failed, Open, Ending}
-use Rattle.sdv_facts.specs.declared.certificate.PointFacts.{PointFacts}
 use Rattle.sdv_facts.specs.declared.numbers.Numbers.{Numbers}
 use Rattle.sdv_facts.specs.declared.test.Test.{Test}
 use Rattle.sdv_facts.specs.declared.test.Test.TheVariants.{AtLeast, Below}
-use Rattle.sdv_facts.specs.Facts.{var}
+use Rattle.sdv_facts.specs.Facts.{var, PointFacts}
 use Rattle.sdv_facts.specs.AfterLet.{after_let}
 use Rattle.sdv_facts.specs.AfterTest.{after_test, TestHolds}
 use Rattle.sdv_facts.specs.Beside.{commands_in}

@@ -5,7 +5,7 @@ use Rattle.sdv_graph.specs.declared.graph.Target.{Target}
 use Rattle.sdv_graph.specs.Graph.{Graph}
 use Rattle.sdv_graph.specs.Nested.{Pass, InBox, Turned}
 use Rattle.sdv_graph.specs.Path.{Action, sends, turns_at}
-use Rattle.sdv_facts.specs.declared.certificate.PointFacts.{PointFacts}
+use Rattle.sdv_facts.specs.Facts.{PointFacts}
 
 -- so many for each turn left, the innermost loop first
 abbrev pub turns_cost : (each turns : List ℕ) → ℕ

@@ -9,8 +9,7 @@ use Rattle.std.specs.List.{AllByRecursion}
 use Rattle.hex.specs.Hex.{encode_lower}
 use Rattle.sdv_card.specs.declared.shape.Shape.{Shape}
 use Rattle.sdv_facts.specs.declared.numbers.VarFacts.{VarFacts}
-use Rattle.sdv_facts.specs.declared.certificate.PointFacts.{PointFacts}
-use Rattle.sdv_facts.specs.Facts.{AreRising}
+use Rattle.sdv_facts.specs.Facts.{AreRising, PointFacts}
 use Rattle.sdv_facts.specs.Limits.{PointInLimits}
 
 -- ITEMS

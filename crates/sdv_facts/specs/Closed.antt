@@ -13,10 +13,9 @@ use Rattle.sdv_graph.specs.declared.tree.Address.{Address}
 use Rattle.sdv_graph.specs.Graph.{Graph}
 use Rattle.sdv_graph.specs.Path.{Action, Point, sends, phases, stops}
 use Rattle.sdv_graph.specs.Walk.{Finished}
-use Rattle.sdv_facts.specs.declared.certificate.PointFacts.{PointFacts}
 use Rattle.sdv_facts.specs.declared.clause.Clause.{Clause}
 use Rattle.sdv_facts.specs.declared.clause.Clause.TheVariants.{Illegal, Address as AddressOff, Shape as ShapeMissing, Number, Bound, EndState}
-use Rattle.sdv_facts.specs.Facts.{Facts}
+use Rattle.sdv_facts.specs.Facts.{Facts, PointFacts}
 use Rattle.sdv_facts.specs.AddressFits.{address_fits}
 use Rattle.sdv_facts.specs.Covers.{Covers}
 use Rattle.sdv_facts.specs.Start.{start_numbers}

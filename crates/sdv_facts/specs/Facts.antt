@@ -1,7 +1,7 @@
 -- What is known at a point of a script: which shapes a card may have there beside its host, and bounds of numbers.
 -- Bounds are this project's own.
 use Rattle.std.specs.Prelude.{◌<◌, ℕ, List, slice_index_or, AllPairs, None}
-use Rattle.arrayvec.specs.ArrayVec.{with_item}
+use Rattle.arrayvec.specs.ArrayVec.{ArrayVec, with_item}
 use Rattle.sdv_card.specs.declared.shape.Shape.{Shape}
 use Rattle.sdv_graph.specs.Counts.{max_number}
 use Rattle.sdv_facts.specs.declared.numbers.VarFacts.{VarFacts}
@@ -10,6 +10,23 @@ use Rattle.sdv_facts.specs.declared.numbers.Numbers.{Numbers}
 pub record Facts : Type 0 where
   pub shapes : List Shape
   pub numbers : Numbers
+
+abbrev pub facts_with : List Shape → Numbers → Facts
+facts_with shapes numbers = record { shapes = shapes; numbers = numbers }
+
+-- the same, with the name of a set in a table in the place of its shapes
+pub record SharedFacts : Type 0 where
+  pub set : ℕ
+  pub numbers : Numbers
+
+-- WHAT A CERTIFICATE SAYS of a point
+pub record PointFacts : Type 0 where
+  -- what is known there
+  pub facts : Facts
+  -- the most commands that are sent from there on, where no loop round the point has a turn left
+  pub base : ℕ
+  -- the commands that each turn left adds, of each loop round the point, the outermost first
+  pub turns : ArrayVec ℕ
 
 -- each shape is less than those after it, by its code
 abbrev pub AreRising : List Shape → Type 0

@@ -9,6 +9,7 @@ pub mod AfterTest
 pub mod Covers
 pub mod Sets
 pub mod SharedSets
+pub mod Shared
 pub mod Joins
 pub mod AddressFits
 pub mod Keeps

@@ -6,7 +6,7 @@ use Rattle.sdv_graph.specs.declared.tree.Atom.TheVariants.{Number}
 use Rattle.sdv_graph.specs.Counts.{max_number}
 use Rattle.sdv_facts.specs.declared.numbers.VarFacts.{VarFacts}
 use Rattle.sdv_facts.specs.declared.numbers.Numbers.{Numbers}
-use Rattle.sdv_facts.specs.declared.certificate.PointFacts.{PointFacts}
+use Rattle.sdv_facts.specs.Facts.{PointFacts}
 
 abbrev pub IsInLimits : ℕ → Type 0
 IsInLimits n = n ≤ max_number

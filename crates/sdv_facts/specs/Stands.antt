@@ -16,7 +16,7 @@ use Rattle.sdv_graph.specs.Graph.{Graph}
 use Rattle.sdv_graph.specs.Nested.{InBox}
 use Rattle.sdv_graph.specs.Path.{Case, Action, sends, lets, flags, Point, Stand, Move, Goes, Does, Halts, move_from}
 use Rattle.sdv_graph.specs.Walk.{Pair, Ending, Finished, IsDeed}
-use Rattle.sdv_facts.specs.declared.certificate.PointFacts.{PointFacts}
+use Rattle.sdv_facts.specs.Facts.{PointFacts}
 use Rattle.sdv_facts.specs.Beside.{StepsOf, commands_in}
 use Rattle.sdv_facts.specs.Bounds.{bound}
 use Rattle.sdv_facts.specs.Closed.{PointClosed}

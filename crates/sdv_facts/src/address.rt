@@ -1,12 +1,16 @@
 //! Addresses that lie on the card, by what is known of the numbers.
 
-ghost use Rattle.std.specs.Prelude.{◌≡◌, ◌+◌, nat_le, IsTrue};
+ghost use Rattle.std.specs.Prelude.{◌≡◌, ◌+◌, ◌<◌, nat_le, IsTrue, length};
+ghost use Rattle.sdv_facts.specs.Facts.{facts_with};
 ghost use Rattle.sdv_facts.specs.AddressFits.{gap_allows, variable_fits, position_fits, address_fits};
 ghost use Rattle.sdv_facts.specs.Keeps.{IsOnCard};
+ghost use Rattle.sdv_facts.specs.Shared.{facts_in};
 
 use crate::facts::Facts;
 use crate::numbers::Numbers;
+use crate::set_table::SetTable;
 use crate::units::fits;
+use sdv_card::Shape;
 use sdv_graph::{Address, Position};
 
 /// From a number on there are `count` blocks from `k` on, where `gap` are known of.
@@ -59,11 +63,26 @@ fn position_fits(numbers: &Numbers, position: Position, blocks: u64) -> bool
     }
 }
 
-/// The address is sent in the card's unit, and the card has `blocks` blocks from there on, whichever card and host the
-/// facts hold of. An address of an erase command asks for one block.
-pub fn address_ok(facts: &Facts, address: &Address, blocks: u64) -> bool
-    ensures rule { result ≡ address_fits facts.now address.now blocks }
-    ensures on_card { IsTrue result → IsOnCard facts.now address.now blocks }
+/// The address is sent in the card's unit, and the card has `blocks` blocks from there on, whichever card and host have
+/// one of these shapes and numbers within these bounds.
+pub fn fits_on_card(
+    shapes: &[Shape],
+    numbers: &Numbers,
+    address: &Address,
+    blocks: u64,
+) -> bool
+    ensures rule { result ≡ address_fits (facts_with shapes.now numbers.now) address.now blocks }
+    ensures on_card { IsTrue result → IsOnCard (facts_with shapes.now numbers.now) address.now blocks }
 {
-    fits(facts.shapes(), address.unit) && position_fits(facts.numbers(), address.position, blocks)
+    fits(shapes, address.unit) && position_fits(numbers, address.position, blocks)
+}
+
+/// The address is sent in the card's unit, and the card has `blocks` blocks from there on, whichever card and host the
+/// facts hold of. An address of an erase command asks for one block. The facts name a set of the table.
+pub fn address_ok(table: &SetTable, facts: &Facts, address: &Address, blocks: u64) -> bool
+    requires within { facts.now.set < length table.now }
+    ensures rule { result ≡ address_fits (facts_in table.now facts.now) address.now blocks }
+    ensures on_card { IsTrue result → IsOnCard (facts_in table.now facts.now) address.now blocks }
+{
+    fits_on_card(table.members(facts.set()), facts.numbers(), address, blocks)
 }

@@ -1,9 +1,12 @@
 //! Certificates: what is known at each point of a script.
 
-ghost use Rattle.std.specs.Prelude.{◌≡◌, All};
+ghost use Rattle.std.specs.Prelude.{◌≡◌, List, All, length};
+ghost use Rattle.sdv_card.specs.declared.shape.Shape.{Shape};
 ghost use Rattle.sdv_facts.specs.Limits.{PointInLimits};
+ghost use Rattle.sdv_facts.specs.Shared.{points_in, IsShared, HasSetsOf};
 
 use crate::facts::Facts;
+use crate::set_table::SetTable;
 use arrayvec::ArrayVec;
 use std::marker::Model;
 
@@ -21,39 +24,55 @@ pub struct PointFacts {
     pub turns: ArrayVec<u64, 4>,
 }
 
-/// What is known at each point of a script, in the order of the points.
+/// What is known at each point of a script, in the order of the points, which share their sets of shapes.
 #[derive(Drop)]
 pub struct Certificate {
+    table: SetTable,
     points: Vec<PointFacts>,
 }
 
 impl Model for Certificate {
-    ghost use Rattle.std.specs.Prelude.{List, All};
-    ghost use Rattle.sdv_facts.specs.declared.certificate.PointFacts.{PointFacts};
+    ghost use Rattle.std.specs.Prelude.{List};
+    ghost use Rattle.sdv_facts.specs.Facts.{PointFacts};
 
     ghost Value = { List PointFacts };
 
-    ghost use Rattle.sdv_facts.specs.Limits.{PointInLimits};
+    ghost use Rattle.sdv_facts.specs.Shared.{points_in, IsShared};
 
-    ghost view = { λ c. c.points.items };
+    ghost view = { λ c. points_in c.table c.points.items };
 
-    ghost invariant = { λ c. All PointInLimits c.points.items };
+    ghost invariant = { λ c. IsShared c.table c.points.items };
 }
 
 impl Certificate {
-    /// A certificate that says this of its points. No number is above 2^40.
-    pub fn from_points(points: Vec<PointFacts>) -> Certificate
-        requires limits { All PointInLimits points.items }
-        ensures { result ≡ points.items }
+    /// A certificate that says this of its points, whose sets are those of the table. No number is above 2^40.
+    pub fn from_points(table: SetTable, points: Vec<PointFacts>) -> Certificate
+        requires shared { IsShared table points.items }
+        ensures { result ≡ points_in table points.items }
     {
-        Certificate { points }
+        Certificate { table, points }
     }
 
-    /// The points, in their order.
-    pub fn points(&self) -> &[PointFacts]
-        ensures value { result.now ≡ self.now }
+    /// The table of sets, and the points, in their order, which name sets of that table.
+    pub fn shown(&self) -> (&SetTable, &[PointFacts])
+        ensures value { points_in result.0.now result.1.now ≡ self.now }
+        ensures shared { IsShared result.0.now result.1.now }
         ensures limits { All PointInLimits self.now }
     {
-        &self.points
+        (&self.table, &self.points)
+    }
+
+    /// The table of sets. Each point's shapes are one of them.
+    pub fn table(&self) -> &SetTable
+        ensures { HasSetsOf result.now self.now }
+    {
+        &self.table
+    }
+
+    /// The number of distinct sets.
+    pub fn sets(&self) -> usize
+        ensures { (sets : List (List Shape)) × (length sets ≡ result) × HasSetsOf sets self.now }
+    {
+        self.table.len()
     }
 }

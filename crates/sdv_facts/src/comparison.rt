@@ -1,10 +1,13 @@
 //! What is known after a comparison.
 
-ghost use Rattle.std.specs.Prelude.{◌≡◌, IfSome};
+ghost use Rattle.std.specs.Prelude.{◌≡◌, List, IfSome};
+ghost use Rattle.sdv_card.specs.declared.shape.Shape.{Shape};
 ghost use Rattle.sdv_facts.specs.declared.test.Test.TheVariants.{AtLeast, Below};
 ghost use Rattle.sdv_facts.specs.AfterTest.{least_by, after_test};
+ghost use Rattle.sdv_facts.specs.Facts.{facts_with};
 ghost use Rattle.sdv_facts.specs.Limits.{IsInLimits, NumbersInLimits};
 ghost use Rattle.sdv_facts.specs.Keeps.{KeptByTest};
+ghost use Rattle.sdv_facts.specs.Shared.{facts_in};
 
 use crate::facts::Facts;
 use crate::numbers::{Numbers, VarFacts};
@@ -50,15 +53,24 @@ fn below(numbers: &Numbers, variable: usize, k: u64) -> Option<Numbers>
     Some(numbers.with_var(variable, VarFacts { hi, ..known }))
 }
 
-/// What is known of numbers along an edge on which the comparison holds; nothing where there is no edge, as it holds of
-/// no value that is possible.
-pub fn after_test(facts: &Facts, test: &Test) -> Option<Numbers>
-    ensures rule { result ≡ after_test facts.now.numbers test.now }
-    ensures keeps { KeptByTest facts.now test.now result }
-    ensures limits { NumbersInLimits facts.now.numbers → IfSome result NumbersInLimits }
+/// What is known of numbers along an edge on which the comparison holds, where this is known before it; nothing where
+/// there is no edge, as it holds of no value that is possible.
+pub fn numbers_after_test(numbers: &Numbers, test: &Test) -> Option<Numbers>
+    ensures rule { result ≡ after_test numbers.now test.now }
+    ensures keeps { (shapes : List Shape) → KeptByTest (facts_with shapes numbers.now) test.now result }
+    ensures limits { NumbersInLimits numbers.now → IfSome result NumbersInLimits }
 {
     match *test {
-        Test::AtLeast(variable, k) => at_least(facts.numbers(), variable, k),
-        Test::Below(variable, k) => below(facts.numbers(), variable, k),
+        Test::AtLeast(variable, k) => at_least(numbers, variable, k),
+        Test::Below(variable, k) => below(numbers, variable, k),
     }
+}
+
+/// The same of the numbers of a point, of whose shapes nothing is asked.
+pub fn after_test(facts: &Facts, test: &Test) -> Option<Numbers>
+    ensures rule { result ≡ after_test facts.now.numbers test.now }
+    ensures keeps { (sets : List (List Shape)) → KeptByTest (facts_in sets facts.now) test.now result }
+    ensures limits { NumbersInLimits facts.now.numbers → IfSome result NumbersInLimits }
+{
+    numbers_after_test(facts.numbers(), test)
 }

@@ -3,7 +3,7 @@
 ghost use Rattle.std.specs.Prelude.{List};
 ghost use Rattle.sdv_graph.specs.Graph.{Graph};
 ghost use Rattle.sdv_graph.specs.GraphOf.{IsSound};
-ghost use Rattle.sdv_facts.specs.declared.certificate.PointFacts.{PointFacts};
+ghost use Rattle.sdv_facts.specs.Facts.{PointFacts};
 ghost use Rattle.sdv_facts.specs.Closed.{PointsMatch};
 ghost use Rattle.sdv_facts.specs.Stands.{PointsStepWell};
 

@@ -11,7 +11,7 @@ use Rattle.sdv_script.specs.GraphOf.{IsGraphOf}
 use Rattle.sdv_script.specs.Script.{Parsed, IsScript}
 use Rattle.sdv_script.specs.Shown.{shown}
 use Rattle.sdv_script.proofs.ScriptLaws.{one_tree_lem}
-use Rattle.sdv_facts.specs.declared.certificate.PointFacts.{PointFacts}
+use Rattle.sdv_facts.specs.Facts.{PointFacts}
 use Rattle.sdv_facts.specs.CertificateText.{text_of, WithinLimits}
 use Rattle.sdv_check.specs.Verified.{IsGraphOfText}
 use Rattle.sdv_certify.specs.Assembled.{CertificateOf, ClosedFor, RefusedFor}

@@ -7,7 +7,7 @@ use Rattle.sdv_script.specs.Graph.{Graph}
 use Rattle.sdv_text.specs.Written.{AppendsPart}
 use Rattle.sdv_script.specs.Script.{IsScript}
 use Rattle.sdv_script.specs.Shown.{shown}
-use Rattle.sdv_facts.specs.declared.certificate.PointFacts.{PointFacts}
+use Rattle.sdv_facts.specs.Facts.{PointFacts}
 use Rattle.sdv_facts.specs.CertificateText.{text_of, WithinLimits}
 use Rattle.sdv_facts.specs.Closed.{Closed}
 use Rattle.sdv_check.specs.Verified.{IsGraphOfText, IsNoScript}

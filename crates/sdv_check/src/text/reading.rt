@@ -1,7 +1,7 @@
 //! Certificates, read from their texts.
 
 ghost use Rattle.std.specs.Prelude.{◌≡◌, ◌≢◌, ◌<◌, List, length, IfOk, IfErr, Err, All};
-ghost use Rattle.sdv_facts.specs.declared.certificate.PointFacts.{PointFacts};
+ghost use Rattle.sdv_facts.specs.Facts.{PointFacts};
 ghost use Rattle.sdv_facts.specs.CertificateText.{text_of, max_bytes, WithinLimits};
 ghost use Rattle.sdv_check.specs.Reading.{Gives, read_count, read_lines, read_text};
 ghost use Rattle.sdv_check.specs.declared.text.fault.CertFault.TheVariants.{Limit};

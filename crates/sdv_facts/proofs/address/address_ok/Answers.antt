@@ -1,9 +1,0 @@
-use Rattle.std.proofs.Common.{◌≡◌, true, rules}
-use Rattle.sdv_facts.specs.AddressFits.{address_fits}
-use Rattle.sdv_facts.proofs.AddressLaws.{on_card}
-use Rattle.sdv_facts.proofs.address.address_ok.Goals as goal
-
-pub returns-then-fits-clause-on_card : goal.returns-then-fits-clause-on_card
-returns-then-fits-clause-on_card c held =
-    let rule : address_fits c.args.facts.now c.args.address.now c.args.blocks ≡ true = search rules in
-    on_card c.args.facts.now c.args.address.now c.args.blocks rule

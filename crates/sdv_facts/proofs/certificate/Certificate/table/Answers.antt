@@ -1,0 +1,7 @@
+use Rattle.std.proofs.Common.{subst}
+use Rattle.sdv_facts.specs.Shared.{HasSetsOf}
+use Rattle.sdv_facts.proofs.SharedLaws.{has_sets}
+use Rattle.sdv_facts.proofs.certificate.Certificate.table.Goals as goal
+
+pub returns : goal.returns
+returns c = subst (HasSetsOf c.self.inside.table) c.self.view_is (has_sets c.self.inside.table c.self.inside.points.items c.self.invariant.named)
