@@ -1,12 +1,16 @@
 -- The text of a certificate piece by piece.
-use Rattle.std.proofs.Common.{◌≡◌, ℕ, suc, ◌+◌, ◌<◌, ◌≤◌, List, [], ◌∷◌, ◌++◌, length, drop, get_or, Option, Some, None, Result, Ok, Err, flat_map, codes, refl, IsErr, sym, ap, subst, ◌∙◌, append_assoc, append-nil, add-one, drop-cons, drop_of_length-le}
+use Rattle.std.proofs.Common.{◌≡◌, ℕ, suc, ◌+◌, ◌<◌, ◌≤◌, List, [], ◌∷◌, ◌++◌, length, drop, get_or, Option, Some, None, Result, Ok, Err, flat_map, codes, refl, IsErr, sym, ap, subst, ◌∙◌, append_assoc, append-nil, add-one, drop-cons, drop_of_length-le, arith}
 use Rattle.std.proofs.lemmas.List.Concat.{flat_map-cons}
+use Rattle.std.proofs.Math.ListN.{get_or-map}
+use Rattle.std.proofs.lemmas.List.{length-map}
 use Rattle.std.specs.Io.KnownBytes.{Appends}
 use Rattle.sdv_card.specs.declared.shape.Shape.{Shape}
 use Rattle.sdv_text.specs.Written.{AppendsPart, Writes}
 use Rattle.sdv_text.proofs.WrittenLaws.{appends_none, appends_more, part_after, part_before, then_more}
 use Rattle.sdv_facts.specs.declared.numbers.VarFacts.{VarFacts}
+use Rattle.sdv_facts.specs.declared.certificate.PointFacts.{PointFacts as SharedPoint}
 use Rattle.sdv_facts.specs.Facts.{PointFacts}
+use Rattle.sdv_facts.specs.Shared.{point_in, points_in}
 use Rattle.sdv_facts.specs.CertificateText.{number_written, gap_written, var_written, shape_written, each_written, point_written, points_written, text_of}
 use Rattle.sdv_certify.specs.Pieces.{number_text, gap_text, var_text, shape_text, bound_text, numbers_text, shapes_text, line_text, lines_text, title_text, PassesOn}
 
@@ -91,6 +95,16 @@ next_line ps i p lt e =
 
 pub no_line : (ps : List PointFacts) (i : ℕ) → length ps ≤ i → lines_text i (drop i ps) ≡ []
 no_line ps i le = ap (lines_text i) (drop_of_length-le ps le)
+
+-- the same of points that name sets of a table
+pub next_point : (sets : List (List Shape)) (ps : List SharedPoint) (i : ℕ) (p : SharedPoint) → i < length ps → p ≡ get_or ps i p
+    → lines_text i (drop i (points_in sets ps)) ≡ line_text i (point_in sets p) ++ lines_text (i + 1) (drop (i + 1) (points_in sets ps))
+next_point sets ps i p lt e =
+    let many = length-map ps (point_in sets) in
+    next_line (points_in sets ps) i (point_in sets p) (omega (arith, lt, many)) (ap (point_in sets) e ∙ sym (get_or-map (point_in sets) ps i p))
+
+pub no_point : (sets : List (List Shape)) (ps : List SharedPoint) (i : ℕ) → length ps ≤ i → lines_text i (drop i (points_in sets ps)) ≡ []
+no_point sets ps i le = let many = length-map ps (point_in sets) in no_line (points_in sets ps) i (omega (arith, le, many))
 
 -- THE CODE: fronts of lines, and writers that failed
 

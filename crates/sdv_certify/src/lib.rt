@@ -7,6 +7,7 @@
 //! and `specs/FormsPay.antt` says that they fall along each edge as a certificate's should; `bound_forms` computes them.
 //! `survey` answers the same points of a script that may have no certificate. `write` writes the text of a certificate,
 //! which stands in `sdv_facts/specs/CertificateText.antt`.
+//! While passes go on each point has a list of its shapes, and in the certificate the name of a set (`assembling`).
 //! `facts_of_shapes` and `join_facts` compute the sets and joins of `sdv_facts/specs/Joins.antt`.
 #![tactic(auto)]
 
@@ -17,6 +18,7 @@ mod form;
 mod joining;
 mod known;
 pub mod laws;
+mod listed_facts;
 mod outcomes;
 mod parts;
 mod passes;
@@ -28,5 +30,6 @@ mod writing;
 
 pub use assembling::{certify, survey};
 pub use fault::CertifyFault;
+pub use listed_facts::ListedFacts;
 pub use sets::{facts_of_shapes, join_facts};
 pub use writing::write;

@@ -6,8 +6,9 @@ ghost use Rattle.sdv_graph.specs.Graph.{seen_action, seen_point};
 ghost use Rattle.sdv_certify.specs.Refusal.{AllLegal, AddressHolds, AllEnd, IsFine, IsLeastIllegal, FailsAs, FailsIfReached, IsFineIfReached, FailsFirst, AllFine};
 
 use crate::fault::CertifyFault;
+use crate::listed_facts::ListedFacts;
 use sdv_card::{CardTable, Shape};
-use sdv_facts::{Facts, address_holds, ends_at, legal_at};
+use sdv_facts::{addresses_on_card, ends_at, legal_at};
 use sdv_graph::{Action, Graph, Point};
 
 /// The least shape where the event of a statement is not legal.
@@ -37,14 +38,18 @@ fn all_end(action: &Action<'_>, shapes: &[Shape]) -> bool
 }
 
 /// The first clause of a point that fails.
-fn fault_at<T: CardTable>(point: usize, action: &Action<'_>, facts: &Facts) -> Option<CertifyFault>
+fn fault_at<T: CardTable>(
+    point: usize,
+    action: &Action<'_>,
+    facts: &ListedFacts,
+) -> Option<CertifyFault>
     ensures fails { IfSome result (FailsAs T.kind (seen_action action.now) facts.now point) }
     ensures fine { IfNone result (IsFine T.kind (seen_action action.now) facts.now) }
 {
     if let Some(shape) = least_illegal::<T>(action, facts.shapes()) {
         return Some(CertifyFault::Illegal { point, shape });
     }
-    if !address_holds(facts, action) {
+    if !addresses_on_card(facts.shapes(), facts.numbers(), action) {
         return Some(CertifyFault::Address { point });
     }
     if !all_end(action, facts.shapes()) {
@@ -57,7 +62,7 @@ fn fault_at<T: CardTable>(point: usize, action: &Action<'_>, facts: &Facts) -> O
 fn fault_if_reached<T: CardTable>(
     number: usize,
     point: &Point<'_>,
-    known: &Option<Facts>,
+    known: &Option<ListedFacts>,
 ) -> Option<CertifyFault>
     ensures fails { IfSome result (FailsIfReached T.kind (seen_point point.now).action known.now number) }
     ensures fine { IfNone result (IsFineIfReached T.kind (seen_point point.now).action known.now) }
@@ -69,7 +74,10 @@ fn fault_if_reached<T: CardTable>(
 }
 
 /// The lowest point that fails, with the first of its clauses that does.
-pub fn first_fault<T: CardTable>(graph: &Graph, family: &[Option<Facts>]) -> Option<CertifyFault>
+pub fn first_fault<T: CardTable>(
+    graph: &Graph,
+    family: &[Option<ListedFacts>],
+) -> Option<CertifyFault>
     requires kind { graph.now.kind ≡ T.kind }
     requires same { length family.now ≡ length graph.now.points }
     ensures fails { IfSome result (FailsFirst graph.now family.now) }

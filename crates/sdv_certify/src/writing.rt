@@ -1,15 +1,17 @@
 //! Writing a certificate.
 
-ghost use Rattle.std.specs.Prelude.{◌≡◌, ◌<◌, ◌≤◌, ◌+◌, ◌++◌, [], ◌∷◌, length, OnOk, OnErr};
+ghost use Rattle.std.specs.Prelude.{◌≡◌, List, ◌<◌, ◌≤◌, ◌+◌, ◌++◌, [], ◌∷◌, length, OnOk, OnErr};
 ghost use Rattle.arrayvec.specs.ArrayVec.{array_vec_len};
+ghost use Rattle.sdv_card.specs.declared.shape.Shape.{Shape};
 ghost use Rattle.sdv_facts.specs.CertificateText.{text_of};
+ghost use Rattle.sdv_facts.specs.Shared.{point_in, IsNamed};
 ghost use Rattle.sdv_text.specs.Written.{AppendsPart, Writes};
 ghost use Rattle.sdv_certify.specs.Pieces.{number_text, gap_text, var_text, shape_text, bound_text, numbers_text, line_text, title_text, PassesOn};
 
 use arrayvec::ArrayVec;
 use itoa::Buffer;
 use sdv_card::Shape;
-use sdv_facts::{Certificate, PointFacts, VarFacts};
+use sdv_facts::{Certificate, PointFacts, SetTable, VarFacts};
 use sdv_text::write_text;
 use std::io::{Error, Write};
 
@@ -60,7 +62,8 @@ fn push_variable(line: &mut LineBytes, known: &VarFacts)
 // A point's place and bound.
 fn push_bound(line: &mut LineBytes, place: u64, point: &PointFacts)
     requires { array_vec_len line.old + 200 ≤ 1024 }
-    ensures items { line.new.items ≡ line.old.items ++ bound_text place point.now }
+    ensures items { (sets : List (List Shape)) → line.new.items
+        ≡ line.old.items ++ bound_text place (point_in sets point.now) }
     ensures len { array_vec_len line.new ≤ array_vec_len line.old + 200 }
 {
     push(line, b"p");
@@ -76,7 +79,8 @@ fn push_bound(line: &mut LineBytes, place: u64, point: &PointFacts)
 // What is known of numbers at a point.
 fn push_numbers(line: &mut LineBytes, point: &PointFacts)
     requires { array_vec_len line.old + 600 ≤ 1024 }
-    ensures items { line.new.items ≡ line.old.items ++ numbers_text point.now }
+    ensures items { (sets : List (List Shape)) → line.new.items
+        ≡ line.old.items ++ numbers_text (point_in sets point.now) }
     ensures len { array_vec_len line.new ≤ array_vec_len line.old + 600 }
 {
     let numbers = point.facts.numbers();
@@ -114,14 +118,20 @@ fn make_room<W: Write>(out: &mut W, line: &mut LineBytes) -> Result<(), Error>
     Ok(())
 }
 
-// The line of a point, in one write unless it is long.
-fn put_line<W: Write>(out: &mut W, place: u64, point: &PointFacts) -> Result<(), Error>
-    ensures { Writes (W.contents out.old) (W.contents out.new) result (line_text place point.now) }
+// The line of a point that names a set of the table, in one write unless it is long.
+fn put_line<W: Write>(
+    out: &mut W,
+    table: &SetTable,
+    place: u64,
+    point: &PointFacts,
+) -> Result<(), Error>
+    requires { IsNamed table.now point.now }
+    ensures { Writes (W.contents out.old) (W.contents out.new) result (line_text place (point_in table.now point.now)) }
 {
     let mut line = LineBytes::new();
     push_bound(&mut line, place, point);
     push_numbers(&mut line, point);
-    let shapes = point.facts.shapes();
+    let shapes = table.members(point.facts.set());
     for shape in shapes {
         make_room(out, &mut line)?;
         push_shape(&mut line, *shape);
@@ -150,10 +160,10 @@ fn put_title<W: Write>(out: &mut W, count: u64) -> Result<(), Error>
 pub fn write<W: Write>(certificate: &Certificate, out: &mut W) -> Result<(), Error>
     ensures { Writes (W.contents out.old) (W.contents out.new) result (text_of certificate.now) }
 {
-    let points = certificate.points();
+    let (table, points) = certificate.shown();
     put_title(out, points.len() as u64)?;
     for (place, point) in points.iter().enumerate() {
-        put_line(out, place as u64, point)?;
+        put_line(out, table, place as u64, point)?;
     }
     Ok(())
 }

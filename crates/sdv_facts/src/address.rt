@@ -65,12 +65,7 @@ fn position_fits(numbers: &Numbers, position: Position, blocks: u64) -> bool
 
 /// The address is sent in the card's unit, and the card has `blocks` blocks from there on, whichever card and host have
 /// one of these shapes and numbers within these bounds.
-pub fn fits_on_card(
-    shapes: &[Shape],
-    numbers: &Numbers,
-    address: &Address,
-    blocks: u64,
-) -> bool
+pub fn fits_on_card(shapes: &[Shape], numbers: &Numbers, address: &Address, blocks: u64) -> bool
     ensures rule { result ≡ address_fits (facts_with shapes.now numbers.now) address.now blocks }
     ensures on_card { IsTrue result → IsOnCard (facts_with shapes.now numbers.now) address.now blocks }
 {
