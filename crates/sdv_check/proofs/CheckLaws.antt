@@ -1,12 +1,18 @@
 -- What holds of each point, put together from what holds of one after another.
-use Rattle.std.proofs.Common.{◌≡◌, ℕ, zero, suc, ltb-true, ◌+◌, ◌<◌, List, [], ◌∷◌, length, get_or, refl, sym, ap, ◌∙◌, subst, arith, Bool, true, false, IsTrue, ◌↔◌, Some, inl, inr}
+use Rattle.std.proofs.Common.{◌≡◌, ℕ, zero, suc, ltb-true, ◌+◌, ◌-◌, ◌<◌, List, [], ◌∷◌, All, length, reverse, get_or, refl, sym, ap, ◌∙◌, subst, arith, Bool, true, false, IsTrue, ◌↔◌, Some, inl, inr}
 use Rattle.std.specs.Prelude.{slice_get, ◌&&◌}
 use Rattle.std.proofs.lemmas.Bool.{cases_eq}
-use Rattle.std.proofs.lemmas.Option.{slice_get-get_or, slice_get_within}
+use Rattle.std.proofs.lemmas.List.{get_or-reverse, length-map, length-reverse}
+use Rattle.std.proofs.lemmas.Option.{slice_get-get_or, slice_get_within, get_or_from_slice_get}
 use Rattle.sdv_graph.specs.Graph.{Graph}
 use Rattle.sdv_graph.specs.Limits.{action_keeps_limits, keeps_limits, all_keep_limits}
 use Rattle.sdv_graph.specs.Path.{Action, Point, sends, phases, lets, tests, flags, heads, jumps, stops}
+use Rattle.sdv_card.specs.declared.shape.Shape.{Shape}
+use Rattle.sdv_facts.specs.declared.certificate.PointFacts.{PointFacts as SharedPoint}
 use Rattle.sdv_facts.specs.Facts.{PointFacts}
+use Rattle.sdv_facts.specs.Limits.{PointInLimits}
+use Rattle.sdv_facts.specs.Shared.{point_in, points_in}
+use Rattle.sdv_facts.proofs.SharedLaws.{seen_there}
 use Rattle.sdv_facts.specs.declared.clause.Clause.{Clause}
 use Rattle.sdv_facts.specs.declared.clause.Clause.TheVariants as clauses
 use Rattle.sdv_facts.specs.Closed.{PointMatches, PointsMatch, StartCovers, PointClosed, FirstFails, FailsAt, Closed}
@@ -17,8 +23,31 @@ use Rattle.sdv_check.specs.Faults.{fault_of}
 some_same : {A : Type 0} {x y : A} → Some x ≡ Some y → x ≡ y
 some_same e = cc
 
-pub facts_there : (ps : List PointFacts) (i : ℕ) (y : PointFacts) → i < length ps → y ≡ get_or ps i y → slice_get ps i ≡ Some y
-facts_there ps i y lt e = slice_get-get_or ps i y lt ∙ ap Some (sym e)
+pub all_reversed : (P : ℕ → Type 0) (xs : List ℕ) → All P xs → All P (reverse xs)
+all_reversed P xs all k d lt =
+    let same = length-reverse xs in
+    let n : k < length xs = omega (arith, same, lt) in
+    subst P (sym (get_or-reverse xs k d n)) (all (length xs - 1 - k) d (omega (arith, n)))
+
+-- a certificate is as long as its points, which name sets of its table
+pub as_many : (sets : List (List Shape)) (qs : List SharedPoint) (ps : List PointFacts) → points_in sets qs ≡ ps → length qs ≡ length ps
+as_many sets qs ps is = sym (length-map qs (point_in sets)) ∙ ap length is
+
+-- a point that was read from a place
+pub point_there : (qs : List SharedPoint) (i : ℕ) (q : SharedPoint) → i < length qs → q ≡ get_or qs i q → slice_get qs i ≡ Some q
+point_there qs i q lt e = slice_get-get_or qs i q lt ∙ ap Some (sym e)
+
+-- is that of the certificate
+pub facts_at : (sets : List (List Shape)) (qs : List SharedPoint) (ps : List PointFacts) (i : ℕ) (q : SharedPoint) → points_in sets qs ≡ ps
+    → slice_get qs i ≡ Some q → slice_get ps i ≡ Some (point_in sets q)
+facts_at sets qs ps i q is there = subst (λ l. slice_get l i ≡ Some (point_in sets q)) is (seen_there sets qs i q there)
+
+pub in_limits : (sets : List (List Shape)) (qs : List SharedPoint) (ps : List PointFacts) (i : ℕ) (q : SharedPoint) → points_in sets qs ≡ ps
+    → All PointInLimits ps → slice_get qs i ≡ Some q → PointInLimits (point_in sets q)
+in_limits sets qs ps i q is limits there =
+    let at = facts_at sets qs ps i q is there in
+    let p = point_in sets q in
+    subst PointInLimits (get_or_from_slice_get ps i p p at) (limits i p (slice_get_within ps i p at))
 
 place_there : (g : List Point) (i : ℕ) → i < length g → (place : Point) × (slice_get g i ≡ Some place)
 place_there [] i lt = absurd (omega arith)

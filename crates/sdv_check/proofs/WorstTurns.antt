@@ -1,6 +1,7 @@
 -- The bound falls for all turns exactly where it falls at the worst.
-use Rattle.std.proofs.Common.{◌≡◌, ℕ, zero, suc, ◌+◌, ◌*◌, ◌-◌, ◌≤◌, List, [], ◌∷◌, inl, inr, refl, ap, subst, sym, arith, Option, Some, None}
-use Rattle.std.specs.Prelude.{◌↔◌, IfSome, slice_get}
+use Rattle.std.proofs.Common.{◌≡◌, ℕ, zero, suc, ◌+◌, ◌*◌, ◌-◌, ◌<◌, ◌≤◌, List, [], ◌∷◌, length, inl, inr, refl, ap, ◌∙◌, subst, sym, arith, Option, Some, None, IsTrue}
+use Rattle.std.specs.Prelude.{◌↔◌, IfSome, MatchOption, slice_get}
+use Rattle.std.specs.Option.{is_some}
 use Rattle.std.proofs.Math.Nat.{mul-le-mul_left}
 use Rattle.std.proofs.lemmas.Bool.{cases_lt}
 use Rattle.sdv_graph.specs.declared.graph.Target.{Target}
@@ -236,3 +237,36 @@ pub bound_first : (ps : List PointFacts) (p : PointFacts) (t : Target) (n : ℕ)
     → p.base + n ≡ bound_at (slice_get ps 0) (turns_at t [])
 bound_first ps p t n there is =
     subst (λ o. p.base + n ≡ bound_at o (turns_at t [])) (sym there) (subst (λ m. p.base + m ≡ bound p (turns_at t [])) (sym is) (bound_begun p t))
+
+-- WHERE NO LOOP IS LEFT
+
+no_excess : (ct cs : List ℕ) (n : ℕ) → excess ct cs (left n []) ≡ 0
+no_excess ct cs n = ap (excess ct cs) (none_left n)
+
+room_there : (bound other : ℕ) (room : Option ℕ) → MatchOption room (bound < other) (λ r. other + r ≡ bound) → IsTrue (is_some room) ↔ (other ≤ bound)
+room_there bound other None h = ((λ t. absurd (cc)), (λ le. absurd (omega (arith, le, h))))
+room_there bound other (Some r) h = ((λ t. omega (arith, h)), (λ le. refl))
+
+falls_here : (p q : PointFacts) (sent : ℕ) (t : Target) (room : Option ℕ) (bound other : ℕ) → bound ≡ p.base + 0
+    → other ≡ q.base + sent + entering t.enter (costs q)
+    → MatchOption room (bound < other) (λ r. other + r ≡ bound) → IsTrue (is_some room) ↔ FallsAtWorst p q [] sent Same t
+falls_here p q sent t room bound other from to h =
+    let there = room_there bound other room h in
+    let over : ℕ = excess (inside t.enter (costs q)) (left t.leave (costs p)) (left t.leave []) in
+    let e : over ≡ 0 = no_excess (inside t.enter (costs q)) (left t.leave (costs p)) t.leave in
+    let up : other ≤ bound → q.base + sent + entering t.enter (costs q) + over ≤ p.base + 0 = λ le. omega (arith, le, e, from, to) in
+    let down : q.base + sent + entering t.enter (costs q) + over ≤ p.base + 0 → other ≤ bound = λ le. omega (arith, le, e, from, to) in
+    ((λ i. record { worst = up (there.0 i) }), (λ f. there.1 (down f.worst)))
+
+none_there : (xs : List ℕ) → length xs ≡ 0 → xs ≡ []
+none_there [] e = refl
+none_there (x ∷ xs) e = absurd (omega (arith, e))
+
+-- the bound falls where there is room for what is sent
+pub falls_alone : (p q : PointFacts) (most : List ℕ) (sent : ℕ) (pass : Pass) (t : Target) (room : Option ℕ) (bound other : ℕ) → length most ≡ 0 → pass ≡ Same
+    → bound ≡ p.base + turn_taken pass (costs p) → other ≡ q.base + sent + entering t.enter (costs q)
+    → MatchOption room (bound < other) (λ r. other + r ≡ bound) → IsTrue (is_some room) ↔ FallsAtWorst p q most sent pass t
+falls_alone p q most sent pass t room bound other none same from to h =
+    let here = falls_here p q sent t room bound other (from ∙ ap (λ v. p.base + turn_taken v (costs p)) same) to h in
+    subst (λ v. IsTrue (is_some room) ↔ FallsAtWorst p q v sent pass t) (sym (none_there most none))
+    (subst (λ v. IsTrue (is_some room) ↔ FallsAtWorst p q [] sent v t) (sym same) here)

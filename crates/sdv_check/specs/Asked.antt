@@ -7,12 +7,14 @@ use Rattle.sdv_graph.specs.Graph.{seen_point}
 use Rattle.sdv_script.specs.Nested as nested
 use Rattle.sdv_graph.specs.Path.{Action, Point, lets, flags}
 use Rattle.sdv_facts.specs.declared.numbers.Numbers.{Numbers}
+use Rattle.sdv_facts.specs.declared.certificate.PointFacts.{PointFacts as SharedPoint}
 use Rattle.sdv_facts.specs.AfterLet.{after_let}
 use Rattle.sdv_facts.specs.Bounds.{BoundFalls, commands_of}
 use Rattle.sdv_facts.specs.Closed.{LegalAt, EndsAt, ShapeRule, NumberRule, BoundRule}
 use Rattle.sdv_facts.specs.Covers.{Covers}
 use Rattle.sdv_facts.specs.Edges.{Rule, EachEdge}
 use Rattle.sdv_facts.specs.Facts.{Facts, PointFacts}
+use Rattle.sdv_facts.specs.Shared.{point_in, points_in}
 use Rattle.sdv_check.specs.declared.source.Pass.{Pass}
 use Rattle.sdv_check.specs.declared.source.Pass.TheVariants.{Same, Again, Over}
 use Rattle.sdv_check.specs.declared.source.Rules.{Rules}
@@ -53,11 +55,21 @@ AskedAt asks.All k ps place p s =
 abbrev pub place_at : Source → Point
 place_at at = seen_point at.point.now
 
+-- what the certificate says of a point, with the shapes of its set
+abbrev pub there_in : Source → SharedPoint → PointFacts
+there_in at q = point_in at.table.now q
+
+abbrev pub here : Source → PointFacts
+here at = there_in at at.facts.now
+
+abbrev pub all_points : Source → List PointFacts
+all_points at = points_in at.table.now at.certificate.now
+
 abbrev pub RuleFrom : Rules → Source → Rule
-RuleFrom r at = RuleOf r at.certificate.now (place_at at) at.facts.now
+RuleFrom r at = RuleOf r (all_points at) (place_at at) (here at)
 
 abbrev pub AskedFrom : Asked → Kind → Source → Shape → Type 0
-AskedFrom asked k at s = AskedAt asked k at.certificate.now (place_at at) at.facts.now s
+AskedFrom asked k at s = AskedAt asked k (all_points at) (place_at at) (here at) s
 
 -- the numbers after a `let`, of a point that is one
 abbrev pub numbers_set : Kind → Facts → Action → Option Numbers

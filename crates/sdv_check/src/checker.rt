@@ -1,12 +1,14 @@
 //! The checker.
 
-ghost use Rattle.std.specs.Prelude.{◌≡◌, ◌<◌, ◌↔◌, ◌^◌, [], true, IsTrue, IfOk, MatchOption, All, length, slice_get};
+ghost use Rattle.std.specs.Prelude.{◌≡◌, ◌<◌, ◌↔◌, ◌^◌, List, [], true, IsTrue, IfOk, MatchOption, All, length, slice_get};
+ghost use Rattle.sdv_card.specs.declared.shape.Shape.{Shape};
 ghost use Rattle.sdv_graph.specs.Graph.{seen_point};
 ghost use Rattle.sdv_graph.specs.Limits.{all_keep_limits};
 ghost use Rattle.sdv_graph.specs.Path.{turns_at};
 ghost use Rattle.sdv_facts.specs.Bounds.{bound_at};
 ghost use Rattle.sdv_facts.specs.Closed.{PointMatches, PointsMatch, StartsAt, StartCovers, PointClosed, FailsAt};
-ghost use Rattle.sdv_facts.specs.Limits.{IsInLimits, PointInLimits};
+ghost use Rattle.sdv_facts.specs.Limits.{IsInLimits};
+ghost use Rattle.sdv_facts.specs.Shared.{point_in, IsNamed};
 ghost use Rattle.sdv_check.specs.Asked.{EachBelow};
 ghost use Rattle.sdv_check.specs.Checked.{Checked};
 ghost use Rattle.sdv_check.specs.Promised.{Promised};
@@ -19,7 +21,7 @@ use crate::source::Source;
 use crate::turns::costs;
 use sdv_card::{CardTable, Kind, START_SHAPES};
 use sdv_emmc::EmmcTable;
-use sdv_facts::{Certificate, Clause, Numbers, PointFacts, covers, holds_shape};
+use sdv_facts::{Certificate, Clause, Numbers, PointFacts, SetTable, covers, holds_shape};
 use sdv_graph::{Graph, Point, Target};
 use sdv_sd::SdTable;
 
@@ -63,35 +65,36 @@ fn check_by<T: CardTable>(
     requires limits { all_keep_limits graph.now.points ≡ true }
     ensures { Checked graph.now certificate.now result }
 {
-    let points = certificate.points();
-    if !points_match(graph, points) {
+    if !points_match(graph, certificate) {
         return Err(CheckFault::Points);
     }
-    if !start_covers(graph, points) {
+    if !start_covers(graph, certificate) {
         return Err(CheckFault::Start);
     }
-    match first_fault::<T>(graph, points) {
+    match first_fault::<T>(graph, certificate) {
         Some((number, clause)) => Err(fault_of(clause, number)),
-        None => Ok(bound_at_start(first, points)),
+        None => Ok(bound_at_start(first, certificate)),
     }
 }
 
 /// The certificate is of as many loops and number variables at a point as the graph.
 fn point_matches(graph: &Graph<'_>, point: &Point<'_>, facts: &PointFacts) -> bool
-    ensures { IsTrue result ↔ PointMatches graph.now (seen_point point.now) facts.now }
+    ensures { (sets : List (List Shape)) → IsTrue result
+        ↔ PointMatches graph.now (seen_point point.now) (point_in sets facts.now) }
 {
     facts.turns.len() == point.most_turns.len() && facts.facts.numbers().vars.len() == graph.nums()
 }
 
 /// The certificate is of the graph's points.
-fn points_match(graph: &Graph<'_>, certificate: &[PointFacts]) -> bool
+fn points_match(graph: &Graph<'_>, certificate: &Certificate) -> bool
     ensures { IsTrue result ↔ PointsMatch graph.now certificate.now }
 {
-    if certificate.len() != graph.len() {
+    let (_, points) = certificate.shown();
+    if points.len() != graph.len() {
         return false;
     }
     for number in 0..graph.len() {
-        if !point_matches(graph, graph.point(number), &certificate[number]) {
+        if !point_matches(graph, graph.point(number), &points[number]) {
             return false;
         }
     }
@@ -99,25 +102,27 @@ fn points_match(graph: &Graph<'_>, certificate: &[PointFacts]) -> bool
 }
 
 /// A point says no more than what holds at the start.
-fn starts_at(graph: &Graph<'_>, facts: &PointFacts) -> bool
-    requires { length facts.now.facts.numbers.vars.items ≡ graph.now.numbers }
-    ensures { IsTrue result ↔ StartsAt graph.now facts.now }
+fn starts_at(graph: &Graph<'_>, table: &SetTable, facts: &PointFacts) -> bool
+    requires same { length facts.now.facts.numbers.vars.items ≡ graph.now.numbers }
+    requires named { IsNamed table.now facts.now }
+    ensures { IsTrue result ↔ StartsAt graph.now (point_in table.now facts.now) }
 {
     let numbers = facts.facts.numbers();
     let [byte, byte_512, block] = START_SHAPES;
-    holds_shape(&facts.facts, byte)
-        && holds_shape(&facts.facts, byte_512)
-        && holds_shape(&facts.facts, block)
+    holds_shape(table, &facts.facts, byte)
+        && holds_shape(table, &facts.facts, byte_512)
+        && holds_shape(table, &facts.facts, block)
         && covers(numbers, &Numbers::at_start(numbers.vars.len()))
 }
 
 /// Point 0 does.
-fn start_covers(graph: &Graph<'_>, certificate: &[PointFacts]) -> bool
+fn start_covers(graph: &Graph<'_>, certificate: &Certificate) -> bool
     requires { PointsMatch graph.now certificate.now }
     ensures { IsTrue result ↔ StartCovers graph.now certificate.now }
 {
-    match certificate.first() {
-        Some(facts) => starts_at(graph, facts),
+    let (table, points) = certificate.shown();
+    match points.first() {
+        Some(facts) => starts_at(graph, table, facts),
         None => false,
     }
 }
@@ -139,7 +144,7 @@ fn fault_of(clause: Clause, number: usize) -> CheckFault
 /// The first point that fails, with the first of its clauses that does.
 fn first_fault<T: CardTable>(
     graph: &Graph<'_>,
-    certificate: &[PointFacts],
+    certificate: &Certificate,
 ) -> Option<(usize, Clause)>
     requires kind { T.kind ≡ graph.now.kind }
     requires limits { all_keep_limits graph.now.points ≡ true }
@@ -149,12 +154,14 @@ fn first_fault<T: CardTable>(
         (PointClosed graph.now.kind certificate.now))
         (λ found. FailsAt graph.now certificate.now found.1 found.0) }
 {
+    let (table, points) = certificate.shown();
     for number in 0..graph.len() {
         let at = Source {
             kind: graph.kind(),
             point: graph.point(number),
-            facts: &certificate[number],
-            certificate,
+            table,
+            facts: &points[number],
+            certificate: points,
         };
         if let Some(clause) = point_fault::<T>(at) {
             return Some((number, clause));
@@ -176,11 +183,11 @@ fn first_cost(enter: Option<u16>, costs: &[u64]) -> u64
 }
 
 /// The bound at point 0.
-fn bound_at_start(first: Target, certificate: &[PointFacts]) -> u64
-    requires { All PointInLimits certificate.now }
+fn bound_at_start(first: Target, certificate: &Certificate) -> u64
     ensures { result ≡ bound_at (slice_get certificate.now 0) (turns_at first []) }
 {
-    match certificate.first() {
+    let (_, points) = certificate.shown();
+    match points.first() {
         Some(facts) => facts.base + first_cost(first.enter, &costs(facts)),
         None => 0,
     }

@@ -4,7 +4,7 @@ ghost use Rattle.std.specs.Prelude.{◌≡◌, ◌↔◌, IsTrue, MatchOption};
 ghost use Rattle.sdv_card.specs.declared.shape.Shape.{Shape};
 ghost use Rattle.sdv_card.specs.Lists.{May};
 ghost use Rattle.sdv_facts.specs.Closed.{PointClosed, FirstFails};
-ghost use Rattle.sdv_check.specs.Asked.{place_at, numbers_set, FlagFits, AskedFrom};
+ghost use Rattle.sdv_check.specs.Asked.{place_at, here, all_points, numbers_set, FlagFits, AskedFrom};
 
 use crate::edges::edges_hold;
 use crate::source::{Asked, Rules, Source};
@@ -14,10 +14,10 @@ use sdv_graph::Action;
 
 /// The numbers after a `let`, of a point that is one.
 fn numbers_set(at: Source<'_, '_>) -> Option<Numbers>
-    ensures { result ≡ numbers_set at.entry.kind at.entry.facts.now.facts (place_at at.entry).action }
+    ensures { result ≡ numbers_set at.entry.kind (here at.entry).facts (place_at at.entry).action }
 {
     match &at.point.action {
-        Action::Let(set, _) => after_let(at.kind, &at.facts.facts, set),
+        Action::Let(set, _) => after_let(at.table, at.kind, &at.facts.facts, set),
         _ => None,
     }
 }
@@ -29,7 +29,7 @@ fn shape_holds<T: CardTable>(
     set: &Option<Numbers>,
     shape: Shape,
 ) -> bool
-    requires set { set.now ≡ numbers_set T.kind at.facts.now.facts (place_at at).action }
+    requires set { set.now ≡ numbers_set T.kind (here at).facts (place_at at).action }
     requires flag { FlagFits (place_at at).action }
     ensures { IsTrue result ↔ AskedFrom asked T.kind at.entry shape }
 {
@@ -53,7 +53,7 @@ fn shapes_hold<T: CardTable>(
     set: &Option<Numbers>,
     shapes: &[Shape],
 ) -> bool
-    requires set { set.now ≡ numbers_set T.kind at.facts.now.facts (place_at at).action }
+    requires set { set.now ≡ numbers_set T.kind (here at).facts (place_at at).action }
     requires flag { FlagFits (place_at at).action }
     ensures { IsTrue result ↔ ((s : Shape) → May shapes.now s → AskedFrom asked T.kind at.entry s) }
 {
@@ -69,20 +69,20 @@ fn shapes_hold<T: CardTable>(
 fn holds<T: CardTable>(asked: Asked, at: Source<'_, '_>) -> bool
     requires kind { T.kind ≡ at.kind }
     requires flag { FlagFits (place_at at).action }
-    ensures { IsTrue result ↔ ((s : Shape) → May at.entry.facts.now.facts.shapes s
+    ensures { IsTrue result ↔ ((s : Shape) → May (here at.entry).facts.shapes s
         → AskedFrom asked T.kind at.entry s) }
 {
     let set = numbers_set(at);
-    shapes_hold::<T>(asked, at, &set, at.facts.facts.shapes())
+    shapes_hold::<T>(asked, at, &set, at.table.members(at.facts.facts.set()))
 }
 
 /// All clauses of the point hold, in one pass over its shapes.
 fn is_closed<T: CardTable>(at: Source<'_, '_>) -> bool
     requires kind { T.kind ≡ at.kind }
     requires flag { FlagFits (place_at at).action }
-    ensures { IsTrue result ↔ PointClosed T.kind at.entry.certificate.now (place_at at.entry) at.entry.facts.now }
+    ensures { IsTrue result ↔ PointClosed T.kind (all_points at.entry) (place_at at.entry) (here at.entry) }
 {
-    address_holds(&at.facts.facts, &at.point.action) && holds::<T>(Asked::All, at)
+    address_holds(at.table, &at.facts.facts, &at.point.action) && holds::<T>(Asked::All, at)
 }
 
 /// The first clause of the point that fails, one after another.
@@ -90,13 +90,13 @@ fn first_failing<T: CardTable>(at: Source<'_, '_>) -> Option<Clause>
     requires kind { T.kind ≡ at.kind }
     requires flag { FlagFits (place_at at).action }
     ensures { MatchOption result
-        (PointClosed T.kind at.entry.certificate.now (place_at at.entry) at.entry.facts.now)
-        (λ clause. FirstFails clause T.kind at.entry.certificate.now (place_at at.entry) at.entry.facts.now) }
+        (PointClosed T.kind (all_points at.entry) (place_at at.entry) (here at.entry))
+        (λ clause. FirstFails clause T.kind (all_points at.entry) (place_at at.entry) (here at.entry)) }
 {
     if !holds::<T>(Asked::Legal, at) {
         return Some(Clause::Illegal);
     }
-    if !address_holds(&at.facts.facts, &at.point.action) {
+    if !address_holds(at.table, &at.facts.facts, &at.point.action) {
         return Some(Clause::Address);
     }
     if !holds::<T>(Asked::Edges(Rules::Shape), at) {
@@ -119,8 +119,8 @@ pub fn point_fault<T: CardTable>(at: Source<'_, '_>) -> Option<Clause>
     requires kind { T.kind ≡ at.kind }
     requires flag { FlagFits (place_at at).action }
     ensures { MatchOption result
-        (PointClosed T.kind at.entry.certificate.now (place_at at.entry) at.entry.facts.now)
-        (λ clause. FirstFails clause T.kind at.entry.certificate.now (place_at at.entry) at.entry.facts.now) }
+        (PointClosed T.kind (all_points at.entry) (place_at at.entry) (here at.entry))
+        (λ clause. FirstFails clause T.kind (all_points at.entry) (place_at at.entry) (here at.entry)) }
 {
     if is_closed::<T>(at) {
         return None;

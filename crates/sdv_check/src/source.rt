@@ -1,10 +1,10 @@
 //! What is asked of a point, at one of its shapes.
 
-ghost use Rattle.std.specs.Prelude.{◌≡◌, ℕ, Some, slice_get, length};
-ghost use Rattle.sdv_facts.specs.Facts.{PointFacts};
+ghost use Rattle.std.specs.Prelude.{◌≡◌, ◌<◌, ℕ, Some, slice_get, length};
+ghost use Rattle.sdv_facts.specs.declared.certificate.PointFacts.{PointFacts};
 
 use sdv_card::Kind;
-use sdv_facts::PointFacts;
+use sdv_facts::{PointFacts, SetTable};
 use sdv_graph::Point;
 
 /// What becomes of the turns left before an edge is taken.
@@ -51,10 +51,15 @@ pub struct Source<'g, 'a> {
     pub kind: Kind,
     /// The point.
     pub point: &'g Point<'a>,
+    /// The certificate's sets of shapes.
+    pub table: &'g SetTable,
     /// What the certificate says of it.
     pub facts: &'g PointFacts,
     /// What the certificate says of each point, of as many number variables.
     pub certificate: &'g [PointFacts],
+    ghost own: { facts.now.facts.set < length table.now },
+    ghost named: { (i : ℕ) (q : PointFacts) → slice_get certificate.now i ≡ Some q
+        → q.facts.set < length table.now },
     ghost same: { (i : ℕ) (q : PointFacts) → slice_get certificate.now i ≡ Some q
         → length q.facts.numbers.vars.items ≡ length facts.now.facts.numbers.vars.items },
 }

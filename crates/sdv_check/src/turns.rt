@@ -7,7 +7,7 @@ ghost use Rattle.std.specs.Prelude.{◌≡◌, ◌+◌, ◌^◌, ◌<◌, ◌≤
 ghost use Rattle.sdv_graph.specs.Graph.{seen_action};
 ghost use Rattle.sdv_graph.specs.Path.{left};
 ghost use Rattle.sdv_facts.specs.Bounds.{BoundFalls, commands_of};
-ghost use Rattle.sdv_check.specs.Asked.{place_at, pass_of};
+ghost use Rattle.sdv_check.specs.Asked.{place_at, there_in, here, pass_of};
 ghost use Rattle.sdv_check.specs.Turns.{excess, entering, inside, turn_taken, costs, FallsAtWorst};
 
 use crate::source::{Pass, Source};
@@ -29,7 +29,7 @@ fn reversed(turns: &ArrayVec<u64, 4>) -> ArrayVec<u64, 4>
 
 /// The costs of the loops round a point, the innermost first.
 pub fn costs(facts: &PointFacts) -> ArrayVec<u64, 4>
-    ensures { result.items ≡ costs facts.now }
+    ensures { result.items ≡ reverse facts.now.turns.items }
 {
     reversed(&facts.turns)
 }
@@ -155,7 +155,7 @@ fn room_left(bound: u128, other: u128) -> Option<u128>
 
 /// The bound falls along an edge at the worst turns.
 fn falls_at_worst(at: Source<'_, '_>, there: &PointFacts, pass: Pass, target: Target) -> bool
-    ensures { IsTrue result ↔ FallsAtWorst at.entry.facts.now there.now (place_at at.entry).most
+    ensures { IsTrue result ↔ FallsAtWorst (here at.entry) (there_in at.entry there.now) (place_at at.entry).most
         (commands_of (place_at at.entry).action) (pass_of pass) target }
 {
     let (source, goal) = (costs(at.facts), costs(there));
@@ -187,7 +187,7 @@ fn falls_at_worst(at: Source<'_, '_>, there: &PointFacts, pass: Pass, target: Ta
 
 /// The bound falls along an edge by the commands sent, for all turns that can be left.
 pub fn bound_falls(at: Source<'_, '_>, there: &PointFacts, pass: Pass, target: Target) -> bool
-    ensures { IsTrue result ↔ BoundFalls at.entry.facts.now there.now (place_at at.entry).most
+    ensures { IsTrue result ↔ BoundFalls (here at.entry) (there_in at.entry there.now) (place_at at.entry).most
         (commands_of (place_at at.entry).action) (pass_of pass) target }
 {
     falls_at_worst(at, there, pass, target)

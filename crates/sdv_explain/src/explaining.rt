@@ -18,7 +18,7 @@ use crate::visit::Visit;
 use crate::way::find_way;
 use sdv_card::Shape;
 use sdv_certify::{CertifyFault, certify, survey};
-use sdv_facts::{Certificate, PointFacts};
+use sdv_facts::Certificate;
 use sdv_graph::Graph;
 use sdv_script::{Script, parse};
 use std::alloc::{AllocError, Global};
@@ -53,7 +53,7 @@ pub fn explain(alloc: Global, text: &str) -> Result<Explanation, ExplainFault>
 {
     let script = parse(alloc, text)?;
     let known = known_of(alloc, &script)?;
-    let explanation = explain_script(alloc, text, &script, known.points())?;
+    let explanation = explain_script(alloc, text, &script, &known)?;
     Ok(explanation)
 }
 
@@ -76,9 +76,9 @@ fn explain_script(
     alloc: Global,
     text: &str,
     script: &Script<'_>,
-    points: &[PointFacts],
+    known: &Certificate,
 ) -> Result<Explanation, ExplainFault>
-    requires { SurveyOf script.now points.now }
+    requires { SurveyOf script.now known.now }
     ensures memory { IfErr result (λ fault. fault ≡ ExplainFault.Memory) }
     ensures certified { IfOk result (λ e. e.refusal ≡ None → (ps : List PointFacts) × CertificateOf script.now ps) }
     ensures refused { IfOk result (λ e. IfSome e.refusal (IsRefusal script.now)) }
@@ -86,7 +86,7 @@ fn explain_script(
     let graph = script.graph(alloc)?;
     let outline = Outline::read(alloc, text.as_bytes())?;
     let mut words = Vec::new(alloc);
-    put_listing(alloc, &mut words, &graph, points, &outline)?;
+    put_listing(alloc, &mut words, &graph, known, &outline)?;
     match certify(alloc, script) {
         Ok(_) => Ok(Explanation {
             text: words,
@@ -94,7 +94,7 @@ fn explain_script(
         }),
         Err(CertifyFault::Memory) => Err(ExplainFault::Memory),
         Err(fault) => {
-            let refusal = refuse(alloc, &mut words, &graph, points, &outline, fault)?;
+            let refusal = refuse(alloc, &mut words, &graph, known, &outline, fault)?;
             Ok(Explanation {
                 text: words,
                 refusal: Some(refusal),
@@ -120,16 +120,16 @@ fn refuse(
     alloc: Global,
     words: &mut Text,
     graph: &Graph<'_>,
-    points: &[PointFacts],
+    known: &Certificate,
     outline: &Outline<'_>,
     fault: CertifyFault,
 ) -> Result<Refusal, AllocError>
     ensures fault { IfOk result (λ refusal. refusal.fault ≡ fault) }
-    ensures way { IfOk result (HasWay graph.now points.now) }
+    ensures way { IfOk result (HasWay graph.now known.now) }
 {
     let mut way = Vec::new(alloc);
     if let Some(number) = refused_point(fault) {
-        way = refuse_point(alloc, words, graph, points, outline, fault, number)?;
+        way = refuse_point(alloc, words, graph, known, outline, fault, number)?;
     }
     Ok(Refusal { fault, way })
 }
@@ -139,23 +139,26 @@ fn refuse_point(
     alloc: Global,
     words: &mut Text,
     graph: &Graph<'_>,
-    points: &[PointFacts],
+    known: &Certificate,
     outline: &Outline<'_>,
     fault: CertifyFault,
     number: usize,
 ) -> Result<Vec<Visit>, AllocError>
     requires { NamesPoint fault number }
-    ensures { IfOk result (λ way. (way.items ≡ []) ⊎ LeadsThere graph.now points.now fault way.items) }
+    ensures { IfOk result (λ way. (way.items ≡ []) ⊎ LeadsThere graph.now known.now fault way.items) }
 {
+    let (table, points) = known.shown();
     if graph.len() <= number || points.len() <= number {
         return Ok(Vec::new(alloc));
     }
-    let known = &points[number];
-    let Some(shape) = refused_shape(fault, &graph.point(number).action, &known.facts) else {
+    let facts = &points[number].facts;
+    let shapes = table.members(facts.set());
+    let Some(shape) = refused_shape(fault, &graph.point(number).action, shapes) else {
         return Ok(Vec::new(alloc));
     };
-    put_refusal(words, graph, outline, fault, number, known, shape)?;
-    let way = way_or_none(alloc, graph, points, number, shape)?;
+    let numbers = facts.numbers();
+    put_refusal(words, graph, outline, fault, number, shapes, numbers, shape)?;
+    let way = way_or_none(alloc, graph, known, number, shape)?;
     put_way(words, graph, outline, &way)?;
     Ok(way)
 }
@@ -164,13 +167,13 @@ fn refuse_point(
 fn way_or_none(
     alloc: Global,
     graph: &Graph<'_>,
-    points: &[PointFacts],
+    known: &Certificate,
     number: usize,
     shape: Shape,
 ) -> Result<Vec<Visit>, AllocError>
-    ensures { IfOk result (λ way. (way.items ≡ []) ⊎ IsWay graph.now points.now way.items number shape) }
+    ensures { IfOk result (λ way. (way.items ≡ []) ⊎ IsWay graph.now known.now way.items number shape) }
 {
-    let way = match find_way(alloc, graph, points, number, shape)? {
+    let way = match find_way(alloc, graph, known, number, shape)? {
         Some(way) => way,
         None => Vec::new(alloc),
     };

@@ -4,7 +4,8 @@ use crate::outline::Outline;
 use crate::shapes::put_shapes;
 use crate::statements::put_statement;
 use crate::text::{Text, put, put_count, put_number, put_numbered};
-use sdv_facts::{Numbers, PointFacts, VarFacts};
+use sdv_card::Shape;
+use sdv_facts::{Certificate, Numbers, PointFacts, VarFacts};
 use sdv_graph::{Action, Graph, MAX_NUMBER};
 use std::alloc::{AllocError, Global};
 
@@ -97,14 +98,15 @@ fn put_point(
     number: usize,
     action: &Action<'_>,
     facts: &PointFacts,
+    shapes: &[Shape],
     outline: &Outline,
 ) -> Result<(), AllocError> {
     put_place(text, number, action, outline)?;
     put_bound(text, facts)?;
-    if facts.facts.shapes().is_empty() {
+    if shapes.is_empty() {
         return put(text, "    no run comes here\n");
     }
-    put_shapes(alloc, text, facts.facts.shapes(), &outline.flags)?;
+    put_shapes(alloc, text, shapes, &outline.flags)?;
     if outline.numbers.is_empty() {
         return Ok(());
     }
@@ -118,13 +120,15 @@ pub fn put_listing(
     alloc: Global,
     text: &mut Text,
     graph: &Graph<'_>,
-    points: &[PointFacts],
+    known: &Certificate,
     outline: &Outline,
 ) -> Result<(), AllocError> {
+    let (table, points) = known.shown();
     for number in 0..graph.len() {
         if let Some(facts) = points.get(number) {
             let action = &graph.point(number).action;
-            put_point(alloc, text, number, action, facts, outline)?;
+            let shapes = table.members(facts.facts.set());
+            put_point(alloc, text, number, action, facts, shapes, outline)?;
         }
     }
     Ok(())

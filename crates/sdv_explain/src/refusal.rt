@@ -13,7 +13,7 @@ use crate::visit::Visit;
 use sdv_card::{Event, Kind, Shape};
 use sdv_certify::CertifyFault;
 use sdv_emmc::EmmcTable;
-use sdv_facts::{Facts, PointFacts, ends_at, event_of_phase};
+use sdv_facts::{Numbers, ends_at, event_of_phase};
 use sdv_graph::{Action, Address, Change, Condition, Graph, Unit};
 use sdv_sd::SdTable;
 use std::alloc::AllocError;
@@ -65,14 +65,14 @@ fn unaddressed(action: &Action<'_>, shapes: &[Shape]) -> Option<Shape> {
 }
 
 /// A shape at which a point is refused.
-pub fn refused_shape(fault: CertifyFault, action: &Action<'_>, facts: &Facts) -> Option<Shape>
+pub fn refused_shape(fault: CertifyFault, action: &Action<'_>, shapes: &[Shape]) -> Option<Shape>
     ensures named { ShapeIsNamed fault result }
     ensures shape { IfSome result (NamesShape fault) }
 {
     match fault {
         CertifyFault::Illegal { shape, .. } => Some(shape),
-        CertifyFault::Address { .. } => unaddressed(action, facts.shapes()),
-        CertifyFault::EndState { .. } => other_end(action, facts.shapes()),
+        CertifyFault::Address { .. } => unaddressed(action, shapes),
+        CertifyFault::EndState { .. } => other_end(action, shapes),
         CertifyFault::TooMany | CertifyFault::Memory => None,
     }
 }
@@ -161,18 +161,19 @@ fn put_unit_rule(text: &mut Text, address: &Address, outline: &Outline) -> Resul
 fn put_misfit(
     text: &mut Text,
     action: &Action<'_>,
-    facts: &Facts,
+    shapes: &[Shape],
+    numbers: &Numbers,
     outline: &Outline,
 ) -> Result<(), AllocError> {
     match address_of(action) {
-        Some(address) if other_unit(address.unit, facts.shapes()).is_some() => {
+        Some(address) if other_unit(address.unit, shapes).is_some() => {
             put_unit_rule(text, address, outline)
         }
         Some(address) => {
             put(text, "the card may not have all blocks ")?;
             put_address(text, address, outline)?;
             put(text, ", for this is known: ")?;
-            put_numbers(text, facts.numbers(), outline)
+            put_numbers(text, numbers, outline)
         }
         None => put(text, "it has no address"),
     }
@@ -184,7 +185,8 @@ fn put_reason(
     kind: Kind,
     fault: CertifyFault,
     action: &Action<'_>,
-    facts: &Facts,
+    shapes: &[Shape],
+    numbers: &Numbers,
     outline: &Outline,
 ) -> Result<(), AllocError> {
     put(text, "why: ")?;
@@ -194,7 +196,7 @@ fn put_reason(
                 put_illegality(text, illegality, action, outline)?;
             }
         }
-        CertifyFault::Address { .. } => put_misfit(text, action, facts, outline)?,
+        CertifyFault::Address { .. } => put_misfit(text, action, shapes, numbers, outline)?,
         CertifyFault::EndState { .. } => put(text, "at done the card has to be in tran state")?,
         CertifyFault::TooMany | CertifyFault::Memory => {}
     }
@@ -336,7 +338,8 @@ pub fn put_refusal(
     outline: &Outline,
     fault: CertifyFault,
     number: usize,
-    known: &PointFacts,
+    shapes: &[Shape],
+    numbers: &Numbers,
     shape: Shape,
 ) -> Result<(), AllocError> {
     if graph.len() <= number {
@@ -348,5 +351,5 @@ pub fn put_refusal(
     put(text, ", beside a card that is\n    ")?;
     put_shape(text, shape, &outline.flags)?;
     put(text, "\n")?;
-    put_reason(text, graph.kind(), fault, action, &known.facts, outline)
+    put_reason(text, graph.kind(), fault, action, shapes, numbers, outline)
 }

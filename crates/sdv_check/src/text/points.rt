@@ -1,8 +1,10 @@
 //! The lines of the points.
 
-ghost use Rattle.std.specs.Prelude.{◌≡◌, ◌≤◌, List, length, IfOk};
+ghost use Rattle.std.specs.Prelude.{◌≡◌, ◌<◌, ◌≤◌, List, All, length, IsOk, IfOk};
 ghost use Rattle.sdv_facts.specs.Facts.{AreRising};
-ghost use Rattle.sdv_facts.specs.CertificateText.{max_shapes};
+ghost use Rattle.sdv_facts.specs.CertificateText.{max_points, max_shapes};
+ghost use Rattle.sdv_facts.specs.Shared.{point_in, points_in, IsNamed};
+ghost use Rattle.sdv_facts.specs.SharedSets.{members, Interned};
 ghost use Rattle.sdv_check.specs.Reading.{Gives, begins_number, begins_var, begins_shape, read_turns, read_vars, read_rising, read_shapes, read_place, read_numbers, read_bound, read_point, read_points, is_above};
 
 use crate::text::cursor::{TextCursor, ends_item, expect, line_end};
@@ -10,7 +12,7 @@ use crate::text::fault::CertFault;
 use crate::text::items::{number, shape, variable};
 use arrayvec::ArrayVec;
 use sdv_card::Shape;
-use sdv_facts::{Facts, MAX_SHAPES, Numbers, PointFacts, VarFacts};
+use sdv_facts::{Facts, MAX_SHAPES, Numbers, PointFacts, SetTable, VarFacts};
 use std::alloc::Global;
 
 fn begins_number(at: TextCursor<'_>) -> bool
@@ -92,17 +94,17 @@ fn next_shape(last: Option<Shape>, at: TextCursor<'_>) -> Result<(Shape, TextCur
     Ok((shape, rest))
 }
 
-// At most so many shapes, and what follows them.
-fn shapes(
-    alloc: Global,
+// At most so many shapes in the place of those that were there, and what follows them.
+fn shapes<'a>(
+    shapes: &mut Vec<Shape>,
     room: usize,
-    at: TextCursor<'_>,
-) -> Result<(Vec<Shape>, TextCursor<'_>), CertFault>
-    ensures read { Gives (λ x. (x.0.items, x.1.rest.now)) result (read_shapes room at.entry.rest.now) }
-    ensures rising { IfOk result (λ x. AreRising x.0.items) }
-    ensures few { IfOk result (λ x. length x.0.items ≤ room) }
+    at: TextCursor<'a>,
+) -> Result<TextCursor<'a>, CertFault>
+    ensures read { Gives (λ x. (shapes.new.items, x.rest.now)) result (read_shapes room at.entry.rest.now) }
+    ensures rising { IsOk result → AreRising shapes.new.items }
+    ensures few { IsOk result → length shapes.new.items ≤ room }
 {
-    let mut shapes = Vec::new(alloc);
+    shapes.clear();
     let mut last = None;
     let mut at = at;
     while begins_shape(at) {
@@ -114,7 +116,7 @@ fn shapes(
         last = Some(shape);
         at = rest;
     }
-    Ok((shapes, at))
+    Ok(at)
 }
 
 // What follows the place of a point.
@@ -156,42 +158,57 @@ fn bound(
     Ok(((base, turns), at))
 }
 
-// The line of a point with at most so many shapes, and what follows it.
+// The line of a point with at most so many shapes, whose set gets a name, and what follows it. The shapes are read into
+// a list that may hold others.
 #[tactic(auto, unfolding(crate::specs::Reading::read_point))]
-fn point(
-    alloc: Global,
+fn point<'a>(
+    table: &mut SetTable,
+    list: &mut Vec<Shape>,
     place: u64,
     room: usize,
-    at: TextCursor<'_>,
-) -> Result<(PointFacts, TextCursor<'_>), CertFault>
-    ensures read { Gives (λ x. (x.0, x.1.rest.now)) result (read_point place room at.entry.rest.now) }
-    ensures few { IfOk result (λ x. length x.0.facts.shapes ≤ room) }
+    at: TextCursor<'a>,
+) -> Result<(PointFacts, TextCursor<'a>), CertFault>
+    requires few { length table.old < max_points }
+    ensures read { Gives (λ x. (point_in table.new x.0, x.1.rest.now)) result
+        (read_point place room at.entry.rest.now) }
+    ensures interned { IfOk result (λ x. Interned table.old list.new.items table.new x.0.facts.set) }
+    ensures shapes { IfOk result (λ x. members table.new x.0.facts.set ≡ list.new.items) }
+    ensures few { IsOk result → length list.new.items ≤ room }
 {
     let ((base, turns), at) = bound(at, place)?;
     let (numbers, at) = numbers(at)?;
     let at = expect(at, b" s")?;
-    let (shapes, at) = shapes(alloc, room, at)?;
+    let at = shapes(list, room, at)?;
     let at = line_end(at)?;
-    let facts = Facts::new(shapes, numbers);
+    let set = table.intern(list.as_slice())?;
+    let facts = Facts::new(set, numbers);
     Ok((PointFacts { facts, base, turns }, at))
 }
+
+/// A table of sets, and points that name sets of it.
+pub type NamedPoints = (SetTable, Vec<PointFacts>);
 
 /// The lines of so many points, and what follows them.
 pub fn points(
     alloc: Global,
     count: u64,
     at: TextCursor<'_>,
-) -> Result<(Vec<PointFacts>, TextCursor<'_>), CertFault>
-    ensures { Gives (λ x. (x.0.items, x.1.rest.now)) result (read_points count 0 max_shapes at.entry.rest.now) }
+) -> Result<(NamedPoints, TextCursor<'_>), CertFault>
+    requires few { count ≤ max_points }
+    ensures read { Gives (λ x. (points_in x.0.0 x.0.1.items, x.1.rest.now)) result
+        (read_points count 0 max_shapes at.entry.rest.now) }
+    ensures named { IfOk result (λ x. All (IsNamed x.0.0) x.0.1.items) }
 {
+    let mut table = SetTable::new(alloc);
     let mut points = Vec::new(alloc);
+    let mut list = Vec::new(alloc);
     let mut room = MAX_SHAPES;
     let mut at = at;
     for place in 0..count {
-        let (point, rest) = point(alloc, place, room, at)?;
-        room -= point.facts.shapes().len();
+        let (point, rest) = point(&mut table, &mut list, place, room, at)?;
+        room -= list.len();
         points.push(point)?;
         at = rest;
     }
-    Ok((points, at))
+    Ok(((table, points), at))
 }

@@ -1,16 +1,17 @@
 //! Certificates, read from their texts.
 
-ghost use Rattle.std.specs.Prelude.{◌≡◌, ◌≢◌, ◌<◌, List, length, IfOk, IfErr, Err, All};
+ghost use Rattle.std.specs.Prelude.{◌≡◌, ◌≢◌, ◌<◌, ◌≤◌, List, length, IfOk, IfErr, Err, All};
 ghost use Rattle.sdv_facts.specs.Facts.{PointFacts};
-ghost use Rattle.sdv_facts.specs.CertificateText.{text_of, max_bytes, WithinLimits};
+ghost use Rattle.sdv_facts.specs.CertificateText.{text_of, max_bytes, max_points, WithinLimits};
+ghost use Rattle.sdv_facts.specs.Shared.{points_in, IsNamed};
 ghost use Rattle.sdv_check.specs.Reading.{Gives, read_count, read_lines, read_text};
 ghost use Rattle.sdv_check.specs.declared.text.fault.CertFault.TheVariants.{Limit};
 
 use crate::text::cursor::{TextCursor, expect, line_end, skip};
 use crate::text::fault::CertFault;
 use crate::text::items::number;
-use crate::text::points::points;
-use sdv_facts::{Certificate, PointFacts};
+use crate::text::points::{NamedPoints, points};
+use sdv_facts::Certificate;
 use sdv_graph::MAX_STATEMENTS;
 use std::alloc::Global;
 
@@ -30,8 +31,8 @@ pub fn read(alloc: Global, text: &str) -> Result<Certificate, CertFault>
         (c : List PointFacts) → WithinLimits c → text.entry.now ≡ text_of c → ⊥) }
     ensures long { max_bytes < length text.entry.now → result ≡ Err Limit }
 {
-    let points = whole(alloc, text.as_bytes())?;
-    Ok(Certificate::from_points(points))
+    let (table, points) = whole(alloc, text.as_bytes())?;
+    Ok(Certificate::from_points(table, points))
 }
 
 /// A text is that of one certificate at most.
@@ -42,7 +43,8 @@ pub fn one_certificate()
 // How many points there are, and what follows.
 #[tactic(auto, unfolding(crate::specs::Reading::read_count))]
 fn count(at: TextCursor<'_>) -> Result<(u64, TextCursor<'_>), CertFault>
-    ensures { Gives (λ x. (x.0, x.1.rest.now)) result (read_count at.entry.rest.now) }
+    ensures read { Gives (λ x. (x.0, x.1.rest.now)) result (read_count at.entry.rest.now) }
+    ensures few { IfOk result (λ x. x.0 ≤ max_points) }
 {
     let at = expect(at, b"points")?;
     let (count, at) = number(at)?;
@@ -53,10 +55,11 @@ fn count(at: TextCursor<'_>) -> Result<(u64, TextCursor<'_>), CertFault>
     Ok((count, at))
 }
 
-// The points, behind the first line.
+// The points with their table of sets, behind the first line.
 #[tactic(auto, unfolding(crate::specs::Reading::read_lines))]
-fn lines(alloc: Global, at: TextCursor<'_>) -> Result<Vec<PointFacts>, CertFault>
-    ensures { Gives (λ x. x.items) result (read_lines at.entry.rest.now) }
+fn lines(alloc: Global, at: TextCursor<'_>) -> Result<NamedPoints, CertFault>
+    ensures read { Gives (λ x. points_in x.0 x.1.items) result (read_lines at.entry.rest.now) }
+    ensures named { IfOk result (λ x. All (IsNamed x.0) x.1.items) }
 {
     let (count, at) = count(at)?;
     let (points, at) = points(alloc, count, at)?;
@@ -66,10 +69,11 @@ fn lines(alloc: Global, at: TextCursor<'_>) -> Result<Vec<PointFacts>, CertFault
     Ok(points)
 }
 
-// The points of a text.
+// The points of a text with their table of sets.
 #[tactic(auto, unfolding(crate::specs::Reading::read_text))]
-fn whole(alloc: Global, text: &[u8]) -> Result<Vec<PointFacts>, CertFault>
-    ensures read { Gives (λ x. x.items) result (read_text text.now) }
+fn whole(alloc: Global, text: &[u8]) -> Result<NamedPoints, CertFault>
+    ensures read { Gives (λ x. points_in x.0 x.1.items) result (read_text text.now) }
+    ensures named { IfOk result (λ x. All (IsNamed x.0) x.1.items) }
     ensures long { max_bytes < length text.now → result ≡ Err Limit }
 {
     if text.len() > MAX_BYTES {

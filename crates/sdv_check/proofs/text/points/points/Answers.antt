@@ -1,20 +1,41 @@
-use Rattle.std.proofs.Common.{arith}
+use Rattle.std.proofs.Common.{rules, ◌≡◌, ◌-◌, ◌∷◌, ◌++◌, [], All, length, sym, ap, ◌∙◌, subst, arith}
 use Rattle.std.proofs.lemmas.Result.{err_from_is_err_and}
+use Rattle.sdv_facts.specs.Shared.{IsNamed, point_in, points_in}
+use Rattle.sdv_facts.proofs.InternLaws.{at_most_one_more, named_within}
+use Rattle.sdv_facts.proofs.SharedLaws.{one_point_more, all_named_more}
 use Rattle.sdv_check.proofs.PointLoop.{points_more, points_fail, points_done}
 use Rattle.sdv_check.proofs.text.points.points.Goals as goal
 
-pub returns-in_err-point : goal.returns-in_err-point
-returns-in_err-point c =
+pub returns-in_err-point-clause-read : goal.returns-in_err-point-clause-read
+returns-in_err-point-clause-read c =
     let p = err_from_is_err_and c.from_residual.result c.from_residual.ensures.1 in
-    rw (p.1, p.2) (points_fail c.in_err-point.field-0.0 c.args.count c.loop-place.place c.loop-place.room c.loop-place.points.items c.loop-place.at.rest.now _
-    (omega arith) c.in_err-point.ensures.read c.loop-place.invariant)
+    let seen = points_in c.loop-place.table c.loop-place.points.items in
+    rw (p.1, p.2) (points_fail c.in_err-point.field-0.0 c.args.count c.loop-place.place c.loop-place.room seen c.loop-place.at.rest.now _
+    (omega arith) c.in_err-point.ensures.read c.loop-place.invariant.read)
 
 pub loop-place-preserved : goal.loop-place-preserved
 loop-place-preserved c =
-    rw (c.in_ok-push.ensures.items, c.shapes.ensures.value)
-    (points_more c.args.count c.loop-place.place c.loop-place.room c.loop-place.points.items c.loop-place.at.rest.now c.in_ok-point.point
-    c.in_ok-point.rest.rest.now _ (omega arith) c.in_ok-point.ensures.read c.loop-place.invariant)
+    let old = c.loop-place.table in
+    let new = c.point.new.table in
+    let points = c.loop-place.points.items in
+    let p = c.in_ok-point.point in
+    let i = c.loop-place.invariant in
+    let interned = c.in_ok-point.ensures.interned in
+    let pushed : c.push.new.self.items ≡ points ++ p ∷ [] = c.in_ok-push.ensures.items in
+    let more : points_in new c.push.new.self.items ≡ points_in old points ++ point_in new p ∷ [] =
+    ap (points_in new) pushed ∙ one_point_more old new _ _ points p interned i.named in
+    let len : c.len-room.result ≡ length c.point.new.list.items = search rules in
+    let left : c.loop-place.room - c.len-room.result ≡ c.loop-place.room - length (point_in new p).facts.shapes =
+    ap (λ n. c.loop-place.room - n) (len ∙ ap length (sym c.in_ok-point.ensures.shapes)) in
+    let read = points_more c.args.count c.loop-place.place c.loop-place.room (points_in old points) c.loop-place.at.rest.now (point_in new p)
+    c.in_ok-point.rest.rest.now _ (omega arith) c.in_ok-point.ensures.read i.read in
+    record {
+      read = rw (more, left) read;
+      named = subst (λ l. All (IsNamed new) l) (sym pushed) (all_named_more old new _ _ points p interned i.named (named_within old new _ _ interned));
+      few = (let f = i.few in omega (arith, f, at_most_one_more old new _ _ interned));
+    }
 
-pub returns : goal.returns
-returns c = points_done c.args.count c.loop-place.place c.loop-place.room c.loop-place.points.items c.loop-place.at.rest.now _
-    (omega arith) c.loop-place.invariant
+pub returns-clause-read : goal.returns-clause-read
+returns-clause-read c =
+    points_done c.args.count c.loop-place.place c.loop-place.room (points_in c.loop-place.table c.loop-place.points.items) c.loop-place.at.rest.now _
+    (omega arith) c.loop-place.invariant.read

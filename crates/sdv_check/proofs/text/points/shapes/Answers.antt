@@ -32,7 +32,7 @@ returns-clause-read c =
     (sym c.begins_shape.ensures ∙ c.loop-last-test.false) c.loop-last.invariant.1
 
 pub returns-clause-rising : goal.returns-clause-rising
-returns-clause-rising c =
+returns-clause-rising c ok =
     let read = each_done begins_shape read_rising c.args.room c.loop-last.shapes.items c.loop-last.last c.loop-last.at.rest.now _
     (sym c.begins_shape.ensures ∙ c.loop-last-test.false) c.loop-last.invariant.1 in
     rising None c.loop-last.shapes.items
