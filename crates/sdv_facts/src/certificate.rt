@@ -62,6 +62,14 @@ impl Certificate {
         (&self.table, &self.points)
     }
 
+    /// The points, in their order. Which table their sets are of, `shown` says.
+    pub fn points(&self) -> &[PointFacts]
+        ensures value { (sets : List (List Shape)) × IsShared sets result.now × (points_in sets result.now ≡ self.now) }
+        ensures limits { All PointInLimits self.now }
+    {
+        &self.points
+    }
+
     /// The table of sets. Each point's shapes are one of them.
     pub fn table(&self) -> &SetTable
         ensures { HasSetsOf result.now self.now }
