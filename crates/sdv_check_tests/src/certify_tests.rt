@@ -1,7 +1,8 @@
 //! Certificates of known scripts, beside texts that were written down by hand.
 
-use crate::common::{CERTIFICATE, SMALLEST};
+use crate::common::{BRING_UP, CERTIFICATE, DEVICE_BRING_UP, SMALLEST, WIDE};
 use sdv_certify::{certify, write};
+use sdv_check::read;
 use sdv_script::parse;
 use std::alloc::Global;
 use std::process::Abort;
@@ -80,6 +81,28 @@ fn certificates(rt: HostRuntime) -> Result<(), Fail> {
         let text = written(alloc, script)?;
         assert_eq!(rt; str::from_utf8(&text)?, wanted, "{script}");
     }
+    Ok(())
+}
+
+// Scripts with the number of distinct sets of shapes in their certificates.
+static SETS: [(&str, usize); 3] = [(SMALLEST, 1), (BRING_UP, 15), (DEVICE_BRING_UP, 18)];
+
+// How many sets a text's certificate has when it is read.
+fn sets_read(alloc: Global, text: &[u8]) -> Result<usize, Fail> {
+    let certificate = read(alloc, str::from_utf8(text)?)?;
+    Ok(certificate.sets())
+}
+
+#[test]
+fn sets(rt: HostRuntime) -> Result<(), Fail> {
+    let alloc = rt.alloc();
+    for &(script, wanted) in SETS.iter() {
+        let certificate = certify(alloc, &parse(alloc, script)?)?;
+        assert_eq!(rt; certificate.sets(), wanted, "{script}");
+        assert_eq!(rt; certificate.table().len(), wanted, "{script}");
+        assert_eq!(rt; sets_read(alloc, &written(alloc, script)?)?, wanted, "{script}");
+    }
+    assert_eq!(rt; sets_read(alloc, WIDE.as_bytes())?, 2);
     Ok(())
 }
 

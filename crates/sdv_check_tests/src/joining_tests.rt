@@ -4,8 +4,8 @@ ghost use Rattle.std.specs.Prelude.{◌≡◌, length, IfOk};
 
 use arrayvec::ArrayVec;
 use sdv_card::Shape;
-use sdv_certify::{facts_of_shapes, join_facts};
-use sdv_facts::{Facts, Numbers, VarFacts, holds_shape};
+use sdv_certify::{ListedFacts, facts_of_shapes, join_facts};
+use sdv_facts::{Facts, Numbers, SetTable, VarFacts, holds_shape};
 use std::alloc::{AllocError, Global};
 use std::test::Fail;
 
@@ -31,7 +31,7 @@ fn numbers(m: u64, known: Known) -> Numbers
 }
 
 /// Facts with the shapes of these codes.
-fn facts_of(alloc: Global, codes: &[u64], numbers: Numbers) -> Result<Facts, AllocError>
+fn facts_of(alloc: Global, codes: &[u64], numbers: Numbers) -> Result<ListedFacts, AllocError>
     requires { length numbers.vars.items ≡ 1 }
     ensures { IfOk result (λ facts. length facts.numbers.vars.items ≡ 1) }
 {
@@ -68,8 +68,10 @@ fn shapes(rt: HostRuntime) -> Result<(), Fail> {
     for &(codes, set) in SETS.iter() {
         let facts = facts_of(alloc, codes, numbers(1, ZERO))?;
         assert_eq!(&rt; facts.shapes(), shapes_of(alloc, set)?.as_slice());
+        let mut table = SetTable::new(alloc);
+        let named = Facts::new(table.intern(facts.shapes())?, facts.into_numbers());
         for code in 0..9 {
-            assert_eq!(&rt; holds_shape(&facts, Shape(code)), set.contains(&code));
+            assert_eq!(&rt; holds_shape(&table, &named, Shape(code)), set.contains(&code));
         }
     }
     Ok(())

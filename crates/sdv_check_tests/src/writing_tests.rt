@@ -5,7 +5,7 @@ use arrayvec::ArrayVec;
 use sdv_card::Shape;
 use sdv_certify::write;
 use sdv_check::read;
-use sdv_facts::{Certificate, Facts, Numbers, PointFacts, VarFacts};
+use sdv_facts::{Certificate, Facts, Numbers, PointFacts, SetTable, VarFacts};
 use std::alloc::{AllocError, Global};
 use std::io::{self, ErrorKind};
 use std::str;
@@ -29,10 +29,12 @@ fn one_point(alloc: Global) -> Result<Certificate, AllocError> {
     });
     turns.push(12);
     turns.push(8);
-    let facts = Facts::new(vec![in alloc; Shape(0x2c04)]?, Numbers { m: 10, vars });
+    let mut table = SetTable::new(alloc);
+    let set = table.intern(&[Shape(0x2c04)])?;
+    let facts = Facts::new(set, Numbers { m: 10, vars });
     let base = 6;
     let points = vec![in alloc; PointFacts { facts, base, turns }]?;
-    Ok(Certificate::from_points(points))
+    Ok(Certificate::from_points(table, points))
 }
 
 #[test]

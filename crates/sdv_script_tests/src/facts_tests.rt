@@ -1,12 +1,12 @@
 //! Rows of the rules of facts, from outside.
 
-ghost use Rattle.std.specs.Prelude.{◌≡◌, length, IfOk};
+ghost use Rattle.std.specs.Prelude.{◌≡◌, ◌<◌, length, IfOk};
 
 use arrayvec::ArrayVec;
 use sdv_card::{Aim, Ask, Event, Guard, Kind, Seen, Shape, State};
 use sdv_facts::{
-    Facts, Numbers, Test, VarFacts, address_holds, address_ok, after_let, after_test, all_may_hold,
-    covers, ends_at, event_of_phase, one_may_fail,
+    Facts, Numbers, SetTable, Test, VarFacts, address_holds, address_ok, after_let, after_test,
+    all_may_hold, covers, ends_at, event_of_phase, one_may_fail,
 };
 use sdv_graph::{Action, Address, Atom, Change, Let, Phase, Position, ScriptCommand, Target, Unit};
 use std::alloc::{AllocError, Global};
@@ -33,23 +33,25 @@ fn numbers(m: u64, x: Known, y: Known) -> Numbers
     Numbers { m, vars }
 }
 
-// Facts with the shapes of these codes, of which there are two at most, and the lesser one comes first.
+// A table whose one set has the shapes of these codes, of which there are two at most, and the lesser one comes first, and
+// facts with that set.
 #[tactic(auto, using(crate::proofs::FewShapes::one_rises, crate::proofs::FewShapes::two_rise))]
-fn facts_of(alloc: Global, codes: &[u64], numbers: Numbers) -> Result<Facts, AllocError>
+fn facts_of(
+    alloc: Global,
+    codes: &[u64],
+    numbers: Numbers,
+) -> Result<(SetTable, Facts), AllocError>
     requires { length numbers.vars.items ≡ 2 }
-    ensures { IfOk result (λ facts. length facts.numbers.vars.items ≡ 2) }
+    ensures two { IfOk result (λ x. length x.1.numbers.vars.items ≡ 2) }
+    ensures within { IfOk result (λ x. x.1.set < length x.0) }
 {
-    match codes {
-        [code] => {
-            let shapes = vec![in alloc; Shape(*code)]?;
-            Ok(Facts::new(shapes, numbers))
-        }
-        [code, next] if code < next => {
-            let shapes = vec![in alloc; Shape(*code), Shape(*next)]?;
-            Ok(Facts::new(shapes, numbers))
-        }
-        _ => Ok(Facts::new(Vec::new(alloc), numbers)),
-    }
+    let mut table = SetTable::new(alloc);
+    let set = match codes {
+        [code] => table.intern(&[Shape(*code)])?,
+        [code, next] if code < next => table.intern(&[Shape(*code), Shape(*next)])?,
+        _ => table.intern(&[])?,
+    };
+    Ok((table, Facts::new(set, numbers)))
 }
 
 // A byte-addressed and a block-addressed card in transfer state; the second also with the first flag set.
@@ -159,15 +161,22 @@ static REGISTERS: [(Kind, [u64; 2], Atom, Known); 7] = [
 ];
 
 // The first variable is set.
-fn set_first(kind: Kind, facts: &Facts, atom: Atom, change: Change) -> Option<Known>
-    requires { length facts.now.numbers.vars.items ≡ 2 }
+fn set_first(
+    kind: Kind,
+    table: &SetTable,
+    facts: &Facts,
+    atom: Atom,
+    change: Change,
+) -> Option<Known>
+    requires two { length facts.now.numbers.vars.items ≡ 2 }
+    requires within { facts.now.set < length table.now }
 {
     let setting = Let {
         target: 0,
         atom,
         change,
     };
-    let VarFacts { lo, hi, gap } = after_let(kind, facts, &setting)?.var(0);
+    let VarFacts { lo, hi, gap } = after_let(table, kind, facts, &setting)?.var(0);
     Some((lo, hi, gap))
 }
 
@@ -175,9 +184,9 @@ fn set_first(kind: Kind, facts: &Facts, atom: Atom, change: Change) -> Option<Kn
 fn lets(rt: HostRuntime) -> Result<(), Fail> {
     let alloc = rt.alloc();
     for &(known, atom, change, after) in LETS.iter() {
-        let facts = facts_of(alloc, &[BYTE], numbers(100, ZERO, known))?;
+        let (table, facts) = facts_of(alloc, &[BYTE], numbers(100, ZERO, known))?;
         assert_eq!(&rt;
-            set_first(Kind::Sd, &facts, atom, change),
+            set_first(Kind::Sd, &table, &facts, atom, change),
             after,
             "{known:?}"
         );
@@ -189,9 +198,9 @@ fn lets(rt: HostRuntime) -> Result<(), Fail> {
 fn lets_of_registers(rt: HostRuntime) -> Result<(), Fail> {
     let alloc = rt.alloc();
     for &(kind, codes, atom, after) in REGISTERS.iter() {
-        let facts = facts_of(alloc, &codes, numbers(100, ZERO, ZERO))?;
+        let (table, facts) = facts_of(alloc, &codes, numbers(100, ZERO, ZERO))?;
         assert_eq!(&rt;
-            set_first(kind, &facts, atom, Change::Same),
+            set_first(kind, &table, &facts, atom, Change::Same),
             Some(after),
             "{codes:?}"
         );
@@ -264,7 +273,7 @@ static TARGETS: [(u64, Known, bool); 7] = [
 #[test]
 fn comparisons(rt: HostRuntime) -> Result<(), Fail> {
     for &(x, test, after) in COMPARISONS.iter() {
-        let facts = facts_of(rt.alloc(), &[BYTE], numbers(10, x, UP_TO_NINE))?;
+        let (_, facts) = facts_of(rt.alloc(), &[BYTE], numbers(10, x, UP_TO_NINE))?;
         let wanted = match after {
             Some((m, x, y)) => Some(numbers(m, x, y)),
             None => None,
@@ -350,18 +359,18 @@ static UNITS: [([u64; 2], Unit, bool); 12] = [
 fn addresses(rt: HostRuntime) -> Result<(), Fail> {
     let alloc = rt.alloc();
     let (x, y) = ((3, 5, Some(7)), (2, 4, None));
-    let facts = facts_of(alloc, &[BYTE], numbers(10, x, y))?;
+    let (table, facts) = facts_of(alloc, &[BYTE], numbers(10, x, y))?;
     for &(index, count, position, known) in POSITIONS.iter() {
         let unit = Unit::Byte;
         let address = Address { unit, position };
         let blocks = if index == 32 { 1 } else { u64::from(count) };
         assert_eq!(&rt;
-            address_ok(&facts, &address, blocks),
+            address_ok(&table, &facts, &address, blocks),
             known,
             "{index} {count}"
         );
         let action = send(alloc, index, count, Some(address));
-        assert_eq!(&rt; address_holds(&facts, &action), known, "{index} {count}");
+        assert_eq!(&rt; address_holds(&table, &facts, &action), known, "{index} {count}");
     }
     Ok(())
 }
@@ -370,13 +379,14 @@ fn addresses(rt: HostRuntime) -> Result<(), Fail> {
 #[test]
 fn last_blocks(rt: HostRuntime) -> Result<(), Fail> {
     let (alloc, y) = (rt.alloc(), (2, 4, None));
-    let less = facts_of(alloc, &[BLOCK], numbers(1, (0, 4_294_967_288, Some(8)), y))?;
+    let known = numbers(1, (0, 4_294_967_288, Some(8)), y);
+    let (table, less) = facts_of(alloc, &[BLOCK], known)?;
     let address = Address {
         unit: Unit::Block,
         position: Position::Variable(0, None),
     };
-    assert!(&rt; address_ok(&less, &address, 8));
-    assert!(&rt; !address_ok(&less, &address, 9));
+    assert!(&rt; address_ok(&table, &less, &address, 8));
+    assert!(&rt; !address_ok(&table, &less, &address, 9));
     Ok(())
 }
 
@@ -385,10 +395,10 @@ fn units(rt: HostRuntime) -> Result<(), Fail> {
     let alloc = rt.alloc();
     let (x, y) = ((3, 5, Some(7)), (2, 4, None));
     for &(codes, unit, known) in UNITS.iter() {
-        let facts = facts_of(alloc, &codes, numbers(10, x, y))?;
+        let (table, facts) = facts_of(alloc, &codes, numbers(10, x, y))?;
         let position = Position::Number(0);
         let action = send(alloc, 17, 1, Some(Address { unit, position }));
-        assert_eq!(&rt; address_holds(&facts, &action), known, "{codes:?}");
+        assert_eq!(&rt; address_holds(&table, &facts, &action), known, "{codes:?}");
     }
     Ok(())
 }
@@ -397,13 +407,13 @@ fn units(rt: HostRuntime) -> Result<(), Fail> {
 fn commands_without_address(rt: HostRuntime) -> Result<(), Fail> {
     let alloc = rt.alloc();
     let (x, y) = ((3, 5, Some(7)), (2, 4, None));
-    let facts = facts_of(alloc, &[BYTE], numbers(10, x, y))?;
+    let (table, facts) = facts_of(alloc, &[BYTE], numbers(10, x, y))?;
     let nowhere = send(alloc, 18, 8, None);
-    assert!(&rt; !address_holds(&facts, &nowhere));
-    assert!(&rt; address_holds(&facts, &send(alloc, 13, 0, None)));
-    assert!(&rt; address_holds(&facts, &Action::Done));
-    let unreached = facts_of(alloc, &[], numbers(10, x, y))?;
-    assert!(&rt; address_holds(&unreached, &nowhere));
+    assert!(&rt; !address_holds(&table, &facts, &nowhere));
+    assert!(&rt; address_holds(&table, &facts, &send(alloc, 13, 0, None)));
+    assert!(&rt; address_holds(&table, &facts, &Action::Done));
+    let (empty, unreached) = facts_of(alloc, &[], numbers(10, x, y))?;
+    assert!(&rt; address_holds(&empty, &unreached, &nowhere));
     Ok(())
 }
 
