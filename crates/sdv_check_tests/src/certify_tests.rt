@@ -100,7 +100,11 @@ fn sets(rt: HostRuntime) -> Result<(), Fail> {
         let certificate = certify(alloc, &parse(alloc, script)?)?;
         assert_eq!(rt; certificate.sets(), wanted, "{script}");
         assert_eq!(rt; certificate.table().len(), wanted, "{script}");
-        assert_eq!(rt; sets_read(alloc, &written(alloc, script)?)?, wanted, "{script}");
+        assert_eq!(rt;
+            sets_read(alloc, &written(alloc, script)?)?,
+            wanted,
+            "{script}"
+        );
     }
     assert_eq!(rt; sets_read(alloc, WIDE.as_bytes())?, 2);
     Ok(())

@@ -71,7 +71,10 @@ fn shapes(rt: HostRuntime) -> Result<(), Fail> {
         let mut table = SetTable::new(alloc);
         let named = Facts::new(table.intern(facts.shapes())?, facts.into_numbers());
         for code in 0..9 {
-            assert_eq!(&rt; holds_shape(&table, &named, Shape(code)), set.contains(&code));
+            assert_eq!(&rt;
+                holds_shape(&table, &named, Shape(code)),
+                set.contains(&code)
+            );
         }
     }
     Ok(())

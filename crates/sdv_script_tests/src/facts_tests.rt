@@ -36,11 +36,7 @@ fn numbers(m: u64, x: Known, y: Known) -> Numbers
 // A table whose one set has the shapes of these codes, of which there are two at most, and the lesser one comes first, and
 // facts with that set.
 #[tactic(auto, using(crate::proofs::FewShapes::one_rises, crate::proofs::FewShapes::two_rise))]
-fn facts_of(
-    alloc: Global,
-    codes: &[u64],
-    numbers: Numbers,
-) -> Result<(SetTable, Facts), AllocError>
+fn facts_of(alloc: Global, codes: &[u64], numbers: Numbers) -> Result<(SetTable, Facts), AllocError>
     requires { length numbers.vars.items ≡ 2 }
     ensures two { IfOk result (λ x. length x.1.numbers.vars.items ≡ 2) }
     ensures within { IfOk result (λ x. x.1.set < length x.0) }
@@ -370,7 +366,11 @@ fn addresses(rt: HostRuntime) -> Result<(), Fail> {
             "{index} {count}"
         );
         let action = send(alloc, index, count, Some(address));
-        assert_eq!(&rt; address_holds(&table, &facts, &action), known, "{index} {count}");
+        assert_eq!(&rt;
+            address_holds(&table, &facts, &action),
+            known,
+            "{index} {count}"
+        );
     }
     Ok(())
 }
