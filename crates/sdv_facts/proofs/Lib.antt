@@ -8,7 +8,6 @@ pub mod InternLaws
 pub mod LetLaws
 mod Probes
 pub mod RegisterLaws
-mod Rising
 pub mod RunLaws
 pub mod SetLaws
 pub mod SharedLaws
