@@ -1,5 +1,5 @@
 -- What is explained of a text: whether it is the text of a script that is refused, and the way to the point that is.
-use Rattle.std.specs.Prelude.{◌≡◌, ◌⊎◌, ℕ, List, [], Option, Some, IfSome, None}
+use Rattle.std.specs.Prelude.{◌≡◌, ◌⊎◌, ℕ, List, [], slice_get, Some, IfSome, None}
 use Rattle.sdv_card.specs.declared.shape.Shape.{Shape}
 use Rattle.sdv_script.specs.declared.fault.FaultKind.{FaultKind}
 use Rattle.sdv_script.specs.declared.fault.FaultKind.TheVariants as kinds
@@ -9,6 +9,7 @@ use Rattle.sdv_script.specs.Script.{IsScript, Parsed}
 use Rattle.sdv_script.specs.Shown.{shown}
 use Rattle.sdv_graph.specs.Graph.{Graph}
 use Rattle.sdv_graph.specs.GraphOf.{IsGraphOf}
+use Rattle.sdv_graph.specs.Path.{Point}
 use Rattle.sdv_facts.specs.Facts.{PointFacts}
 use Rattle.sdv_certify.specs.declared.fault.CertifyFault.{CertifyFault}
 use Rattle.sdv_certify.specs.declared.fault.CertifyFault.TheVariants as certifies
@@ -18,6 +19,7 @@ use Rattle.sdv_explain.specs.declared.explaining.Refusal.{Refusal}
 use Rattle.sdv_explain.specs.declared.fault.ExplainFault.{ExplainFault}
 use Rattle.sdv_explain.specs.declared.fault.ExplainFault.TheVariants.{Script, TooMany, Memory}
 use Rattle.sdv_explain.specs.declared.visit.Visit.{Visit}
+use Rattle.sdv_explain.specs.Refused.{IsRefusedAt}
 use Rattle.sdv_explain.specs.Way.{IsWay}
 
 -- want of memory says nothing of the text
@@ -33,22 +35,16 @@ NamesPoint (certifies.EndState number) point = number ≡ point
 NamesPoint certifies.TooMany point = ⊥
 NamesPoint certifies.Memory point = ⊥
 
--- the shape, where it names one
-abbrev pub NamesShape : CertifyFault → Shape → Type 0
-NamesShape (certifies.Illegal number shape) other = shape ≡ other
-NamesShape fault other = Unit {0}
-
--- a fault that names a shape is explained at that shape
-abbrev pub ShapeIsNamed : CertifyFault → Option Shape → Type 0
-ShapeIsNamed (certifies.Illegal number shape) found = found ≡ Some shape
-ShapeIsNamed fault found = Unit {0}
-
--- the way leads to the point that a refusal names, by what is known of the points
+-- the way leads to the point that a refusal names, by what is known of the points, and there to the shape that is refused
 pub record LeadsThere (g : Graph) (ps : List PointFacts) (fault : CertifyFault) (way : List Visit) : Type 0 where
   pub point : ℕ
   pub named : NamesPoint fault point
+  pub place : Point
+  pub here : slice_get g.points point ≡ Some place
+  pub facts : PointFacts
+  pub known : slice_get ps point ≡ Some facts
   pub shape : Shape
-  pub with_shape : NamesShape fault shape
+  pub refused : IsRefusedAt fault place.action facts.facts.shapes shape
   pub is_way : IsWay g ps way point shape
 
 -- so does the way of a refusal, which is empty where none was found

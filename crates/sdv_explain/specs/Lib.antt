@@ -1,3 +1,5 @@
+pub mod Known
+pub mod Refused
 pub mod Edge
 pub mod Way
 pub mod Found

@@ -10,9 +10,11 @@ ghost use Rattle.sdv_explain.specs.Explained.{Explains, HasWay, IsRefusal, Leads
 ghost use Rattle.sdv_explain.specs.Way.{IsWay};
 
 use crate::fault::ExplainFault;
+use crate::known::known_at;
 use crate::listing::put_listing;
 use crate::outline::Outline;
-use crate::refusal::{put_refusal, put_way, refused_shape};
+use crate::refusal::{put_refusal, put_way};
+use crate::refused::refused_shape;
 use crate::text::Text;
 use crate::visit::Visit;
 use crate::way::find_way;
@@ -147,17 +149,16 @@ fn refuse_point(
     requires { NamesPoint fault number }
     ensures { IfOk result (λ way. (way.items ≡ []) ⊎ LeadsThere graph.now known.now fault way.items) }
 {
-    let (table, points) = known.shown();
-    if graph.len() <= number || points.len() <= number {
+    if graph.len() <= number {
         return Ok(Vec::new(alloc));
     }
-    let facts = &points[number].facts;
-    let shapes = table.members(facts.set());
-    let Some(shape) = refused_shape(fault, &graph.point(number).action, shapes) else {
+    let Some(here) = known_at(known, number) else {
         return Ok(Vec::new(alloc));
     };
-    let numbers = facts.numbers();
-    put_refusal(words, graph, outline, fault, number, shapes, numbers, shape)?;
+    let Some(shape) = refused_shape(fault, &graph.point(number).action, here.shapes) else {
+        return Ok(Vec::new(alloc));
+    };
+    put_refusal(words, graph, outline, fault, number, &here, shape)?;
     let way = way_or_none(alloc, graph, known, number, shape)?;
     put_way(words, graph, outline, &way)?;
     Ok(way)

@@ -1,11 +1,10 @@
 //! The refusal: which statement is refused beside which card, why, and a way there.
 
-ghost use Rattle.std.specs.Prelude.{IfSome};
-ghost use Rattle.sdv_explain.specs.Explained.{NamesShape, ShapeIsNamed};
-
+use crate::known::Known;
 use crate::listing::{put_numbers, put_place};
 use crate::outline::Outline;
 use crate::reason::{Illegality, Reason, reason_of};
+use crate::refused::fits_unit;
 use crate::shapes::{put_shape, state_word};
 use crate::statements::{put_address, put_seen, put_statement};
 use crate::text::{Text, pad, put, put_number, put_numbered};
@@ -13,20 +12,10 @@ use crate::visit::Visit;
 use sdv_card::{Event, Kind, Shape};
 use sdv_certify::CertifyFault;
 use sdv_emmc::EmmcTable;
-use sdv_facts::{Numbers, ends_at, event_of_phase};
+use sdv_facts::event_of_phase;
 use sdv_graph::{Action, Address, Change, Condition, Graph, Unit};
 use sdv_sd::SdTable;
 use std::alloc::AllocError;
-
-/// The unit of an address is that of the shape.
-fn fits_unit(unit: Unit, shape: Shape) -> bool {
-    let has_blocks = shape.has_block_addresses();
-    match unit {
-        Unit::Block => has_blocks,
-        Unit::Byte => !has_blocks,
-        Unit::By(flag) => shape.flag(flag) == has_blocks,
-    }
-}
 
 /// The address of a statement's command, if it has one.
 fn address_of<'g>(action: &'g Action<'_>) -> Option<&'g Address> {
@@ -36,45 +25,9 @@ fn address_of<'g>(action: &'g Action<'_>) -> Option<&'g Address> {
     }
 }
 
-/// The first shape whose unit is another than that of the address.
-fn other_unit(unit: Unit, shapes: &[Shape]) -> Option<Shape> {
-    shapes
-        .iter()
-        .copied()
-        .find(|shape| !fits_unit(unit, *shape))
-}
-
-/// The first shape that is not in the transfer state at `done`.
-fn other_end(action: &Action<'_>, shapes: &[Shape]) -> Option<Shape> {
-    shapes
-        .iter()
-        .copied()
-        .find(|shape| !ends_at(action, *shape))
-}
-
-/// The first shape that an address does not fit: of another unit, or any where the capacity is not known.
-fn unaddressed(action: &Action<'_>, shapes: &[Shape]) -> Option<Shape> {
-    let odd = match address_of(action) {
-        Some(address) => other_unit(address.unit, shapes),
-        None => None,
-    };
-    match odd {
-        Some(shape) => Some(shape),
-        None => shapes.first().copied(),
-    }
-}
-
-/// A shape at which a point is refused.
-pub fn refused_shape(fault: CertifyFault, action: &Action<'_>, shapes: &[Shape]) -> Option<Shape>
-    ensures named { ShapeIsNamed fault result }
-    ensures shape { IfSome result (NamesShape fault) }
-{
-    match fault {
-        CertifyFault::Illegal { shape, .. } => Some(shape),
-        CertifyFault::Address { .. } => unaddressed(action, shapes),
-        CertifyFault::EndState { .. } => other_end(action, shapes),
-        CertifyFault::TooMany | CertifyFault::Memory => None,
-    }
+/// The unit of an address is another than that of some shape.
+fn misses_unit(unit: Unit, shapes: &[Shape]) -> bool {
+    shapes.iter().any(|shape| !fits_unit(unit, *shape))
 }
 
 /// The event of a statement, if it makes one.
@@ -161,19 +114,18 @@ fn put_unit_rule(text: &mut Text, address: &Address, outline: &Outline) -> Resul
 fn put_misfit(
     text: &mut Text,
     action: &Action<'_>,
-    shapes: &[Shape],
-    numbers: &Numbers,
+    here: &Known<'_>,
     outline: &Outline,
 ) -> Result<(), AllocError> {
     match address_of(action) {
-        Some(address) if other_unit(address.unit, shapes).is_some() => {
+        Some(address) if misses_unit(address.unit, here.shapes) => {
             put_unit_rule(text, address, outline)
         }
         Some(address) => {
             put(text, "the card may not have all blocks ")?;
             put_address(text, address, outline)?;
             put(text, ", for this is known: ")?;
-            put_numbers(text, numbers, outline)
+            put_numbers(text, here.numbers, outline)
         }
         None => put(text, "it has no address"),
     }
@@ -185,8 +137,7 @@ fn put_reason(
     kind: Kind,
     fault: CertifyFault,
     action: &Action<'_>,
-    shapes: &[Shape],
-    numbers: &Numbers,
+    here: &Known<'_>,
     outline: &Outline,
 ) -> Result<(), AllocError> {
     put(text, "why: ")?;
@@ -196,7 +147,7 @@ fn put_reason(
                 put_illegality(text, illegality, action, outline)?;
             }
         }
-        CertifyFault::Address { .. } => put_misfit(text, action, shapes, numbers, outline)?,
+        CertifyFault::Address { .. } => put_misfit(text, action, here, outline)?,
         CertifyFault::EndState { .. } => put(text, "at done the card has to be in tran state")?,
         CertifyFault::TooMany | CertifyFault::Memory => {}
     }
@@ -338,8 +289,7 @@ pub fn put_refusal(
     outline: &Outline,
     fault: CertifyFault,
     number: usize,
-    shapes: &[Shape],
-    numbers: &Numbers,
+    here: &Known<'_>,
     shape: Shape,
 ) -> Result<(), AllocError> {
     if graph.len() <= number {
@@ -351,5 +301,5 @@ pub fn put_refusal(
     put(text, ", beside a card that is\n    ")?;
     put_shape(text, shape, &outline.flags)?;
     put(text, "\n")?;
-    put_reason(text, graph.kind(), fault, action, shapes, numbers, outline)
+    put_reason(text, graph.kind(), fault, action, here, outline)
 }
