@@ -141,7 +141,7 @@ write_cases() {
     }
     function schedule_text(text, length_of_it) {
         if (draw(3) == 0) return ""
-        for (length_of_it = draw(40); length_of_it > 0; length_of_it--) text = text (draw(4) ? 0 : draw(7))
+        for (length_of_it = draw(40); length_of_it > 0; length_of_it--) text = text (draw(4) ? 0 : draw(8))
         if (draw(12) == 0) text = change_bytes(text)
         return text (draw(2) ? "\n" : "")
     }
@@ -218,9 +218,9 @@ write_cases() {
             "1099511627777 18446744073709551615 18446744073709551616 99999999999999999999999999 007 0x 0x0 0xff 0x40ff8000 " \
             "0x00ff8000 0xFFFFFFFFFFFFFFFFFF 1a -1 1.5", numbers, " ")
         parts_of("card sd emmc flags nums send recv reg give wait ok else let if set clear loop break done fault at block byte by " \
-            "count none timeout answer clean ready app echo ocr.ready ocr.block state=tran state=prg state = csd.blocks ext.blocks " \
+            "count none timeout answer clean ready app echo ocr.ready ocr.block state=tran state=prg state = csd.blocks ext.blocks bus.lines part.access " \
             "{ } + - >= < & hc cap x g number idle abcdefghijklmnop abcdefghijklmnopq sdv-cert points p b m v s - version unit " \
-            "csize cmult rbl rca sectors 0000000000002000 0000000000002c04 0000000000002804 ffffffffffffffff # @ $", dictionary, " ")
+            "csize cmult rbl rca sectors boot 0000000000002000 0000000000002c04 0000000000002804 ffffffffffffffff # @ $", dictionary, " ")
         parts_of("-h --help --version -V -- - --in --out --in=blocks --out=o --inn -x help frame certify check run . / nofile " \
             "new: new:0 new:4 new:x new:-1 new:18446744073709551616 /dev/null 0 63 64 0x3f 0x40 4294967295 4294967296 0xffffffff -1 " \
             "S C D H O blocks odd image \303\251 \377 $HOME * \047 \"", odd_words, " ")
@@ -247,12 +247,15 @@ write_cases() {
             "send 32 at by hc @ { clean { } else { fault er } } send 33 at by hc @ { clean { } else { fault er } } send 38 { clean { } else { fault er } } loop 100 { wait { ok { break } else { } } } else { fault busy }\n" \
             "send 55 { app { send 51 { clean { recv reg { ok { } else { fault scr } } } else { fault scr } } } else { fault noapp } }\n" \
             "loop 20 { send 55 { app & state=tran { send 51 { clean { recv reg { ok { break } else { fault scr } } } else { } } } else { } } } else { fault scr }\n" \
-            "send 55 { app { send 13 { clean { recv reg { ok { } else { fault st } } } else { fault st } } } else { fault noapp } }", sd, "\n")
+            "send 55 { app { send 13 { clean { recv reg { ok { } else { fault st } } } else { fault st } } } else { fault noapp } }\n" \
+            "send 55 { app { send 6 bus.lines 4 { clean { bus.lines 4 } else { fault bw } } } else { fault noapp } }", sd, "\n")
         parts_of( \
             "send 35 at by hc @ { clean { } else { fault er } } send 36 at by hc @ { clean { } else { fault er } } send 38 1 { clean { } else { fault er } } loop 100 { wait { ok { break } else { } } } else { fault busy }\n" \
             "send 23 count 8 { clean { } else { fault st } } send 18 at by hc @ count 8 { clean { recv { ok { } else { fault rd } } } else { fault rd } }\n" \
             "send 23 count @ { clean { } else { fault st } } send 25 at by hc 0 count @ { clean { give { ok { } else { fault wr } } } else { fault wr } } loop 100 { wait { ok { break } else { } } } else { fault busy }\n" \
-            "send 8 { clean { recv reg { ok { let x = ext.blocks } else { fault ext } } } else { fault ext } }", emmc, "\n")
+            "send 8 { clean { recv reg { ok { let x = ext.blocks } else { fault ext } } } else { fault ext } }\n" \
+            "send 6 bus.lines 8 { clean { } else { fault sw } } loop 100 { wait { ok { break } else { } } } else { fault busy } send 13 { clean & state=tran { bus.lines 8 } else { fault sw } }\n" \
+            "send 6 part.access @ { clean { } else { fault sw } } loop 100 { wait { ok { break } else { } } } else { fault busy } send 13 { clean & state=tran { } else { fault sw } }", emmc, "\n")
         for (number = first; number < first + count; number++) {
             state = (seed % 46337 * 46337 + number) % 2147483646 + 1
             for (i = 0; i < 5; i++) draw(2)

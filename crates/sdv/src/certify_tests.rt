@@ -2,7 +2,9 @@
 use crate::testing::Piece::{Bytes, Text};
 use crate::testing::Step::{self, Call, Replace, Store, Write};
 use crate::testing::Wanted::{Has, Is, Lines, Starts};
-use crate::testing::{BRING_UP, CERTIFICATE, ILLEGAL, SMALLEST, call, play, write};
+use crate::testing::{
+    BRING_UP, CERTIFICATE, DEVICE_TO_TRANSFER, ILLEGAL, SMALLEST, TO_TRANSFER, call, play, write,
+};
 use sdv_words::program::program;
 use std::io;
 use std::test::Fail;
@@ -102,9 +104,23 @@ fn certifies_files(rt: HostRuntime) -> Result<(), Fail> {
     Ok(())
 }
 
+/// Behind the bring-up: the card goes to four data lines, and the host does not.
+const UNLIKE_LINES: &str =
+    "send 55 { app { send 6 bus.lines 4 { clean { } else { fault bw } } } else { fault noapp } }
+send 17 at by hc 0 { clean { recv { ok { } else { fault rd } } } else { fault rd } }
+done
+";
+
+/// Behind the bring-up of a device: a block of a boot partition is read.
+const BOOT_READ: &str = "send 6 part.access 1 { clean { } else { fault sw } }
+loop 100 { wait { ok { break } else { } } } else { fault busy }
+send 13 { clean & state=tran { } else { fault sw } }
+send 17 at by hc 0 { else { fault stop } }
+";
+
 const EXPLAIN: &[&str] = &["explain", "explained.sdv"];
 
-static EXPLAINED: [Step<'static>; 9] = [
+static EXPLAINED: [Step<'static>; 13] = [
     Write("explained.sdv", &[Text(SMALLEST)]),
     Call(EXPLAIN, 0, &[Has("line 2, point 0: CMD0")], ""),
     Write("explained.sdv", &[Text(ILLEGAL)]),
@@ -113,6 +129,23 @@ static EXPLAINED: [Step<'static>; 9] = [
         1,
         &[Has("a way there:")],
         "refused Illegal point 0 shape 0000000000002000\n",
+    ),
+    Write("explained.sdv", &[Text(TO_TRANSFER), Text(UNLIKE_LINES)]),
+    Call(
+        EXPLAIN,
+        1,
+        &[Has("\nwhy: the card uses 4 data lines, and the host 1 data line\n")],
+        "refused Illegal point 27 shape 0000000000102815\n",
+    ),
+    Write(
+        "explained.sdv",
+        &[Text(DEVICE_TO_TRANSFER), Text(BOOT_READ)],
+    ),
+    Call(
+        EXPLAIN,
+        1,
+        &[Has("\nwhy: the card may have a boot partition in access")],
+        "refused Address point 33\n",
     ),
     Write("explained.sdv", &[Text(TOO_MANY)]),
     Call(EXPLAIN, 1, &[Is("")], "refused TooMany\n"),

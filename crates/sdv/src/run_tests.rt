@@ -2,7 +2,9 @@
 use crate::testing::Piece::{self, Blocks, Fill, Text};
 use crate::testing::Step::{self, Call, Folder, Holds, Remove, RemoveFolder, Store, Write};
 use crate::testing::Wanted::{Ends, Has, Is};
-use crate::testing::{BRING_UP, CERTIFICATE, TO_TRANSFER, USAGE, call, play, store, write};
+use crate::testing::{
+    BRING_UP, CERTIFICATE, DEVICE_TO_TRANSFER, TO_TRANSFER, USAGE, call, play, store, write,
+};
 use std::test::Fail;
 
 /// An SD card of 1,024 blocks, with block addresses.
@@ -31,20 +33,6 @@ CMD8 000001aa R7 000001aa
 CMD55 00000000 R1 00000120
 CMD41 40ff8000 timeout
 fault lost41
-";
-
-const DEVICE_BRING_UP: &str = "card emmc
-flags hc
-nums cap
-send 0 { else { } }
-loop 1000 { send 1 { ocr.ready & ocr.block { set hc break } ocr.ready { break } answer { } else { fault lost1 } } } else { fault busy }
-send 2 { answer { } else { fault cid } }
-send 3 { clean { } else { fault rca } }
-send 9 { answer { } else { fault csd } }
-send 7 { clean { } else { fault select } }
-send 16 { clean { } else { fault blen } }
-if hc { send 8 { clean { recv reg { ok { let cap = ext.blocks } else { fault ext } } } else { fault ext } } } else { let cap = csd.blocks }
-done
 ";
 
 const DEVICE_BROUGHT_UP: &str = "CMD0 00000000 -
@@ -83,6 +71,14 @@ loop 100 { wait { ok { break } else { } } } else { fault busy }
 send 13 { clean & state=tran { } else { fault wr } }
 send 18 at by hc 7 count 40 { clean { recv { ok { } else { fault rd } } } else { fault rd } }
 send 12 { clean { } else { fault rd } }
+done
+";
+
+/// Behind the bring-up of a device: it goes to eight data lines, and its EXT_CSD is read over them.
+const TO_EIGHT_LINES: &str = "send 6 bus.lines 8 { clean { } else { fault sw } }
+loop 100 { wait { ok { break } else { } } } else { fault busy }
+send 13 { clean & state=tran { bus.lines 8 } else { fault sw } }
+send 8 { clean { recv reg { ok { } else { fault ext } } } else { fault ext } }
 done
 ";
 
@@ -144,7 +140,7 @@ static RUNS: [(&[Piece<'static>], &str, &str, &str, u8, &str, &str); 9] = [
         "",
     ),
     (
-        &[Text(DEVICE_BRING_UP)],
+        &[Text(DEVICE_TO_TRANSFER), Text("done\n")],
         DEVICE,
         "new:2048",
         "",
@@ -323,6 +319,42 @@ static LONG_TRANSFER: [Step<'static>; 8] = [
 #[test]
 fn stores_long_transfers(rt: HostRuntime) -> Result<(), Fail> {
     play(&rt, &LONG_TRANSFER)
+}
+
+// A device goes to eight data lines, and fails to do so where the schedule says it.
+static SWITCHES: [Step<'static>; 6] = [
+    Write("run.card", &[Text(DEVICE)]),
+    Write("run.sdv", &[Text(DEVICE_TO_TRANSFER), Text(TO_EIGHT_LINES)]),
+    Store(CERTIFY, "run.cert"),
+    Call(
+        &["run", "run.sdv", "run.cert", "run.card", "new:2048"],
+        0,
+        &[Ends(
+            "\nREG 512 ok\nCMD6 03b70200 R1 00000900\nWAIT ok\nCMD13 00010000 R1 00000900\nCMD8 00000000 R1 00000900\nREG 512 ok\ndone\n",
+        )],
+        "",
+    ),
+    Write("run.schedule", &[Text("0000000007")]),
+    Call(
+        &[
+            "run",
+            "run.sdv",
+            "run.cert",
+            "run.card",
+            "new:2048",
+            "run.schedule",
+        ],
+        1,
+        &[Ends(
+            "\nREG 512 ok\nCMD6 03b70200 R1 00000900\nWAIT ok\nCMD13 00010000 R1 00000980\nfault sw\n",
+        )],
+        "",
+    ),
+];
+
+#[test]
+fn switches_data_lines(rt: HostRuntime) -> Result<(), Fail> {
+    play(&rt, &SWITCHES)
 }
 
 // Inputs that are no blocks, or none, or two.

@@ -34,6 +34,20 @@ send 16 { clean { } else { fault blen } }
 let cap = csd.blocks
 ";
 
+/// A script that brings an e.MMC device up, without its end.
+pub const DEVICE_TO_TRANSFER: &str = "card emmc
+flags hc
+nums cap
+send 0 { else { } }
+loop 1000 { send 1 { ocr.ready & ocr.block { set hc break } ocr.ready { break } answer { } else { fault lost1 } } } else { fault busy }
+send 2 { answer { } else { fault cid } }
+send 3 { clean { } else { fault rca } }
+send 9 { answer { } else { fault csd } }
+send 7 { clean { } else { fault select } }
+send 16 { clean { } else { fault blen } }
+if hc { send 8 { clean { recv reg { ok { let cap = ext.blocks } else { fault ext } } } else { fault ext } } } else { let cap = csd.blocks }
+";
+
 /// A script that brings a card up.
 pub const BRING_UP: &[Piece<'static>] = &[Piece::Text(TO_TRANSFER), Piece::Text("done\n")];
 

@@ -3,12 +3,13 @@ use Rattle.std.proofs.Common.{◌≡◌, ℕ, ◌<◌, ◌≤◌, ◌+◌, ◌*�
 use Rattle.sdv_registers.specs.declared.kind.Kind.{Kind}
 use Rattle.sdv_registers.specs.declared.kind.Kind.TheVariants.{Sd, Emmc}
 use Rattle.sdv_card.specs.declared.state.State.{State}
+use Rattle.sdv_card.specs.declared.state.Partition.{Partition}
 use Rattle.sdv_card.specs.declared.state.State.TheVariants.{Idle, Ready, Ident}
 use Rattle.sdv_card.specs.declared.command.Order.{Order}
 use Rattle.sdv_card.specs.declared.command.Order.TheVariants.{SelectCard, DeselectCards, ReadSingleBlock, ReadMultipleBlock, WriteBlock, WriteMultipleBlock, EraseBlockStart, EraseBlockEnd, EraseGroupStart, EraseGroupEnd}
 use Rattle.sdv_card.specs.declared.command.Row.TheVariants.{Cmd7NotAddressed, Cmd18, Cmd25}
 use Rattle.sdv_card.specs.declared.command.Response.TheVariants.{CardStatus}
-use Rattle.sdv_card.specs.Card.{Card, Block, IsCard, AddressFits}
+use Rattle.sdv_card.specs.Card.{Card, Block, Partitions, IsCard, AddressFits, accessed_capacity}
 use Rattle.sdv_card.specs.Exchange.{card_takes}
 use Rattle.sdv_card.specs.Host.{Host}
 use Rattle.sdv_card.specs.Laws.{order_blocks}
@@ -24,15 +25,17 @@ use Rattle.sdv_card.proofs.LegalExact.{OrderLegal, order_legal_law, order_legal_
 use Rattle.sdv_card.proofs.Members.{May-targets, both_true, and_left, and_right}
 use Rattle.sdv_card.proofs.SettledCard.{settled_is_card}
 use Rattle.sdv_behavior.specs.declared.behavior.Behavior.{Behavior}
-use Rattle.sdv_behavior.specs.declared.behavior.Behavior.TheVariants.{IsSlow}
+use Rattle.sdv_behavior.specs.declared.behavior.Behavior.TheVariants.{IsSlow, FailsSwitch}
 use Rattle.sdv_description.specs.declared.card_desc.CardDesc.{CardDesc}
 use Rattle.sdv_behavior.specs.declared.card_state.CardState.{CardState}
+use Rattle.sdv_behavior.specs.declared.choice.Choice.{Choice}
+use Rattle.sdv_description.specs.Layout.{partition_size}
 use Rattle.sdv_behavior.specs.Accepts.{fields_at, has_blocks, accepts}
 use Rattle.sdv_behavior.specs.Accepted.{AcceptsExactly}
 use Rattle.sdv_behavior.specs.CardOf.{card_with, card_of}
 use Rattle.sdv_behavior.specs.declared.heard.Deed.{Deed}
 use Rattle.sdv_behavior.specs.declared.heard.Deed.TheVariants.{Loses, TakesUnheard, Takes, Stays}
-use Rattle.sdv_behavior.specs.Heard.{deed_of, is_ready, does, done_as, hear_at}
+use Rattle.sdv_behavior.specs.Heard.{deed_of, choice_of, does, done_as, hear_at}
 use Rattle.sdv_behavior.specs.Replies.{reply_of}
 use Rattle.sdv_behavior.specs.RowTaken.{count_of, state_next, taken_by}
 use Rattle.sdv_behavior.specs.LinesRead.{read_as}
@@ -141,59 +144,63 @@ state_18 : (k : Kind) (n m : ℕ) (ready : Bool) (state : State) → state_next 
 state_18 Sd n m ready state = refl
 state_18 Emmc n m ready state = refl
 
-taken_18 : (d : CardDesc) (n m argument : ℕ) (ready : Bool) (t : CardState) → taken_by d (Cmd18 n) argument ready t ≡ taken_by d (Cmd18 m) argument ready t
-taken_18 d n m argument ready t = ap (λ s. record (taken_by d (Cmd18 n) argument ready t) { state = s }) (state_18 d.kind n m ready t.state)
+taken_18 : (d : CardDesc) (n m argument : ℕ) (choice : Choice) (t : CardState) →
+    taken_by d (Cmd18 n) argument choice t ≡ taken_by d (Cmd18 m) argument choice t
+taken_18 d n m argument choice t = ap (λ s. record (taken_by d (Cmd18 n) argument choice t) { state = s }) (state_18 d.kind n m choice.ready t.state)
 
-does_18 : (d : CardDesc) (deed : Deed) (n m argument : ℕ) (ready : Bool) (t : CardState) →
-    does d deed (Cmd18 n) argument ready t ≡ does d deed (Cmd18 m) argument ready t
-does_18 d Loses n m argument ready t = refl
-does_18 d TakesUnheard n m argument ready t = ap (λ a. record { after = a; reply = None; erases = false }) (taken_18 d n m argument ready t)
-does_18 d (Takes error) n m argument ready t =
-    ap (λ a. record { after = a; reply = reply_of d (Cmd18 n) t.state true error ready; erases = false }) (taken_18 d n m argument ready t)
-does_18 d Stays n m argument ready t = refl
+does_18 : (d : CardDesc) (deed : Deed) (n m argument : ℕ) (choice : Choice) (t : CardState) →
+    does d deed (Cmd18 n) argument choice t ≡ does d deed (Cmd18 m) argument choice t
+does_18 d Loses n m argument choice t = refl
+does_18 d TakesUnheard n m argument choice t = ap (λ a. record { after = a; reply = None; erases = false }) (taken_18 d n m argument choice t)
+does_18 d (Takes error) n m argument choice t =
+    ap (λ a. record { after = a; reply = reply_of d (Cmd18 n) t true error choice.ready; erases = false }) (taken_18 d n m argument choice t)
+does_18 d Stays n m argument choice t = refl
 
-ready_18 : (behavior : Behavior) (n m : ℕ) (block_unit checked : Bool) →
-    is_ready behavior (Cmd18 n) block_unit checked ≡ is_ready behavior (Cmd18 m) block_unit checked
-ready_18 IsSlow n m block_unit checked = refl
-ready_18 behavior n m block_unit checked = refl
+choice_18 : (d : CardDesc) (behavior : Behavior) (n m : ℕ) (checked : Bool) →
+    choice_of d behavior (Cmd18 n) checked ≡ choice_of d behavior (Cmd18 m) checked
+choice_18 d IsSlow n m checked = refl
+choice_18 d FailsSwitch n m checked = refl
+choice_18 d behavior n m checked = refl
 
 done_18 : (d : CardDesc) (behavior : Behavior) (n m : ℕ) (app matched : Bool) (argument : ℕ) (t : CardState) →
     done_as d behavior (taken_as_of (ReadMultipleBlock n) app matched) argument t
     ≡ done_as d behavior (taken_as_of (ReadMultipleBlock m) app matched) argument t
 done_18 d behavior n m true matched argument t = refl
 done_18 d behavior n m false matched argument t =
-    does_18 d (deed_of behavior CardStatus) n m argument (is_ready behavior (Cmd18 n) d.block_unit t.checked) t
-    ∙ ap (λ r. does d (deed_of behavior CardStatus) (Cmd18 m) argument r t) (ready_18 behavior n m d.block_unit t.checked)
+    does_18 d (deed_of behavior CardStatus) n m argument (choice_of d behavior (Cmd18 n) t.checked) t
+    ∙ ap (λ c. does d (deed_of behavior CardStatus) (Cmd18 m) argument c t) (choice_18 d behavior n m t.checked)
 
 state_25 : (k : Kind) (n m : ℕ) (ready : Bool) (state : State) → state_next k (Cmd25 n) ready state ≡ state_next k (Cmd25 m) ready state
 state_25 Sd n m ready state = refl
 state_25 Emmc n m ready state = refl
 
-taken_25 : (d : CardDesc) (n m argument : ℕ) (ready : Bool) (t : CardState) → taken_by d (Cmd25 n) argument ready t ≡ taken_by d (Cmd25 m) argument ready t
-taken_25 d n m argument ready t = ap (λ s. record (taken_by d (Cmd25 n) argument ready t) { state = s }) (state_25 d.kind n m ready t.state)
+taken_25 : (d : CardDesc) (n m argument : ℕ) (choice : Choice) (t : CardState) →
+    taken_by d (Cmd25 n) argument choice t ≡ taken_by d (Cmd25 m) argument choice t
+taken_25 d n m argument choice t = ap (λ s. record (taken_by d (Cmd25 n) argument choice t) { state = s }) (state_25 d.kind n m choice.ready t.state)
 
-does_25 : (d : CardDesc) (deed : Deed) (n m argument : ℕ) (ready : Bool) (t : CardState) →
-    does d deed (Cmd25 n) argument ready t ≡ does d deed (Cmd25 m) argument ready t
-does_25 d Loses n m argument ready t = refl
-does_25 d TakesUnheard n m argument ready t = ap (λ a. record { after = a; reply = None; erases = false }) (taken_25 d n m argument ready t)
-does_25 d (Takes error) n m argument ready t =
-    ap (λ a. record { after = a; reply = reply_of d (Cmd25 n) t.state true error ready; erases = false }) (taken_25 d n m argument ready t)
-does_25 d Stays n m argument ready t = refl
+does_25 : (d : CardDesc) (deed : Deed) (n m argument : ℕ) (choice : Choice) (t : CardState) →
+    does d deed (Cmd25 n) argument choice t ≡ does d deed (Cmd25 m) argument choice t
+does_25 d Loses n m argument choice t = refl
+does_25 d TakesUnheard n m argument choice t = ap (λ a. record { after = a; reply = None; erases = false }) (taken_25 d n m argument choice t)
+does_25 d (Takes error) n m argument choice t =
+    ap (λ a. record { after = a; reply = reply_of d (Cmd25 n) t true error choice.ready; erases = false }) (taken_25 d n m argument choice t)
+does_25 d Stays n m argument choice t = refl
 
-ready_25 : (behavior : Behavior) (n m : ℕ) (block_unit checked : Bool) →
-    is_ready behavior (Cmd25 n) block_unit checked ≡ is_ready behavior (Cmd25 m) block_unit checked
-ready_25 IsSlow n m block_unit checked = refl
-ready_25 behavior n m block_unit checked = refl
+choice_25 : (d : CardDesc) (behavior : Behavior) (n m : ℕ) (checked : Bool) →
+    choice_of d behavior (Cmd25 n) checked ≡ choice_of d behavior (Cmd25 m) checked
+choice_25 d IsSlow n m checked = refl
+choice_25 d FailsSwitch n m checked = refl
+choice_25 d behavior n m checked = refl
 
 done_25 : (d : CardDesc) (behavior : Behavior) (n m : ℕ) (app matched : Bool) (argument : ℕ) (t : CardState) →
     done_as d behavior (taken_as_of (WriteMultipleBlock n) app matched) argument t
     ≡ done_as d behavior (taken_as_of (WriteMultipleBlock m) app matched) argument t
 done_25 d behavior n m true matched argument t = refl
 done_25 d behavior n m false matched argument t =
-    does_25 d (deed_of behavior CardStatus) n m argument (is_ready behavior (Cmd25 n) d.block_unit t.checked) t
-    ∙ ap (λ r. does d (deed_of behavior CardStatus) (Cmd25 m) argument r t) (ready_25 behavior n m d.block_unit t.checked)
+    does_25 d (deed_of behavior CardStatus) n m argument (choice_of d behavior (Cmd25 n) t.checked) t
+    ∙ ap (λ c. does d (deed_of behavior CardStatus) (Cmd25 m) argument c t) (choice_25 d behavior n m t.checked)
 
-pub hears_same : (d : CardDesc) (behavior : Behavior) (order : Order) (preset argument announced : ℕ) (t : CardState) (contents : List Block) →
+pub hears_same : (d : CardDesc) (behavior : Behavior) (order : Order) (preset argument announced : ℕ) (t : CardState) (contents : Partitions) →
     SentTo order argument → AddressFits t.state t.rca →
     SettledLegal (card_takes (card_with d t announced contents) order argument) (card_with d t announced contents) →
     hear_at d behavior (read_as preset order) argument t ≡ hear_at d behavior order argument t
@@ -224,29 +231,31 @@ CountFits preset (ReadMultipleBlock n) = count_of preset ≤ n
 CountFits preset (WriteMultipleBlock n) = count_of preset ≤ n
 CountFits preset order = Unit {0}
 
-in_unit : (d : CardDesc) (position argument n m : ℕ) (c : Card) → d.block_unit ≡ c.block_unit → d.capacity ≡ c.capacity → m ≤ n → Within c position argument n →
-    has_blocks d argument (Some m) ≡ true
-in_unit d position argument n m c unit capacity few w = go d.block_unit (w.unit ∙ ap (λ b. if b then position else 512 * position) (sym unit))
+in_unit : (d : CardDesc) (p : Partition) (position argument n m : ℕ) (c : Card) → d.block_unit ≡ c.block_unit → partition_size d p ≡ accessed_capacity c →
+    m ≤ n → Within c position argument n → has_blocks d p argument (Some m) ≡ true
+in_unit d p position argument n m c unit capacity few w = go d.block_unit (w.unit ∙ ap (λ b. if b then position else 512 * position) (sym unit))
   where
-    room : position + m ≤ d.capacity
+    room : position + m ≤ partition_size d p
     room = let r = w.room in omega (arith, few, r, capacity)
 
-    go : (b : Bool) → argument ≡ (if b then position else 512 * position) → ((b || (argument % 512 == 0)) && nat_le (block_of b argument + m) d.capacity) ≡ true
-    go true e = le-leb (argument + m) d.capacity (let r = room in omega (arith, r, e))
-    go false e = both_true _ _ (eq-eqb (argument % 512) 0 (omega (arith, e))) (le-leb (argument / 512 + m) d.capacity (let r = room in omega (arith, r, e)))
+    go : (b : Bool) → argument ≡ (if b then position else 512 * position) →
+        ((b || (argument % 512 == 0)) && nat_le (block_of b argument + m) (partition_size d p)) ≡ true
+    go true e = le-leb (argument + m) (partition_size d p) (let r = room in omega (arith, r, e))
+    go false e =
+        both_true _ _ (eq-eqb (argument % 512) 0 (omega (arith, e))) (le-leb (argument / 512 + m) (partition_size d p) (let r = room in omega (arith, r, e)))
 
-reads_blocks : (d : CardDesc) (order : Order) (preset position argument : ℕ) (c : Card) → d.block_unit ≡ c.block_unit → d.capacity ≡ c.capacity →
-    CountFits preset order →
-    BlocksWithin (order_blocks order) c position argument → has_blocks d argument (order_blocks (read_as preset order)) ≡ true
-reads_blocks d (ReadMultipleBlock n) preset position argument c unit capacity few w = in_unit d position argument n (count_of preset) c unit capacity few w
-reads_blocks d (WriteMultipleBlock n) preset position argument c unit capacity few w = in_unit d position argument n (count_of preset) c unit capacity few w
-reads_blocks d ReadSingleBlock preset position argument c unit capacity few w = in_unit d position argument 1 1 c unit capacity (omega arith) w
-reads_blocks d WriteBlock preset position argument c unit capacity few w = in_unit d position argument 1 1 c unit capacity (omega arith) w
-reads_blocks d EraseBlockStart preset position argument c unit capacity few w = in_unit d position argument 1 1 c unit capacity (omega arith) w
-reads_blocks d EraseBlockEnd preset position argument c unit capacity few w = in_unit d position argument 1 1 c unit capacity (omega arith) w
-reads_blocks d EraseGroupStart preset position argument c unit capacity few w = in_unit d position argument 1 1 c unit capacity (omega arith) w
-reads_blocks d EraseGroupEnd preset position argument c unit capacity few w = in_unit d position argument 1 1 c unit capacity (omega arith) w
-reads_blocks d order preset position argument c unit capacity few w = refl
+reads_blocks : (d : CardDesc) (p : Partition) (order : Order) (preset position argument : ℕ) (c : Card) → d.block_unit ≡ c.block_unit →
+    partition_size d p ≡ accessed_capacity c → CountFits preset order →
+    BlocksWithin (order_blocks order) c position argument → has_blocks d p argument (order_blocks (read_as preset order)) ≡ true
+reads_blocks d p (ReadMultipleBlock n) preset position argument c unit capacity few w = in_unit d p position argument n (count_of preset) c unit capacity few w
+reads_blocks d p (WriteMultipleBlock n) preset position argument c unit capacity few w = in_unit d p position argument n (count_of preset) c unit capacity few w
+reads_blocks d p ReadSingleBlock preset position argument c unit capacity few w = in_unit d p position argument 1 1 c unit capacity (omega arith) w
+reads_blocks d p WriteBlock preset position argument c unit capacity few w = in_unit d p position argument 1 1 c unit capacity (omega arith) w
+reads_blocks d p EraseBlockStart preset position argument c unit capacity few w = in_unit d p position argument 1 1 c unit capacity (omega arith) w
+reads_blocks d p EraseBlockEnd preset position argument c unit capacity few w = in_unit d p position argument 1 1 c unit capacity (omega arith) w
+reads_blocks d p EraseGroupStart preset position argument c unit capacity few w = in_unit d p position argument 1 1 c unit capacity (omega arith) w
+reads_blocks d p EraseGroupEnd preset position argument c unit capacity few w = in_unit d p position argument 1 1 c unit capacity (omega arith) w
+reads_blocks d p order preset position argument c unit capacity few w = refl
 
 -- ACCEPTED
 
@@ -254,7 +263,7 @@ reads_blocks d order preset position argument c unit capacity few w = refl
 abbrev host_of : ℕ → Host
 host_of argument = record (host_at_start 0) { rca = argument / 65536 }
 
-pub accepts_law : (d : CardDesc) (order : Order) (position argument announced : ℕ) (s : CardState) (contents : List Block) → SentTo order argument →
+pub accepts_law : (d : CardDesc) (order : Order) (position argument announced : ℕ) (s : CardState) (contents : Partitions) → SentTo order argument →
     CountFits s.preset order →
     IsCard (card_with d s announced contents) → OrderLegal order argument (card_with d s announced contents) →
     BlocksWithin (order_blocks order) (card_with d s announced contents) position argument →
@@ -263,7 +272,7 @@ accepts_law d order position argument announced s contents sent few card legal w
     let c : Card = card_with d s announced contents in
     both_true _ _
     (order_legal_law (read_as s.preset order) argument c (host_of argument) (record { way = λ app rca. refl }) (reads_legal order argument c sent card legal))
-    (reads_blocks d order s.preset position argument c refl refl few within)
+    (reads_blocks d s.mode.partition order s.preset position argument c refl refl few within)
 
 -- WHAT IS ACCEPTED is legal and in bounds, and what is so is accepted
 
@@ -276,26 +285,28 @@ record Positioned (blocks : Option ℕ) (c : Card) (argument : ℕ) : Type 0 whe
   position : ℕ
   bounds : BlocksWithin blocks c position argument
 
-positioned : (d : CardDesc) (s : CardState) (contents : List Block) (argument : ℕ) (blocks : Option ℕ) → has_blocks d argument blocks ≡ true →
+positioned : (d : CardDesc) (s : CardState) (contents : List Block) (argument : ℕ) (blocks : Option ℕ) → has_blocks d s.mode.partition argument blocks ≡ true →
     Positioned blocks (card_of d s contents) argument
 positioned d s contents argument None e = record { position = 0; bounds = tt }
 positioned d s contents argument (Some count) e = go d.block_unit refl e
   where
-    go : (unit : Bool) → d.block_unit ≡ unit → ((unit || (argument % 512 == 0)) && nat_le (block_of unit argument + count) d.capacity) ≡ true →
+    go : (unit : Bool) → d.block_unit ≡ unit →
+        ((unit || (argument % 512 == 0)) && nat_le (block_of unit argument + count) (partition_size d s.mode.partition)) ≡ true →
         Positioned (Some count) (card_of d s contents) argument
     go true u e =
-        let room : argument + count ≤ d.capacity = leb-true _ _ (and_right true _ e) in
+        let room : argument + count ≤ partition_size d s.mode.partition = leb-true _ _ (and_right true _ e) in
         record { position = argument; bounds = record { unit = rw u refl; room = room } }
     go false u e =
         let whole : argument % 512 ≡ 0 = eqb-true _ _ (and_left (argument % 512 == 0) _ e) in
-        let room : argument / 512 + count ≤ d.capacity = leb-true _ _ (and_right (argument % 512 == 0) _ e) in
+        let room : argument / 512 + count ≤ partition_size d s.mode.partition = leb-true _ _ (and_right (argument % 512 == 0) _ e) in
         let unit : argument ≡ 512 * (argument / 512) = omega (arith, whole) in
         record { position = argument / 512; bounds = record { unit = rw u unit; room = room } }
 
 has_them : (d : CardDesc) (s : CardState) (contents : List Block) (position argument : ℕ) (blocks : Option ℕ) →
-    BlocksWithin blocks (card_of d s contents) position argument → has_blocks d argument blocks ≡ true
+    BlocksWithin blocks (card_of d s contents) position argument → has_blocks d s.mode.partition argument blocks ≡ true
 has_them d s contents position argument None w = refl
-has_them d s contents position argument (Some count) w = in_unit d position argument count count (card_of d s contents) refl refl (omega arith) w
+has_them d s contents position argument (Some count) w =
+    in_unit d s.mode.partition position argument count count (card_of d s contents) refl refl (omega arith) w
 
 pub accepts_exactly : AcceptsExactly
 accepts_exactly d order argument s contents = (

@@ -1,12 +1,15 @@
 -- The frame of a host's command is read as the command's order.
-use Rattle.std.proofs.Common.{◌≡◌, ℕ, ◌&&◌, nat_le, refl, ap, subst, ◌∙◌, Bool, true, false, Option, Some, None, eqb-true}
+use Rattle.std.proofs.Common.{◌≡◌, ℕ, ◌&&◌, nat_le, refl, ap, subst, ◌∙◌, Bool, true, false, Option, Some, None}
 use Rattle.sdv_registers.specs.declared.kind.Kind.{Kind}
 use Rattle.sdv_registers.specs.declared.kind.Kind.TheVariants.{Sd, Emmc}
 use Rattle.sdv_card.specs.declared.event.Aim.{Aim}
 use Rattle.sdv_card.specs.declared.event.Aim.TheVariants.{Rca, Plain}
 use Rattle.sdv_card.specs.declared.event.Ask.{Ask}
+use Rattle.sdv_card.specs.declared.state.Width.TheVariants.{One, Four, Eight}
+use Rattle.sdv_card.specs.declared.state.Partition.TheVariants.{User, Boot1, Boot2}
+use Rattle.sdv_card.specs.declared.command.Setting.TheVariants.{Lines, Access}
 use Rattle.sdv_card.specs.declared.command.Order.{Order}
-use Rattle.sdv_card.specs.declared.command.Order.TheVariants.{GoIdleState, SendOpCond, AllSendCid, SendRelativeAddress, SetRelativeAddress, SelectCard, DeselectCards, SendIfCond, SendExtCsd, SendCsd, SendCid, StopTransmission, SendStatus, SetBlockLength, ReadSingleBlock, ReadMultipleBlock, SetBlockCount, WriteBlock, WriteMultipleBlock, EraseBlockStart, EraseBlockEnd, EraseGroupStart, EraseGroupEnd, Erase, SdSendOpCond, SendScr, AppCommand}
+use Rattle.sdv_card.specs.declared.command.Order.TheVariants.{GoIdleState, SendOpCond, AllSendCid, SendRelativeAddress, SetRelativeAddress, SetBusWidth, Switch, SelectCard, DeselectCards, SendIfCond, SendExtCsd, SendCsd, SendCid, StopTransmission, SendStatus, SetBlockLength, ReadSingleBlock, ReadMultipleBlock, SetBlockCount, WriteBlock, WriteMultipleBlock, EraseBlockStart, EraseBlockEnd, EraseGroupStart, EraseGroupEnd, Erase, SdSendOpCond, SendScr, AppCommand}
 use Rattle.sdv_card.specs.CommandTable.{is_line, is_counted, order_if, sd_order, emmc_order, order_of, order_argument}
 use Rattle.sdv_card.proofs.Members.{and_left, and_right, both_true}
 use Rattle.sdv_behavior.specs.Commands.{sd_order_read, emmc_order_read, order_read}
@@ -51,6 +54,10 @@ sd_line ask order e =
     line sd_order_read ask order (is_line ask 2 Plain 0 0) AllSendCid _ (λ i. at sd_order_read ask AllSendCid 2 Plain 0 0 i (λ p r a. refl)) e (λ e.
     line sd_order_read ask order (is_line ask 3 Plain 0 0) SendRelativeAddress _ (λ i. at sd_order_read ask SendRelativeAddress 3 Plain 0 0 i (λ p r a. refl)) e
     (λ e.
+    line sd_order_read ask order (is_line ask 6 Plain 0 0) (SetBusWidth One) _
+    (λ i. at sd_order_read ask (SetBusWidth One) 6 Plain 0 0 i (λ p r a. refl)) e (λ e.
+    line sd_order_read ask order (is_line ask 6 Plain 2 0) (SetBusWidth Four) _
+    (λ i. at sd_order_read ask (SetBusWidth Four) 6 Plain 2 0 i (λ p r a. refl)) e (λ e.
     line sd_order_read ask order (is_line ask 7 Rca 0 0) SelectCard _ (λ i. at sd_order_read ask SelectCard 7 Rca 0 0 i (λ p r a. refl)) e (λ e.
     line sd_order_read ask order (is_line ask 7 Plain 0 0) DeselectCards _ (λ i. at sd_order_read ask DeselectCards 7 Plain 0 0 i (λ p r a. refl)) e (λ e.
     line sd_order_read ask order (is_line ask 8 Plain 0 0) SendIfCond _ (λ i. at sd_order_read ask SendIfCond 8 Plain 0 0 i (λ p r a. refl)) e (λ e.
@@ -75,7 +82,7 @@ sd_line ask order e =
     (λ i. at sd_order_read ask (SdSendOpCond true) 41 Plain 0x40ff8000 0 i (λ p r a. refl)) e (λ e.
     line sd_order_read ask order (is_line ask 51 Plain 0 0) SendScr _ (λ i. at sd_order_read ask SendScr 51 Plain 0 0 i (λ p r a. refl)) e (λ e.
     line sd_order_read ask order (is_line ask 55 Rca 0 0) AppCommand _ (λ i. at sd_order_read ask AppCommand 55 Rca 0 0 i (λ p r a. refl)) e (λ e.
-    absurd (cc)))))))))))))))))))))))
+    absurd (cc)))))))))))))))))))))))))
 
 emmc_line : (ask : Ask) (order : Order) → emmc_order ask ≡ Some order → Reads emmc_order_read ask order
 emmc_line ask order e =
@@ -84,6 +91,18 @@ emmc_line ask order e =
     line emmc_order_read ask order (is_line ask 2 Plain 0 0) AllSendCid _ (λ i. at emmc_order_read ask AllSendCid 2 Plain 0 0 i (λ p r a. refl)) e (λ e.
     line emmc_order_read ask order (is_line ask 3 Plain 0 0) SetRelativeAddress _
     (λ i. at emmc_order_read ask SetRelativeAddress 3 Plain 0 0 i (λ p r a. refl)) e (λ e.
+    line emmc_order_read ask order (is_line ask 6 Plain 0x03b70000 0) (Switch (Lines One)) _
+    (λ i. at emmc_order_read ask (Switch (Lines One)) 6 Plain 0x03b70000 0 i (λ p r a. refl)) e (λ e.
+    line emmc_order_read ask order (is_line ask 6 Plain 0x03b70100 0) (Switch (Lines Four)) _
+    (λ i. at emmc_order_read ask (Switch (Lines Four)) 6 Plain 0x03b70100 0 i (λ p r a. refl)) e (λ e.
+    line emmc_order_read ask order (is_line ask 6 Plain 0x03b70200 0) (Switch (Lines Eight)) _
+    (λ i. at emmc_order_read ask (Switch (Lines Eight)) 6 Plain 0x03b70200 0 i (λ p r a. refl)) e (λ e.
+    line emmc_order_read ask order (is_line ask 6 Plain 0x03b30000 0) (Switch (Access User)) _
+    (λ i. at emmc_order_read ask (Switch (Access User)) 6 Plain 0x03b30000 0 i (λ p r a. refl)) e (λ e.
+    line emmc_order_read ask order (is_line ask 6 Plain 0x03b30100 0) (Switch (Access Boot1)) _
+    (λ i. at emmc_order_read ask (Switch (Access Boot1)) 6 Plain 0x03b30100 0 i (λ p r a. refl)) e (λ e.
+    line emmc_order_read ask order (is_line ask 6 Plain 0x03b30200 0) (Switch (Access Boot2)) _
+    (λ i. at emmc_order_read ask (Switch (Access Boot2)) 6 Plain 0x03b30200 0 i (λ p r a. refl)) e (λ e.
     line emmc_order_read ask order (is_line ask 7 Rca 0 0) SelectCard _ (λ i. at emmc_order_read ask SelectCard 7 Rca 0 0 i (λ p r a. refl)) e (λ e.
     line emmc_order_read ask order (is_line ask 7 Plain 0 0) DeselectCards _ (λ i. at emmc_order_read ask DeselectCards 7 Plain 0 0 i (λ p r a. refl)) e (λ e.
     line emmc_order_read ask order (is_line ask 8 Plain 0 0) SendExtCsd _ (λ i. at emmc_order_read ask SendExtCsd 8 Plain 0 0 i (λ p r a. refl)) e (λ e.
@@ -108,7 +127,7 @@ emmc_line ask order e =
     line emmc_order_read ask order (is_line ask 38 Plain 0 0) Erase _ (λ i. at emmc_order_read ask Erase 38 Plain 0 0 i (λ p r a. refl)) e (λ e.
     line emmc_order_read ask order (is_line ask 38 Plain 1 0) Erase _ (λ i. at emmc_order_read ask Erase 38 Plain 1 0 i (λ p r a. refl)) e (λ e.
     line emmc_order_read ask order (is_line ask 38 Plain 3 0) Erase _ (λ i. at emmc_order_read ask Erase 38 Plain 3 0 i (λ p r a. refl)) e (λ e.
-    absurd (cc)))))))))))))))))))))))
+    absurd (cc)))))))))))))))))))))))))))))
 
 pub read_law : (k : Kind) (ask : Ask) (order : Order) (preset rca address : ℕ) → order_of k ask ≡ Some order →
     order_read k preset ask.index (order_argument order ask.argument rca address) ≡ Some (read_as preset order)

@@ -1,5 +1,5 @@
 -- The count of a block phase that a simulated card knows is the one that the host announced.
-use Rattle.std.proofs.Common.{◌≡◌, ℕ, ◌≤◌, ◌<◌, ◌==◌, ◌||◌, refl, sym, ◌∙◌, Bool, true, false, List, Option, Some, None, if◌then◌else◌, eqb-true, arith}
+use Rattle.std.proofs.Common.{◌≡◌, ℕ, ◌≤◌, ◌<◌, ◌==◌, ◌||◌, refl, sym, ◌∙◌, Bool, true, false, Option, Some, None, if◌then◌else◌, eqb-true, arith}
 use Rattle.sdv_card.specs.declared.state.State.{State}
 use Rattle.sdv_card.specs.declared.state.Transfer.{Transfer}
 use Rattle.sdv_card.specs.declared.state.Transfer.TheVariants.{ReadDue, OpenReadDue, WriteDue, OpenWriteDue}
@@ -9,7 +9,7 @@ use Rattle.sdv_card.specs.declared.command.Row.{Row}
 use Rattle.sdv_card.specs.declared.command.Row.TheVariants.{Cmd0, Cmd8Emmc, Cmd12, Cmd17, Cmd18, Cmd24, Cmd25, Acmd13, Acmd51}
 use Rattle.sdv_card.specs.declared.command.TakenAs.{TakenAs}
 use Rattle.sdv_card.specs.declared.command.TakenAs.TheVariants.{Forbidden, Ignored, By}
-use Rattle.sdv_card.specs.Card.{Card, Block}
+use Rattle.sdv_card.specs.Card.{Card, Partitions}
 use Rattle.sdv_card.specs.Legal.{SettledLegal}
 use Rattle.sdv_card.specs.Port.{count_known}
 use Rattle.sdv_card.specs.RowRules.{transfer_after, preset_allows}
@@ -19,10 +19,11 @@ use Rattle.sdv_behavior.specs.declared.behavior.Behavior.{Behavior}
 use Rattle.sdv_behavior.specs.declared.behavior.Behavior.TheVariants.{IsSlow}
 use Rattle.sdv_description.specs.declared.card_desc.CardDesc.{CardDesc}
 use Rattle.sdv_behavior.specs.declared.card_state.CardState.{CardState}
+use Rattle.sdv_behavior.specs.declared.choice.Choice.{Choice}
 use Rattle.sdv_behavior.specs.declared.heard.Deed.{Deed}
 use Rattle.sdv_behavior.specs.declared.heard.Deed.TheVariants.{Loses, TakesUnheard, Takes, Stays}
 use Rattle.sdv_behavior.specs.CardOf.{card_with}
-use Rattle.sdv_behavior.specs.Heard.{stepped_to, settled_by, row_deed, is_ready, does, done_as}
+use Rattle.sdv_behavior.specs.Heard.{stepped_to, settled_by, row_deed, choice_of, does, done_as}
 use Rattle.sdv_behavior.specs.RowTaken.{announced_next}
 use Rattle.sdv_behavior.proofs.TakenLaw.{announced_with}
 use Rattle.sdv_behavior.proofs.DoesLaw.{announced_by}
@@ -54,21 +55,21 @@ row_count Acmd13 t announced allowed knows k = no k
 row_count Acmd51 t announced allowed knows k = no k
 row_count row t announced allowed knows k = knows k
 
-does_count : (d : CardDesc) (deed : Deed) (row : Row) (argument : ℕ) (ready : Bool) (t : CardState) (announced : ℕ) → preset_allows row t.preset ≡ true →
+does_count : (d : CardDesc) (deed : Deed) (row : Row) (argument : ℕ) (choice : Choice) (t : CardState) (announced : ℕ) → preset_allows row t.preset ≡ true →
     Knows t announced →
-    Knows (does d deed row argument ready t).after (announced_by deed row announced)
-does_count d Loses row argument ready t announced allowed knows k = knows k
-does_count d TakesUnheard row argument ready t announced allowed knows k = row_count row t announced allowed knows k
-does_count d (Takes error) row argument ready t announced allowed knows k = row_count row t announced allowed knows k
-does_count d Stays row argument ready t announced allowed knows k = knows k
+    Knows (does d deed row argument choice t).after (announced_by deed row announced)
+does_count d Loses row argument choice t announced allowed knows k = knows k
+does_count d TakesUnheard row argument choice t announced allowed knows k = row_count row t announced allowed knows k
+does_count d (Takes error) row argument choice t announced allowed knows k = row_count row t announced allowed knows k
+does_count d Stays row argument choice t announced allowed knows k = knows k
 
-pub done_count : (d : CardDesc) (behavior : Behavior) (way : TakenAs) (argument : ℕ) (t : CardState) (announced : ℕ) (contents : List Block) →
+pub done_count : (d : CardDesc) (behavior : Behavior) (way : TakenAs) (argument : ℕ) (t : CardState) (announced : ℕ) (contents : Partitions) →
     SettledLegal way (card_with d t announced contents) → Knows t announced →
     Knows (done_as d behavior way argument t).after (announced_as behavior way announced)
 done_count d behavior Forbidden argument t announced contents legal knows = knows
 done_count d behavior Ignored argument t announced contents legal knows = knows
 done_count d behavior (By row) argument t announced contents legal knows =
-    does_count d (row_deed behavior row) row argument (is_ready behavior row d.block_unit t.checked) t announced legal.preset knows
+    does_count d (row_deed behavior row) row argument (choice_of d behavior row t.checked) t announced legal.preset knows
 
 stepped_count : (o : Option State) (s : CardState) (announced : ℕ) → Knows s announced → Knows (stepped_to o s) announced
 stepped_count None s announced knows = knows

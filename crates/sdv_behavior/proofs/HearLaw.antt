@@ -1,15 +1,16 @@
 -- What comes of an order at a simulated card is an exchange of the tables.
-use Rattle.std.proofs.Common.{◌≡◌, ℕ, ◌/◌, inl, inr, refl, ap, List, Option, Some, None}
+use Rattle.std.proofs.Common.{◌≡◌, ℕ, ◌/◌, inl, inr, refl, ap, subst, Option, Some, None}
 use Rattle.std.specs.Prelude.{IfSome}
 use Rattle.sdv_frames.specs.Frame.{IsReply}
 use Rattle.sdv_frames.specs.declared.reply.Reply.{Reply}
 use Rattle.sdv_card.specs.declared.answer.Answer.{Answer}
 use Rattle.sdv_card.specs.declared.answer.Answer.TheVariants.{TimeOut}
 use Rattle.sdv_card.specs.declared.state.State.{State}
+use Rattle.sdv_card.specs.declared.state.Mode.{Mode}
 use Rattle.sdv_card.specs.declared.command.Order.{Order}
 use Rattle.sdv_card.specs.declared.command.TakenAs.{TakenAs}
 use Rattle.sdv_card.specs.declared.command.TakenAs.TheVariants.{Forbidden, Ignored, By}
-use Rattle.sdv_card.specs.Card.{Card, Block, IsRegister}
+use Rattle.sdv_card.specs.Card.{Card, Partitions, IsRegister}
 use Rattle.sdv_card.specs.Exchange.{SettledAnswer, Exchanges, card_takes}
 use Rattle.sdv_card.specs.Legal.{SettledLegal}
 use Rattle.sdv_card.specs.Settled.{Settled}
@@ -21,9 +22,8 @@ use Rattle.sdv_description.specs.declared.card_desc.CardDesc.{CardDesc}
 use Rattle.sdv_behavior.specs.declared.card_state.CardState.{CardState}
 use Rattle.sdv_behavior.specs.CardOf.{card_with}
 use Rattle.sdv_description.proofs.Described.{IsDescribed}
-use Rattle.sdv_behavior.specs.Heard.{stepped_to, settled_by, row_deed, is_ready, done_as, hear}
+use Rattle.sdv_behavior.specs.Heard.{stepped_to, settled_by, row_deed, done_as, hear}
 use Rattle.sdv_behavior.proofs.Told.{Tells, LeavesBlocks}
-use Rattle.sdv_behavior.proofs.TakenLaw.{not_ready}
 use Rattle.sdv_behavior.proofs.DoesLaw.{announced_by, behaves_law}
 
 -- an answer of the tables at a settled t, which leaves u, as the reply tells it
@@ -39,16 +39,15 @@ announced_as behavior (By row) before = announced_by (row_deed behavior row) row
 announced_as behavior way before = before
 
 module _ (d : CardDesc) (is : IsDescribed d) (csd : IsRegister 15 d.csd) (behavior : Behavior) (order : Order) (argument : ℕ) (announced : ℕ)
-    (contents contents' : List Block) where
+    (contents contents' : Partitions) where
   done_law : (way : TakenAs) (t : CardState) → SettledLegal way (card_with d t announced contents) →
-      LeavesBlocks (done_as d behavior way argument t).erases d.capacity contents contents' →
+      LeavesBlocks (done_as d behavior way argument t).erases d t.mode.partition contents contents' →
       SettledTold way order argument (card_with d t announced contents)
       (card_with d (done_as d behavior way argument t).after (announced_as behavior way announced) contents') (done_as d behavior way argument t).reply
   done_law Forbidden t legal left = absurd legal
   done_law Ignored t legal left = record { answer = TimeOut; told = inr refl; is_reply = tt; answered = (refl, ap (card_with d t announced) left) }
   done_law (By row) t legal left =
-      let r = behaves_law d is csd order argument t announced contents behavior row (is_ready behavior row d.block_unit t.checked) contents'
-      (not_ready behavior row d.block_unit t.checked) legal left in
+      let r = behaves_law d is csd order argument t announced contents behavior row contents' legal left in
       record { answer = r.answer; told = r.told; is_reply = r.is_reply; answered = r.answered }
 
   -- the state that the command meets is a settled one
@@ -60,6 +59,15 @@ module _ (d : CardDesc) (is : IsDescribed d) (csd : IsRegister 15 d.csd) (behavi
   pub settled_law : (b : Behavior) (s : CardState) → Settled (card_with d s announced contents) (card_with d (settled_by b s) announced contents)
   settled_law IsSlow s = inl refl
   settled_law b s = settles s (own_target s.state s.transfer) refl
+
+-- the card's own step leaves the mode
+stepped_mode : (s : CardState) (o : Option State) → s.mode ≡ (stepped_to o s).mode
+stepped_mode s None = refl
+stepped_mode s (Some state) = refl
+
+settled_mode : (b : Behavior) (s : CardState) → s.mode ≡ (settled_by b s).mode
+settled_mode IsSlow s = refl
+settled_mode b s = stepped_mode s (own_target s.state s.transfer)
 
 -- an exchange of the tables, as the reply tells it
 pub record Told (order : Order) (argument : ℕ) (c u : Card) (reply : Option Reply) : Type 0 where
@@ -73,9 +81,9 @@ abbrev pub way_of : Behavior → Order → ℕ → CardState → TakenAs
 way_of behavior order argument s = let t = settled_by behavior s in taken_as_of order t.app (matches t.rca (argument / 65536))
 
 pub hear_law : (d : CardDesc) → IsDescribed d → IsRegister 15 d.csd →
-    (behavior : Behavior) (order : Order) (argument announced : ℕ) (s : CardState) (contents contents' : List Block) →
+    (behavior : Behavior) (order : Order) (argument announced : ℕ) (s : CardState) (contents contents' : Partitions) →
     ((t : Card) → Settled (card_with d s announced contents) t → SettledLegal (card_takes t order argument) t) →
-    LeavesBlocks (hear d behavior order argument s).erases d.capacity contents contents' →
+    LeavesBlocks (hear d behavior order argument s).erases d s.mode.partition contents contents' →
     Told order argument (card_with d s announced contents)
     (card_with d (hear d behavior order argument s).after (announced_as behavior (way_of behavior order argument s) announced) contents')
     (hear d behavior order argument s).reply
@@ -83,7 +91,8 @@ hear_law d is csd behavior order argument announced s contents contents' legal l
     let t : CardState = settled_by behavior s in
     let settled = settled_law d is csd behavior order argument announced contents contents' behavior s in
     let r = done_law d is csd behavior order argument announced contents contents' (way_of behavior order argument s) t
-    (legal (card_with d t announced contents) settled) left in
+    (legal (card_with d t announced contents) settled)
+    (subst (λ (m : Mode). LeavesBlocks (hear d behavior order argument s).erases d m.partition contents contents') (settled_mode behavior s) left) in
     record {
       answer = r.answer;
       told = r.told;

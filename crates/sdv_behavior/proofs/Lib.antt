@@ -9,6 +9,7 @@ pub mod AcceptLaws
 pub mod CountLaw
 pub mod AnswerShown
 pub mod SendLaw
+pub mod RegisterLaws
 pub mod PhaseLaws
 pub mod SimKeeps
 pub mod StartLaw

@@ -5,8 +5,11 @@ use Rattle.sdv_registers.specs.declared.kind.Kind.TheVariants.{Sd, Emmc}
 use Rattle.sdv_card.specs.declared.event.Aim.{Aim}
 use Rattle.sdv_card.specs.declared.event.Aim.TheVariants.{Rca, Plain}
 use Rattle.sdv_card.specs.declared.event.Ask.{Ask}
+use Rattle.sdv_card.specs.declared.state.Width.TheVariants.{One, Four, Eight}
+use Rattle.sdv_card.specs.declared.state.Partition.TheVariants.{User, Boot1, Boot2}
+use Rattle.sdv_card.specs.declared.command.Setting.TheVariants.{Lines, Access}
 use Rattle.sdv_card.specs.declared.command.Order.{Order}
-use Rattle.sdv_card.specs.declared.command.Order.TheVariants.{AllSendCid, AppCommand, Erase, EraseBlockEnd, EraseBlockStart, EraseGroupEnd, EraseGroupStart, GoIdleState, ReadMultipleBlock, ReadSingleBlock, SdSendOpCond, SelectCard, SendCid, SendCsd, SendExtCsd, SendIfCond, SendOpCond, SendRelativeAddress, SendScr, SendStatus, SetBlockCount, SetBlockLength, SetRelativeAddress, StopTransmission, WriteBlock, WriteMultipleBlock}
+use Rattle.sdv_card.specs.declared.command.Order.TheVariants.{AllSendCid, AppCommand, Erase, EraseBlockEnd, EraseBlockStart, EraseGroupEnd, EraseGroupStart, GoIdleState, ReadMultipleBlock, ReadSingleBlock, SdSendOpCond, SelectCard, SendCid, SendCsd, SendExtCsd, SendIfCond, SendOpCond, SendRelativeAddress, SendScr, SendStatus, SetBlockCount, SetBlockLength, SetBusWidth, Switch, SetRelativeAddress, StopTransmission, WriteBlock, WriteMultipleBlock}
 use Rattle.sdv_card.specs.CommandTable.{order_if, order_of, order_argument}
 use Rattle.sdv_card.proofs.Members.{and_left, and_right, both_true}
 use Rattle.sdv_behavior.specs.Commands.{is_sent, sd_order_read, emmc_order_read, order_read}
@@ -67,6 +70,10 @@ sd_lines preset index argument order e =
     (λ i. fixed Sd preset index argument (ask_of 2 Plain 0 0) AllSendCid 0 refl refl i) e (λ e.
     one Sd preset index argument order (is_sent index argument 3 0) SendRelativeAddress _
     (λ i. fixed Sd preset index argument (ask_of 3 Plain 0 0) SendRelativeAddress 0 refl refl i) e (λ e.
+    one Sd preset index argument order (is_sent index argument 6 0) (SetBusWidth One) _
+    (λ i. fixed Sd preset index argument (ask_of 6 Plain 0 0) (SetBusWidth One) 0 refl refl i) e (λ e.
+    one Sd preset index argument order (is_sent index argument 6 2) (SetBusWidth Four) _
+    (λ i. fixed Sd preset index argument (ask_of 6 Plain 2 0) (SetBusWidth Four) 2 refl refl i) e (λ e.
     one Sd preset index argument order (index == 7) SelectCard _
     (λ i. by_index Sd preset index argument (ask_of 7 Rca 0 0) SelectCard refl (inl refl) i) e (λ e.
     one Sd preset index argument order (is_sent index argument 8 0x000001aa) SendIfCond _
@@ -103,7 +110,7 @@ sd_lines preset index argument order e =
     (λ i. fixed Sd preset index argument (ask_of 51 Plain 0 0) SendScr 0 refl refl i) e (λ e.
     one Sd preset index argument order (index == 55) AppCommand _
     (λ i. by_index Sd preset index argument (ask_of 55 Rca 0 0) AppCommand refl (inl refl) i) e (λ e.
-    absurd (cc))))))))))))))))))))))
+    absurd (cc))))))))))))))))))))))))
 
 emmc_lines : (preset index argument : ℕ) (order : Order) → emmc_order_read preset index argument ≡ Some order →
     IsLineRead Emmc preset index argument order
@@ -117,6 +124,18 @@ emmc_lines preset index argument order e =
     (λ i. fixed Emmc preset index argument (ask_of 2 Plain 0 0) AllSendCid 0 refl refl i) e (λ e.
     one Emmc preset index argument order (is_sent index argument 3 0x00010000) SetRelativeAddress _
     (λ i. fixed Emmc preset index argument (ask_of 3 Plain 0 0) SetRelativeAddress 0x00010000 refl refl i) e (λ e.
+    one Emmc preset index argument order (is_sent index argument 6 0x03b70000) (Switch (Lines One)) _
+    (λ i. fixed Emmc preset index argument (ask_of 6 Plain 0x03b70000 0) (Switch (Lines One)) 0x03b70000 refl refl i) e (λ e.
+    one Emmc preset index argument order (is_sent index argument 6 0x03b70100) (Switch (Lines Four)) _
+    (λ i. fixed Emmc preset index argument (ask_of 6 Plain 0x03b70100 0) (Switch (Lines Four)) 0x03b70100 refl refl i) e (λ e.
+    one Emmc preset index argument order (is_sent index argument 6 0x03b70200) (Switch (Lines Eight)) _
+    (λ i. fixed Emmc preset index argument (ask_of 6 Plain 0x03b70200 0) (Switch (Lines Eight)) 0x03b70200 refl refl i) e (λ e.
+    one Emmc preset index argument order (is_sent index argument 6 0x03b30000) (Switch (Access User)) _
+    (λ i. fixed Emmc preset index argument (ask_of 6 Plain 0x03b30000 0) (Switch (Access User)) 0x03b30000 refl refl i) e (λ e.
+    one Emmc preset index argument order (is_sent index argument 6 0x03b30100) (Switch (Access Boot1)) _
+    (λ i. fixed Emmc preset index argument (ask_of 6 Plain 0x03b30100 0) (Switch (Access Boot1)) 0x03b30100 refl refl i) e (λ e.
+    one Emmc preset index argument order (is_sent index argument 6 0x03b30200) (Switch (Access Boot2)) _
+    (λ i. fixed Emmc preset index argument (ask_of 6 Plain 0x03b30200 0) (Switch (Access Boot2)) 0x03b30200 refl refl i) e (λ e.
     one Emmc preset index argument order (index == 7) SelectCard _
     (λ i. by_index Emmc preset index argument (ask_of 7 Rca 0 0) SelectCard refl (inl refl) i) e (λ e.
     one Emmc preset index argument order (is_sent index argument 8 0) SendExtCsd _
@@ -151,7 +170,7 @@ emmc_lines preset index argument order e =
     (λ i. fixed Emmc preset index argument (ask_of 38 Plain 1 0) Erase 1 refl refl i) e (λ e.
     one Emmc preset index argument order (is_sent index argument 38 3) Erase _
     (λ i. fixed Emmc preset index argument (ask_of 38 Plain 3 0) Erase 3 refl refl i) e (λ e.
-    absurd (cc))))))))))))))))))))))
+    absurd (cc))))))))))))))))))))))))))))
 
 pub orders_are_lines : OrdersAreLines
 unfolding order_read

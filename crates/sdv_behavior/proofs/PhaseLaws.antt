@@ -1,29 +1,35 @@
 -- The phases and waits of a simulator are steps of the card that it shows.
-use Rattle.std.proofs.Common.{◌≡◌, ℕ, zero, suc, ◌<◌, ◌+◌, ◌==◌, ◌||◌, inl, refl, sym, ap, subst, ◌∙◌, true, false, List, [], ◌∷◌, ◌++◌, length, take, drop, replicate, Option, Some, None, eq-eqb, le-leb, arith}
+use Rattle.std.proofs.Common.{◌≡◌, ℕ, ◌≤◌, ◌<◌, ◌+◌, ◌==◌, ◌||◌, ◌&&◌, inl, refl, sym, ap, subst, ◌∙◌, true, false, List, ◌∷◌, length, take, drop, Option, Some, None, eq-eqb, le-leb, arith}
 use Rattle.sdv_card.specs.declared.answer.DataEnd.{DataEnd}
 use Rattle.sdv_card.specs.declared.answer.DataEnd.TheVariants.{Ok, Cut}
 use Rattle.sdv_card.specs.declared.answer.WaitEnd.{WaitEnd}
 use Rattle.sdv_card.specs.declared.answer.WaitEnd.TheVariants.{Ok as Over, Late}
 use Rattle.sdv_card.specs.declared.state.Place.{Place}
+use Rattle.sdv_card.specs.declared.state.Width.{Width}
+use Rattle.sdv_card.specs.declared.state.Width.TheVariants.{One, Four, Eight}
 use Rattle.sdv_card.specs.declared.state.State.{State}
 use Rattle.sdv_card.specs.declared.state.State.TheVariants.{Tran, Data, Rcv, Prg}
 use Rattle.sdv_card.specs.declared.state.Transfer.{Transfer}
 use Rattle.sdv_card.specs.declared.state.Transfer.TheVariants.{ReadDue, OpenReadDue, ScrDue, SdStatusDue, ExtCsdDue, WriteDue, OpenWriteDue}
-use Rattle.sdv_card.specs.Card.{Card, Block, AreBlocks}
+use Rattle.sdv_card.specs.Card.{Card, Block, Partitions, AreBlocks, ContentsFit, blocks_of}
 use Rattle.sdv_card.specs.Legal.{recv_legal, recv_reg_legal, give_legal, wait_legal, TransferOnCard}
 use Rattle.sdv_card.specs.Lists.{May}
+use Rattle.sdv_card.specs.Modes.{line_count, same_width}
 use Rattle.sdv_card.specs.Phases.{after_phase, after_wait, read_due, register_due, write_due, blocks_due, due_register, BlocksTrue, RegisterTrue, StoredOrNot}
 use Rattle.sdv_card.specs.Port.{count_known, Kept}
 use Rattle.sdv_card.specs.ScriptEvent.{ReceiveBlocks, ReceiveRegister, GiveBlocks, AwaitReady, BlocksIn, RegisterIn, BlocksOut, Waited}
 use Rattle.sdv_card.specs.States.{is_open}
-use Rattle.sdv_card.proofs.Members.{here, both_true}
+use Rattle.sdv_card.proofs.Members.{here, both_true, and_left, and_right}
 use Rattle.sdv_description.specs.declared.card_desc.CardDesc.{CardDesc}
 use Rattle.sdv_behavior.specs.declared.card_state.CardState.{CardState}
 use Rattle.sdv_behavior.specs.CardOf.{card_of, card_with}
+use Rattle.sdv_description.specs.Layout.{partition_size, image_size, contents_of}
+use Rattle.sdv_description.proofs.LayoutLaws.{OnlyThere, shown_there, only_there, contents_sized, whole_sized}
 use Rattle.sdv_image.specs.Images.{Shown, OnlyThese, OnlyAt, AreSized}
 use Rattle.sdv_behavior.specs.RowTaken.{first_of}
-use Rattle.sdv_behavior.specs.SimSteps.{SimState, card_shown, shown_card, Goes, length_fits, first_place, phase_over, register_of, padded, IfEndedWell, receives, receives_register, takes_blocks, Receives, ReceivesRegister, TakesBlocks, wait_state, Waits}
+use Rattle.sdv_behavior.specs.SimSteps.{SimState, card_shown, shown_card, Goes, length_fits, next_place, first_place, phase_over, register_of, padded, IfEndedWell, receives, receives_register, takes_blocks, Receives, ReceivesRegister, TakesBlocks, wait_state, Waits}
 use Rattle.sdv_behavior.proofs.CountLaw.{Knows, no}
+use Rattle.sdv_behavior.proofs.RegisterLaws.{register_true}
 
 -- WHICH PHASE IS DUE
 
@@ -58,14 +64,14 @@ counts WriteDue count known announced e knows same = eq-eqb count known (same �
 counts OpenWriteDue count known announced e knows same = refl
 counts x count known announced e knows same = no e
 
-fits : (d : CardDesc) (s : CardState) (count announced : ℕ) (contents : List Block) → blocks_due s.transfer ≡ true → Knows s announced →
+fits : (d : CardDesc) (s : CardState) (count announced : ℕ) (contents : Partitions) → blocks_due s.transfer ≡ true → Knows s announced →
     TransferOnCard (card_with d s announced contents) → count ≡ announced → length_fits d s count ≡ true
 fits d s count announced contents due knows on_card same =
     let has = on_card due in
     let some = has.some in
     let room = has.room in
     both_true _ _
-    (both_true _ _ (le-leb 1 count (omega (arith, some, same))) (le-leb (s.next_block + count) d.capacity (omega (arith, room, same))))
+    (both_true _ _ (le-leb 1 count (omega (arith, some, same))) (le-leb (s.next_block + count) (partition_size d s.mode.partition) (omega (arith, room, same))))
     (counts s.transfer count s.announced announced due knows same)
 
 -- WHERE THE CARD IS AFTERWARDS
@@ -101,19 +107,21 @@ write_after WriteDue Cut e = first _ _ refl refl
 write_after OpenWriteDue end e = first _ _ refl refl
 write_after x end e = no e
 
--- A REGISTER with zeros after it
-front : (register after : List ℕ) (count : ℕ) → take (length register) (take count (register ++ after)) ≡ take count register
-front [] after zero = refl
-front [] after (suc count) = refl
-front (x ∷ register) after zero = refl
-front (x ∷ register) after (suc count) = ap (λ xs. x ∷ xs) (front register after count)
+-- THE DATA LINES of a legal phase are the card's
 
-padded_true : (register bytes : List ℕ) → bytes ≡ padded register (length bytes) → take (length register) bytes ≡ take (length bytes) register
-padded_true register bytes e = ap (λ b. take (length register) b) e ∙ front register (replicate (length bytes) 0) (length bytes)
+same_lines : (a b : Width) → same_width a b ≡ true → (line_count a == line_count b) ≡ true
+same_lines One One e = refl
+same_lines Four Four e = refl
+same_lines Eight Eight e = refl
+same_lines a b e = no e
 
 -- THE STEPS
 
-module _ (s s' : SimState) (contents : List Block) (shows : s.blocks ≡ Some contents) (announced : ℕ) (knows : Knows s.card announced) where
+module _ (s s' : SimState) (all : List Block) (shows : s.blocks ≡ Some all) (announced : ℕ) (knows : Knows s.card announced) where
+  -- what the card holds
+  abbrev contents : Partitions
+  contents = contents_of s.desc all
+
   abbrev before : Card
   before = card_with s.desc s.card announced contents
 
@@ -128,131 +136,157 @@ module _ (s s' : SimState) (contents : List Block) (shows : s.blocks ≡ Some co
   may a = subst (λ ps. May ps a.place) (sym a.places) (here refl)
 
   -- the simulator shows the card afterwards
-  now_shown : (card : CardState) (contents' : List Block) → Some contents' ≡ s'.blocks → Goes card s s' → card_shown s' ≡ Some (card_of s.desc card contents')
-  now_shown card contents' e goes =
+  now_shown : (card : CardState) (all' : List Block) → Some all' ≡ s'.blocks → Goes card s s' → card_shown s' ≡ Some (card_of s.desc card all')
+  now_shown card all' e goes =
       sym (ap (λ b. shown_card s.desc card b) e ∙ (ap (λ d. shown_card d card s'.blocks) goes.desc ∙ ap (λ c. shown_card s'.desc c s'.blocks) goes.state))
 
-  -- the blocks that a phase moves
-  moved_blocks : (first count : ℕ) (blocks : List Block) (b : Option (List Block)) (all : List Block) → Some all ≡ b → length blocks ≡ count →
-      Shown first blocks b → blocks ≡ take count (drop first all)
-  moved_blocks first count blocks b all e size shown =
-      subst (λ n. blocks ≡ take n (drop first all)) size (subst (λ v. Shown first blocks v) (sym e) shown)
+  -- the partition in access has the blocks of the transfer
+  room : blocks_due s.card.transfer ≡ true → TransferOnCard before → s.card.next_block + announced ≤ partition_size s.desc s.card.mode.partition
+  room due on_card = (on_card due).room
 
-  pub receive_law : (count : ℕ) (end : DataEnd) (blocks : List Block) → recv_legal s.card.state s.card.transfer ≡ true → count ≡ announced →
-      length blocks ≡ count → Receives end blocks s s' →
-      Kept card_shown (ReceiveBlocks count) before (BlocksIn end blocks) s'
-  receive_law count end blocks legal bounds size r =
+  -- the blocks that a phase moves
+  moved_blocks : (blocks : List Block) (b : Option (List Block)) (now : List Block) → Some now ≡ b → length blocks ≡ announced →
+      s.card.next_block + announced ≤ partition_size s.desc s.card.mode.partition → Shown (next_place s.desc s.card) blocks b →
+      blocks ≡ take announced (drop s.card.next_block (blocks_of s.card.mode.partition (contents_of s.desc now)))
+  moved_blocks blocks b now e size room shown =
+      subst (λ (n : ℕ). blocks ≡ take n (drop (next_place s.desc s.card) now)) size (subst (λ v. Shown (next_place s.desc s.card) blocks v) (sym e) shown)
+      ∙ shown_there s.desc s.card.mode.partition s.card.next_block announced now room
+
+  pub receive_law : (lines : Width) (count : ℕ) (end : DataEnd) (blocks : List Block) → recv_legal s.card.state s.card.transfer ≡ true →
+      TransferOnCard before → count ≡ announced → length blocks ≡ count → Receives end blocks s s' →
+      Kept card_shown (ReceiveBlocks lines count) before (BlocksIn end blocks) s'
+  receive_law lines count end blocks legal on_card bounds size r =
       let due = read_is_due s.card.state s.card.transfer legal in
       let a = read_after s.card.transfer end due in
       record {
         after = card_with s.desc (at a.place) announced contents;
         step = record { due = due; size = size; truth = truth end r.truth; moved = record { place = a.place; may = may a; card = refl } };
         shown = record {
-          shown = card_of s.desc (at a.place) contents;
-          shows = now_shown (at a.place) contents (sym shows ∙ r.same) (subst (λ c. Goes c s s') (over_is a) r.goes);
+          shown = card_of s.desc (at a.place) all;
+          shows = now_shown (at a.place) all (sym shows ∙ r.same) (subst (λ c. Goes c s s') (over_is a) r.goes);
           same = refl;
           count = λ k. no (sym a.unknown ∙ k);
         };
       }
     where
-      truth : (end : DataEnd) → IfEndedWell end (Shown s.card.next_block blocks s.blocks) → BlocksTrue end before blocks
-      truth Ok t = moved_blocks s.card.next_block announced blocks s.blocks contents (sym shows) (size ∙ bounds) t
+      has_room : s.card.next_block + announced ≤ partition_size s.desc s.card.mode.partition
+      has_room = room (read_blocks_due s.card.transfer (read_is_due s.card.state s.card.transfer legal)) on_card
+
+      truth : (end : DataEnd) → IfEndedWell end (Shown (next_place s.desc s.card) blocks s.blocks) → BlocksTrue end before blocks
+      truth Ok t = moved_blocks blocks s.blocks all (sym shows) (size ∙ bounds) has_room t
       truth Cut t = tt
 
   -- a phase from a card that is due is one that the simulator takes
-  pub receives_law : (count : ℕ) → recv_legal s.card.state s.card.transfer ≡ true → TransferOnCard before → count ≡ announced → receives s count ≡ true
-  receives_law count legal on_card bounds =
-      both_true _ _ legal (fits s.desc s.card count announced contents
-      (read_blocks_due s.card.transfer (read_is_due s.card.state s.card.transfer legal)) knows on_card bounds)
+  pub receives_law : (lines : Width) (count : ℕ) → (recv_legal s.card.state s.card.transfer && same_width lines s.card.mode.width) ≡ true →
+      TransferOnCard before → count ≡ announced → receives s (line_count lines) count ≡ true
+  receives_law lines count legal on_card bounds =
+      let due = and_left (recv_legal s.card.state s.card.transfer) (same_width lines s.card.mode.width) legal in
+      let alike = and_right (recv_legal s.card.state s.card.transfer) (same_width lines s.card.mode.width) legal in
+      both_true _ _ (both_true _ _ due (same_lines lines s.card.mode.width alike)) (fits s.desc s.card count announced contents
+      (read_blocks_due s.card.transfer (read_is_due s.card.state s.card.transfer due)) knows on_card bounds)
 
-  pub takes_law : (count : ℕ) → give_legal s.card.state s.card.transfer ≡ true → TransferOnCard before → count ≡ announced → takes_blocks s count ≡ true
-  takes_law count legal on_card bounds =
-      both_true _ _ legal (fits s.desc s.card count announced contents
-      (write_blocks_due s.card.transfer (write_is_due s.card.state s.card.transfer legal)) knows on_card bounds)
+  pub takes_law : (lines : Width) (count : ℕ) → (give_legal s.card.state s.card.transfer && same_width lines s.card.mode.width) ≡ true →
+      TransferOnCard before → count ≡ announced → takes_blocks s (line_count lines) count ≡ true
+  takes_law lines count legal on_card bounds =
+      let due = and_left (give_legal s.card.state s.card.transfer) (same_width lines s.card.mode.width) legal in
+      let alike = and_right (give_legal s.card.state s.card.transfer) (same_width lines s.card.mode.width) legal in
+      both_true _ _ (both_true _ _ due (same_lines lines s.card.mode.width alike)) (fits s.desc s.card count announced contents
+      (write_blocks_due s.card.transfer (write_is_due s.card.state s.card.transfer due)) knows on_card bounds)
 
-  pub receives_register_law : (count : ℕ) → recv_reg_legal s.card.state s.card.transfer ≡ true → 0 < count → receives_register s count ≡ true
-  receives_register_law count legal some = both_true _ _ legal (le-leb 1 count (omega (arith, some)))
+  pub receives_register_law : (lines : Width) (count : ℕ) → (recv_reg_legal s.card.state s.card.transfer && same_width lines s.card.mode.width) ≡ true →
+      0 < count → receives_register s (line_count lines) count ≡ true
+  receives_register_law lines count legal some =
+      let due = and_left (recv_reg_legal s.card.state s.card.transfer) (same_width lines s.card.mode.width) legal in
+      let alike = and_right (recv_reg_legal s.card.state s.card.transfer) (same_width lines s.card.mode.width) legal in
+      both_true _ _ (both_true _ _ due (same_lines lines s.card.mode.width alike)) (le-leb 1 count (omega (arith, some)))
 
-  pub register_law : (count : ℕ) (end : DataEnd) (bytes : List ℕ) → recv_reg_legal s.card.state s.card.transfer ≡ true → length bytes ≡ count →
-      ReceivesRegister end bytes s s' →
-      Kept card_shown (ReceiveRegister count) before (RegisterIn end bytes) s'
-  register_law count end bytes legal size r =
+  pub register_law : (lines : Width) (count : ℕ) (end : DataEnd) (bytes : List ℕ) → recv_reg_legal s.card.state s.card.transfer ≡ true →
+      length bytes ≡ count → ReceivesRegister end bytes s s' →
+      Kept card_shown (ReceiveRegister lines count) before (RegisterIn end bytes) s'
+  register_law lines count end bytes legal size r =
       let due = register_is_due s.card.state s.card.transfer legal in
       let a = register_after s.card.transfer end due in
       record {
         after = card_with s.desc (at a.place) announced contents;
         step = record { due = due; size = size; truth = truth end r.truth; moved = record { place = a.place; may = may a; card = refl } };
         shown = record {
-          shown = card_of s.desc (at a.place) contents;
-          shows = now_shown (at a.place) contents (sym shows ∙ r.same) (subst (λ c. Goes c s s') (over_is a) r.goes);
+          shown = card_of s.desc (at a.place) all;
+          shows = now_shown (at a.place) all (sym shows ∙ r.same) (subst (λ c. Goes c s s') (over_is a) r.goes);
           same = refl;
           count = λ k. no (sym a.unknown ∙ k);
         };
       }
     where
-      same_register : (x : Transfer) → due_register x before ≡ register_of x s.desc
-      same_register ScrDue = refl
-      same_register SdStatusDue = refl
-      same_register x = refl
-
-      truth : (end : DataEnd) → IfEndedWell end (bytes ≡ padded (register_of s.card.transfer s.desc) (length bytes)) →
-          RegisterTrue end (due_register s.card.transfer before) bytes
-      truth Ok t = subst (λ r. take (length r) bytes ≡ take (length bytes) r) (sym (same_register s.card.transfer))
-          (padded_true (register_of s.card.transfer s.desc) bytes t)
+      truth : (end : DataEnd) → IfEndedWell end (bytes ≡ padded (register_of s.card.transfer s.desc s.card.mode) (length bytes)) →
+          RegisterTrue end s.card.transfer (due_register s.card.transfer before) bytes
+      truth Ok t = register_true s.card.transfer s.desc s.card announced contents bytes (register_is_due s.card.state s.card.transfer legal) t
       truth Cut t = tt
 
-  -- the blocks that a write leaves
+  -- the blocks that a write leaves in the image
   record Written (end : DataEnd) (blocks : List Block) : Type 0 where
-    contents' : List Block
-    shown : Some contents' ≡ s'.blocks
-    sized : AreBlocks s.desc.capacity contents'
-    others : OnlyThese s.card.next_block (length blocks) contents contents'
+    all' : List Block
+    shown : Some all' ≡ s'.blocks
+    sized : AreBlocks (image_size s.desc) all'
+    there : OnlyThere s.desc s.card.mode.partition s.card.next_block (length blocks) all all'
 
-  written : (end : DataEnd) (blocks : List Block) → AreBlocks s.desc.capacity contents → TakesBlocks end blocks s s' → Written end blocks
-  written end blocks all r = go s.blocks shows r.others
+  written : (end : DataEnd) (blocks : List Block) → ContentsFit before → s.card.next_block + length blocks ≤ partition_size s.desc s.card.mode.partition →
+      TakesBlocks end blocks s s' → Written end blocks
+  written end blocks fit room r = go s.blocks shows r.others
     where
-      go : (b : Option (List Block)) → b ≡ Some contents → OnlyAt s.card.next_block (length blocks) b s'.blocks → Written end blocks
-      go None e o = absurd (cc)
-      go (Some old) e o = record {
-        contents' = o.0;
-        shown = o.1;
-        sized = subst (λ b. AreSized s.desc.capacity b) (sym o.1) (r.fit (subst (λ b. AreSized s.desc.capacity b) (sym shows) all));
-        others = let same : old ≡ contents = cc in subst (λ v. OnlyThese s.card.next_block (length blocks) v o.0) same o.2;
-      }
+      whole : AreSized (image_size s.desc) s.blocks
+      whole = subst (λ b. AreSized (image_size s.desc) b) (sym shows) (whole_sized s.desc all fit)
 
-  pub give_law : (end : DataEnd) (blocks : List Block) → AreBlocks s.desc.capacity contents → give_legal s.card.state s.card.transfer ≡ true →
-      length blocks ≡ announced → TakesBlocks end blocks s s' →
-      Kept card_shown (GiveBlocks blocks) before (BlocksOut end) s'
-  give_law end blocks all legal bounds r =
+      go : (b : Option (List Block)) → b ≡ Some all → OnlyAt (next_place s.desc s.card) (length blocks) b s'.blocks → Written end blocks
+      go None e o = absurd (cc)
+      go (Some old) e o =
+          let same : old ≡ all = cc in
+          record {
+            all' = o.0;
+            shown = o.1;
+            sized = subst (λ b. AreSized (image_size s.desc) b) (sym o.1) (r.fit whole);
+            there = only_there s.desc s.card.mode.partition s.card.next_block (length blocks) all o.0 room
+                (subst (λ (v : List Block). OnlyThese (next_place s.desc s.card) (length blocks) v o.0) same o.2);
+          }
+
+  pub give_law : (lines : Width) (end : DataEnd) (blocks : List Block) → ContentsFit before → give_legal s.card.state s.card.transfer ≡ true →
+      TransferOnCard before → length blocks ≡ announced → TakesBlocks end blocks s s' →
+      Kept card_shown (GiveBlocks lines blocks) before (BlocksOut end) s'
+  give_law lines end blocks fit legal on_card bounds r =
       let due = write_is_due s.card.state s.card.transfer legal in
       let a = write_after s.card.transfer end due in
-      let w = written end blocks all r in
+      let w = written end blocks fit (subst (λ (n : ℕ). s.card.next_block + n ≤ partition_size s.desc s.card.mode.partition) (sym bounds) has_room) r in
       record {
-        after = card_with s.desc (at a.place) announced w.contents';
+        after = card_with s.desc (at a.place) announced (contents_of s.desc w.all');
         step = record {
           due = due;
           others = record {
-            blocks = w.sized;
-            below = w.others.below;
-            above = subst (λ n. drop (s.card.next_block + n) contents ≡ drop (s.card.next_block + n) w.contents') bounds w.others.above;
+            blocks = contents_sized s.desc w.all' w.sized s.card.mode.partition;
+            others = w.there.others;
+            below = w.there.these.below;
+            above =
+                subst (λ (n : ℕ).
+                drop (s.card.next_block + n) (blocks_of s.card.mode.partition contents)
+                ≡ drop (s.card.next_block + n) (blocks_of s.card.mode.partition (contents_of s.desc w.all'))) bounds w.there.these.above;
           };
-          stored = stored end (at a.place) w.contents' w.shown r.stored;
+          stored = stored end (at a.place) w.all' w.shown r.stored;
           moved = record { place = a.place; may = may a; card = refl };
         };
         shown = record {
-          shown = card_of s.desc (at a.place) w.contents';
-          shows = now_shown (at a.place) w.contents' w.shown (subst (λ c. Goes c s s') (over_is a) r.goes);
+          shown = card_of s.desc (at a.place) w.all';
+          shows = now_shown (at a.place) w.all' w.shown (subst (λ c. Goes c s s') (over_is a) r.goes);
           same = refl;
           count = λ k. no (sym a.unknown ∙ k);
         };
       }
     where
-      stored : (end : DataEnd) (card : CardState) (contents' : List Block) → Some contents' ≡ s'.blocks →
-          IfEndedWell end (Shown s.card.next_block blocks s'.blocks) →
-          StoredOrNot end before blocks (card_with s.desc card announced contents')
-      stored Ok card contents' e t =
-          inl (record { stored = sym (moved_blocks s.card.next_block announced blocks s'.blocks contents' e bounds t); error = refl })
-      stored Cut card contents' e t = refl
+      has_room : s.card.next_block + announced ≤ partition_size s.desc s.card.mode.partition
+      has_room = room (write_blocks_due s.card.transfer (write_is_due s.card.state s.card.transfer legal)) on_card
+
+      stored : (end : DataEnd) (card : CardState) (all' : List Block) → Some all' ≡ s'.blocks →
+          IfEndedWell end (Shown (next_place s.desc s.card) blocks s'.blocks) →
+          StoredOrNot end before blocks (card_with s.desc card announced (contents_of s.desc all'))
+      stored Ok card all' e t = inl (record { stored = sym (moved_blocks blocks s'.blocks all' e bounds has_room t); error = refl })
+      stored Cut card all' e t = refl
 
   -- a wait ends in a state that the tables have
   wait_may : (state : State) (end : WaitEnd) → wait_legal state ≡ true → May (after_wait state end) (first_of (after_wait state end) state)
@@ -267,8 +301,8 @@ module _ (s s' : SimState) (contents : List Block) (shows : s.blocks ≡ Some co
     after = card_with s.desc (wait_state s.card.state end s.card) announced contents;
     step = record { state = first_of (after_wait s.card.state end) s.card.state; may = wait_may s.card.state end legal; card = refl };
     shown = record {
-      shown = card_of s.desc (wait_state s.card.state end s.card) contents;
-      shows = now_shown (wait_state s.card.state end s.card) contents (sym shows ∙ w.same) w.goes;
+      shown = card_of s.desc (wait_state s.card.state end s.card) all;
+      shows = now_shown (wait_state s.card.state end s.card) all (sym shows ∙ w.same) w.goes;
       same = refl;
       count = knows;
     };

@@ -1,10 +1,11 @@
 -- The commands of a simulator are exchanges of the card that it shows.
-use Rattle.std.proofs.Common.{◌≡◌, ℕ, inl, refl, sym, ap, subst, ◌∙◌, Bool, true, false, List, Option, Some, None, if◌then◌else◌}
+use Rattle.std.proofs.Common.{◌≡◌, ℕ, ◌≤◌, ◌+◌, ◌-◌, min, arith, inl, refl, sym, ap, subst, ◌∙◌, Bool, true, false, List, Option, Some, None, if◌then◌else◌}
 use Rattle.sdv_registers.specs.declared.kind.Kind.{Kind}
 use Rattle.sdv_card.specs.declared.event.Ask.{Ask}
 use Rattle.sdv_card.specs.declared.command.Order.{Order}
 use Rattle.sdv_card.specs.declared.command.Order.TheVariants.{DeselectCards, ReadMultipleBlock, WriteMultipleBlock}
-use Rattle.sdv_card.specs.Card.{Card, Block, AreBlocks}
+use Rattle.sdv_card.specs.declared.state.Partition.{Partition}
+use Rattle.sdv_card.specs.Card.{Card, Block, Partitions, AreBlocks, blocks_of, put}
 use Rattle.sdv_card.specs.CommandTable.{order_argument, argument_or_none, expect_of}
 use Rattle.sdv_card.specs.Host.{Host}
 use Rattle.sdv_card.specs.Laws.{order_blocks}
@@ -25,8 +26,11 @@ use Rattle.sdv_behavior.specs.CardOf.{card_of, card_with}
 use Rattle.sdv_behavior.specs.Commands.{order_read}
 use Rattle.sdv_description.proofs.Described.{IsDescribed}
 use Rattle.sdv_behavior.specs.Heard.{settled_by, hear, unheard}
-use Rattle.sdv_image.specs.Images.{OnlyAt, AreSized}
-use Rattle.sdv_behavior.specs.SimSteps.{SimState, behavior_of, card_shown, shown_card, heard_order, heard_of, BlocksLeft, Transfers}
+use Rattle.sdv_description.specs.declared.card_desc.CardDesc.{CardDesc}
+use Rattle.sdv_description.specs.Layout.{partition_size, partition_place, image_size, contents_of}
+use Rattle.sdv_description.proofs.LayoutLaws.{only_there, contents_sized, whole_sized}
+use Rattle.sdv_image.specs.Images.{OnlyThese, OnlyAt, AreSized}
+use Rattle.sdv_behavior.specs.SimSteps.{SimState, behavior_of, card_shown, shown_card, heard_order, heard_of, erase_start, erase_end, BlocksLeft, Transfers}
 use Rattle.sdv_behavior.proofs.Told.{LeavesBlocks}
 use Rattle.sdv_behavior.proofs.AcceptLaws.{SentTo, accepts_law, hears_same}
 use Rattle.sdv_behavior.proofs.AnswerShown.{shows_law}
@@ -48,36 +52,59 @@ some_count k ask order o = tt
 
 -- BLOCKS that a command leaves
 
-record Left (erases : Bool) (capacity : ℕ) (contents : List Block) (blocks : Option (List Block)) : Type 0 where
-  contents' : List Block
-  shown : Some contents' ≡ blocks
-  leaves : LeavesBlocks erases capacity contents contents'
+-- what an erase of a partition changes of an image
+erased_there : (d : CardDesc) (partition : Partition) (first last : ℕ) (old new : List Block) →
+    OnlyThese (min (partition_place d partition + first) (partition_place d partition + min (last + 1) (partition_size d partition)))
+    (partition_place d partition + min (last + 1) (partition_size d partition)
+    - min (partition_place d partition + first) (partition_place d partition + min (last + 1) (partition_size d partition))) old new →
+    put partition (blocks_of partition (contents_of d new)) (contents_of d old) ≡ contents_of d new
+erased_there d partition first last old new o =
+    let place : ℕ = partition_place d partition in
+    let size : ℕ = partition_size d partition in
+    let end : ℕ = place + min (last + 1) size in
+    let start : ℕ = min (place + first) end in
+    let at : start ≡ place + (start - place) = omega arith in
+    let room : (start - place) + (end - start) ≤ size = omega arith in
+    (only_there d partition (start - place) (end - start) old new room (subst (λ (n : ℕ). OnlyThese n (end - start) old new) at o)).others
 
-sized : (capacity : ℕ) (left : List Block) (blocks : Option (List Block)) → Some left ≡ blocks → AreSized capacity blocks → AreBlocks capacity left
-sized capacity left blocks e fit = subst (λ b. AreSized capacity b) (sym e) fit
+record Left (erases : Bool) (s : SimState) (all : List Block) (blocks : Option (List Block)) : Type 0 where
+  all' : List Block
+  shown : Some all' ≡ blocks
+  leaves : LeavesBlocks erases s.desc s.card.mode.partition (contents_of s.desc all) (contents_of s.desc all')
 
-left_of : (erases : Bool) (s s' : SimState) (contents : List Block) → s.blocks ≡ Some contents → AreBlocks s.desc.capacity contents → BlocksLeft erases s s' →
-    Left erases s.desc.capacity contents s'.blocks
-left_of false s s' contents e all same = record { contents' = contents; shown = sym e ∙ same; leaves = refl }
-left_of true s s' contents e all erased = go _ _ s.blocks e erased.others
+left_of : (erases : Bool) (s s' : SimState) (all : List Block) → s.blocks ≡ Some all → AreBlocks (image_size s.desc) all → BlocksLeft erases s s' →
+    Left erases s all s'.blocks
+left_of false s s' all e fit same = record { all' = all; shown = sym e ∙ same; leaves = refl }
+left_of true s s' all e fit erased = go s.blocks e erased.others
   where
-    whole : s.blocks ≡ Some contents
-    whole = e
+    sized : (left : List Block) → Some left ≡ s'.blocks → AreBlocks (image_size s.desc) left
+    sized left shown =
+        subst (λ b. AreSized (image_size s.desc) b) (sym shown) (erased.fit (subst (λ b. AreSized (image_size s.desc) b) (sym e) fit))
 
-    go : (first count : ℕ) (b : Option (List Block)) → b ≡ Some contents → OnlyAt first count b s'.blocks → Left true s.desc.capacity contents s'.blocks
-    go first count None e o = absurd (cc)
-    go first count (Some old) e o =
+    go : (b : Option (List Block)) → b ≡ Some all →
+        OnlyAt (erase_start s.desc s.card) (erase_end s.desc s.card - erase_start s.desc s.card) b s'.blocks → Left true s all s'.blocks
+    go None f o = absurd (cc)
+    go (Some old) f o =
+        let same : old ≡ all = cc in
         record {
-          contents' = o.0;
+          all' = o.0;
           shown = o.1;
-          leaves =
-              sized s.desc.capacity o.0 s'.blocks o.1 (erased.fit (subst (λ b. AreSized s.desc.capacity b) (sym whole) all));
+          leaves = record {
+            others =
+                erased_there s.desc s.card.mode.partition s.card.erase_first s.card.erase_last all o.0
+                (subst (λ (v : List Block). OnlyThese (erase_start s.desc s.card) (erase_end s.desc s.card - erase_start s.desc s.card) v o.0) same o.2);
+            blocks = contents_sized s.desc o.0 (sized o.0 o.1) s.card.mode.partition;
+          };
         }
 
 -- ONE COMMAND
 
-module _ (s s' : SimState) (is : IsDescribed s.desc) (contents : List Block) (shows : s.blocks ≡ Some contents) (announced : ℕ)
+module _ (s s' : SimState) (is : IsDescribed s.desc) (all : List Block) (shows : s.blocks ≡ Some all) (announced : ℕ)
     (knows : Knows s.card announced) where
+  -- what the card holds
+  abbrev contents : Partitions
+  contents = contents_of s.desc all
+
   abbrev before : Card
   before = card_with s.desc s.card announced contents
 
@@ -127,7 +154,7 @@ module _ (s s' : SimState) (is : IsDescribed s.desc) (contents : List Block) (sh
         ∙ hears_same s.desc behavior order s.card.preset argument announced (settled_by behavior s.card) contents sent
         (settled_is_card before met fine.pair.card settles).address (fine.legal.settled met settles))
 
-    abbrev after : List Block → Card
+    abbrev after : Partitions → Card
     after contents' = card_with s.desc outcome.after (announced_as behavior (way_of behavior order argument s.card) announced) contents'
 
     knows_after : Knows outcome.after (announced_as behavior (way_of behavior order argument s.card) announced)
@@ -136,31 +163,32 @@ module _ (s s' : SimState) (is : IsDescribed s.desc) (contents : List Block) (sh
         (fine.legal.settled met settles)
         (settled_count behavior s.card announced knows)
 
-    shown_after : (contents' : List Block) → Some contents' ≡ s'.blocks → s.desc ≡ s'.desc → outcome.after ≡ s'.card →
-        Some (card_of s.desc outcome.after contents') ≡ card_shown s'
-    shown_after contents' e desc card =
+    shown_after : (all' : List Block) → Some all' ≡ s'.blocks → s.desc ≡ s'.desc → outcome.after ≡ s'.card →
+        Some (card_of s.desc outcome.after all') ≡ card_shown s'
+    shown_after all' e desc card =
         ap (λ b. shown_card s.desc outcome.after b) e ∙ (ap (λ d. shown_card d outcome.after s'.blocks) desc ∙ ap (λ c. shown_card s'.desc c s'.blocks) card)
 
     transferred : (end : WireEnd) (response : List ℕ) → Transfers outcome end response s s' →
         HeardBy card_shown s.desc.kind ask position argument before end response s'
     transferred end response t =
-        let left = left_of outcome.erases s s' contents shows fine.pair.card.contents t.blocks in
-        let told = hear_law s.desc is fine.pair.card.csd behavior order argument announced s.card contents left.contents' fine.legal.settled left.leaves in
-        let step : Sends ask argument before told.answer (after left.contents') = record { order = order; asks = fine.legal.asks; exchange = told.exchange } in
+        let left = left_of outcome.erases s s' all shows (whole_sized s.desc all fine.pair.card.contents) t.blocks in
+        let contents' : Partitions = contents_of s.desc left.all' in
+        let told = hear_law s.desc is fine.pair.card.csd behavior order argument announced s.card contents contents' fine.legal.settled left.leaves in
+        let step : Sends ask argument before told.answer (after contents') = record { order = order; asks = fine.legal.asks; exchange = told.exchange } in
         record {
           answer = told.answer;
           kept = record {
-            after = after left.contents';
+            after = after contents';
             step = step;
             shown = record {
-              shown = card_of s.desc outcome.after left.contents';
-              shows = sym (shown_after left.contents' left.shown t.goes.desc t.goes.state);
+              shown = card_of s.desc outcome.after left.all';
+              shows = sym (shown_after left.all' left.shown t.goes.desc t.goes.state);
               same = refl;
               count = knows_after;
             };
           };
           shown = shows_law (expect_of s.desc.kind ask) outcome.reply end response told.answer
-              (steps_are_expected s.desc.kind (SendCommand ask position argument) before (Answered told.answer) (after left.contents') refl step)
+              (steps_are_expected s.desc.kind (SendCommand ask position argument) before (Answered told.answer) (after contents') refl step)
               told.told told.is_reply t.gives;
         }
 

@@ -1,26 +1,31 @@
 -- What a simulator leaves of a card that takes a row is what the tables say of that row, part by part.
-use Rattle.std.proofs.Common.{◌≡◌, ℕ, ◌<◌, inl, refl, Bool, true, false, List, [], ◌∷◌, Option}
+use Rattle.std.proofs.Common.{◌≡◌, ℕ, ◌<◌, not, inl, refl, Bool, true, false, List, [], ◌∷◌, Option}
 use Rattle.sdv_registers.specs.declared.kind.Kind.{Kind}
 use Rattle.sdv_registers.specs.declared.kind.Kind.TheVariants.{Sd, Emmc}
 use Rattle.sdv_card.specs.declared.state.State.{State}
 use Rattle.sdv_card.specs.declared.state.State.TheVariants.{Idle, Ready}
+use Rattle.sdv_card.specs.declared.state.Mode.{Mode}
+use Rattle.sdv_card.specs.declared.command.Setting.TheVariants.{Access}
 use Rattle.sdv_card.specs.declared.command.Row.{Row}
-use Rattle.sdv_card.specs.declared.command.Row.TheVariants.{Cmd0, Cmd1, Cmd3Sd, Cmd13, Cmd16, Cmd17, Cmd18, Cmd24, Cmd25, Cmd55, Acmd13, Acmd41}
+use Rattle.sdv_card.specs.declared.command.Row.TheVariants.{Cmd0, Cmd1, Cmd3Sd, Cmd6, Cmd13, Cmd16, Cmd17, Cmd18, Cmd24, Cmd25, Cmd55, Acmd6, Acmd13, Acmd41}
 use Rattle.sdv_card.specs.Lists.{May, IsOneOf}
 use Rattle.sdv_card.specs.StateTable.{◌to◌, rows, targets}
-use Rattle.sdv_card.specs.RowRules.{may_reach, app_after, erase_stayed, preset_after, preset_kept}
-use Rattle.sdv_card.specs.Card.{Block}
+use Rattle.sdv_card.specs.RowRules.{may_reach, app_after, erase_stayed, preset_after, preset_kept, mode_after, mode_stayed, may_switch}
+use Rattle.sdv_card.specs.Modes.{calm, has_partition}
+use Rattle.sdv_card.specs.Card.{Partitions}
 use Rattle.sdv_card.specs.Legal.{RowLegal}
 use Rattle.sdv_card.specs.Taken.{Taken, Stayed, SameCard, LengthAfter, RcaAfter, BlocksAfter, ContentsAfter}
 use Rattle.sdv_card.proofs.Members.{here, there, May-targets, May-from_targets}
 use Rattle.sdv_behavior.specs.declared.behavior.Behavior.{Behavior}
-use Rattle.sdv_behavior.specs.declared.behavior.Behavior.TheVariants.{IsSlow}
+use Rattle.sdv_behavior.specs.declared.behavior.Behavior.TheVariants.{IsSlow, FailsSwitch}
 use Rattle.sdv_description.specs.declared.card_desc.CardDesc.{CardDesc}
 use Rattle.sdv_behavior.specs.declared.card_state.CardState.{CardState}
+use Rattle.sdv_behavior.specs.declared.choice.Choice.{Choice}
+use Rattle.sdv_description.specs.Layout.{boot_capacity}
 use Rattle.sdv_behavior.specs.CardOf.{card_with}
 use Rattle.sdv_description.proofs.Described.{IsDescribed}
-use Rattle.sdv_behavior.specs.Heard.{is_ready}
-use Rattle.sdv_behavior.specs.RowTaken.{first_of, state_next, rca_next, app_next, length_next, preset_next, taken_by, stays}
+use Rattle.sdv_behavior.specs.Heard.{is_ready, switch_fails, choice_of}
+use Rattle.sdv_behavior.specs.RowTaken.{first_of, state_next, rca_next, app_next, length_next, mode_next, preset_next, taken_by, stays}
 
 -- STATE
 
@@ -57,7 +62,7 @@ abbrev pub is_refused : Row → Bool → Bool
 is_refused (Acmd41 false) true = true
 is_refused row block_unit = false
 
-pub not_ready : (behavior : Behavior) (row : Row) (block_unit checked : Bool) → is_refused row block_unit ≡ true →
+not_ready : (behavior : Behavior) (row : Row) (block_unit checked : Bool) → is_refused row block_unit ≡ true →
     is_ready behavior row block_unit checked ≡ false
 not_ready IsSlow row block_unit checked e = refl
 not_ready behavior (Acmd41 false) true checked e = refl
@@ -75,6 +80,45 @@ reached_law : (k : Kind) (row : Row) (block_unit ready : Bool) (state : State) {
 reached_law k (Acmd41 false) true true state only m = absurd (let f : true ≡ false = only refl in cc)
 reached_law k (Acmd41 false) true false state only m = reached_still k state m
 reached_law k row block_unit ready state only m = refl
+
+-- MODE
+
+mode_law : (row : Row) (heard fails : Bool) (from : State) (mode : Mode) → May (mode_after row heard from mode) (mode_next row fails mode)
+mode_law (Cmd6 setting) heard true from mode = there (here refl)
+mode_law (Cmd6 setting) heard false from mode = here refl
+mode_law Cmd0 heard fails from mode = here refl
+mode_law (Acmd6 width) heard fails from mode = here refl
+mode_law row heard fails from mode = here refl
+
+mode_stays : (row : Row) (heard : Bool) (from : State) (mode : Mode) → May (mode_stayed row heard from mode) (calm mode)
+mode_stays Cmd13 heard from mode = here refl
+mode_stays row heard from mode = here refl
+
+-- a switch that does not fail is one that may succeed
+switch_law : (row : Row) (boot : ℕ) (fails : Bool) (mode : Mode) → (fails ≡ false → may_switch row boot false ≡ true) →
+    may_switch row boot (mode_next row fails mode).error ≡ true
+switch_law (Cmd6 (Access partition)) boot true mode may = refl
+switch_law (Cmd6 (Access partition)) boot false mode may = may refl
+switch_law row boot fails mode may = refl
+
+not_false : (b : Bool) → not b ≡ false → b ≡ true
+not_false true e = refl
+not_false false e = absurd (let f : true ≡ false = e in cc)
+
+may_succeed : (behavior : Behavior) (row : Row) (boot : ℕ) → switch_fails behavior row boot ≡ false → may_switch row boot false ≡ true
+may_succeed FailsSwitch row boot e = absurd (let f : true ≡ false = e in cc)
+may_succeed behavior (Cmd6 (Access partition)) boot e = not_false (has_partition partition boot) e
+may_succeed behavior row boot e = refl
+
+-- WHAT A CARD CHOOSES is what the tables leave it
+
+pub record ChoiceFits (d : CardDesc) (row : Row) (choice : Choice) : Type 0 where
+  pub ready : is_refused row d.block_unit ≡ true → choice.ready ≡ false
+  pub switch : choice.switch_fails ≡ false → may_switch row (boot_capacity d) false ≡ true
+
+pub choice_fits : (d : CardDesc) (behavior : Behavior) (row : Row) (checked : Bool) → ChoiceFits d row (choice_of d behavior row checked)
+choice_fits d behavior row checked =
+    record { ready = not_ready behavior row d.block_unit checked; switch = may_succeed behavior row (boot_capacity d) }
 
 -- THE OTHER PARTS
 
@@ -117,39 +161,52 @@ announced_with Cmd24 before = 1
 announced_with (Cmd25 n) before = n
 announced_with row before = before
 
-blocks_law : (d : CardDesc) (row : Row) (argument : ℕ) (ready : Bool) (t : CardState) (announced : ℕ) (contents contents' : List Block) →
-    BlocksAfter row argument (card_with d t announced contents) (card_with d (taken_by d row argument ready t) (announced_with row announced) contents')
-blocks_law d Cmd17 argument ready t announced contents contents' = record { block = refl; count_is = refl }
-blocks_law d (Cmd18 n) argument ready t announced contents contents' = record { block = refl; count_is = refl }
-blocks_law d Cmd24 argument ready t announced contents contents' = record { block = refl; count_is = refl }
-blocks_law d (Cmd25 n) argument ready t announced contents contents' = record { block = refl; count_is = refl }
-blocks_law d row argument ready t announced contents contents' = record { block = refl; count_is = refl }
+blocks_law : (d : CardDesc) (row : Row) (argument : ℕ) (choice : Choice) (t : CardState) (announced : ℕ) (contents contents' : Partitions) →
+    BlocksAfter row argument (card_with d t announced contents) (card_with d (taken_by d row argument choice t) (announced_with row announced) contents')
+blocks_law d Cmd17 argument choice t announced contents contents' = record { block = refl; count_is = refl }
+blocks_law d (Cmd18 n) argument choice t announced contents contents' = record { block = refl; count_is = refl }
+blocks_law d Cmd24 argument choice t announced contents contents' = record { block = refl; count_is = refl }
+blocks_law d (Cmd25 n) argument choice t announced contents contents' = record { block = refl; count_is = refl }
+blocks_law d row argument choice t announced contents contents' = record { block = refl; count_is = refl }
 
-same_card : (d : CardDesc) (t u : CardState) (n m : ℕ) (contents contents' : List Block) → SameCard (card_with d t n contents) (card_with d u m contents')
+same_card : (d : CardDesc) (t u : CardState) (n m : ℕ) (contents contents' : Partitions) → SameCard (card_with d t n contents) (card_with d u m contents')
 same_card d t u n m contents contents' =
-    record { kind = refl; version = refl; block_unit = refl; capacity = refl; csd = refl; cid = refl; ext_csd = refl; scr = refl; sd_status = refl }
+    record {
+      kind = refl;
+      version = refl;
+      block_unit = refl;
+      capacity = refl;
+      boot_capacity = refl;
+      csd = refl;
+      cid = refl;
+      ext_csd = refl;
+      scr = refl;
+      sd_status = refl;
+    }
 
 -- THE ROW
 
-module _ (d : CardDesc) (is : IsDescribed d) (row : Row) (argument : ℕ) (t : CardState) (announced : ℕ) (contents : List Block) where
-  pub taken_law : (ready : Bool) (contents' : List Block) → (is_refused row d.block_unit ≡ true → ready ≡ false) →
+module _ (d : CardDesc) (is : IsDescribed d) (row : Row) (argument : ℕ) (t : CardState) (announced : ℕ) (contents : Partitions) where
+  pub taken_law : (choice : Choice) (contents' : Partitions) → ChoiceFits d row choice →
       RowLegal row (card_with d t announced contents) →
-      ContentsAfter row (card_with d t announced contents) (card_with d (taken_by d row argument ready t) (announced_with row announced) contents') →
+      ContentsAfter row (card_with d t announced contents) (card_with d (taken_by d row argument choice t) (announced_with row announced) contents') →
       (heard : Bool) →
-      Taken row heard argument (card_with d t announced contents) (card_with d (taken_by d row argument ready t) (announced_with row announced) contents')
-  taken_law ready contents' only legal left heard =
+      Taken row heard argument (card_with d t announced contents) (card_with d (taken_by d row argument choice t) (announced_with row announced) contents')
+  taken_law choice contents' fits legal left heard =
       let m = May-targets legal.has_row in
       record {
-        same = same_card d t (taken_by d row argument ready t) announced (announced_with row announced) contents contents';
-        state = state_law d.kind row ready t.state m;
-        reached = reached_law d.kind row d.block_unit ready t.state only m;
+        same = same_card d t (taken_by d row argument choice t) announced (announced_with row announced) contents contents';
+        state = state_law d.kind row choice.ready t.state m;
+        reached = reached_law d.kind row d.block_unit choice.ready t.state fits.ready m;
         app = app_law row;
         erase = refl;
         block_length = length_law d.block_length row d.block_unit t.block_length is.length;
         preset = preset_law d.kind row t.preset;
         rca = rca_law d.rca row t.rca is.some_address is.address_fits;
         transfer = refl;
-        blocks = blocks_law d row argument ready t announced contents contents';
+        mode = mode_law row heard choice.switch_fails t.state t.mode;
+        switched = switch_law row (boot_capacity d) choice.switch_fails t.mode fits.switch;
+        blocks = blocks_law d row argument choice t announced contents contents';
         contents = left;
       }
 
@@ -163,6 +220,7 @@ module _ (d : CardDesc) (is : IsDescribed d) (row : Row) (argument : ℕ) (t : C
     preset = preset_stays d.kind t.preset;
     rca = refl;
     transfer = refl;
+    mode = mode_stays row true t.state t.mode;
     blocks = record { block = refl; count_is = refl };
     contents = refl;
   }

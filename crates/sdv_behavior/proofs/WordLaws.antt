@@ -5,7 +5,7 @@ use Rattle.sdv_frames.specs.Bits.{bits, number_of}
 use Rattle.sdv_registers.proofs.FieldLaws.{field-bits}
 use Rattle.sdv_registers.specs.declared.kind.Kind.{Kind}
 use Rattle.sdv_registers.specs.declared.kind.Kind.TheVariants.{Sd, Emmc}
-use Rattle.sdv_registers.specs.Status.{state as state_field, is_app_cmd, rca as published_rca, has_doubt, has_doubt_r6}
+use Rattle.sdv_registers.specs.Status.{state as state_field, is_switch_error, is_app_cmd, rca as published_rca, has_doubt, has_doubt_r6}
 use Rattle.sdv_registers.specs.Ocr.{is_powered_up, ccs, access_mode, voltage_windows}
 use Rattle.sdv_card.specs.declared.state.State.{State}
 use Rattle.sdv_card.specs.declared.state.State.TheVariants.{Idle}
@@ -14,23 +14,32 @@ use Rattle.sdv_behavior.specs.Words.{status_word, low_word, address_word, condit
 
 -- CARD STATUS
 
-pub record StatusShows (word : ℕ) (s : State) (a e : Bool) : Type 0 where
+pub record StatusShows (word : ℕ) (s : State) (a w e : Bool) : Type 0 where
   pub is_word : word < 2 ^ 32
   pub state : state_field word ≡ state_number s
   pub app : is_app_cmd word ≡ a
+  pub switch : is_switch_error word ≡ w
   pub error : has_doubt word ≡ e
 
 -- each word by its bits
-pub status_shows : (app error : Bool) (state : State) → StatusShows (status_word state app error) state app error
+pub status_shows : (app switch error : Bool) (state : State) → StatusShows (status_word state app switch error) state app switch error
 unfolding bits number_of
-status_shows false false Idle = record { is_word = lit< tt; state = refl; app = refl; error = refl }
-status_shows false false state = record { is_word = lit< tt; state = refl; app = refl; error = refl }
-status_shows false true Idle = record { is_word = lit< tt; state = refl; app = refl; error = refl }
-status_shows false true state = record { is_word = lit< tt; state = refl; app = refl; error = refl }
-status_shows true false Idle = record { is_word = lit< tt; state = refl; app = refl; error = refl }
-status_shows true false state = record { is_word = lit< tt; state = refl; app = refl; error = refl }
-status_shows true true Idle = record { is_word = lit< tt; state = refl; app = refl; error = refl }
-status_shows true true state = record { is_word = lit< tt; state = refl; app = refl; error = refl }
+status_shows false false false Idle = record { is_word = lit< tt; state = refl; app = refl; switch = refl; error = refl }
+status_shows false false false state = record { is_word = lit< tt; state = refl; app = refl; switch = refl; error = refl }
+status_shows false false true Idle = record { is_word = lit< tt; state = refl; app = refl; switch = refl; error = refl }
+status_shows false false true state = record { is_word = lit< tt; state = refl; app = refl; switch = refl; error = refl }
+status_shows false true false Idle = record { is_word = lit< tt; state = refl; app = refl; switch = refl; error = refl }
+status_shows false true false state = record { is_word = lit< tt; state = refl; app = refl; switch = refl; error = refl }
+status_shows false true true Idle = record { is_word = lit< tt; state = refl; app = refl; switch = refl; error = refl }
+status_shows false true true state = record { is_word = lit< tt; state = refl; app = refl; switch = refl; error = refl }
+status_shows true false false Idle = record { is_word = lit< tt; state = refl; app = refl; switch = refl; error = refl }
+status_shows true false false state = record { is_word = lit< tt; state = refl; app = refl; switch = refl; error = refl }
+status_shows true false true Idle = record { is_word = lit< tt; state = refl; app = refl; switch = refl; error = refl }
+status_shows true false true state = record { is_word = lit< tt; state = refl; app = refl; switch = refl; error = refl }
+status_shows true true false Idle = record { is_word = lit< tt; state = refl; app = refl; switch = refl; error = refl }
+status_shows true true false state = record { is_word = lit< tt; state = refl; app = refl; switch = refl; error = refl }
+status_shows true true true Idle = record { is_word = lit< tt; state = refl; app = refl; switch = refl; error = refl }
+status_shows true true true state = record { is_word = lit< tt; state = refl; app = refl; switch = refl; error = refl }
 
 -- OCR
 

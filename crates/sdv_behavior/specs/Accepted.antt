@@ -19,5 +19,5 @@ pub record IsAcceptable (order : Order) (argument : ℕ) (c : Card) : Type 0 whe
 
 abbrev pub AcceptsExactly : Type 0
 AcceptsExactly =
-    (d : CardDesc) (order : Order) (argument : ℕ) (s : CardState) (contents : List Block) →
-    (accepts d order argument s ≡ true) ↔ IsAcceptable order argument (card_of d s contents)
+    (d : CardDesc) (order : Order) (argument : ℕ) (s : CardState) (blocks : List Block) →
+    (accepts d order argument s ≡ true) ↔ IsAcceptable order argument (card_of d s blocks)

@@ -5,21 +5,25 @@ use Rattle.sdv_card.specs.declared.state.State.{State}
 use Rattle.sdv_card.specs.declared.state.Transfer.TheVariants.{Nothing}
 use Rattle.sdv_card.specs.declared.command.Order.{Order}
 use Rattle.sdv_card.specs.declared.command.Row.{Row}
-use Rattle.sdv_card.specs.declared.command.Row.TheVariants.{Cmd0, Cmd38, Acmd41}
+use Rattle.sdv_card.specs.declared.command.Row.TheVariants.{Cmd0, Cmd6, Cmd38, Acmd41}
+use Rattle.sdv_card.specs.declared.command.Setting.TheVariants.{Access}
 use Rattle.sdv_card.specs.declared.command.Response.{Response}
 use Rattle.sdv_card.specs.declared.command.Response.TheVariants.{CardStatus, NewAddress}
 use Rattle.sdv_card.specs.declared.command.TakenAs.{TakenAs}
 use Rattle.sdv_card.specs.declared.command.TakenAs.TheVariants.{Forbidden, Ignored, By}
+use Rattle.sdv_card.specs.Modes.{has_partition}
 use Rattle.sdv_card.specs.States.{own_target}
 use Rattle.sdv_card.specs.Responses.{response_of}
 use Rattle.sdv_card.specs.Takes.{taken_as_of, matches}
 use Rattle.sdv_behavior.specs.declared.behavior.Behavior.{Behavior}
-use Rattle.sdv_behavior.specs.declared.behavior.Behavior.TheVariants.{LosesCommand, LosesAnswer, IsSlow, ReportsError, Refuses}
+use Rattle.sdv_behavior.specs.declared.behavior.Behavior.TheVariants.{LosesCommand, LosesAnswer, IsSlow, ReportsError, Refuses, FailsSwitch}
 use Rattle.sdv_description.specs.declared.card_desc.CardDesc.{CardDesc}
 use Rattle.sdv_behavior.specs.declared.card_state.CardState.{CardState}
+use Rattle.sdv_behavior.specs.declared.choice.Choice.{Choice}
 use Rattle.sdv_behavior.specs.declared.heard.Deed.{Deed}
 use Rattle.sdv_behavior.specs.declared.heard.Deed.TheVariants.{Loses, TakesUnheard, Takes, Stays}
 use Rattle.sdv_behavior.specs.declared.heard.Heard.{Heard}
+use Rattle.sdv_description.specs.Layout.{boot_capacity}
 use Rattle.sdv_behavior.specs.RowTaken.{taken_by, stays}
 use Rattle.sdv_behavior.specs.Replies.{reply_of}
 
@@ -58,6 +62,20 @@ is_ready IsSlow row block_unit checked = false
 is_ready behavior (Acmd41 high) block_unit checked = not block_unit || (high && checked)
 is_ready behavior row block_unit checked = true
 
+-- CMD6 fails where the schedule says so, and where it would give access to a boot partition that has no blocks
+abbrev pub switch_fails : Behavior → Row → (boot_capacity : ℕ) → Bool
+switch_fails FailsSwitch row boot_capacity = true
+switch_fails behavior (Cmd6 (Access partition)) boot_capacity = not (has_partition partition boot_capacity)
+switch_fails behavior row boot_capacity = false
+
+-- what a card chooses that takes a row
+abbrev pub choice_of : CardDesc → Behavior → Row → (checked : Bool) → Choice
+choice_of d behavior row checked =
+    record {
+      ready = is_ready behavior row d.block_unit checked;
+      switch_fails = switch_fails behavior row (boot_capacity d);
+    }
+
 -- CMD38 writes zeros
 abbrev pub is_erase : Row → Bool
 is_erase Cmd38 = true
@@ -67,25 +85,25 @@ abbrev pub unheard : CardState → Heard
 unheard s = record { after = s; reply = None; erases = false }
 
 -- what comes of a row at a settled state
-abbrev pub does : CardDesc → Deed → Row → (argument : ℕ) → (ready : Bool) → CardState → Heard
-does d Loses row argument ready t = unheard t
-does d TakesUnheard row argument ready t =
-    record { after = taken_by d row argument ready t; reply = None; erases = is_erase row }
-does d (Takes error) row argument ready t =
+abbrev pub does : CardDesc → Deed → Row → (argument : ℕ) → Choice → CardState → Heard
+does d Loses row argument choice t = unheard t
+does d TakesUnheard row argument choice t =
+    record { after = taken_by d row argument choice t; reply = None; erases = is_erase row }
+does d (Takes error) row argument choice t =
     record {
-      after = taken_by d row argument ready t;
-      reply = reply_of d row t.state true error ready;
+      after = taken_by d row argument choice t;
+      reply = reply_of d row t true error choice.ready;
       erases = is_erase row;
     }
-does d Stays row argument ready t =
-    record { after = stays t; reply = reply_of d row t.state false true ready; erases = false }
+does d Stays row argument choice t =
+    record { after = stays t; reply = reply_of d row t false true choice.ready; erases = false }
 
 -- what comes of an order at a settled state: of one with another relative address nothing does
 abbrev pub done_as : CardDesc → Behavior → TakenAs → (argument : ℕ) → CardState → Heard
 done_as d behavior Forbidden argument t = unheard t
 done_as d behavior Ignored argument t = unheard t
 done_as d behavior (By row) argument t =
-    does d (row_deed behavior row) row argument (is_ready behavior row d.block_unit t.checked) t
+    does d (row_deed behavior row) row argument (choice_of d behavior row t.checked) t
 
 -- what comes of a legal order
 abbrev pub hear_at : CardDesc → Behavior → Order → (argument : ℕ) → CardState → Heard

@@ -4,13 +4,17 @@
 use Rattle.std.specs.Prelude.{Bool, true, false, ℕ, ◌==◌, List, [], ◌∷◌, Option, Some, None, if◌then◌else◌}
 use Rattle.sdv_registers.specs.declared.kind.Kind.{Kind}
 use Rattle.sdv_card.specs.declared.state.State.{State}
+use Rattle.sdv_card.specs.declared.state.Mode.{Mode}
+use Rattle.sdv_card.specs.declared.command.Setting.TheVariants.{Lines}
 use Rattle.sdv_card.specs.declared.command.Row.{Row}
-use Rattle.sdv_card.specs.declared.command.Row.TheVariants.{Cmd0, Cmd1, Cmd3Sd, Cmd3Emmc, Cmd8Sd, Cmd16, Cmd17, Cmd18, Cmd23, Cmd24, Cmd25, Cmd32, Cmd33, Cmd35, Cmd36, Cmd55, Acmd41}
+use Rattle.sdv_card.specs.declared.command.Row.TheVariants.{Cmd0, Cmd1, Cmd3Sd, Cmd3Emmc, Cmd6, Cmd8Sd, Cmd16, Cmd17, Cmd18, Cmd23, Cmd24, Cmd25, Cmd32, Cmd33, Cmd35, Cmd36, Cmd55, Acmd6, Acmd41}
+use Rattle.sdv_card.specs.Modes.{first_mode, calm, failed, set}
 use Rattle.sdv_card.specs.StateTable.{rows, targets}
 use Rattle.sdv_card.specs.RowRules.{erase_after, transfer_after}
 use Rattle.sdv_card.specs.Taken.{block_of}
 use Rattle.sdv_description.specs.declared.card_desc.CardDesc.{CardDesc}
 use Rattle.sdv_behavior.specs.declared.card_state.CardState.{CardState}
+use Rattle.sdv_behavior.specs.declared.choice.Choice.{Choice}
 
 -- the first of some states
 abbrev pub first_of : List State → State → State
@@ -40,6 +44,14 @@ abbrev pub length_next : (described : ℕ) → Row → ℕ → ℕ
 length_next described Cmd0 length = described
 length_next described Cmd16 length = 512
 length_next described row length = length
+
+-- MODE: ACMD6 and CMD6 set their value, unless CMD6 fails; every other command ends a pending switch error, CMD13 by
+-- showing it
+abbrev pub mode_next : Row → (fails : Bool) → Mode → Mode
+mode_next Cmd0 fails mode = first_mode
+mode_next (Acmd6 width) fails mode = calm (set (Lines width) mode)
+mode_next (Cmd6 setting) fails mode = if fails then failed mode else calm (set setting mode)
+mode_next row fails mode = calm mode
 
 -- PRESET COUNT: it is kept
 abbrev pub preset_next : Row → ℕ → ℕ
@@ -87,13 +99,14 @@ last_next Cmd36 block_unit argument block = block_of block_unit argument
 last_next row block_unit argument block = block
 
 -- the state after a row that the card takes
-abbrev pub taken_by : CardDesc → Row → (argument : ℕ) → (ready : Bool) → CardState → CardState
-taken_by d row argument ready t = record {
-  state = state_next d.kind row ready t.state;
+abbrev pub taken_by : CardDesc → Row → (argument : ℕ) → Choice → CardState → CardState
+taken_by d row argument choice t = record {
+  state = state_next d.kind row choice.ready t.state;
   rca = rca_next d.rca row t.rca;
   app = app_next row;
   block_length = length_next d.block_length row t.block_length;
   erase = erase_after row t.erase;
+  mode = mode_next row choice.switch_fails t.mode;
   preset = preset_next row t.preset;
   transfer = transfer_after row t.preset t.transfer;
   next_block = block_next row d.block_unit argument t.next_block;
@@ -103,6 +116,7 @@ taken_by d row argument ready t = record {
   erase_last = last_next row d.block_unit argument t.erase_last;
 }
 
--- the state of a card that did not take a command which reached it: the application flag is lost, all else is kept
+-- the state of a card that did not take a command which reached it: the application flag is lost, and a pending switch
+-- error, which an answer to CMD13 shows; all else is kept
 abbrev pub stays : CardState → CardState
-stays t = record t { app = false }
+stays t = record t { app = false; mode = calm t.mode }

@@ -3,7 +3,7 @@
 use Rattle.std.specs.Prelude.{ℕ, Bool, ◌==◌, List, [], ◌∷◌, Option, Some, None, is_some, if◌then◌else◌}
 use Rattle.std.specs.List.{list_all}
 use Rattle.sdv_behavior.specs.declared.behavior.Behavior.{Behavior}
-use Rattle.sdv_behavior.specs.declared.behavior.Behavior.TheVariants.{Prompt, LosesCommand, LosesAnswer, IsSlow, ReportsError, Refuses, CutsPhase}
+use Rattle.sdv_behavior.specs.declared.behavior.Behavior.TheVariants.{Prompt, LosesCommand, LosesAnswer, IsSlow, ReportsError, Refuses, CutsPhase, FailsSwitch}
 
 abbrev pub behavior_of_code : ℕ → Option Behavior
 behavior_of_code code =
@@ -14,6 +14,7 @@ behavior_of_code code =
     else if code == 4 then Some ReportsError
     else if code == 5 then Some Refuses
     else if code == 6 then Some CutsPhase
+    else if code == 7 then Some FailsSwitch
     else None
 
 abbrev pub first_behavior : List Behavior → Behavior

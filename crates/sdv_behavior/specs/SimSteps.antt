@@ -9,12 +9,14 @@ use Rattle.sdv_card.specs.declared.answer.DataEnd.TheVariants.{Ok, Cut}
 use Rattle.sdv_card.specs.declared.answer.WaitEnd.{WaitEnd}
 use Rattle.sdv_card.specs.declared.answer.WaitEnd.TheVariants.{Ok as Over, Late}
 use Rattle.sdv_card.specs.declared.command.Order.{Order}
+use Rattle.sdv_card.specs.declared.state.Mode.{Mode}
 use Rattle.sdv_card.specs.declared.state.Place.{Place}
 use Rattle.sdv_card.specs.declared.state.State.{State}
 use Rattle.sdv_card.specs.declared.state.Transfer.{Transfer}
 use Rattle.sdv_card.specs.declared.state.Transfer.TheVariants.{ScrDue, SdStatusDue}
 use Rattle.sdv_card.specs.Card.{Card, Block}
 use Rattle.sdv_card.specs.Legal.{recv_legal, recv_reg_legal, give_legal, wait_legal}
+use Rattle.sdv_card.specs.Modes.{line_count}
 use Rattle.sdv_card.specs.Phases.{after_phase, after_wait}
 use Rattle.sdv_card.specs.Port.{DataIn, DataInRegister, DataOut, WaitWhileBusy}
 use Rattle.sdv_card.specs.ScriptEvent.{BlocksIn, RegisterIn, BlocksOut, Waited}
@@ -32,6 +34,7 @@ use Rattle.sdv_behavior.specs.CardOf.{card_of}
 use Rattle.sdv_behavior.specs.Commands.{order_read}
 use Rattle.sdv_behavior.specs.Heard.{hear, unheard}
 use Rattle.sdv_image.specs.Images.{HasFailed, Shown, OnlyAt, AreSized, zeros}
+use Rattle.sdv_description.specs.Layout.{partition_size, partition_place, image_size}
 use Rattle.sdv_description.specs.Registers.{scr, sd_status, ext_csd_of}
 use Rattle.sdv_behavior.specs.RowTaken.{first_of}
 use Rattle.sdv_behavior.specs.Schedules.{first_behavior, later_behaviors}
@@ -85,7 +88,16 @@ Gives None end response = Silent ≡ end
 Gives (Some reply) end response =
     (count : ℕ) × (Bytes count ≡ end) × (count ≤ 17) × IsReplyFrame reply (take count response)
 
--- an erase writes zeros from the first to the last block that the card has; a failure ends it
+-- the place in the image at which an erase ends: behind the last block named that the partition in access has
+abbrev pub erase_end : CardDesc → CardState → ℕ
+erase_end d s =
+    partition_place d s.mode.partition + min (s.erase_last + 1) (partition_size d s.mode.partition)
+
+-- the place at which it begins: that of the first block named, or its end where that stands before it
+abbrev pub erase_start : CardDesc → CardState → ℕ
+erase_start d s = min (partition_place d s.mode.partition + s.erase_first) (erase_end d s)
+
+-- an erase writes zeros from the first to the last block that the partition has; a failure ends it
 pub record Erased (first count size : ℕ) (s s' : SimState) : Type 0 where
   pub others : OnlyAt first count s.blocks s'.blocks
   pub fit : AreSized size s.blocks → AreSized size s'.blocks
@@ -94,7 +106,7 @@ pub record Erased (first count size : ℕ) (s s' : SimState) : Type 0 where
 abbrev pub BlocksLeft : (erases : Bool) → SimState → SimState → Type 0
 BlocksLeft false s s' = s.blocks ≡ s'.blocks
 BlocksLeft true s s' =
-    Erased s.card.erase_first (min (s.card.erase_last + 1) s.desc.capacity - s.card.erase_first) s.desc.capacity s s'
+    Erased (erase_start s.desc s.card) (erase_end s.desc s.card - erase_start s.desc s.card) (image_size s.desc) s s'
 
 pub record Transfers (heard : Heard) (end : WireEnd) (response : List ℕ) (s s' : SimState) : Type 0 where
   pub goes : Goes heard.after s s'
@@ -120,18 +132,29 @@ first_place (place ∷ rest) s = record s { state = place.state; transfer = plac
 abbrev pub phase_over : DataEnd → CardState → CardState
 phase_over end s = first_place (after_phase s.transfer end) s
 
--- a block phase has blocks, the card has them, and a transfer that is not open has as many
+-- a phase uses the card's data lines
+abbrev pub on_lines : CardState → (lines : ℕ) → Bool
+on_lines s lines = lines == line_count s.mode.width
+
+-- a block phase has blocks, the partition in access has them, and a transfer that is not open has as many
 abbrev pub length_fits : CardDesc → CardState → ℕ → Bool
 length_fits d s count =
-    nat_le 1 count && nat_le (s.next_block + count) d.capacity && (is_open s.transfer || (count == s.announced))
+    nat_le 1 count && nat_le (s.next_block + count) (partition_size d s.mode.partition)
+    && (is_open s.transfer || (count == s.announced))
 
-abbrev pub receives : SimState → ℕ → Bool
-receives s count = recv_legal s.card.state s.card.transfer && length_fits s.desc s.card count
+-- the place in the image of the next block of a transfer
+abbrev pub next_place : CardDesc → CardState → ℕ
+next_place d s = partition_place d s.mode.partition + s.next_block
 
-abbrev pub takes_blocks : SimState → ℕ → Bool
-takes_blocks s count = give_legal s.card.state s.card.transfer && length_fits s.desc s.card count
+abbrev pub receives : SimState → (lines count : ℕ) → Bool
+receives s lines count =
+    recv_legal s.card.state s.card.transfer && on_lines s.card lines && length_fits s.desc s.card count
 
--- a phase that the card has not: it is cut, and nothing changes
+abbrev pub takes_blocks : SimState → (lines count : ℕ) → Bool
+takes_blocks s lines count =
+    give_legal s.card.state s.card.transfer && on_lines s.card lines && length_fits s.desc s.card count
+
+-- a phase that the card has not, or that uses other data lines than it: it is cut, and nothing changes
 pub record Refused (end : DataEnd) (s s' : SimState) : Type 0 where
   pub goes : Goes s.card s s'
   pub end_is : Cut ≡ end
@@ -145,36 +168,37 @@ IfEndedWell Cut fact = Unit {0}
 pub record Receives (end : DataEnd) (blocks : List Block) (s s' : SimState) : Type 0 where
   pub goes : Goes (phase_over end s.card) s s'
   pub end_fits : EndFits (behavior_of s) s.failed s'.failed end
-  pub truth : IfEndedWell end (Shown s.card.next_block blocks s.blocks)
+  pub truth : IfEndedWell end (Shown (next_place s.desc s.card) blocks s.blocks)
   pub same : s.blocks ≡ s'.blocks
 
--- the register that is due, and zeros after it
-abbrev pub register_of : Transfer → CardDesc → List ℕ
-register_of ScrDue d = scr
-register_of SdStatusDue d = sd_status
-register_of transfer d = ext_csd_of d.sectors
+-- the register that is due, as it is in a mode, and zeros after it
+abbrev pub register_of : Transfer → CardDesc → Mode → List ℕ
+register_of ScrDue d mode = scr
+register_of SdStatusDue d mode = sd_status
+register_of transfer d mode = ext_csd_of mode d.sectors d.boot_size_mult
 
 abbrev pub padded : List ℕ → (count : ℕ) → List ℕ
 padded register count = take count (register ++ replicate count 0)
 
-abbrev pub receives_register : SimState → ℕ → Bool
-receives_register s count = recv_reg_legal s.card.state s.card.transfer && nat_le 1 count
+abbrev pub receives_register : SimState → (lines count : ℕ) → Bool
+receives_register s lines count =
+    recv_reg_legal s.card.state s.card.transfer && on_lines s.card lines && nat_le 1 count
 
 -- it asks nothing of the image, so the behavior alone cuts it
 pub record ReceivesRegister (end : DataEnd) (bytes : List ℕ) (s s' : SimState) : Type 0 where
   pub goes : Goes (phase_over end s.card) s s'
   pub end_is : (if cuts (behavior_of s) then Cut else Ok) ≡ end
-  pub truth : IfEndedWell end (bytes ≡ padded (register_of s.card.transfer s.desc) (length bytes))
+  pub truth : IfEndedWell end (bytes ≡ padded (register_of s.card.transfer s.desc s.card.mode) (length bytes))
   pub same : s.blocks ≡ s'.blocks
 
 pub record TakesBlocks (end : DataEnd) (blocks : List Block) (s s' : SimState) : Type 0 where
   pub goes : Goes (phase_over end s.card) s s'
   pub end_fits : EndFits (behavior_of s) s.failed s'.failed end
-  pub stored : IfEndedWell end (Shown s.card.next_block blocks s'.blocks)
-  pub others : OnlyAt s.card.next_block (length blocks) s.blocks s'.blocks
+  pub stored : IfEndedWell end (Shown (next_place s.desc s.card) blocks s'.blocks)
+  pub others : OnlyAt (next_place s.desc s.card) (length blocks) s.blocks s'.blocks
   -- the behavior that cuts the phase stores nothing
   pub nothing : cuts (behavior_of s) ≡ true → s.blocks ≡ s'.blocks
-  pub fit : AreSized s.desc.capacity s.blocks → AreSized s.desc.capacity s'.blocks
+  pub fit : AreSized (image_size s.desc) s.blocks → AreSized (image_size s.desc) s'.blocks
 
 -- WAITS
 
@@ -198,11 +222,12 @@ SimSteps s (TransferFrame frame) (Transferred end response) s' =
     Transfers (heard_of s command) end response s s')
     × (((command : Command) → IsCommand command → IsCommandFrame command frame → ⊥) →
     Transfers (unheard s.card) end response s s')
-SimSteps s (OtherCall (DataIn count)) (OtherReturn (BlocksIn end blocks)) s' =
-    (length blocks ≡ count) × MatchBool (receives s count) (Receives end blocks s s') (Refused end s s')
-SimSteps s (OtherCall (DataInRegister count)) (OtherReturn (RegisterIn end bytes)) s' =
-    (length bytes ≡ count) × MatchBool (receives_register s count) (ReceivesRegister end bytes s s') (Refused end s s')
-SimSteps s (OtherCall (DataOut blocks)) (OtherReturn (BlocksOut end)) s' =
-    MatchBool (takes_blocks s (length blocks)) (TakesBlocks end blocks s s') (Refused end s s')
+SimSteps s (OtherCall (DataIn lines count)) (OtherReturn (BlocksIn end blocks)) s' =
+    (length blocks ≡ count) × MatchBool (receives s lines count) (Receives end blocks s s') (Refused end s s')
+SimSteps s (OtherCall (DataInRegister lines count)) (OtherReturn (RegisterIn end bytes)) s' =
+    (length bytes ≡ count)
+    × MatchBool (receives_register s lines count) (ReceivesRegister end bytes s s') (Refused end s s')
+SimSteps s (OtherCall (DataOut lines blocks)) (OtherReturn (BlocksOut end)) s' =
+    MatchBool (takes_blocks s lines (length blocks)) (TakesBlocks end blocks s s') (Refused end s s')
 SimSteps s (OtherCall WaitWhileBusy) (OtherReturn (Waited end)) s' = Waits end s s'
 SimSteps s call returned s' = ⊥

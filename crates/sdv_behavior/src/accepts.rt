@@ -9,12 +9,12 @@ use crate::card_state::CardState;
 use crate::heard::matches;
 use crate::rows::block_of;
 use sdv_card::state_table::order_legal;
-use sdv_card::{Fields, Kind, Order};
+use sdv_card::{Fields, Kind, Order, Partition, Width};
 use sdv_description::CardDesc;
 use sdv_emmc::EmmcTable;
 use sdv_sd::SdTable;
 
-/// The card beside a host whose relative address is in the argument.
+/// The card beside a host whose relative address is in the argument; no command asks for the host's data lines.
 fn fields_at(desc: &CardDesc, argument: u32, s: &CardState) -> Fields
     ensures { result ≡ fields_at desc.now argument s.now }
 {
@@ -26,6 +26,8 @@ fn fields_at(desc: &CardDesc, argument: u32, s: &CardState) -> Fields
         length_512: s.block_length == 512,
         app: s.app,
         matched: matches(s.rca, argument),
+        mode: s.mode,
+        lines: Width::One,
         flags: 0,
         preset: s.preset,
     }
@@ -57,23 +59,24 @@ fn order_blocks(order: Order) -> Option<u16>
     }
 }
 
-/// The argument is the address of a block in the card's unit, and the card has so many blocks from there on.
-fn has_blocks(desc: &CardDesc, argument: u32, count: Option<u16>) -> bool
-    ensures { result ≡ has_blocks desc.now argument count }
+/// The argument is the address of a block in the card's unit, and the partition has so many blocks from there on.
+fn has_blocks(desc: &CardDesc, partition: Partition, argument: u32, count: Option<u16>) -> bool
+    ensures { result ≡ has_blocks desc.now partition argument count }
 {
     match count {
         None => true,
         Some(count) => {
             (desc.block_unit || argument % 512 == 0)
-                && block_of(desc.block_unit, argument) + u64::from(count) <= desc.capacity
+                && block_of(desc.block_unit, argument) + u64::from(count)
+                    <= desc.partition_size(partition)
         }
     }
 }
 
-/// The command is legal in the card's state, and the card has its blocks.
+/// The command is legal in the card's state, and the partition in access has its blocks.
 pub fn accepts(desc: &CardDesc, order: Order, argument: u32, s: &CardState) -> bool
     ensures { result ≡ accepts desc.now order argument s.now }
 {
     is_legal(desc.kind, order, &fields_at(desc, argument, s))
-        && has_blocks(desc, argument, order_blocks(order))
+        && has_blocks(desc, s.mode.partition, argument, order_blocks(order))
 }

@@ -4,7 +4,7 @@ ghost use Rattle.std.specs.Prelude.{◌≡◌};
 ghost use Rattle.sdv_behavior.specs.Commands.{sd_order_read, emmc_order_read, order_read};
 
 use crate::rows::count_of;
-use sdv_card::{Kind, Order};
+use sdv_card::{Kind, Order, Partition, Setting, Width};
 use sdv_frames::Command;
 
 /// The command, if cards of the kind have it. CMD18 and CMD25 have the preset count, or one block.
@@ -26,6 +26,8 @@ fn sd_order_read(preset: u16, index: u8, argument: u32) -> Option<Order>
         (0, 0) => Order::GoIdleState,
         (2, 0) => Order::AllSendCid,
         (3, 0) => Order::SendRelativeAddress,
+        (6, 0) => Order::SetBusWidth { width: Width::One },
+        (6, 2) => Order::SetBusWidth { width: Width::Four },
         (7, _) => Order::SelectCard,
         (8, 0x0000_01aa) => Order::SendIfCond,
         (9, _) => Order::SendCsd,
@@ -62,6 +64,24 @@ fn emmc_order_read(preset: u16, index: u8, argument: u32) -> Option<Order>
         (1, 0x40ff_8080) => Order::SendOpCond,
         (2, 0) => Order::AllSendCid,
         (3, 0x0001_0000) => Order::SetRelativeAddress,
+        (6, 0x03b7_0000) => Order::Switch {
+            setting: Setting::Lines(Width::One),
+        },
+        (6, 0x03b7_0100) => Order::Switch {
+            setting: Setting::Lines(Width::Four),
+        },
+        (6, 0x03b7_0200) => Order::Switch {
+            setting: Setting::Lines(Width::Eight),
+        },
+        (6, 0x03b3_0000) => Order::Switch {
+            setting: Setting::Access(Partition::User),
+        },
+        (6, 0x03b3_0100) => Order::Switch {
+            setting: Setting::Access(Partition::Boot1),
+        },
+        (6, 0x03b3_0200) => Order::Switch {
+            setting: Setting::Access(Partition::Boot2),
+        },
         (7, _) => Order::SelectCard,
         (8, 0) => Order::SendExtCsd,
         (9, _) => Order::SendCsd,

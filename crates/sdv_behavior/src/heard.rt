@@ -2,7 +2,7 @@
 
 ghost use Rattle.std.specs.Prelude.{◌≡◌, ◌/◌, IfSome};
 ghost use Rattle.sdv_frames.specs.Frame.{HasIndex};
-ghost use Rattle.sdv_behavior.specs.Heard.{settled_by, reports, deed_of, row_deed, is_ready, is_erase, unheard, does, done_as, hear_at, hear};
+ghost use Rattle.sdv_behavior.specs.Heard.{settled_by, reports, deed_of, row_deed, is_erase, unheard, does, done_as, hear_at, hear};
 ghost use Rattle.sdv_card.specs.Takes.{matches};
 ghost use Rattle.sdv_behavior.specs.Commands.{order_read};
 ghost use Rattle.sdv_behavior.specs.SimSteps.{heard_order};
@@ -10,6 +10,7 @@ ghost use Rattle.sdv_behavior.specs.SimSteps.{heard_order};
 use crate::accepts::accepts;
 use crate::behavior::Behavior;
 use crate::card_state::CardState;
+use crate::choice::{Choice, choice_of};
 use crate::commands::order_read;
 use crate::replies::reply_of;
 use crate::rows::{stays, taken_by};
@@ -98,17 +99,6 @@ fn row_deed(behavior: Behavior, row: Row) -> Deed
     }
 }
 
-/// CMD1 or ACMD41 makes the card ready.
-fn is_ready(behavior: Behavior, row: Row, block_unit: bool, checked: bool) -> bool
-    ensures { result ≡ is_ready behavior row block_unit checked }
-{
-    match (behavior, row) {
-        (Behavior::IsSlow, _) => false,
-        (_, Row::Acmd41 { high_capacity }) => !block_unit || (high_capacity && checked),
-        _ => true,
-    }
-}
-
 /// CMD38 writes zeros.
 fn is_erase(row: Row) -> bool
     ensures { result ≡ is_erase row }
@@ -120,25 +110,32 @@ fn is_erase(row: Row) -> bool
 }
 
 /// What comes of a row at a settled state.
-fn does(desc: &CardDesc, deed: Deed, row: Row, argument: u32, ready: bool, t: &CardState) -> Heard
-    ensures heard { result ≡ does desc.now deed row argument ready t.now }
+fn does(
+    desc: &CardDesc,
+    deed: Deed,
+    row: Row,
+    argument: u32,
+    choice: Choice,
+    t: &CardState,
+) -> Heard
+    ensures heard { result ≡ does desc.now deed row argument choice t.now }
     ensures index { IfSome result.reply HasIndex }
 {
     match deed {
         Deed::Loses => Heard::unheard(*t),
         Deed::TakesUnheard => Heard {
-            after: taken_by(desc, row, argument, ready, t),
+            after: taken_by(desc, row, argument, choice, t),
             reply: None,
             erases: is_erase(row),
         },
         Deed::Takes { error } => Heard {
-            after: taken_by(desc, row, argument, ready, t),
-            reply: reply_of(desc, row, t.state, true, error, ready),
+            after: taken_by(desc, row, argument, choice, t),
+            reply: reply_of(desc, row, t, true, error, choice.ready),
             erases: is_erase(row),
         },
         Deed::Stays => Heard {
             after: stays(t),
-            reply: reply_of(desc, row, t.state, false, true, ready),
+            reply: reply_of(desc, row, t, false, true, choice.ready),
             erases: false,
         },
     }
@@ -162,8 +159,8 @@ fn hear_at(desc: &CardDesc, behavior: Behavior, order: Order, argument: u32, t: 
     match taken_as(order, t.app, matches(t.rca, argument)) {
         TakenAs::Forbidden | TakenAs::Ignored => Heard::unheard(*t),
         TakenAs::By(row) => {
-            let ready = is_ready(behavior, row, desc.block_unit, t.checked);
-            does(desc, row_deed(behavior, row), row, argument, ready, t)
+            let choice = choice_of(desc, behavior, row, t.checked);
+            does(desc, row_deed(behavior, row), row, argument, choice, t)
         }
     }
 }

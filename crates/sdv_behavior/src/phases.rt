@@ -2,7 +2,8 @@
 
 ghost use Rattle.std.specs.Prelude.{◌≡◌, ◌<◌, ◌≤◌, ◌+◌, ◌^◌, IsTrue};
 ghost use Rattle.sdv_card.specs.Legal.{recv_legal, recv_reg_legal, give_legal};
-ghost use Rattle.sdv_behavior.specs.SimSteps.{cuts, phase_over, length_fits, wait_end, wait_state, first_place};
+ghost use Rattle.sdv_description.specs.Layout.{image_size};
+ghost use Rattle.sdv_behavior.specs.SimSteps.{cuts, phase_over, on_lines, length_fits, next_place, wait_end, wait_state, first_place};
 
 use crate::behavior::Behavior;
 use crate::card_state::CardState;
@@ -34,17 +35,34 @@ pub fn phase_over(end: DataEnd, s: &CardState) -> CardState
     }
 }
 
-/// A block phase has blocks, the card has them, and a transfer that is not open has as many.
+/// A phase uses the card's data lines.
+pub fn on_lines(s: &CardState, lines: u8) -> bool
+    ensures { result ≡ on_lines s.now lines }
+{
+    lines == s.mode.width.lines()
+}
+
+/// A block phase has blocks, the partition in access has them, and a transfer that is not open has as many.
+#[tactic(auto, using(sdv_description::proofs::LayoutLaws::places))]
 pub fn length_fits(desc: &CardDesc, s: &CardState, count: usize) -> bool
     ensures fits { result ≡ length_fits desc.now s.now count }
-    ensures room { IsTrue result → s.now.next_block + count ≤ desc.now.capacity }
-    ensures narrow { IsTrue result → s.now.next_block + count < 2 ^ 64 }
+    ensures room { IsTrue result → next_place desc.now s.now + count ≤ image_size desc.now }
+    ensures narrow { IsTrue result → next_place desc.now s.now + count < 2 ^ 64 }
 {
     let count = count as u64;
+    let size = desc.partition_size(s.mode.partition);
     1 <= count
-        && s.next_block <= desc.capacity
-        && count <= desc.capacity - s.next_block
+        && s.next_block <= size
+        && count <= size - s.next_block
         && (s.transfer.is_open() || count == u64::from(s.announced))
+}
+
+/// The place in the image of the next block of a transfer.
+pub fn next_place(desc: &CardDesc, s: &CardState) -> u64
+    requires { next_place desc.now s.now < 2 ^ 64 }
+    ensures { result ≡ next_place desc.now s.now }
+{
+    desc.partition_place(s.mode.partition) + s.next_block
 }
 
 /// How a wait ends.

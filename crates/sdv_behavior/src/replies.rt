@@ -4,10 +4,11 @@ ghost use Rattle.std.specs.Prelude.{◌≡◌, ◌<◌, ◌^◌, IfSome};
 ghost use Rattle.sdv_frames.specs.Frame.{HasIndex};
 ghost use Rattle.sdv_card.specs.Responses.{row_index};
 ghost use Rattle.sdv_description.specs.Registers.{cid_of};
-ghost use Rattle.sdv_behavior.specs.Replies.{shows_app, reply_of};
+ghost use Rattle.sdv_behavior.specs.Replies.{shows_app, shows_switch, reply_of};
 
+use crate::card_state::CardState;
 use crate::words::{address_word, conditions_word, status_word};
-use sdv_card::{Kind, Row, State};
+use sdv_card::{Kind, Row};
 use sdv_description::CardDesc;
 use sdv_frames::Reply;
 
@@ -37,6 +38,7 @@ fn row_index(row: Row) -> u8
         Row::Cmd1 => 1,
         Row::Cmd2 => 2,
         Row::Cmd3Sd | Row::Cmd3Emmc => 3,
+        Row::Cmd6 { .. } | Row::Acmd6 { .. } => 6,
         Row::Cmd7Addressed | Row::Cmd7NotAddressed => 7,
         Row::Cmd8Sd | Row::Cmd8Emmc => 8,
         Row::Cmd9 => 9,
@@ -60,26 +62,36 @@ fn row_index(row: Row) -> u8
     }
 }
 
-/// The answer shows bit 5.
+/// The answer shows bit 5, where the card took the row.
 fn shows_app(row: Row) -> bool
     ensures { result ≡ shows_app row }
 {
     match row {
-        Row::Cmd55 | Row::Acmd13 | Row::Acmd51 => true,
+        Row::Cmd55 | Row::Acmd6 { .. } | Row::Acmd13 | Row::Acmd51 => true,
         _ => false,
     }
 }
 
-/// The answer of a card that took the row, or stayed, in a state.
+/// The answer shows a pending switch error in bit 7.
+fn shows_switch(row: Row) -> bool
+    ensures { result ≡ shows_switch row }
+{
+    match row {
+        Row::Cmd13 => true,
+        _ => false,
+    }
+}
+
+/// The answer of a card that took the row, or stayed.
 pub fn reply_of(
     desc: &CardDesc,
     row: Row,
-    state: State,
+    t: &CardState,
     took: bool,
     error: bool,
     ready: bool,
 ) -> Option<Reply>
-    ensures reply { result ≡ reply_of desc.now row state took error ready }
+    ensures reply { result ≡ reply_of desc.now row t.now took error ready }
     ensures index { IfSome result HasIndex }
 {
     let reply = match row {
@@ -89,11 +101,16 @@ pub fn reply_of(
         Row::Cmd1 => Reply::R3(conditions_word(Kind::Emmc, desc.block_unit, ready)),
         Row::Acmd41 { .. } => Reply::R3(conditions_word(Kind::Sd, desc.block_unit, ready)),
         Row::Cmd2 | Row::Cmd10 => Reply::R2(cid_of(desc.kind)),
-        Row::Cmd3Sd => Reply::R6(address_word(desc.rca, state, error)),
+        Row::Cmd3Sd => Reply::R6(address_word(desc.rca, t.state, error)),
         Row::Cmd9 => Reply::R2(desc.csd),
         _ => Reply::R1 {
             index: row_index(row),
-            status: status_word(state, took && shows_app(row), error),
+            status: status_word(
+                t.state,
+                took && shows_app(row),
+                shows_switch(row) && t.mode.error,
+                error,
+            ),
         },
     };
     Some(reply)

@@ -3,12 +3,13 @@
 ghost use Rattle.std.specs.Prelude.{◌≡◌};
 ghost use Rattle.sdv_card.specs.StateTable.{rows, targets};
 ghost use Rattle.sdv_card.specs.NextStates.{next_states};
-ghost use Rattle.sdv_behavior.specs.RowTaken.{state_next, rca_next, app_next, length_next, preset_next, block_next, count_of, announced_next, checked_next, first_next, last_next, taken_by, stays};
+ghost use Rattle.sdv_behavior.specs.RowTaken.{state_next, rca_next, app_next, length_next, mode_next, preset_next, block_next, count_of, announced_next, checked_next, first_next, last_next, taken_by, stays};
 ghost use Rattle.sdv_card.specs.Taken.{block_of};
 
 use crate::card_state::CardState;
+use crate::choice::Choice;
 use sdv_card::state_table::{Rows, erase_after, transfer_after};
-use sdv_card::{Kind, Row, State};
+use sdv_card::{Kind, Mode, Row, Setting, State};
 use sdv_description::CardDesc;
 use sdv_emmc::EmmcTable;
 use sdv_sd::SdTable;
@@ -66,6 +67,19 @@ fn length_next(described: u16, row: Row, length: u16) -> u16
         Row::Cmd0 => described,
         Row::Cmd16 => 512,
         _ => length,
+    }
+}
+
+/// The mode.
+fn mode_next(row: Row, fails: bool, mode: Mode) -> Mode
+    ensures { result ≡ mode_next row fails mode }
+{
+    match row {
+        Row::Cmd0 => Mode::first(),
+        Row::Acmd6 { width } => mode.set(Setting::Lines(width)).calm(),
+        Row::Cmd6 { .. } if fails => mode.failed(),
+        Row::Cmd6 { setting } => mode.set(setting).calm(),
+        _ => mode.calm(),
     }
 }
 
@@ -153,15 +167,22 @@ fn last_next(row: Row, block_unit: bool, argument: u32, block: u64) -> u64
 }
 
 /// The card after a row that it takes.
-pub fn taken_by(desc: &CardDesc, row: Row, argument: u32, ready: bool, t: &CardState) -> CardState
-    ensures { result ≡ taken_by desc.now row argument ready t.now }
+pub fn taken_by(
+    desc: &CardDesc,
+    row: Row,
+    argument: u32,
+    choice: Choice,
+    t: &CardState,
+) -> CardState
+    ensures { result ≡ taken_by desc.now row argument choice t.now }
 {
     CardState {
-        state: state_next(desc.kind, row, ready, t.state),
+        state: state_next(desc.kind, row, choice.ready, t.state),
         rca: rca_next(desc.rca, row, t.rca),
         app: app_next(row),
         block_length: length_next(desc.block_length, row, t.block_length),
         erase: erase_after(row, t.erase),
+        mode: mode_next(row, choice.switch_fails, t.mode),
         preset: preset_next(row, t.preset),
         transfer: transfer_after(row, t.preset, t.transfer),
         next_block: block_next(row, desc.block_unit, argument, t.next_block),
@@ -176,5 +197,9 @@ pub fn taken_by(desc: &CardDesc, row: Row, argument: u32, ready: bool, t: &CardS
 pub fn stays(t: &CardState) -> CardState
     ensures { result ≡ stays t.now }
 {
-    CardState { app: false, ..*t }
+    CardState {
+        app: false,
+        mode: t.mode.calm(),
+        ..*t
+    }
 }

@@ -4,7 +4,7 @@ ghost use Rattle.std.specs.Prelude.{◌≡◌};
 ghost use Rattle.sdv_behavior.specs.CardOf.{at_start};
 
 use crate::card_state::CardState;
-use sdv_card::{EraseStage, State, Transfer};
+use sdv_card::{EraseStage, Mode, State, Transfer};
 use sdv_description::CardDesc;
 
 impl CardState {
@@ -18,6 +18,7 @@ impl CardState {
             app: false,
             block_length: desc.block_length,
             erase: EraseStage::Outside,
+            mode: Mode::first(),
             preset: 0,
             transfer: Transfer::Nothing,
             next_block: 0,

@@ -22,11 +22,15 @@ fn bit_if(set: bool, bit: u32) -> u32
     if set { bit } else { 0 }
 }
 
-/// The card status: the state, ready for data, and two bits.
-pub fn status_word(state: State, app: bool, error: bool) -> u32
-    ensures { result ≡ status_word state app error }
+/// The card status: the state, ready for data, and three bits.
+pub fn status_word(state: State, app: bool, switch: bool, error: bool) -> u32
+    ensures { result ≡ status_word state app switch error }
 {
-    bit_if(error, 0x80000) + 512 * u32::from(state.number()) + ready_bit(state) + bit_if(app, 0x20)
+    bit_if(error, 0x80000)
+        + 512 * u32::from(state.number())
+        + ready_bit(state)
+        + bit_if(switch, 0x80)
+        + bit_if(app, 0x20)
 }
 
 /// The word of an R6.

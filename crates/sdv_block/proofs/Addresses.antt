@@ -10,6 +10,7 @@ use Rattle.sdv_card.specs.Taken.{block_of}
 use Rattle.sdv_graph.specs.AddressSent.{position_of_command}
 use Rattle.sdv_graph.specs.Counts.{max_number}
 use Rattle.sdv_block.specs.RequestStatements.{address_of}
+use Rattle.sdv_block.proofs.UserArea.{IsUser, user_room}
 
 abbrev in_unit : Bool → ℕ → ℕ
 in_unit unit block = if unit then block else 512 * block
@@ -34,8 +35,10 @@ named unit other block position argument is same sent =
     (subst (λ n. block_of unit argument ≡ n) (sym is) (subst (λ n. block_of unit n ≡ position) (sym sent) (named_in unit position)))
 
 -- and the card has it, with the blocks behind it
-pub named_within : (c : Card) (block count position argument : ℕ) → block ≡ position → Within c position argument count → block + count ≤ c.capacity
-named_within c block count position argument is w = subst (λ n. n + count ≤ c.capacity) (sym is) w.room
+pub named_within : (c : Card) (block count position argument : ℕ) → IsUser c → block ≡ position → Within c position argument count
+    → block + count ≤ c.capacity
+named_within c block count position argument user is w =
+    subst (λ n. n + count ≤ c.capacity) (sym is) (user_room c position argument count user w)
 
 -- no command changes the flags
 pub order_flags : (o : Option Order) (answer : Answer) (h : Host) → (host_after_order o answer h).flags ≡ h.flags

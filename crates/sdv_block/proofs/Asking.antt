@@ -18,9 +18,10 @@ use Rattle.sdv_facts.specs.Beside.{IsAllowed}
 use Rattle.sdv_block.specs.RequestStatements.{only_if}
 use Rattle.sdv_block.specs.Served.{AllowedSteps}
 use Rattle.sdv_block.proofs.Addresses.{order_flags}
-use Rattle.sdv_block.proofs.CardSteps.{send_keeps, send_same}
+use Rattle.sdv_block.proofs.CardSteps.{Spares, send_keeps, send_same}
 use Rattle.sdv_block.proofs.Parts.{Halts, halts_in_fault, either, argument_at, command_at, Sent, send_part, Past}
 use Rattle.sdv_block.proofs.Quiet.{Quiet, HaltedQuiet, halted_later, halted_here}
+use Rattle.sdv_block.proofs.UserArea.{send_user}
 
 -- the command was answered, and the guards hold of the answer
 pub record Asked (k : Kind) (command : ScriptCommand) (guards : List Guard) (c : Card) (h : Host) (front : List Pair) (u : Card) (h' : Host) : Type 0 where
@@ -32,7 +33,7 @@ pub record Asked (k : Kind) (command : ScriptCommand) (guards : List Guard) (c :
   pub allowed : IsAllowed (command_at k command h position) c
   pub sends : Sends command.ask (argument_at k command h position) c answer u
 
-module _ (k : Kind) (e : Ending) (command : ScriptCommand) (ways : Ways) (other : command.ask.index ≡ 38 → ⊥) (fell broke : Rest) (h : Host) (es : List Pair)
+module _ (k : Kind) (e : Ending) (command : ScriptCommand) (ways : Ways) (other : Spares command.ask.index) (fell broke : Rest) (h : Host) (es : List Pair)
     (c last : Card) where
   -- the pair of the command, and what the host is after it
   abbrev pub asked : Sent k e command ways fell broke h es c last → Pair
@@ -44,7 +45,8 @@ module _ (k : Kind) (e : Ending) (command : ScriptCommand) (ways : Ways) (other 
   pub quiet_command : (s : Sent k e command ways fell broke h es c last) → Quiet c h (asked s ∷ []) s.after (host s)
   quiet_command s = record {
     same = send_same command.ask (argument_at k command h s.position) c s.after s.answer s.sends;
-    contents = send_keeps command.ask (argument_at k command h s.position) c s.after s.answer other s.sends;
+    contents = send_keeps command.ask (argument_at k command h s.position) c s.after s.answer other.no_erase s.sends;
+    user = λ user. send_user command.ask (argument_at k command h s.position) c s.after s.answer other.no_switch s.sends user;
     read = refl;
     gave = refl;
     flags = order_flags (order_of k command.ask) s.answer h;
@@ -57,7 +59,7 @@ module _ (k : Kind) (e : Ending) (command : ScriptCommand) (ways : Ways) (other 
       halted_later e es (asked s ∷ []) s.rest c s.after last h (host s) s.same (quiet_command s)
       (halted_here e s.rest s.after last (halts_in_fault e name s.rest early f) s.steps)
 
-module _ (k : Kind) (e : Ending) (command : ScriptCommand) (guards : List Guard) (name : List ℕ) (other : command.ask.index ≡ 38 → ⊥)
+module _ (k : Kind) (e : Ending) (command : ScriptCommand) (guards : List Guard) (name : List ℕ) (other : Spares command.ask.index)
     (early : bytes_eq name (codes "beyond") ≡ false)
     (fell broke : Rest) (h : Host) (es : List Pair) (c last : Card) where
   abbrev SentIt : Type 0

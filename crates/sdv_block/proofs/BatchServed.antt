@@ -13,6 +13,7 @@ use Rattle.sdv_block.specs.Served.{blocks_read, IsEarly, disk_blocks, disk_of, E
 use Rattle.sdv_block.proofs.DiskLaws.{grows, same_outside}
 use Rattle.sdv_block.proofs.Parts.{allowed_steps}
 use Rattle.sdv_block.proofs.Serving.{not_early}
+use Rattle.sdv_block.proofs.UserArea.{same_boots, same_disks}
 use Rattle.sdv_block.proofs.WholeBatch.{Outcome, batch_walk}
 
 -- an early end is not the fault `beyond`
@@ -41,17 +42,20 @@ undone rs e es c last f read left =
 of_outcome : (rs : List Request) (e : Ending) (es : List Pair) (c last : Card) → Outcome (greatest_end rs) rs e es c last → ServedBatch rs e es c last
 of_outcome rs e es c last (inl q) = record {
   ends = undone rs e es c last (not_early e q.early) q.read;
-  outside = same_outside rs (disk_blocks c) (disk_blocks last) q.contents;
+  outside = same_outside rs (disk_blocks c) (disk_blocks last) (same_disks c last q.contents);
+  boot = same_boots c last q.contents;
   beyond = λ is. absurd (not_beyond e q.early is);
 }
 of_outcome rs e es c last (inr (inl r)) = record {
   ends = undone rs e es c last (λ is. done_not_beyond e is r.is) r.read;
-  outside = same_outside rs (disk_blocks c) (disk_blocks last) r.contents;
+  outside = same_outside rs (disk_blocks c) (disk_blocks last) (same_disks c last r.contents);
+  boot = same_boots c last r.contents;
   beyond = λ is. r.small;
 }
 of_outcome rs e es c last (inr (inr s)) = record {
   ends = λ left. s.served.ends left [];
   outside = s.served.outside;
+  boot = s.served.boot;
   beyond = λ is. absurd (over_not_beyond e s.served.over is);
 }
 

@@ -1,5 +1,5 @@
 -- THE BRING-UP beside a card: the walk halts quietly, or goes on with the card's unit in the first flag.
-use Rattle.std.proofs.Common.{◌≡◌, ℕ, inl, inr, refl, sym, ap, ◌∙◌, arith, List, [], ◌∷◌, ◌++◌, append_assoc}
+use Rattle.std.proofs.Common.{◌≡◌, inl, inr, refl, sym, ap, ◌∙◌, List, [], ◌∷◌, ◌++◌, append_assoc}
 use Rattle.std.specs.Prelude.{◌⊎◌, codes}
 use Rattle.sdv_registers.specs.declared.kind.Kind.{Kind}
 use Rattle.sdv_registers.specs.declared.kind.Kind.TheVariants.{Sd, Emmc}
@@ -15,31 +15,32 @@ use Rattle.sdv_facts.specs.Keeps.{IsHonest}
 use Rattle.sdv_block.specs.RequestStatements.{only_if}
 use Rattle.sdv_block.specs.BringUpStatements.{plain, sends_anyway, until_ready, app_statement, op_cond_statement, ready_statements, select_statements}
 use Rattle.sdv_block.specs.Served.{AllowedSteps, blocks_read}
+use Rattle.sdv_block.proofs.CardSteps.{Spares, spares}
 use Rattle.sdv_block.proofs.Knowing.{Knowing, and_on, anyway_part, guarded_part}
 use Rattle.sdv_block.proofs.ReadyLoop.{FoundUnit, before, ready_part, app_turn, op_cond_turn}
 use Rattle.sdv_block.proofs.Parts.{Past}
 use Rattle.sdv_block.proofs.Quiet.{HaltedQuiet, read_none, gave_none}
 
-not_0 : ◌≡◌ {A = ℕ} 0 38 → ⊥
-not_0 e = absurd (omega arith)
+spares_0 : Spares 0
+spares_0 = spares 0 refl refl
 
-not_2 : ◌≡◌ {A = ℕ} 2 38 → ⊥
-not_2 e = absurd (omega arith)
+spares_2 : Spares 2
+spares_2 = spares 2 refl refl
 
-not_3 : ◌≡◌ {A = ℕ} 3 38 → ⊥
-not_3 e = absurd (omega arith)
+spares_3 : Spares 3
+spares_3 = spares 3 refl refl
 
-not_7 : ◌≡◌ {A = ℕ} 7 38 → ⊥
-not_7 e = absurd (omega arith)
+spares_7 : Spares 7
+spares_7 = spares 7 refl refl
 
-not_8 : ◌≡◌ {A = ℕ} 8 38 → ⊥
-not_8 e = absurd (omega arith)
+spares_8 : Spares 8
+spares_8 = spares 8 refl refl
 
-not_9 : ◌≡◌ {A = ℕ} 9 38 → ⊥
-not_9 e = absurd (omega arith)
+spares_9 : Spares 9
+spares_9 = spares 9 refl refl
 
-not_16 : ◌≡◌ {A = ℕ} 16 38 → ⊥
-not_16 e = absurd (omega arith)
+spares_16 : Spares 16
+spares_16 = spares 16 refl refl
 
 module _ (k : Kind) (e : Ending) (fell broke : Rest) (last : Card) where
   abbrev Walks : Statements → Rest
@@ -58,10 +59,10 @@ module _ (k : Kind) (e : Ending) (fell broke : Rest) (last : Card) where
 
   -- a first command, whatever is answered
   idle_part : (rest : Statements) → Does (first (sends_anyway 0) rest) (Walks rest)
-  idle_part rest h es c honest walk steps = anyway_part k e (plain 0 Plain 0) not_0 (Walks rest) broke h es c last honest walk steps
+  idle_part rest h es c honest walk steps = anyway_part k e (plain 0 Plain 0) spares_0 (Walks rest) broke h es c last honest walk steps
 
   if_cond_part : (rest : Statements) → Does (first (sends_anyway 8) rest) (Walks rest)
-  if_cond_part rest h es c honest walk steps = anyway_part k e (plain 8 Plain 0) not_8 (Walks rest) broke h es c last honest walk steps
+  if_cond_part rest h es c honest walk steps = anyway_part k e (plain 8 Plain 0) spares_8 (Walks rest) broke h es c last honest walk steps
 
   -- the commands after the loop, each with its fault
   abbrev blen_on : Statements → Statements
@@ -78,27 +79,27 @@ module _ (k : Kind) (e : Ending) (fell broke : Rest) (last : Card) where
 
   blen_part : (rest : Statements) → Does (blen_on rest) (Walks rest)
   blen_part rest h es c honest walk steps =
-      guarded_part k e (plain 16 Plain 0) not_16 (Walks rest) broke h es c last honest (Clean ∷ []) (codes "blen") refl walk steps
+      guarded_part k e (plain 16 Plain 0) spares_16 (Walks rest) broke h es c last honest (Clean ∷ []) (codes "blen") refl walk steps
 
   select_part : (rest : Statements) → Does (select_on rest) (Walks rest)
   select_part rest h es c honest walk steps =
       and_then (blen_on rest) (Walks rest) (blen_part rest) h es c
-      (guarded_part k e (plain 7 Rca 0) not_7 (Walks (blen_on rest)) broke h es c last honest (Clean ∷ []) (codes "select") refl walk steps)
+      (guarded_part k e (plain 7 Rca 0) spares_7 (Walks (blen_on rest)) broke h es c last honest (Clean ∷ []) (codes "select") refl walk steps)
 
   csd_part : (rest : Statements) → Does (csd_on rest) (Walks rest)
   csd_part rest h es c honest walk steps =
       and_then (select_on rest) (Walks rest) (select_part rest) h es c
-      (guarded_part k e (plain 9 Rca 0) not_9 (Walks (select_on rest)) broke h es c last honest (Answer ∷ []) (codes "csd") refl walk steps)
+      (guarded_part k e (plain 9 Rca 0) spares_9 (Walks (select_on rest)) broke h es c last honest (Answer ∷ []) (codes "csd") refl walk steps)
 
   rca_part : (rest : Statements) → Does (rca_on rest) (Walks rest)
   rca_part rest h es c honest walk steps =
       and_then (csd_on rest) (Walks rest) (csd_part rest) h es c
-      (guarded_part k e (plain 3 Plain 0) not_3 (Walks (csd_on rest)) broke h es c last honest (Clean ∷ []) (codes "rca") refl walk steps)
+      (guarded_part k e (plain 3 Plain 0) spares_3 (Walks (csd_on rest)) broke h es c last honest (Clean ∷ []) (codes "rca") refl walk steps)
 
   cid_part : (rest : Statements) → Does (select_statements rest) (Walks rest)
   cid_part rest h es c honest walk steps =
       and_then (rca_on rest) (Walks rest) (rca_part rest) h es c
-      (guarded_part k e (plain 2 Plain 0) not_2 (Walks (rca_on rest)) broke h es c last honest (Answer ∷ []) (codes "cid") refl walk steps)
+      (guarded_part k e (plain 2 Plain 0) spares_2 (Walks (rca_on rest)) broke h es c last honest (Answer ∷ []) (codes "cid") refl walk steps)
 
   -- ALL BEFORE THE CAPACITY
 
@@ -122,6 +123,7 @@ module _ (k : Kind) (e : Ending) (fell broke : Rest) (last : Card) where
     did = record {
       same = same_both c w.card r.card w.did.same r.did.quiet.same;
       contents = w.did.contents ∙ r.did.quiet.contents;
+      user = λ user. r.did.quiet.user (w.did.user user);
       read = read_none w.front r.front w.did.read r.did.quiet.read;
       gave = gave_none w.front r.front w.did.gave r.did.quiet.gave;
       honest = r.did.honest;

@@ -1,5 +1,5 @@
 -- THE CAPACITY: past the statement that reads it, the first number is the card's; and the test of it.
-use Rattle.std.proofs.Common.{◌≡◌, ℕ, ◌<◌, ◌≤◌, inl, inr, refl, sym, ap, ◌∙◌, subst, Bool, true, false, List, [], ◌∷◌, ◌++◌, append_assoc, arith, Option, Some, None}
+use Rattle.std.proofs.Common.{◌≡◌, ℕ, ◌<◌, ◌≤◌, inl, inr, refl, sym, ap, ◌∙◌, subst, Bool, true, false, List, [], ◌∷◌, ◌++◌, append_assoc, Option, Some, None}
 use Rattle.std.specs.Prelude.{◌⊎◌, codes, nat_le, slice_set, slice_index, option_map, option_and_then, if◌then◌else◌}
 use Rattle.std.proofs.lemmas.Bool.{leb-true, leb-false}
 use Rattle.sdv_frames.specs.Bits.{bits_of}
@@ -10,6 +10,7 @@ use Rattle.sdv_registers.specs.declared.kind.Kind.TheVariants.{Sd, Emmc}
 use Rattle.sdv_card.specs.declared.answer.DataEnd.TheVariants.{Ok, Cut}
 use Rattle.sdv_card.specs.declared.event.Aim.TheVariants.{Plain}
 use Rattle.sdv_card.specs.declared.guard.Guard.TheVariants.{Clean}
+use Rattle.sdv_card.specs.declared.state.Partition.TheVariants.{User}
 use Rattle.sdv_card.specs.Card.{Card, AreBlocks}
 use Rattle.sdv_card.specs.Host.{Host, host_after}
 use Rattle.sdv_card.specs.HostEvents.{Makes}
@@ -34,9 +35,11 @@ use Rattle.sdv_facts.specs.Keeps.{IsHonest}
 use Rattle.sdv_block.specs.RequestStatements.{fails}
 use Rattle.sdv_block.specs.BringUpStatements.{plain, cap_from, ext_csd_statement, capacity_statement, capacity_test}
 use Rattle.sdv_block.specs.Served.{AllowedSteps, blocks_read, disk_blocks}
+use Rattle.sdv_block.proofs.CardSteps.{Spares, spares}
 use Rattle.sdv_block.proofs.Knowing.{Knowing, profile_kept, known_after}
 use Rattle.sdv_block.proofs.Parts.{Halts, halts, halts_in_fault, either, command_at, Acted, made, Sent, send_part, after_phase, phase_part, Past}
 use Rattle.sdv_block.proofs.Quiet.{HaltedQuiet, halted_later, halted_here, moved_contents, read_none, gave_none}
+use Rattle.sdv_block.proofs.UserArea.{IsUser, moved_user}
 
 -- THE VALUE of a register
 
@@ -79,7 +82,8 @@ ext_csd_value c h n honest told e = go h.ext_csd refl e
 
 pub record Counted (c : Card) (front : List Pair) (u : Card) (h' : Host) : Type 0 where
   pub same : SameCard c u
-  pub contents : disk_blocks c ≡ disk_blocks u
+  pub contents : c.contents ≡ u.contents
+  pub user : IsUser c → IsUser u
   pub read : blocks_read front ≡ []
   pub gave : given front ≡ []
   pub blocks : AreBlocks u.capacity (disk_blocks u)
@@ -101,6 +105,7 @@ counted_after k e fell c u last h i es front rest split w (inr r) = inr (record 
   did = record {
     same = same_both c u r.card w.quiet.same r.did.same;
     contents = w.quiet.contents ∙ r.did.contents;
+    user = λ user. r.did.user (w.quiet.user user);
     read = read_none front r.front w.quiet.read r.did.read;
     gave = gave_none front r.front w.quiet.gave r.did.gave;
     blocks = r.did.blocks;
@@ -128,9 +133,10 @@ module _ (k : Kind) (e : Ending) (fell broke : Rest) (h : Host) (es : List Pair)
     did = record {
       same = same_itself c c refl;
       contents = refl;
+      user = λ user. user;
       read = refl;
       gave = refl;
-      blocks = honest.pair.card.contents;
+      blocks = honest.pair.card.contents User;
       cap = subst (λ x. slice_index (slice_set h.numbers x n) 0 ≡ c.capacity) (sym target) (held h.numbers n numbers ∙ is n value);
     };
     on = on;
@@ -143,17 +149,24 @@ module _ (k : Kind) (e : Ending) (fell broke : Rest) (h : Host) (es : List Pair)
 
 -- A REGISTER PHASE keeps what the host knows true
 
-register_known : (k : Kind) (c v : Card) (h : Host) (returned : Return) → IsHonest k c h → IsAllowed (ReceiveRegister h.register_length) c →
-    Step (ReceiveRegister h.register_length) c returned v →
-    Knowing k c h ((ReceiveRegister h.register_length, returned) ∷ []) v (host_after k (ReceiveRegister h.register_length) returned h)
+register_known : (k : Kind) (c v : Card) (h : Host) (returned : Return) → IsHonest k c h → IsAllowed (ReceiveRegister h.lines h.register_length) c →
+    Step (ReceiveRegister h.lines h.register_length) c returned v →
+    Knowing k c h ((ReceiveRegister h.lines h.register_length, returned) ∷ []) v (host_after k (ReceiveRegister h.lines h.register_length) returned h)
 register_known k c v h (RegisterIn end bytes) honest allowed step =
-    let event : ScriptEvent = ReceiveRegister h.register_length in
+    let event : ScriptEvent = ReceiveRegister h.lines h.register_length in
     let h' : Host = host_after k event (RegisterIn end bytes) h in
     let same : SameCard c v = steps_keep_same k event c (RegisterIn end bytes) v honest.pair.kind step in
-    let made : Makes k event h = record { size = refl } in
+    let made : Makes k event h = record { lines_are = refl; size = refl } in
     let pair : IsPair k v h' = steps_keep_pairs k event c h (RegisterIn end bytes) v honest.pair made step in
     record {
-      quiet = record { same = same; contents = moved_contents end c v step.moved; read = refl; gave = refl; flags = refl };
+      quiet = record {
+        same = same;
+        contents = moved_contents end c v step.moved;
+        user = λ user. moved_user end c v step.moved user;
+        read = refl;
+        gave = refl;
+        flags = refl;
+      };
       honest = record {
         pair = pair;
         profile = profile_kept c v k h' pair same honest.profile;
@@ -185,12 +198,12 @@ module _ (e : Ending) (fell broke : Rest) (last : Card) where
   ext_told h c honest unit = told_by c Emmc true honest.pair.kind (sym unit) honest.profile.told
 
   register_by : (h : Host) (es : List Pair) (c : Card) → IsHonest Emmc c h → h.numbers ≡ 0 ∷ [] → c.block_unit ≡ true →
-      (returned : Return) (rest : List Pair) (v : Card) → es ≡ (ReceiveRegister h.register_length, returned) ∷ rest →
-      IsAllowed (ReceiveRegister h.register_length) c → Step (ReceiveRegister h.register_length) c returned v →
-      after_phase Emmc e in_ext ext_failed fell broke returned (host_after Emmc (ReceiveRegister h.register_length) returned h) rest →
+      (returned : Return) (rest : List Pair) (v : Card) → es ≡ (ReceiveRegister h.lines h.register_length, returned) ∷ rest →
+      IsAllowed (ReceiveRegister h.lines h.register_length) c → Step (ReceiveRegister h.lines h.register_length) c returned v →
+      after_phase Emmc e in_ext ext_failed fell broke returned (host_after Emmc (ReceiveRegister h.lines h.register_length) returned h) rest →
       AllowedSteps v rest last → CountOutcome e fell es c last
   register_by h es c honest numbers unit (RegisterIn Ok bytes) rest v same allowed step on steps =
-      let event : ScriptEvent = ReceiveRegister h.register_length in
+      let event : ScriptEvent = ReceiveRegister h.lines h.register_length in
       let w = register_known Emmc c v h (RegisterIn Ok bytes) honest allowed step in
       let i : Host = host_after Emmc event (RegisterIn Ok bytes) h in
       let told = ext_told i v w.honest (unit_kept c v w.quiet.same unit) in
@@ -198,18 +211,18 @@ module _ (e : Ending) (fell broke : Rest) (last : Card) where
       (let_part Emmc e fell broke i rest v last (cap_from atoms.ExtBlocks) refl w.honest (w.numbers ∙ numbers)
       (λ n value. ext_csd_value v i n w.honest told value) on steps)
   register_by h es c honest numbers unit (RegisterIn Cut bytes) rest v same allowed step on steps =
-      let event : ScriptEvent = ReceiveRegister h.register_length in
+      let event : ScriptEvent = ReceiveRegister h.lines h.register_length in
       let w = register_known Emmc c v h (RegisterIn Cut bytes) honest allowed step in
       inl (halted_later e es ((event, RegisterIn Cut bytes) ∷ []) rest c v last h (host_after Emmc event (RegisterIn Cut bytes) h) same w.quiet
       (halted_here e rest v last (halts_in_fault e (codes "ext") rest refl on) steps))
   register_by h es c honest numbers unit returned rest v same allowed step on steps = absurd step
 
   of_phase : (h : Host) (es : List Pair) (c : Card) → IsHonest Emmc c h → h.numbers ≡ 0 ∷ [] → c.block_unit ≡ true → AllowedSteps c es last →
-      Halts e es ⊎ Acted Emmc (exactly (ReceiveRegister h.register_length)) h (after_phase Emmc e in_ext ext_failed fell broke) es c last →
+      Halts e es ⊎ Acted Emmc (exactly (ReceiveRegister h.lines h.register_length)) h (after_phase Emmc e in_ext ext_failed fell broke) es c last →
       CountOutcome e fell es c last
   of_phase h es c honest numbers unit steps (inl halt) = inl (halted_here e es c last halt steps)
   of_phase h es c honest numbers unit steps (inr a) =
-      let m = made Emmc (ReceiveRegister h.register_length) h (after_phase Emmc e in_ext ext_failed fell broke) es c last a in
+      let m = made Emmc (ReceiveRegister h.lines h.register_length) h (after_phase Emmc e in_ext ext_failed fell broke) es c last a in
       register_by h es c honest numbers unit m.returned m.rest m.after m.same m.allowed m.step m.on m.steps
 
   abbrev ExtFailed : List Pair → Type 0
@@ -229,14 +242,14 @@ module _ (e : Ending) (fell broke : Rest) (last : Card) where
   of_ext h es c honest numbers unit steps (inl halt) = inl (halted_here e es c last halt steps)
   of_ext h es c honest numbers unit steps (inr s) =
       let i : Host = host_after Emmc (command_at Emmc (plain 8 Plain 0) h s.position) (Answered s.answer) h in
-      let w = known_after Emmc (plain 8 Plain 0) s.position c s.after h s.answer not_8 honest s.allowed s.sends in
+      let w = known_after Emmc (plain 8 Plain 0) s.position c s.after h s.answer spares_8 honest s.allowed s.sends in
       let b : Bool = all_pass Emmc (Clean ∷ []) (Answered s.answer) in
       counted_after Emmc e fell c s.after last h i es ((command_at Emmc (plain 8 Plain 0) h s.position, Answered s.answer) ∷ []) s.rest s.same w
       (if_clean i s.rest s.after b w.honest (w.numbers ∙ numbers) (unit_kept c s.after w.quiet.same unit) s.steps
       (either (phase_walk i s.rest) (ExtFailed s.rest) b s.on))
     where
-      not_8 : ◌≡◌ {A = ℕ} 8 38 → ⊥
-      not_8 e = absurd (omega arith)
+      spares_8 : Spares 8
+      spares_8 = spares 8 refl refl
 
   ext_part : (h : Host) (es : List Pair) (c : Card) → IsHonest Emmc c h → h.numbers ≡ 0 ∷ [] → c.block_unit ≡ true →
       walk_statement Emmc e ext_csd_statement fell broke h es → AllowedSteps c es last → CountOutcome e fell es c last

@@ -20,7 +20,7 @@ use Rattle.sdv_card.specs.declared.command.TakenAs.{TakenAs}
 use Rattle.sdv_card.specs.declared.command.TakenAs.TheVariants.{By}
 use Rattle.sdv_card.specs.declared.guard.Guard.TheVariants.{Clean, State as InState}
 use Rattle.sdv_card.specs.Agrees.{TakenOrStayed}
-use Rattle.sdv_card.specs.Card.{Card, Partitions}
+use Rattle.sdv_card.specs.Card.{Card}
 use Rattle.sdv_card.specs.CommandTable.{is_counted, order_if, order_of, order_expect}
 use Rattle.sdv_card.specs.ScriptEvent.{SendCommand, Answered}
 use Rattle.sdv_card.specs.declared.event.Aim.TheVariants.{Plain}
@@ -40,17 +40,12 @@ use Rattle.sdv_card.proofs.OrdersOfAsks.{of_ask}
 use Rattle.sdv_card.proofs.RowsOfOrders.{order_index, says}
 use Rattle.sdv_script.specs.Rules.{ask_with}
 use Rattle.sdv_block.specs.RequestStatements.{read_ask, write_ask, stop_ask, status_ask}
-use Rattle.sdv_block.specs.Served.{disk_blocks}
 
 -- ITS OWN STEP changes neither the blocks nor an error that is still to be shown
 
--- the same contents are the same disk
-same_contents : (t u : Card) → t.contents ≡ u.contents → disk_blocks t ≡ disk_blocks u
-same_contents t u e = ap (λ (v : Partitions). v.user) e
-
-pub settled_contents : (c t : Card) → Settled c t → disk_blocks c ≡ disk_blocks t
-settled_contents c t (inl e) = ap (λ (v : Card). disk_blocks v) e
-settled_contents c t (inr x) = ap (λ (v : Card). disk_blocks v) x.2
+pub settled_contents : (c t : Card) → Settled c t → c.contents ≡ t.contents
+settled_contents c t (inl e) = ap (λ (v : Card). v.contents) e
+settled_contents c t (inr x) = ap (λ (v : Card). v.contents) x.2
 
 pub settled_error : (c t : Card) → Settled c t → c.unshown_error ≡ t.unshown_error
 settled_error c t (inl e) = ap (λ (v : Card). v.unshown_error) e
@@ -117,7 +112,7 @@ surely_taken row argument t u doubt (inr m) e = absurd (let f : true ≡ false =
 -- a transfer of so many blocks began at the block that the argument names
 pub record Begun (count argument : ℕ) (c u : Card) : Type 0 where
   pub same : SameCard c u
-  pub contents : disk_blocks c ≡ disk_blocks u
+  pub contents : c.contents ≡ u.contents
   pub block : block_of u.block_unit argument ≡ u.next_block
   pub count_is : count ≡ u.announced
 
@@ -150,7 +145,7 @@ takes_multiple_write k n argument answer false matched t u legal a clean = clean
 
 module _ (k : Kind) (ask : Ask) (order : Order) (row : Row) (count argument : ℕ) (c u : Card) (answer : Answer) (clean : answer_passes k Clean answer ≡ true)
     (ordered : (o : Order) → order_of c.kind ask ≡ Some o → o ≡ order) (takes : Takes k order row argument answer)
-    (begins : (t : Card) → Taken row true argument t u → Begins argument count u × (disk_blocks t ≡ disk_blocks u)) where
+    (begins : (t : Card) → Taken row true argument t u → Begins argument count u × (t.contents ≡ u.contents)) where
   begun_by : SendLegal ask argument c → Sends ask argument c answer u → Begun count argument c u
   begun_by legal s =
       let t : Card = s.exchange.settled_card in
@@ -170,50 +165,58 @@ multiple_read_begun : (k : Kind) (n argument : ℕ) (c u : Card) (answer : Answe
     SendLegal (ask_with 18 Plain 0 n) argument c → Sends (ask_with 18 Plain 0 n) argument c answer u → Begun n argument c u
 multiple_read_begun k n argument c u answer clean legal s =
     begun_by k (ask_with 18 Plain 0 n) (ReadMultipleBlock n) (Cmd18 n) n argument c u answer clean (multiple_read c.kind n)
-    (takes_multiple_read k n argument answer) (λ t m. (m.blocks, same_contents t u m.contents)) legal s
+    (takes_multiple_read k n argument answer) (λ t m. (m.blocks, m.contents)) legal s
 
 pub read_begun : (k : Kind) (count argument : ℕ) (c u : Card) (answer : Answer) → answer_passes k Clean answer ≡ true →
     SendLegal (read_ask count) argument c → Sends (read_ask count) argument c answer u → Begun count argument c u
 read_begun k zero argument c u answer clean legal s = multiple_read_begun k zero argument c u answer clean legal s
 read_begun k (suc zero) argument c u answer clean legal s =
     begun_by k (read_ask 1) ReadSingleBlock Cmd17 1 argument c u answer clean (single_read c.kind) (takes_single_read k argument answer)
-    (λ t m. (m.blocks, same_contents t u m.contents)) legal s
+    (λ t m. (m.blocks, m.contents)) legal s
 read_begun k (suc (suc n)) argument c u answer clean legal s = multiple_read_begun k (suc (suc n)) argument c u answer clean legal s
 
 multiple_write_begun : (k : Kind) (n argument : ℕ) (c u : Card) (answer : Answer) → answer_passes k Clean answer ≡ true →
     SendLegal (ask_with 25 Plain 0 n) argument c → Sends (ask_with 25 Plain 0 n) argument c answer u → Begun n argument c u
 multiple_write_begun k n argument c u answer clean legal s =
     begun_by k (ask_with 25 Plain 0 n) (WriteMultipleBlock n) (Cmd25 n) n argument c u answer clean (multiple_write c.kind n)
-    (takes_multiple_write k n argument answer) (λ t m. (m.blocks, same_contents t u m.contents)) legal s
+    (takes_multiple_write k n argument answer) (λ t m. (m.blocks, m.contents)) legal s
 
 pub write_begun : (k : Kind) (count argument : ℕ) (c u : Card) (answer : Answer) → answer_passes k Clean answer ≡ true →
     SendLegal (write_ask count) argument c → Sends (write_ask count) argument c answer u → Begun count argument c u
 write_begun k zero argument c u answer clean legal s = multiple_write_begun k zero argument c u answer clean legal s
 write_begun k (suc zero) argument c u answer clean legal s =
     begun_by k (write_ask 1) WriteBlock Cmd24 1 argument c u answer clean (single_write c.kind) (takes_single_write k argument answer)
-    (λ t m. (m.blocks, same_contents t u m.contents)) legal s
+    (λ t m. (m.blocks, m.contents)) legal s
 write_begun k (suc (suc n)) argument c u answer clean legal s = multiple_write_begun k (suc (suc n)) argument c u answer clean legal s
 
--- no command of a request is an erase
+-- no command of a request is an erase or a switch
 
-other_than : (n : ℕ) → (n == 38) ≡ false → n ≡ 38 → ⊥
-other_than n e is = let f : true ≡ false = sym (eq-eqb n 38 is) ∙ e in cc
+other_than : (n m : ℕ) → (n == m) ≡ false → n ≡ m → ⊥
+other_than n m e is = let f : true ≡ false = sym (eq-eqb n m is) ∙ e in cc
 
-pub read_keeps : (count : ℕ) → (read_ask count).index ≡ 38 → ⊥
-read_keeps zero = other_than 18 refl
-read_keeps (suc zero) = other_than 17 refl
-read_keeps (suc (suc n)) = other_than 18 refl
+-- the index of a command that neither erases nor switches
+pub record Spares (index : ℕ) : Type 0 where
+  pub no_erase : index ≡ 38 → ⊥
+  pub no_switch : index ≡ 6 → ⊥
 
-pub write_keeps : (count : ℕ) → (write_ask count).index ≡ 38 → ⊥
-write_keeps zero = other_than 25 refl
-write_keeps (suc zero) = other_than 24 refl
-write_keeps (suc (suc n)) = other_than 25 refl
+pub spares : (n : ℕ) → (n == 38) ≡ false → (n == 6) ≡ false → Spares n
+spares n e f = record { no_erase = other_than n 38 e; no_switch = other_than n 6 f }
 
-pub stop_keeps : stop_ask.index ≡ 38 → ⊥
-stop_keeps = other_than 12 refl
+pub read_keeps : (count : ℕ) → Spares (read_ask count).index
+read_keeps zero = spares 18 refl refl
+read_keeps (suc zero) = spares 17 refl refl
+read_keeps (suc (suc n)) = spares 18 refl refl
 
-pub status_keeps : status_ask.index ≡ 38 → ⊥
-status_keeps = other_than 13 refl
+pub write_keeps : (count : ℕ) → Spares (write_ask count).index
+write_keeps zero = spares 25 refl refl
+write_keeps (suc zero) = spares 24 refl refl
+write_keeps (suc (suc n)) = spares 25 refl refl
+
+pub stop_keeps : Spares stop_ask.index
+stop_keeps = spares 12 refl refl
+
+pub status_keeps : Spares status_ask.index
+status_keeps = spares 13 refl refl
 
 -- THE BLOCKS that reads and writes address
 pub read_within : (count position argument : ℕ) (c : Card) → InBounds (SendCommand (read_ask count) position argument) c → Within c position argument count
@@ -295,17 +298,17 @@ expects_38 SendRelativeAddress i e = cc
 expects_38 SendIfCond i e = cc
 expects_38 order i e = cc
 
-row_keeps : (row : Row) (t u : Card) → (row ≡ Cmd38 → ⊥) → ContentsAfter row t u → disk_blocks t ≡ disk_blocks u
+row_keeps : (row : Row) (t u : Card) → (row ≡ Cmd38 → ⊥) → ContentsAfter row t u → t.contents ≡ u.contents
 row_keeps Cmd38 t u other e = absurd (other refl)
-row_keeps row t u other e = same_contents t u e
+row_keeps row t u other e = e
 
-became_keeps : (way : TakenAs) (argument : ℕ) (t u : Card) → (way ≡ By Cmd38 → ⊥) → Became way argument t u → disk_blocks t ≡ disk_blocks u
-became_keeps way argument t u other (inl e) = ap (λ (v : Card). disk_blocks v) e
+became_keeps : (way : TakenAs) (argument : ℕ) (t u : Card) → (way ≡ By Cmd38 → ⊥) → Became way argument t u → t.contents ≡ u.contents
+became_keeps way argument t u other (inl e) = ap (λ (v : Card). v.contents) e
 became_keeps way argument t u other (inr (inl m)) = row_keeps m.row t u (λ e. other (m.by ∙ ap By e)) m.taken.contents
-became_keeps way argument t u other (inr (inr m)) = same_contents t u m.stayed.contents
+became_keeps way argument t u other (inr (inr m)) = m.stayed.contents
 
 pub send_keeps : (ask : Ask) (argument : ℕ) (c u : Card) (answer : Answer) → (ask.index ≡ 38 → ⊥) → Sends ask argument c answer u →
-    disk_blocks c ≡ disk_blocks u
+    c.contents ≡ u.contents
 send_keeps ask argument c u answer other s =
     let t : Card = s.exchange.settled_card in
     let way : TakenAs = card_takes t s.order argument in

@@ -1,14 +1,13 @@
 -- QUIET COMMANDS: what the host knows of the card stays true, and the script goes on or ends in a fault of its own.
-use Rattle.std.proofs.Common.{◌≡◌, ℕ, inl, inr, refl, sym, ap, ◌∙◌, true, false, List, [], ◌∷◌, ◌++◌, append_assoc, Option, Some, None}
+use Rattle.std.proofs.Common.{◌≡◌, ℕ, inl, inr, refl, sym, ap, ◌∙◌, true, false, List, [], ◌∷◌, ◌++◌, append_assoc}
 use Rattle.std.specs.Prelude.{◌⊎◌, codes}
 use Rattle.std.specs.Str.{bytes_eq}
 use Rattle.sdv_registers.specs.declared.kind.Kind.{Kind}
 use Rattle.sdv_card.specs.declared.answer.Answer.{Answer}
-use Rattle.sdv_card.specs.declared.command.Order.{Order}
 use Rattle.sdv_card.specs.declared.guard.Guard.{Guard}
 use Rattle.sdv_card.specs.Card.{Card}
 use Rattle.sdv_card.specs.CommandTable.{order_of}
-use Rattle.sdv_card.specs.Host.{Host, host_after, host_after_order}
+use Rattle.sdv_card.specs.Host.{Host, host_after}
 use Rattle.sdv_card.specs.HostEvents.{Makes}
 use Rattle.sdv_card.specs.Profile.{IsOfProfile}
 use Rattle.sdv_card.specs.ScriptEvent.{ScriptEvent, Answered}
@@ -26,9 +25,10 @@ use Rattle.sdv_card.proofs.KeepSound.{steps_keep_sound}
 use Rattle.sdv_block.specs.RequestStatements.{only_if}
 use Rattle.sdv_block.specs.Served.{AllowedSteps}
 use Rattle.sdv_block.proofs.Addresses.{order_flags}
-use Rattle.sdv_block.proofs.CardSteps.{send_keeps, send_same}
+use Rattle.sdv_block.proofs.CardSteps.{Spares, send_keeps, send_same}
 use Rattle.sdv_block.proofs.Parts.{Halts, halts_in_fault, either, argument_at, command_at, Sent, send_part, Past}
 use Rattle.sdv_block.proofs.Quiet.{Quiet, quiet_both, HaltedQuiet, halted_later, halted_here}
+use Rattle.sdv_block.proofs.UserArea.{send_user}
 use Rattle.sdv_facts.proofs.StepLaws.{order_numbers}
 
 -- WHAT A HOST KNOWS
@@ -46,9 +46,10 @@ profile_kept c u k h pair same of = record {
   most = rw (sym same.capacity, sym same.kind, sym same.block_unit) of.most;
   readable = rw (sym same.kind, sym same.csd) of.readable;
   told = rw (sym same.kind, sym same.block_unit, sym same.csd, sym same.ext_csd, sym same.capacity) of.told;
+  told_boot = rw (sym same.kind, sym same.ext_csd, sym same.boot_capacity) of.told_boot;
 }
 
-pub known_after : (k : Kind) (command : ScriptCommand) (position : ℕ) (c u : Card) (h : Host) (answer : Answer) → (command.ask.index ≡ 38 → ⊥)
+pub known_after : (k : Kind) (command : ScriptCommand) (position : ℕ) (c u : Card) (h : Host) (answer : Answer) → Spares command.ask.index
     → IsHonest k c h →
     IsAllowed (command_at k command h position) c → Sends command.ask (argument_at k command h position) c answer u →
     Knowing k c h ((command_at k command h position, Answered answer) ∷ []) u (host_after k (command_at k command h position) (Answered answer) h)
@@ -61,7 +62,8 @@ known_after k command position c u h answer other honest allowed s =
     record {
       quiet = record {
         same = same;
-        contents = send_keeps command.ask (argument_at k command h position) c u answer other s;
+        contents = send_keeps command.ask (argument_at k command h position) c u answer other.no_erase s;
+        user = λ user. send_user command.ask (argument_at k command h position) c u answer other.no_switch s user;
         read = refl;
         gave = refl;
         flags =
@@ -97,7 +99,7 @@ and_on k e next after h es c last w (inr r) = inr (record {
 
 -- A COMMAND
 
-module _ (k : Kind) (e : Ending) (command : ScriptCommand) (other : command.ask.index ≡ 38 → ⊥) (fell broke : Rest) (h : Host) (es : List Pair) (c last : Card)
+module _ (k : Kind) (e : Ending) (command : ScriptCommand) (other : Spares command.ask.index) (fell broke : Rest) (h : Host) (es : List Pair) (c last : Card)
     (honest : IsHonest k c h) where
   abbrev Outcome : Type 0
   Outcome = HaltedQuiet e es c last ⊎ Past (Knowing k c h) fell es last

@@ -1,4 +1,5 @@
 pub mod Parts
+pub mod UserArea
 pub mod CardSteps
 pub mod Addresses
 pub mod Quiet

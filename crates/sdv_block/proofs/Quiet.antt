@@ -1,4 +1,5 @@
--- A QUIET part of a walk: it reads nothing, gives nothing, and leaves the card's blocks and the flags as they were.
+-- A QUIET part of a walk: it reads nothing, gives nothing, and leaves the card's blocks, the user area in access and the
+-- flags as they were.
 use Rattle.std.proofs.Common.{◌≡◌, refl, sym, ap, ◌∙◌, subst, List, [], ◌∷◌, ◌++◌, append_assoc}
 use Rattle.sdv_card.specs.declared.answer.DataEnd.{DataEnd}
 use Rattle.sdv_card.specs.Card.{Card, Block, AreBlocks}
@@ -9,6 +10,7 @@ use Rattle.sdv_graph.specs.Walk.{Pair, Ending, given, given_by}
 use Rattle.sdv_card.proofs.Same.{same_itself, same_both}
 use Rattle.sdv_block.specs.Served.{AllowedSteps, IsEarly, blocks_in, blocks_read, disk_blocks}
 use Rattle.sdv_block.proofs.Parts.{Halts}
+use Rattle.sdv_block.proofs.UserArea.{IsUser}
 
 -- the events of two parts
 
@@ -31,25 +33,27 @@ pub gave_none : (f g : List Pair) → given f ≡ [] → given g ≡ [] → give
 gave_none f g p q = none_after (given (f ++ g)) (given f) (given g) (given-append f g) p q
 
 -- a phase that moves no block into the card leaves its blocks
-pub moved_contents : (end : DataEnd) (u v : Card) → Moved end u v → disk_blocks u ≡ disk_blocks v
-moved_contents end u v m = ap (λ (x : Card). disk_blocks x) m.card
+pub moved_contents : (end : DataEnd) (u v : Card) → Moved end u v → u.contents ≡ v.contents
+moved_contents end u v m = ap (λ (x : Card). x.contents) m.card
 
 -- PARTS
 
 pub record Quiet (c : Card) (h : Host) (front : List Pair) (u : Card) (h' : Host) : Type 0 where
   pub same : SameCard c u
-  pub contents : disk_blocks c ≡ disk_blocks u
+  pub contents : c.contents ≡ u.contents
+  pub user : IsUser c → IsUser u
   pub read : blocks_read front ≡ []
   pub gave : given front ≡ []
   pub flags : h'.flags ≡ h.flags
 
 pub quiet_none : (c : Card) (h : Host) → Quiet c h [] c h
-quiet_none c h = record { same = same_itself c c refl; contents = refl; read = refl; gave = refl; flags = refl }
+quiet_none c h = record { same = same_itself c c refl; contents = refl; user = λ user. user; read = refl; gave = refl; flags = refl }
 
 pub quiet_both : (c u v : Card) (h i j : Host) (f g : List Pair) → Quiet c h f u i → Quiet u i g v j → Quiet c h (f ++ g) v j
 quiet_both c u v h i j f g a b = record {
   same = same_both c u v a.same b.same;
   contents = a.contents ∙ b.contents;
+  user = λ user. b.user (a.user user);
   read = read_none f g a.read b.read;
   gave = gave_none f g a.gave b.gave;
   flags = b.flags ∙ a.flags;
@@ -61,7 +65,7 @@ same_blocks c u b same contents = subst (λ n. AreBlocks n (disk_blocks u)) same
 -- it halted, read and gave nothing, and changed no block
 pub record HaltedQuiet (e : Ending) (es : List Pair) (c last : Card) : Type 0 where
   pub early : IsEarly e
-  pub contents : disk_blocks c ≡ disk_blocks last
+  pub contents : c.contents ≡ last.contents
   pub read : blocks_read es ≡ []
   pub gave : given es ≡ []
 
@@ -81,7 +85,7 @@ at_rest e rest u last halt steps = subst (λ es. AllowedSteps u es last) halt.no
 pub halted_here : (e : Ending) (es : List Pair) (c last : Card) → Halts e es → AllowedSteps c es last → HaltedQuiet e es c last
 halted_here e es c last halt steps = record {
   early = halt.early;
-  contents = ap (λ (x : Card). disk_blocks x) (at_rest e es c last halt steps);
+  contents = ap (λ (x : Card). x.contents) (at_rest e es c last halt steps);
   read = ap blocks_read halt.none;
   gave = ap given halt.none;
 }

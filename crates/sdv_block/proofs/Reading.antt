@@ -4,6 +4,7 @@ use Rattle.std.specs.Prelude.{◌⊎◌, codes}
 use Rattle.sdv_registers.specs.declared.kind.Kind.{Kind}
 use Rattle.sdv_card.specs.declared.answer.DataEnd.TheVariants.{Ok, Cut}
 use Rattle.sdv_card.specs.declared.guard.Guard.TheVariants.{Clean}
+use Rattle.sdv_card.specs.declared.state.Width.{Width}
 use Rattle.sdv_card.specs.Card.{Card, Block}
 use Rattle.sdv_card.specs.Host.{Host, host_after}
 use Rattle.sdv_card.specs.ScriptEvent.{ReceiveBlocks, Return, BlocksIn}
@@ -22,11 +23,13 @@ use Rattle.sdv_block.proofs.CardSteps.{Begun, read_begun, read_keeps, read_withi
 use Rattle.sdv_block.proofs.Quiet.{HaltedQuiet, halted_later, halted_here, at_rest, moved_contents, blocks_read-append, gave_none}
 use Rattle.sdv_block.proofs.Parts.{Halts, halts_in_fault, Acted, made, argument_at, after_phase, phase_part, Past, past_both}
 use Rattle.sdv_block.proofs.Stopping.{QuietOutcome, stop_reading_part}
+use Rattle.sdv_block.proofs.UserArea.{IsUser, moved_user, same_disks, user_truth}
 
 -- it read the blocks, and changed nothing
 pub record ReadBlocks (block count : ℕ) (c : Card) (front : List Pair) (u : Card) (h : Host) : Type 0 where
   pub same : SameCard c u
-  pub contents : disk_blocks c ≡ disk_blocks u
+  pub contents : c.contents ≡ u.contents
+  pub user : IsUser u
   pub read : blocks_read front ≡ take count (drop block (disk_blocks c))
   pub gave : given front ≡ []
   pub room : block + count ≤ c.capacity
@@ -34,7 +37,7 @@ pub record ReadBlocks (block count : ℕ) (c : Card) (front : List Pair) (u : Ca
 -- it halted after it had read the blocks
 pub record HaltedRead (block count : ℕ) (e : Ending) (es : List Pair) (c last : Card) : Type 0 where
   pub early : IsEarly e
-  pub contents : disk_blocks c ≡ disk_blocks last
+  pub contents : c.contents ≡ last.contents
   pub read : blocks_read es ≡ take count (drop block (disk_blocks c))
   pub gave : given es ≡ []
   pub room : block + count ≤ c.capacity
@@ -57,50 +60,55 @@ read_before f g blocks p q =
 
 pub record Received (block count : ℕ) (u : Card) (front : List Pair) (v : Card) (h : Host) : Type 0 where
   pub same : SameCard u v
-  pub contents : disk_blocks u ≡ disk_blocks v
+  pub contents : u.contents ≡ v.contents
+  pub user : IsUser v
   pub read : blocks_read front ≡ take count (drop block (disk_blocks u))
   pub gave : given front ≡ []
 
 module _ (k : Kind) (e : Ending) (block count : ℕ) (fell broke : Rest) (h : Host) (es : List Pair) (u last : Card) (announced : count ≡ u.announced)
-    (next : block ≡ u.next_block) where
+    (next : block ≡ u.next_block) (user : IsUser u) where
   abbrev RecvOutcome : Type 0
   RecvOutcome = HaltedQuiet e es u last ⊎ Past (Received block count u) fell es last
 
-  recv_by : (n : ℕ) (returned : Return) (rest : List Pair) (v : Card) → es ≡ (ReceiveBlocks n, returned) ∷ rest → Step (ReceiveBlocks n) u returned v →
-      after_phase k e nothing (fails (codes "read")) fell broke returned (host_after k (ReceiveBlocks n) returned h) rest → AllowedSteps v rest last →
+  recv_by : (lines : Width) (n : ℕ) (returned : Return) (rest : List Pair) (v : Card) → es ≡ (ReceiveBlocks lines n, returned) ∷ rest →
+      Step (ReceiveBlocks lines n) u returned v →
+      after_phase k e nothing (fails (codes "read")) fell broke returned (host_after k (ReceiveBlocks lines n) returned h) rest → AllowedSteps v rest last →
       RecvOutcome
-  recv_by n (BlocksIn Ok blocks) rest v same step on steps = inr (record {
-    front = (ReceiveBlocks n, BlocksIn Ok blocks) ∷ [];
+  recv_by lines n (BlocksIn Ok blocks) rest v same step on steps = inr (record {
+    front = (ReceiveBlocks lines n, BlocksIn Ok blocks) ∷ [];
     rest = rest;
     card = v;
     host = h;
     split = same;
     did = record {
-      same = steps_keep_same u.kind (ReceiveBlocks n) u (BlocksIn Ok blocks) v refl step;
+      same = steps_keep_same u.kind (ReceiveBlocks lines n) u (BlocksIn Ok blocks) v refl step;
       contents = moved_contents Ok u v step.moved;
-      read = append-nil blocks ∙ phase_blocks u.announced u.next_block blocks (disk_blocks u) count block announced next step.truth;
+      user = moved_user Ok u v step.moved user;
+      read = append-nil blocks
+          ∙ phase_blocks u.announced u.next_block blocks (disk_blocks u) count block announced next (user_truth u blocks user step.truth);
       gave = refl;
     };
     on = on;
     steps = steps;
   })
-  recv_by n (BlocksIn Cut blocks) rest v same step on steps =
+  recv_by lines n (BlocksIn Cut blocks) rest v same step on steps =
       let halt = halts_in_fault e (codes "read") rest refl on in
-      let whole : es ≡ (ReceiveBlocks n, BlocksIn Cut blocks) ∷ [] = same ∙ ap (λ (r : List Pair). (ReceiveBlocks n, BlocksIn Cut blocks) ∷ r) halt.none in
+      let whole : es ≡ (ReceiveBlocks lines n, BlocksIn Cut blocks) ∷ [] =
+      same ∙ ap (λ (r : List Pair). (ReceiveBlocks lines n, BlocksIn Cut blocks) ∷ r) halt.none in
       inl (record {
         early = halt.early;
-        contents = moved_contents Cut u v step.moved ∙ ap (λ (x : Card). disk_blocks x) (at_rest e rest v last halt steps);
+        contents = moved_contents Cut u v step.moved ∙ ap (λ (x : Card). x.contents) (at_rest e rest v last halt steps);
         read = ap blocks_read whole;
         gave = ap given whole;
       })
-  recv_by n returned rest v same step on steps = absurd step
+  recv_by lines n returned rest v same step on steps = absurd step
 
   of_recv : AllowedSteps u es last →
-      Halts e es ⊎ Acted k (exactly (ReceiveBlocks h.announced)) h (after_phase k e nothing (fails (codes "read")) fell broke) es u last → RecvOutcome
+      Halts e es ⊎ Acted k (exactly (ReceiveBlocks h.lines h.announced)) h (after_phase k e nothing (fails (codes "read")) fell broke) es u last → RecvOutcome
   of_recv steps (inl halt) = inl (halted_here e es u last halt steps)
   of_recv steps (inr a) =
-      let m = made k (ReceiveBlocks h.announced) h (after_phase k e nothing (fails (codes "read")) fell broke) es u last a in
-      recv_by h.announced m.returned m.rest m.after m.same m.step m.on m.steps
+      let m = made k (ReceiveBlocks h.lines h.announced) h (after_phase k e nothing (fails (codes "read")) fell broke) es u last a in
+      recv_by h.lines h.announced m.returned m.rest m.after m.same m.step m.on m.steps
 
   pub recv_part : walk_statements k e (first (phase phases.ReceiveBlocks nothing (fails (codes "read"))) nothing) fell broke h es → AllowedSteps u es last →
       RecvOutcome
@@ -108,7 +116,8 @@ module _ (k : Kind) (e : Ending) (block count : ℕ) (fell broke : Rest) (h : Ho
 
 -- THE WHOLE READ
 
-module _ (k : Kind) (e : Ending) (block count : ℕ) (rest : Statements) (fell broke : Rest) (h : Host) (es : List Pair) (c last : Card) where
+module _ (k : Kind) (e : Ending) (block count : ℕ) (rest : Statements) (fell broke : Rest) (h : Host) (es : List Pair) (c last : Card)
+    (user : IsUser c) where
   -- what comes after the blocks are read
   abbrev on : Rest
   on = walk_statements k e rest fell broke
@@ -135,6 +144,7 @@ module _ (k : Kind) (e : Ending) (block count : ℕ) (rest : Statements) (fell b
   of_stopped w (inr r) = inr (inr (past_both stopping on es last w r (record {
     same = same_both c w.card r.card w.did.same r.did.same;
     contents = w.did.contents ∙ r.did.contents;
+    user = r.did.user w.did.user;
     read = read_before w.front r.front (take count (drop block (disk_blocks c))) w.did.read r.did.read;
     gave = gave_none w.front r.front w.did.gave r.did.gave;
     room = w.did.room;
@@ -148,8 +158,9 @@ module _ (k : Kind) (e : Ending) (block count : ℕ) (rest : Statements) (fell b
       let both = past_both receiving stopping es last w r (record {
         same = same_both c w.card r.card w.did.quiet.same r.did.same;
         contents = w.did.quiet.contents ∙ r.did.contents;
+        user = r.did.user;
         read = read_alone w.front r.front (take count (drop block (disk_blocks c))) w.did.quiet.read
-            (r.did.read ∙ ap (λ (bs : List Block). take count (drop block bs)) (sym w.did.quiet.contents));
+            (r.did.read ∙ ap (λ (bs : List Block). take count (drop block bs)) (sym (same_disks c w.card w.did.quiet.contents)));
         gave = gave_none w.front r.front w.did.quiet.gave r.did.gave;
         room = room;
       }) in
@@ -165,8 +176,8 @@ module _ (k : Kind) (e : Ending) (block count : ℕ) (rest : Statements) (fell b
       let bounds = read_within count w.did.position argument c w.did.allowed.bounds in
       let at : block ≡ w.card.next_block = sym (named c.block_unit w.card.block_unit block w.did.position argument is begun.same.block_unit bounds.unit)
       ∙ begun.block in
-      of_received w (named_within c block count w.did.position argument is bounds)
-      (recv_part k e block count stopping broke w.host w.rest w.card last begun.count_is at w.on w.steps)
+      of_received w (named_within c block count w.did.position argument user is bounds)
+      (recv_part k e block count stopping broke w.host w.rest w.card last begun.count_is at (w.did.quiet.user user) w.on w.steps)
 
   pub read_part : walk_statements k e (read_statements block count rest) fell broke h es → AllowedSteps c es last → Outcome
   read_part walk steps = of_asked

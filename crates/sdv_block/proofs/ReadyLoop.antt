@@ -31,10 +31,12 @@ use Rattle.sdv_graph.specs.Walk.{Pair, Ending, Open, Failed, Rest, Stops, Either
 use Rattle.sdv_facts.specs.Keeps.{IsHonest}
 use Rattle.sdv_block.specs.RequestStatements.{fails}
 use Rattle.sdv_block.specs.BringUpStatements.{plain, ocr_ways, ocr_statement, app_statement, op_cond_statement}
-use Rattle.sdv_block.specs.Served.{AllowedSteps, blocks_read, disk_blocks}
+use Rattle.sdv_block.specs.Served.{AllowedSteps, blocks_read}
+use Rattle.sdv_block.proofs.CardSteps.{Spares, spares}
 use Rattle.sdv_block.proofs.Knowing.{Knowing, known_after}
 use Rattle.sdv_block.proofs.Parts.{Halts, halts, halts_in_fault, either, command_at, argument_at, Sent, send_part, Past}
 use Rattle.sdv_block.proofs.Quiet.{HaltedQuiet, halted_later, halted_here, read_none, gave_none}
+use Rattle.sdv_block.proofs.UserArea.{IsUser}
 
 -- THE CARD'S ANSWER: ready, it shows its unit
 
@@ -100,7 +102,8 @@ op_cond_unit argument c u answer kind s ready =
 
 pub record FoundUnit (k : Kind) (c : Card) (h : Host) (front : List Pair) (u : Card) (h' : Host) : Type 0 where
   pub same : SameCard c u
-  pub contents : disk_blocks c ≡ disk_blocks u
+  pub contents : c.contents ≡ u.contents
+  pub user : IsUser c → IsUser u
   pub read : blocks_read front ≡ []
   pub gave : given front ≡ []
   pub honest : IsHonest k u h'
@@ -116,6 +119,7 @@ with_first_flag k u h clear honest = record {
   pair = record {
     kind = honest.pair.kind;
     card = honest.pair.card;
+    lines = honest.pair.lines;
     flags = subst (λ n. n < 16) (sym (flag_put h.flags clear)) (omega arith);
     rca = honest.pair.rca;
   };
@@ -148,6 +152,7 @@ module _ (k : Kind) (e : Ending) (fell broke : Rest) (last : Card) where
     did = record {
       same = same_both c u r.card w.quiet.same r.did.same;
       contents = w.quiet.contents ∙ r.did.contents;
+      user = λ user. r.did.user (w.quiet.user user);
       read = read_none front r.front w.quiet.read r.did.read;
       gave = gave_none front r.front w.quiet.gave r.did.gave;
       honest = r.did.honest;
@@ -168,7 +173,16 @@ module _ (k : Kind) (e : Ending) (fell broke : Rest) (last : Card) where
     card = u;
     host = i;
     split = refl;
-    did = record { same = same_itself u u refl; contents = refl; read = refl; gave = refl; honest = honest; numbers = numbers; unit = unit };
+    did = record {
+      same = same_itself u u refl;
+      contents = refl;
+      user = λ user. user;
+      read = refl;
+      gave = refl;
+      honest = honest;
+      numbers = numbers;
+      unit = unit;
+    };
     on = on;
     steps = steps;
   })
@@ -225,14 +239,14 @@ module _ (k : Kind) (e : Ending) (fell broke : Rest) (last : Card) where
     ocr_led on = if_block_ready (either SetsAndLeaves (Either is_ready Leaves (Either is_answered (again h rest) Lost)) block_ready on)
 
   -- THE COMMAND that asks for the operating conditions
-  module _ (command : ScriptCommand) (not_38 : command.ask.index ≡ 38 → ⊥) (unit : ShowsUnit k command.ask) (name : List ℕ)
+  module _ (command : ScriptCommand) (spared : Spares command.ask.index) (unit : ShowsUnit k command.ask) (name : List ℕ)
       (early : bytes_eq name (codes "beyond") ≡ false) where
     of_ocr : (again : Rest) → Again again → (h : Host) (es : List Pair) (c : Card) → h.flags ≡ 0 → IsHonest k c h →
         Halts e es ⊎ Sent k e command (ocr_ways name) again fell h es c last → AllowedSteps c es last → OcrOutcome h es c
     of_ocr again later h es c clear honest (inl halt) steps = inl (halted_here e es c last halt steps)
     of_ocr again later h es c clear honest (inr s) steps =
         let i : Host = host_after k (command_at k command h s.position) (Answered s.answer) h in
-        let w = known_after k command s.position c s.after h s.answer not_38 honest s.allowed s.sends in
+        let w = known_after k command s.position c s.after h s.answer spared honest s.allowed s.sends in
         before c s.after h i es ((command_at k command h s.position, Answered s.answer) ∷ []) s.rest s.same w
         (ocr_led name early again later s.after i s.rest s.answer (w.quiet.flags ∙ clear) w.honest s.steps
         (unit (argument_at k command h s.position) c s.after s.answer honest.pair.kind s.sends) s.on)
@@ -251,14 +265,14 @@ module _ (k : Kind) (e : Ending) (fell broke : Rest) (last : Card) where
   ready_part asks turn (suc n) h es c clear honest (inl s) steps = inl (halted_here e es c last (halts e Open es tt s) steps)
   ready_part asks turn (suc n) h es c clear honest (inr w) steps = turn (rounds e n (body asks) other) (ready_part asks turn n) h es c clear honest w steps
 
-not_41 : ◌≡◌ {A = ℕ} 41 38 → ⊥
-not_41 e = absurd (omega arith)
+spares_41 : Spares 41
+spares_41 = spares 41 refl refl
 
-not_55 : ◌≡◌ {A = ℕ} 55 38 → ⊥
-not_55 e = absurd (omega arith)
+spares_55 : Spares 55
+spares_55 = spares 55 refl refl
 
-not_1 : ◌≡◌ {A = ℕ} 1 38 → ⊥
-not_1 e = absurd (omega arith)
+spares_1 : Spares 1
+spares_1 = spares 1 refl refl
 
 -- AN SD CARD is asked by CMD55 and ACMD41
 
@@ -273,7 +287,7 @@ module _ (e : Ending) (fell broke : Rest) (last : Card) where
       AllowedSteps u rest last →
       ((b ≡ true) × ocr_walk again h rest) ⊎ ((b ≡ false) × Lost55 rest) → OcrOutcome Sd e fell broke last h rest u
   if_app again later h rest u b clear honest steps (inl x) =
-      ocr_part Sd e fell broke last (plain 41 Plain 0x40ff8000) not_41 ocr_unit (codes "lost41") refl again later h rest u clear honest x.1 steps
+      ocr_part Sd e fell broke last (plain 41 Plain 0x40ff8000) spares_41 ocr_unit (codes "lost41") refl again later h rest u clear honest x.1 steps
   if_app again later h rest u b clear honest steps (inr x) = inl (halted_here e rest u last (halts_in_fault e (codes "lost55") rest refl x.1) steps)
 
   of_app : (again : Rest) → Again Sd e fell broke last again → (h : Host) (es : List Pair) (c : Card) → h.flags ≡ 0 → IsHonest Sd c h →
@@ -282,7 +296,7 @@ module _ (e : Ending) (fell broke : Rest) (last : Card) where
   of_app again later h es c clear honest (inl halt) steps = inl (halted_here e es c last halt steps)
   of_app again later h es c clear honest (inr s) steps =
       let i : Host = host_after Sd (command_at Sd (plain 55 Rca 0) h s.position) (Answered s.answer) h in
-      let w = known_after Sd (plain 55 Rca 0) s.position c s.after h s.answer not_55 honest s.allowed s.sends in
+      let w = known_after Sd (plain 55 Rca 0) s.position c s.after h s.answer spares_55 honest s.allowed s.sends in
       let b : Bool = all_pass Sd (App ∷ []) (Answered s.answer) in
       before Sd e fell broke last c s.after h i es ((command_at Sd (plain 55 Rca 0) h s.position, Answered s.answer) ∷ []) s.rest s.same w
       (if_app again later i s.rest s.after b (w.quiet.flags ∙ clear) w.honest s.steps (either (ocr_walk again i s.rest) (Lost55 s.rest) b s.on))
@@ -295,4 +309,4 @@ module _ (e : Ending) (fell broke : Rest) (last : Card) where
 
 -- AN e.MMC DEVICE is asked by CMD1
 pub op_cond_turn : (e : Ending) (fell broke : Rest) (last : Card) → Turns Emmc e fell broke last op_cond_statement
-op_cond_turn e fell broke last again later = ocr_part Emmc e fell broke last (plain 1 Plain 0) not_1 op_cond_unit (codes "lost1") refl again later
+op_cond_turn e fell broke last again later = ocr_part Emmc e fell broke last (plain 1 Plain 0) spares_1 op_cond_unit (codes "lost1") refl again later

@@ -86,6 +86,7 @@ module _ (k : Kind) (rs : List Request) (g : Graph) (is : IsScript (batch_script
         ends = subst (λ input. EndsAs (ending_of end) (disk_of b.last w'.input (blocks_read ran.events)) (after_batch rs (disk_of c input [])))
             (sym ran.happened.input) (s.ends w'.input);
         outside = s.outside;
+        boot = s.boot;
         beyond = s.beyond;
       }
 
@@ -94,7 +95,7 @@ module _ (k : Kind) (rs : List Request) (g : Graph) (is : IsScript (batch_script
   kept_by steps card most fault w w' c start ran b =
       let s : ServedBatch rs Open ran.events c b.last =
       batch_served k rs most Open ran.events c b.last start.kind start.start (walk_of Open ran.events ran.walk) b.steps b.good in
-      record { last = b.last; shown = b.shown; outside = s.outside }
+      record { last = b.last; shown = b.shown; outside = s.outside; boot = s.boot }
 
   -- the kind of the card is that of the graph
   starts_so : {S : Type 0} (card : S → Option Card) (s : S) (c : Card) → ShowsStart card k s c → ShowsStart card g.kind s c

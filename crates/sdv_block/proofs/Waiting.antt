@@ -1,5 +1,5 @@
 -- WAITING while a card programs: the loop halts, or goes on with the card as it was but for its state.
-use Rattle.std.proofs.Common.{◌≡◌, ℕ, zero, suc, inl, inr, refl, ap, ◌∙◌, List, [], ◌∷◌}
+use Rattle.std.proofs.Common.{◌≡◌, ℕ, zero, suc, inl, inr, refl, ap, subst, ◌∙◌, List, [], ◌∷◌}
 use Rattle.std.specs.Prelude.{◌⊎◌, codes}
 use Rattle.sdv_registers.specs.declared.kind.Kind.{Kind}
 use Rattle.sdv_card.specs.declared.answer.WaitEnd.TheVariants.{Ok as Over, Late}
@@ -12,9 +12,10 @@ use Rattle.sdv_graph.specs.Tree.{nothing, first, phase, break}
 use Rattle.sdv_graph.specs.Walk.{Pair, Ending, Open, Rest, exactly, rounds, walk_statements}
 use Rattle.sdv_card.proofs.Same.{steps_keep_same}
 use Rattle.sdv_block.specs.RequestStatements.{fails}
-use Rattle.sdv_block.specs.Served.{AllowedSteps, disk_blocks}
+use Rattle.sdv_block.specs.Served.{AllowedSteps}
 use Rattle.sdv_block.proofs.Parts.{Halts, halts, halts_in_fault, Acted, made, after_phase, phase_part, Past}
 use Rattle.sdv_block.proofs.Quiet.{Quiet, quiet_both, HaltedQuiet, halted_later, halted_here}
+use Rattle.sdv_block.proofs.UserArea.{IsUser}
 
 -- an error that is still to be shown stays so
 pub record ErrorKept (c : Card) (h : Host) (front : List Pair) (u : Card) (h' : Host) : Type 0 where
@@ -38,7 +39,8 @@ module _ (k : Kind) (e : Ending) (fell broke : Rest) where
   waited c v h (Waited end) step = record {
     quiet = record {
       same = steps_keep_same c.kind AwaitReady c (Waited end) v refl step;
-      contents = ap (λ (x : Card). disk_blocks x) step.card;
+      contents = ap (λ (x : Card). x.contents) step.card;
+      user = λ user. subst (λ (x : Card). IsUser x) step.card user;
       read = refl;
       gave = refl;
       flags = refl;
@@ -63,7 +65,14 @@ module _ (k : Kind) (e : Ending) (fell broke : Rest) where
         split = same ∙ ap (λ (es : List Pair). (AwaitReady, returned) ∷ es) r.split;
         did = record {
           quiet = quiet_both c v r.card h h r.host ((AwaitReady, returned) ∷ []) r.front
-              (record { same = w.quiet.same; contents = w.quiet.contents; read = w.quiet.read; gave = w.quiet.gave; flags = refl }) r.did.quiet;
+              (record {
+                same = w.quiet.same;
+                contents = w.quiet.contents;
+                user = w.quiet.user;
+                read = w.quiet.read;
+                gave = w.quiet.gave;
+                flags = refl;
+              }) r.did.quiet;
           error = w.error ∙ r.did.error;
         };
         on = r.on;

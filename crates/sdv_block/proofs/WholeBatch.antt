@@ -2,6 +2,7 @@
 use Rattle.std.proofs.Common.{◌≡◌, ℕ, ◌<◌, ◌≤◌, inl, inr, refl, sym, ap, ◌∙◌, subst, List, [], ◌∷◌, ◌++◌, append_assoc}
 use Rattle.std.specs.Prelude.{◌⊎◌, codes, slice_get}
 use Rattle.sdv_registers.specs.declared.kind.Kind.{Kind}
+use Rattle.sdv_card.specs.declared.state.Mode.{Mode}
 use Rattle.sdv_card.specs.Card.{Card, Block}
 use Rattle.sdv_card.specs.Host.{Host}
 use Rattle.sdv_card.specs.Profile.{IsAtStart, host_at_start}
@@ -20,6 +21,7 @@ use Rattle.sdv_block.proofs.BringUp.{unit_part}
 use Rattle.sdv_block.proofs.Capacity.{Counted, CountOutcome, capacity_part, TooSmall, Enough, test_part}
 use Rattle.sdv_block.proofs.ReadyLoop.{FoundUnit}
 use Rattle.sdv_block.proofs.Parts.{Halts, Past}
+use Rattle.sdv_block.proofs.UserArea.{IsUser, boots_both, same_boots, same_disks}
 use Rattle.sdv_block.proofs.Quiet.{HaltedQuiet, halted_here, read_none, gave_none, blocks_read-append, given-append}
 use Rattle.sdv_block.proofs.DiskLaws.{same_disk}
 use Rattle.sdv_block.proofs.Serving.{serves}
@@ -28,7 +30,7 @@ use Rattle.sdv_block.proofs.Serving.{serves}
 pub record Refused (least : ℕ) (e : Ending) (es : List Pair) (c last : Card) : Type 0 where
   pub is : e ≡ Failed (codes "beyond")
   pub small : c.capacity < least
-  pub contents : disk_blocks c ≡ disk_blocks last
+  pub contents : c.contents ≡ last.contents
   pub read : blocks_read es ≡ []
   pub gave : given es ≡ []
 
@@ -43,14 +45,15 @@ Outcome least rs e es c last = HaltedQuiet e es c last ⊎ (Refused least e es c
 
 -- what was served from a card with the same blocks was served from the card itself
 later_served : (rs : List Request) (e : Ending) (es front rest : List Pair) (c u last : Card) → es ≡ front ++ rest → blocks_read front ≡ [] → given front ≡ [] →
-    disk_blocks c ≡ disk_blocks u → Served rs e rest u last → Served rs e es c last
+    c.contents ≡ u.contents → Served rs e rest u last → Served rs e es c last
 later_served rs e es front rest c u last split read gave contents s = record {
   ends = λ left output.
       subst (λ r. EndsAs e (disk_of last left (output ++ r)) (after_batch rs (disk_of c (given es ++ left) output))) (sym read_is)
       (subst (λ d. EndsAs e (disk_of last left (output ++ blocks_read rest)) (after_batch rs d)) (same left output) (s.ends left output));
   over = s.over;
   all = λ is left output. subst (λ d. AllServed rs d) (same left output) (s.all is left output);
-  outside = λ block other. s.outside block other ∙ ap (λ (bs : List Block). slice_get bs block) (sym contents);
+  outside = λ block other. s.outside block other ∙ ap (λ (bs : List Block). slice_get bs block) (sym (same_disks c u contents));
+  boot = boots_both c u last (same_boots c u contents) s.boot;
 }
   where
     read_is : blocks_read es ≡ blocks_read rest
@@ -60,10 +63,11 @@ later_served rs e es front rest c u last split read gave contents s = record {
     given_is = ap given split ∙ (given-append front rest ∙ ap (λ (bs : List Block). bs ++ given rest) gave)
 
     same : (left output : List Block) → disk_of u (given rest ++ left) output ≡ disk_of c (given es ++ left) output
-    same left output = same_disk (disk_blocks u) (disk_blocks c) (given rest ++ left) (given es ++ left) output output (sym contents)
+    same left output = same_disk (disk_blocks u) (disk_blocks c) (given rest ++ left) (given es ++ left) output output (sym (same_disks c u contents))
         (ap (λ (bs : List Block). bs ++ left) (sym given_is)) refl
 
-module _ (k : Kind) (e : Ending) (least : ℕ) (rs : List Request) (fell broke : Rest) (h : Host) (es : List Pair) (c last : Card) where
+module _ (k : Kind) (e : Ending) (least : ℕ) (rs : List Request) (fell broke : Rest) (h : Host) (es : List Pair) (c last : Card)
+    (user : IsUser c) where
   abbrev tested : Statements
   tested = first (capacity_test least) (batch_statements rs)
 
@@ -90,14 +94,14 @@ module _ (k : Kind) (e : Ending) (least : ℕ) (rs : List Request) (fell broke :
   after_test w (inr (inl x)) = inr (inl (record {
     is = x.is;
     small = subst (λ n. n < least) (w.did.cap ∙ sym w.did.same.capacity) x.small;
-    contents = w.did.contents ∙ ap (λ (u : Card). disk_blocks u) (subst (λ es. AllowedSteps w.card es last) x.none w.steps);
+    contents = w.did.contents ∙ ap (λ (u : Card). u.contents) (subst (λ es. AllowedSteps w.card es last) x.none w.steps);
     read = ap blocks_read w.split ∙ read_none w.front w.rest w.did.read (ap blocks_read x.none);
     gave = ap given w.split ∙ gave_none w.front w.rest w.did.gave (ap given x.none);
   }))
   after_test w (inr (inr x)) = inr (inr (record {
     enough = subst (λ n. least ≤ n) (w.did.cap ∙ sym w.did.same.capacity) x.enough;
     served = later_served rs e es w.front w.rest c w.card last w.split w.did.read w.did.gave w.did.contents
-        (serves k e last fell broke rs w.host w.rest w.card w.did.blocks x.on w.steps);
+        (serves k e last fell broke rs w.host w.rest w.card w.did.blocks (w.did.user user) x.on w.steps);
   }))
 
   after_capacity : HaltedQuiet e es c last ⊎ Ready → Outcome least rs e es c last
@@ -124,6 +128,7 @@ module _ (k : Kind) (e : Ending) (least : ℕ) (rs : List Request) (fell broke :
     did = record {
       same = same_both c w.card r.card w.did.same r.did.same;
       contents = w.did.contents ∙ r.did.contents;
+      user = λ user. r.did.user (w.did.user user);
       read = read_none w.front r.front w.did.read r.did.read;
       gave = gave_none w.front r.front w.did.gave r.did.gave;
       blocks = r.did.blocks;
@@ -150,5 +155,5 @@ pub batch_walk : (k : Kind) (e : Ending) (least : ℕ) (rs : List Request) (es :
     Outcome least rs e es c last
 batch_walk k e least rs es c last kind start walk steps =
     let s = starts_hold k c 1 kind start in
-    batch_part k e least rs (after_all e Fell) (after_all e Broke) (host_at_start 1) es c last refl refl
+    batch_part k e least rs (after_all e Fell) (after_all e Broke) (host_at_start 1) es c last (ap (λ (m : Mode). m.partition) start.mode) refl refl
     (record { pair = s.pair; profile = start.profile; sound = s.sound }) walk steps

@@ -14,7 +14,7 @@ use Rattle.sdv_card.proofs.Members.{and_left}
 use Rattle.sdv_card.proofs.Same.{same_both}
 use Rattle.sdv_block.specs.RequestStatements.{write_command, status_command, only_if, fails, settle_statements, stop_writing, write_statements}
 use Rattle.sdv_block.specs.Disk.{with_blocks}
-use Rattle.sdv_block.specs.Served.{AllowedSteps, blocks_read, disk_blocks}
+use Rattle.sdv_block.specs.Served.{AllowedSteps, blocks_read, disk_blocks, SameBoot}
 use Rattle.sdv_block.proofs.Addresses.{position_is, named, named_within}
 use Rattle.sdv_block.proofs.Asking.{Asked, asked_part}
 use Rattle.sdv_block.proofs.CardSteps.{Begun, write_begun, write_keeps, write_within}
@@ -23,6 +23,7 @@ use Rattle.sdv_block.proofs.Quiet.{quiet_both, HaltedQuiet, halted_later, read_n
 use Rattle.sdv_block.proofs.Giving.{SameBut, rebuilt, same_but_then, Gave, HaltedWriting, halted_quietly, give_part}
 use Rattle.sdv_block.proofs.Status.{ShownClean, status_part}
 use Rattle.sdv_block.proofs.Stopping.{stop_writing_part}
+use Rattle.sdv_block.proofs.UserArea.{IsUser, boots_both, same_boots, same_disks}
 use Rattle.sdv_block.proofs.Waiting.{ErrorKept, wait_part}
 
 -- one part that keeps an error, and then one that shows that there is none
@@ -77,6 +78,8 @@ pub record WroteBlocks (block count : ℕ) (c : Card) (front : List Pair) (u : C
   pub read : blocks_read front ≡ []
   pub contents : disk_blocks u ≡ with_blocks block new (disk_blocks c)
   pub outside : SameBut block count (disk_blocks c) (disk_blocks u)
+  pub boot : SameBoot c u
+  pub user : IsUser u
   pub blocks : AreBlocks c.capacity (disk_blocks u)
 
 -- no error is left, so the blocks were stored
@@ -90,7 +93,7 @@ gave_then : (f g : List Pair) (new : List Block) → given f ≡ new → given g
 gave_then f g new p q = given-append f g ∙ (ap (λ (bs : List Block). bs ++ given g) p ∙ (ap (λ (bs : List Block). new ++ bs) q ∙ append-nil new))
 
 module _ (k : Kind) (e : Ending) (block count : ℕ) (rest : Statements) (fell broke : Rest) (h : Host) (es : List Pair) (c last : Card)
-    (announced : count ≡ c.announced) (next : block ≡ c.next_block) where
+    (announced : count ≡ c.announced) (next : block ≡ c.next_block) (user : IsUser c) where
   abbrev on_stored : Rest
   on_stored = walk_statements k e rest fell broke
 
@@ -104,21 +107,25 @@ module _ (k : Kind) (e : Ending) (block count : ℕ) (rest : Statements) (fell b
       StoredOutcome
   of_settled w (inl halt) = inl (record {
     early = halt.early;
-    outside = same_but_then block count (disk_blocks c) (disk_blocks w.card) (disk_blocks last) w.did.outside halt.contents;
+    outside = same_but_then block count (disk_blocks c) (disk_blocks w.card) (disk_blocks last) w.did.outside (same_disks w.card last halt.contents);
+    boot = boots_both c w.card last w.did.boot (same_boots w.card last halt.contents);
     read = ap blocks_read w.split ∙ read_none w.front w.rest w.did.read halt.read;
   })
   of_settled w (inr r) =
       let stored = rebuilt block count (disk_blocks c) (disk_blocks w.card) w.did.new w.did.outside w.did.size
       (surely_stored block count w.card w.did.new w.did.stored r.did.no_error) in
+      let kept = same_disks w.card r.card r.did.quiet.contents in
       inr (past_both stopping on_stored es last w r (record {
         same = same_both c w.card r.card w.did.same r.did.quiet.same;
         new = w.did.new;
         size = w.did.size;
         gave = gave_then w.front r.front w.did.new w.did.gave r.did.quiet.gave;
         read = read_none w.front r.front w.did.read r.did.quiet.read;
-        contents = sym r.did.quiet.contents ∙ stored;
-        outside = same_but_then block count (disk_blocks c) (disk_blocks w.card) (disk_blocks r.card) w.did.outside r.did.quiet.contents;
-        blocks = subst (λ bs. AreBlocks c.capacity bs) r.did.quiet.contents w.did.blocks;
+        contents = sym kept ∙ stored;
+        outside = same_but_then block count (disk_blocks c) (disk_blocks w.card) (disk_blocks r.card) w.did.outside kept;
+        boot = boots_both c w.card r.card w.did.boot (same_boots w.card r.card r.did.quiet.contents);
+        user = r.did.quiet.user w.did.user;
+        blocks = subst (λ bs. AreBlocks c.capacity bs) kept w.did.blocks;
       }))
 
   of_gave : HaltedWriting block count e es c last ⊎ Past (Gave block count c h) stopping es last → StoredOutcome
@@ -128,7 +135,7 @@ module _ (k : Kind) (e : Ending) (block count : ℕ) (rest : Statements) (fell b
   pub store_part : walk_statements k e
       (first (phase phases.GiveBlocks nothing (fails (codes "write"))) (stop_writing count (settle_statements rest))) fell broke h es →
       AllowedSteps c es last → StoredOutcome
-  store_part walk steps = of_gave (give_part k e block count stopping broke h es c last announced next walk steps)
+  store_part walk steps = of_gave (give_part k e block count stopping broke h es c last announced next user walk steps)
 
 -- THE WHOLE WRITE
 
@@ -137,7 +144,8 @@ pub record Wrote (block count : ℕ) (c : Card) (front : List Pair) (u : Card) (
   pub wrote : WroteBlocks block count c front u h
   pub room : block + count ≤ c.capacity
 
-module _ (k : Kind) (e : Ending) (block count : ℕ) (rest : Statements) (fell broke : Rest) (h : Host) (es : List Pair) (c last : Card) where
+module _ (k : Kind) (e : Ending) (block count : ℕ) (rest : Statements) (fell broke : Rest) (h : Host) (es : List Pair) (c last : Card)
+    (user : IsUser c) where
   abbrev on : Rest
   on = walk_statements k e rest fell broke
 
@@ -154,7 +162,8 @@ module _ (k : Kind) (e : Ending) (block count : ℕ) (rest : Statements) (fell b
       HaltedWriting block count e w.rest w.card last ⊎ Past (WroteBlocks block count w.card) on w.rest last → Outcome
   of_stored w room (inl halt) = inl (record {
     early = halt.early;
-    outside = subst (λ bs. SameBut block count bs (disk_blocks last)) (sym w.did.quiet.contents) halt.outside;
+    outside = subst (λ bs. SameBut block count bs (disk_blocks last)) (sym (same_disks c w.card w.did.quiet.contents)) halt.outside;
+    boot = boots_both c w.card last (same_boots c w.card w.did.quiet.contents) halt.boot;
     read = ap blocks_read w.split ∙ read_none w.front w.rest w.did.quiet.read halt.read;
   })
   of_stored w room (inr r) = inr (past_both giving on es last w r (record {
@@ -164,8 +173,10 @@ module _ (k : Kind) (e : Ending) (block count : ℕ) (rest : Statements) (fell b
       size = r.did.size;
       gave = given-append w.front r.front ∙ (ap (λ (bs : List Block). bs ++ given r.front) w.did.quiet.gave ∙ r.did.gave);
       read = read_none w.front r.front w.did.quiet.read r.did.read;
-      contents = r.did.contents ∙ ap (λ (bs : List Block). with_blocks block r.did.new bs) (sym w.did.quiet.contents);
-      outside = subst (λ bs. SameBut block count bs (disk_blocks r.card)) (sym w.did.quiet.contents) r.did.outside;
+      contents = r.did.contents ∙ ap (λ (bs : List Block). with_blocks block r.did.new bs) (sym (same_disks c w.card w.did.quiet.contents));
+      outside = subst (λ bs. SameBut block count bs (disk_blocks r.card)) (sym (same_disks c w.card w.did.quiet.contents)) r.did.outside;
+      boot = boots_both c w.card r.card (same_boots c w.card w.did.quiet.contents) r.did.boot;
+      user = r.did.user;
       blocks = subst (λ n. AreBlocks n (disk_blocks r.card)) (sym w.did.quiet.same.capacity) r.did.blocks;
     };
     room = room;
@@ -181,8 +192,8 @@ module _ (k : Kind) (e : Ending) (block count : ℕ) (rest : Statements) (fell b
       let bounds = write_within count w.did.position argument c w.did.allowed.bounds in
       let at : block ≡ w.card.next_block = sym (named c.block_unit w.card.block_unit block w.did.position argument is begun.same.block_unit bounds.unit)
       ∙ begun.block in
-      of_stored w (named_within c block count w.did.position argument is bounds)
-      (store_part k e block count rest fell broke w.host w.rest w.card last begun.count_is at w.on w.steps)
+      of_stored w (named_within c block count w.did.position argument user is bounds)
+      (store_part k e block count rest fell broke w.host w.rest w.card last begun.count_is at (w.did.quiet.user user) w.on w.steps)
 
   pub write_part : walk_statements k e (write_statements block count rest) fell broke h es → AllowedSteps c es last → Outcome
   write_part walk steps = of_asked

@@ -2,7 +2,7 @@
 use Rattle.std.specs.Prelude.{◌≡◌, ◌⊎◌, ◌<◌, List, [], ◌∷◌, ◌++◌, codes, false}
 use Rattle.std.specs.Str.{bytes_eq}
 use Rattle.sdv_card.specs.declared.answer.DataEnd.TheVariants as ends
-use Rattle.sdv_card.specs.Card.{Card, Block, accessed_capacity, accessed_blocks}
+use Rattle.sdv_card.specs.Card.{Card, Block}
 use Rattle.sdv_card.specs.ScriptEvent.{Return, BlocksIn}
 use Rattle.sdv_card.specs.Step.{Step}
 use Rattle.sdv_graph.specs.Walk.{Pair, Ending, Finished, Failed, Open, given}
@@ -30,9 +30,14 @@ IsEarly Open = Unit {0}
 IsEarly (Failed name) = bytes_eq name (codes "beyond") ≡ false
 IsEarly e = ⊥
 
--- the blocks of the disk that a card is
+-- the blocks of the disk that a card is: those of its user area
 abbrev pub disk_blocks : Card → List Block
-disk_blocks c = accessed_blocks c c.contents
+disk_blocks c = c.contents.user
+
+-- the boot partitions, which no batch reaches, hold what they held
+pub record SameBoot (c last : Card) : Type 0 where
+  pub boot_1 : c.contents.boot_1 ≡ last.contents.boot_1
+  pub boot_2 : c.contents.boot_2 ≡ last.contents.boot_2
 
 -- that disk, with what is left of an input
 abbrev pub disk_of : Card → (input output : List Block) → Disk
@@ -55,6 +60,7 @@ pub record Served (rs : List Request) (e : Ending) (es : List Pair) (c last : Ca
   pub all : e ≡ Finished → (left output : List Block) → AllServed rs (disk_of c (given es ++ left) output)
   -- no block changed that the batch does not write
   pub outside : SameOutside rs (disk_blocks c) (disk_blocks last)
+  pub boot : SameBoot c last
 
 -- A walk of a whole batch, from a card before its first command to another.
 pub record ServedBatch (rs : List Request) (e : Ending) (es : List Pair) (c last : Card) : Type 0 where
@@ -62,5 +68,6 @@ pub record ServedBatch (rs : List Request) (e : Ending) (es : List Pair) (c last
   pub ends : (left : List Block) →
       EndsAs e (disk_of last left (blocks_read es)) (after_batch rs (disk_of c (given es ++ left) []))
   pub outside : SameOutside rs (disk_blocks c) (disk_blocks last)
+  pub boot : SameBoot c last
   -- in the fault `beyond` only where a request passes the end of the disk
-  pub beyond : e ≡ Failed (codes "beyond") → accessed_capacity c < greatest_end rs
+  pub beyond : e ≡ Failed (codes "beyond") → c.capacity < greatest_end rs

@@ -9,6 +9,7 @@ use Rattle.sdv_card.specs.declared.state.State.TheVariants.{Idle, Ready, Ident, 
 use Rattle.sdv_card.specs.declared.state.Transfer.{Transfer}
 use Rattle.sdv_card.specs.declared.state.Transfer.TheVariants.{Nothing, ExtCsdDue}
 use Rattle.sdv_card.specs.declared.state.EraseStage.TheVariants.{Outside}
+use Rattle.sdv_card.specs.declared.state.Partition.TheVariants.{User, Boot1, Boot2}
 use Rattle.sdv_card.specs.declared.event.Aim.TheVariants.{Rca, Plain}
 use Rattle.sdv_card.specs.declared.command.Order.TheVariants.{GoIdleState, SendOpCond, AllSendCid, SetRelativeAddress, SendCsd, SelectCard, SetBlockLength, SendExtCsd}
 use Rattle.sdv_card.specs.declared.command.Row.{Row}
@@ -16,16 +17,17 @@ use Rattle.sdv_card.specs.declared.command.Row.TheVariants.{Cmd0, Cmd1, Cmd2, Cm
 use Rattle.sdv_card.specs.declared.answer.Answer.TheVariants.{Sent, Reply as Replied}
 use Rattle.sdv_card.specs.Lists.{May}
 use Rattle.sdv_card.specs.StateTable.{rows, ◌to◌}
-use Rattle.sdv_card.specs.RowRules.{may_reach, app_after, erase_after, preset_after, transfer_after}
+use Rattle.sdv_card.specs.RowRules.{may_reach, app_after, erase_after, preset_after, mode_after, may_switch, transfer_after}
+use Rattle.sdv_card.specs.Modes.{first_mode}
 use Rattle.sdv_card.specs.CommandTable.{order_of}
-use Rattle.sdv_card.specs.Card.{Card, IsRegister, AreBlocks, IsByte, Block}
+use Rattle.sdv_card.specs.Card.{Card, IsRegister, AreBlocks, ContentsFit, IsByte, Block}
 use Rattle.sdv_card.specs.Phases.{◌with◌}
 use Rattle.sdv_card.specs.Taken.{Taken, RcaAfter, LengthAfter, BlocksAfter, ContentsAfter}
 use Rattle.sdv_card.specs.Host.{Host}
 use Rattle.sdv_card.specs.Profile.{IsAtStart, host_at_start}
 use Rattle.sdv_card.specs.BringUp.{Happens, command}
 use Rattle.sdv_card.specs.EmmcBringUp.{device_csd, device_cid, device_ext_csd, example_device, read_ext_csd, DeviceBringUpHappens}
-use Rattle.sdv_card.proofs.Steps.{happens, first, made, bytes_fit}
+use Rattle.sdv_card.proofs.Steps.{happens, first, made, bytes_fit, no_boot_blocks}
 use Rattle.sdv_card.proofs.ExampleAnswers.{no_error, no_blocks}
 
 -- THE DEVICE AND THE HOST between the commands
@@ -42,11 +44,23 @@ host rca csd = record (host_at_start 0) { rca = rca; csd = csd }
 taken : (row : Row) (argument : ℕ) (contents : List Block) (s s' : State) (r r' : Option ℕ) (x : Transfer) →
     May (rows Emmc row) (s to s') → IsTrue (may_reach row true s') → May (app_after row) false → RcaAfter row r r' →
     erase_after row Outside ≡ Outside → LengthAfter row true 512 512 → May (preset_after Emmc row 0) 0 → transfer_after row 0 Nothing ≡ x →
+    May (mode_after row true s first_mode) first_mode → IsTrue (may_switch row 0 false) →
     BlocksAfter row argument (device contents s r Nothing) (device contents s' r' x) →
     ContentsAfter row (device contents s r Nothing) (device contents s' r' x) →
     Taken row true argument (device contents s r Nothing) (device contents s' r' x)
-taken row argument contents s s' r r' x state reached app rca erase length preset transfer blocks same = record {
-  same = record { kind = refl; version = refl; block_unit = refl; capacity = refl; csd = refl; cid = refl; ext_csd = refl; scr = refl; sd_status = refl };
+taken row argument contents s s' r r' x state reached app rca erase length preset transfer mode switched blocks same = record {
+  same = record {
+    kind = refl;
+    version = refl;
+    block_unit = refl;
+    capacity = refl;
+    boot_capacity = refl;
+    csd = refl;
+    cid = refl;
+    ext_csd = refl;
+    scr = refl;
+    sd_status = refl;
+  };
   state = state;
   reached = reached;
   app = app;
@@ -55,6 +69,8 @@ taken row argument contents s s' r r' x state reached app rca erase length prese
   preset = preset;
   rca = rca;
   transfer = transfer;
+  mode = mode;
+  switched = switched;
   blocks = blocks;
   contents = same;
 }
@@ -66,7 +82,11 @@ unfolding order_of
 reset cs =
     let both = happens _ 0 GoIdleState Sent (device cs Idle None Nothing) (device cs Idle None Nothing) (host 0 None) refl refl (made refl)
     (record { target = Idle; has_row = first; length = refl; erase = refl; preset = refl })
-    (record { card = taken Cmd0 0 cs Idle Idle None None Nothing first refl first refl refl refl first refl (no_blocks _ _ refl refl) refl; error = refl }) in
+    (record {
+      card = taken Cmd0 0 cs Idle Idle None None Nothing first refl first refl refl refl first refl first refl
+          (no_blocks _ _ refl refl) refl;
+      error = refl;
+    }) in
     record { made = made refl; legal = both.0; bounds = tt; step = both.1 }
 
 conditions : (cs : List Block) →
@@ -81,7 +101,7 @@ conditions cs =
       windows = refl;
       ready = refl;
       unit = λ r. refl;
-      card = taken Cmd1 0x40ff8080 cs Idle Ready None None Nothing first refl first refl refl refl first refl (no_blocks _ _ refl refl) refl;
+      card = taken Cmd1 0x40ff8080 cs Idle Ready None None Nothing first refl first refl refl refl first refl first refl (no_blocks _ _ refl refl) refl;
       error = refl;
     }) in
     record { made = made refl; legal = both.0; bounds = tt; step = both.1 }
@@ -96,7 +116,7 @@ identification cs =
     (record {
       shown = refl;
       error = refl;
-      card = taken Cmd2 0 cs Ready Ident None None Nothing first refl first refl refl refl first refl (no_blocks _ _ refl refl) refl;
+      card = taken Cmd2 0 cs Ready Ident None None Nothing first refl first refl refl refl first refl first refl (no_blocks _ _ refl refl) refl;
     }) in
     record { made = made refl; legal = both.0; bounds = tt; step = both.1 }
 
@@ -112,8 +132,10 @@ address cs =
       same_index = refl;
       state = refl;
       app = tt;
+      switch = tt;
       error = no_error _ _ _ refl refl;
-      card = inl (taken Cmd3Emmc 0x00010000 cs Ident Stby None (Some 1) Nothing first refl first refl refl refl first refl (no_blocks _ _ refl refl) refl);
+      card = inl (taken Cmd3Emmc 0x00010000 cs Ident Stby None (Some 1) Nothing first refl first refl refl refl first refl first refl
+          (no_blocks _ _ refl refl) refl);
     }) in
     record { made = made refl; legal = both.0; bounds = tt; step = both.1 }
 
@@ -127,7 +149,7 @@ specific_data cs =
     (record {
       shown = refl;
       error = refl;
-      card = taken Cmd9 0x00010000 cs Stby Stby (Some 1) (Some 1) Nothing first refl first refl refl refl first refl (no_blocks _ _ refl refl) refl;
+      card = taken Cmd9 0x00010000 cs Stby Stby (Some 1) (Some 1) Nothing first refl first refl refl refl first refl first refl (no_blocks _ _ refl refl) refl;
     }) in
     record { made = made refl; legal = both.0; bounds = tt; step = both.1 }
 
@@ -143,8 +165,9 @@ selection cs =
       same_index = refl;
       state = refl;
       app = tt;
+      switch = tt;
       error = no_error _ _ _ refl refl;
-      card = inl (taken Cmd7Addressed 0x00010000 cs Stby Tran (Some 1) (Some 1) Nothing first refl first refl refl refl first refl
+      card = inl (taken Cmd7Addressed 0x00010000 cs Stby Tran (Some 1) (Some 1) Nothing first refl first refl refl refl first refl first refl
           (no_blocks _ _ refl refl) refl);
     }) in
     record { made = made refl; legal = both.0; bounds = tt; step = both.1 }
@@ -161,8 +184,9 @@ block_length cs =
       same_index = refl;
       state = refl;
       app = tt;
+      switch = tt;
       error = no_error _ _ _ refl refl;
-      card = inl (taken Cmd16 512 cs Tran Tran (Some 1) (Some 1) Nothing first refl first refl refl refl first refl (no_blocks _ _ refl refl) refl);
+      card = inl (taken Cmd16 512 cs Tran Tran (Some 1) (Some 1) Nothing first refl first refl refl refl first refl first refl (no_blocks _ _ refl refl) refl);
     }) in
     record { made = made refl; legal = both.0; bounds = tt; step = both.1 }
 
@@ -178,15 +202,17 @@ extended_data cs =
       same_index = refl;
       state = refl;
       app = tt;
+      switch = tt;
       error = no_error _ _ _ refl refl;
-      card = inl (taken Cmd8Emmc 0 cs Tran Data (Some 1) (Some 1) ExtCsdDue first refl first refl refl refl first refl (no_blocks _ _ refl refl) refl);
+      card = inl (taken Cmd8Emmc 0 cs Tran Data (Some 1) (Some 1) ExtCsdDue first refl first refl refl refl first refl first refl
+          (no_blocks _ _ refl refl) refl);
     }) in
     record { made = made refl; legal = both.0; bounds = tt; step = both.1 }
 
 register_phase : (cs : List Block) →
     Happens read_ext_csd (device cs Data (Some 1) ExtCsdDue) (record (host 1 (Some device_csd)) { register_length = 512 }) (device cs Tran (Some 1) Nothing)
 register_phase cs = record {
-  made = record { size = refl };
+  made = record { lines_are = refl; size = refl };
   legal = refl;
   bounds = lit< tt;
   step = record { due = refl; size = refl; truth = refl; moved = record { place = Tran with Nothing; may = first; card = refl } };
@@ -250,6 +276,11 @@ ext_csd_fits = record {
       (All-replicate IsByte 296 0 (lit< tt)));
 }
 
+start_contents : (cs : List Block) → AreBlocks 1024 cs → ContentsFit (example_device cs)
+start_contents cs blocks User = blocks
+start_contents cs blocks Boot1 = no_boot_blocks
+start_contents cs blocks Boot2 = no_boot_blocks
+
 at_start : (cs : List Block) → AreBlocks 1024 cs → IsAtStart (example_device cs)
 unfolding bits bits_of number_of
 at_start cs blocks = record {
@@ -264,13 +295,15 @@ at_start cs blocks = record {
       block_length = refl;
       preset = lit< tt;
       announced = lit< tt;
-      contents = blocks;
+      mode = refl;
+      contents = start_contents cs blocks;
     };
     version = tt;
     least = lit≤ tt;
     most = lit≤ tt;
     readable = refl;
     told = refl;
+    told_boot = refl;
   };
   state = refl;
   rca = refl;
@@ -278,6 +311,7 @@ at_start cs blocks = record {
   erase = refl;
   preset = refl;
   transfer = refl;
+  mode = refl;
   unshown_error = refl;
 }
 

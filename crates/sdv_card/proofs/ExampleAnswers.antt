@@ -19,7 +19,8 @@ use Rattle.sdv_card.specs.BringUp.{example_card, example_cid}
 use Rattle.sdv_card.specs.Card.{Card, Block}
 use Rattle.sdv_card.specs.Exchange.{SettledAnswer, card_takes}
 use Rattle.sdv_card.specs.Lists.{May}
-use Rattle.sdv_card.specs.RowRules.{may_reach, app_after, erase_after, preset_after, transfer_after}
+use Rattle.sdv_card.specs.RowRules.{may_reach, app_after, erase_after, preset_after, mode_after, may_switch, transfer_after}
+use Rattle.sdv_card.specs.Modes.{first_mode}
 use Rattle.sdv_card.specs.StateTable.{rows, ◌to◌}
 use Rattle.sdv_card.specs.Taken.{Taken, RcaAfter, LengthAfter, BlocksAfter, ContentsAfter, SameBlocks}
 use Rattle.sdv_card.proofs.Members.{here, there}
@@ -44,10 +45,22 @@ module _ (cs : List Block) (n : ℕ) where
   pub taken : {heard : Bool} (row : Row) (argument : ℕ) (s s' : State) (r r' : Option ℕ) (a a' : Bool) →
       May (rows Sd row) (s to s') → IsTrue (may_reach row true s') → May (app_after row) a' → RcaAfter row r r' →
       erase_after row Outside ≡ Outside → LengthAfter row true 512 512 → May (preset_after Sd row 0) 0 → transfer_after row 0 Nothing ≡ Nothing →
+      May (mode_after row heard s first_mode) first_mode → IsTrue (may_switch row 0 false) →
       BlocksAfter row argument (card s r a) (card s' r' a') → ContentsAfter row (card s r a) (card s' r' a') →
       Taken row heard argument (card s r a) (card s' r' a')
-  taken row argument s s' r r' a a' state reached app rca erase length preset transfer blocks same = record {
-    same = record { kind = refl; version = refl; block_unit = refl; capacity = refl; csd = refl; cid = refl; ext_csd = refl; scr = refl; sd_status = refl };
+  taken row argument s s' r r' a a' state reached app rca erase length preset transfer mode switched blocks same = record {
+    same = record {
+      kind = refl;
+      version = refl;
+      block_unit = refl;
+      capacity = refl;
+      boot_capacity = refl;
+      csd = refl;
+      cid = refl;
+      ext_csd = refl;
+      scr = refl;
+      sd_status = refl;
+    };
     state = state;
     reached = reached;
     app = app;
@@ -56,6 +69,8 @@ module _ (cs : List Block) (n : ℕ) where
     preset = preset;
     rca = rca;
     transfer = transfer;
+    mode = mode;
+    switched = switched;
     blocks = blocks;
     contents = same;
   }
@@ -68,7 +83,8 @@ module _ (cs : List Block) (n : ℕ) where
   pub reset : (state : State) (rca : Option ℕ) (app : Bool) (argument : ℕ) → May (rows Sd Cmd0) (state to Idle) →
       Comes GoIdleState argument (card state rca app) Sent (card Idle None false)
   reset state rca app argument from = record {
-    card = taken Cmd0 argument state Idle rca None app false from refl (here refl) refl refl refl (here refl) refl (no_blocks _ _ refl refl) refl;
+    card = taken Cmd0 argument state Idle rca None app false from refl (here refl) refl refl refl (here refl) refl (here refl) refl
+        (no_blocks _ _ refl refl) refl;
     error = refl;
   }
 
@@ -77,7 +93,8 @@ module _ (cs : List Block) (n : ℕ) where
   identified argument = record {
     shown = refl;
     error = refl;
-    card = taken Cmd2 argument Ready Ident None None false false (here refl) refl (here refl) refl refl refl (here refl) refl (no_blocks _ _ refl refl) refl;
+    card = taken Cmd2 argument Ready Ident None None false false (here refl) refl (here refl) refl refl refl (here refl) refl (here refl) refl
+        (no_blocks _ _ refl refl) refl;
   }
 
   -- CMD3, for the first time and again
@@ -90,7 +107,7 @@ module _ (cs : List Block) (n : ℕ) where
     card = inl (record {
       rca = refl;
       card = taken Cmd3Sd argument Ident Stby None (Some 0x1234) false false (here refl) refl (here refl) (0x1234, refl, lit< tt, lit< tt) refl refl
-          (here refl) refl (no_blocks _ _ refl refl) refl;
+          (here refl) refl (here refl) refl (no_blocks _ _ refl refl) refl;
     });
   }
 
@@ -104,7 +121,7 @@ module _ (cs : List Block) (n : ℕ) where
     card = inl (record {
       rca = refl;
       card = taken Cmd3Sd argument Stby Stby (Some 0x1234) (Some 0x1234) false false (there (here refl)) refl (here refl)
-          (0x1234, refl, lit< tt, lit< tt) refl refl (here refl) refl (no_blocks _ _ refl refl) refl;
+          (0x1234, refl, lit< tt, lit< tt) refl refl (here refl) refl (here refl) refl (no_blocks _ _ refl refl) refl;
     });
   }
 
@@ -113,13 +130,15 @@ module _ (cs : List Block) (n : ℕ) where
   interface argument = record {
     shown = record { is_word = lit< tt; echo = refl; version = refl };
     error = refl;
-    card = taken Cmd8Sd argument Idle Idle None None false false (here refl) refl (here refl) refl refl refl (here refl) refl (no_blocks _ _ refl refl) refl;
+    card = taken Cmd8Sd argument Idle Idle None None false false (here refl) refl (here refl) refl refl refl (here refl) refl (here refl) refl
+        (no_blocks _ _ refl refl) refl;
   }
 
   -- ACMD41, with which the card gets ready or not yet
   pub goes_ready : {heard : Bool} (high : Bool) (argument : ℕ) → IsTrue (may_reach (Acmd41 high) true Ready)
       → Taken (Acmd41 high) heard argument (card Idle None true) (card Ready None false)
-  goes_ready high argument may = taken (Acmd41 high) argument Idle Ready None None true false (here refl) may (here refl) refl refl refl (here refl) refl
+  goes_ready high argument may = taken (Acmd41 high) argument Idle Ready None None true false (here refl) may (here refl) refl refl refl
+      (here refl) refl (here refl) refl
       (no_blocks _ _ refl refl) refl
 
   pub is_ready : (high : Bool) (argument : ℕ) → IsTrue (may_reach (Acmd41 high) true Ready)
@@ -142,7 +161,7 @@ module _ (cs : List Block) (n : ℕ) where
     windows = refl;
     ready = refl;
     unit = λ r. absurd (let f : false ≡ true = r in cc);
-    card = taken (Acmd41 high) argument Idle Idle None None true false (there (here refl)) may (here refl) refl refl refl (here refl) refl
+    card = taken (Acmd41 high) argument Idle Idle None None true false (there (here refl)) may (here refl) refl refl refl (here refl) refl (here refl) refl
         (no_blocks _ _ refl refl) refl;
     error = refl;
   }
@@ -155,8 +174,9 @@ module _ (cs : List Block) (n : ℕ) where
     same_index = refl;
     state = refl;
     app = refl;
+    switch = tt;
     error = no_error _ _ _ refl refl;
-    card = inl (taken Cmd55 argument Idle Idle None None app true (here refl) refl (there (here refl)) refl refl refl (here refl) refl
+    card = inl (taken Cmd55 argument Idle Idle None None app true (here refl) refl (there (here refl)) refl refl refl (here refl) refl (here refl) refl
         (no_blocks _ _ refl refl) refl);
   }
 
@@ -169,7 +189,9 @@ module _ (cs : List Block) (n : ℕ) where
     same_index = refl;
     state = refl;
     app = refl;
+    switch = tt;
     error = no_error _ _ _ refl refl;
-    card = inl (taken Cmd55 argument Stby Stby (Some 0x1234) (Some 0x1234) app true (there (here refl)) refl (there (here refl)) refl refl refl (here refl) refl
+    card = inl (taken Cmd55 argument Stby Stby (Some 0x1234) (Some 0x1234) app true (there (here refl)) refl (there (here refl)) refl refl refl
+        (here refl) refl (here refl) refl
         (no_blocks _ _ refl refl) refl);
   }

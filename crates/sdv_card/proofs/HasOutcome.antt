@@ -17,6 +17,7 @@ use Rattle.sdv_card.specs.declared.command.Response.TheVariants.{Absent, NotAddr
 use Rattle.sdv_card.specs.declared.command.TakenAs.{TakenAs}
 use Rattle.sdv_card.specs.declared.command.TakenAs.TheVariants.{Forbidden, Ignored, By}
 use Rattle.sdv_card.specs.Lists.{May, each}
+use Rattle.sdv_card.specs.declared.state.Mode.{Mode}
 use Rattle.sdv_card.specs.StateTable.{rows, targets}
 use Rattle.sdv_card.specs.RowRules.{may_reach, states_after, length_after}
 use Rattle.sdv_card.specs.Responses.{response_of}
@@ -27,6 +28,7 @@ use Rattle.sdv_card.specs.Code.{fields_of}
 use Rattle.sdv_card.specs.Shapes.{is_shape}
 use Rattle.sdv_card.specs.LegalShapes.{settled_legal, ask_legal, event_legal, legal_at}
 use Rattle.sdv_card.specs.Outcomes.{branch, placed, phase_seen, phase_ends, wait_ends, wait_seen, with_states, taken, row_branches, settled_branches, ask_branches, event_branches, branches_at, outcome_of}
+use Rattle.sdv_card.specs.Modes.{first_mode}
 use Rattle.sdv_card.specs.Laws.{HasOutcome}
 use Rattle.sdv_card.proofs.Members.{here, there, May-append_left, May-append_right, May-map, May-each, May-filter, and_left, and_right, some_of}
 use Rattle.sdv_card.proofs.HasStep.{read_is_due, register_is_due, write_is_due, cut_read, cut_register, cut_write, late_wait}
@@ -44,16 +46,19 @@ any_length false length_512 = there (here refl)
 some_each : {A B : Type 0} (f : A → List B) (xs : List A) → Some_of xs → ((x : A) → Some_of (f x)) → Some_of (each xs f)
 some_each f xs s g = ((g s.0).0, May-each f s.0 s.1 (g s.0).1)
 
-some_taken : (t : Fields) (states : List State) (apps lengths matches : List Bool) (presets : List ℕ) →
-    Some_of states → Some_of apps → Some_of lengths → Some_of matches → Some_of presets → Some_of (with_states t states apps lengths matches presets)
-some_taken t states apps lengths matches presets s a l m p =
-    some_each _ states s (λ state. some_each _ apps a (λ app. some_each _ lengths l (λ length. some_each _ matches m (λ matched. (_, May-map _ p.1)))))
+some_taken : (t : Fields) (states : List State) (apps lengths : List Bool) (modes : List Mode) (matches : List Bool) (presets : List ℕ) →
+    Some_of states → Some_of apps → Some_of lengths → Some_of modes → Some_of matches → Some_of presets →
+    Some_of (with_states t states apps lengths modes matches presets)
+some_taken t states apps lengths modes matches presets s a l o m p =
+    some_each _ states s (λ state. some_each _ apps a (λ app. some_each _ lengths l (λ length. some_each _ modes o (λ mode.
+    some_each _ matches m (λ matched. (_, May-map _ p.1))))))
 
 reset_taken : (k : Kind) (row : Row) (t : Fields) → Absent ≡ response_of row → Some_of (targets (rows k row) t.state) → Some_of (taken k row true t)
 reset_taken k Cmd0 t e s =
     some_taken (record t { transfer = Nothing; erase = Outside }) (states_after k Cmd0 t.block_unit t.state) (false ∷ [])
-    (length_after Cmd0 t.block_unit t.length_512) (true ∷ []) (0 ∷ [])
+    (length_after Cmd0 t.block_unit t.length_512) (first_mode ∷ []) (true ∷ []) (0 ∷ [])
     (s.0, May-filter (may_reach Cmd0 t.block_unit) s.1 refl) (_, here refl) (_, any_length t.block_unit t.length_512) (_, here refl) (_, here refl)
+    (_, here refl)
 reset_taken k row t e s = absurd (cc)
 
 -- A COMMAND
@@ -86,9 +91,9 @@ cut_branch f p = (_, May-append_right (phase_ends Ok f) (May-map (λ place. bran
 
 event_branch : (k : Kind) (event : Event) (f : Fields) → event_legal k event f ≡ true → Some_of (event_branches k event f)
 event_branch k (Send ask) f l = ask_branch k (order_of k ask) f l
-event_branch k RecvBlocks f l = cut_branch f (cut_read f.transfer (read_is_due f.state f.transfer l))
-event_branch k RecvReg f l = cut_branch f (cut_register f.transfer (register_is_due f.state f.transfer l))
-event_branch k Give f l = cut_branch f (cut_write f.transfer (write_is_due f.state f.transfer l))
+event_branch k RecvBlocks f l = cut_branch f (cut_read f.transfer (read_is_due f.state f.transfer (and_left _ _ l)))
+event_branch k RecvReg f l = cut_branch f (cut_register f.transfer (register_is_due f.state f.transfer (and_left _ _ l)))
+event_branch k Give f l = cut_branch f (cut_write f.transfer (write_is_due f.state f.transfer (and_left _ _ l)))
 event_branch k Wait f l =
     (_, May-append_right (wait_ends Over f) (May-map (λ state. branch (record f { state = state }) (wait_seen Late)) (late_wait f.state l)))
 

@@ -22,13 +22,16 @@ use Rattle.sdv_card.specs.declared.command.TakenAs.TheVariants.{Forbidden, Ignor
 use Rattle.sdv_card.specs.Lists.{May}
 use Rattle.sdv_card.specs.ScriptEvent.{SendCommand, ReceiveBlocks, ReceiveRegister, GiveBlocks, AwaitReady, Answered, BlocksIn, RegisterIn, BlocksOut, Waited}
 use Rattle.sdv_card.specs.Responses.{response_of}
-use Rattle.sdv_card.specs.Card.{Card}
+use Rattle.sdv_card.specs.Card.{Card, Partitions, blocks_of, put}
 use Rattle.sdv_card.specs.Taken.{Taken, LengthAfter}
 use Rattle.sdv_card.specs.Exchange.{Reset, RowAnswer, SettledAnswer, unaddressed_answer, card_takes}
 use Rattle.sdv_card.specs.Phases.{read_due, register_due, write_due, after_phase, after_wait, Moved, MovedWriting}
 use Rattle.sdv_card.specs.Legal.{RowLegal, SettledLegal, recv_legal, recv_reg_legal, give_legal, wait_legal}
 use Rattle.sdv_card.specs.Laws.{HasStep}
-use Rattle.sdv_card.proofs.Members.{here}
+use Rattle.sdv_card.specs.declared.state.Partition.{Partition}
+use Rattle.sdv_card.specs.declared.state.Partition.TheVariants.{User, Boot1, Boot2}
+use Rattle.sdv_card.specs.Modes.{first_mode}
+use Rattle.sdv_card.proofs.Members.{here, and_left}
 
 -- a card after CMD0
 after_reset : Card → State → Card
@@ -38,6 +41,7 @@ after_reset t target = record t {
   app = false;
   block_length = 512;
   erase = Outside;
+  mode = first_mode;
   preset = 0;
   transfer = Nothing;
   unshown_error = false;
@@ -50,7 +54,18 @@ any_length false n = tt
 reset_taken : (argument : ℕ) (t : Card) (l : RowLegal Cmd0 t) → Taken Cmd0 true argument t (after_reset t l.target)
 unfolding after_reset
 reset_taken argument t l = record {
-  same = record { kind = refl; version = refl; block_unit = refl; capacity = refl; csd = refl; cid = refl; ext_csd = refl; scr = refl; sd_status = refl };
+  same = record {
+    kind = refl;
+    version = refl;
+    block_unit = refl;
+    capacity = refl;
+    boot_capacity = refl;
+    csd = refl;
+    cid = refl;
+    ext_csd = refl;
+    scr = refl;
+    sd_status = refl;
+  };
   state = l.has_row;
   reached = refl;
   app = here refl;
@@ -59,6 +74,8 @@ reset_taken argument t l = record {
   preset = here refl;
   rca = refl;
   transfer = refl;
+  mode = here refl;
+  switched = refl;
   blocks = record { block = refl; count_is = refl };
   contents = refl;
 }
@@ -132,6 +149,12 @@ moved_writing_to : (c : Card) (p : (p : Place) × May (after_phase c.transfer Cu
 unfolding at_place
 moved_writing_to c p = record { place = p.0; may = p.1; card = refl }
 
+-- the blocks of a partition, put where they are
+put_back : (p : Partition) (contents : Partitions) → put p (blocks_of p contents) contents ≡ contents
+put_back User contents = refl
+put_back Boot1 contents = refl
+put_back Boot2 contents = refl
+
 pub has_step : (k : Kind) → HasStep k
 unfolding at_place
 has_step k (SendCommand ask position argument) c h pair l =
@@ -142,28 +165,28 @@ has_step k (SendCommand ask position argument) c h pair l =
       after = s.1;
       step = record { order = l.order; asks = l.asks; exchange = record { settled_card = c; settled = inl refl; answered = s.2 } };
     }
-has_step k (ReceiveBlocks count) c h pair l =
-    let due : read_due c.transfer ≡ true = read_is_due c.state c.transfer l in
+has_step k (ReceiveBlocks lines count) c h pair l =
+    let due : read_due c.transfer ≡ true = read_is_due c.state c.transfer (and_left (recv_legal c.state c.transfer) _ l) in
     record {
       returned = BlocksIn Cut (replicate count []);
       after = at_place c (cut_read c.transfer due).0;
       step = record { due = due; size = length-replicate count []; truth = tt; moved = moved_to c (cut_read c.transfer due) };
     }
-has_step k (ReceiveRegister count) c h pair l =
-    let due : register_due c.transfer ≡ true = register_is_due c.state c.transfer l in
+has_step k (ReceiveRegister lines count) c h pair l =
+    let due : register_due c.transfer ≡ true = register_is_due c.state c.transfer (and_left (recv_reg_legal c.state c.transfer) _ l) in
     record {
       returned = RegisterIn Cut (replicate count 0);
       after = at_place c (cut_register c.transfer due).0;
       step = record { due = due; size = length-replicate count 0; truth = tt; moved = moved_to c (cut_register c.transfer due) };
     }
-has_step k (GiveBlocks blocks) c h pair l =
-    let due : write_due c.transfer ≡ true = write_is_due c.state c.transfer l in
+has_step k (GiveBlocks lines blocks) c h pair l =
+    let due : write_due c.transfer ≡ true = write_is_due c.state c.transfer (and_left (give_legal c.state c.transfer) _ l) in
     record {
       returned = BlocksOut Cut;
       after = at_place c (cut_write c.transfer due).0;
       step = record {
         due = due;
-        others = record { blocks = pair.card.contents; below = refl; above = refl };
+        others = record { blocks = pair.card.contents c.mode.partition; others = put_back c.mode.partition c.contents; below = refl; above = refl };
         stored = refl;
         moved = moved_writing_to c (cut_write c.transfer due);
       };

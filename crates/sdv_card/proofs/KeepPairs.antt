@@ -28,6 +28,7 @@ use Rattle.sdv_card.specs.Exchange.{SettledAnswer, Exchanges, card_takes}
 use Rattle.sdv_card.specs.Phases.{after_phase, after_wait, Moved, MovedWriting, OnlyAddressed, WaitEnds}
 use Rattle.sdv_card.specs.Shapes.{IsPair}
 use Rattle.sdv_card.specs.Laws.{StepsKeepPairs}
+use Rattle.sdv_card.specs.Modes.{mode_fits, has_width}
 use Rattle.sdv_card.proofs.Became.{Became, became}
 use Rattle.sdv_card.proofs.Same.{same_but_contents, settled_same, became_same, steps_keep_same}
 use Rattle.sdv_card.proofs.SettledCard.{Fits, card_after, kind_of_none, kind_of_blocks, settled_is_card}
@@ -36,7 +37,7 @@ use Rattle.sdv_card.proofs.OrdersOfAsks.{of_ask}
 use Rattle.sdv_card.proofs.RowsKeep.{Leads, leads}
 use Rattle.sdv_card.proofs.TakenFields.{SameHost}
 use Rattle.sdv_card.proofs.PhasePlaces.{Calm, calm_place}
-use Rattle.sdv_card.proofs.PartsKept.{kept_small, preset_small, kind_none_taken, kind_none_stayed, kind_again, kind_taken, length_kept, announced_small, contents_same, contents_put, contents_kept, rca_small}
+use Rattle.sdv_card.proofs.PartsKept.{kept_small, preset_small, kind_none_taken, kind_none_stayed, kind_again, kind_taken, length_kept, announced_small, mode_kept, mode_kept_stayed, contents_same, contents_put, contents_kept, rca_small}
 
 -- A COMMAND
 
@@ -58,6 +59,9 @@ fits_taken row heard argument t u count card m =
           (length_kept row t.block_unit t.block_length u.block_length m.block_length card.block_length);
       preset = preset_small t.kind row t.preset u.preset count card.preset m.preset;
       announced = announced_small row argument t u count card.announced m.blocks;
+      mode =
+          subst (λ k. mode_fits k u.mode ≡ true) m.same.kind
+          (mode_kept t.kind row heard t.state t.state u.state t.mode u.mode m.state.one card.mode m.mode);
       contents = contents_kept row t u m.same m.contents card.contents;
     }
 
@@ -78,6 +82,9 @@ fits_stayed row heard t u card m =
           (subst (λ n. length_fits t.block_unit (n == 512) ≡ true) m.block_length card.block_length);
       preset = kept_small t.kind t.preset u.preset card.preset m.preset;
       announced = subst (λ n. n < 65536) m.blocks.count_is card.announced;
+      mode =
+          subst (λ k. mode_fits k u.mode ≡ true) m.same.kind
+          (mode_kept_stayed t.kind row heard t.state t.mode u.mode card.mode m.mode);
       contents = contents_same t u m.same m.contents card.contents;
     }
 
@@ -125,6 +132,7 @@ fits_placed c end p d card may blocks =
       block_length = card.block_length;
       preset = card.preset;
       announced = card.announced;
+      mode = card.mode;
       contents = blocks;
     }
 
@@ -134,7 +142,8 @@ fits_moved c u end card m = subst (λ v. Fits v) m.card (fits_placed c end m.pla
 fits_moved_writing : (c u : Card) (end : DataEnd) → IsCard c → OnlyAddressed c u → MovedWriting end c u → Fits u
 fits_moved_writing c u end card others m =
     subst (λ v. Fits v) m.card
-    (fits_placed c end m.place u card m.may (contents_put c (record c { contents = u.contents }) (same_but_contents c u) others.blocks))
+    (fits_placed c end m.place u card m.may
+    (contents_put c (record c { contents = u.contents }) (same_but_contents c u) others.others others.blocks card.contents))
 
 -- A WAIT
 
@@ -166,15 +175,20 @@ fits_waited c u end card w =
       block_length = card.block_length;
       preset = card.preset;
       announced = card.announced;
+      mode = card.mode;
       contents = card.contents;
     })
 
 -- EVENTS
 
+same_host : {h : Host} → SameHost h h
+same_host = record { lines = refl; flags = refl }
+
 pair_after : (k : Kind) (c u : Card) (h h' : Host) → IsPair k c h → IsCard u → c.kind ≡ u.kind → SameHost h h' → h'.rca < 65536 → IsPair k u h'
 pair_after k c u h h' pair card kind host rca = record {
   kind = pair.kind ∙ kind;
   card = card;
+  lines = subst (λ w. has_width k w ≡ true) host.lines pair.lines;
   flags = subst (λ n. n < 16) host.flags pair.flags;
   rca = rca;
 }
@@ -190,7 +204,7 @@ exchange_pair k ask order argument c u h answer pair e x =
     (card_became way argument t u
     (λ row by. subst (λ n. n < 65536) (same_count (says order t.app m row by)) (of_ask k ask order e).count)
     (settled_is_card c t pair.card x.settled) came)
-    ((settled_same c t x.settled).kind ∙ (became_same way argument t u came).kind) (record { flags = refl })
+    ((settled_same c t x.settled).kind ∙ (became_same way argument t u came).kind) (record { lines = refl; flags = refl })
     (rca_after way order argument t u answer h.rca (ignored_rca order t.app m h.rca)
     (λ row by. (says order t.app m row by).rca answer h.rca) x.answered pair.rca)
 
@@ -198,18 +212,18 @@ pub steps_keep_pairs : (k : Kind) → StepsKeepPairs k
 steps_keep_pairs k (SendCommand ask position argument) c h (Answered answer) u pair made s =
     let e : order_of k ask ≡ Some s.order = subst (λ v. order_of v ask ≡ Some s.order) (sym pair.kind) s.asks.line in
     subst (λ o. IsPair k u (host_after_order o answer h)) (sym e) (exchange_pair k ask s.order argument c u h answer pair e s.exchange)
-steps_keep_pairs k (ReceiveBlocks count) c h (BlocksIn end blocks) u pair made s =
-    let same = steps_keep_same k (ReceiveBlocks count) c (BlocksIn end blocks) u pair.kind s in
-    pair_after k c u h h pair (card_after c u pair.card same (fits_moved c u end pair.card s.moved)) same.kind (record { flags = refl }) pair.rca
-steps_keep_pairs k (ReceiveRegister count) c h (RegisterIn end bytes) u pair made s =
-    let same = steps_keep_same k (ReceiveRegister count) c (RegisterIn end bytes) u pair.kind s in
-    pair_after k c u h (host_after k (ReceiveRegister count) (RegisterIn end bytes) h) pair
-    (card_after c u pair.card same (fits_moved c u end pair.card s.moved)) same.kind (record { flags = refl }) pair.rca
-steps_keep_pairs k (GiveBlocks blocks) c h (BlocksOut end) u pair made s =
-    let same = steps_keep_same k (GiveBlocks blocks) c (BlocksOut end) u pair.kind s in
+steps_keep_pairs k (ReceiveBlocks lines count) c h (BlocksIn end blocks) u pair made s =
+    let same = steps_keep_same k (ReceiveBlocks lines count) c (BlocksIn end blocks) u pair.kind s in
+    pair_after k c u h h pair (card_after c u pair.card same (fits_moved c u end pair.card s.moved)) same.kind same_host pair.rca
+steps_keep_pairs k (ReceiveRegister lines count) c h (RegisterIn end bytes) u pair made s =
+    let same = steps_keep_same k (ReceiveRegister lines count) c (RegisterIn end bytes) u pair.kind s in
+    pair_after k c u h (host_after k (ReceiveRegister lines count) (RegisterIn end bytes) h) pair
+    (card_after c u pair.card same (fits_moved c u end pair.card s.moved)) same.kind (record { lines = refl; flags = refl }) pair.rca
+steps_keep_pairs k (GiveBlocks lines blocks) c h (BlocksOut end) u pair made s =
+    let same = steps_keep_same k (GiveBlocks lines blocks) c (BlocksOut end) u pair.kind s in
     pair_after k c u h h pair
-    (card_after c u pair.card same (fits_moved_writing c u end pair.card s.others s.moved)) same.kind (record { flags = refl }) pair.rca
+    (card_after c u pair.card same (fits_moved_writing c u end pair.card s.others s.moved)) same.kind same_host pair.rca
 steps_keep_pairs k AwaitReady c h (Waited end) u pair made s =
     let same = steps_keep_same k AwaitReady c (Waited end) u pair.kind s in
-    pair_after k c u h h pair (card_after c u pair.card same (fits_waited c u end pair.card s)) same.kind (record { flags = refl }) pair.rca
+    pair_after k c u h h pair (card_after c u pair.card same (fits_waited c u end pair.card s)) same.kind same_host pair.rca
 steps_keep_pairs k event c h returned u pair made s = absurd s

@@ -1,6 +1,8 @@
 -- A legal step keeps true what the host knows of the card.
-use Rattle.std.proofs.Common.{◌≡◌, ℕ, ◌<◌, ◌/◌, inl, inr, refl, ap, subst, sym, ◌∙◌, Bool, true, false, List, length, take, ◌==◌, eqb-true, Option, Some, None, if◌then◌else◌, arith}
-use Rattle.std.proofs.lemmas.List.{take_all}
+use Rattle.std.proofs.Common.{◌≡◌, ℕ, ◌<◌, ◌/◌, inl, inr, refl, ap, subst, sym, ◌∙◌, Bool, true, false, List, [], ◌∷◌, ◌+◌, length, take, drop, ◌==◌, eqb-true, Option, Some, None, if◌then◌else◌, arith}
+use Rattle.std.proofs.lemmas.List.{take_all, drop-drop}
+use Rattle.std.specs.Prelude.{reverse}
+use Rattle.sdv_frames.specs.Bits.{bits_of, number_of}
 use Rattle.sdv_registers.specs.declared.kind.Kind.{Kind}
 use Rattle.sdv_registers.specs.ExtCsd.{sec_count}
 use Rattle.sdv_registers.specs.declared.kind.Kind.TheVariants.{Sd, Emmc}
@@ -31,7 +33,7 @@ use Rattle.sdv_card.specs.Host.{Host, host_after_order, csd_known, ext_csd_known
 use Rattle.sdv_card.specs.Settled.{Settled}
 use Rattle.sdv_card.specs.Taken.{SameCard, BlocksAfter}
 use Rattle.sdv_card.specs.Exchange.{RowAnswer, SettledAnswer, card_takes}
-use Rattle.sdv_card.specs.Phases.{blocks_due, register_due, due_register, RegisterTrue, Moved, MovedWriting}
+use Rattle.sdv_card.specs.Phases.{blocks_due, register_due, due_register, fixed, RegisterTrue, Moved, MovedWriting}
 use Rattle.sdv_card.specs.Legal.{SettledLegal}
 use Rattle.sdv_card.specs.Laws.{SameSizes, Sound, StepsKeepSound}
 use Rattle.sdv_card.proofs.Became.{Became, became}
@@ -50,7 +52,7 @@ same_sizes held a b s e = subst (λ v. SameSizes held v) e s
 
 -- the capacity in sectors that the host reads is the card's
 pub same_sectors : (held register : List ℕ) → SameSizes held register → sec_count held ≡ sec_count register
-same_sectors held register s = ap sec_count s.bytes
+same_sectors held register s = s.sectors
 
 settled_sound : (c t : Card) (h : Host) → Settled c t → Sound c h → Sound t h
 settled_sound c t h (inl e) sound = subst (λ v. Sound v h) e sound
@@ -268,31 +270,45 @@ written_register end c u m = subst (λ v. register_due v.transfer ≡ false) m.c
 
 -- THE EXT_CSD: of an e.MMC device no other register can be due
 
-only_ext_csd : (x : Transfer) (app : Bool) (preset : ℕ) (c : Card) → kind_fits Emmc x app preset ≡ true → register_due x ≡ true → due_register x c ≡ c.ext_csd
-only_ext_csd ScrDue app preset c fits due = absurd (let e : false ≡ true = fits in cc)
-only_ext_csd SdStatusDue app preset c fits due = absurd (let e : false ≡ true = fits in cc)
-only_ext_csd ExtCsdDue app preset c fits due = refl
-only_ext_csd x app preset c fits due = absurd (let e : false ≡ true = due in cc)
+only_ext_csd : (x : Transfer) (app : Bool) (preset : ℕ) → kind_fits Emmc x app preset ≡ true → register_due x ≡ true → ExtCsdDue ≡ x
+only_ext_csd ScrDue app preset fits due = absurd (let e : false ≡ true = fits in cc)
+only_ext_csd SdStatusDue app preset fits due = absurd (let e : false ≡ true = fits in cc)
+only_ext_csd ExtCsdDue app preset fits due = refl
+only_ext_csd x app preset fits due = absurd (let e : false ≡ true = due in cc)
 
-whole_register : (register bytes : List ℕ) → length register ≡ 512 → length bytes ≡ 512 → take (length register) bytes ≡ take (length bytes) register
-    → SameSizes bytes register
-whole_register register bytes long read e = record {
-  bytes = sym (take_all (length register) bytes (omega (arith, long, read))) ∙ (e ∙ take_all (length bytes) register (omega (arith, long, read)));
+-- registers that are the same from byte 184 on tell the same sizes
+later : (n : ℕ) (a b : List ℕ) → drop 184 a ≡ drop 184 b → drop (184 + n) a ≡ drop (184 + n) b
+later n a b e = sym (drop-drop n 184 a) ∙ (ap (λ v. drop n v) e ∙ drop-drop n 184 b)
+
+tail_sizes : (held register : List ℕ) → drop 184 held ≡ drop 184 register → SameSizes held register
+tail_sizes held register e = record {
+  sectors = ap (λ v. number_of (bits_of (reverse (take 4 v)))) (later 28 held register e);
+  boot = ap (λ v. number_of (bits_of (reverse (take 1 v)))) (later 42 held register e);
 }
+
+third : {a a' b b' c c' : List ℕ} → (a ∷ b ∷ c ∷ []) ≡ (a' ∷ b' ∷ c' ∷ []) → c ≡ c'
+third e = cc
+
+whole_register : (register bytes : List ℕ) → length register ≡ 512 → length bytes ≡ 512 →
+    fixed ExtCsdDue (take (length register) bytes) ≡ fixed ExtCsdDue (take (length bytes) register) → SameSizes bytes register
+whole_register register bytes long read e =
+    tail_sizes bytes register
+    (ap (λ v. drop 184 v) (sym (take_all (length register) bytes (omega (arith, long, read))))
+    ∙ (third e ∙ ap (λ v. drop 184 v) (take_all (length bytes) register (omega (arith, long, read)))))
 
 known_now : (b : Bool) (bytes register : List ℕ) (held : Option (List ℕ)) → (b ≡ true → SameSizes bytes register) → Tells held register →
     Tells (if b then Some bytes else held) register
 known_now true bytes register held now old = told_now bytes register (now refl)
 known_now false bytes register held now old = old
 
-ext_csd_holds : (end : DataEnd) (count : ℕ) (bytes : List ℕ) (c : Card) (h : Host) → IsRegister 512 c.ext_csd → due_register c.transfer c ≡ c.ext_csd →
-    length bytes ≡ count → RegisterTrue end (due_register c.transfer c) bytes → Tells h.ext_csd c.ext_csd →
+ext_csd_holds : (end : DataEnd) (count : ℕ) (bytes : List ℕ) (c : Card) (h : Host) → IsRegister 512 c.ext_csd → ExtCsdDue ≡ c.transfer →
+    length bytes ≡ count → RegisterTrue end c.transfer (due_register c.transfer c) bytes → Tells h.ext_csd c.ext_csd →
     Tells (ext_csd_known count end bytes h.ext_csd) c.ext_csd
 ext_csd_holds Cut count bytes c h register only size truth old = old
 ext_csd_holds Ok count bytes c h register only size truth old =
     known_now (count == 512) bytes c.ext_csd h.ext_csd
     (λ e. whole_register c.ext_csd bytes register.size (size ∙ eqb-true count 512 e)
-    (subst (λ v. take (length v) bytes ≡ take (length bytes) v) only truth)) old
+    (subst (λ x. RegisterTrue Ok x (due_register x c) bytes) (sym only) truth)) old
 
 emmc_register : (c : Card) → IsCard c → c.kind ≡ Emmc → IsRegister 512 c.ext_csd
 emmc_register c card emmc = subst (λ k. DataRegisters k c) emmc card.registers
@@ -307,20 +323,20 @@ steps_keep_sound k (SendCommand ask position argument) c h (Answered answer) u p
     (exchange_sound s.order argument c t u h answer (settled_is_card c t pair.card s.exchange.settled) (settled_sound c t h s.exchange.settled sound)
     (became_same way argument t u (became way s.order argument t u answer s.exchange.answered))
     (subst (λ o. SettledLegal (card_takes t o argument) t) same_order (legal.settled t s.exchange.settled)) s.exchange.answered)
-steps_keep_sound k (ReceiveBlocks count) c h (BlocksIn end blocks) u pair made legal s sound =
-    calm_sound c u h h (steps_keep_same k (ReceiveBlocks count) c (BlocksIn end blocks) u pair.kind s) (moved_blocks end c u s.moved)
-    (moved_register end c u s.moved)
+steps_keep_sound k (ReceiveBlocks lines count) c h (BlocksIn end blocks) u pair made legal s sound =
+    calm_sound c u h h (steps_keep_same k (ReceiveBlocks lines count) c (BlocksIn end blocks) u pair.kind s)
+    (moved_blocks end c u s.moved) (moved_register end c u s.moved)
     sound.csd (λ emmc bytes e. sound.ext_csd bytes emmc e)
-steps_keep_sound k (ReceiveRegister count) c h (RegisterIn end bytes) u pair made legal s sound =
+steps_keep_sound k (ReceiveRegister lines count) c h (RegisterIn end bytes) u pair made legal s sound =
     calm_sound c u h (record h { ext_csd = ext_csd_known count end bytes h.ext_csd })
-    (steps_keep_same k (ReceiveRegister count) c (RegisterIn end bytes) u pair.kind s) (moved_blocks end c u s.moved) (moved_register end c u s.moved)
+    (steps_keep_same k (ReceiveRegister lines count) c (RegisterIn end bytes) u pair.kind s) (moved_blocks end c u s.moved) (moved_register end c u s.moved)
     sound.csd
     (λ emmc. ext_csd_holds end count bytes c h (emmc_register c pair.card emmc)
-    (only_ext_csd c.transfer c.app c.preset c (subst (λ v. kind_fits v c.transfer c.app c.preset ≡ true) emmc pair.card.kind_rules) s.due)
+    (only_ext_csd c.transfer c.app c.preset (subst (λ v. kind_fits v c.transfer c.app c.preset ≡ true) emmc pair.card.kind_rules) s.due)
     s.size s.truth (λ b e. sound.ext_csd b emmc e))
-steps_keep_sound k (GiveBlocks blocks) c h (BlocksOut end) u pair made legal s sound =
-    calm_sound c u h h (steps_keep_same k (GiveBlocks blocks) c (BlocksOut end) u pair.kind s) (written_blocks end c u s.moved)
-    (written_register end c u s.moved)
+steps_keep_sound k (GiveBlocks lines blocks) c h (BlocksOut end) u pair made legal s sound =
+    calm_sound c u h h (steps_keep_same k (GiveBlocks lines blocks) c (BlocksOut end) u pair.kind s)
+    (written_blocks end c u s.moved) (written_register end c u s.moved)
     sound.csd (λ emmc bytes e. sound.ext_csd bytes emmc e)
 steps_keep_sound k AwaitReady c h (Waited end) u pair made legal s sound =
     subst (λ v. Sound v h) s.card (record { csd = sound.csd; ext_csd = sound.ext_csd; blocks = sound.blocks; register = sound.register })

@@ -18,9 +18,10 @@ use Rattle.sdv_card.specs.ScriptEvent.{ScriptEvent, SendCommand, ReceiveBlocks, 
 use Rattle.sdv_card.specs.Card.{Card}
 use Rattle.sdv_card.specs.Host.{Host}
 use Rattle.sdv_card.specs.HostEvents.{Makes, ArgumentFits}
+use Rattle.sdv_card.specs.Modes.{same_width}
 use Rattle.sdv_card.specs.Settled.{Settled}
 use Rattle.sdv_card.specs.Exchange.{card_takes}
-use Rattle.sdv_card.specs.Legal.{RowLegal, SettledLegal, SendLegal, EventLegal}
+use Rattle.sdv_card.specs.Legal.{RowLegal, SettledLegal, SendLegal, EventLegal, recv_legal, recv_reg_legal, give_legal}
 use Rattle.sdv_card.specs.Shapes.{view, is_shape, pair_code}
 use Rattle.sdv_card.specs.Code.{fields_of}
 use Rattle.sdv_card.specs.Outcomes.{settled, own_steps}
@@ -124,17 +125,23 @@ ask_legal_back ask argument c h (Some order) made e l = record {
 event_legal_law : (event : ScriptEvent) (c : Card) (h : Host) → Makes c.kind event h → EventLegal event c →
     event_legal c.kind (event_of event) (view c h) ≡ true
 event_legal_law (SendCommand ask position argument) c h made l = ask_legal_law ask argument c h made l
-event_legal_law (ReceiveBlocks count) c h made l = l
-event_legal_law (ReceiveRegister count) c h made l = l
-event_legal_law (GiveBlocks blocks) c h made l = l
+event_legal_law (ReceiveBlocks lines count) c h made l =
+    subst (λ w. (recv_legal c.state c.transfer && same_width w c.mode.width) ≡ true) made.lines_are l
+event_legal_law (ReceiveRegister lines count) c h made l =
+    subst (λ w. (recv_reg_legal c.state c.transfer && same_width w c.mode.width) ≡ true) made.lines_are l
+event_legal_law (GiveBlocks lines blocks) c h made l =
+    subst (λ w. (give_legal c.state c.transfer && same_width w c.mode.width) ≡ true) made.lines_are l
 event_legal_law AwaitReady c h made l = l
 
 event_legal_back : (event : ScriptEvent) (c : Card) (h : Host) → Makes c.kind event h →
     event_legal c.kind (event_of event) (view c h) ≡ true → EventLegal event c
 event_legal_back (SendCommand ask position argument) c h made l = ask_legal_back ask argument c h (order_of c.kind ask) made refl l
-event_legal_back (ReceiveBlocks count) c h made l = l
-event_legal_back (ReceiveRegister count) c h made l = l
-event_legal_back (GiveBlocks blocks) c h made l = l
+event_legal_back (ReceiveBlocks lines count) c h made l =
+    subst (λ w. (recv_legal c.state c.transfer && same_width w c.mode.width) ≡ true) (sym made.lines_are) l
+event_legal_back (ReceiveRegister lines count) c h made l =
+    subst (λ w. (recv_reg_legal c.state c.transfer && same_width w c.mode.width) ≡ true) (sym made.lines_are) l
+event_legal_back (GiveBlocks lines blocks) c h made l =
+    subst (λ w. (give_legal c.state c.transfer && same_width w c.mode.width) ≡ true) (sym made.lines_are) l
 event_legal_back AwaitReady c h made l = l
 
 pub legal_is_exact : (k : Kind) → LegalIsExact k

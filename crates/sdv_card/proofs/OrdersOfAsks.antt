@@ -6,8 +6,13 @@ use Rattle.sdv_registers.specs.declared.kind.Kind.TheVariants.{Sd, Emmc}
 use Rattle.sdv_card.specs.declared.event.Aim.{Aim}
 use Rattle.sdv_card.specs.declared.event.Aim.TheVariants.{Rca, Plain}
 use Rattle.sdv_card.specs.declared.event.Ask.{Ask}
+use Rattle.sdv_card.specs.declared.state.Width.{Width}
+use Rattle.sdv_card.specs.declared.state.Width.TheVariants.{One, Four, Eight}
+use Rattle.sdv_card.specs.declared.state.Partition.TheVariants.{User, Boot1, Boot2}
+use Rattle.sdv_card.specs.declared.command.Setting.{Setting}
+use Rattle.sdv_card.specs.declared.command.Setting.TheVariants.{Lines, Access}
 use Rattle.sdv_card.specs.declared.command.Order.{Order}
-use Rattle.sdv_card.specs.declared.command.Order.TheVariants.{GoIdleState, SendOpCond, AllSendCid, SendRelativeAddress, SetRelativeAddress, SelectCard, DeselectCards, SendIfCond, SendExtCsd, SendCsd, SendCid, StopTransmission, SendStatus, SetBlockLength, ReadSingleBlock, ReadMultipleBlock, SetBlockCount, WriteBlock, WriteMultipleBlock, EraseBlockStart, EraseBlockEnd, EraseGroupStart, EraseGroupEnd, Erase, SdSendOpCond, SendScr, AppCommand}
+use Rattle.sdv_card.specs.declared.command.Order.TheVariants.{GoIdleState, SendOpCond, AllSendCid, SendRelativeAddress, SetRelativeAddress, SetBusWidth, Switch, SelectCard, DeselectCards, SendIfCond, SendExtCsd, SendCsd, SendCid, StopTransmission, SendStatus, SetBlockLength, ReadSingleBlock, ReadMultipleBlock, SetBlockCount, WriteBlock, WriteMultipleBlock, EraseBlockStart, EraseBlockEnd, EraseGroupStart, EraseGroupEnd, Erase, SdSendOpCond, SendScr, AppCommand}
 use Rattle.sdv_card.specs.CommandTable.{is_line, is_counted, order_if, sd_order, emmc_order, order_of, addressed_blocks}
 use Rattle.sdv_card.proofs.Members.{and_left, and_right}
 use Rattle.sdv_card.proofs.RowsOfOrders.{order_announces, order_count, order_index}
@@ -18,9 +23,12 @@ has_order Sd SendOpCond = false
 has_order Sd SetRelativeAddress = false
 has_order Sd SendExtCsd = false
 has_order Sd (SetBlockCount n) = false
+has_order Sd (SetBusWidth Eight) = false
+has_order Sd (Switch setting) = false
 has_order Sd EraseGroupStart = false
 has_order Sd EraseGroupEnd = false
 has_order Emmc SendRelativeAddress = false
+has_order Emmc (SetBusWidth width) = false
 has_order Emmc SendIfCond = false
 has_order Emmc EraseBlockStart = false
 has_order Emmc EraseBlockEnd = false
@@ -29,11 +37,26 @@ has_order Emmc SendScr = false
 has_order Emmc AppCommand = false
 has_order k order = true
 
+-- the argument of ACMD6, and that of CMD6 of e.MMC: the access mode (3: write a byte), the byte's index and its value
+abbrev pub width_argument : Width → ℕ
+width_argument One = 0
+width_argument width = 2
+
+abbrev pub setting_argument : Setting → ℕ
+setting_argument (Lines One) = 0x03b70000
+setting_argument (Lines Four) = 0x03b70100
+setting_argument (Lines Eight) = 0x03b70200
+setting_argument (Access User) = 0x03b30000
+setting_argument (Access Boot1) = 0x03b30100
+setting_argument (Access Boot2) = 0x03b30200
+
 -- the argument that stands in a line of the order
 abbrev pub WritesArgument : Order → ℕ → Type 0
 WritesArgument (SdSendOpCond false) argument = argument ≡ 0x00ff8000
 WritesArgument (SdSendOpCond true) argument = argument ≡ 0x40ff8000
 WritesArgument Erase argument = argument ≤ 3
+WritesArgument (SetBusWidth width) argument = argument ≡ width_argument width
+WritesArgument (Switch setting) argument = argument ≡ setting_argument setting
 WritesArgument order argument = argument ≡ 0
 
 -- a count that a script chooses
@@ -112,6 +135,8 @@ sd_line ask order e =
     line Sd ask order (is_line ask 0 Plain 0 0) GoIdleState _ (written Sd ask 0 Plain 0 0 GoIdleState refl refl refl refl) e (λ e.
     line Sd ask order (is_line ask 2 Plain 0 0) AllSendCid _ (written Sd ask 2 Plain 0 0 AllSendCid refl refl refl refl) e (λ e.
     line Sd ask order (is_line ask 3 Plain 0 0) SendRelativeAddress _ (written Sd ask 3 Plain 0 0 SendRelativeAddress refl refl refl refl) e (λ e.
+    line Sd ask order (is_line ask 6 Plain 0 0) (SetBusWidth One) _ (written Sd ask 6 Plain 0 0 (SetBusWidth One) refl refl refl refl) e (λ e.
+    line Sd ask order (is_line ask 6 Plain 2 0) (SetBusWidth Four) _ (written Sd ask 6 Plain 2 0 (SetBusWidth Four) refl refl refl refl) e (λ e.
     line Sd ask order (is_line ask 7 Rca 0 0) SelectCard _ (written Sd ask 7 Rca 0 0 SelectCard refl refl refl refl) e (λ e.
     line Sd ask order (is_line ask 7 Plain 0 0) DeselectCards _ (written Sd ask 7 Plain 0 0 DeselectCards refl refl refl refl) e (λ e.
     line Sd ask order (is_line ask 8 Plain 0 0) SendIfCond _ (written Sd ask 8 Plain 0 0 SendIfCond refl refl refl refl) e (λ e.
@@ -133,7 +158,7 @@ sd_line ask order e =
     (λ e.
     line Sd ask order (is_line ask 51 Plain 0 0) SendScr _ (written Sd ask 51 Plain 0 0 SendScr refl refl refl refl) e (λ e.
     line Sd ask order (is_line ask 55 Rca 0 0) AppCommand _ (written Sd ask 55 Rca 0 0 AppCommand refl refl refl refl) e (λ e.
-    absurd (cc)))))))))))))))))))))))
+    absurd (cc)))))))))))))))))))))))))
 
 emmc_line : (ask : Ask) (order : Order) → emmc_order ask ≡ Some order → LineOf Emmc ask order
 emmc_line ask order e =
@@ -141,6 +166,18 @@ emmc_line ask order e =
     line Emmc ask order (is_line ask 1 Plain 0 0) SendOpCond _ (written Emmc ask 1 Plain 0 0 SendOpCond refl refl refl refl) e (λ e.
     line Emmc ask order (is_line ask 2 Plain 0 0) AllSendCid _ (written Emmc ask 2 Plain 0 0 AllSendCid refl refl refl refl) e (λ e.
     line Emmc ask order (is_line ask 3 Plain 0 0) SetRelativeAddress _ (written Emmc ask 3 Plain 0 0 SetRelativeAddress refl refl refl refl) e (λ e.
+    line Emmc ask order (is_line ask 6 Plain 0x03b70000 0) (Switch (Lines One)) _
+    (written Emmc ask 6 Plain 0x03b70000 0 (Switch (Lines One)) refl refl refl refl) e (λ e.
+    line Emmc ask order (is_line ask 6 Plain 0x03b70100 0) (Switch (Lines Four)) _
+    (written Emmc ask 6 Plain 0x03b70100 0 (Switch (Lines Four)) refl refl refl refl) e (λ e.
+    line Emmc ask order (is_line ask 6 Plain 0x03b70200 0) (Switch (Lines Eight)) _
+    (written Emmc ask 6 Plain 0x03b70200 0 (Switch (Lines Eight)) refl refl refl refl) e (λ e.
+    line Emmc ask order (is_line ask 6 Plain 0x03b30000 0) (Switch (Access User)) _
+    (written Emmc ask 6 Plain 0x03b30000 0 (Switch (Access User)) refl refl refl refl) e (λ e.
+    line Emmc ask order (is_line ask 6 Plain 0x03b30100 0) (Switch (Access Boot1)) _
+    (written Emmc ask 6 Plain 0x03b30100 0 (Switch (Access Boot1)) refl refl refl refl) e (λ e.
+    line Emmc ask order (is_line ask 6 Plain 0x03b30200 0) (Switch (Access Boot2)) _
+    (written Emmc ask 6 Plain 0x03b30200 0 (Switch (Access Boot2)) refl refl refl refl) e (λ e.
     line Emmc ask order (is_line ask 7 Rca 0 0) SelectCard _ (written Emmc ask 7 Rca 0 0 SelectCard refl refl refl refl) e (λ e.
     line Emmc ask order (is_line ask 7 Plain 0 0) DeselectCards _ (written Emmc ask 7 Plain 0 0 DeselectCards refl refl refl refl) e (λ e.
     line Emmc ask order (is_line ask 8 Plain 0 0) SendExtCsd _ (written Emmc ask 8 Plain 0 0 SendExtCsd refl refl refl refl) e (λ e.
@@ -159,7 +196,7 @@ emmc_line ask order e =
     line Emmc ask order (is_line ask 38 Plain 0 0) Erase _ (written Emmc ask 38 Plain 0 0 Erase refl refl (lit≤ tt) refl) e (λ e.
     line Emmc ask order (is_line ask 38 Plain 1 0) Erase _ (written Emmc ask 38 Plain 1 0 Erase refl refl (lit≤ tt) refl) e (λ e.
     line Emmc ask order (is_line ask 38 Plain 3 0) Erase _ (written Emmc ask 38 Plain 3 0 Erase refl refl (lit≤ tt) refl) e (λ e.
-    absurd (cc)))))))))))))))))))))))
+    absurd (cc)))))))))))))))))))))))))))))
 
 -- an ask is a line of the order that it gives
 pub line_of : (k : Kind) (ask : Ask) (order : Order) → order_of k ask ≡ Some order → LineOf k ask order
@@ -202,10 +239,24 @@ some_blocks (ReadMultipleBlock m) count n w e = subst (λ v. 0 < v) (some_one e)
 some_blocks (WriteMultipleBlock m) count n w e = subst (λ v. 0 < v) (some_one e) w.some
 some_blocks order count n w e = absurd (let f : None ≡ Some n = e in cc)
 
+narrow_width : (width : Width) → width_argument width < 2 ^ 32
+narrow_width One = lit< tt
+narrow_width width = lit< tt
+
+narrow_setting : (setting : Setting) → setting_argument setting < 2 ^ 32
+narrow_setting (Lines One) = lit< tt
+narrow_setting (Lines Four) = lit< tt
+narrow_setting (Lines Eight) = lit< tt
+narrow_setting (Access User) = lit< tt
+narrow_setting (Access Boot1) = lit< tt
+narrow_setting (Access Boot2) = lit< tt
+
 narrow : (order : Order) (argument : ℕ) → WritesArgument order argument → argument < 2 ^ 32
 narrow (SdSendOpCond false) argument is = omega arith
 narrow (SdSendOpCond true) argument is = omega arith
 narrow Erase argument is = omega arith
+narrow (SetBusWidth width) argument is = subst (λ n. n < 2 ^ 32) (sym is) (narrow_width width)
+narrow (Switch setting) argument is = subst (λ n. n < 2 ^ 32) (sym is) (narrow_setting setting)
 narrow order argument is = subst (λ n. n < 2 ^ 32) (sym is) (lit< tt)
 
 -- the argument that stands in a line has 32 bits

@@ -6,6 +6,7 @@ use Rattle.sdv_card.specs.declared.state.State.TheVariants.{Idle, Ready, Ident}
 use Rattle.sdv_card.specs.Takes.{matches}
 use Rattle.sdv_card.specs.Card.{AddressFits, kind_fits}
 use Rattle.sdv_card.specs.Shapes.{is_shape, match_fits}
+use Rattle.sdv_card.specs.Modes.{mode_fits}
 use Rattle.sdv_card.specs.Laws.{PairsHaveShapes}
 use Rattle.sdv_card.proofs.Members.{both_true}
 
@@ -21,7 +22,11 @@ unfolding is_shape
 pairs_have_shapes k c h pair =
     both_true _ _
     (both_true _ _
+    (both_true _ _
+    (both_true _ _
     (both_true _ _ pair.card.transfer
     (subst (λ v. kind_fits v c.transfer c.app c.preset ≡ true) (sym pair.kind) pair.card.kind_rules))
     (match_law c.state c.rca h.rca pair.card.address))
-    pair.card.block_length
+    pair.card.block_length)
+    (subst (λ v. mode_fits v c.mode ≡ true) (sym pair.kind) pair.card.mode))
+    pair.lines

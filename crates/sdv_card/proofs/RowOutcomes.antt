@@ -1,10 +1,10 @@
 -- What comes of a row at a settled card is among what may follow it at the card's fields.
-use Rattle.std.proofs.Common.{◌≡◌, ℕ, ◌⊎◌, inl, inr, refl, ap, subst, sym, ◌∙◌, Bool, true, false, List, [], ◌∷◌, ◌==◌, Option, Some, None, if◌then◌else◌, IsTrue}
+use Rattle.std.proofs.Common.{◌≡◌, ℕ, ◌⊎◌, inl, inr, refl, ap, subst, sym, ◌∙◌, Bool, true, false, not, List, [], ◌∷◌, ◌==◌, Option, Some, None, if◌then◌else◌, IsTrue}
 use Rattle.sdv_registers.specs.declared.kind.Kind.{Kind}
 use Rattle.sdv_registers.specs.declared.kind.Kind.TheVariants.{Sd, Emmc}
 use Rattle.sdv_frames.specs.declared.reply.Reply.{Reply}
 use Rattle.sdv_frames.specs.declared.reply.Reply.TheVariants.{R2, R7}
-use Rattle.sdv_registers.specs.Status.{rca as published_rca}
+use Rattle.sdv_registers.specs.Status.{is_switch_error, rca as published_rca}
 use Rattle.sdv_registers.specs.Ocr.{access_mode, is_block_addressed}
 use Rattle.sdv_card.specs.declared.state.State.{State}
 use Rattle.sdv_card.specs.declared.fields.Fields.{Fields}
@@ -14,22 +14,22 @@ use Rattle.sdv_card.specs.declared.answer.Answer.TheVariants.{TimeOut, Reply as 
 use Rattle.sdv_card.specs.declared.command.Order.{Order}
 use Rattle.sdv_card.specs.declared.command.Order.TheVariants.{DeselectCards}
 use Rattle.sdv_card.specs.declared.command.Row.{Row}
-use Rattle.sdv_card.specs.declared.command.Row.TheVariants.{Cmd1, Cmd2, Cmd3Sd, Cmd8Sd, Cmd9, Cmd10, Cmd55, Acmd41}
+use Rattle.sdv_card.specs.declared.command.Row.TheVariants.{Cmd1, Cmd2, Cmd3Sd, Cmd8Sd, Cmd9, Cmd10, Cmd13, Cmd55, Acmd13, Acmd41}
 use Rattle.sdv_card.specs.declared.command.Response.{Response}
 use Rattle.sdv_card.specs.declared.command.Response.TheVariants.{Absent, NotAddressed, CardStatus, NewAddress, Conditions}
 use Rattle.sdv_card.specs.Lists.{May}
 use Rattle.sdv_card.specs.StateTable.{◌to◌, rows}
 use Rattle.sdv_card.specs.RowRules.{matched_stayed}
 use Rattle.sdv_card.specs.Responses.{response_of, row_index}
-use Rattle.sdv_card.specs.Seen.{app_of, answer_seen}
+use Rattle.sdv_card.specs.Seen.{app_of, switch_of, answer_seen}
 use Rattle.sdv_card.specs.Takes.{matches}
 use Rattle.sdv_card.specs.Card.{Card, IsCard}
 use Rattle.sdv_card.specs.Host.{Host, host_after_order}
 use Rattle.sdv_card.specs.Taken.{Taken, Stayed}
-use Rattle.sdv_card.specs.Agrees.{TakenOrStayed, AppShown, Published, UnitShown, ContentsShown}
+use Rattle.sdv_card.specs.Agrees.{TakenOrStayed, AppShown, SwitchShown, Published, UnitShown, ContentsShown}
 use Rattle.sdv_card.specs.Exchange.{TakenUnseen, Lost, unaddressed_answer}
 use Rattle.sdv_card.specs.Shapes.{view}
-use Rattle.sdv_card.specs.Outcomes.{branch, with_seen, taken, stayed, lost, statuses, status_seen, with_status, app_shown, unaddressed_seen}
+use Rattle.sdv_card.specs.Outcomes.{branch, with_seen, taken, stayed, lost, statuses, status_seen, with_status, app_shown, switch_shown, unaddressed_seen}
 use Rattle.sdv_card.proofs.Members.{here, there, May-append_left, May-append_right, May-map}
 use Rattle.sdv_card.proofs.RowsOfOrders.{Says, row_rca}
 use Rattle.sdv_card.proofs.TakenFields.{SameHost, Allowed, taken_law, stayed_law, stayed_cases, stayed_match, same_view, lost_law}
@@ -49,7 +49,7 @@ heard order answer h = host_after_order (Some order) answer h
 
 -- an answer tells of a card alone
 pub heard_host : (order : Order) (answer : Answer) (h : Host) → SameHost h (heard order answer h)
-heard_host order answer h = record { flags = refl }
+heard_host order answer h = record { lines = refl; flags = refl }
 
 -- MATCHES, with the host after an answer
 
@@ -95,13 +95,28 @@ pub app_law : (row : Row) (word : ℕ) (u : Card) → AppShown row word u → ap
 app_law Cmd55 word u e = ap Some e
 app_law row word u e = refl
 
-pub same_status_seen : {a a' : ℕ} {d : Bool} {o o' : Option Bool} → a ≡ a' → o ≡ o' → Status a d o ≡ Status a' d o'
-same_status_seen e f = cc
+-- the switch error that is seen in an answer is the one that is shown
+told : (before after bit : Bool) → (before ≡ true → bit ≡ not after) → (if before then Some bit else None) ≡ switch_shown Cmd13 before after
+told true after bit e = ap Some (e refl)
+told false after bit e = refl
+
+untold : (before bit : Bool) → before ≡ false → (if before then Some bit else None) ≡ None
+untold true bit e = absurd (let f : true ≡ false = e in cc)
+untold false bit e = refl
+
+pub switch_law : (row : Row) (word : ℕ) (t u : Card) → Allowed row t → SwitchShown row t word u →
+    switch_of (row_index row) t.mode.error word ≡ switch_shown row t.mode.error u.mode.error
+switch_law Cmd13 word t u allowed shown = told t.mode.error u.mode.error (is_switch_error word) shown
+switch_law Acmd13 word t u allowed shown = untold t.mode.error (is_switch_error word) allowed
+switch_law row word t u allowed shown = refl
+
+pub same_status_seen : {a a' : ℕ} {d : Bool} {o o' w w' : Option Bool} → a ≡ a' → o ≡ o' → w ≡ w' → Status a d o w ≡ Status a' d o' w'
+same_status_seen e f g = cc
 
 pub status_cases : (k : Kind) (order : Order) (row : Row) (argument : ℕ) (h : Host) (t u : Card) (answer : Answer) (d : Bool) → CardStatus ≡ response_of row →
     AtRow k order row t → TakenOrStayed row argument t d u →
     May (taken k row true (view t h)) (view u (heard order answer h))
-    ⊎ ((d ≡ true) × May (stayed k row (matches t.rca h.rca ∷ []) (view t h)) (view u (heard order answer h)))
+    ⊎ ((d ≡ true) × May (stayed k row true (matches t.rca h.rca ∷ []) (view t h)) (view u (heard order answer h)))
 status_cases k order row argument h t u answer d is at (inl m) =
     inl (heard_taken k order row argument h t u answer (λ e. let f : NewAddress ≡ CardStatus = e ∙ sym is in cc) at m)
 status_cases k order row argument h t u answer d is at (inr m) =
@@ -117,7 +132,7 @@ status_cases k order row argument h t u answer d is at (inr m) =
 pub address_cases : (k : Kind) (argument : ℕ) (h h' : Host) (t u : Card) (word : ℕ) (d : Bool) → k ≡ t.kind → IsCard t → SameHost h h' →
     published_rca word ≡ h'.rca → Published Cmd3Sd argument t word u ⊎ ((d ≡ true) × Stayed Cmd3Sd true t u) →
     May (taken k Cmd3Sd true (view t h)) (view u h')
-    ⊎ ((d ≡ true) × May (stayed k Cmd3Sd (matched_stayed t.state) (view t h)) (view u h'))
+    ⊎ ((d ≡ true) × May (stayed k Cmd3Sd true (matched_stayed t.state) (view t h)) (view u h'))
 address_cases k argument h h' t u word d kind card host e (inl m) =
     inl (taken_law k Cmd3Sd true argument h h' t u kind m.card host (here (published_matches u.rca h'.rca (ap Some (sym e) ∙ m.rca))))
 address_cases k argument h h' t u word d kind card host e (inr m) =

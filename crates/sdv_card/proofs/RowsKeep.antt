@@ -6,9 +6,10 @@ use Rattle.sdv_card.specs.declared.state.State.{State}
 use Rattle.sdv_card.specs.declared.state.State.TheVariants.{Idle, Ready, Ident, Stby, Tran, Data, Rcv, Prg, Dis}
 use Rattle.sdv_card.specs.declared.state.Transfer.{Transfer}
 use Rattle.sdv_card.specs.declared.state.Transfer.TheVariants.{ReadDue, OpenReadDue, WriteDue, OpenWriteDue}
+use Rattle.sdv_card.specs.declared.state.Width.TheVariants.{One, Four, Eight}
 use Rattle.sdv_card.specs.declared.command.Move.{Move}
 use Rattle.sdv_card.specs.declared.command.Row.{Row}
-use Rattle.sdv_card.specs.declared.command.Row.TheVariants.{Cmd0, Cmd1, Cmd2, Cmd3Sd, Cmd3Emmc, Cmd7Addressed, Cmd7NotAddressed, Cmd8Sd, Cmd8Emmc, Cmd9, Cmd10, Cmd12, Cmd13, Cmd16, Cmd17, Cmd18, Cmd23, Cmd24, Cmd25, Cmd32, Cmd33, Cmd35, Cmd36, Cmd38, Cmd55, Acmd13, Acmd41, Acmd51}
+use Rattle.sdv_card.specs.declared.command.Row.TheVariants.{Cmd0, Cmd1, Cmd2, Cmd3Sd, Cmd3Emmc, Cmd6, Cmd7Addressed, Cmd7NotAddressed, Cmd8Sd, Cmd8Emmc, Cmd9, Cmd10, Cmd12, Cmd13, Cmd16, Cmd17, Cmd18, Cmd23, Cmd24, Cmd25, Cmd32, Cmd33, Cmd35, Cmd36, Cmd38, Cmd55, Acmd6, Acmd13, Acmd41, Acmd51}
 use Rattle.sdv_card.specs.Lists.{IsOneOf}
 use Rattle.sdv_card.specs.StateTable.{◌to◌, unchanged, every_to, rows}
 use Rattle.sdv_card.specs.RowRules.{transfer_after}
@@ -139,6 +140,13 @@ sd_table Cmd55 a b m =
     at_move Cmd55 (unchanged (Idle ∷ Stby ∷ Tran ∷ Data ∷ Rcv ∷ Prg ∷ Dis ∷ [])) a b
     (each_unchanged Cmd55 (λ s. record { address = λ rca after r a. same_address s rca after r a; transfer = λ p x e. e })
     (Idle ∷ Stby ∷ Tran ∷ Data ∷ Rcv ∷ Prg ∷ Dis ∷ [])) m
+sd_table (Acmd6 Eight) a b m = absurd m
+sd_table (Acmd6 One) a b m =
+    at_move (Acmd6 One) (unchanged (Tran ∷ [])) a b
+    (each_unchanged (Acmd6 One) (λ s. record { address = λ rca after r a. same_address s rca after r a; transfer = λ p x e. e }) (Tran ∷ [])) m
+sd_table (Acmd6 Four) a b m =
+    at_move (Acmd6 Four) (unchanged (Tran ∷ [])) a b
+    (each_unchanged (Acmd6 Four) (λ s. record { address = λ rca after r a. same_address s rca after r a; transfer = λ p x e. e }) (Tran ∷ [])) m
 sd_table Acmd13 a b m =
     at_move Acmd13 ((Tran to Data) ∷ []) a b (record { address = λ rca after r a. same_address Data rca after r a; transfer = λ p x e. refl }, tt) m
 sd_table (Acmd41 high) a b m =
@@ -160,6 +168,8 @@ emmc_table Cmd1 a b m =
 emmc_table Cmd2 a b m = at_move Cmd2 ((Ready to Ident) ∷ []) a b all_send_rows m
 emmc_table Cmd3Emmc a b m =
     at_move Cmd3Emmc ((Ident to Stby) ∷ []) a b (record { address = λ rca after r a. given after r; transfer = λ p x e. e }, tt) m
+emmc_table (Cmd6 setting) a b m =
+    at_move (Cmd6 setting) ((Tran to Prg) ∷ []) a b (record { address = λ rca after r a. same_address Prg rca after r a; transfer = λ p x e. e }, tt) m
 emmc_table Cmd7Addressed a b m = at_move Cmd7Addressed ((Stby to Tran) ∷ (Dis to Prg) ∷ []) a b select_rows m
 emmc_table Cmd7NotAddressed a b m = at_move Cmd7NotAddressed ((Tran to Stby) ∷ (Prg to Dis) ∷ (Stby to Stby) ∷ []) a b deselect_rows m
 emmc_table Cmd8Emmc a b m =

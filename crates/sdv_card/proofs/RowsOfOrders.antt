@@ -7,9 +7,9 @@ use Rattle.sdv_registers.specs.Status.{rca as published_rca}
 use Rattle.sdv_card.specs.declared.answer.Answer.{Answer}
 use Rattle.sdv_card.specs.declared.answer.Answer.TheVariants.{Sent, TimeOut, Reply as Replied, Damaged}
 use Rattle.sdv_card.specs.declared.command.Order.{Order}
-use Rattle.sdv_card.specs.declared.command.Order.TheVariants.{GoIdleState, SendOpCond, AllSendCid, SendRelativeAddress, SetRelativeAddress, SelectCard, DeselectCards, SendIfCond, SendExtCsd, SendCsd, SendCid, StopTransmission, SendStatus, SetBlockLength, ReadSingleBlock, ReadMultipleBlock, SetBlockCount, WriteBlock, WriteMultipleBlock, EraseBlockStart, EraseBlockEnd, EraseGroupStart, EraseGroupEnd, Erase, SdSendOpCond, SendScr, AppCommand}
+use Rattle.sdv_card.specs.declared.command.Order.TheVariants.{GoIdleState, SendOpCond, AllSendCid, SendRelativeAddress, SetRelativeAddress, SetBusWidth, Switch, SelectCard, DeselectCards, SendIfCond, SendExtCsd, SendCsd, SendCid, StopTransmission, SendStatus, SetBlockLength, ReadSingleBlock, ReadMultipleBlock, SetBlockCount, WriteBlock, WriteMultipleBlock, EraseBlockStart, EraseBlockEnd, EraseGroupStart, EraseGroupEnd, Erase, SdSendOpCond, SendScr, AppCommand}
 use Rattle.sdv_card.specs.declared.command.Row.{Row}
-use Rattle.sdv_card.specs.declared.command.Row.TheVariants.{Cmd0, Cmd1, Cmd2, Cmd3Sd, Cmd3Emmc, Cmd7Addressed, Cmd7NotAddressed, Cmd8Sd, Cmd8Emmc, Cmd9, Cmd10, Cmd12, Cmd13, Cmd16, Cmd17, Cmd18, Cmd23, Cmd24, Cmd25, Cmd32, Cmd33, Cmd35, Cmd36, Cmd38, Cmd55, Acmd13, Acmd41, Acmd51}
+use Rattle.sdv_card.specs.declared.command.Row.TheVariants.{Cmd0, Cmd1, Cmd2, Cmd3Sd, Cmd3Emmc, Cmd6, Cmd7Addressed, Cmd7NotAddressed, Cmd8Sd, Cmd8Emmc, Cmd9, Cmd10, Cmd12, Cmd13, Cmd16, Cmd17, Cmd18, Cmd23, Cmd24, Cmd25, Cmd32, Cmd33, Cmd35, Cmd36, Cmd38, Cmd55, Acmd6, Acmd13, Acmd41, Acmd51}
 use Rattle.sdv_card.specs.declared.command.TakenAs.TheVariants.{Ignored, By}
 use Rattle.sdv_card.specs.Takes.{taken_as_of}
 use Rattle.sdv_card.specs.CommandTable.{order_expect}
@@ -59,6 +59,8 @@ order_index SendOpCond = 1
 order_index AllSendCid = 2
 order_index SendRelativeAddress = 3
 order_index SetRelativeAddress = 3
+order_index (SetBusWidth width) = 6
+order_index (Switch setting) = 6
 order_index SelectCard = 7
 order_index DeselectCards = 7
 order_index SendIfCond = 8
@@ -210,6 +212,8 @@ says AppCommand app true row e = at Cmd55 row AppCommand e (λ a n. refl) (λ a 
 says SendStatus true matched row e = at Acmd13 row SendStatus e (λ a n. refl) (λ a v. refl) refl refl
 says (SdSendOpCond high) true matched row e = at (Acmd41 high) row (SdSendOpCond high) e (λ a n. refl) (λ a v. refl) refl refl
 says SendScr true matched row e = at Acmd51 row SendScr e (λ a n. refl) (λ a v. refl) refl refl
+says (SetBusWidth width) true matched row e = at (Acmd6 width) row (SetBusWidth width) e (λ a n. refl) (λ a v. refl) refl refl
+says (Switch setting) false matched row e = at (Cmd6 setting) row (Switch setting) e (λ a n. refl) (λ a v. refl) refl refl
 says SendOpCond false matched row e = at Cmd1 row SendOpCond e (λ a n. refl) (λ a v. refl) refl refl
 says AllSendCid false matched row e = at Cmd2 row AllSendCid e (λ a n. refl) (λ a v. refl) refl refl
 says SendRelativeAddress false matched row e = at Cmd3Sd row SendRelativeAddress e published (λ a v. refl) refl refl
@@ -240,6 +244,7 @@ says SendCid false false row e = absurd (cc)
 says SendStatus false false row e = absurd (cc)
 says (SdSendOpCond high) false matched row e = absurd (cc)
 says SendScr false matched row e = absurd (cc)
+says (SetBusWidth width) false matched row e = absurd (cc)
 says order true matched row e = absurd (cc)
 
 -- the host holds the address that it held after an order that a card may ignore

@@ -8,6 +8,7 @@ use Rattle.sdv_card.specs.declared.state.Transfer.{Transfer}
 use Rattle.sdv_card.specs.declared.state.Transfer.TheVariants.{Nothing, ScrDue, SdStatusDue, ExtCsdDue}
 use Rattle.sdv_card.specs.States.{is_open, own_target}
 use Rattle.sdv_card.specs.Card.{Card, IsCard, IsRegister, DataRegisters, AddressFits, ContentsFit, transfer_fits, kind_fits, length_fits}
+use Rattle.sdv_card.specs.Modes.{mode_fits}
 use Rattle.sdv_card.specs.Settled.{Settled}
 use Rattle.sdv_card.specs.Phases.{register_due}
 use Rattle.sdv_card.specs.Taken.{SameCard}
@@ -28,6 +29,7 @@ pub record Fits (u : Card) : Type 0 where
   pub block_length : length_fits u.block_unit (u.block_length == 512) ≡ true
   pub preset : u.preset < 65536
   pub announced : u.announced < 65536
+  pub mode : mode_fits u.kind u.mode ≡ true
   pub contents : ContentsFit u
 
 pub card_after : (c u : Card) → IsCard c → SameCard c u → Fits u → IsCard u
@@ -41,6 +43,7 @@ card_after c u card same fits = record {
   block_length = fits.block_length;
   preset = fits.preset;
   announced = fits.announced;
+  mode = fits.mode;
   contents = fits.contents;
 }
 
@@ -101,6 +104,7 @@ own_fits c s e card = record {
   block_length = card.block_length;
   preset = card.preset;
   announced = card.announced;
+  mode = card.mode;
   contents = card.contents;
 }
 

@@ -1,5 +1,5 @@
 -- The example: a card is brought up, and an answer is lost.
-use Rattle.std.proofs.Common.{◌≡◌, inl, inr, refl, subst, sym, ◌∙◌, ap, Bool, true, false, ℕ, List, ◌∷◌, replicate, All, Option, Some, None, lit<, lit≤}
+use Rattle.std.proofs.Common.{◌≡◌, inl, inr, refl, subst, sym, ◌∙◌, ap, Bool, true, false, ℕ, List, [], ◌∷◌, replicate, All, Option, Some, None, lit<, lit≤}
 use Rattle.std.specs.List.{AllByRecursion}
 use Rattle.std.proofs.lemmas.List.Elements.{All-from_recursion, All-replicate}
 use Rattle.sdv_registers.specs.declared.kind.Kind.{Kind}
@@ -9,6 +9,7 @@ use Rattle.sdv_frames.specs.declared.reply.Reply.TheVariants.{R1, R2, R3, R6, R7
 use Rattle.sdv_card.specs.declared.state.State.{State}
 use Rattle.sdv_card.specs.declared.state.State.TheVariants.{Idle, Ready, Ident, Stby, Tran, Data, Rcv, Prg}
 use Rattle.sdv_card.specs.declared.state.Transfer.TheVariants.{ReadOver}
+use Rattle.sdv_card.specs.declared.state.Partition.TheVariants.{User, Boot1, Boot2}
 use Rattle.sdv_card.specs.declared.event.Aim.TheVariants.{Rca, Plain}
 use Rattle.sdv_card.specs.declared.event.Ask.{Ask}
 use Rattle.sdv_card.specs.declared.command.Order.{Order}
@@ -20,7 +21,7 @@ use Rattle.sdv_card.specs.declared.answer.Answer.TheVariants.{Sent, TimeOut, Rep
 use Rattle.sdv_card.specs.Lists.{May, IsOneOf}
 use Rattle.sdv_card.specs.States.{own_target}
 use Rattle.sdv_card.specs.CommandTable.{order_of, argument_of}
-use Rattle.sdv_card.specs.Card.{Card, IsRegister, AreBlocks, IsByte, Block}
+use Rattle.sdv_card.specs.Card.{Card, IsRegister, AreBlocks, ContentsFit, IsByte, Block}
 use Rattle.sdv_card.specs.Settled.{Settled}
 use Rattle.sdv_card.specs.Exchange.{card_takes, SettledAnswer}
 use Rattle.sdv_card.specs.Legal.{SettledLegal, SendLegal, RowLegal}
@@ -136,7 +137,7 @@ specific_data cs =
     (record {
       shown = refl;
       error = refl;
-      card = example.taken cs 0 Cmd9 0x12340000 Stby Stby (Some 0x1234) (Some 0x1234) false false first refl first refl refl refl first refl
+      card = example.taken cs 0 Cmd9 0x12340000 Stby Stby (Some 0x1234) (Some 0x1234) false false first refl first refl refl refl first refl first refl
           (no_blocks _ _ refl refl) refl;
     }) in
     record { made = made refl; legal = both.0; bounds = tt; step = both.1 }
@@ -153,8 +154,10 @@ selection cs =
       same_index = refl;
       state = refl;
       app = tt;
+      switch = tt;
       error = no_error _ _ _ refl refl;
-      card = inl (example.taken cs 0 Cmd7Addressed 0x12340000 Stby Tran (Some 0x1234) (Some 0x1234) false false first refl first refl refl refl first refl
+      card = inl (example.taken cs 0 Cmd7Addressed 0x12340000 Stby Tran (Some 0x1234) (Some 0x1234) false false first refl first refl refl refl
+          first refl first refl
           (no_blocks _ _ refl refl) refl);
     }) in
     record { made = made refl; legal = both.0; bounds = tt; step = both.1 }
@@ -171,8 +174,9 @@ block_length cs =
       same_index = refl;
       state = refl;
       app = tt;
+      switch = tt;
       error = no_error _ _ _ refl refl;
-      card = inl (example.taken cs 0 Cmd16 512 Tran Tran (Some 0x1234) (Some 0x1234) false false first refl first refl refl refl first refl
+      card = inl (example.taken cs 0 Cmd16 512 Tran Tran (Some 0x1234) (Some 0x1234) false false first refl first refl refl refl first refl first refl
           (no_blocks _ _ refl refl) refl);
     }) in
     record { made = made refl; legal = both.0; bounds = tt; step = both.1 }
@@ -240,6 +244,14 @@ scr_fits = record {
 sd_status_fits : IsRegister 64 (replicate 64 0)
 sd_status_fits = record { size = refl; bytes_fit = All-replicate IsByte 64 0 (lit< tt) }
 
+pub no_boot_blocks : AreBlocks 0 []
+no_boot_blocks = record { size = refl; blocks_fit = All-from_recursion (IsRegister 512) [] tt }
+
+start_contents : (cs : List Block) → AreBlocks 1024 cs → ContentsFit (example_card cs)
+start_contents cs blocks User = blocks
+start_contents cs blocks Boot1 = no_boot_blocks
+start_contents cs blocks Boot2 = no_boot_blocks
+
 at_start : (cs : List Block) → AreBlocks 1024 cs → IsAtStart (example_card cs)
 unfolding bits bits_of number_of
 at_start cs blocks = record {
@@ -254,13 +266,15 @@ at_start cs blocks = record {
       block_length = refl;
       preset = lit< tt;
       announced = lit< tt;
-      contents = blocks;
+      mode = refl;
+      contents = start_contents cs blocks;
     };
     version = inl refl;
     least = lit≤ tt;
     most = lit≤ tt;
     readable = refl;
     told = refl;
+    told_boot = refl;
   };
   state = refl;
   rca = refl;
@@ -268,6 +282,7 @@ at_start cs blocks = record {
   erase = refl;
   preset = refl;
   transfer = refl;
+  mode = refl;
   unshown_error = refl;
 }
 
@@ -349,8 +364,10 @@ programming_ends cs =
             same_index = refl;
             state = refl;
             app = tt;
+            switch = λ e. absurd (let f : false ≡ true = e in cc);
             error = no_error _ _ _ refl refl;
-            card = inl (example.taken cs 0 Cmd13 0x12340000 Tran Tran (Some 0x1234) (Some 0x1234) false false second refl first refl refl refl first refl
+            card = inl (example.taken cs 0 Cmd13 0x12340000 Tran Tran (Some 0x1234) (Some 0x1234) false false second refl first refl refl refl
+                first refl first refl
                 (no_blocks _ _ refl refl) refl);
           };
         };
@@ -380,6 +397,7 @@ doubt_stays cs =
       same_index = refl;
       state = refl;
       app = tt;
+      switch = tt;
       error = no_error _ _ _ refl refl;
       card = inr (
         refl,
@@ -389,6 +407,7 @@ doubt_stays cs =
             version = refl;
             block_unit = refl;
             capacity = refl;
+            boot_capacity = refl;
             csd = refl;
             cid = refl;
             ext_csd = refl;
@@ -402,6 +421,7 @@ doubt_stays cs =
           preset = first;
           rca = refl;
           transfer = refl;
+          mode = first;
           blocks = no_blocks _ _ refl refl;
           contents = refl;
         },

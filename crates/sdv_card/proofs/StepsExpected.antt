@@ -68,8 +68,8 @@ steps_are_expected k (SendCommand ask position argument) c (Answered answer) u k
     (says s.order t.app m) s.exchange.answered in
     subst (λ o. AnswerExpected (expect_or_nothing o ask.index) answer) (sym e)
     (subst (λ n. AnswerExpected (order_expect s.order n) answer) (sym (of_ask k ask s.order e).index) expected)
-steps_are_expected k (ReceiveBlocks count) c (BlocksIn end blocks) u kind s = s.size
-steps_are_expected k (ReceiveRegister count) c (RegisterIn end bytes) u kind s = s.size
-steps_are_expected k (GiveBlocks blocks) c (BlocksOut end) u kind s = tt
+steps_are_expected k (ReceiveBlocks lines count) c (BlocksIn end blocks) u kind s = s.size
+steps_are_expected k (ReceiveRegister lines count) c (RegisterIn end bytes) u kind s = s.size
+steps_are_expected k (GiveBlocks lines blocks) c (BlocksOut end) u kind s = tt
 steps_are_expected k AwaitReady c (Waited end) u kind s = tt
 steps_are_expected k event c returned u kind s = absurd s

@@ -1,12 +1,12 @@
 -- What a guard says of an answer is among what it makes of what is seen there.
-use Rattle.std.proofs.Common.{◌≡◌, ℕ, ◌/◌, refl, ap, subst, sym, ◌∙◌, Bool, true, false, not, ◌==◌, eq-eqb, eqb-true, Option, Some, None, if◌then◌else◌}
+use Rattle.std.proofs.Common.{◌≡◌, ℕ, ◌/◌, refl, ap, subst, sym, ◌∙◌, Bool, true, false, not, ◌==◌, ◌&&◌, ◌^◌, arith, eq-eqb, eqb-true, Option, Some, None, if◌then◌else◌}
 use Rattle.std.specs.Prelude.{bit_and}
 use Rattle.std.proofs.lemmas.Nat.{and_assoc}
 use Rattle.std.specs.Int.Bits.{and_zero_l}
 use Rattle.sdv_registers.specs.declared.kind.Kind.{Kind}
 use Rattle.sdv_registers.specs.declared.kind.Kind.TheVariants.{Sd, Emmc}
 use Rattle.sdv_frames.specs.declared.reply.Reply.TheVariants.{R1, R2, R3, R6, R7}
-use Rattle.sdv_registers.specs.Status.{state as state_field, is_app_cmd, doubt_mask, clean_mask, doubt_mask_r6, clean_mask_r6}
+use Rattle.sdv_registers.specs.Status.{state as state_field, is_app_cmd, is_switch_error, doubt_mask, clean_mask, doubt_mask_r6, clean_mask_r6}
 use Rattle.sdv_registers.specs.Ocr.{is_powered_up, is_block_addressed}
 use Rattle.sdv_card.specs.declared.guard.Guard.{Guard}
 use Rattle.sdv_card.specs.declared.guard.Guard.TheVariants.{Clean, Ready as ReadyForData, App, Echo, OcrReady, OcrBlock, State as InState, Ok as WentWell}
@@ -23,10 +23,13 @@ use Rattle.sdv_card.specs.Takes.{matches}
 use Rattle.sdv_card.specs.CommandTable.{order_of}
 use Rattle.sdv_card.specs.ScriptEvent.{SendCommand, ReceiveBlocks, ReceiveRegister, GiveBlocks, AwaitReady, Return, Answered, BlocksIn, RegisterIn, BlocksOut, Waited}
 use Rattle.sdv_card.specs.Exchange.{card_takes}
-use Rattle.sdv_card.specs.Seen.{seen_of, answer_seen, app_of}
-use Rattle.sdv_card.specs.Card.{switch_pending}
+use Rattle.sdv_card.specs.Seen.{seen_of, answer_seen, app_of, switch_of}
 use Rattle.sdv_card.specs.Guards.{Verdict, Holds, Fails, Open, guard_fits, answer_passes, passes, exactly, exactly_if_shown, is_set, verdict, may_hold, may_fail}
 use Rattle.sdv_card.specs.Laws.{VerdictHolds, VerdictsHold, fits_order}
+use Rattle.sdv_registers.proofs.FlagLaws.{contains-flag}
+use Rattle.sdv_card.specs.declared.state.Mode.{Mode}
+use Rattle.sdv_card.specs.Modes.{has_width, partition_number, mode_fits}
+use Rattle.sdv_card.proofs.Members.{and_right}
 use Rattle.sdv_card.proofs.RowsOfOrders.{says}
 use Rattle.sdv_card.proofs.AnswerFits.{AnswerFits, answer_fits}
 
@@ -70,9 +73,33 @@ part_of_clean : (k : Kind) → bit_and (clean_mask k) doubt_mask ≡ doubt_mask
 part_of_clean Sd = refl
 part_of_clean Emmc = refl
 
-clean_agrees : (doubt clean : Bool) (state : ℕ) (app : Option Bool) → (doubt ≡ true → clean ≡ false) → Agree clean (verdict Clean (Status state doubt app))
-clean_agrees true clean state app f = f refl
-clean_agrees false clean state app f = tt
+clean_agrees : (doubt clean : Bool) (state : ℕ) (app switch : Option Bool) → (doubt ≡ true → clean ≡ false) → (switch ≡ Some true → clean ≡ false) →
+    Agree clean (verdict Clean (Status state doubt app switch))
+clean_agrees true clean state app switch f g = f refl
+clean_agrees false clean state app (Some true) f g = g refl
+clean_agrees false clean state app (Some false) f g = tt
+clean_agrees false clean state app None f g = tt
+
+-- a switch error is no clean status of an e.MMC device, the only one that has a pending one
+some_bit : (a b : Bool) → (if a then Some b else None) ≡ Some true → (a ≡ true) × (b ≡ true)
+some_bit true b e = (refl, let f : b ≡ true = cc in f)
+some_bit false b e = absurd (let f : None ≡ Some true = e in cc)
+
+bit_set : (n : ℕ) → n ≡ 128 → not (n == 0) ≡ true
+bit_set n e = rw e refl
+
+switch_met : (word : ℕ) → is_switch_error word ≡ true → not (bit_and word (2 ^ 7) == 0) ≡ true
+switch_met word e =
+    bit_set (bit_and word (2 ^ 7)) (eqb-true (bit_and word (2 ^ 7)) (2 ^ 7) (contains-flag word 7 (omega arith) ∙ e))
+
+unclean : (k : Kind) (word : ℕ) → k ≡ Emmc → is_switch_error word ≡ true → (bit_and word (clean_mask k) == 0) ≡ false
+unclean k word e s = subst (λ v. (bit_and word (clean_mask v) == 0) ≡ false) (sym e) (met_wider word (clean_mask Emmc) (2 ^ 7) refl (switch_met word s))
+
+switch_unclean : (k : Kind) (pending : Bool) (index word : ℕ) → (pending ≡ true → k ≡ Emmc) → switch_of index pending word ≡ Some true →
+    (bit_and word (clean_mask k) == 0) ≡ false
+switch_unclean k pending index word only e =
+    let p : ((index == 13) && pending ≡ true) × (is_switch_error word ≡ true) = some_bit ((index == 13) && pending) (is_switch_error word) e in
+    unclean k word (only (and_right (index == 13) pending p.0)) p.1
 
 -- PARTS THAT ARE SHOWN
 
@@ -85,38 +112,40 @@ block_agrees false block = tt
 
 -- AN ANSWER
 
-answer_agrees : (k : Kind) (pending : Bool) (guard : Guard) (order : Order) (answer : Answer) → guard_fits guard order ≡ true → AnswerFits order answer →
-    Agree (answer_passes k guard answer) (verdict guard (answer_seen k pending answer))
-answer_agrees k pending guard order (Damaged fault) fit f = absurd f
-answer_agrees k pending WentWell order answer fit f = absurd (let g : false ≡ true = fit in cc)
-answer_agrees k pending Clean order (Replied (R1 index word)) fit f =
+answer_agrees : (k : Kind) (pending : Bool) (guard : Guard) (order : Order) (answer : Answer) → (pending ≡ true → k ≡ Emmc) →
+    guard_fits guard order ≡ true → AnswerFits order answer → Agree (answer_passes k guard answer) (verdict guard (answer_seen k pending answer))
+answer_agrees k pending guard order (Damaged fault) only fit f = absurd f
+answer_agrees k pending WentWell order answer only fit f = absurd (let g : false ≡ true = fit in cc)
+answer_agrees k pending Clean order (Replied (R1 index word)) only fit f =
     clean_agrees (in_doubt (R1 index word)) (is_clean k (R1 index word)) (state_field word) (app_of index word)
-    (λ d. met_wider word (clean_mask k) doubt_mask (part_of_clean k) d)
-answer_agrees k pending Clean order (Replied (R6 word)) fit f =
-    clean_agrees (in_doubt (R6 word)) (is_clean k (R6 word)) (state_field word) None (λ d. met_wider word clean_mask_r6 doubt_mask_r6 refl d)
-answer_agrees k pending ReadyForData order (Replied (R1 index word)) fit f = tt
-answer_agrees k pending ReadyForData order (Replied (R6 word)) fit f = tt
-answer_agrees k pending App AppCommand (Replied (R1 index word)) fit f = app_agrees index word f.0
-answer_agrees k pending App order (Replied (R1 index word)) fit f = absurd (let g : false ≡ true = fit in cc)
-answer_agrees k pending Echo SendIfCond (Replied (R7 word)) fit f = eq-eqb _ _ f.1
-answer_agrees k pending Echo SendIfCond (Replied (R2 bytes)) fit f = absurd f.1
-answer_agrees k pending Echo order (Replied (R7 word)) fit f = absurd (let g : false ≡ true = fit in cc)
-answer_agrees k pending Echo order (Replied (R2 bytes)) fit f = absurd (let g : false ≡ true = fit in cc)
-answer_agrees k pending OcrReady order (Replied (R3 word)) fit f = exactly_agrees (is_powered_up word)
-answer_agrees k pending OcrBlock order (Replied (R3 word)) fit f = block_agrees (is_powered_up word) (is_block_addressed k word)
-answer_agrees k pending (InState s) order (Replied (R1 index word)) fit f = exactly_agrees (state_field word == state_number s)
-answer_agrees k pending (InState s) order (Replied (R6 word)) fit f = exactly_agrees (state_field word == state_number s)
-answer_agrees k pending guard order (Replied (R1 index word)) fit f = refl
-answer_agrees k pending guard order (Replied (R2 bytes)) fit f = refl
-answer_agrees k pending guard order (Replied (R3 word)) fit f = refl
-answer_agrees k pending guard order (Replied (R6 word)) fit f = refl
-answer_agrees k pending guard order (Replied (R7 word)) fit f = refl
-answer_agrees k pending guard order answer fit f = refl
+    (switch_of index pending word)
+    (λ d. met_wider word (clean_mask k) doubt_mask (part_of_clean k) d) (λ e. switch_unclean k pending index word only e)
+answer_agrees k pending Clean order (Replied (R6 word)) only fit f =
+    clean_agrees (in_doubt (R6 word)) (is_clean k (R6 word)) (state_field word) None None (λ d. met_wider word clean_mask_r6 doubt_mask_r6 refl d)
+    (λ e. absurd (let g : None ≡ Some true = e in cc))
+answer_agrees k pending ReadyForData order (Replied (R1 index word)) only fit f = tt
+answer_agrees k pending ReadyForData order (Replied (R6 word)) only fit f = tt
+answer_agrees k pending App AppCommand (Replied (R1 index word)) only fit f = app_agrees index word f.0
+answer_agrees k pending App order (Replied (R1 index word)) only fit f = absurd (let g : false ≡ true = fit in cc)
+answer_agrees k pending Echo SendIfCond (Replied (R7 word)) only fit f = eq-eqb _ _ f.1
+answer_agrees k pending Echo SendIfCond (Replied (R2 bytes)) only fit f = absurd f.1
+answer_agrees k pending Echo order (Replied (R7 word)) only fit f = absurd (let g : false ≡ true = fit in cc)
+answer_agrees k pending Echo order (Replied (R2 bytes)) only fit f = absurd (let g : false ≡ true = fit in cc)
+answer_agrees k pending OcrReady order (Replied (R3 word)) only fit f = exactly_agrees (is_powered_up word)
+answer_agrees k pending OcrBlock order (Replied (R3 word)) only fit f = block_agrees (is_powered_up word) (is_block_addressed k word)
+answer_agrees k pending (InState s) order (Replied (R1 index word)) only fit f = exactly_agrees (state_field word == state_number s)
+answer_agrees k pending (InState s) order (Replied (R6 word)) only fit f = exactly_agrees (state_field word == state_number s)
+answer_agrees k pending guard order (Replied (R1 index word)) only fit f = refl
+answer_agrees k pending guard order (Replied (R2 bytes)) only fit f = refl
+answer_agrees k pending guard order (Replied (R3 word)) only fit f = refl
+answer_agrees k pending guard order (Replied (R6 word)) only fit f = refl
+answer_agrees k pending guard order (Replied (R7 word)) only fit f = refl
+answer_agrees k pending guard order answer only fit f = refl
 
-answer_holds : (k : Kind) (pending : Bool) (guard : Guard) (order : Order) (answer : Answer) → guard_fits guard order ≡ true → AnswerFits order answer →
-    VerdictHolds k guard pending (Answered answer)
-answer_holds k pending guard order answer fit f =
-    let agree : Agree (answer_passes k guard answer) (verdict guard (answer_seen k pending answer)) = answer_agrees k pending guard order answer fit f in
+answer_holds : (k : Kind) (pending : Bool) (guard : Guard) (order : Order) (answer : Answer) → (pending ≡ true → k ≡ Emmc) →
+    guard_fits guard order ≡ true → AnswerFits order answer → VerdictHolds k guard pending (Answered answer)
+answer_holds k pending guard order answer only fit f =
+    let agree : Agree (answer_passes k guard answer) (verdict guard (answer_seen k pending answer)) = answer_agrees k pending guard order answer only fit f in
     record { held = λ e. agree_held _ _ agree e; failed = λ e. agree_failed _ _ agree e }
 
 -- A PHASE AND A WAIT
@@ -129,18 +158,27 @@ phase_holds : (k : Kind) (pending : Bool) (returned : Return) → Agree (passes 
     (guard : Guard) → guard ≡ WentWell → VerdictHolds k guard pending returned
 phase_holds k pending returned agree guard e = subst (λ g. VerdictHolds k g pending returned) (sym e) (went_well k pending returned agree)
 
+-- an SD card has no switch error
+pending_only : (k : Kind) (mode : Mode) → mode_fits k mode ≡ true → mode.error ≡ true → k ≡ Emmc
+pending_only Sd mode fits e =
+    absurd (let f : not mode.error ≡ true = and_right (has_width Sd mode.width && (partition_number mode.partition == 0)) _ fits in
+    let g : not mode.error ≡ false = ap not e in cc)
+pending_only Emmc mode fits e = refl
+
 pub verdicts_hold : (k : Kind) → VerdictsHold k
 verdicts_hold k guard (SendCommand ask position argument) c h (Answered answer) u pair fit s =
     let e : order_of k ask ≡ Some s.order = subst (λ v. order_of v ask ≡ Some s.order) (sym pair.kind) s.asks.line in
-    answer_holds k (switch_pending c) guard s.order answer (subst (λ o. fits_order guard o ≡ true) e fit)
+    answer_holds k c.mode.error guard s.order answer
+    (λ pending. pending_only k c.mode (subst (λ v. mode_fits v c.mode ≡ true) (sym pair.kind) pair.card.mode) pending)
+    (subst (λ o. fits_order guard o ≡ true) e fit)
     (answer_fits (card_takes s.exchange.settled_card s.order argument) s.order argument s.exchange.settled_card u answer
     (λ row by. says s.order s.exchange.settled_card.app (matches s.exchange.settled_card.rca (argument / 65536)) row by) s.exchange.answered)
-verdicts_hold k guard (ReceiveBlocks count) c h (BlocksIn Ok blocks) u pair fit s = phase_holds k (switch_pending c) (BlocksIn Ok blocks) refl guard fit
-verdicts_hold k guard (ReceiveBlocks count) c h (BlocksIn Cut blocks) u pair fit s = phase_holds k (switch_pending c) (BlocksIn Cut blocks) refl guard fit
-verdicts_hold k guard (ReceiveRegister count) c h (RegisterIn Ok bytes) u pair fit s = phase_holds k (switch_pending c) (RegisterIn Ok bytes) refl guard fit
-verdicts_hold k guard (ReceiveRegister count) c h (RegisterIn Cut bytes) u pair fit s = phase_holds k (switch_pending c) (RegisterIn Cut bytes) refl guard fit
-verdicts_hold k guard (GiveBlocks blocks) c h (BlocksOut Ok) u pair fit s = phase_holds k (switch_pending c) (BlocksOut Ok) refl guard fit
-verdicts_hold k guard (GiveBlocks blocks) c h (BlocksOut Cut) u pair fit s = phase_holds k (switch_pending c) (BlocksOut Cut) refl guard fit
-verdicts_hold k guard AwaitReady c h (Waited Over) u pair fit s = phase_holds k (switch_pending c) (Waited Over) refl guard fit
-verdicts_hold k guard AwaitReady c h (Waited Late) u pair fit s = phase_holds k (switch_pending c) (Waited Late) refl guard fit
+verdicts_hold k guard (ReceiveBlocks lines count) c h (BlocksIn Ok blocks) u pair fit s = phase_holds k c.mode.error (BlocksIn Ok blocks) refl guard fit
+verdicts_hold k guard (ReceiveBlocks lines count) c h (BlocksIn Cut blocks) u pair fit s = phase_holds k c.mode.error (BlocksIn Cut blocks) refl guard fit
+verdicts_hold k guard (ReceiveRegister lines count) c h (RegisterIn Ok bytes) u pair fit s = phase_holds k c.mode.error (RegisterIn Ok bytes) refl guard fit
+verdicts_hold k guard (ReceiveRegister lines count) c h (RegisterIn Cut bytes) u pair fit s = phase_holds k c.mode.error (RegisterIn Cut bytes) refl guard fit
+verdicts_hold k guard (GiveBlocks lines blocks) c h (BlocksOut Ok) u pair fit s = phase_holds k c.mode.error (BlocksOut Ok) refl guard fit
+verdicts_hold k guard (GiveBlocks lines blocks) c h (BlocksOut Cut) u pair fit s = phase_holds k c.mode.error (BlocksOut Cut) refl guard fit
+verdicts_hold k guard AwaitReady c h (Waited Over) u pair fit s = phase_holds k c.mode.error (Waited Over) refl guard fit
+verdicts_hold k guard AwaitReady c h (Waited Late) u pair fit s = phase_holds k c.mode.error (Waited Late) refl guard fit
 verdicts_hold k guard event c h returned u pair fit s = absurd s

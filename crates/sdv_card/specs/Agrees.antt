@@ -3,13 +3,13 @@
 -- (OCR); JESD84-B51, sections 6.12, 6.13, 6.4 and 7.1. What a doubt leaves open is this project's profile. All bits of
 -- which nothing is said here are free.
 use Rattle.std.specs.Prelude.{◌≡◌, ◌<◌, ◌⊎◌, ◌%◌, ◌^◌, ◌&&◌, not, Bool, true, IsTrue, ℕ, Some, if◌then◌else◌}
-use Rattle.sdv_registers.specs.Status.{state as state_field, is_app_cmd, rca as published_rca}
+use Rattle.sdv_registers.specs.Status.{state as state_field, is_switch_error, is_app_cmd, rca as published_rca}
 use Rattle.sdv_registers.specs.Ocr.{is_powered_up, ccs, access_mode, voltage_windows}
 use Rattle.sdv_frames.specs.declared.reply.Reply.{Reply}
 use Rattle.sdv_frames.specs.declared.reply.Reply.TheVariants.{R1, R2, R3, R6, R7}
 use Rattle.sdv_card.specs.declared.state.State.TheVariants.{Tran}
 use Rattle.sdv_card.specs.declared.command.Row.{Row}
-use Rattle.sdv_card.specs.declared.command.Row.TheVariants.{Cmd1, Cmd2, Cmd8Sd, Cmd9, Cmd10, Cmd55}
+use Rattle.sdv_card.specs.declared.command.Row.TheVariants.{Cmd1, Cmd2, Cmd8Sd, Cmd9, Cmd10, Cmd13, Cmd55}
 use Rattle.sdv_card.specs.declared.command.Response.{Response}
 use Rattle.sdv_card.specs.declared.command.Response.TheVariants.{CardStatus, NewAddress, Contents, Conditions}
 use Rattle.sdv_card.specs.States.{state_number, is_ready}
@@ -35,6 +35,11 @@ abbrev pub AppShown : Row → ℕ → Card → Type 0
 AppShown Cmd55 word u = is_app_cmd word ≡ u.app
 AppShown row word u = Unit {0}
 
+-- bit 7 of a response to CMD13 tells whether a pending switch error ends
+abbrev pub SwitchShown : Row → Card → ℕ → Card → Type 0
+SwitchShown Cmd13 t word u = IsTrue t.mode.error → is_switch_error word ≡ not u.mode.error
+SwitchShown row t word u = Unit {0}
+
 -- R1: the index of the command, and the state in which it was received
 pub record StatusAgrees (row : Row) (argument : ℕ) (t : Card) (index word : ℕ) (u : Card) : Type 0 where
   pub is_word : IsWord word
@@ -42,6 +47,7 @@ pub record StatusAgrees (row : Row) (argument : ℕ) (t : Card) (index word : �
   pub state : state_field word ≡ state_number t.state
   pub card : TakenOrStayed row argument t (in_doubt (R1 index word)) u
   pub app : AppShown row word u
+  pub switch : SwitchShown row t word u
   pub error : ErrorShown t (in_doubt (R1 index word)) u
 
 -- an SD card that took CMD3 shows its new relative address in bits 31..16

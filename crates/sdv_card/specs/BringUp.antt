@@ -4,16 +4,18 @@ use Rattle.std.specs.Prelude.{◌≡◌, true, false, ℕ, List, [], ◌∷◌, 
 use Rattle.sdv_registers.specs.declared.kind.Kind.TheVariants.{Sd}
 use Rattle.sdv_frames.specs.declared.reply.Reply.TheVariants.{R1, R2, R3, R6, R7}
 use Rattle.sdv_card.specs.declared.state.State.TheVariants.{Idle, Ready, Stby, Tran, Data, Prg}
-use Rattle.sdv_card.specs.declared.state.Transfer.TheVariants.{Nothing, ReadOver}
+use Rattle.sdv_card.specs.declared.state.Width.TheVariants.{One, Four}
+use Rattle.sdv_card.specs.declared.state.Transfer.TheVariants.{Nothing, ReadDue, ReadOver}
 use Rattle.sdv_card.specs.declared.state.EraseStage.TheVariants.{Outside}
 use Rattle.sdv_card.specs.declared.event.Aim.{Aim}
 use Rattle.sdv_card.specs.declared.event.Aim.TheVariants.{Rca, Plain}
 use Rattle.sdv_card.specs.declared.answer.Answer.{Answer}
 use Rattle.sdv_card.specs.declared.answer.Answer.TheVariants.{Sent, TimeOut, Reply as Replied}
 use Rattle.sdv_card.specs.Card.{Card, Block, AreBlocks}
+use Rattle.sdv_card.specs.Modes.{first_mode}
 use Rattle.sdv_card.specs.Host.{Host, host_after}
 use Rattle.sdv_card.specs.HostEvents.{Makes}
-use Rattle.sdv_card.specs.ScriptEvent.{ScriptEvent, SendCommand, Return, Answered}
+use Rattle.sdv_card.specs.ScriptEvent.{ScriptEvent, SendCommand, ReceiveBlocks, Return, Answered}
 use Rattle.sdv_card.specs.Legal.{EventLegal, InBounds}
 use Rattle.sdv_card.specs.Step.{Step}
 use Rattle.sdv_card.specs.Profile.{IsAtStart, host_at_start}
@@ -52,6 +54,7 @@ example_card contents = record {
   version = 2;
   block_unit = true;
   capacity = 1024;
+  boot_capacity = 0;
   csd = example_csd;
   cid = example_cid;
   ext_csd = [];
@@ -62,12 +65,13 @@ example_card contents = record {
   app = false;
   block_length = 512;
   erase = Outside;
+  mode = first_mode;
   preset = 0;
   transfer = Nothing;
   next_block = 0;
   announced = 0;
   unshown_error = false;
-  contents = record { user = contents };
+  contents = record { user = contents; boot_1 = []; boot_2 = [] };
 }
 
 -- the card when it is selected
@@ -157,3 +161,13 @@ pub record LastBlockIsBound : Type 0 where
 pub record UnitIsTheCards : Type 0 where
   pub in_blocks : (contents : List Block) → InBounds (read_at 1 1) (selected_card contents)
   pub in_bytes : (contents : List Block) → InBounds (read_at 1 512) (selected_card contents) → ⊥
+
+-- a read of one block is due at a card that uses four data lines
+abbrev pub reading_card : List Block → Card
+reading_card contents =
+    record (selected_card contents) { state = Data; transfer = ReadDue; mode = record first_mode { width = Four } }
+
+-- its phase is legal where the host uses four data lines too, and where it uses one it is not
+pub record LinesMustAgree : Type 0 where
+  pub same : (contents : List Block) → EventLegal (ReceiveBlocks Four 1) (reading_card contents)
+  pub other : (contents : List Block) → EventLegal (ReceiveBlocks One 1) (reading_card contents) → ⊥

@@ -8,14 +8,20 @@ use Rattle.sdv_card.specs.declared.state.State.TheVariants.{Idle, Ready, Ident, 
 use Rattle.sdv_card.specs.declared.state.Transfer.{Transfer}
 use Rattle.sdv_card.specs.declared.state.Transfer.TheVariants.{Nothing, ReadDue, OpenReadDue, ScrDue, SdStatusDue, ExtCsdDue, ReadOver, OpenReadOver, WriteDue, OpenWriteDue, WriteOver, OpenWriteOver}
 use Rattle.sdv_card.specs.declared.state.EraseStage.{EraseStage}
+use Rattle.sdv_card.specs.declared.state.Partition.{Partition}
+use Rattle.sdv_card.specs.declared.state.Partition.TheVariants.{User, Boot1, Boot2}
+use Rattle.sdv_card.specs.declared.state.Mode.{Mode}
+use Rattle.sdv_card.specs.Modes.{mode_fits}
 
 -- a block of 512 bytes
 abbrev pub Block : Type 0
 Block = List ℕ
 
--- what a card holds: the blocks of its user area
+-- what a card holds: the blocks of its user area, and of each boot partition
 pub record Partitions : Type 0 where
   pub user : List Block
+  pub boot_1 : List Block
+  pub boot_2 : List Block
 
 pub record Card : Type 0 where
   -- WHAT NO STEP CHANGES
@@ -24,8 +30,9 @@ pub record Card : Type 0 where
   pub version : ℕ
   -- addresses count blocks, and not bytes
   pub block_unit : Bool
-  -- in blocks
+  -- in blocks: of the user area, and of each boot partition, which an SD card does not have
   pub capacity : ℕ
+  pub boot_capacity : ℕ
   -- bits 127..8 of the CSD and the CID, the highest byte first
   pub csd : List ℕ
   pub cid : List ℕ
@@ -42,6 +49,8 @@ pub record Card : Type 0 where
   -- in bytes
   pub block_length : ℕ
   pub erase : EraseStage
+  -- what commands with index 6 set
+  pub mode : Mode
   -- the preset count of CMD23, 0 where there is none
   pub preset : ℕ
   pub transfer : Transfer
@@ -52,19 +61,38 @@ pub record Card : Type 0 where
   pub unshown_error : Bool
   pub contents : Partitions
 
--- an error of a switch command that no status has told yet: no card has one, since no row is that of a switch command
-abbrev pub switch_pending : Card → Bool
-switch_pending c = false
+-- A PARTITION
 
--- THE BLOCKS IN ACCESS, which commands with an address and data phases concern
+-- how many blocks it has
+abbrev pub capacity_of : Partition → (capacity boot_capacity : ℕ) → ℕ
+capacity_of User capacity boot_capacity = capacity
+capacity_of partition capacity boot_capacity = boot_capacity
 
--- how many they are
+-- its blocks
+abbrev pub blocks_of : Partition → Partitions → List Block
+blocks_of User contents = contents.user
+blocks_of Boot1 contents = contents.boot_1
+blocks_of Boot2 contents = contents.boot_2
+
+-- the contents with other blocks there
+abbrev pub put : Partition → List Block → Partitions → Partitions
+put User blocks contents = record contents { user = blocks }
+put Boot1 blocks contents = record contents { boot_1 = blocks }
+put Boot2 blocks contents = record contents { boot_2 = blocks }
+
+-- THE PARTITION IN ACCESS, which commands with an address and data phases concern
+
+-- how many blocks it has
 abbrev pub accessed_capacity : Card → ℕ
-accessed_capacity c = c.capacity
+accessed_capacity c = capacity_of c.mode.partition c.capacity c.boot_capacity
 
--- which they are, of what a card holds or may hold later
+-- its blocks, of what a card holds or may hold later
 abbrev pub accessed_blocks : Card → (contents : Partitions) → List Block
-accessed_blocks c contents = contents.user
+accessed_blocks c contents = blocks_of c.mode.partition contents
+
+-- the contents with other blocks there
+abbrev pub put_accessed : Card → List Block → (contents : Partitions) → Partitions
+put_accessed c blocks contents = put c.mode.partition blocks contents
 
 -- THE RULES OF A CARD
 
@@ -128,9 +156,10 @@ abbrev pub DataRegisters : Kind → Card → Type 0
 DataRegisters Sd c = SdRegisters c
 DataRegisters Emmc c = IsRegister 512 c.ext_csd
 
--- a card holds as many blocks as its capacity says
+-- a card holds as many blocks in each partition as its capacities say
 abbrev pub ContentsFit : Card → Type 0
-ContentsFit c = AreBlocks c.capacity c.contents.user
+ContentsFit c = (partition : Partition) →
+    AreBlocks (capacity_of partition c.capacity c.boot_capacity) (blocks_of partition c.contents)
 
 -- a card, as every step leaves it
 pub record IsCard (c : Card) : Type 0 where
@@ -141,6 +170,7 @@ pub record IsCard (c : Card) : Type 0 where
   pub transfer : IsTrue (transfer_fits c.state c.transfer)
   pub kind_rules : IsTrue (kind_fits c.kind c.transfer c.app c.preset)
   pub block_length : IsTrue (length_fits c.block_unit (c.block_length == 512))
+  pub mode : IsTrue (mode_fits c.kind c.mode)
   pub preset : c.preset < 65536
   pub announced : c.announced < 65536
   pub contents : ContentsFit c

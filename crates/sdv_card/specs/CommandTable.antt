@@ -9,8 +9,11 @@ use Rattle.sdv_frames.specs.declared.reply.Expect.TheVariants.{Nothing, R1, R2, 
 use Rattle.sdv_card.specs.declared.event.Aim.{Aim}
 use Rattle.sdv_card.specs.declared.event.Aim.TheVariants.{Rca, Plain}
 use Rattle.sdv_card.specs.declared.event.Ask.{Ask}
+use Rattle.sdv_card.specs.declared.state.Width.TheVariants.{One, Four, Eight}
+use Rattle.sdv_card.specs.declared.state.Partition.TheVariants.{User, Boot1, Boot2}
+use Rattle.sdv_card.specs.declared.command.Setting.TheVariants.{Lines, Access}
 use Rattle.sdv_card.specs.declared.command.Order.{Order}
-use Rattle.sdv_card.specs.declared.command.Order.TheVariants.{GoIdleState, SendOpCond, AllSendCid, SendRelativeAddress, SetRelativeAddress, SelectCard, DeselectCards, SendIfCond, SendExtCsd, SendCsd, SendCid, StopTransmission, SendStatus, SetBlockLength, ReadSingleBlock, ReadMultipleBlock, SetBlockCount, WriteBlock, WriteMultipleBlock, EraseBlockStart, EraseBlockEnd, EraseGroupStart, EraseGroupEnd, Erase, SdSendOpCond, SendScr, AppCommand}
+use Rattle.sdv_card.specs.declared.command.Order.TheVariants.{GoIdleState, SendOpCond, AllSendCid, SendRelativeAddress, SetRelativeAddress, SetBusWidth, Switch, SelectCard, DeselectCards, SendIfCond, SendExtCsd, SendCsd, SendCid, StopTransmission, SendStatus, SetBlockLength, ReadSingleBlock, ReadMultipleBlock, SetBlockCount, WriteBlock, WriteMultipleBlock, EraseBlockStart, EraseBlockEnd, EraseGroupStart, EraseGroupEnd, Erase, SdSendOpCond, SendScr, AppCommand}
 
 abbrev pub aim_number : Aim → ℕ
 aim_number Rca = 0
@@ -35,6 +38,8 @@ sd_order ask =
     order_if (is_line ask 0 Plain 0 0) GoIdleState (
     order_if (is_line ask 2 Plain 0 0) AllSendCid (
     order_if (is_line ask 3 Plain 0 0) SendRelativeAddress (
+    order_if (is_line ask 6 Plain 0 0) (SetBusWidth One) (
+    order_if (is_line ask 6 Plain 2 0) (SetBusWidth Four) (
     order_if (is_line ask 7 Rca 0 0) SelectCard (
     order_if (is_line ask 7 Plain 0 0) DeselectCards (
     order_if (is_line ask 8 Plain 0 0) SendIfCond (
@@ -53,7 +58,7 @@ sd_order ask =
     order_if (is_line ask 41 Plain 0x00ff8000 0) (SdSendOpCond false) (
     order_if (is_line ask 41 Plain 0x40ff8000 0) (SdSendOpCond true) (
     order_if (is_line ask 51 Plain 0 0) SendScr (
-    order_if (is_line ask 55 Rca 0 0) AppCommand None)))))))))))))))))))))
+    order_if (is_line ask 55 Rca 0 0) AppCommand None)))))))))))))))))))))))
 
 abbrev pub emmc_order : Ask → Option Order
 emmc_order ask =
@@ -62,6 +67,12 @@ emmc_order ask =
     order_if (is_line ask 1 Plain 0 0) SendOpCond (
     order_if (is_line ask 2 Plain 0 0) AllSendCid (
     order_if (is_line ask 3 Plain 0 0) SetRelativeAddress (
+    order_if (is_line ask 6 Plain 0x03b70000 0) (Switch (Lines One)) (
+    order_if (is_line ask 6 Plain 0x03b70100 0) (Switch (Lines Four)) (
+    order_if (is_line ask 6 Plain 0x03b70200 0) (Switch (Lines Eight)) (
+    order_if (is_line ask 6 Plain 0x03b30000 0) (Switch (Access User)) (
+    order_if (is_line ask 6 Plain 0x03b30100 0) (Switch (Access Boot1)) (
+    order_if (is_line ask 6 Plain 0x03b30200 0) (Switch (Access Boot2)) (
     order_if (is_line ask 7 Rca 0 0) SelectCard (
     order_if (is_line ask 7 Plain 0 0) DeselectCards (
     order_if (is_line ask 8 Plain 0 0) SendExtCsd (
@@ -79,7 +90,7 @@ emmc_order ask =
     order_if (is_line ask 36 Plain 0 0) EraseGroupEnd (
     order_if (is_line ask 38 Plain 0 0) Erase (
     order_if (is_line ask 38 Plain 1 0) Erase (
-    order_if (is_line ask 38 Plain 3 0) Erase None)))))))))))))))))))))
+    order_if (is_line ask 38 Plain 3 0) Erase None)))))))))))))))))))))))))))
 
 -- the order that an ask gives; none where no line of the command table gives the ask
 unfoldable pub order_of : Kind → Ask → Option Order
@@ -104,6 +115,8 @@ order_argument SendIfCond argument rca address = 0x000001aa
 order_argument SetBlockLength argument rca address = 512
 order_argument (SetBlockCount n) argument rca address = n
 order_argument Erase argument rca address = argument
+order_argument (SetBusWidth width) argument rca address = argument
+order_argument (Switch setting) argument rca address = argument
 order_argument (SdSendOpCond high) argument rca address = argument
 order_argument ReadSingleBlock argument rca address = address
 order_argument (ReadMultipleBlock n) argument rca address = address

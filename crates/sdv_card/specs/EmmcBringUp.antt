@@ -6,13 +6,17 @@ use Rattle.sdv_frames.specs.declared.reply.Reply.TheVariants.{R1, R2, R3}
 use Rattle.sdv_card.specs.declared.state.State.TheVariants.{Idle, Tran}
 use Rattle.sdv_card.specs.declared.state.Transfer.TheVariants.{Nothing}
 use Rattle.sdv_card.specs.declared.state.EraseStage.TheVariants.{Outside}
+use Rattle.sdv_card.specs.declared.state.Width.TheVariants.{One}
+use Rattle.sdv_card.specs.declared.state.Partition.TheVariants.{Boot1}
 use Rattle.sdv_card.specs.declared.event.Aim.TheVariants.{Rca, Plain}
 use Rattle.sdv_card.specs.declared.answer.Answer.TheVariants.{Sent, Reply as Replied}
 use Rattle.sdv_card.specs.declared.answer.DataEnd.TheVariants.{Ok}
 use Rattle.sdv_card.specs.Card.{Card, Block, AreBlocks}
+use Rattle.sdv_card.specs.Modes.{first_mode}
 use Rattle.sdv_card.specs.ScriptEvent.{ReceiveRegister, RegisterIn}
 use Rattle.sdv_card.specs.Profile.{IsAtStart, host_at_start}
-use Rattle.sdv_card.specs.BringUp.{Happening, AllHappen, command}
+use Rattle.sdv_card.specs.Legal.{InBounds}
+use Rattle.sdv_card.specs.BringUp.{Happening, AllHappen, command, read_at}
 
 -- bits 127..8 of the device's CSD and CID
 abbrev pub device_csd : List ℕ
@@ -32,6 +36,7 @@ example_device contents = record {
   version = 0;
   block_unit = true;
   capacity = 1024;
+  boot_capacity = 0;
   csd = device_csd;
   cid = device_cid;
   ext_csd = device_ext_csd;
@@ -44,10 +49,11 @@ example_device contents = record {
   erase = Outside;
   preset = 0;
   transfer = Nothing;
+  mode = first_mode;
   next_block = 0;
   announced = 0;
   unshown_error = false;
-  contents = record { user = contents };
+  contents = record { user = contents; boot_1 = []; boot_2 = [] };
 }
 
 -- the device when it is selected
@@ -56,7 +62,7 @@ selected_device contents = record (example_device contents) { state = Tran; rca 
 
 -- the device sends its EXT_CSD
 abbrev pub read_ext_csd : Happening
-read_ext_csd = record { event = ReceiveRegister 512; returned = RegisterIn Ok device_ext_csd }
+read_ext_csd = record { event = ReceiveRegister One 512; returned = RegisterIn Ok device_ext_csd }
 
 -- what happens
 abbrev pub device_bring_up : List Happening
@@ -76,3 +82,13 @@ pub record DeviceBringUpHappens : Type 0 where
   pub start : (contents : List Block) → AreBlocks 1024 contents → IsAtStart (example_device contents)
   pub all : (contents : List Block) →
       AllHappen device_bring_up (example_device contents) (host_at_start 0) (selected_device contents)
+
+-- a device with boot partitions of 256 blocks each, the first of them in access
+abbrev pub boot_device : List Block → Card
+boot_device contents =
+    record (selected_device contents) { boot_capacity = 256; mode = record first_mode { partition = Boot1 } }
+
+-- the last block of the partition in access is in bounds, and the one after it is not, though the user area has it
+pub record BootBlockIsBound : Type 0 where
+  pub last : (contents : List Block) → InBounds (read_at 255 255) (boot_device contents)
+  pub next : (contents : List Block) → InBounds (read_at 256 256) (boot_device contents) → ⊥

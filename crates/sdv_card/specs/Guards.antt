@@ -106,14 +106,15 @@ abbrev pub verdict : Guard → Seen → Verdict
 verdict Timeout TimeOut = Holds
 verdict SomeAnswer TimeOut = Fails
 verdict SomeAnswer seen = Holds
-verdict Clean (Status state true app) = Fails
-verdict Clean (Status state false app) = Open
-verdict ReadyForData (Status state doubt app) = Open
-verdict App (Status state doubt app) = exactly (is_set app)
+verdict Clean (Status state true app switch) = Fails
+verdict Clean (Status state false app (Some true)) = Fails
+verdict Clean (Status state false app switch) = Open
+verdict ReadyForData (Status state doubt app switch) = Open
+verdict App (Status state doubt app switch) = exactly (is_set app)
 verdict Echo Bare = Holds
 verdict OcrReady (Ocr ready block) = exactly ready
 verdict OcrBlock (Ocr ready block) = exactly_if_shown block
-verdict (InState shown) (Status state doubt app) = exactly (state == state_number shown)
+verdict (InState shown) (Status state doubt app switch) = exactly (state == state_number shown)
 verdict WentWell SeenOk = Holds
 verdict guard seen = Fails
 

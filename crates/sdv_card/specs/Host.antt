@@ -4,6 +4,7 @@ use Rattle.std.specs.Prelude.{◌==◌, ℕ, List, Option, Some, None, if◌then
 use Rattle.sdv_registers.specs.declared.kind.Kind.{Kind}
 use Rattle.sdv_registers.specs.Status.{rca as published_rca}
 use Rattle.sdv_frames.specs.declared.reply.Reply.TheVariants.{R2, R6}
+use Rattle.sdv_card.specs.declared.state.Width.{Width}
 use Rattle.sdv_card.specs.declared.command.Order.{Order}
 use Rattle.sdv_card.specs.declared.command.Order.TheVariants.{GoIdleState, SendRelativeAddress, SetRelativeAddress, SendCsd, SendExtCsd, SendStatus, SendScr, ReadSingleBlock, ReadMultipleBlock, WriteBlock, WriteMultipleBlock}
 use Rattle.sdv_card.specs.declared.answer.Answer.{Answer}
@@ -19,6 +20,8 @@ pub record Host : Type 0 where
   pub flags : ℕ
   -- the relative card address that the host sends
   pub rca : ℕ
+  -- the data lines that the host uses
+  pub lines : Width
   -- the last CSD and EXT_CSD that the host read
   pub csd : Option (List ℕ)
   pub ext_csd : Option (List ℕ)
@@ -71,6 +74,6 @@ ext_csd_known count Cut bytes ext_csd = ext_csd
 -- the host after an event, by what it returned
 abbrev pub host_after : Kind → ScriptEvent → Return → Host → Host
 host_after k (SendCommand ask position argument) (Answered answer) h = host_after_order (order_of k ask) answer h
-host_after k (ReceiveRegister count) (RegisterIn end bytes) h =
+host_after k (ReceiveRegister lines count) (RegisterIn end bytes) h =
     record h { ext_csd = ext_csd_known count end bytes h.ext_csd }
 host_after k event returned h = h

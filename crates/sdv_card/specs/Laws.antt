@@ -2,6 +2,7 @@
 use Rattle.std.specs.Prelude.{◌≡◌, ◌<◌, ◌↔◌, Bool, false, IsTrue, ℕ, List, Option, Some, None}
 use Rattle.sdv_registers.specs.declared.kind.Kind.{Kind}
 use Rattle.sdv_registers.specs.declared.kind.Kind.TheVariants.{Emmc}
+use Rattle.sdv_registers.specs.ExtCsd.{sec_count, boot_size_mult}
 use Rattle.sdv_card.specs.declared.guard.Guard.{Guard}
 use Rattle.sdv_card.specs.declared.guard.Guard.TheVariants.{Ok as WentWell}
 use Rattle.sdv_card.specs.declared.command.Order.{Order}
@@ -10,7 +11,7 @@ use Rattle.sdv_card.specs.declared.event.Ask.{Ask}
 use Rattle.sdv_card.specs.declared.event.Event.{Event}
 use Rattle.sdv_card.specs.declared.event.Outcome.{Outcome}
 use Rattle.sdv_card.specs.Lists.{May}
-use Rattle.sdv_card.specs.Card.{Card, switch_pending}
+use Rattle.sdv_card.specs.Card.{Card}
 use Rattle.sdv_card.specs.Host.{Host, host_after}
 use Rattle.sdv_card.specs.ScriptEvent.{ScriptEvent, SendCommand, Return, event_of}
 use Rattle.sdv_card.specs.CommandTable.{order_of, addressed_blocks}
@@ -27,13 +28,14 @@ use Rattle.sdv_card.specs.LegalShapes.{legal_code}
 use Rattle.sdv_card.specs.Seen.{seen_of}
 use Rattle.sdv_card.specs.Guards.{guard_fits, passes, verdict, may_hold, may_fail}
 
--- what the EXT_CSD that a host holds has of the card's register: each byte, and so the sizes that it tells
+-- what the EXT_CSD that a host holds has of the card's register: the sizes that it tells
 pub record SameSizes (held register : List ℕ) : Type 0 where
-  pub bytes : held ≡ register
+  pub sectors : sec_count held ≡ sec_count register
+  pub boot : boot_size_mult held ≡ boot_size_mult register
 
 -- what a host knows of a card is true
 pub record Sound (c : Card) (h : Host) : Type 0 where
-  -- the registers that it holds are the card's; an SD card has no EXT_CSD
+  -- the CSD that it holds is the card's, and the EXT_CSD tells the card's sizes; an SD card has none
   pub csd : (bytes : List ℕ) → h.csd ≡ Some bytes → bytes ≡ c.csd
   pub ext_csd : (bytes : List ℕ) → c.kind ≡ Emmc → h.ext_csd ≡ Some bytes → SameSizes bytes c.ext_csd
   -- a block transfer that is due has the count that it announced last
@@ -72,7 +74,7 @@ abbrev pub StepsAreOutcomes : Kind → Type 0
 StepsAreOutcomes k = (event : ScriptEvent) (c : Card) (h : Host) (returned : Return) (u : Card) →
     IsPair k c h → Makes k event h → EventLegal event c → Step event c returned u →
     May (outcomes_code k (pair_code c h) (event_of event))
-    (outcome_of (branch (view u (host_after k event returned h)) (seen_of k (switch_pending c) returned)))
+    (outcome_of (branch (view u (host_after k event returned h)) (seen_of k c.mode.error returned)))
 
 -- what each step returns is what the host waits for
 abbrev pub StepsAreExpected : Kind → Type 0
@@ -143,4 +145,4 @@ pub record VerdictHolds (k : Kind) (guard : Guard) (pending : Bool) (returned : 
 abbrev pub VerdictsHold : Kind → Type 0
 VerdictsHold k = (guard : Guard) (event : ScriptEvent) (c : Card) (h : Host) (returned : Return) (u : Card) →
     IsPair k c h → FitsEvent k guard event → Step event c returned u →
-    VerdictHolds k guard (switch_pending c) returned
+    VerdictHolds k guard c.mode.error returned

@@ -1,7 +1,7 @@
 -- When an event is legal at a card, and when it is in bounds.
 -- SD Physical Layer Simplified Specification, sections 4.3.3 to 4.3.5, 4.3.9 and 4.8; JESD84-B51, sections 6.6
 -- and 6.11. That an event must be legal also after the card's own step is this project's profile.
-use Rattle.std.specs.Prelude.{◌≡◌, ◌<◌, ◌≤◌, ◌+◌, ◌*◌, ◌==◌, Bool, true, false, IsTrue, ℕ, length, Option, Some, None, if◌then◌else◌}
+use Rattle.std.specs.Prelude.{◌≡◌, ◌<◌, ◌≤◌, ◌+◌, ◌*◌, ◌==◌, ◌&&◌, Bool, true, false, IsTrue, ℕ, length, Option, Some, None, if◌then◌else◌}
 use Rattle.sdv_card.specs.declared.state.State.{State}
 use Rattle.sdv_card.specs.declared.state.State.TheVariants.{Tran, Data, Rcv, Prg}
 use Rattle.sdv_card.specs.declared.state.Transfer.{Transfer}
@@ -16,6 +16,7 @@ use Rattle.sdv_card.specs.RowRules.{length_allows, erase_allows, preset_allows}
 use Rattle.sdv_card.specs.CommandTable.{Asks, addressed_blocks}
 use Rattle.sdv_card.specs.ScriptEvent.{ScriptEvent, SendCommand, ReceiveBlocks, ReceiveRegister, GiveBlocks, AwaitReady}
 use Rattle.sdv_card.specs.Card.{Card, accessed_capacity}
+use Rattle.sdv_card.specs.Modes.{same_width}
 use Rattle.sdv_card.specs.Settled.{Settled}
 use Rattle.sdv_card.specs.Exchange.{card_takes}
 use Rattle.sdv_card.specs.Phases.{read_due, register_due, write_due, blocks_due}
@@ -59,12 +60,12 @@ wait_legal Tran = true
 wait_legal Prg = true
 wait_legal state = false
 
--- an event is legal at a card
+-- an event is legal at a card: a phase only where the host and the card use the same data lines
 abbrev pub EventLegal : ScriptEvent → Card → Type 0
 EventLegal (SendCommand ask position argument) c = SendLegal ask argument c
-EventLegal (ReceiveBlocks count) c = IsTrue (recv_legal c.state c.transfer)
-EventLegal (ReceiveRegister count) c = IsTrue (recv_reg_legal c.state c.transfer)
-EventLegal (GiveBlocks blocks) c = IsTrue (give_legal c.state c.transfer)
+EventLegal (ReceiveBlocks lines count) c = IsTrue (recv_legal c.state c.transfer && same_width lines c.mode.width)
+EventLegal (ReceiveRegister lines count) c = IsTrue (recv_reg_legal c.state c.transfer && same_width lines c.mode.width)
+EventLegal (GiveBlocks lines blocks) c = IsTrue (give_legal c.state c.transfer && same_width lines c.mode.width)
 EventLegal AwaitReady c = IsTrue (wait_legal c.state)
 
 -- IN BOUNDS
@@ -82,9 +83,9 @@ BlocksWithin (Some count) c position argument = Within c position argument count
 -- an event is in bounds: its address, or the length of its phase
 abbrev pub InBounds : ScriptEvent → Card → Type 0
 InBounds (SendCommand ask position argument) c = BlocksWithin (addressed_blocks ask) c position argument
-InBounds (ReceiveBlocks count) c = count ≡ c.announced
-InBounds (ReceiveRegister count) c = 0 < count
-InBounds (GiveBlocks blocks) c = length blocks ≡ c.announced
+InBounds (ReceiveBlocks lines count) c = count ≡ c.announced
+InBounds (ReceiveRegister lines count) c = 0 < count
+InBounds (GiveBlocks lines blocks) c = length blocks ≡ c.announced
 InBounds AwaitReady c = Unit {0}
 
 -- the card has the blocks that its transfer addresses, which are some

@@ -15,6 +15,7 @@ use Rattle.sdv_card.specs.RowRules.{length_allows, erase_allows, preset_allows}
 use Rattle.sdv_card.specs.Takes.{taken_as_of}
 use Rattle.sdv_card.specs.CommandTable.{order_of}
 use Rattle.sdv_card.specs.Legal.{recv_legal, recv_reg_legal, give_legal, wait_legal}
+use Rattle.sdv_card.specs.Modes.{same_width}
 use Rattle.sdv_card.specs.Code.{fields_of}
 use Rattle.sdv_card.specs.Shapes.{is_shape}
 use Rattle.sdv_card.specs.Outcomes.{settled}
@@ -41,9 +42,9 @@ ask_legal k (Some order) f = order_legal k order f
 -- an event is legal at fields
 abbrev pub event_legal : Kind → Event → Fields → Bool
 event_legal k (Send ask) f = ask_legal k (order_of k ask) f
-event_legal k RecvBlocks f = recv_legal f.state f.transfer
-event_legal k RecvReg f = recv_reg_legal f.state f.transfer
-event_legal k Give f = give_legal f.state f.transfer
+event_legal k RecvBlocks f = recv_legal f.state f.transfer && same_width f.lines f.mode.width
+event_legal k RecvReg f = recv_reg_legal f.state f.transfer && same_width f.lines f.mode.width
+event_legal k Give f = give_legal f.state f.transfer && same_width f.lines f.mode.width
 event_legal k Wait f = wait_legal f.state
 
 -- a number that is no code, and a code that is no shape of the kind, is legal for no event

@@ -1,5 +1,6 @@
 pub mod Lists
 pub mod States
+pub mod Modes
 pub mod StateTable
 pub mod NextStates
 pub mod CommandTable

@@ -1,10 +1,11 @@
 -- What may follow an event at the fields of a shape: the product of the rules of each part.
 -- The rules are those of cards; which of them a shape shows is this project's own.
-use Rattle.std.specs.Prelude.{Bool, true, false, ℕ, List, [], ◌∷◌, ◌++◌, if◌then◌else◌, Option, Some, None, map}
+use Rattle.std.specs.Prelude.{Bool, true, false, not, ℕ, List, [], ◌∷◌, ◌++◌, if◌then◌else◌, Option, Some, None, map}
 use Rattle.sdv_registers.specs.declared.kind.Kind.{Kind}
 use Rattle.sdv_card.specs.declared.state.State.{State}
 use Rattle.sdv_card.specs.declared.state.Transfer.TheVariants.{Nothing}
 use Rattle.sdv_card.specs.declared.state.EraseStage.{EraseStage}
+use Rattle.sdv_card.specs.declared.state.Mode.{Mode}
 use Rattle.sdv_card.specs.declared.state.Place.{Place}
 use Rattle.sdv_card.specs.declared.fields.Fields.{Fields}
 use Rattle.sdv_card.specs.declared.event.Event.{Event}
@@ -28,7 +29,7 @@ use Rattle.sdv_card.specs.declared.command.TakenAs.TheVariants.{Forbidden, Ignor
 use Rattle.sdv_card.specs.Lists.{each}
 use Rattle.sdv_card.specs.States.{state_number, is_ready, own_target}
 use Rattle.sdv_card.specs.Takes.{taken_as_of}
-use Rattle.sdv_card.specs.RowRules.{states_after, app_after, erase_after, erase_stayed, preset_after, preset_kept, length_after, matched_after, matched_stayed, transfer_after}
+use Rattle.sdv_card.specs.RowRules.{states_after, app_after, erase_after, erase_stayed, preset_after, preset_kept, length_after, matched_after, matched_stayed, mode_after, mode_stayed, transfer_after}
 use Rattle.sdv_card.specs.Responses.{response_of}
 use Rattle.sdv_card.specs.CommandTable.{order_of}
 use Rattle.sdv_card.specs.Phases.{after_phase, after_wait}
@@ -56,39 +57,44 @@ with_presets t presets = map (λ preset. record t { preset = preset }) presets
 abbrev pub with_matches : Fields → List Bool → List ℕ → List Fields
 with_matches t matches presets = each matches (λ matched. with_presets (record t { matched = matched }) presets)
 
-abbrev pub with_lengths : Fields → (lengths matches : List Bool) → List ℕ → List Fields
-with_lengths t lengths matches presets = each lengths
-    (λ length. with_matches (record t { length_512 = length }) matches presets)
+abbrev pub with_modes : Fields → List Mode → List Bool → List ℕ → List Fields
+with_modes t modes matches presets = each modes (λ mode. with_matches (record t { mode = mode }) matches presets)
 
-abbrev pub with_apps : Fields → (apps lengths matches : List Bool) → List ℕ → List Fields
-with_apps t apps lengths matches presets =
-    each apps (λ app. with_lengths (record t { app = app }) lengths matches presets)
+abbrev pub with_lengths : Fields → (lengths : List Bool) → List Mode → (matches : List Bool) → List ℕ → List Fields
+with_lengths t lengths modes matches presets =
+    each lengths (λ length. with_modes (record t { length_512 = length }) modes matches presets)
 
-abbrev pub with_states : Fields → List State → (apps lengths matches : List Bool) → List ℕ → List Fields
-with_states t states apps lengths matches presets =
-    each states (λ state. with_apps (record t { state = state }) apps lengths matches presets)
+abbrev pub with_apps : Fields → (apps lengths : List Bool) → List Mode → List Bool → List ℕ → List Fields
+with_apps t apps lengths modes matches presets =
+    each apps (λ app. with_lengths (record t { app = app }) lengths modes matches presets)
 
-abbrev pub with_erases : Fields → List EraseStage → List Bool → List ℕ → List Fields
-with_erases t erases matches presets = each erases (λ erase. with_matches (record t { erase = erase }) matches presets)
+abbrev pub with_states : Fields → List State → (apps lengths : List Bool) → List Mode → List Bool → List ℕ →
+    List Fields
+with_states t states apps lengths modes matches presets =
+    each states (λ state. with_apps (record t { state = state }) apps lengths modes matches presets)
+
+abbrev pub with_erases : Fields → List EraseStage → List Mode → List Bool → List ℕ → List Fields
+with_erases t erases modes matches presets =
+    each erases (λ erase. with_modes (record t { erase = erase }) modes matches presets)
 
 -- TAKEN: a settled t after the row; heard: the host heard the answer, or there is none
 abbrev pub taken : Kind → Row → (heard : Bool) → Fields → List Fields
 taken k row heard t =
     with_states (record t { transfer = transfer_after row t.preset t.transfer; erase = erase_after row t.erase })
     (states_after k row t.block_unit t.state) (app_after row) (length_after row t.block_unit t.length_512)
-    (matched_after row heard t.matched) (preset_after k row t.preset)
+    (mode_after row heard t.state t.mode) (matched_after row heard t.matched) (preset_after k row t.preset)
 
--- STAYED: a settled t that lost its application flag, with each match of a list. CMD13 leaves a card that stayed as it
--- may leave one that took it, so none are listed there.
-abbrev pub stayed : Kind → Row → List Bool → Fields → List Fields
-stayed k Cmd13 matches t = []
-stayed k row matches t = with_erases (record t { app = false }) (erase_stayed row t.erase) matches
-    (preset_kept k t.preset)
+-- STAYED: a settled t that lost its application flag, with each match of a list; heard: the host heard the answer.
+-- CMD13 leaves a card that stayed as it may leave one that took it, so none are listed there.
+abbrev pub stayed : Kind → Row → (heard : Bool) → List Bool → Fields → List Fields
+stayed k Cmd13 heard matches t = []
+stayed k row heard matches t = with_erases (record t { app = false }) (erase_stayed row t.erase)
+    (mode_stayed row heard t.state t.mode) matches (preset_kept k t.preset)
 
 -- with a status or an address as response a card may have stayed
 abbrev pub lost_stayed : Kind → Response → Row → Fields → List Fields
-lost_stayed k CardStatus row t = stayed k row (t.matched ∷ []) t
-lost_stayed k NewAddress row t = stayed k row (t.matched ∷ []) t
+lost_stayed k CardStatus row t = stayed k row false (t.matched ∷ []) t
+lost_stayed k NewAddress row t = stayed k row false (t.matched ∷ []) t
 lost_stayed k response row t = []
 
 -- LOST: the command, or its response
@@ -100,9 +106,15 @@ abbrev pub app_shown : Row → Bool → Option Bool
 app_shown Cmd55 app = Some app
 app_shown row app = None
 
+-- a pending switch error is shown by a response to CMD13 alone, where it ends
+abbrev pub switch_shown : Row → (before after : Bool) → Option Bool
+switch_shown Cmd13 true after = Some (not after)
+switch_shown row before after = None
+
 -- what is seen of a status that a settled t gives, which is then u
 abbrev pub status_seen : Row → Bool → Fields → Fields → Seen
-status_seen row doubt t u = Status (state_number t.state) doubt (app_shown row u.app)
+status_seen row doubt t u =
+    Status (state_number t.state) doubt (app_shown row u.app) (switch_shown row t.mode.error u.mode.error)
 
 -- what is seen of the operating conditions of a card that is then u
 abbrev pub conditions_seen : Fields → Seen
@@ -128,9 +140,9 @@ abbrev pub row_branches : Kind → Order → Row → Response → Fields → Lis
 row_branches k order row Absent t = with_seen Sent (taken k row true t)
 row_branches k order row NotAddressed t = with_seen (unaddressed_seen order) (t ∷ taken k row true t)
 row_branches k order row CardStatus t = with_seen TimeOut (lost k CardStatus row t) ++ statuses row t
-    (taken k row true t) (stayed k row (t.matched ∷ []) t)
+    (taken k row true t) (stayed k row true (t.matched ∷ []) t)
 row_branches k order row NewAddress t = with_seen TimeOut (lost k NewAddress row t) ++ statuses row t
-    (taken k row true t) (stayed k row (matched_stayed t.state) t)
+    (taken k row true t) (stayed k row true (matched_stayed t.state) t)
 row_branches k order row Contents t = with_seen TimeOut (lost k Contents row t) ++ with_seen Bare (taken k row true t)
 row_branches k order row Conditions t = with_seen TimeOut (lost k Conditions row t) ++ with_conditions
     (taken k row true t)

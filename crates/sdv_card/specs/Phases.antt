@@ -12,7 +12,7 @@ use Rattle.sdv_card.specs.declared.answer.DataEnd.TheVariants.{Ok, Cut}
 use Rattle.sdv_card.specs.declared.answer.WaitEnd.{WaitEnd}
 use Rattle.sdv_card.specs.declared.answer.WaitEnd.TheVariants.{Ok as Over, Late}
 use Rattle.sdv_card.specs.Lists.{May}
-use Rattle.sdv_card.specs.Card.{Card, Block, Partitions, AreBlocks, accessed_capacity, accessed_blocks}
+use Rattle.sdv_card.specs.Card.{Card, Block, Partitions, AreBlocks, accessed_capacity, accessed_blocks, put_accessed}
 
 -- WHERE A CARD IS AFTERWARDS
 
@@ -102,20 +102,28 @@ due_register ScrDue c = c.scr
 due_register SdStatusDue c = c.sd_status
 due_register transfer c = c.ext_csd
 
--- a phase that ended well gives the register's first bytes, as far as it reaches, and any bytes after it
-abbrev pub RegisterTrue : DataEnd → List ℕ → List ℕ → Type 0
-RegisterTrue Ok register bytes = take (length register) bytes ≡ take (length bytes) register
-RegisterTrue Cut register bytes = Unit {0}
+-- the parts of a register that no switch changes: of an EXT_CSD all but PARTITION_CONFIG (179) and BUS_WIDTH (183)
+abbrev pub fixed : Transfer → List ℕ → List (List ℕ)
+fixed ExtCsdDue bytes = take 179 bytes ∷ take 3 (drop 180 bytes) ∷ drop 184 bytes ∷ []
+fixed transfer bytes = bytes ∷ []
+
+-- a phase that ended well gives the register's first bytes, as far as it reaches, and any bytes after it; those that a
+-- switch changes are free
+abbrev pub RegisterTrue : DataEnd → Transfer → List ℕ → List ℕ → Type 0
+RegisterTrue Ok transfer register bytes =
+    fixed transfer (take (length register) bytes) ≡ fixed transfer (take (length bytes) register)
+RegisterTrue Cut transfer register bytes = Unit {0}
 
 pub record PhaseInRegister (count : ℕ) (end : DataEnd) (bytes : List ℕ) (c u : Card) : Type 0 where
   pub due : register_due c.transfer ≡ true
   pub size : length bytes ≡ count
-  pub truth : RegisterTrue end (due_register c.transfer c) bytes
+  pub truth : RegisterTrue end c.transfer (due_register c.transfer c) bytes
   pub moved : Moved end c u
 
 -- of u's blocks, only those that c's transfer addresses are others than c's
 pub record OnlyAddressed (c u : Card) : Type 0 where
   pub blocks : AreBlocks (accessed_capacity c) (accessed_blocks c u.contents)
+  pub others : put_accessed c (accessed_blocks c u.contents) c.contents ≡ u.contents
   pub below : take c.next_block (accessed_blocks c c.contents) ≡ take c.next_block (accessed_blocks c u.contents)
   pub above : drop (c.next_block + c.announced) (accessed_blocks c c.contents)
       ≡ drop (c.next_block + c.announced) (accessed_blocks c u.contents)

@@ -11,6 +11,7 @@ use Rattle.sdv_card.specs.Card.{Card, Block}
 use Rattle.sdv_card.specs.Host.{Host}
 use Rattle.sdv_card.specs.HostEvents.{Makes}
 use Rattle.sdv_card.specs.ScriptEvent.{ScriptEvent, SendCommand, ReceiveBlocks, ReceiveRegister, GiveBlocks, AwaitReady, Return}
+use Rattle.sdv_card.specs.Modes.{line_count}
 use Rattle.sdv_card.specs.Shapes.{IsPair}
 use Rattle.sdv_card.specs.Legal.{EventLegal, InBounds, TransferOnCard}
 use Rattle.sdv_card.specs.Step.{Step}
@@ -18,10 +19,10 @@ use Rattle.sdv_card.specs.Step.{Step}
 -- a call of a port, without what it returns
 pub data Call : Type 0 where
   Exchange : (command : Command) (expect : Expect) → Call
-  -- room for so many blocks, and for so many bytes of a register
-  DataIn : (count : ℕ) → Call
-  DataInRegister : (count : ℕ) → Call
-  DataOut : (blocks : List Block) → Call
+  -- over so many data lines: room for so many blocks, or for so many bytes of a register, or these blocks
+  DataIn : (lines count : ℕ) → Call
+  DataInRegister : (lines count : ℕ) → Call
+  DataOut : (lines : ℕ) (blocks : List Block) → Call
   WaitWhileBusy : Call
 
 -- the command of an ask
@@ -31,9 +32,9 @@ command_of ask argument = record { index = ask.index; argument = argument }
 -- the call that an event becomes: of a command's position the port sees the argument alone
 abbrev pub call_of : Kind → ScriptEvent → Call
 call_of k (SendCommand ask position argument) = Exchange (command_of ask argument) (expect_of k ask)
-call_of k (ReceiveBlocks count) = DataIn count
-call_of k (ReceiveRegister count) = DataInRegister count
-call_of k (GiveBlocks blocks) = DataOut blocks
+call_of k (ReceiveBlocks lines count) = DataIn (line_count lines) count
+call_of k (ReceiveRegister lines count) = DataInRegister (line_count lines) count
+call_of k (GiveBlocks lines blocks) = DataOut (line_count lines) blocks
 call_of k AwaitReady = WaitWhileBusy
 
 -- a phase of blocks is due whose count the card was told: it is one block, or the count was preset

@@ -4,7 +4,7 @@ use Rattle.std.specs.Prelude.{ℕ}
 use Rattle.sdv_card.specs.declared.command.Response.{Response}
 use Rattle.sdv_card.specs.declared.command.Response.TheVariants.{Absent, NotAddressed, CardStatus, NewAddress, Contents, Conditions}
 use Rattle.sdv_card.specs.declared.command.Row.{Row}
-use Rattle.sdv_card.specs.declared.command.Row.TheVariants.{Cmd0, Cmd1, Cmd2, Cmd3Sd, Cmd3Emmc, Cmd7Addressed, Cmd7NotAddressed, Cmd8Sd, Cmd8Emmc, Cmd9, Cmd10, Cmd12, Cmd13, Cmd16, Cmd17, Cmd18, Cmd23, Cmd24, Cmd25, Cmd32, Cmd33, Cmd35, Cmd36, Cmd38, Cmd55, Acmd13, Acmd41, Acmd51}
+use Rattle.sdv_card.specs.declared.command.Row.TheVariants.{Cmd0, Cmd1, Cmd2, Cmd3Sd, Cmd3Emmc, Cmd6, Cmd7Addressed, Cmd7NotAddressed, Cmd8Sd, Cmd8Emmc, Cmd9, Cmd10, Cmd12, Cmd13, Cmd16, Cmd17, Cmd18, Cmd23, Cmd24, Cmd25, Cmd32, Cmd33, Cmd35, Cmd36, Cmd38, Cmd55, Acmd6, Acmd13, Acmd41, Acmd51}
 
 abbrev pub response_of : Row → Response
 response_of Cmd0 = Absent
@@ -25,6 +25,7 @@ row_index Cmd1 = 1
 row_index Cmd2 = 2
 row_index Cmd3Sd = 3
 row_index Cmd3Emmc = 3
+row_index (Cmd6 setting) = 6
 row_index Cmd7Addressed = 7
 row_index Cmd7NotAddressed = 7
 row_index Cmd8Sd = 8
@@ -45,6 +46,7 @@ row_index Cmd35 = 35
 row_index Cmd36 = 36
 row_index Cmd38 = 38
 row_index Cmd55 = 55
+row_index (Acmd6 width) = 6
 row_index Acmd13 = 13
 row_index (Acmd41 high) = 41
 row_index Acmd51 = 51

@@ -11,8 +11,11 @@ use Rattle.sdv_card.specs.declared.state.Transfer.{Transfer}
 use Rattle.sdv_card.specs.declared.state.Transfer.TheVariants.{Nothing, ReadDue, OpenReadDue, ScrDue, SdStatusDue, ExtCsdDue, WriteDue, OpenWriteDue}
 use Rattle.sdv_card.specs.declared.state.EraseStage.{EraseStage}
 use Rattle.sdv_card.specs.declared.state.EraseStage.TheVariants.{Outside, Begun, Both}
+use Rattle.sdv_card.specs.declared.state.Mode.{Mode}
+use Rattle.sdv_card.specs.declared.command.Setting.TheVariants.{Lines, Access}
 use Rattle.sdv_card.specs.declared.command.Row.{Row}
-use Rattle.sdv_card.specs.declared.command.Row.TheVariants.{Cmd0, Cmd3Sd, Cmd3Emmc, Cmd8Emmc, Cmd12, Cmd13, Cmd16, Cmd17, Cmd18, Cmd23, Cmd24, Cmd25, Cmd32, Cmd33, Cmd35, Cmd36, Cmd38, Cmd55, Acmd13, Acmd41, Acmd51}
+use Rattle.sdv_card.specs.declared.command.Row.TheVariants.{Cmd0, Cmd3Sd, Cmd3Emmc, Cmd6, Cmd8Emmc, Cmd12, Cmd13, Cmd16, Cmd17, Cmd18, Cmd23, Cmd24, Cmd25, Cmd32, Cmd33, Cmd35, Cmd36, Cmd38, Cmd55, Acmd6, Acmd13, Acmd41, Acmd51}
+use Rattle.sdv_card.specs.Modes.{first_mode, calm, failed, set, mode_told, has_partition}
 use Rattle.sdv_card.specs.StateTable.{rows, targets}
 
 -- STATE. A block-addressed SD card does not go to ready for a host that cannot work with block addresses.
@@ -78,6 +81,25 @@ matched_after row heard matched = matched ∷ []
 abbrev pub matched_stayed : State → List Bool
 matched_stayed Ident = true ∷ []
 matched_stayed state = false ∷ true ∷ []
+
+-- MODE. CMD0 begins anew; ACMD6 sets the width; CMD6 sets its value, or leaves an error pending; CMD13 tells the error;
+-- every other command ends it. heard: the host heard the answer.
+abbrev pub mode_after : Row → (heard : Bool) → State → Mode → List Mode
+mode_after Cmd0 heard from mode = first_mode ∷ []
+mode_after (Acmd6 width) heard from mode = calm (set (Lines width) mode) ∷ []
+mode_after (Cmd6 setting) heard from mode = calm (set setting mode) ∷ failed mode ∷ []
+mode_after Cmd13 heard from mode = mode_told heard from mode
+mode_after row heard from mode = calm mode ∷ []
+
+-- of a card that stayed
+abbrev pub mode_stayed : Row → (heard : Bool) → State → Mode → List Mode
+mode_stayed Cmd13 heard from mode = mode_told heard from mode
+mode_stayed row heard from mode = calm mode ∷ []
+
+-- access to a boot partition that has no blocks always fails
+abbrev pub may_switch : Row → (boot_capacity : ℕ) → (fails : Bool) → Bool
+may_switch (Cmd6 (Access partition)) boot_capacity fails = fails || has_partition partition boot_capacity
+may_switch row boot_capacity fails = true
 
 -- TRANSFER. A preset count bounds what would be open.
 abbrev pub counted : ℕ → Transfer → Transfer → Transfer

@@ -8,9 +8,10 @@ use Rattle.sdv_registers.specs.declared.kind.Kind.{Kind}
 use Rattle.sdv_registers.specs.declared.kind.Kind.TheVariants.{Sd, Emmc}
 use Rattle.sdv_card.specs.declared.state.State.{State}
 use Rattle.sdv_card.specs.declared.state.State.TheVariants.{Idle, Ready, Ident, Stby, Tran, Data, Rcv, Prg, Dis}
+use Rattle.sdv_card.specs.declared.state.Width.TheVariants.{Eight}
 use Rattle.sdv_card.specs.declared.command.Move.{Move}
 use Rattle.sdv_card.specs.declared.command.Row.{Row}
-use Rattle.sdv_card.specs.declared.command.Row.TheVariants.{Cmd0, Cmd1, Cmd2, Cmd3Sd, Cmd3Emmc, Cmd7Addressed, Cmd7NotAddressed, Cmd8Sd, Cmd8Emmc, Cmd9, Cmd10, Cmd12, Cmd13, Cmd16, Cmd17, Cmd18, Cmd23, Cmd24, Cmd25, Cmd32, Cmd33, Cmd35, Cmd36, Cmd38, Cmd55, Acmd13, Acmd41, Acmd51}
+use Rattle.sdv_card.specs.declared.command.Row.TheVariants.{Cmd0, Cmd1, Cmd2, Cmd3Sd, Cmd3Emmc, Cmd6, Cmd7Addressed, Cmd7NotAddressed, Cmd8Sd, Cmd8Emmc, Cmd9, Cmd10, Cmd12, Cmd13, Cmd16, Cmd17, Cmd18, Cmd23, Cmd24, Cmd25, Cmd32, Cmd33, Cmd35, Cmd36, Cmd38, Cmd55, Acmd6, Acmd13, Acmd41, Acmd51}
 use Rattle.sdv_card.specs.States.{state_number}
 
 infixl 40 ◌to◌
@@ -48,6 +49,8 @@ sd_rows Cmd32 = unchanged (Tran ∷ [])
 sd_rows Cmd33 = unchanged (Tran ∷ [])
 sd_rows Cmd38 = (Tran to Prg) ∷ []
 sd_rows Cmd55 = unchanged (Idle ∷ Stby ∷ Tran ∷ Data ∷ Rcv ∷ Prg ∷ Dis ∷ [])
+sd_rows (Acmd6 Eight) = []
+sd_rows (Acmd6 width) = unchanged (Tran ∷ [])
 sd_rows Acmd13 = (Tran to Data) ∷ []
 sd_rows (Acmd41 high) = (Idle to Ready) ∷ (Idle to Idle) ∷ []
 sd_rows Acmd51 = (Tran to Data) ∷ []
@@ -59,6 +62,7 @@ emmc_rows Cmd0 = every_to Idle
 emmc_rows Cmd1 = (Idle to Ready) ∷ (Idle to Idle) ∷ []
 emmc_rows Cmd2 = (Ready to Ident) ∷ []
 emmc_rows Cmd3Emmc = (Ident to Stby) ∷ []
+emmc_rows (Cmd6 setting) = (Tran to Prg) ∷ []
 emmc_rows Cmd7Addressed = (Stby to Tran) ∷ (Dis to Prg) ∷ []
 emmc_rows Cmd7NotAddressed = (Tran to Stby) ∷ (Prg to Dis) ∷ (Stby to Stby) ∷ []
 emmc_rows Cmd8Emmc = (Tran to Data) ∷ []

@@ -18,8 +18,8 @@ pub record Sends (ask : Ask) (argument : ℕ) (c : Card) (answer : Answer) (u : 
 -- a step of a card
 abbrev pub Step : ScriptEvent → Card → Return → Card → Type 0
 Step (SendCommand ask position argument) c (Answered answer) u = Sends ask argument c answer u
-Step (ReceiveBlocks count) c (BlocksIn end blocks) u = PhaseIn count end blocks c u
-Step (ReceiveRegister count) c (RegisterIn end bytes) u = PhaseInRegister count end bytes c u
-Step (GiveBlocks blocks) c (BlocksOut end) u = PhaseOut blocks end c u
+Step (ReceiveBlocks lines count) c (BlocksIn end blocks) u = PhaseIn count end blocks c u
+Step (ReceiveRegister lines count) c (RegisterIn end bytes) u = PhaseInRegister count end bytes c u
+Step (GiveBlocks lines blocks) c (BlocksOut end) u = PhaseOut blocks end c u
 Step AwaitReady c (Waited end) u = WaitEnds end c u
 Step event c returned u = ⊥

@@ -5,8 +5,8 @@ use Rattle.sdv_card.specs.declared.command.Row.{Row}
 use Rattle.sdv_card.specs.declared.command.Row.TheVariants.{Cmd0, Cmd3Sd, Cmd3Emmc, Cmd16, Cmd17, Cmd18, Cmd24, Cmd25, Cmd38}
 use Rattle.sdv_card.specs.Lists.{May}
 use Rattle.sdv_card.specs.StateTable.{◌to◌, rows}
-use Rattle.sdv_card.specs.RowRules.{may_reach, app_after, erase_after, erase_stayed, preset_after, preset_kept, transfer_after}
-use Rattle.sdv_card.specs.Card.{Card, AreBlocks, accessed_capacity, accessed_blocks}
+use Rattle.sdv_card.specs.RowRules.{may_reach, app_after, erase_after, erase_stayed, preset_after, preset_kept, transfer_after, mode_after, mode_stayed, may_switch}
+use Rattle.sdv_card.specs.Card.{Card, AreBlocks, accessed_capacity, accessed_blocks, put_accessed}
 
 -- what no step changes
 pub record SameCard (t u : Card) : Type 0 where
@@ -14,6 +14,7 @@ pub record SameCard (t u : Card) : Type 0 where
   pub version : t.version ≡ u.version
   pub block_unit : t.block_unit ≡ u.block_unit
   pub capacity : t.capacity ≡ u.capacity
+  pub boot_capacity : t.boot_capacity ≡ u.boot_capacity
   pub csd : t.csd ≡ u.csd
   pub cid : t.cid ≡ u.cid
   pub ext_csd : t.ext_csd ≡ u.ext_csd
@@ -55,8 +56,9 @@ BlocksAfter Cmd24 argument t u = Begins argument 1 u
 BlocksAfter (Cmd25 n) argument t u = Begins argument n u
 BlocksAfter row argument t u = SameBlocks t u
 
--- an erase may leave anything in any block in access
+-- an erase may leave anything in any block in access, and changes no other
 pub record Erased (t u : Card) : Type 0 where
+  pub others : put_accessed t (accessed_blocks t u.contents) t.contents ≡ u.contents
   pub blocks : AreBlocks (accessed_capacity t) (accessed_blocks t u.contents)
 
 -- the contents: an erase alone changes them
@@ -64,8 +66,8 @@ abbrev pub ContentsAfter : Row → Card → Card → Type 0
 ContentsAfter Cmd38 t u = Erased t u
 ContentsAfter row t u = t.contents ≡ u.contents
 
--- u is t after the row; heard: the host heard the answer, or there is none. Whether an error is still to be shown
--- depends on the answer, and is said there.
+-- u is t after the row; heard: the host heard the answer, or there is none. Whether an error of a write is still to be
+-- shown depends on the answer, and is said there.
 pub record Taken (row : Row) (heard : Bool) (argument : ℕ) (t u : Card) : Type 0 where
   pub same : SameCard t u
   pub state : May (rows t.kind row) (t.state to u.state)
@@ -76,6 +78,8 @@ pub record Taken (row : Row) (heard : Bool) (argument : ℕ) (t u : Card) : Type
   pub preset : May (preset_after t.kind row t.preset) u.preset
   pub rca : RcaAfter row t.rca u.rca
   pub transfer : transfer_after row t.preset t.transfer ≡ u.transfer
+  pub mode : May (mode_after row heard t.state t.mode) u.mode
+  pub switched : IsTrue (may_switch row t.boot_capacity u.mode.error)
   pub blocks : BlocksAfter row argument t u
   pub contents : ContentsAfter row t u
 
@@ -89,5 +93,6 @@ pub record Stayed (row : Row) (heard : Bool) (t u : Card) : Type 0 where
   pub preset : May (preset_kept t.kind t.preset) u.preset
   pub rca : t.rca ≡ u.rca
   pub transfer : t.transfer ≡ u.transfer
+  pub mode : May (mode_stayed row heard t.state t.mode) u.mode
   pub blocks : SameBlocks t u
   pub contents : t.contents ≡ u.contents

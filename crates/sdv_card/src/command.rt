@@ -1,6 +1,15 @@
 //! Commands as a card reads them, and the rows of the state tables that say how each is taken.
 
-use crate::state::State;
+use crate::state::{Partition, State, Width};
+
+/// What CMD6 of e.MMC sets: JESD84-B51, section 7.4 (BUS_WIDTH, PARTITION_CONFIG).
+#[derive(Clone, Copy, Debug, PartialEq, Eq)]
+pub enum Setting {
+    /// The data lines that the device uses: byte 183 of the EXT_CSD.
+    Lines(Width),
+    /// The partition in access: bits 2..0 of byte 179.
+    Access(Partition),
+}
 
 /// A command that the command table of a kind has, by its name in the standard.
 #[derive(Clone, Copy, Debug, PartialEq, Eq)]
@@ -15,6 +24,16 @@ pub enum Order {
     SendRelativeAddress,
     /// CMD3 of e.MMC: the host gives the relative card address, which is 1.
     SetRelativeAddress,
+    /// ACMD6 of SD.
+    SetBusWidth {
+        /// The data lines that the card is to use.
+        width: Width,
+    },
+    /// CMD6 of e.MMC.
+    Switch {
+        /// What it sets.
+        setting: Setting,
+    },
     /// CMD7 with the host's relative card address.
     SelectCard,
     /// CMD7 with the relative card address 0.
@@ -84,6 +103,11 @@ pub enum Row {
     Cmd3Sd,
     /// CMD3 of an e.MMC device, which answers with an R1.
     Cmd3Emmc,
+    /// CMD6, which e.MMC alone has.
+    Cmd6 {
+        /// What it sets.
+        setting: Setting,
+    },
     Cmd7Addressed,
     Cmd7NotAddressed,
     /// CMD8 of an SD card, which answers with an R7.
@@ -115,6 +139,11 @@ pub enum Row {
     Cmd36,
     Cmd38,
     Cmd55,
+    /// ACMD6, which SD alone has.
+    Acmd6 {
+        /// The data lines that the card is to use.
+        width: Width,
+    },
     Acmd13,
     Acmd41 {
         /// The host can work with block addresses.

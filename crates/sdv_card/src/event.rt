@@ -19,7 +19,7 @@ pub struct Ask {
     pub index: u8,
     /// Whether the argument is the host's relative card address.
     pub aim: Aim,
-    /// The argument of 41 and 38; 0 for every other command.
+    /// The argument of 6, 38 and 41; 0 for every other command.
     pub argument: u32,
     /// The blocks that 17, 18, 23, 24 and 25 announce, 1 for 17 and 24; 0 for every other command.
     pub count: u16,
@@ -65,6 +65,8 @@ pub enum Seen {
         doubt: bool,
         /// The application flag, which an answer to CMD55 alone shows.
         app: Option<bool>,
+        /// The bit SWITCH_ERROR, where a card with a pending switch error answers CMD13.
+        switch: Option<bool>,
     },
     /// A data phase or a wait ended well.
     Ok,

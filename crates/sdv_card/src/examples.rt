@@ -2,8 +2,8 @@
 
 ghost use Rattle.std.specs.Prelude.{◌≡◌, map};
 ghost use Rattle.sdv_card.specs.Shapes.{start_codes};
-ghost use Rattle.sdv_card.specs.BringUp.{BringUpHappens, LostAnswerHappens, ProgrammingEnds, DoubtStays, StopIsNotLegal, LastBlockIsBound, UnitIsTheCards};
-ghost use Rattle.sdv_card.specs.EmmcBringUp.{DeviceBringUpHappens};
+ghost use Rattle.sdv_card.specs.BringUp.{BringUpHappens, LostAnswerHappens, ProgrammingEnds, DoubtStays, StopIsNotLegal, LastBlockIsBound, UnitIsTheCards, LinesMustAgree};
+ghost use Rattle.sdv_card.specs.EmmcBringUp.{DeviceBringUpHappens, BootBlockIsBound};
 
 use crate::shape::START_SHAPES;
 
@@ -50,4 +50,14 @@ pub fn last_block_is_bound()
 /// On a card with block addresses, a read of block 1 that is addressed in bytes is not in bounds.
 pub fn unit_is_the_cards()
     ensures { UnitIsTheCards }
+{}
+
+/// A phase is not legal where the host uses other data lines than the card.
+pub fn lines_must_agree()
+    ensures { LinesMustAgree }
+{}
+
+/// In bounds goes by the partition in access.
+pub fn boot_block_is_bound()
+    ensures { BootBlockIsBound }
 {}

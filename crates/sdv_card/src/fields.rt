@@ -1,6 +1,6 @@
 //! What a shape says, field by field.
 
-use crate::state::{EraseStage, State, Transfer};
+use crate::state::{EraseStage, Mode, State, Transfer, Width};
 
 /// What a shape says of a card, its host and the script's flags.
 #[derive(Clone, Copy, Debug, Default, PartialEq, Eq)]
@@ -19,6 +19,10 @@ pub struct Fields {
     pub app: bool,
     /// The card has no relative card address, or the one that the host holds.
     pub matched: bool,
+    /// What commands with index 6 set in the card.
+    pub mode: Mode,
+    /// The data lines that the host uses.
+    pub lines: Width,
     /// The script's flags, the first declared one lowest; below 16.
     pub flags: u8,
     /// The blocks that the next CMD18 or CMD25 moves; 0 where no count is preset.

@@ -18,12 +18,12 @@ pub mod state_table;
 mod table;
 
 pub use answer::{Answer, DataEnd, WaitEnd};
-pub use command::{Move, Order, Response, Row, TakenAs};
+pub use command::{Move, Order, Response, Row, Setting, TakenAs};
 pub use event::{Aim, Ask, Branch, Event, Outcome, Seen};
 pub use fields::Fields;
 pub use guard::Guard;
 pub use port::CardPort;
 pub use sdv_registers::Kind;
 pub use shape::{START_SHAPES, Shape};
-pub use state::{EraseStage, Place, State, Transfer};
+pub use state::{EraseStage, Mode, Partition, Place, State, Transfer, Width};
 pub use table::CardTable;

@@ -25,17 +25,19 @@ pub trait CardPort {
         requires { command.index < 64 }
         ensures { steps self.old (Exchange command expect) (Answered result) self.new };
 
-    /// Receives as many blocks as there is room for. Where the phase is cut, the blocks hold anything.
-    fn data_in(&mut self, blocks: &mut [[u8; 512]]) -> DataEnd
-        ensures { steps self.old (DataIn (length blocks.old)) (BlocksIn result blocks.new) self.new };
+    /// Receives as many blocks as there is room for, over 1, 4 or 8 data lines. Where the phase is cut, the blocks hold
+    /// anything.
+    fn data_in(&mut self, lines: u8, blocks: &mut [[u8; 512]]) -> DataEnd
+        ensures { steps self.old (DataIn lines (length blocks.old)) (BlocksIn result blocks.new) self.new };
 
-    /// Receives as many bytes of a register as there is room for. Where the phase is cut, the bytes are anything.
-    fn data_in_reg(&mut self, bytes: &mut [u8]) -> DataEnd
-        ensures { steps self.old (DataInRegister (length bytes.old)) (RegisterIn result bytes.new) self.new };
+    /// Receives as many bytes of a register as there is room for, over 1, 4 or 8 data lines. Where the phase is cut,
+    /// the bytes are anything.
+    fn data_in_reg(&mut self, lines: u8, bytes: &mut [u8]) -> DataEnd
+        ensures { steps self.old (DataInRegister lines (length bytes.old)) (RegisterIn result bytes.new) self.new };
 
-    /// Sends blocks.
-    fn data_out(&mut self, blocks: &[[u8; 512]]) -> DataEnd
-        ensures { steps self.old (DataOut blocks.now) (BlocksOut result) self.new };
+    /// Sends blocks over 1, 4 or 8 data lines.
+    fn data_out(&mut self, lines: u8, blocks: &[[u8; 512]]) -> DataEnd
+        ensures { steps self.old (DataOut lines blocks.now) (BlocksOut result) self.new };
 
     /// Waits while the card is busy.
     fn wait(&mut self) -> WaitEnd

@@ -2,11 +2,12 @@
 
 ghost use Rattle.std.specs.Prelude.{◌≡◌, ◌<◌, ◌%◌, ◌^◌, ◌+◌, IfSome};
 ghost use Rattle.sdv_card.specs.States.{state_number};
-ghost use Rattle.sdv_card.specs.Code.{code_of, digits, fields_of, transfer_number, erase_number, bool_number, state_of, transfer_of, erase_of};
-ghost use Rattle.sdv_card.specs.ShapeBits.{has_block_addresses, has_flag, with_flag_shown};
+ghost use Rattle.sdv_card.specs.Code.{code_of, digits, fields_of, transfer_number, erase_number, bool_number, mode_number, state_of, transfer_of, erase_of, width_of, partition_of, mode_of};
+ghost use Rattle.sdv_card.specs.Modes.{width_number, line_count, partition_number};
+ghost use Rattle.sdv_card.specs.ShapeBits.{has_block_addresses, partition_shown, lines_shown, with_lines_shown, has_flag, with_flag_shown};
 
 use crate::fields::Fields;
-use crate::state::{EraseStage, State, Transfer};
+use crate::state::{EraseStage, Mode, Partition, State, Transfer, Width};
 
 /// The code of a card beside its host.
 ///
@@ -20,6 +21,10 @@ use crate::state::{EraseStage, State, Transfer};
 /// | 12 | application flag |
 /// | 13 | 1 where the card has no relative card address, or the host's |
 /// | 19..16 | the script's flags |
+/// | 21..20 | the card's data lines: 0 one, 1 four, 2 eight |
+/// | 23..22 | the host's data lines |
+/// | 25..24 | the partition in access: 0 user area, 1 and 2 boot partitions |
+/// | 26 | 1 where a switch error is pending |
 /// | 47..32 | preset count, 0 where there is none |
 ///
 /// All other bits are 0.
@@ -44,6 +49,14 @@ const APPLICATION: u64 = 1 << 12;
 const MATCHED: u64 = 1 << 13;
 
 const FLAGS: u64 = 1 << 16;
+
+const CARD_LINES: u64 = 1 << 20;
+
+const HOST_LINES: u64 = 1 << 22;
+
+const PARTITION: u64 = 1 << 24;
+
+const SWITCH_ERROR: u64 = 1 << 26;
 
 const PRESET: u64 = 1 << 32;
 
@@ -149,6 +162,87 @@ impl EraseStage {
     }
 }
 
+impl Width {
+    /// How many lines these are.
+    pub fn lines(self) -> u8
+        ensures { result ≡ line_count self }
+    {
+        match self {
+            Width::One => 1,
+            Width::Four => 4,
+            Width::Eight => 8,
+        }
+    }
+
+    /// The number in a shape.
+    pub fn number(self) -> u8
+        ensures number { result ≡ width_number self }
+        ensures small { result < 3 }
+    {
+        match self {
+            Width::One => 0,
+            Width::Four => 1,
+            Width::Eight => 2,
+        }
+    }
+
+    fn of(number: u64) -> Width
+        ensures { result ≡ width_of number }
+    {
+        match number {
+            0 => Width::One,
+            1 => Width::Four,
+            _ => Width::Eight,
+        }
+    }
+}
+
+impl Partition {
+    /// The number in a shape.
+    pub fn number(self) -> u8
+        ensures number { result ≡ partition_number self }
+        ensures small { result < 3 }
+    {
+        match self {
+            Partition::User => 0,
+            Partition::Boot1 => 1,
+            Partition::Boot2 => 2,
+        }
+    }
+
+    fn of(number: u64) -> Partition
+        ensures { result ≡ partition_of number }
+    {
+        match number {
+            0 => Partition::User,
+            1 => Partition::Boot1,
+            _ => Partition::Boot2,
+        }
+    }
+}
+
+impl Mode {
+    /// The bits of a shape that show the mode, as a number.
+    fn number(self) -> u64
+        ensures number { result ≡ mode_number self }
+        ensures small { result < 2 ^ 27 }
+    {
+        CARD_LINES * u64::from(self.width.number())
+            + PARTITION * u64::from(self.partition.number())
+            + SWITCH_ERROR * bit(self.error)
+    }
+
+    fn of(code: u64) -> Mode
+        ensures { result ≡ mode_of code }
+    {
+        Mode {
+            width: Width::of(code / CARD_LINES % 4),
+            partition: Partition::of(code / PARTITION % 4),
+            error: code / SWITCH_ERROR % 2 == 1,
+        }
+    }
+}
+
 fn bit(set: bool) -> u64
     ensures number { result ≡ bool_number set }
     ensures small { result < 2 }
@@ -172,6 +266,8 @@ impl Fields {
                 + APPLICATION * bit(self.app)
                 + MATCHED * bit(self.matched)
                 + FLAGS * u64::from(self.flags)
+                + self.mode.number()
+                + HOST_LINES * u64::from(self.lines.number())
                 + PRESET * u64::from(self.preset),
         )
     }
@@ -190,6 +286,8 @@ impl Fields {
             length_512: code / LENGTH_512 % 2 == 1,
             app: code / APPLICATION % 2 == 1,
             matched: code / MATCHED % 2 == 1,
+            mode: Mode::of(code),
+            lines: Width::of(code / HOST_LINES % 4),
             flags: (code / FLAGS % 16) as u8,
             preset: (code / PRESET % 65536) as u16,
         }
@@ -225,6 +323,31 @@ impl Shape {
         ensures { result ≡ has_block_addresses self }
     {
         self.0 / BLOCK_ADDRESSES % 2 == 1
+    }
+
+    /// The partition in access.
+    #[tactic(auto, unfolding(crate::specs::Code::digits))]
+    pub fn partition(self) -> Partition
+        ensures { result ≡ partition_shown self }
+    {
+        Partition::of(self.0 / PARTITION % 4)
+    }
+
+    /// The data lines that the host uses.
+    #[tactic(auto, unfolding(crate::specs::Code::digits))]
+    pub fn lines(self) -> Width
+        ensures { result ≡ lines_shown self }
+    {
+        Width::of(self.0 / HOST_LINES % 4)
+    }
+
+    /// The shape with other data lines of the host.
+    #[tactic(auto, using(crate::proofs::ShapeLines::lines_are_there, crate::proofs::ShapeLines::room_for_lines))]
+    pub fn with_lines(self, lines: Width) -> Shape
+        ensures { result ≡ with_lines_shown self lines }
+    {
+        let without = self.0 - HOST_LINES * u64::from(self.lines().number());
+        Shape(without + HOST_LINES * u64::from(lines.number()))
     }
 
     /// The script's flag in this place, from 0, is set. There are four places.

@@ -1,4 +1,4 @@
-//! The states, data transfers and erase stages of a card.
+//! The states, data transfers, erase stages and modes of a card.
 
 /// The state of a card.
 #[derive(Clone, Copy, Debug, Default, PartialEq, Eq)]
@@ -66,6 +66,43 @@ pub enum EraseStage {
     Begun,
     /// The first and the last block are set.
     Both,
+}
+
+/// How many data lines are in use: SD Physical Layer Simplified Specification, section 4.7.4 (ACMD6); JESD84-B51,
+/// section 7.4 (BUS_WIDTH).
+#[derive(Clone, Copy, Debug, Default, PartialEq, Eq)]
+pub enum Width {
+    /// One line.
+    #[default]
+    One,
+    /// Four lines.
+    Four,
+    /// Eight lines, which e.MMC alone has.
+    Eight,
+}
+
+/// The blocks that commands with an address reach: an SD card has the user area alone. JESD84-B51, section 7.4
+/// (PARTITION_CONFIG).
+#[derive(Clone, Copy, Debug, Default, PartialEq, Eq)]
+pub enum Partition {
+    /// The user area.
+    #[default]
+    User,
+    /// The first boot partition.
+    Boot1,
+    /// The second boot partition.
+    Boot2,
+}
+
+/// What commands with index 6 set, and whether one of them failed.
+#[derive(Clone, Copy, Debug, Default, PartialEq, Eq)]
+pub struct Mode {
+    /// The data lines that the card uses.
+    pub width: Width,
+    /// The partition in access.
+    pub partition: Partition,
+    /// A switch error is pending: a switch failed, and no status has told it yet.
+    pub error: bool,
 }
 
 /// A state with its transfer.

@@ -7,6 +7,7 @@ mod branches;
 mod by_rows;
 mod commands;
 mod distinct;
+mod modes;
 mod phases;
 mod rows;
 mod rules;
@@ -15,6 +16,7 @@ mod takes;
 
 pub use by_rows::{legal_by_rows, order_legal, outcomes_by_rows};
 pub use commands::order;
+pub use modes::{may_stay_pending, same_width};
 pub use phases::{after_phase, after_wait, give_legal, recv_legal, recv_reg_legal, wait_legal};
 pub use rows::Rows;
 pub use rules::{erase_after, own_target, response, transfer_after};

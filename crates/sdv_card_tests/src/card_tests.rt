@@ -19,15 +19,15 @@ impl CardPort for NoCard {
         Answer::TimeOut
     }
 
-    fn data_in(&mut self, _blocks: &mut [[u8; 512]]) -> DataEnd {
+    fn data_in(&mut self, _lines: u8, _blocks: &mut [[u8; 512]]) -> DataEnd {
         DataEnd::Cut
     }
 
-    fn data_in_reg(&mut self, _bytes: &mut [u8]) -> DataEnd {
+    fn data_in_reg(&mut self, _lines: u8, _bytes: &mut [u8]) -> DataEnd {
         DataEnd::Cut
     }
 
-    fn data_out(&mut self, _blocks: &[[u8; 512]]) -> DataEnd {
+    fn data_out(&mut self, _lines: u8, _blocks: &[[u8; 512]]) -> DataEnd {
         DataEnd::Cut
     }
 
@@ -49,9 +49,9 @@ fn call_each<P: CardPort>(port: &mut P) -> (Answer, DataEnd, DataEnd, DataEnd, W
         },
         Expect::Nothing,
     );
-    let read = port.data_in(&mut block);
-    let scr = port.data_in_reg(&mut register);
-    let written = port.data_out(&block);
+    let read = port.data_in(1, &mut block);
+    let scr = port.data_in_reg(4, &mut register);
+    let written = port.data_out(8, &block);
     (answer, read, scr, written, port.wait())
 }
 
@@ -79,4 +79,6 @@ fn examples_are_called() {
     examples::stop_is_not_legal();
     examples::last_block_is_bound();
     examples::unit_is_the_cards();
+    examples::lines_must_agree();
+    examples::boot_block_is_bound();
 }

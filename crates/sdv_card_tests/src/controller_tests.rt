@@ -16,6 +16,7 @@ struct PlayWire {
     frame: [u8; 6],
     transfers: u8,
     phases: u8,
+    lines: [u8; 3],
 }
 
 impl Wire for PlayWire {
@@ -32,24 +33,27 @@ impl Wire for PlayWire {
         self.end
     }
 
-    fn data_in(&mut self, blocks: &mut [[u8; 512]]) -> DataEnd {
+    fn data_in(&mut self, lines: u8, blocks: &mut [[u8; 512]]) -> DataEnd {
         self.phases = self.phases.saturating_add(1);
+        self.lines[0] = lines;
         for block in blocks.iter_mut() {
             block[0] = 0x5a;
         }
         DataEnd::Ok
     }
 
-    fn data_in_reg(&mut self, bytes: &mut [u8]) -> DataEnd {
+    fn data_in_reg(&mut self, lines: u8, bytes: &mut [u8]) -> DataEnd {
         self.phases = self.phases.saturating_add(1);
+        self.lines[1] = lines;
         for byte in bytes.iter_mut() {
             *byte = 0xa5;
         }
         DataEnd::Cut
     }
 
-    fn data_out(&mut self, blocks: &[[u8; 512]]) -> DataEnd {
+    fn data_out(&mut self, lines: u8, blocks: &[[u8; 512]]) -> DataEnd {
         self.phases = self.phases.saturating_add(1);
+        self.lines[2] = lines;
         if blocks.len() == 3 {
             DataEnd::Ok
         } else {
@@ -71,6 +75,7 @@ fn playing(response: &[u8], end: WireEnd) -> PlayWire {
         frame: [0; 6],
         transfers: 0,
         phases: 0,
+        lines: [0; 3],
     };
     for (place, byte) in response.iter().enumerate() {
         if place < 17 {
@@ -171,19 +176,20 @@ fn formats(rt: HostRuntime) {
     }
 }
 
-/// The phases and the wait are the wire's.
+/// The phases, with their data lines, and the wait are the wire's.
 #[test]
 fn phases(rt: HostRuntime) {
     let mut controller = Controller::new(playing(&[], WireEnd::Silent));
     let mut blocks = [[0; 512]; 2];
     let mut bytes = [0; 8];
     let ends = (
-        controller.data_in(&mut blocks),
-        controller.data_in_reg(&mut bytes),
-        controller.data_out(&[[0; 512]; 3]),
+        controller.data_in(4, &mut blocks),
+        controller.data_in_reg(1, &mut bytes),
+        controller.data_out(8, &[[0; 512]; 3]),
         controller.wait(),
     );
     assert!(rt; ends == (DataEnd::Ok, DataEnd::Cut, DataEnd::Ok, WaitEnd::Late));
     assert!(rt; blocks[1][0] == 0x5a && bytes == [0xa5; 8]);
-    assert!(rt; controller.into_wire().phases == 4);
+    let wire = controller.into_wire();
+    assert!(rt; wire.phases == 4 && wire.lines == [4, 1, 8]);
 }

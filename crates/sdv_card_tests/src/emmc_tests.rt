@@ -2,13 +2,14 @@
 
 use crate::outcomes::{
     expect_outcomes, follow, outcome, outcomes_of, shapes_and_longest_list, status,
+    status_of_switch,
 };
 use crate::shared::send;
 use sdv_card::{Aim, Event, Kind, Seen, Shape};
 use sdv_emmc::EmmcTable;
 
 // A shape, the index, aim, argument and count of a command, and whether it is legal there.
-static LEGAL: [(u64, u8, Aim, u32, u16, bool); 29] = [
+static LEGAL: [(u64, u8, Aim, u32, u16, bool); 39] = [
     (0x2000, 1, Aim::Plain, 0, 0, true),
     (0x2001, 1, Aim::Plain, 0, 0, false),
     (0x2002, 3, Aim::Plain, 0, 0, true),
@@ -38,10 +39,21 @@ static LEGAL: [(u64, u8, Aim, u32, u16, bool); 29] = [
     (0x2835, 0, Aim::Plain, 0, 0, false),
     (0x3804, 0, Aim::Plain, 0, 0, false),
     (0x0002, 0, Aim::Plain, 0, 0, false),
+    (0x2804, 6, Aim::Plain, 0x03b7_0100, 0, true),
+    (0x2804, 6, Aim::Plain, 0x03b3_0200, 0, true),
+    (0x2804, 6, Aim::Plain, 0x03b3_0300, 0, false),
+    (0x2804, 6, Aim::Plain, 2, 0, false),
+    (0x2807, 6, Aim::Plain, 0x03b7_0100, 0, false),
+    (0x600_2804, 17, Aim::Plain, 0, 1, true),
+    (0xa0_2000, 0, Aim::Plain, 0, 0, true),
+    (0x30_2000, 0, Aim::Plain, 0, 0, false),
+    (0x300_2000, 0, Aim::Plain, 0, 0, false),
+    (0x800_2000, 0, Aim::Plain, 0, 0, false),
 ];
 
-/// Commands at shapes of e.MMC devices, with and without a preset count of 8, and at codes that are no shape of one; and
-/// how many shapes there are without flags and preset, and the most outcomes at them with a preset count.
+/// Commands at shapes of e.MMC devices, with and without a preset count of 8, and at codes that are no shape of one; how
+/// many shapes there are without flags and preset and with one data line, and the most outcomes at them with a preset
+/// count, also where a switch error is pending.
 #[test]
 fn legal_at_shapes_of_emmc(rt: HostRuntime) {
     for &(code, index, aim, argument, count, legal) in LEGAL.iter() {
@@ -54,6 +66,10 @@ fn legal_at_shapes_of_emmc(rt: HostRuntime) {
     assert_eq!(rt;
         outcomes_of::<EmmcTable>(0x1_0000_2108, &send(7, Aim::Rca, 0, 0)),
         28
+    );
+    assert_eq!(rt;
+        outcomes_of::<EmmcTable>(0x1_0400_2108, &send(7, Aim::Rca, 0, 0)),
+        30
     );
 }
 
@@ -119,4 +135,54 @@ fn outcomes_at_shapes_of_emmc(rt: HostRuntime) {
         outcome(0x2804, Seen::NotOk),
     ];
     expect_outcomes::<EmmcTable>(&rt, 0x2855, &Event::RecvReg, &phase);
+}
+
+/// CMD6 sets its value or fails, CMD13 shows that it failed, and other commands end the error; a phase is legal where the
+/// host uses as many data lines as the device.
+#[test]
+fn switches_at_shapes_of_emmc(rt: HostRuntime) {
+    for (argument, set) in [(0x03b7_0200, 0x20_2807), (0x03b3_0100, 0x100_2807)] {
+        let switched = [
+            outcome(0x2804, Seen::TimeOut),
+            outcome(set, Seen::TimeOut),
+            outcome(0x400_2807, Seen::TimeOut),
+            outcome(set, status(4, false)),
+            outcome(0x400_2807, status(4, false)),
+            outcome(set, status(4, true)),
+            outcome(0x400_2807, status(4, true)),
+            outcome(0x2804, status(4, true)),
+        ];
+        expect_outcomes::<EmmcTable>(&rt, 0x2804, &send(6, Aim::Plain, argument, 0), &switched);
+    }
+    let shown = [
+        outcome(0x400_2807, Seen::TimeOut),
+        outcome(0x2807, Seen::TimeOut),
+        outcome(0x2807, status_of_switch(7, false, true)),
+        outcome(0x400_2807, status_of_switch(7, false, false)),
+        outcome(0x2807, status_of_switch(7, true, true)),
+        outcome(0x400_2807, status_of_switch(7, true, false)),
+        outcome(0x400_2804, Seen::TimeOut),
+        outcome(0x2804, Seen::TimeOut),
+        outcome(0x2804, status_of_switch(4, false, true)),
+        outcome(0x2804, status_of_switch(4, true, true)),
+    ];
+    expect_outcomes::<EmmcTable>(&rt, 0x400_2807, &send(13, Aim::Rca, 0, 0), &shown);
+    let read = [
+        outcome(0x400_2804, Seen::TimeOut),
+        outcome(0x2815, Seen::TimeOut),
+        outcome(0x2804, Seen::TimeOut),
+        outcome(0x2815, status(4, false)),
+        outcome(0x2815, status(4, true)),
+        outcome(0x2804, status(4, true)),
+    ];
+    expect_outcomes::<EmmcTable>(&rt, 0x400_2804, &send(17, Aim::Plain, 0, 1), &read);
+    let ended = [
+        outcome(0x80_2000, Seen::Sent),
+        outcome(0x80_2800, Seen::Sent),
+    ];
+    expect_outcomes::<EmmcTable>(&rt, 0x6a0_2804, &send(0, Aim::Plain, 0, 0), &ended);
+    for (code, legal) in [(0x80_2855, false), (0x20_2855, false), (0xa0_2855, true)] {
+        let found = follow::<EmmcTable>(Shape(code), &Event::RecvReg).is_some();
+        assert!(rt; found == legal, "{code:x}");
+    }
 }

@@ -32,12 +32,23 @@ pub fn outcome(code: u64, seen: Seen) -> Outcome {
     }
 }
 
-/// A status that is no answer to CMD55.
+/// A status that is no answer to CMD55, of a card without a pending switch error.
 pub fn status(state: u8, doubt: bool) -> Seen {
     Seen::Status {
         state,
         doubt,
         app: None,
+        switch: None,
+    }
+}
+
+/// The answer to CMD13 of a card with a pending switch error, which is shown or not yet.
+pub fn status_of_switch(state: u8, doubt: bool, shown: bool) -> Seen {
+    Seen::Status {
+        state,
+        doubt,
+        app: None,
+        switch: Some(shown),
     }
 }
 

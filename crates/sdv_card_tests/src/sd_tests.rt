@@ -8,7 +8,7 @@ use sdv_card::{Aim, Event, Kind, Seen, Shape};
 use sdv_sd::SdTable;
 
 // A shape, the index, aim and count of a command, and whether it is legal there.
-static LEGAL: [(u64, u8, Aim, u16, bool); 21] = [
+static LEGAL: [(u64, u8, Aim, u16, bool); 29] = [
     (0x2001, 55, Aim::Rca, 0, false),
     (0x2865, 12, Aim::Plain, 0, false),
     (0x28b6, 12, Aim::Plain, 0, true),
@@ -27,12 +27,21 @@ static LEGAL: [(u64, u8, Aim, u16, bool); 21] = [
     (0x2005, 0, Aim::Plain, 0, false),
     (0x2c85, 0, Aim::Plain, 0, false),
     (0x4000, 0, Aim::Plain, 0, false),
-    (0x10_2000, 0, Aim::Plain, 0, false),
+    (0x10_2000, 0, Aim::Plain, 0, true),
+    (0x20_2000, 0, Aim::Plain, 0, false),
+    (0x80_2000, 0, Aim::Plain, 0, false),
+    (0x100_2000, 0, Aim::Plain, 0, false),
+    (0x400_2000, 0, Aim::Plain, 0, false),
+    (0x800_2000, 0, Aim::Plain, 0, false),
+    (0x2804, 6, Aim::Plain, 0, false),
+    (0x3803, 6, Aim::Plain, 0, false),
+    (0x3804, 6, Aim::Plain, 0, true),
     (0x8_0000_2804, 18, Aim::Plain, 8, false),
     (0xffff_ffff_ffff_ffff, 0, Aim::Plain, 0, false),
 ];
 
-/// Commands at shapes of SD cards, also with flags of the script, and at codes that are no shape of an SD card.
+/// Commands at shapes of SD cards, also with flags of the script and with four data lines, and at codes that are no shape
+/// of an SD card.
 #[test]
 fn legal_at_shapes_of_sd(rt: HostRuntime) {
     for &(code, index, aim, count, legal) in LEGAL.iter() {
@@ -83,7 +92,39 @@ fn outcomes_at_shapes_of_sd(rt: HostRuntime) {
     }
 }
 
-/// The shapes of SD cards without flags, and the longest list of outcomes at them.
+/// ACMD6 sets the card's data lines, and CMD0 one; a phase is legal where the host uses as many.
+#[test]
+fn widths_at_shapes_of_sd(rt: HostRuntime) {
+    let four = [
+        outcome(0x3804, Seen::TimeOut),
+        outcome(0x10_2804, Seen::TimeOut),
+        outcome(0x2804, Seen::TimeOut),
+        outcome(0x10_2804, status(4, false)),
+        outcome(0x10_2804, status(4, true)),
+        outcome(0x2804, status(4, true)),
+    ];
+    expect_outcomes::<SdTable>(&rt, 0x3804, &send(6, Aim::Plain, 2, 0), &four);
+    let reset = [
+        outcome(0x40_2000, Seen::Sent),
+        outcome(0x40_2800, Seen::Sent),
+    ];
+    expect_outcomes::<SdTable>(&rt, 0x50_2804, &send(0, Aim::Plain, 0, 0), &reset);
+    for (code, event, legal) in [
+        (0x10_2815, Event::RecvBlocks, false),
+        (0x40_2815, Event::RecvBlocks, false),
+        (0x50_2815, Event::RecvBlocks, true),
+        (0x10_2835, Event::RecvReg, false),
+        (0x50_2835, Event::RecvReg, true),
+        (0x10_2886, Event::Give, false),
+        (0x50_2886, Event::Give, true),
+        (0x10_2807, Event::Wait, true),
+    ] {
+        let found = follow::<SdTable>(Shape(code), &event).is_some();
+        assert!(rt; found == legal, "{event:?} at {code:x}");
+    }
+}
+
+/// The shapes of SD cards without flags and with one data line, and the longest list of outcomes at them.
 #[test]
 fn shapes_of_sd(rt: HostRuntime) {
     assert_eq!(rt; shapes_and_longest_list::<SdTable>(Kind::Sd, 0), (558, 18));

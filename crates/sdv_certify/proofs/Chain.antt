@@ -1,6 +1,6 @@
 -- The form before a part is at most what its spans say.
 use Rattle.std.proofs.Common.{◌≡◌, ℕ, ◌-◌, ◌*◌, [], true, ◌||◌, Option, Some, None, is_some, refl, arith}
-use Rattle.sdv_graph.specs.Tree.{Statements, nothing, first, Ways, otherwise, way, Statement, send, phase, setting, choice, set, clear, turns, break, done, fault}
+use Rattle.sdv_graph.specs.Tree.{Statements, nothing, first, Ways, otherwise, way, Statement, send, phase, setting, choice, set, clear, bus_lines, turns, break, done, fault}
 use Rattle.sdv_certify.specs.declared.spans.Spans.{Spans}
 use Rattle.sdv_certify.specs.declared.form.Form.{Form}
 use Rattle.sdv_certify.specs.Spans.{plus, most, or_zero, spans, either, later, way_out, all_turns, spans_statements, spans_ways, spans_statement}
@@ -81,6 +81,7 @@ mutual
   has_statement (choice c a b) = either_has (spans_statements a) (spans_statements b) (has_statements a)
   has_statement (set f) = refl
   has_statement (clear f) = refl
+  has_statement (bus_lines width) = refl
   has_statement (turns n a b) =
       let u = spans_statements a in
       let v = spans_statements b in
@@ -154,6 +155,7 @@ mutual
       (chain_statements a after out f o hf ho) (chain_statements b after out f o hf ho)
   chain_statement (set n) after out f o hf ho = at_most_twice _ _ _ hf (on_at_most f o)
   chain_statement (clear n) after out f o hf ho = at_most_twice _ _ _ hf (on_at_most f o)
+  chain_statement (bus_lines width) after out f o hf ho = at_most_twice _ _ _ hf (on_at_most f o)
   chain_statement (turns n a b) after out f o hf ho =
       let u = spans_statements a in
       let v = spans_statements b in

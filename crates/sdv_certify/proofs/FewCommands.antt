@@ -1,7 +1,7 @@
 -- No form has more commands than the part has moves, beside those behind it.
 use Rattle.std.proofs.Common.{◌≡◌, ℕ, ◌+◌, ◌*◌, ◌≤◌, max, Option, Some, None, arith}
 use Rattle.std.proofs.Math.Nat.{mul-le-mul_left, mul-le-mul_right}
-use Rattle.sdv_graph.specs.Tree.{Statements, nothing, first, Ways, otherwise, way, Statement, send, phase, setting, choice, set, clear, turns, break, done, fault}
+use Rattle.sdv_graph.specs.Tree.{Statements, nothing, first, Ways, otherwise, way, Statement, send, phase, setting, choice, set, clear, bus_lines, turns, break, done, fault}
 use Rattle.sdv_graph.specs.Moves.{statements_moves, ways_moves, statement_moves}
 use Rattle.sdv_certify.specs.declared.form.Form.{Form}
 use Rattle.sdv_certify.specs.declared.spans.Spans.{Spans}
@@ -53,6 +53,7 @@ mutual
       omega (arith, either_base (form_statements a after out) (form_statements b after out), few_statements a after out, few_statements b after out)
   few_before (set f) after out = omega arith
   few_before (clear f) after out = omega arith
+  few_before (bus_lines width) after out = omega arith
   few_before (turns n a b) after out =
       let u = spans_statements a in
       let l = last_base u (leads_to (form_statements b after out)) (leads_to after) in

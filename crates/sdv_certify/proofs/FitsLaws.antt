@@ -11,12 +11,12 @@ use Rattle.sdv_card.specs.declared.command.Order.{Order}
 use Rattle.sdv_card.specs.CommandTable.{order_of}
 use Rattle.sdv_graph.specs.Graph.{Graph}
 use Rattle.sdv_graph.specs.GraphOf.{IsGraphOf}
-use Rattle.sdv_graph.specs.Path.{Action, Point, sends, phases, lets, tests, flags, heads, jumps, stops}
+use Rattle.sdv_graph.specs.Path.{Action, Point, sends, phases, lets, tests, flags, widths, heads, jumps, stops}
 use Rattle.sdv_graph.specs.Points.{points_of, points_of_statements, points_of_ways, points_of_statement, entry, again, outside, past}
 use Rattle.sdv_script.specs.Rules.{AtomFits, StatementsFit, WaysFit, StatementFits, deeper, in_loop, statements_count, statement_count}
 use Rattle.sdv_script.specs.Script.{IsScript, Parsed}
 use Rattle.sdv_script.specs.Shown.{shown}
-use Rattle.sdv_graph.specs.Tree.{Statements, nothing, first, Ways, otherwise, way, Statement, send, phase, setting, choice, set, clear, turns, break, done, fault, Declared}
+use Rattle.sdv_graph.specs.Tree.{Statements, nothing, first, Ways, otherwise, way, Statement, send, phase, setting, choice, set, clear, bus_lines, turns, break, done, fault, Declared}
 use Rattle.sdv_facts.specs.Limits.{AtomInLimits}
 use Rattle.sdv_registers.specs.declared.kind.Kind.{Kind}
 use Rattle.sdv_certify.specs.declared.fault.CertifyFault.{CertifyFault}
@@ -77,6 +77,7 @@ module _ (names : Declared) (few : length names.flags ≤ 4) where
     )
     statement_fits depth (set x) at next brk most f = (omega (arith, f, few), tt)
     statement_fits depth (clear x) at next brk most f = (omega (arith, f, few), tt)
+    statement_fits depth (bus_lines width) at next brk most f = (tt, tt)
     statement_fits depth (turns n a b) at next brk most f = (
       tt,
       both (points_of_statements a (at + 1) (again at) (outside next) ((n - 1) ∷ most)) (points_of_statements b (at + 1 + statements_count a) next brk most)
@@ -107,6 +108,7 @@ action_prop (lets l t) = atom_prop l.atom
     atom_prop atoms.ExtBlocks = hlevel props
 action_prop (tests c met unmet) = hlevel props
 action_prop (flags flag on t) = hlevel props
+action_prop (widths width t) = hlevel props
 action_prop (heads n body other) = hlevel props
 action_prop (jumps t) = hlevel props
 action_prop (stops last) = hlevel props

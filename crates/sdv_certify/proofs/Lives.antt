@@ -4,7 +4,7 @@ use Rattle.std.specs.Prelude.{slice_get}
 use Rattle.std.proofs.Math.Seq.{get_or-append_seam}
 use Rattle.std.proofs.lemmas.Option.{slice_get-get_or}
 use Rattle.sdv_graph.specs.declared.graph.Target.{Target}
-use Rattle.sdv_graph.specs.Tree.{Statements, nothing, first, Ways, otherwise, way, Statement, send, phase, setting, choice, set, clear, turns, break, done, fault}
+use Rattle.sdv_graph.specs.Tree.{Statements, nothing, first, Ways, otherwise, way, Statement, send, phase, setting, choice, set, clear, bus_lines, turns, break, done, fault}
 use Rattle.sdv_script.specs.Rules.{statements_count, ways_count, statement_count, statements_break, ways_break, statement_breaks, statements_fall, ways_fall, statement_falls}
 use Rattle.sdv_graph.specs.GraphOf.{CanRun}
 use Rattle.sdv_graph.specs.Path.{Point}
@@ -84,6 +84,7 @@ mutual
       omega arith
   statement_length (set f) live = refl
   statement_length (clear f) live = refl
+  statement_length (bus_lines width) live = refl
   statement_length (turns n a b) live =
       let e = length-append (lives_of_statements a live) (lives_of_statements b live) in
       let la = lives_length a live in
@@ -133,6 +134,7 @@ module _ (g : List Bool) where
   start_stands (choice c a b) at live has e = here_live at live has.0 e
   start_stands (set f) at live has e = here_live at live has.0 e
   start_stands (clear f) at live has e = here_live at live has.0 e
+  start_stands (bus_lines width) at live has e = here_live at live has.0 e
   start_stands (turns n a b) at live has e = here_live at live has.0 e
   start_stands break at live has e = here_live at live has.0 e
   start_stands done at live has e = here_live at live has.0 e
@@ -237,6 +239,7 @@ module _ (g : List Bool) where
         )
     statement_leads (set f) at next brk most live has nx br = ((λ l. nx l refl), tt)
     statement_leads (clear f) at next brk most live has nx br = ((λ l. nx l refl), tt)
+    statement_leads (bus_lines width) at next brk most live has nx br = ((λ l. nx l refl), tt)
     statement_leads (turns n a b) at next brk most live has nx br =
         let mid = at + 1 + statements_count a in
         let inner = (n - 1) ∷ most in

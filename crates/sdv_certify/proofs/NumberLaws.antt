@@ -8,7 +8,7 @@ use Rattle.sdv_graph.specs.GraphOf.{IsGraphOf}
 use Rattle.sdv_graph.specs.Path.{Action, Point, lets, tests}
 use Rattle.sdv_graph.specs.Points.{points_of, points_of_statements, points_of_ways, points_of_statement, entry, again, outside, past}
 use Rattle.sdv_script.specs.Rules.{statements_count, statement_count}
-use Rattle.sdv_graph.specs.Tree.{Statements, nothing, first, Ways, otherwise, way, Statement, send, phase, setting, choice, set, clear, turns, break, done, fault, Declared}
+use Rattle.sdv_graph.specs.Tree.{Statements, nothing, first, Ways, otherwise, way, Statement, send, phase, setting, choice, set, clear, bus_lines, turns, break, done, fault, Declared}
 use Rattle.sdv_facts.specs.declared.numbers.Numbers.{Numbers}
 use Rattle.sdv_facts.specs.declared.numbers.VarFacts.{VarFacts}
 use Rattle.sdv_facts.specs.AfterLet.{changed_facts}
@@ -62,6 +62,7 @@ mutual
   )
   of_statement (set f) at next brk most h = (tt, tt)
   of_statement (clear f) at next brk most h = (tt, tt)
+  of_statement (bus_lines width) at next brk most h = (tt, tt)
   of_statement (turns n a b) at next brk most h = (
     tt,
     both (points_of_statements a (at + 1) (again at) (outside next) ((n - 1) ∷ most)) (points_of_statements b (at + 1 + statements_count a) next brk most)

@@ -4,9 +4,9 @@ use Rattle.std.specs.Prelude.{slice_get}
 use Rattle.std.proofs.Math.Seq.{get_or-append_seam}
 use Rattle.std.proofs.lemmas.Option.{slice_get_past, slice_get-get_or}
 use Rattle.sdv_graph.specs.declared.graph.Target.{Target}
-use Rattle.sdv_graph.specs.Tree.{Statements, nothing, first, Ways, otherwise, way, Statement, send, phase, setting, choice, set, clear, turns, break, done, fault}
+use Rattle.sdv_graph.specs.Tree.{Statements, nothing, first, Ways, otherwise, way, Statement, send, phase, setting, choice, set, clear, bus_lines, turns, break, done, fault}
 use Rattle.sdv_script.specs.Rules.{statements_count, ways_count, statement_count}
-use Rattle.sdv_graph.specs.Path.{Case, Action, Point, sends, phases, lets, tests, flags, heads, jumps, stops, left, entered, turns_at}
+use Rattle.sdv_graph.specs.Path.{Case, Action, Point, sends, phases, lets, tests, flags, widths, heads, jumps, stops, left, entered, turns_at}
 use Rattle.sdv_graph.specs.Points.{start_of, entry, outside, again, cases_of, other_of, points_of_statements, points_of_ways, points_of_statement, past, points_of}
 use Rattle.sdv_graph.specs.Nested.{InBox, Pass, Same, Again, Over, EachCase, EachTarget}
 use Rattle.sdv_facts.specs.Bounds.{turns_cost, bound, commands_of, BoundFalls}
@@ -79,6 +79,7 @@ mutual
       omega arith
   statement_length (set f) after out = refl
   statement_length (clear f) after out = refl
+  statement_length (bus_lines width) after out = refl
   statement_length (turns n a b) after out =
       let h = form_of_loop a b after out in
       let e = length-append (forms_of_statements a (Some h) (inside_too after)) (forms_of_statements b after out) in
@@ -214,6 +215,7 @@ module _ (g : List Form) where
   start_leads (choice c a b) at after out has = plain_leads (form_before (choice c a b) after out) at has.0
   start_leads (set f) at after out has = plain_leads (leads_to after) at has.0
   start_leads (clear f) at after out has = plain_leads (leads_to after) at has.0
+  start_leads (bus_lines width) at after out has = plain_leads (leads_to after) at has.0
   start_leads (turns n a b) at after out has = enters n a b at after out has.0
   start_leads break at after out has = plain_leads (leads_to out) at has.0
   start_leads done at after out has = plain_leads end_form at has.0
@@ -309,6 +311,7 @@ module _ (g : List Form) where
         )
     statement_pays (set f) at next brk most after out has nx br = (same_falls after after next nx (below_same after), tt)
     statement_pays (clear f) at next brk most after out has nx br = (same_falls after after next nx (below_same after), tt)
+    statement_pays (bus_lines width) at next brk most after out has nx br = (same_falls after after next nx (below_same after), tt)
     statement_pays (turns n a b) at next brk most after out has nx br =
         let mid = at + 1 + statements_count a in
         let inner = (n - 1) ∷ most in
@@ -364,6 +367,7 @@ each_target (phases p well other) P Q f h = (f Same well h.0, f Same other h.1)
 each_target (lets l t) P Q f h = f Same t h
 each_target (tests c holds other) P Q f h = (f Same holds h.0, f Same other h.1)
 each_target (flags n on t) P Q f h = f Same t h
+each_target (widths width t) P Q f h = f Same t h
 each_target (heads n body other) P Q f h = (f Again body h.0, f Over other h.1)
 each_target (jumps t) P Q f h = f Same t h
 each_target (stops last) P Q f h = tt

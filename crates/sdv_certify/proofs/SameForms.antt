@@ -1,7 +1,7 @@
 -- The forms of a part with a coefficient for each loop come from such forms at its end and behind a `break`.
 use Rattle.std.proofs.Common.{◌≡◌, List, [], ◌∷◌, ◌++◌, map, Option, Some, refl, sym, ap, ◌∙◌}
 use Rattle.std.proofs.lemmas.List.{map-append}
-use Rattle.sdv_graph.specs.Tree.{Statements, nothing, first, Ways, otherwise, way, Statement, send, phase, setting, choice, set, clear, turns, break, done, fault}
+use Rattle.sdv_graph.specs.Tree.{Statements, nothing, first, Ways, otherwise, way, Statement, send, phase, setting, choice, set, clear, bus_lines, turns, break, done, fault}
 use Rattle.sdv_certify.specs.declared.form.Form.{Form}
 use Rattle.sdv_certify.specs.Spans.{spans_statements}
 use Rattle.sdv_certify.specs.Forms.{either_form, leads_to, last_turn, inside_too, form_statements, form_ways, form_before, form_of_loop, forms_of_statements, forms_of_ways, forms_of_statement, full_form, in_full}
@@ -37,6 +37,7 @@ mutual
       (same_statements b x x' y y' e h))
   same_before (set f) x x' y y' e h = leads_same x x' e
   same_before (clear f) x x' y y' e h = leads_same x x' e
+  same_before (bus_lines width) x x' y y' e h = leads_same x x' e
   same_before (turns n a b) x x' y y' e h =
       before_same n (spans_statements a) (last_turn (spans_statements a) (leads_to (form_statements b x y)) (leads_to x))
       (last_turn (spans_statements a) (leads_to (form_statements b x' y')) (leads_to x'))
@@ -100,6 +101,7 @@ mutual
       (same_of_statements a x x' y y' e h) (same_of_statements b x x' y y' e h))
   same_of_statement (set f) x x' y y' e h = ap (λ f. f ∷ []) (leads_same x x' e)
   same_of_statement (clear f) x x' y y' e h = ap (λ f. f ∷ []) (leads_same x x' e)
+  same_of_statement (bus_lines width) x x' y y' e h = ap (λ f. f ∷ []) (leads_same x x' e)
   same_of_statement (turns n a b) x x' y y' e h =
       let k = form_of_loop a b x y in
       let k' = form_of_loop a b x' y' in

@@ -1,6 +1,6 @@
 -- The size of a part of a script: more than that of each part in it.
 use Rattle.std.proofs.Common.{ℕ, ◌+◌}
-use Rattle.sdv_graph.specs.Tree.{Statements, nothing, first, Ways, otherwise, way, Statement, send, phase, setting, choice, set, clear, turns, break, done, fault}
+use Rattle.sdv_graph.specs.Tree.{Statements, nothing, first, Ways, otherwise, way, Statement, send, phase, setting, choice, set, clear, bus_lines, turns, break, done, fault}
 
 abbrev mutual
   pub statements_size : Statements → ℕ
@@ -18,6 +18,7 @@ abbrev mutual
   statement_size (choice c a b) = 1 + statements_size a + statements_size b
   statement_size (set f) = 1
   statement_size (clear f) = 1
+  statement_size (bus_lines width) = 1
   statement_size (turns n a b) = 1 + statements_size a + statements_size b
   statement_size break = 1
   statement_size done = 1

@@ -1,7 +1,7 @@
 -- No way through a part has more commands than moves.
 use Rattle.std.proofs.Common.{ℕ, ◌+◌, ◌-◌, ◌*◌, ◌≤◌, max, Option, Some, None, arith}
 use Rattle.std.proofs.Math.Nat.{mul-le-mul_left, mul-le-mul_right}
-use Rattle.sdv_graph.specs.Tree.{Statements, nothing, first, Ways, otherwise, way, Statement, send, phase, setting, choice, set, clear, turns, break, done, fault}
+use Rattle.sdv_graph.specs.Tree.{Statements, nothing, first, Ways, otherwise, way, Statement, send, phase, setting, choice, set, clear, bus_lines, turns, break, done, fault}
 use Rattle.sdv_graph.specs.Moves.{statements_moves, ways_moves, statement_moves}
 use Rattle.sdv_certify.specs.declared.spans.Spans.{Spans}
 use Rattle.sdv_certify.specs.Spans.{plus, most, or_zero, seq, either, later, way_out, all_turns, longest, spans_statements, spans_ways, spans_statement}
@@ -69,6 +69,7 @@ mutual
   longest_statement (choice c a b) = omega (arith, longest_either (spans_statements a) (spans_statements b), longest_statements a, longest_statements b)
   longest_statement (set f) = omega arith
   longest_statement (clear f) = omega arith
+  longest_statement (bus_lines width) = omega arith
   longest_statement (turns n a b) =
       let t = longest_turns n (spans_statements a) (spans_statements b) in
       let l = longest_statements a in

@@ -6,7 +6,7 @@ use Rattle.std.proofs.Math.Logic.{∥∥₁_elim}
 use Rattle.sdv_card.specs.declared.command.Order.{Order}
 use Rattle.sdv_card.specs.CommandTable.{order_of}
 use Rattle.sdv_script.specs.declared.depth.Depth.{Depth}
-use Rattle.sdv_graph.specs.Tree.{Statements, nothing, first, Ways, otherwise, way, Statement, send, phase, setting, choice, set, clear, turns, break, done, fault, Declared}
+use Rattle.sdv_graph.specs.Tree.{Statements, nothing, first, Ways, otherwise, way, Statement, send, phase, setting, choice, set, clear, bus_lines, turns, break, done, fault, Declared}
 use Rattle.sdv_graph.specs.Moves.{statements_moves}
 use Rattle.sdv_script.specs.Rules.{StatementsFit, WaysFit, StatementFits, deeper, in_loop}
 use Rattle.sdv_script.specs.Script.{Parsed, IsScript}
@@ -31,6 +31,7 @@ mutual
   statement_turns names d (choice c a b) f = (statements_turn names (deeper d) a f.2, statements_turn names (deeper d) b f.3)
   statement_turns names d (set x) f = tt
   statement_turns names d (clear x) f = tt
+  statement_turns names d (bus_lines width) f = tt
   statement_turns names d (turns n a b) f = (f.0, statements_turn names (deeper (in_loop d)) a f.4, statements_turn names (deeper d) b f.5)
   statement_turns names d break f = tt
   statement_turns names d done f = tt
@@ -52,6 +53,7 @@ mutual
   statement_prop (choice c a b) = let h = statements_prop a in let i = statements_prop b in hlevel (props, h, i)
   statement_prop (set x) = hlevel props
   statement_prop (clear x) = hlevel props
+  statement_prop (bus_lines width) = hlevel props
   statement_prop (turns n a b) = let h = statements_prop a in let i = statements_prop b in hlevel (props, h, i)
   statement_prop break = hlevel props
   statement_prop done = hlevel props

@@ -4,7 +4,7 @@
 -- part the greatest is taken. Coefficients go from the innermost loop outwards; those that a list lacks are 0.
 -- Bounds are this project's own.
 use Rattle.std.specs.Prelude.{ℕ, zero, suc, ◌+◌, ◌-◌, ◌*◌, ◌≤◌, max, List, [], ◌∷◌, ◌++◌, All, Option, Some, None}
-use Rattle.sdv_graph.specs.Tree.{Statements, nothing, first, Ways, otherwise, way, Statement, send, phase, setting, choice, set, clear, turns, break, done, fault}
+use Rattle.sdv_graph.specs.Tree.{Statements, nothing, first, Ways, otherwise, way, Statement, send, phase, setting, choice, set, clear, bus_lines, turns, break, done, fault}
 use Rattle.sdv_script.specs.Rules.{max_number, max_loops}
 use Rattle.sdv_certify.specs.declared.spans.Spans.{Spans}
 use Rattle.sdv_certify.specs.declared.form.Form.{Form}
@@ -99,6 +99,7 @@ abbrev mutual
       (either_form (form_statements a after out) (form_statements b after out))
   form_before (set f) after out = leads_to after
   form_before (clear f) after out = leads_to after
+  form_before (bus_lines width) after out = leads_to after
   form_before (turns n a b) after out =
       before_loop n (spans_statements a) (last_turn (spans_statements a) (leads_to (form_statements b after out))
       (leads_to after))
@@ -133,6 +134,7 @@ abbrev mutual
       form_before (choice c a b) after out ∷ (forms_of_statements a after out ++ forms_of_statements b after out)
   forms_of_statement (set f) after out = leads_to after ∷ []
   forms_of_statement (clear f) after out = leads_to after ∷ []
+  forms_of_statement (bus_lines width) after out = leads_to after ∷ []
   -- a body's end leads back to the head, and a `break` behind the loop
   forms_of_statement (turns n a b) after out =
       form_of_loop a b after out

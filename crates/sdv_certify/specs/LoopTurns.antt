@@ -1,6 +1,6 @@
 -- Each loop of a part of a script has a turn.
 use Rattle.std.specs.Prelude.{◌≤◌}
-use Rattle.sdv_graph.specs.Tree.{Statements, nothing, first, Ways, otherwise, way, Statement, send, phase, setting, choice, set, clear, turns, break, done, fault}
+use Rattle.sdv_graph.specs.Tree.{Statements, nothing, first, Ways, otherwise, way, Statement, send, phase, setting, choice, set, clear, bus_lines, turns, break, done, fault}
 
 abbrev mutual
   pub StatementsTurn : Statements → Type 0
@@ -18,6 +18,7 @@ abbrev mutual
   StatementTurns (choice c a b) = StatementsTurn a × StatementsTurn b
   StatementTurns (set f) = Unit {0}
   StatementTurns (clear f) = Unit {0}
+  StatementTurns (bus_lines width) = Unit {0}
   StatementTurns (turns n a b) = (1 ≤ n) × StatementsTurn a × StatementsTurn b
   StatementTurns break = Unit {0}
   StatementTurns done = Unit {0}

@@ -6,7 +6,7 @@ use Rattle.sdv_graph.specs.declared.tree.Change.TheVariants.{Same, Plus, Minus}
 use Rattle.sdv_graph.specs.declared.tree.Condition.{Condition}
 use Rattle.sdv_graph.specs.declared.tree.Condition.TheVariants.{Flag, AtLeast, Below}
 use Rattle.sdv_script.specs.Shown.{shown}
-use Rattle.sdv_graph.specs.Tree.{Statements, nothing, first, Ways, otherwise, way, Statement, send, phase, setting, choice, set, clear, turns, break, done, fault}
+use Rattle.sdv_graph.specs.Tree.{Statements, nothing, first, Ways, otherwise, way, Statement, send, phase, setting, choice, set, clear, bus_lines, turns, break, done, fault}
 
 abbrev pub KeepsValue : Change → Type 0
 KeepsValue Same = Unit {0}
@@ -34,6 +34,7 @@ abbrev mutual
   TestsNoNumber (choice c a b) = AsksFlag c × StatementsTestNoNumber a × StatementsTestNoNumber b
   TestsNoNumber (set f) = Unit {0}
   TestsNoNumber (clear f) = Unit {0}
+  TestsNoNumber (bus_lines width) = Unit {0}
   TestsNoNumber (turns n a b) = StatementsTestNoNumber a × StatementsTestNoNumber b
   TestsNoNumber break = Unit {0}
   TestsNoNumber done = Unit {0}

@@ -1,6 +1,6 @@
 -- The greatest numbers of commands on the ways through a part of a script, by its syntax alone.
 use Rattle.std.specs.Prelude.{ℕ, ◌+◌, ◌-◌, ◌*◌, max, Option, Some, None}
-use Rattle.sdv_graph.specs.Tree.{Statements, nothing, first, Ways, otherwise, way, Statement, send, phase, setting, choice, set, clear, turns, break, done, fault}
+use Rattle.sdv_graph.specs.Tree.{Statements, nothing, first, Ways, otherwise, way, Statement, send, phase, setting, choice, set, clear, bus_lines, turns, break, done, fault}
 use Rattle.sdv_certify.specs.declared.spans.Spans.{Spans}
 
 -- NO WAY, or the greatest number of commands on a way
@@ -63,6 +63,7 @@ abbrev mutual
   spans_statement (choice c a b) = either (spans_statements a) (spans_statements b)
   spans_statement (set f) = spans (Some 0) None None
   spans_statement (clear f) = spans (Some 0) None None
+  spans_statement (bus_lines width) = spans (Some 0) None None
   spans_statement (turns n a b) = all_turns n (spans_statements a) (spans_statements b)
   spans_statement break = spans None (Some 0) None
   spans_statement done = spans None None (Some 0)

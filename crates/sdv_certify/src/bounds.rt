@@ -142,7 +142,9 @@ fn put_stmt(
             push(forms, head)?;
             Ok(before_loop(*turns, body, last))
         }
-        Stmt::Let(_) | Stmt::Set(_) | Stmt::Clear(_) => push(forms, leads_to(after)),
+        Stmt::Let(_) | Stmt::Set(_) | Stmt::Clear(_) | Stmt::BusLines(_) => {
+            push(forms, leads_to(after))
+        }
         Stmt::Break => push(forms, leads_to(out)),
         Stmt::Done | Stmt::Fault(_) => push(forms, END),
     }

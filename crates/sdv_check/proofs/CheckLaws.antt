@@ -6,7 +6,7 @@ use Rattle.std.proofs.lemmas.List.{get_or-reverse, length-map, length-reverse}
 use Rattle.std.proofs.lemmas.Option.{slice_get-get_or, slice_get_within, get_or_from_slice_get}
 use Rattle.sdv_graph.specs.Graph.{Graph}
 use Rattle.sdv_graph.specs.Limits.{action_keeps_limits, keeps_limits, all_keep_limits}
-use Rattle.sdv_graph.specs.Path.{Action, Point, sends, phases, lets, tests, flags, heads, jumps, stops}
+use Rattle.sdv_graph.specs.Path.{Action, Point, sends, phases, lets, tests, flags, widths, heads, jumps, stops}
 use Rattle.sdv_card.specs.declared.shape.Shape.{Shape}
 use Rattle.sdv_facts.specs.declared.certificate.PointFacts.{PointFacts as SharedPoint}
 use Rattle.sdv_facts.specs.Facts.{PointFacts}
@@ -79,6 +79,7 @@ flag_small (phases p well other) e = tt
 flag_small (lets l t) e = tt
 flag_small (tests c holds other) e = tt
 flag_small (flags flag on t) e = ltb-true flag 4 e
+flag_small (widths width t) e = tt
 flag_small (heads n body other) e = tt
 flag_small (jumps t) e = tt
 flag_small (stops last) e = tt

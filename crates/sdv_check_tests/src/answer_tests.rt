@@ -65,6 +65,13 @@ const DEVICE_POWER_UP: &str =
 const CAPACITY: &str =
     "if hc { send 8 { clean { recv reg { ok { let cap = ext.blocks } else { fault ext } } } else { fault ext } } } else { let cap = csd.blocks }";
 
+const EIGHT_LINES: &str = "send 6 bus.lines 8 { clean { } else { fault sw } }";
+
+const BUSY: &str = "loop 100 { wait { ok { break } else { } } } else { fault busy }";
+
+const EXT_CSD: &str =
+    "send 8 { clean { recv reg { ok { } else { fault ext } } } else { fault ext } } done";
+
 // A script for an e.MMC device, with a part for CMD3, and what follows CMD16. That begins with point 18.
 fn device_text(alloc: Global, naming: &str, rest: &[&str]) -> Result<String, AllocError> {
     let mut text = String::new(alloc);
@@ -81,7 +88,7 @@ fn device_text(alloc: Global, naming: &str, rest: &[&str]) -> Result<String, All
 }
 
 // The part for CMD3, what follows CMD16, and the answer.
-static DEVICES: [(&str, &[&str], Answer); 9] = [
+static DEVICES: [(&str, &[&str], Answer); 12] = [
     (NAMING, &[CAPACITY, "done"], Ok(1007)),
     // the CSD of a device with block addresses does not tell its capacity
     (
@@ -154,6 +161,44 @@ static DEVICES: [(&str, &[&str], Answer); 9] = [
             point: 27,
             shape: Shape(0x2804),
         }),
+    ),
+    // eight data lines: the host follows where the status shows no switch error
+    (
+        NAMING,
+        &[
+            CAPACITY,
+            EIGHT_LINES,
+            BUSY,
+            "send 13 { clean & state=tran { bus.lines 8 } else { fault sw } }",
+            EXT_CSD,
+        ],
+        Ok(1010),
+    ),
+    // a status that was lost ends the switch error, and the next one does not show it
+    (
+        NAMING,
+        &[
+            CAPACITY,
+            EIGHT_LINES,
+            BUSY,
+            "send 13 { clean & state=tran { bus.lines 8 } timeout { send 13 { clean & state=tran { bus.lines 8 } else { fault sw } } } else { fault sw } }",
+            EXT_CSD,
+        ],
+        Err(Illegal {
+            point: 38,
+            shape: Shape(0x80_2855),
+        }),
+    ),
+    // what is known of the capacity is that of the user area
+    (
+        NAMING,
+        &[
+            CAPACITY,
+            "send 6 part.access 1 { clean { } else { fault sw } }",
+            BUSY,
+            "send 13 { clean & state=tran { } else { fault sw } } send 17 at by hc 0 { else { fault stop } }",
+        ],
+        Err(Address { point: 33 }),
     ),
 ];
 
@@ -319,7 +364,7 @@ fn bring_ups(rt: HostRuntime) -> Result<(), Fail> {
 }
 
 // What follows where a card has been brought up.
-static RESTS: [(&str, Answer); 45] = [
+static RESTS: [(&str, Answer); 48] = [
     // a range, by a number that is guarded in the loop
     (
         "if cap >= 8 { loop 8 { if pos < 8 { send 17 at by hc pos { clean { } else { fault rd } } recv { ok { } else { fault rd } } let pos = pos + 1 } else { break } } else { } } else { fault small } done",
@@ -566,6 +611,26 @@ static RESTS: [(&str, Answer); 45] = [
     (
         "send 32 at by hc 0 { clean { } else { fault er } } send 13 { clean { } else { fault er } } send 33 at by hc 0 { clean { } else { fault er } } fault stop",
         Ok(2010),
+    ),
+    // four data lines: the host follows the card
+    (
+        "send 55 { app { send 6 bus.lines 4 { clean { bus.lines 4 } else { fault bw } } } else { fault noapp } } send 17 at by hc 0 { clean { recv { ok { } else { fault rd } } } else { fault rd } } done",
+        Ok(2010),
+    ),
+    (
+        "send 55 { app { send 6 bus.lines 4 { clean { } else { fault bw } } } else { fault noapp } } send 17 at by hc 0 { clean { recv { ok { } else { fault rd } } } else { fault rd } } done",
+        Err(Illegal {
+            point: 27,
+            shape: Shape(0x10_2815),
+        }),
+    ),
+    // a card that did not take CMD55 has no CMD6
+    (
+        "send 55 { else { } } send 6 bus.lines 4 { else { fault stop } }",
+        Err(Illegal {
+            point: 23,
+            shape: Shape(0x2804),
+        }),
     ),
 ];
 

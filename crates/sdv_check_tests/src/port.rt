@@ -25,6 +25,8 @@ pub struct PlayPort<'a> {
     pub calls: usize,
     /// How many blocks were sent, and the first byte of the last one.
     pub sent: (usize, u8),
+    /// The data lines of the last phase.
+    pub lines: u8,
 }
 
 impl<'a> PlayPort<'a> {
@@ -33,6 +35,7 @@ impl<'a> PlayPort<'a> {
             plays,
             calls: 0,
             sent: (0, 0),
+            lines: 0,
         }
     }
 
@@ -42,7 +45,8 @@ impl<'a> PlayPort<'a> {
         play
     }
 
-    fn data(&mut self) -> (DataEnd, u8) {
+    fn data(&mut self, lines: u8) -> (DataEnd, u8) {
+        self.lines = lines;
         match self.next() {
             Some(Play::Data(end, byte)) => (end, byte),
             _ => (DataEnd::Cut, 0),
@@ -64,27 +68,27 @@ impl<'a> CardPort for PlayPort<'a> {
         }
     }
 
-    fn data_in(&mut self, blocks: &mut [[u8; 512]]) -> DataEnd {
-        let (end, byte) = self.data();
+    fn data_in(&mut self, lines: u8, blocks: &mut [[u8; 512]]) -> DataEnd {
+        let (end, byte) = self.data(lines);
         for block in blocks.iter_mut() {
             *block = [byte; 512];
         }
         end
     }
 
-    fn data_in_reg(&mut self, bytes: &mut [u8]) -> DataEnd {
-        let (end, byte) = self.data();
+    fn data_in_reg(&mut self, lines: u8, bytes: &mut [u8]) -> DataEnd {
+        let (end, byte) = self.data(lines);
         for place in bytes.iter_mut() {
             *place = byte;
         }
         end
     }
 
-    fn data_out(&mut self, blocks: &[[u8; 512]]) -> DataEnd {
+    fn data_out(&mut self, lines: u8, blocks: &[[u8; 512]]) -> DataEnd {
         for block in blocks {
             self.sent = (self.sent.0.saturating_add(1), block[0]);
         }
-        self.data().0
+        self.data(lines).0
     }
 
     fn wait(&mut self) -> WaitEnd {

@@ -91,7 +91,7 @@ const CARD_OF_LATER: [Play; 7] = [
 ];
 
 // Scripts, what is played to them, their ends, their calls, their traces, and how many bytes are put out.
-static RUNS: [(&str, &[Play], &str, usize, &str, usize); 21] = [
+static RUNS: [(&str, &[Play], &str, usize, &str, usize); 23] = [
     (
         BRING_UP,
         &CARD,
@@ -272,6 +272,31 @@ CMD3 00000000 R6 12340500
         "CMD51 00000000 R1 00000920\nREG 8 cut\nfault scr\n",
         0,
     ),
+    // data lines: a host's own change has no line in the trace
+    (
+        "card sd send 6 bus.lines 4 { answer { bus.lines 4 } else { } } send 17 at block 0 { else { } } recv { ok { } else { fault rd } } done",
+        &[
+            Play::R1(6, 0x920),
+            Play::R1(17, 0x900),
+            Play::Data(DataEnd::Ok, 0),
+        ],
+        "DONE",
+        3,
+        "CMD6 00000002 R1 00000920\nCMD17 00000000 R1 00000900\nIN 1 ok\ndone\n",
+        512,
+    ),
+    (
+        "card emmc send 6 part.access 2 { clean { bus.lines 8 } else { fault sw } } send 8 { else { } } recv reg { ok { } else { fault ext } } done",
+        &[
+            Play::R1(6, 0x900),
+            Play::R1(8, 0x900),
+            Play::Data(DataEnd::Ok, 0),
+        ],
+        "DONE",
+        3,
+        "CMD6 03b30200 R1 00000900\nCMD8 00000000 R1 00000900\nREG 512 ok\ndone\n",
+        0,
+    ),
     // the first of two cases that both hold
     (
         "card sd send 16 { answer { fault first } clean { fault second } else { } } done",
@@ -320,6 +345,43 @@ fn runs(rt: HostRuntime) -> Result<(), Fail> {
         assert_eq!(rt; str::from_utf8(&trace)?, lines, "{text}");
     }
     Ok(())
+}
+
+// Scripts that end with a phase, what is played to them, and the data lines of the phase.
+static LINES: [(&str, &[Play], u8); 4] = [
+    (
+        "card sd send 17 at block 2 { else { } } recv { ok { } else { } } done",
+        &COPIED,
+        1,
+    ),
+    (
+        "card sd bus.lines 4 send 17 at block 2 { else { } } recv { ok { } else { } } done",
+        &COPIED,
+        4,
+    ),
+    // CMD0 leaves the host's lines
+    (
+        "card emmc bus.lines 8 send 0 { else { } } recv reg { ok { } else { } } done",
+        &[Play::Answer(Answer::Sent), Play::Data(DataEnd::Ok, 0)],
+        8,
+    ),
+    (
+        "card emmc bus.lines 8 bus.lines 4 give { ok { } else { } } done",
+        &[Play::Data(DataEnd::Ok, 0)],
+        4,
+    ),
+];
+
+#[test]
+fn lines_of_phases(rt: HostRuntime) {
+    let alloc = rt.alloc();
+    for &(text, plays, lines) in LINES.iter() {
+        let mut port = PlayPort::new(plays);
+        let (mut out, mut trace) = (Vec::new(alloc), Vec::new(alloc));
+        let result = played(&rt, alloc, text, &mut port, &[], &mut out, &mut trace);
+        assert_eq!(rt; name_of(&result), "DONE", "{text}");
+        assert_eq!(rt; port.lines, lines, "{text}");
+    }
 }
 
 #[test]
@@ -406,7 +468,7 @@ fn is_taken(rt: &impl Abort, alloc: Global, text: &str, answer: Answer) -> Optio
 
 const COPY: &str = "card sd send 17 at block 2 { else { } } recv { ok { } else { fault rd } } done";
 
-static COPIED: [Play; 2] = [Play::R1(17, 0x900), Play::Data(DataEnd::Ok, 0x5a)];
+const COPIED: [Play; 2] = [Play::R1(17, 0x900), Play::Data(DataEnd::Ok, 0x5a)];
 
 // A run with room for so many bytes of output and trace: its end, its calls, and how many bytes were taken.
 fn copy_into(

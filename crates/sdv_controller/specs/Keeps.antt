@@ -81,12 +81,12 @@ steps_keep steps card keeps s s' k (SendCommand ask position argument) c h (Regi
     absurd x
 steps_keep steps card keeps s s' k (SendCommand ask position argument) c h (BlocksOut end) shown fine x = absurd x
 steps_keep steps card keeps s s' k (SendCommand ask position argument) c h (Waited end) shown fine x = absurd x
-steps_keep steps card keeps s s' k (ReceiveBlocks count) c h returned shown fine x =
-    keeps s s' k (ReceiveBlocks count) c h shown fine returned x
-steps_keep steps card keeps s s' k (ReceiveRegister count) c h returned shown fine x =
-    keeps s s' k (ReceiveRegister count) c h shown fine returned x
-steps_keep steps card keeps s s' k (GiveBlocks blocks) c h returned shown fine x =
-    keeps s s' k (GiveBlocks blocks) c h shown fine returned x
+steps_keep steps card keeps s s' k (ReceiveBlocks lines count) c h returned shown fine x =
+    keeps s s' k (ReceiveBlocks lines count) c h shown fine returned x
+steps_keep steps card keeps s s' k (ReceiveRegister lines count) c h returned shown fine x =
+    keeps s s' k (ReceiveRegister lines count) c h shown fine returned x
+steps_keep steps card keeps s s' k (GiveBlocks lines blocks) c h returned shown fine x =
+    keeps s s' k (GiveBlocks lines blocks) c h shown fine returned x
 steps_keep steps card keeps s s' k AwaitReady c h returned shown fine x =
     keeps s s' k AwaitReady c h shown fine returned x
 

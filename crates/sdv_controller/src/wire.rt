@@ -33,19 +33,21 @@ pub trait Wire {
     fn transfer(&mut self, frame: &[u8; 6], response: &mut [u8; 17]) -> WireEnd
         ensures { steps self.old (Transfer frame.now) (Transferred result response.new) self.new };
 
-    /// Receives as many blocks as there is room for. Where the phase is cut, the blocks hold anything.
-    fn data_in(&mut self, blocks: &mut [[u8; 512]]) -> DataEnd
-        ensures { steps self.old (OtherCall (DataIn (length blocks.old)))
+    /// Receives as many blocks as there is room for, over 1, 4 or 8 data lines. Where the phase is cut, the blocks hold
+    /// anything.
+    fn data_in(&mut self, lines: u8, blocks: &mut [[u8; 512]]) -> DataEnd
+        ensures { steps self.old (OtherCall (DataIn lines (length blocks.old)))
             (OtherReturn (BlocksIn result blocks.new)) self.new };
 
-    /// Receives as many bytes of a register as there is room for. Where the phase is cut, the bytes are anything.
-    fn data_in_reg(&mut self, bytes: &mut [u8]) -> DataEnd
-        ensures { steps self.old (OtherCall (DataInRegister (length bytes.old)))
+    /// Receives as many bytes of a register as there is room for, over 1, 4 or 8 data lines. Where the phase is cut,
+    /// the bytes are anything.
+    fn data_in_reg(&mut self, lines: u8, bytes: &mut [u8]) -> DataEnd
+        ensures { steps self.old (OtherCall (DataInRegister lines (length bytes.old)))
             (OtherReturn (RegisterIn result bytes.new)) self.new };
 
-    /// Sends blocks.
-    fn data_out(&mut self, blocks: &[[u8; 512]]) -> DataEnd
-        ensures { steps self.old (OtherCall (DataOut blocks.now)) (OtherReturn (BlocksOut result)) self.new };
+    /// Sends blocks over 1, 4 or 8 data lines.
+    fn data_out(&mut self, lines: u8, blocks: &[[u8; 512]]) -> DataEnd
+        ensures { steps self.old (OtherCall (DataOut lines blocks.now)) (OtherReturn (BlocksOut result)) self.new };
 
     /// Waits while the card is busy.
     fn wait(&mut self) -> WaitEnd

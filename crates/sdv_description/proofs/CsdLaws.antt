@@ -1,12 +1,13 @@
--- The fields of a described CSD, and SEC_COUNT of a described EXT_CSD, read as they were set.
+-- The fields of a described CSD, and SEC_COUNT and BOOT_SIZE_MULT of a described EXT_CSD, read as they were set.
 use Rattle.std.proofs.Common.{◌≡◌, ℕ, zero, suc, ◌/◌, ◌%◌, ◌^◌, ◌<◌, ◌≤◌, List, [], ◌∷◌, refl, ap, ◌∙◌, arith, lit<, lit≤}
 use Rattle.byteorder.specs.Endian.{big_from}
 use Rattle.sdv_frames.specs.Bits.{bits, bits_of, number_of}
 use Rattle.sdv_frames.proofs.BitLaws.{number_of-bits}
 use Rattle.sdv_registers.specs.Csd.{csd_structure, read_bl_len, c_size, c_size_mult}
 use Rattle.sdv_registers.specs.declared.csd.CsdLayout.TheVariants.{Version1, Version2}
-use Rattle.sdv_registers.specs.ExtCsd.{sec_count}
+use Rattle.sdv_registers.specs.ExtCsd.{sec_count, boot_size_mult}
 use Rattle.sdv_registers.proofs.ByteLaws.{AreBytes, field-bytes, bits_of-big}
+use Rattle.sdv_card.specs.declared.state.Mode.{Mode}
 use Rattle.sdv_description.specs.declared.description.Size.{Size}
 use Rattle.sdv_description.specs.Registers.{byte_csd, block_csd, ext_csd_of}
 
@@ -93,8 +94,20 @@ four_bytes n fits (suc (suc zero)) = omega arith
 four_bytes n fits (suc (suc (suc zero))) = omega arith
 four_bytes n fits (suc (suc (suc (suc k)))) = lit< tt
 
-pub sectors_read : (n : ℕ) → n < 2 ^ 32 → sec_count (ext_csd_of n) ≡ n
+pub sectors_read : (mode : Mode) (n boot : ℕ) → n < 2 ^ 32 → sec_count (ext_csd_of mode n boot) ≡ n
 unfolding ext_csd_of
-sectors_read n fits =
+sectors_read mode n boot fits =
     let spelled : bits_of (high_first n) ≡ bits 32 (big_from 0 4 (high_first n)) = bits_of-big 0 4 (high_first n) (four_bytes n fits) (lit≤ tt) in
     ap number_of spelled ∙ (number_of-bits 32 (big_from 0 4 (high_first n)) ∙ omega (arith, fits))
+
+-- BOOT_SIZE_MULT
+
+one_byte : (n : ℕ) → n < 256 → AreBytes (n ∷ [])
+one_byte n fits zero = fits
+one_byte n fits (suc k) = lit< tt
+
+pub boot_read : (mode : Mode) (sectors n : ℕ) → n < 256 → boot_size_mult (ext_csd_of mode sectors n) ≡ n
+unfolding ext_csd_of
+boot_read mode sectors n fits =
+    let spelled : bits_of (n ∷ []) ≡ bits 8 (big_from 0 1 (n ∷ [])) = bits_of-big 0 1 (n ∷ []) (one_byte n fits) (lit≤ tt) in
+    ap number_of spelled ∙ (number_of-bits 8 (big_from 0 1 (n ∷ [])) ∙ omega (arith, fits))

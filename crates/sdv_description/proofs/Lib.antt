@@ -4,3 +4,4 @@ pub mod ReadLaws
 pub mod CsdLaws
 pub mod DescribedLaws
 pub mod Described
+pub mod LayoutLaws

@@ -1,5 +1,5 @@
 -- What is read of a text is what it says by its grammar, and what it says is read.
-use Rattle.std.proofs.Common.{◌≡◌, ℕ, ◌≤◌, true, ◌&&◌, ◌||◌, ◌==◌, nat_le, List, [], ◌∷◌, ◌++◌, Option, Some, None, refl, sym, ap, subst, ◌∙◌, arith, lit≤}
+use Rattle.std.proofs.Common.{◌≡◌, ℕ, ◌≤◌, inl, inr, true, false, ◌&&◌, ◌||◌, ◌==◌, nat_le, List, [], ◌∷◌, ◌++◌, Option, Some, None, refl, sym, ap, subst, ◌∙◌, arith, lit≤}
 use Rattle.std.specs.Prelude.{codes}
 use Rattle.std.proofs.lemmas.Bool.{and_parts, le-leb, leb-true, eqb-true}
 use Rattle.std.proofs.lemmas.Bool.Decides.{nat_tests}
@@ -8,8 +8,8 @@ use Rattle.sdv_text.specs.Fronts.{◌>>=◌}
 use Rattle.sdv_description.specs.declared.description.Size.{Size}
 use Rattle.sdv_description.specs.declared.description.Description.{Description}
 use Rattle.sdv_description.specs.declared.description.Description.TheVariants.{SdBytes, SdBlocks, EmmcBytes, EmmcBlocks}
-use Rattle.sdv_description.specs.Grammar.{Line, Number, NumberLine, HasLines, size_lines, lines_of, size_fits, rca_fits, IsTextOf}
-use Rattle.sdv_description.specs.Reading.{or_else, read_line, read_number, read_size, read_rca, read_sd_bytes, read_sd_blocks, read_sd, read_emmc_bytes, read_emmc_blocks, read_emmc, read_description, is_end}
+use Rattle.sdv_description.specs.Grammar.{Line, Number, Optional, NumberLine, HasLines, size_lines, lines_of, size_fits, rca_fits, boot_fits, IsTextOf}
+use Rattle.sdv_description.specs.Reading.{or_else, read_line, read_number, read_size, read_rca, read_sd_bytes, read_sd_blocks, read_sd, read_boot, read_emmc_bytes, read_emmc_blocks, read_emmc, read_description, is_end}
 use Rattle.sdv_description.proofs.Lines.{ends, line_takes, line_again}
 use Rattle.sdv_description.proofs.Numbers.{number_takes, number_small, number_again}
 
@@ -137,6 +137,28 @@ sd_takes bs text read whole e =
         sd_bytes_takes version bs behind read
         (subst (λ (l : List ℕ). NumberLine (codes "version") version bs l) (sym (line_takes (codes "unit byte") rest behind u)) line) e text whole
 
+-- BOOT PARTITIONS: their line may be absent
+
+pub boot_takes : (bs : List ℕ) (boot : ℕ) → read_boot bs ≡ Some boot → (boot_fits boot ≡ true) × HasLines (Optional (codes "boot") boot ∷ []) bs
+unfolding read_boot
+boot_takes [] boot e = subst (λ (n : ℕ). (boot_fits n ≡ true) × HasLines (Optional (codes "boot") n ∷ []) []) (some_is 0 boot e) (refl, inr (refl, refl))
+boot_takes (b ∷ bs) boot e =
+    let p = bind_some (read_number (codes "boot ") (b ∷ bs)) _ boot e in
+    let t = tested (nat_le p.0.0 255 && is_end p.0.1) (Some p.0.0) boot p.2 in
+    let parts = and_parts (nat_le p.0.0 255) (is_end p.0.1) t.0 in
+    subst (λ (n : ℕ). (boot_fits n ≡ true) × HasLines (Optional (codes "boot") n ∷ []) (b ∷ bs)) (some_is p.0.0 boot t.1)
+    (parts.0, inl (p.0.1, number_takes (codes "boot") (b ∷ bs) p.0 p.1, ends p.0.1 parts.1))
+
+pub boot_again : (bs : List ℕ) (boot : ℕ) → boot_fits boot ≡ true → HasLines (Optional (codes "boot") boot ∷ []) bs → read_boot bs ≡ Some boot
+unfolding read_boot
+boot_again bs boot fits (inl (rest, line, end)) =
+    let h : boot ≤ 255 = leb-true _ _ fits in
+    let line_end : NumberLine (codes "boot") boot bs [] = subst (λ (l : List ℕ). NumberLine (codes "boot") boot bs l) (sym end) line in
+    let some : is_end bs ≡ false = sym (ap is_end line.same) in
+    let e : read_number (codes "boot ") bs ≡ Some (boot, []) = number_again (codes "boot") bs [] boot (omega arith) line_end in
+    rw (some, e, fits) refl
+boot_again bs boot fits (inr (none, end)) = rw (sym end, none) refl
+
 -- E.MMC DEVICES
 
 emmc_bytes_takes : (bs all text : List ℕ) (read : Description) → codes "card emmc" ++ 10 ∷ all ≡ text → codes "unit byte" ++ 10 ∷ bs ≡ all →
@@ -144,22 +166,26 @@ emmc_bytes_takes : (bs all text : List ℕ) (read : Description) → codes "card
 unfolding read_emmc_bytes
 emmc_bytes_takes bs all text read whole unit e =
     let p = bind_some (read_size bs) _ read e in
-    let t = tested (is_end p.0.1) (Some (EmmcBytes p.0.0)) read p.2 in
-    let size = size_takes bs p.0.1 p.0.0 [] p.1 (ends p.0.1 t.0) in
-    subst (λ (d : Description). IsTextOf d text) (some_is (EmmcBytes p.0.0) read t.1) (record { lines = (all, whole, (bs, unit, size.1)); ranges = size.0 })
+    let q = bind_some (read_boot p.0.1) _ read p.2 in
+    let boot = boot_takes p.0.1 q.0 q.1 in
+    let size = size_takes bs p.0.1 p.0.0 (Optional (codes "boot") q.0 ∷ []) p.1 boot.1 in
+    subst (λ (d : Description). IsTextOf d text) (some_is (EmmcBytes p.0.0 q.0) read q.2)
+    (record { lines = (all, whole, (bs, unit, size.1)); ranges = both (size_fits p.0.0) (boot_fits q.0) size.0 boot.0 })
 
 emmc_blocks_takes : (bs all text : List ℕ) (read : Description) → codes "card emmc" ++ 10 ∷ all ≡ text → codes "unit block" ++ 10 ∷ bs ≡ all →
     read_emmc_blocks bs ≡ Some read → IsTextOf read text
 unfolding read_emmc_blocks
 emmc_blocks_takes bs all text read whole unit e =
     let p = bind_some (read_number (codes "sectors ") bs) _ read e in
-    let t = tested (nat_le 1 p.0.0 && is_end p.0.1) (Some (EmmcBlocks p.0.0)) read p.2 in
-    let parts = and_parts (nat_le 1 p.0.0) (is_end p.0.1) t.0 in
+    let q = bind_some (read_boot p.0.1) _ read p.2 in
+    let t = tested (nat_le 1 p.0.0) (Some (EmmcBlocks p.0.0 q.0)) read q.2 in
+    let boot = boot_takes p.0.1 q.0 q.1 in
     let small : p.0.0 ≤ 4294967295 = number_small (codes "sectors ") bs p.0 p.1 in
-    subst (λ (d : Description). IsTextOf d text) (some_is (EmmcBlocks p.0.0) read t.1)
+    subst (λ (d : Description). IsTextOf d text) (some_is (EmmcBlocks p.0.0 q.0) read t.1)
     (record {
-      lines = (all, whole, (bs, unit, (p.0.1, number_takes (codes "sectors") bs p.0 p.1, ends p.0.1 parts.1)));
-      ranges = both (nat_le 1 p.0.0) (nat_le p.0.0 4294967295) parts.0 (le-leb p.0.0 4294967295 small);
+      lines = (all, whole, (bs, unit, (p.0.1, number_takes (codes "sectors") bs p.0 p.1, boot.1)));
+      ranges = both (nat_le 1 p.0.0 && nat_le p.0.0 4294967295) (boot_fits q.0)
+          (both (nat_le 1 p.0.0) (nat_le p.0.0 4294967295) t.0 (le-leb p.0.0 4294967295 small)) boot.0;
     })
 
 emmc_takes : (bs text : List ℕ) (read : Description) → codes "card emmc" ++ 10 ∷ bs ≡ text → read_emmc bs ≡ Some read → IsTextOf read text
@@ -237,25 +263,28 @@ said_is_read text (SdBlocks c_size rca) said = go said.lines
         let e3 : read_line (codes "unit block") b ≡ Some c = line_again (codes "unit block") b c unit in
         let e4 : read_sd_blocks 2 c ≡ Some (SdBlocks c_size rca) = sd_blocks_again c_size rca c d p.0 p.1 size more in
         rw (e0, e1, e2, e3, e4) refl
-said_is_read text (EmmcBytes size) said = go said.lines
+said_is_read text (EmmcBytes size boot) said = go said.lines
   where
-    go : HasLines (lines_of (EmmcBytes size)) text → read_description text ≡ Some (EmmcBytes size)
+    go : HasLines (lines_of (EmmcBytes size boot)) text → read_description text ≡ Some (EmmcBytes size boot)
     go (a, card, (b, unit, more)) =
-        let s = size_again b size [] said.ranges more in
+        let p = and_parts (size_fits size) (boot_fits boot) said.ranges in
+        let s = size_again b size (Optional (codes "boot") boot ∷ []) p.0 more in
         let e0 : read_line (codes "card sd") text ≡ None = not_line (codes "card sd") (codes "card emmc") text a refl card in
         let e1 : read_line (codes "card emmc") text ≡ Some a = line_again (codes "card emmc") text a card in
         let e2 : read_line (codes "unit byte") a ≡ Some b = line_again (codes "unit byte") a b unit in
-        let e3 : read_size b ≡ Some (size, []) = subst (λ (l : List ℕ). read_size b ≡ Some (size, l)) (sym s.more) s.read in
-        rw (e0, e1, e2, e3) refl
-said_is_read text (EmmcBlocks sectors) said = go said.lines
+        let e3 : read_size b ≡ Some (size, s.rest) = s.read in
+        let e4 : read_boot s.rest ≡ Some boot = boot_again s.rest boot p.1 s.more in
+        rw (e0, e1, e2, e3, e4) refl
+said_is_read text (EmmcBlocks sectors boot) said = go said.lines
   where
-    go : HasLines (lines_of (EmmcBlocks sectors)) text → read_description text ≡ Some (EmmcBlocks sectors)
-    go (a, card, (b, unit, (c, line, end))) =
-        let p = and_parts (nat_le 1 sectors) (nat_le sectors 4294967295) said.ranges in
+    go : HasLines (lines_of (EmmcBlocks sectors boot)) text → read_description text ≡ Some (EmmcBlocks sectors boot)
+    go (a, card, (b, unit, (c, line, more))) =
+        let q = and_parts (nat_le 1 sectors && nat_le sectors 4294967295) (boot_fits boot) said.ranges in
+        let p = and_parts (nat_le 1 sectors) (nat_le sectors 4294967295) q.0 in
         let e0 : read_line (codes "card sd") text ≡ None = not_line (codes "card sd") (codes "card emmc") text a refl card in
         let e1 : read_line (codes "card emmc") text ≡ Some a = line_again (codes "card emmc") text a card in
         let e2 : read_line (codes "unit byte") a ≡ None = not_line (codes "unit byte") (codes "unit block") a b refl unit in
         let e3 : read_line (codes "unit block") a ≡ Some b = line_again (codes "unit block") a b unit in
-        let here : NumberLine (codes "sectors") sectors b [] = subst (λ (l : List ℕ). NumberLine (codes "sectors") sectors b l) (sym end) line in
-        let e4 : read_number (codes "sectors ") b ≡ Some (sectors, []) = number_again (codes "sectors") b [] sectors (leb-true _ _ p.1) here in
-        rw (e0, e1, e2, e3, e4, p.0) refl
+        let e4 : read_number (codes "sectors ") b ≡ Some (sectors, c) = number_again (codes "sectors") b c sectors (leb-true _ _ p.1) line in
+        let e5 : read_boot c ≡ Some boot = boot_again c boot q.1 more in
+        rw (e0, e1, e2, e3, e4, e5, p.0) refl

@@ -17,6 +17,7 @@ parts d =
       capacity = d.capacity;
       csd = d.csd;
       sectors = d.sectors;
+      boot_size_mult = d.boot_size_mult;
       block_length = d.block_length;
       rca = d.rca;
     }

@@ -72,12 +72,22 @@ read_sd bs =
     or_else (read_line (codes "unit byte") a.1) (read_sd_bytes a.0)
     (read_line (codes "unit block") a.1 >>= read_sd_blocks a.0)
 
+abbrev pub boot_if : ℕ → List ℕ → Option ℕ
+boot_if boot rest = if nat_le boot 255 && is_end rest then Some boot else None
+
+-- the last line of an e.MMC device, which may be absent
+unfoldable pub read_boot : List ℕ → Option ℕ
+read_boot bs = if is_end bs then Some 0 else (read_number (codes "boot ") bs >>= λ a. boot_if a.0 a.1)
+
 unfoldable pub read_emmc_bytes : List ℕ → Option Description
-read_emmc_bytes bs = read_size bs >>= λ a. if is_end a.1 then Some (EmmcBytes a.0) else None
+read_emmc_bytes bs = read_size bs >>= λ a. read_boot a.1 >>= λ boot. Some (EmmcBytes a.0 boot)
+
+abbrev pub emmc_blocks_if : (sectors boot : ℕ) → Option Description
+emmc_blocks_if sectors boot = if nat_le 1 sectors then Some (EmmcBlocks sectors boot) else None
 
 unfoldable pub read_emmc_blocks : List ℕ → Option Description
 read_emmc_blocks bs =
-    read_number (codes "sectors ") bs >>= λ a. if nat_le 1 a.0 && is_end a.1 then Some (EmmcBlocks a.0) else None
+    read_number (codes "sectors ") bs >>= λ a. read_boot a.1 >>= λ boot. emmc_blocks_if a.0 boot
 
 unfoldable pub read_emmc : List ℕ → Option Description
 read_emmc bs =

@@ -1,10 +1,12 @@
 -- The registers of a card that is described: the CSD has the fields that tell the capacity, and all else is 0; the
--- other registers but SEC_COUNT are the same for all cards of a kind. SD Physical Layer Simplified Specification,
--- sections 5.2 (CID), 5.3 (CSD), 5.6 (SCR) and 4.10.2 (SD status); JESD84-B51, sections 7.2 (CID), 7.3 (CSD) and 7.4
--- (extended CSD). What they hold is this project's own.
+-- EXT_CSD tells the sizes of a device and what CMD6 set; the others are the same for all cards of a kind. SD Physical
+-- Layer Simplified Specification, sections 5.2 (CID), 5.3 (CSD), 5.6 (SCR) and 4.10.2 (SD status); JESD84-B51, sections
+-- 7.2 (CID), 7.3 (CSD) and 7.4 (extended CSD). What they hold is this project's own.
 use Rattle.std.specs.Prelude.{ℕ, ◌+◌, ◌-◌, ◌*◌, ◌/◌, ◌%◌, ◌^◌, List, [], ◌∷◌, ◌++◌, replicate}
 use Rattle.sdv_registers.specs.declared.kind.Kind.{Kind}
 use Rattle.sdv_registers.specs.declared.kind.Kind.TheVariants.{Sd, Emmc}
+use Rattle.sdv_card.specs.declared.state.Mode.{Mode}
+use Rattle.sdv_card.specs.Modes.{width_number, partition_number}
 use Rattle.sdv_description.specs.declared.description.Size.{Size}
 
 -- CSD: bits 127..8, the highest byte first
@@ -36,8 +38,11 @@ scr = 0x02 ∷ 0x05 ∷ 0x00 ∷ 0x00 ∷ 0x00 ∷ 0x00 ∷ 0x00 ∷ 0x00 ∷ []
 unfoldable pub sd_status : List ℕ
 sd_status = replicate 64 0
 
--- all zeros but SEC_COUNT, bytes 212 to 215, whose lowest byte comes first
-unfoldable pub ext_csd_of : (sectors : ℕ) → List ℕ
-ext_csd_of sectors =
-    replicate 212 0 ++ (sectors % 256 ∷ sectors / 256 % 256 ∷ sectors / 65536 % 256 ∷ sectors / 16777216 ∷ [])
-    ++ replicate 296 0
+-- The EXT_CSD of a device in a mode: all zeros but the partition in access (byte 179), the width (183), SEC_COUNT (212
+-- to 215, its lowest byte first) and BOOT_SIZE_MULT (226).
+unfoldable pub ext_csd_of : Mode → (sectors boot_size_mult : ℕ) → List ℕ
+ext_csd_of mode sectors boot_size_mult =
+    replicate 179 0 ++ partition_number mode.partition
+    ∷ (replicate 3 0 ++ width_number mode.width
+    ∷ (replicate 28 0 ++ sectors % 256 ∷ sectors / 256 % 256 ∷ sectors / 65536 % 256 ∷ sectors / 16777216
+    ∷ (replicate 10 0 ++ boot_size_mult ∷ replicate 285 0)))

@@ -14,15 +14,18 @@ pub struct CardDesc {
     pub version: u8,
     /// Addresses count blocks, and not bytes.
     pub block_unit: bool,
-    /// The blocks of 512 bytes that it has.
+    /// The blocks of 512 bytes that its user area has.
     pub capacity: u64,
     /// Bits 127..8 of the CSD, the highest byte first.
     pub csd: [u8; 15],
     /// SEC_COUNT of the EXT_CSD.
     pub sectors: u32,
+    /// BOOT_SIZE_MULT of the EXT_CSD: each boot partition has 256 times as many blocks, and an SD card has none.
+    pub boot_size_mult: u8,
     /// The block length at the start and after CMD0, in bytes.
     pub block_length: u16,
     /// The relative card address: the one that an SD card publishes, or the one that an e.MMC device is given.
     pub rca: u16,
-    ghost described: { IsTrue (is_described kind version block_unit capacity csd sectors block_length rca) },
+    ghost described: { IsTrue
+        (is_described kind version block_unit capacity csd sectors boot_size_mult block_length rca) },
 }

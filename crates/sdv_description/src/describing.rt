@@ -41,11 +41,11 @@ impl CardDesc {
         match read {
             Description::SdBytes { version, size, rca } => Ok(sd_bytes(version, size, rca)),
             Description::SdBlocks { c_size, rca } => Ok(sd_blocks(c_size, rca)),
-            Description::EmmcBytes { size } if size_blocks(size) > 4_194_304 => Err(
+            Description::EmmcBytes { size, .. } if size_blocks(size) > 4_194_304 => Err(
                 SimFault::Capacity,
             ),
-            Description::EmmcBytes { size } => Ok(emmc_bytes(size)),
-            Description::EmmcBlocks { sectors } => Ok(emmc_blocks(sectors)),
+            Description::EmmcBytes { size, boot } => Ok(emmc_bytes(size, boot)),
+            Description::EmmcBlocks { sectors, boot } => Ok(emmc_blocks(sectors, boot)),
         }
     }
 }
@@ -62,6 +62,7 @@ fn sd_bytes(version: u8, size: Size, rca: u16) -> CardDesc
         capacity: size_blocks(size),
         csd: byte_csd(size),
         sectors: 0,
+        boot_size_mult: 0,
         block_length: 1 << size.read_bl_len,
         rca,
     }
@@ -79,16 +80,17 @@ fn sd_blocks(c_size: u32, rca: u16) -> CardDesc
         capacity: (u64::from(c_size) + 1) * 1024,
         csd: block_csd(c_size),
         sectors: 0,
+        boot_size_mult: 0,
         block_length: 512,
         rca,
     }
 }
 
 /// An e.MMC device with byte addresses.
-fn emmc_bytes(size: Size) -> CardDesc
-    requires ranges { IsTrue (in_ranges (Description.EmmcBytes size)) }
-    requires capacity { within_capacity (Description.EmmcBytes size) ≡ true }
-    ensures { parts result ≡ parts_of (Description.EmmcBytes size) }
+fn emmc_bytes(size: Size, boot: u8) -> CardDesc
+    requires ranges { IsTrue (in_ranges (Description.EmmcBytes size boot)) }
+    requires capacity { within_capacity (Description.EmmcBytes size boot) ≡ true }
+    ensures { parts result ≡ parts_of (Description.EmmcBytes size boot) }
 {
     CardDesc {
         kind: Kind::Emmc,
@@ -97,15 +99,16 @@ fn emmc_bytes(size: Size) -> CardDesc
         capacity: size_blocks(size),
         csd: byte_csd(size),
         sectors: 0,
+        boot_size_mult: boot,
         block_length: 1 << size.read_bl_len,
         rca: 1,
     }
 }
 
 /// An e.MMC device with block addresses.
-fn emmc_blocks(sectors: u32) -> CardDesc
-    requires { IsTrue (in_ranges (Description.EmmcBlocks sectors)) }
-    ensures { parts result ≡ parts_of (Description.EmmcBlocks sectors) }
+fn emmc_blocks(sectors: u32, boot: u8) -> CardDesc
+    requires { IsTrue (in_ranges (Description.EmmcBlocks sectors boot)) }
+    ensures { parts result ≡ parts_of (Description.EmmcBlocks sectors boot) }
 {
     CardDesc {
         kind: Kind::Emmc,
@@ -118,6 +121,7 @@ fn emmc_blocks(sectors: u32) -> CardDesc
             read_bl_len: 9,
         }),
         sectors,
+        boot_size_mult: boot,
         block_length: 512,
         rca: 1,
     }

@@ -34,10 +34,14 @@ pub enum Description {
     EmmcBytes {
         /// Its size.
         size: Size,
+        /// BOOT_SIZE_MULT, 0 where its line is absent.
+        boot: u8,
     },
     /// An e.MMC device with block addresses.
     EmmcBlocks {
-        /// SEC_COUNT: its blocks, not 0.
+        /// SEC_COUNT: the blocks of its user area, not 0.
         sectors: u32,
+        /// BOOT_SIZE_MULT, 0 where its line is absent.
+        boot: u8,
     },
 }

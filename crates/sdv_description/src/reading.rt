@@ -3,7 +3,7 @@
 ghost use Rattle.std.specs.Prelude.{◌≡◌, ◌^◌, ◌++◌, ◌∷◌, [], length, min, option_map};
 ghost use Rattle.sdv_text.specs.Fronts.{after, is_digit, run, number_after};
 ghost use Rattle.sdv_description.specs.Grammar.{size_fits};
-ghost use Rattle.sdv_description.specs.Reading.{read_line, read_figure, read_number, read_size, read_rca, read_sd, read_sd_bytes, read_sd_blocks, read_emmc, read_emmc_bytes, read_emmc_blocks, read_description};
+ghost use Rattle.sdv_description.specs.Reading.{read_line, read_figure, read_number, read_size, read_rca, read_sd, read_sd_bytes, read_sd_blocks, read_emmc, read_boot, read_emmc_bytes, read_emmc_blocks, read_description};
 
 use crate::description::{Description, Size};
 
@@ -154,15 +154,28 @@ fn sd(text: &[u8]) -> Option<Description>
     }
 }
 
+// The last line of an e.MMC device, which may be absent, with nothing behind it.
+#[tactic(auto, unfolding(crate::specs::Reading::read_boot))]
+fn boot(text: &[u8]) -> Option<u8>
+    ensures { result ≡ read_boot text.now }
+{
+    if text.is_empty() {
+        return Some(0);
+    }
+    let (boot, rest) = number(text, b"boot ")?;
+    if boot > 255 || !rest.is_empty() {
+        return None;
+    }
+    Some(boot as u8)
+}
+
 #[tactic(auto, unfolding(crate::specs::Reading::read_emmc_bytes))]
 fn emmc_bytes(text: &[u8]) -> Option<Description>
     ensures { result ≡ read_emmc_bytes text.now }
 {
     let (size, rest) = size(text)?;
-    if !rest.is_empty() {
-        return None;
-    }
-    Some(Description::EmmcBytes { size })
+    let boot = boot(rest)?;
+    Some(Description::EmmcBytes { size, boot })
 }
 
 #[tactic(auto, unfolding(crate::specs::Reading::read_emmc_blocks))]
@@ -170,10 +183,11 @@ fn emmc_blocks(text: &[u8]) -> Option<Description>
     ensures { result ≡ read_emmc_blocks text.now }
 {
     let (sectors, rest) = number(text, b"sectors ")?;
-    if sectors == 0 || !rest.is_empty() {
+    let boot = boot(rest)?;
+    if sectors == 0 {
         return None;
     }
-    Some(Description::EmmcBlocks { sectors })
+    Some(Description::EmmcBlocks { sectors, boot })
 }
 
 #[tactic(auto, unfolding(crate::specs::Reading::read_emmc))]

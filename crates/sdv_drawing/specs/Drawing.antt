@@ -2,7 +2,7 @@
 -- edge, point by point in the order of the edges of each.
 use Rattle.std.specs.Prelude.{ℕ, suc, List, [], ◌∷◌, ◌++◌, flat_map, Bool, true, false, ◌==◌, ◌||◌, nat_lt, nat_le, length, Option, Some, codes, decimal, if◌then◌else◌}
 use Rattle.sdv_graph.specs.declared.graph.Target.{Target}
-use Rattle.sdv_graph.specs.Path.{Case, Action, Point, sends, phases, lets, tests, flags, heads, jumps, stops}
+use Rattle.sdv_graph.specs.Path.{Case, Action, Point, sends, phases, lets, tests, flags, widths, heads, jumps, stops}
 use Rattle.sdv_certify.specs.declared.fault.CertifyFault.{CertifyFault}
 use Rattle.sdv_certify.specs.declared.fault.CertifyFault.TheVariants.{Illegal, Address, EndState}
 use Rattle.sdv_explain.specs.declared.heading.Heading.{Heading}
@@ -82,6 +82,7 @@ edge_lines points from (lets l t) = edge_line points from t []
 edge_lines points from (tests c met unmet) =
     edge_line points from met (codes "then") ++ edge_line points from unmet (codes "else")
 edge_lines points from (flags flag on t) = edge_line points from t []
+edge_lines points from (widths width t) = edge_line points from t []
 edge_lines points from (heads count body other) =
     edge_line points from body (codes "turn") ++ edge_line points from other (codes "else")
 edge_lines points from (jumps t) = edge_line points from t []

@@ -111,9 +111,10 @@ fn put_edges_of(
         Action::Phase(_, well, other) => put_both(text, points, from, *well, "ok", *other),
         Action::If(_, met, unmet) => put_both(text, points, from, *met, "then", *unmet),
         Action::Loop(_, body, other) => put_both(text, points, from, *body, "turn", *other),
-        Action::Let(_, target) | Action::Flag(_, _, target) | Action::Break(target) => put_edge(
-            text, points, from, *target, "",
-        ),
+        Action::Let(_, target)
+        | Action::Flag(_, _, target)
+        | Action::Lines(_, target)
+        | Action::Break(target) => put_edge(text, points, from, *target, ""),
         Action::Done | Action::Fault(_) => Ok(()),
     }
 }

@@ -1,18 +1,18 @@
 -- The shape at which a refusal is explained: the one that it names, or else one of the point's shapes for which the
 -- clause that fails is not kept.
-use Rattle.std.specs.Prelude.{◌≡◌, List, [], ◌∷◌, IsTrue, IfSome}
+use Rattle.std.specs.Prelude.{◌≡◌, ◌&&◌, List, [], ◌∷◌, IsTrue, IfSome}
 use Rattle.sdv_card.specs.declared.shape.Shape.{Shape}
 use Rattle.sdv_card.specs.Lists.{May}
 use Rattle.sdv_graph.specs.Path.{Action, sends}
-use Rattle.sdv_facts.specs.AddressFits.{unit_fits}
+use Rattle.sdv_facts.specs.AddressFits.{is_user, unit_fits}
 use Rattle.sdv_facts.specs.Closed.{EndsAt}
 use Rattle.sdv_certify.specs.declared.fault.CertifyFault.{CertifyFault}
 use Rattle.sdv_certify.specs.declared.fault.CertifyFault.TheVariants.{Illegal, Address, EndState, TooMany, Memory}
 use Rattle.sdv_certify.specs.Refusal.{AllEnd}
 
--- a card of the shape counts addresses in the unit of the statement's, if that has one
+-- a card of the shape counts addresses in the unit of the statement's, if that has one, and has the user area in access
 abbrev pub TakesAddress : Action → Shape → Type 0
-TakesAddress (sends c ways other) s = IfSome c.address (λ a. IsTrue (unit_fits (s ∷ []) a.unit))
+TakesAddress (sends c ways other) s = IfSome c.address (λ a. IsTrue (is_user s && unit_fits (s ∷ []) a.unit))
 TakesAddress action s = Unit {0}
 
 abbrev pub AllTake : Action → List Shape → Type 0

@@ -2,6 +2,7 @@
 -- arguments of CMD41 and CMD38.
 use Rattle.std.specs.Prelude.{ℕ, List, [], ◌++◌, Bool, true, false, ◌==◌, ◌||◌, slice_get, Option, Some, None, codes, decimal, if◌then◌else◌}
 use Rattle.std.specs.Borrow.{Bor}
+use Rattle.sdv_card.specs.Modes.{line_count}
 use Rattle.sdv_card.specs.declared.event.Aim.{Aim}
 use Rattle.sdv_card.specs.declared.event.Aim.TheVariants.{Rca, Plain}
 use Rattle.sdv_card.specs.declared.event.Ask.{Ask}
@@ -20,7 +21,7 @@ use Rattle.sdv_graph.specs.declared.tree.Position.{Position}
 use Rattle.sdv_graph.specs.declared.tree.Position.TheVariants.{Number, Variable}
 use Rattle.sdv_graph.specs.declared.tree.Unit.{Unit as AddressUnit}
 use Rattle.sdv_graph.specs.declared.tree.Unit.TheVariants.{Block, Byte, By}
-use Rattle.sdv_graph.specs.Path.{Action, sends, phases, lets, tests, flags, heads, jumps, stops}
+use Rattle.sdv_graph.specs.Path.{Action, sends, phases, lets, tests, flags, widths, heads, jumps, stops}
 use Rattle.sdv_graph.specs.Walk.{Ending, Failed}
 use Rattle.sdv_explain.specs.declared.outline.Outline.{Outline}
 
@@ -76,9 +77,23 @@ has_count index = (index == 18) || ((index == 23) || (index == 25))
 abbrev pub count_words : Ask → Text
 count_words ask = if has_count ask.index then codes " count " ++ decimal ask.count else []
 
+-- what an argument of index 6 sets
+abbrev pub set_words : (argument : ℕ) → Text
+set_words argument =
+    if (argument == 0) || (argument == 0x03b70000) then codes " bus.lines 1"
+    else (if (argument == 2) || (argument == 0x03b70100) then codes " bus.lines 4"
+    else (if argument == 0x03b70200 then codes " bus.lines 8"
+    else (if argument == 0x03b30000 then codes " part.access 0"
+    else (if argument == 0x03b30100 then codes " part.access 1"
+    else (if argument == 0x03b30200 then codes " part.access 2" else [])))))
+
+abbrev pub setting_words : Ask → Text
+setting_words ask = if ask.index == 6 then set_words ask.argument else []
+
 abbrev pub command_words : Outline → ScriptCommand → Text
 command_words names c =
-    codes "CMD" ++ (decimal c.ask.index ++ (aim_words c.ask ++ (address_if_any names c.address ++ count_words c.ask)))
+    codes "CMD" ++ (decimal c.ask.index ++ (aim_words c.ask ++ (setting_words c.ask
+    ++ (address_if_any names c.address ++ count_words c.ask))))
 
 -- OTHER STATEMENTS
 
@@ -126,6 +141,7 @@ statement_words names (phases p well other) = phase_words p
 statement_words names (lets l t) = let_words names l
 statement_words names (tests c met unmet) = codes "if " ++ condition_words names c
 statement_words names (flags flag on t) = flag_word on ++ name_at names.flags.items flag
+statement_words names (widths width t) = codes "bus.lines " ++ decimal (line_count width)
 statement_words names (heads count body other) = codes "loop " ++ decimal count
 statement_words names (jumps t) = codes "break"
 statement_words names (stops ending) = ending_words ending

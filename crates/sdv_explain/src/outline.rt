@@ -13,9 +13,22 @@ pub struct Outline<'a> {
     pub lines: Vec<usize>,
 }
 
-/// The first words of statements, which stand nowhere else in a script.
-const STATEMENT_WORDS: [&str; 12] = [
-    "send", "recv", "give", "wait", "let", "if", "set", "clear", "loop", "break", "done", "fault",
+/// The first words of statements. But for `bus.lines`, which commands with index 6 have too, they stand nowhere else in a
+/// script.
+const STATEMENT_WORDS: [&str; 13] = [
+    "send",
+    "recv",
+    "give",
+    "wait",
+    "let",
+    "if",
+    "set",
+    "clear",
+    "bus.lines",
+    "loop",
+    "break",
+    "done",
+    "fault",
 ];
 
 /// A word of a text, with its line.
@@ -42,6 +55,8 @@ enum Within {
 #[derive(Clone, Copy)]
 enum Part {
     Head,
+    /// What follows `send`.
+    Command,
     Flags,
     Numbers,
 }
@@ -64,9 +79,12 @@ impl<'a> Outline<'a> {
 
     // Answers the part that the next word stands in. A name cannot be a reserved word.
     fn add(&mut self, word: Word<'a>, part: Part) -> Result<Part, AllocError> {
+        if is_operand(word.text, part) {
+            return Ok(Part::Head);
+        }
         if is_statement(word.text) {
             self.lines.push(word.line)?;
-            return Ok(Part::Head);
+            return Ok(part_after(word.text));
         }
         if word.text == "flags".as_bytes() {
             return Ok(Part::Flags);
@@ -75,7 +93,7 @@ impl<'a> Outline<'a> {
             return Ok(Part::Numbers);
         }
         match part {
-            Part::Head => {}
+            Part::Head | Part::Command => return Ok(Part::Head),
             Part::Flags => self.flags.push(word.text)?,
             Part::Numbers => self.numbers.push(word.text)?,
         }
@@ -95,6 +113,20 @@ fn is_statement(word: &[u8]) -> bool {
     STATEMENT_WORDS
         .iter()
         .any(|statement| statement.as_bytes() == word)
+}
+
+/// The word stands after the index of a command, and begins no statement.
+fn is_operand(word: &[u8], part: Part) -> bool {
+    matches!(part, Part::Command) && word == "bus.lines".as_bytes()
+}
+
+/// The part that follows the first word of a statement.
+fn part_after(word: &[u8]) -> Part {
+    if word == "send".as_bytes() {
+        Part::Command
+    } else {
+        Part::Head
+    }
 }
 
 /// The words of a text, without its comments and numbers.

@@ -1,14 +1,16 @@
 //! Why an event is not legal at a shape.
 
-ghost use Rattle.std.specs.Prelude.{◌≡◌, is_none};
+ghost use Rattle.std.specs.Prelude.{◌≡◌, ◌&&◌, is_none};
 ghost use Rattle.sdv_card.specs.LegalShapes.{row_legal, settled_legal, order_legal, event_legal, legal_code};
 ghost use Rattle.sdv_card.specs.RowRules.{length_allows, erase_allows, preset_allows};
+ghost use Rattle.sdv_card.specs.Modes.{same_width};
 ghost use Rattle.sdv_card.specs.Takes.{taken_as_of};
 
 use sdv_card::state_table::{
-    Rows, give_legal, is_shape, order, own_target, recv_legal, recv_reg_legal, taken_as, wait_legal,
+    Rows, give_legal, is_shape, order, own_target, recv_legal, recv_reg_legal, same_width,
+    taken_as, wait_legal,
 };
-use sdv_card::{EraseStage, Event, Fields, Order, Row, Shape, State, TakenAs, Transfer};
+use sdv_card::{EraseStage, Event, Fields, Order, Row, Shape, State, TakenAs, Transfer, Width};
 
 /// Why an event is not legal.
 #[derive(Clone, Copy, Debug, PartialEq, Eq)]
@@ -35,6 +37,13 @@ pub enum Reason {
     NoRegisterDue,
     /// No write is due.
     NoWriteDue,
+    /// The host uses other data lines than the card.
+    OtherLines {
+        /// Those of the card.
+        card: Width,
+        /// Those of the host.
+        host: Width,
+    },
 }
 
 /// Why an event is not legal, and whether that is so only after a step of the card's own.
@@ -132,6 +141,20 @@ fn order_reason<T: Rows>(order: Order, fields: &Fields) -> Option<Illegality>
     }
 }
 
+/// Why a data phase is not legal: none is due, or host and card use other data lines.
+fn phase_reason(is_due: bool, none_due: Reason, fields: &Fields) -> Option<Reason>
+    ensures { is_none result ≡ is_due && same_width fields.now.lines fields.now.mode.width }
+{
+    let (card, host) = (fields.mode.width, fields.lines);
+    if !is_due {
+        Some(none_due)
+    } else if same_width(host, card) {
+        None
+    } else {
+        Some(Reason::OtherLines { card, host })
+    }
+}
+
 /// Why an event is not legal at a card.
 fn event_reason<T: Rows>(event: &Event, fields: &Fields) -> Option<Illegality>
     ensures { is_none result ≡ event_legal T.kind event.now fields.now }
@@ -141,12 +164,18 @@ fn event_reason<T: Rows>(event: &Event, fields: &Fields) -> Option<Illegality>
             Some(order) => return order_reason::<T>(order, fields),
             None => Some(Reason::NoCommand),
         },
-        Event::RecvBlocks if recv_legal(fields.state, fields.transfer) => None,
-        Event::RecvBlocks => Some(Reason::NoReadDue),
-        Event::RecvReg if recv_reg_legal(fields.state, fields.transfer) => None,
-        Event::RecvReg => Some(Reason::NoRegisterDue),
-        Event::Give if give_legal(fields.state, fields.transfer) => None,
-        Event::Give => Some(Reason::NoWriteDue),
+        Event::RecvBlocks => {
+            let is_due = recv_legal(fields.state, fields.transfer);
+            phase_reason(is_due, Reason::NoReadDue, fields)
+        }
+        Event::RecvReg => {
+            let is_due = recv_reg_legal(fields.state, fields.transfer);
+            phase_reason(is_due, Reason::NoRegisterDue, fields)
+        }
+        Event::Give => {
+            let is_due = give_legal(fields.state, fields.transfer);
+            phase_reason(is_due, Reason::NoWriteDue, fields)
+        }
         Event::Wait if wait_legal(fields.state) => None,
         Event::Wait => Some(Reason::State(fields.state)),
     };

@@ -4,8 +4,8 @@ use crate::known::Known;
 use crate::listing::{put_numbers, put_place};
 use crate::outline::Outline;
 use crate::reason::{Illegality, Reason, reason_of};
-use crate::refused::fits_unit;
-use crate::shapes::{put_shape, state_word};
+use crate::refused::{fits_unit, is_user};
+use crate::shapes::{lines_words, put_shape, state_word};
 use crate::statements::{put_address, put_seen, put_statement};
 use crate::text::{Text, pad, put, put_number, put_numbered};
 use crate::visit::Visit;
@@ -23,6 +23,11 @@ fn address_of<'g>(action: &'g Action<'_>) -> Option<&'g Address> {
         Action::Send(command, _, _) => command.address.as_ref(),
         _ => None,
     }
+}
+
+/// Some shape has a boot partition in access.
+fn leaves_user_area(shapes: &[Shape]) -> bool {
+    shapes.iter().any(|shape| !is_user(*shape))
 }
 
 /// The unit of an address is another than that of some shape.
@@ -64,7 +69,7 @@ fn reason_words(reason: Reason) -> &'static str {
         Reason::NoReadDue => "no read of blocks is due",
         Reason::NoRegisterDue => "no register is due",
         Reason::NoWriteDue => "no write of blocks is due",
-        Reason::State(_) | Reason::PresetCount(_) => "",
+        Reason::State(_) | Reason::PresetCount(_) | Reason::OtherLines { .. } => "",
     }
 }
 
@@ -93,6 +98,12 @@ fn put_illegality(
             u64::from(count),
             ", and another one is announced",
         ),
+        Reason::OtherLines { card, host } => {
+            put(text, "the card uses ")?;
+            put(text, lines_words(card))?;
+            put(text, ", and the host ")?;
+            put(text, lines_words(host))
+        }
         reason => put(text, reason_words(reason)),
     }
 }
@@ -118,6 +129,12 @@ fn put_misfit(
     outline: &Outline,
 ) -> Result<(), AllocError> {
     match address_of(action) {
+        Some(_) if leaves_user_area(here.shapes) => {
+            put(
+                text,
+                "the card may have a boot partition in access, whose capacity is not known",
+            )
+        }
         Some(address) if misses_unit(address.unit, here.shapes) => {
             put_unit_rule(text, address, outline)
         }

@@ -1,7 +1,7 @@
 //! The shape at which a refusal is explained.
 
 ghost use Rattle.std.specs.Prelude.{◌≡◌, ◌↔◌, [], ◌∷◌, IsTrue, IfSome, IfNone};
-ghost use Rattle.sdv_facts.specs.AddressFits.{unit_fits};
+ghost use Rattle.sdv_facts.specs.AddressFits.{is_user, unit_fits};
 ghost use Rattle.sdv_graph.specs.Graph.{seen_action};
 ghost use Rattle.sdv_explain.specs.Refused.{AllTake, IsMisfit, IsOtherEnd, IsRefusedAt, IsRefusedNowhere, IsUntaken, TakesAddress};
 ghost use Rattle.sdv_certify.specs.Refusal.{AllEnd};
@@ -23,13 +23,21 @@ pub fn fits_unit(unit: Unit, shape: Shape) -> bool
     }
 }
 
-/// A card of the shape takes the address of a statement's command as it is meant. It is so where there is none.
+/// The user area is in access.
+pub fn is_user(shape: Shape) -> bool
+    ensures { result ≡ is_user shape }
+{
+    shape.partition().number() == 0
+}
+
+/// A card of the shape takes the address of a statement's command as it is meant: in its unit, and with the user area in
+/// access. It is so where there is none.
 fn takes_address(action: &Action<'_>, shape: Shape) -> bool
     ensures { IsTrue result ↔ TakesAddress (seen_action action.now) shape }
 {
     match action {
         Action::Send(command, _, _) => match &command.address {
-            Some(address) => fits_unit(address.unit, shape),
+            Some(address) => is_user(shape) && fits_unit(address.unit, shape),
             None => true,
         },
         _ => true,

@@ -1,7 +1,7 @@
 //! The shapes of cards, in words.
 
 use crate::text::{Text, put, put_numbered};
-use sdv_card::{EraseStage, Fields, Shape, State, Transfer};
+use sdv_card::{EraseStage, Fields, Partition, Shape, State, Transfer, Width};
 use std::alloc::{AllocError, Global};
 
 /// The word of a state, as scripts write it.
@@ -59,6 +59,48 @@ fn erase_words(erase: EraseStage) -> &'static str {
     }
 }
 
+fn partition_words(partition: Partition) -> &'static str {
+    match partition {
+        Partition::User => "",
+        Partition::Boot1 => ", boot partition 1 in access",
+        Partition::Boot2 => ", boot partition 2 in access",
+    }
+}
+
+/// The words of data lines.
+pub fn lines_words(width: Width) -> &'static str {
+    match width {
+        Width::One => "1 data line",
+        Width::Four => "4 data lines",
+        Width::Eight => "8 data lines",
+    }
+}
+
+/// Adds the data lines of a card and of its host, unless both use one.
+fn put_lines(text: &mut Text, card: Width, host: Width) -> Result<(), AllocError> {
+    if card != host {
+        put(text, ", the card on ")?;
+        put(text, lines_words(card))?;
+        put(text, " and the host on ")?;
+        return put(text, lines_words(host));
+    }
+    if card == Width::One {
+        return Ok(());
+    }
+    put(text, ", on ")?;
+    put(text, lines_words(card))
+}
+
+/// Adds what CMD6 and ACMD6 leave of a card.
+fn put_mode(text: &mut Text, fields: &Fields) -> Result<(), AllocError> {
+    put_lines(text, fields.mode.width, fields.lines)?;
+    put(text, partition_words(fields.mode.partition))?;
+    if fields.mode.error {
+        put(text, ", a switch error not yet shown")?;
+    }
+    Ok(())
+}
+
 /// Adds the state of a card and all else of it but what varies on a line.
 fn put_state(text: &mut Text, fields: &Fields) -> Result<(), AllocError> {
     put(text, state_word(fields.state))?;
@@ -73,7 +115,7 @@ fn put_state(text: &mut Text, fields: &Fields) -> Result<(), AllocError> {
     if !fields.matched {
         put(text, ", at an address that the host does not hold")?;
     }
-    Ok(())
+    put_mode(text, fields)
 }
 
 /// Adds the unit of addresses and the block length of a card.

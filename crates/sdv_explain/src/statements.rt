@@ -4,7 +4,7 @@ ghost use Rattle.std.specs.Prelude.{◌≡◌, ◌++◌, OnOk};
 ghost use Rattle.sdv_graph.specs.Graph.{seen_action};
 ghost use Rattle.sdv_explain.specs.Statements.{address_if_any, address_words, aim_words, atom_words, change_words, command_words};
 ghost use Rattle.sdv_explain.specs.Statements.{condition_words, count_words, let_words, more_words, name_at, phase_words, position_words};
-ghost use Rattle.sdv_explain.specs.Statements.{statement_words, unit_words};
+ghost use Rattle.sdv_explain.specs.Statements.{set_words, setting_words, statement_words, unit_words};
 
 use crate::outline::Outline;
 use crate::shapes::numbered_state_word;
@@ -79,6 +79,31 @@ fn aim_words(ask: &Ask) -> &'static str
     }
 }
 
+/// What an argument of index 6 sets: that of ACMD6, or that of CMD6.
+fn set_words(argument: u32) -> &'static str
+    ensures { result.now ≡ set_words argument }
+{
+    match argument {
+        0 | 0x03b7_0000 => " bus.lines 1",
+        2 | 0x03b7_0100 => " bus.lines 4",
+        0x03b7_0200 => " bus.lines 8",
+        0x03b3_0000 => " part.access 0",
+        0x03b3_0100 => " part.access 1",
+        0x03b3_0200 => " part.access 2",
+        _ => "",
+    }
+}
+
+/// What a command with index 6 is written with.
+fn setting_words(ask: &Ask) -> &'static str
+    ensures { result.now ≡ setting_words ask.now }
+{
+    match ask.index {
+        6 => set_words(ask.argument),
+        _ => "",
+    }
+}
+
 fn put_address_if_any(
     text: &mut Text,
     address: &Option<Address>,
@@ -114,6 +139,7 @@ fn put_command(
 {
     put_numbered(text, "CMD", u64::from(command.ask.index), "")?;
     put(text, aim_words(&command.ask))?;
+    put(text, setting_words(&command.ask))?;
     put_address_if_any(text, &command.address, outline)?;
     put_announced(text, &command.ask)
 }
@@ -196,6 +222,7 @@ pub fn put_statement(
             put(text, if *on { "set " } else { "clear " })?;
             put_name(text, &outline.flags, *flag)
         }
+        Action::Lines(width, _) => put_numbered(text, "bus.lines ", u64::from(width.lines()), ""),
         Action::Loop(turns, _, _) => put_numbered(text, "loop ", u64::from(*turns), ""),
         Action::Break(_) => put(text, "break"),
         Action::Done => put(text, "done"),
@@ -230,7 +257,13 @@ fn put_ocr(text: &mut Text, ready: bool, block: Option<bool>) -> Result<(), Allo
     }
 }
 
-fn put_status(text: &mut Text, state: u8, doubt: bool, app: bool) -> Result<(), AllocError> {
+fn put_status(
+    text: &mut Text,
+    state: u8,
+    doubt: bool,
+    app: bool,
+    switch: bool,
+) -> Result<(), AllocError> {
     put(text, "status ")?;
     put(text, numbered_state_word(state))?;
     if app {
@@ -238,6 +271,9 @@ fn put_status(text: &mut Text, state: u8, doubt: bool, app: bool) -> Result<(), 
     }
     if doubt {
         put(text, ", error")?;
+    }
+    if switch {
+        put(text, ", switch error")?;
     }
     Ok(())
 }
@@ -249,7 +285,12 @@ pub fn put_seen(text: &mut Text, action: &Action<'_>, seen: Seen) -> Result<(), 
         Seen::TimeOut => put(text, "timeout"),
         Seen::Bare => put(text, "answer"),
         Seen::Ocr { ready, block } => put_ocr(text, ready, block),
-        Seen::Status { state, doubt, app } => put_status(text, state, doubt, app.unwrap_or(false)),
+        Seen::Status {
+            state,
+            doubt,
+            app,
+            switch,
+        } => put_status(text, state, doubt, app == Some(true), switch == Some(true)),
         Seen::Ok => put(text, "ok"),
         Seen::NotOk => put(text, cut_word(action)),
     }

@@ -47,7 +47,7 @@ fn draws_loops_and_refusals(rt: HostRuntime) -> Result<(), Fail> {
 }
 
 /// Scripts, each with lines of its drawing.
-static LINES: [(&str, [&str; 2]); 6] = [
+static LINES: [(&str, [&str; 2]); 7] = [
     (
         "card sd nums n let n = csd.blocks - 1 if n >= 7 { fault a } else { fault b }",
         [
@@ -74,6 +74,14 @@ static LINES: [(&str, [&str; 2]); 6] = [
         [
             "    0 -> 1 [label=\"clean & state=tran\"];\n",
             "    1 [label=\"line 1, point 1\\nCMD7 none\"];\n",
+        ],
+    ),
+    // what a command sets begins no statement
+    (
+        "card sd\nsend 6\nbus.lines 4 {\nelse { bus.lines 4 } }\nfault end",
+        [
+            "    1 [label=\"line 4, point 1\\nbus.lines 4\"];\n",
+            "    2 [label=\"line 5, point 2\\nfault end\"];\n",
         ],
     ),
     // what stands behind a fault leads nowhere

@@ -93,7 +93,7 @@ send 7 { clean { } else { fault select } }
 ";
 
 /// Scripts by their fronts and their last lines, with the two lines that say which statement is refused and why.
-static REFUSED: [(&str, &str, &str, &str); 13] = [
+static REFUSED: [(&str, &str, &str, &str); 15] = [
     (
         SD_FRONT,
         "send 16 { clean { } else { fault len } } send 17 at block 0 { clean { recv { ok { } else { fault rd } } } else { fault rd } } done",
@@ -172,6 +172,18 @@ static REFUSED: [(&str, &str, &str, &str); 13] = [
         "line 8, point 14: recv reg, beside a card that is",
         "why: no register is due",
     ),
+    (
+        SD_FRONT,
+        "send 16 { clean { } else { fault len } } send 55 { app { send 6 bus.lines 4 { clean { } else { fault bw } } } else { fault noapp } } send 17 at by hc 0 { clean { recv { ok { } else { fault rd } } } else { fault rd } } done",
+        "line 8, point 26: recv, beside a card that is",
+        "why: the card uses 4 data lines, and the host 1 data line",
+    ),
+    (
+        EMMC_FRONT,
+        "send 16 { clean { } else { fault len } } send 6 part.access 1 { clean { } else { fault sw } } loop 100 { wait { ok { break } else { } } } else { fault busy } send 13 { clean & state=tran { } else { fault sw } } send 17 at by hc 0 { else { } } done",
+        "line 8, point 24: CMD17 at by hc 0, beside a card that is",
+        "why: the card may have a boot partition in access, whose capacity is not known",
+    ),
 ];
 
 /// The text that is told of a script.
@@ -213,6 +225,7 @@ static WAY: [(usize, u64, Option<Seen>); 6] = [
             state: 0,
             doubt: false,
             app: Some(true),
+            switch: None,
         }),
     ),
     (2, 0x2001, Some(Seen::TimeOut)),

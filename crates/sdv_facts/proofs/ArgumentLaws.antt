@@ -1,17 +1,20 @@
 -- The argument of a command that a host makes, legal and in bounds on a card of the profile, has 32 bits.
-use Rattle.std.proofs.Common.{◌≡◌, ℕ, ◌<◌, ◌≤◌, ◌+◌, ◌*◌, ◌^◌, ◌⊎◌, inl, inr, refl, sym, ap, subst, ◌∙◌, Bool, true, false, Some, if◌then◌else◌, arith}
+use Rattle.std.proofs.Common.{◌≡◌, ℕ, ◌<◌, ◌≤◌, ◌+◌, ◌*◌, ◌^◌, ◌⊎◌, inl, inr, refl, sym, ap, subst, ◌∙◌, Bool, true, false, Some, if◌then◌else◌, arith, List}
 use Rattle.sdv_registers.specs.declared.kind.Kind.{Kind}
 use Rattle.sdv_registers.specs.declared.kind.Kind.TheVariants.{Sd, Emmc}
 use Rattle.sdv_card.specs.declared.event.Ask.{Ask}
+use Rattle.sdv_card.specs.declared.state.Partition.{Partition}
+use Rattle.sdv_card.specs.declared.state.Partition.TheVariants.{User, Boot1, Boot2}
+use Rattle.sdv_facts.proofs.RegisterLaws.{boot_small}
 use Rattle.sdv_card.specs.declared.command.Order.{Order}
-use Rattle.sdv_card.specs.declared.command.Order.TheVariants.{GoIdleState, SendOpCond, AllSendCid, SendRelativeAddress, SetRelativeAddress, SelectCard, DeselectCards, SendIfCond, SendExtCsd, SendCsd, SendCid, StopTransmission, SendStatus, SetBlockLength, ReadSingleBlock, ReadMultipleBlock, SetBlockCount, WriteBlock, WriteMultipleBlock, EraseBlockStart, EraseBlockEnd, EraseGroupStart, EraseGroupEnd, Erase, SdSendOpCond, SendScr, AppCommand}
-use Rattle.sdv_card.specs.Card.{Card}
+use Rattle.sdv_card.specs.declared.command.Order.TheVariants.{GoIdleState, SendOpCond, AllSendCid, SendRelativeAddress, SetRelativeAddress, SetBusWidth, Switch, SelectCard, DeselectCards, SendIfCond, SendExtCsd, SendCsd, SendCid, StopTransmission, SendStatus, SetBlockLength, ReadSingleBlock, ReadMultipleBlock, SetBlockCount, WriteBlock, WriteMultipleBlock, EraseBlockStart, EraseBlockEnd, EraseGroupStart, EraseGroupEnd, Erase, SdSendOpCond, SendScr, AppCommand}
+use Rattle.sdv_card.specs.Card.{Card, capacity_of, accessed_capacity}
 use Rattle.sdv_card.specs.CommandTable.{order_of, argument_or_none, order_argument}
 use Rattle.sdv_card.specs.Host.{Host}
 use Rattle.sdv_card.specs.Laws.{AsksAddress, order_blocks}
 use Rattle.sdv_card.specs.Legal.{Within, BlocksWithin}
 use Rattle.sdv_card.specs.Port.{IsFine}
-use Rattle.sdv_card.specs.Profile.{IsOfProfile, most_blocks}
+use Rattle.sdv_card.specs.Profile.{told_boot_blocks, IsOfProfile, most_blocks}
 use Rattle.sdv_card.specs.ScriptEvent.{SendCommand}
 use Rattle.sdv_card.proofs.OrdersOfAsks.{of_ask, argument_is_narrow}
 
@@ -24,8 +27,22 @@ by_capacity Sd false argument position n capacity some is room most = omega arit
 by_capacity Emmc true argument position n capacity some is room most = omega arith
 by_capacity Emmc false argument position n capacity some is room most = omega arith
 
+-- no partition is larger than a card may be
+boot_most : (k : Kind) (unit : Bool) (ext_csd : List ℕ) (boot_capacity : ℕ) → told_boot_blocks k ext_csd ≡ boot_capacity → boot_capacity ≤ most_blocks k unit
+boot_most Sd true ext_csd boot_capacity e = omega arith
+boot_most Sd false ext_csd boot_capacity e = omega arith
+boot_most Emmc true ext_csd boot_capacity e = let s = boot_small ext_csd in omega arith
+boot_most Emmc false ext_csd boot_capacity e = let s = boot_small ext_csd in omega arith
+
+accessed_most : (p : Partition) (capacity boot_capacity most : ℕ) → capacity ≤ most → boot_capacity ≤ most → capacity_of p capacity boot_capacity ≤ most
+accessed_most User capacity boot_capacity most a b = a
+accessed_most Boot1 capacity boot_capacity most a b = b
+accessed_most Boot2 capacity boot_capacity most a b = b
+
 at_address : (c : Card) (position argument n : ℕ) → IsOfProfile c → 0 < n → Within c position argument n → argument < 2 ^ 32
-at_address c position argument n of some w = by_capacity c.kind c.block_unit argument position n c.capacity some w.unit w.room of.most
+at_address c position argument n of some w = by_capacity c.kind c.block_unit argument position n (accessed_capacity c) some w.unit w.room
+    (accessed_most c.mode.partition c.capacity c.boot_capacity (most_blocks c.kind c.block_unit) of.most
+    (boot_most c.kind c.block_unit c.ext_csd c.boot_capacity of.told_boot))
 
 times : (rca : ℕ) → rca < 65536 → 65536 * rca < 2 ^ 32
 times rca small = omega arith
@@ -45,6 +62,8 @@ module _ (k : Kind) (ask : Ask) (position argument : ℕ) (c : Card) (h : Host) 
   small_order AllSendCid e = inl (omega arith)
   small_order SendRelativeAddress e = inl (omega arith)
   small_order SetRelativeAddress e = inl (omega arith)
+  small_order (SetBusWidth width) e = inl (argument_is_narrow k ask (SetBusWidth width) (asked ∙ ap Some e))
+  small_order (Switch setting) e = inl (argument_is_narrow k ask (Switch setting) (asked ∙ ap Some e))
   small_order SelectCard e = inl (times h.rca fine.pair.rca)
   small_order DeselectCards e = inl (omega arith)
   small_order SendIfCond e = inl (omega arith)

@@ -11,7 +11,7 @@ use Rattle.sdv_graph.specs.declared.graph.Target.{Target}
 use Rattle.sdv_graph.specs.declared.tree.Condition.{Condition}
 use Rattle.sdv_graph.specs.declared.tree.Condition.TheVariants as conditions
 use Rattle.sdv_graph.specs.Nested.{Pass, Same, EachCase, EachTarget, Lands}
-use Rattle.sdv_graph.specs.Path.{Case, Action, sends, phases, lets, tests, flags, heads, jumps, stops, Point}
+use Rattle.sdv_graph.specs.Path.{Case, Action, sends, phases, lets, tests, flags, widths, heads, jumps, stops, Point}
 use Rattle.sdv_facts.specs.declared.numbers.Numbers.{Numbers}
 use Rattle.sdv_facts.specs.declared.test.Test.{Test}
 use Rattle.sdv_facts.specs.declared.test.Test.TheVariants.{AtLeast, Below}
@@ -62,6 +62,7 @@ edges_both k known (phases ph well other) s P Q p q = outcomes_both k (event_of_
 edges_both k known (lets l t) s P Q p q = on_both (after_let k known l) (λ n. P Same t s n) (λ n. Q Same t s n) p q
 edges_both k known (tests c met unmet) s P Q p q = condition_both c met unmet known.numbers s P Q p q
 edges_both k known (flags flag on t) s P Q p q = (p, q)
+edges_both k known (widths width t) s P Q p q = (p, q)
 edges_both k known (heads n body other) s P Q p q = ((p.0, q.0), (p.1, q.1))
 edges_both k known (jumps t) s P Q p q = (p, q)
 edges_both k known (stops last) s P Q p q = tt
@@ -101,6 +102,7 @@ module _ (P Q : Rule) (f : (p : Pass) (t : Target) (s : Shape) (n : Numbers) →
   edges_map k known (lets l t) s p = on_map (after_let k known l) (λ n. P Same t s n) (λ n. Q Same t s n) (λ n. f Same t s n) p
   edges_map k known (tests c met unmet) s p = condition_map c met unmet known.numbers s p
   edges_map k known (flags flag on t) s p = f _ _ _ _ p
+  edges_map k known (widths width t) s p = f _ _ _ _ p
   edges_map k known (heads n body other) s p = (f _ _ _ _ p.0, f _ _ _ _ p.1)
   edges_map k known (jumps t) s p = f _ _ _ _ p
   edges_map k known (stops last) s p = tt
@@ -139,6 +141,7 @@ module _ (L : Pass → Target → Type 0) where
   edges_targets k known (lets l t) s p = on_all (after_let k known l) (λ n. L Same t) (λ n. p)
   edges_targets k known (tests c met unmet) s p = condition_targets c met unmet known.numbers s p.0 p.1
   edges_targets k known (flags flag on t) s p = p
+  edges_targets k known (widths width t) s p = p
   edges_targets k known (heads n body other) s p = p
   edges_targets k known (jumps t) s p = p
   edges_targets k known (stops last) s p = tt

@@ -11,7 +11,7 @@ use Rattle.sdv_registers.specs.declared.csd.CsdLayout.{CsdLayout}
 use Rattle.sdv_registers.specs.declared.csd.CsdLayout.TheVariants.{Version1, Version2}
 use Rattle.sdv_registers.specs.Field.{field}
 use Rattle.sdv_registers.specs.Csd.{blocks, blocks_of, layout, c_size, c_size_mult, read_bl_len}
-use Rattle.sdv_registers.specs.ExtCsd.{sec_count}
+use Rattle.sdv_registers.specs.ExtCsd.{boot_size_mult, sec_count}
 use Rattle.sdv_card.specs.Profile.{told_blocks}
 
 short_below : (n : ℕ) (bs : Bits) → length bs ≤ n → number_of bs < 2 ^ n
@@ -41,6 +41,13 @@ sec_count_small register =
     let part = take 4 (drop 212 register) in
     let small = short_below 32 (bits_of (reverse part)) (omega
     (arith, length-bits_of (reverse part), length-reverse part, length-take 4 (drop 212 register))) in
+    omega arith
+
+-- nor is BOOT_SIZE_MULT above 255
+pub boot_small : (register : List ℕ) → boot_size_mult register < 256
+boot_small register =
+    let part = take 1 (drop 226 register) in
+    let small = short_below 8 (bits_of (reverse part)) (omega (arith, length-bits_of (reverse part), length-reverse part, length-take 1 (drop 226 register))) in
     omega arith
 
 pub told_by_csd : (k : Kind) (unit : Bool) (csd ext_csd : List ℕ) → (k ≡ Emmc → unit ≡ false) → told_blocks k unit csd ext_csd ≡ blocks k (bits_of csd)

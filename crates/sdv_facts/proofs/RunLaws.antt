@@ -18,7 +18,7 @@ use Rattle.sdv_graph.specs.Nested.{Nested}
 use Rattle.sdv_graph.specs.declared.graph.Target.{Target}
 use Rattle.sdv_graph.specs.AddressSent.{position_of_command}
 use Rattle.sdv_graph.specs.ValueOfLet.{value_of_let, with_number}
-use Rattle.sdv_graph.specs.Path.{Action, sends, phases, lets, tests, flags, heads, jumps, stops, Stand, arrive, turns_at, way_of, Move, Goes, Does, Halts, move_with, move_at_head, action_move, move, move_from, Follows, PathWithin, Path}
+use Rattle.sdv_graph.specs.Path.{Action, sends, phases, lets, tests, flags, widths, heads, jumps, stops, Stand, arrive, turns_at, way_of, Move, Goes, Does, Halts, move_with, move_at_head, action_move, move, move_from, Follows, PathWithin, Path}
 use Rattle.sdv_graph.specs.Tree.{Statements, Declared}
 use Rattle.sdv_graph.specs.Walk.{Pair, Ending, Fell, Broke, Finished, Failed, Open, Stops, Deed, exactly, giving, IsDeed, command_deed, Walk}
 use Rattle.sdv_graph.proofs.FewEvents.{few_events}
@@ -92,9 +92,9 @@ may_return k (SendCommand ask position argument) (BlocksIn end blocks) e = absur
 may_return k (SendCommand ask position argument) (RegisterIn end bytes) e = absurd e
 may_return k (SendCommand ask position argument) (BlocksOut end) e = absurd e
 may_return k (SendCommand ask position argument) (Waited end) e = absurd e
-may_return k (ReceiveBlocks count) returned e = e
-may_return k (ReceiveRegister count) returned e = e
-may_return k (GiveBlocks blocks) returned e = e
+may_return k (ReceiveBlocks lines count) returned e = e
+may_return k (ReceiveRegister lines count) returned e = e
+may_return k (GiveBlocks lines blocks) returned e = e
 may_return k AwaitReady returned e = e
 
 -- EVERY RUN
@@ -153,6 +153,7 @@ module _ (g : Graph) (ps : List PointFacts) (laws : Laws g.kind) (well : StepsWe
   honest_action (lets l t) ts h c hon = honest_with (value_of_let g.kind h l) (λ n. Goes (arrive t ts (with_number h l.target n))) c (λ n. tt)
   honest_action (tests x met unmet) ts h c hon = tt
   honest_action (flags flag on t) ts h c hon = tt
+  honest_action (widths width t) ts h c hon = tt
   honest_action (heads n body other) ts h c hon = honest_head ts body other h c
   honest_action (jumps t) ts h c hon = tt
   honest_action (stops last) ts h c hon = tt
@@ -193,7 +194,7 @@ module _ (g : Graph) (ps : List PointFacts) (laws : Laws g.kind) (well : StepsWe
   -- one of the events that a deed may be
   some_event : (deed : Deed) → (event : ScriptEvent) × IsDeed deed event
   some_event (exactly wanted) = (wanted, refl)
-  some_event (giving count) = let blocks : List Block = replicate count [] in (GiveBlocks blocks, (blocks, length-replicate count [], refl))
+  some_event (giving lines count) = let blocks : List Block = replicate count [] in (GiveBlocks lines blocks, (blocks, length-replicate count [], refl))
 
   ending : (m : Move) (most j : ℕ) (s : Stand) (c : Card) → move_from g.kind g.points s ≡ m → MovesWell g ps most m c → WhereverTo (Lasts g.kind g.points j) m →
       ((s : Stand) (c : Card) → Stands g ps s c → Lasts g.kind g.points j s → Whole s c) → Whole s c

@@ -18,7 +18,7 @@ use Rattle.sdv_card.specs.declared.state.State.{State}
 use Rattle.sdv_card.specs.declared.state.State.TheVariants.{Tran, Data, Rcv}
 use Rattle.sdv_card.specs.declared.state.Transfer.{Transfer}
 use Rattle.sdv_card.specs.declared.state.Transfer.TheVariants.{ReadDue, OpenReadDue, ScrDue, SdStatusDue, ExtCsdDue, WriteDue, OpenWriteDue}
-use Rattle.sdv_card.specs.Card.{Card, switch_pending}
+use Rattle.sdv_card.specs.Card.{Card}
 use Rattle.sdv_card.specs.Code.{digits, state_of}
 use Rattle.sdv_card.specs.CommandTable.{order_of, argument_of, argument_or_none, order_argument, addressed_blocks}
 use Rattle.sdv_card.specs.Guards.{passes}
@@ -48,11 +48,11 @@ use Rattle.sdv_graph.specs.declared.tree.Let.{Let}
 use Rattle.sdv_graph.specs.declared.tree.Phase.{Phase}
 use Rattle.sdv_graph.specs.declared.tree.Phase.TheVariants as kinds
 use Rattle.sdv_graph.specs.AddressSent.{position_of_command, address_of_command, address_sent, position_of}
-use Rattle.sdv_card.specs.ShapeBits.{is_flag_set, with_flag_shown}
-use Rattle.sdv_graph.specs.Conditions.{condition_holds, with_flag}
+use Rattle.sdv_card.specs.ShapeBits.{is_flag_set, with_flag_shown, with_lines_shown}
+use Rattle.sdv_graph.specs.Conditions.{condition_holds, with_flag, with_lines}
 use Rattle.sdv_graph.specs.Graph.{Graph}
 use Rattle.sdv_graph.specs.Nested.{Pass, Same, Again, Over, InBox, Turned, Nested}
-use Rattle.sdv_graph.specs.Path.{Case, Action, sends, phases, lets, tests, flags, heads, jumps, stops, Point, arrive, way_of, Goes, Does, move_with, move_at_head, action_move, move}
+use Rattle.sdv_graph.specs.Path.{Case, Action, sends, phases, lets, tests, flags, widths, heads, jumps, stops, Point, arrive, way_of, Goes, Does, move_with, move_at_head, action_move, move}
 use Rattle.sdv_graph.specs.Counts.{max_number}
 use Rattle.sdv_graph.specs.ValueOfLet.{value_of_let, with_number, number}
 use Rattle.sdv_graph.specs.Walk.{command_deed, phase_deed, Fell, Broke, Finished, Failed, Open, Ending}
@@ -71,10 +71,11 @@ use Rattle.sdv_facts.specs.Keeps.{MayStandIn, IsHonest}
 use Rattle.sdv_facts.specs.Stands.{GuardsSuit, CasesSuit, ActionSuits, EachActionSuits, Arrived, HaltsWell, MovesWell, PointsStepWell, StepsWell}
 use Rattle.sdv_facts.proofs.AddressLaws.{on_card}
 use Rattle.sdv_facts.proofs.EdgeLaws.{Reaches, edges}
+use Rattle.sdv_card.proofs.ShapeLines.{pair_with_lines}
 use Rattle.sdv_facts.proofs.FlagLaws.{pair_with_flag, flags_kept}
 use Rattle.sdv_facts.proofs.LetLaws.{let_keeps}
 use Rattle.sdv_facts.proofs.TestLaws.{test_keeps, target_holds}
-use Rattle.sdv_facts.proofs.UnitLaws.{flag_shown}
+use Rattle.sdv_facts.proofs.UnitLaws.{both, flag_shown}
 use Rattle.sdv_facts.proofs.WayLaws.{AllHold, CasesHold, way_taken}
 
 -- THE LAWS OF A TABLE, and nothing else of it
@@ -125,13 +126,13 @@ numbers_same k (SendCommand ask position argument) (BlocksIn end blocks) h = ref
 numbers_same k (SendCommand ask position argument) (RegisterIn end bytes) h = refl
 numbers_same k (SendCommand ask position argument) (BlocksOut end) h = refl
 numbers_same k (SendCommand ask position argument) (Waited end) h = refl
-numbers_same k (ReceiveRegister count) (RegisterIn end bytes) h = refl
-numbers_same k (ReceiveRegister count) (Answered answer) h = refl
-numbers_same k (ReceiveRegister count) (BlocksIn end blocks) h = refl
-numbers_same k (ReceiveRegister count) (BlocksOut end) h = refl
-numbers_same k (ReceiveRegister count) (Waited end) h = refl
-numbers_same k (ReceiveBlocks count) returned h = refl
-numbers_same k (GiveBlocks blocks) returned h = refl
+numbers_same k (ReceiveRegister lines count) (RegisterIn end bytes) h = refl
+numbers_same k (ReceiveRegister lines count) (Answered answer) h = refl
+numbers_same k (ReceiveRegister lines count) (BlocksIn end blocks) h = refl
+numbers_same k (ReceiveRegister lines count) (BlocksOut end) h = refl
+numbers_same k (ReceiveRegister lines count) (Waited end) h = refl
+numbers_same k (ReceiveBlocks lines count) returned h = refl
+numbers_same k (GiveBlocks lines blocks) returned h = refl
 numbers_same k AwaitReady returned h = refl
 
 -- A CARD AFTER A STEP
@@ -144,6 +145,7 @@ profile_kept c u k h pair same of = record {
   most = rw (sym same.capacity, sym same.kind, sym same.block_unit) of.most;
   readable = rw (sym same.kind, sym same.csd) of.readable;
   told = rw (sym same.kind, sym same.block_unit, sym same.csd, sym same.ext_csd, sym same.capacity) of.told;
+  told_boot = rw (sym same.kind, sym same.ext_csd, sym same.boot_capacity) of.told_boot;
 }
 
 -- what the host knows stays true
@@ -268,7 +270,7 @@ module _ (g : Graph) (ps : List PointFacts) (laws : Laws g.kind) (points : Point
   does : (place : Point) (p : PointFacts) (ts : List ℕ) (e : ScriptEvent) (ways : List Case) (other : Target) (c : Card) (h : Host) → Here place p ts c h
       → commands_of place.action ≡ commands_in e →
       Makes g.kind e h → legal_code g.kind (pair_code c h) (event_of e) ≡ true → (EventLegal e c → InBounds e c)
-      → ((returned : Return) (u : Card) → Step e c returned u → CasesHold g.kind (switch_pending c) returned ways) →
+      → ((returned : Return) (u : Card) → Step e c returned u → CasesHold g.kind c.mode.error returned ways) →
       EachOutcome g.kind (event_of e) ways other p.facts.numbers (shape c h) (Reaches g.points ps place p) → Goes-well p ts ways other e c h
   does place p ts e ways other c h at cost made legal bounds holds edge =
       let k = g.kind in
@@ -280,9 +282,9 @@ module _ (g : Graph) (ps : List PointFacts) (laws : Laws g.kind) (points : Point
             let h' : Host = host_after k e returned h in
             let after : IsPair k u h' = laws.steps_keep_pairs e c h returned u pair made step in
             let same : SameCard c u = laws.steps_keep_same e c returned u pair.kind step in
-            let o : Outcome = outcome_of (branch (view u h') (seen_of k (switch_pending c) returned)) in
+            let o : Outcome = outcome_of (branch (view u h') (seen_of k c.mode.error returned)) in
             let r : Reaches g.points ps place p Same (way_of k ways other returned) (shape u h') p.facts.numbers =
-            way_taken k (switch_pending c) returned ways other (λ t. Reaches g.points ps place p Same t (shape u h') p.facts.numbers) (holds returned u step)
+            way_taken k c.mode.error returned ways other (λ t. Reaches g.points ps place p Same t (shape u h') p.facts.numbers) (holds returned u step)
             (edge legal o (laws.steps_are_outcomes e c h returned u pair made fine step)) in
             subst (λ n. Arrived g ps (bound p ts) n (arrive (way_of k ways other returned) ts h') u) cost
             (arrives place p Same (way_of k ways other returned) (shape u h') p.facts.numbers r ts ts at.box refl u h' refl
@@ -300,12 +302,12 @@ module _ (g : Graph) (ps : List PointFacts) (laws : Laws g.kind) (points : Point
 
   cases_hold : (e : ScriptEvent) (c : Card) (h : Host) (returned : Return) (u : Card) (ask : Ask) (position argument : ℕ) (ways : List Case)
       → e ≡ SendCommand ask position argument → IsPair g.kind c h → Step e c returned u → CasesSuit g.kind ask ways
-      → CasesHold g.kind (switch_pending c) returned ways
+      → CasesHold g.kind c.mode.error returned ways
   cases_hold e c h returned u ask position argument [] is pair step suit = tt
   cases_hold e c h returned u ask position argument (w ∷ ws) is pair step suit =
       (guards w.guards suit.0, cases_hold e c h returned u ask position argument ws is pair step suit.1)
     where
-      guards : (gs : List Guard) → GuardsSuit g.kind ask gs → AllHold g.kind (switch_pending c) returned gs
+      guards : (gs : List Guard) → GuardsSuit g.kind ask gs → AllHold g.kind c.mode.error returned gs
       guards [] s = tt
       guards (x ∷ xs) s = (laws.verdicts_hold x e c h returned u pair (subst (λ e. FitsEvent g.kind x e) (sym is) s.0) step, guards xs s.1)
 
@@ -357,7 +359,7 @@ module _ (g : Graph) (ps : List PointFacts) (laws : Laws g.kind) (points : Point
   )
 
   phase_holds : (well : Target) (e : ScriptEvent) (c : Card) (h : Host) (returned : Return) (u : Card) → FitsEvent g.kind WentWell e → IsPair g.kind c h
-      → Step e c returned u → CasesHold g.kind (switch_pending c) returned (well_or well)
+      → Step e c returned u → CasesHold g.kind c.mode.error returned (well_or well)
   phase_holds well e c h returned u fits pair step = ((laws.verdicts_hold WentWell e c h returned u pair fits step, tt), tt)
 
   phases_well : (phase : Phase) (place : Point) (p : PointFacts) (ts : List ℕ) (well other : Target) (c : Card) (h : Host) → Here place p ts c h
@@ -369,26 +371,26 @@ module _ (g : Graph) (ps : List PointFacts) (laws : Laws g.kind) (points : Point
       subst (λ e. IsFine g.kind e c h × ((returned : Return) (u : Card) → Step e c returned u
       → Arrived g ps (bound p ts) (commands_in e) (arrive (if passes g.kind WentWell returned then well else other) ts (host_after g.kind e returned h)) u))
       (sym deed)
-      (well_way p ts well other (ReceiveBlocks h.announced) c h
-      (does place p ts (ReceiveBlocks h.announced) (well_or well) other c h at cost (record { size = refl }) legal
-      (λ l. at.honest.sound.blocks (read_blocks c.state c.transfer l))
-      (λ returned u step. phase_holds well (ReceiveBlocks h.announced) c h returned u refl at.honest.pair step) edge))
+      (well_way p ts well other (ReceiveBlocks h.lines h.announced) c h
+      (does place p ts (ReceiveBlocks h.lines h.announced) (well_or well) other c h at cost (record { lines_are = refl; size = refl }) legal
+      (λ l. at.honest.sound.blocks (read_blocks c.state c.transfer (both (recv_legal c.state c.transfer) _ l).0))
+      (λ returned u step. phase_holds well (ReceiveBlocks h.lines h.announced) c h returned u refl at.honest.pair step) edge))
   phases_well kinds.ReceiveRegister place p ts well other c h at cost legal edge = λ event deed.
       subst (λ e. IsFine g.kind e c h × ((returned : Return) (u : Card) → Step e c returned u
       → Arrived g ps (bound p ts) (commands_in e) (arrive (if passes g.kind WentWell returned then well else other) ts (host_after g.kind e returned h)) u))
       (sym deed)
-      (well_way p ts well other (ReceiveRegister h.register_length) c h
-      (does place p ts (ReceiveRegister h.register_length) (well_or well) other c h at cost (record { size = refl }) legal
-      (λ l. at.honest.sound.register (register_blocks c.state c.transfer l))
-      (λ returned u step. phase_holds well (ReceiveRegister h.register_length) c h returned u refl at.honest.pair step) edge))
+      (well_way p ts well other (ReceiveRegister h.lines h.register_length) c h
+      (does place p ts (ReceiveRegister h.lines h.register_length) (well_or well) other c h at cost (record { lines_are = refl; size = refl }) legal
+      (λ l. at.honest.sound.register (register_blocks c.state c.transfer (both (recv_reg_legal c.state c.transfer) _ l).0))
+      (λ returned u step. phase_holds well (ReceiveRegister h.lines h.register_length) c h returned u refl at.honest.pair step) edge))
   phases_well kinds.GiveBlocks place p ts well other c h at cost legal edge = λ event deed.
       subst (λ e. IsFine g.kind e c h × ((returned : Return) (u : Card) → Step e c returned u
       → Arrived g ps (bound p ts) (commands_in e) (arrive (if passes g.kind WentWell returned then well else other) ts (host_after g.kind e returned h)) u))
       (sym deed.2)
-      (well_way p ts well other (GiveBlocks deed.0) c h
-      (does place p ts (GiveBlocks deed.0) (well_or well) other c h at cost (record { size = deed.1 }) legal
-      (λ l. deed.1 ∙ at.honest.sound.blocks (give_blocks c.state c.transfer l))
-      (λ returned u step. phase_holds well (GiveBlocks deed.0) c h returned u refl at.honest.pair step) edge))
+      (well_way p ts well other (GiveBlocks h.lines deed.0) c h
+      (does place p ts (GiveBlocks h.lines deed.0) (well_or well) other c h at cost (record { lines_are = refl; size = deed.1 }) legal
+      (λ l. deed.1 ∙ at.honest.sound.blocks (give_blocks c.state c.transfer (both (give_legal c.state c.transfer) _ l).0))
+      (λ returned u step. phase_holds well (GiveBlocks h.lines deed.0) c h returned u refl at.honest.pair step) edge))
   phases_well kinds.Wait place p ts well other c h at cost legal edge = λ event deed.
       subst (λ e. IsFine g.kind e c h × ((returned : Return) (u : Card) → Step e c returned u
       → Arrived g ps (bound p ts) (commands_in e) (arrive (if passes g.kind WentWell returned then well else other) ts (host_after g.kind e returned h)) u))
@@ -416,7 +418,13 @@ module _ (g : Graph) (ps : List PointFacts) (laws : Laws g.kind) (points : Point
   lets_well place p ts l t c h at cost stand edge (Some n) is =
       carried_on place p ts t c h at cost (with_number h l.target n) refl (length-set h.numbers l.target n ∙ many_of place p ts c h at)
       (record {
-        pair = record { kind = at.honest.pair.kind; card = at.honest.pair.card; flags = at.honest.pair.flags; rca = at.honest.pair.rca };
+        pair = record {
+          kind = at.honest.pair.kind;
+          card = at.honest.pair.card;
+          lines = at.honest.pair.lines;
+          flags = at.honest.pair.flags;
+          rca = at.honest.pair.rca;
+        };
         profile = at.honest.profile;
         sound = record { csd = at.honest.sound.csd; ext_csd = at.honest.sound.ext_csd; blocks = at.honest.sound.blocks; register = at.honest.sound.register };
       })
@@ -495,8 +503,26 @@ module _ (g : Graph) (ps : List PointFacts) (laws : Laws g.kind) (points : Point
         pair = record {
           kind = at.honest.pair.kind;
           card = at.honest.pair.card;
-          flags = flags_kept h flag on at.honest.pair.flags
-              suit;
+          lines = at.honest.pair.lines;
+          flags = flags_kept h flag on at.honest.pair.flags suit;
+          rca = at.honest.pair.rca;
+        };
+        profile = at.honest.profile;
+        sound = record { csd = at.honest.sound.csd; ext_csd = at.honest.sound.ext_csd; blocks = at.honest.sound.blocks; register = at.honest.sound.register };
+      })
+      at.on_card
+  action_well (widths width t) most p ts c h closed suit at edge =
+      let place : Point = record { action = widths width t; most = most } in
+      let h' : Host = with_lines h width in
+      let same = pair_with_lines g.kind c h width at.honest.pair in
+      arrives place p Same t (with_lines_shown (shape c h) width) p.facts.numbers edge ts ts at.box refl c h' same (many_of place p ts c h at)
+      (record { least = at.holds.numbers.least; many = at.holds.numbers.many; each = at.holds.numbers.each })
+      (record {
+        pair = record {
+          kind = at.honest.pair.kind;
+          card = at.honest.pair.card;
+          lines = suit;
+          flags = at.honest.pair.flags;
           rca = at.honest.pair.rca;
         };
         profile = at.honest.profile;

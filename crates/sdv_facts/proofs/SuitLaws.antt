@@ -15,7 +15,7 @@ use Rattle.sdv_graph.specs.GuardSuits as commands
 use Rattle.sdv_graph.specs.Graph.{Graph}
 use Rattle.sdv_graph.specs.GraphOf.{IsSound}
 use Rattle.sdv_graph.specs.Limits.{action_keeps_limits, keeps_limits, all_keep_limits}
-use Rattle.sdv_graph.specs.Path.{Case, Action, Point, sends, phases, lets, tests, flags, heads, jumps, stops}
+use Rattle.sdv_graph.specs.Path.{Case, Action, Point, sends, phases, lets, tests, flags, widths, heads, jumps, stops}
 use Rattle.sdv_graph.specs.Counts.{max_flags}
 use Rattle.sdv_graph.specs.Suits.{guards_suit, cases_suit, atom_suits, action_suits, all_suit}
 use Rattle.sdv_facts.specs.Keeps.{MayStandIn}
@@ -51,6 +51,7 @@ action_at k (phases p well other) e l = tt
 action_at k (lets x t) e l = atom_at k x.atom e
 action_at k (tests c met unmet) e l = tt
 action_at k (flags flag on t) e l = ltb-true flag max_flags l
+action_at k (widths width t) e l = e
 action_at k (heads n body other) e l = tt
 action_at k (jumps t) e l = tt
 action_at k (stops last) e l = tt

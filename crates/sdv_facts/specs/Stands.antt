@@ -9,12 +9,13 @@ use Rattle.sdv_card.specs.CommandTable.{order_of}
 use Rattle.sdv_card.specs.Host.{Host, host_after}
 use Rattle.sdv_card.specs.Laws.{fits_order}
 use Rattle.sdv_card.specs.Legal.{TransferOnCard}
+use Rattle.sdv_card.specs.Modes.{has_width}
 use Rattle.sdv_card.specs.Port.{IsFine}
 use Rattle.sdv_card.specs.ScriptEvent.{ScriptEvent, Return}
 use Rattle.sdv_card.specs.Step.{Step}
 use Rattle.sdv_graph.specs.Graph.{Graph}
 use Rattle.sdv_graph.specs.Nested.{InBox}
-use Rattle.sdv_graph.specs.Path.{Case, Action, sends, lets, flags, Point, Stand, Move, Goes, Does, Halts, move_from}
+use Rattle.sdv_graph.specs.Path.{Case, Action, sends, lets, flags, widths, Point, Stand, Move, Goes, Does, Halts, move_from}
 use Rattle.sdv_graph.specs.Walk.{Pair, Ending, Finished, IsDeed}
 use Rattle.sdv_facts.specs.Facts.{PointFacts}
 use Rattle.sdv_facts.specs.Beside.{StepsOf, commands_in}
@@ -38,6 +39,7 @@ abbrev pub ActionSuits : Kind → Action → Type 0
 ActionSuits k (sends c ways other) = CasesSuit k c.ask ways
 ActionSuits k (lets l t) = MayStandIn k l.atom
 ActionSuits k (flags flag on t) = flag < 4
+ActionSuits k (widths width t) = IsTrue (has_width k width)
 ActionSuits k action = Unit {0}
 
 abbrev pub EachActionSuits : Graph → Type 0

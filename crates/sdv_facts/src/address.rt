@@ -9,7 +9,7 @@ ghost use Rattle.sdv_facts.specs.Shared.{facts_in};
 use crate::facts::Facts;
 use crate::numbers::Numbers;
 use crate::set_table::SetTable;
-use crate::units::fits;
+use crate::units::{all_user, fits};
 use sdv_card::Shape;
 use sdv_graph::{Address, Position};
 
@@ -63,13 +63,15 @@ fn position_fits(numbers: &Numbers, position: Position, blocks: u64) -> bool
     }
 }
 
-/// The address is sent in the card's unit, and the card has `blocks` blocks from there on, whichever card and host have
-/// one of these shapes and numbers within these bounds.
+/// The user area is in access, the address is sent in the card's unit, and the card has `blocks` blocks from there on,
+/// whichever card and host have one of these shapes and numbers within these bounds.
 pub fn fits_on_card(shapes: &[Shape], numbers: &Numbers, address: &Address, blocks: u64) -> bool
     ensures rule { result ≡ address_fits (facts_with shapes.now numbers.now) address.now blocks }
     ensures on_card { IsTrue result → IsOnCard (facts_with shapes.now numbers.now) address.now blocks }
 {
-    fits(shapes, address.unit) && position_fits(numbers, address.position, blocks)
+    all_user(shapes)
+        && fits(shapes, address.unit)
+        && position_fits(numbers, address.position, blocks)
 }
 
 /// The address is sent in the card's unit, and the card has `blocks` blocks from there on, whichever card and host the

@@ -16,7 +16,7 @@ fn may_hold(guard: Guard, seen: Seen) -> bool
         (Guard::Timeout, Seen::TimeOut) => true,
         (Guard::Answer, Seen::TimeOut) => false,
         (Guard::Answer, _) => true,
-        (Guard::Clean, Seen::Status { doubt, .. }) => !doubt,
+        (Guard::Clean, Seen::Status { doubt, switch, .. }) => !doubt && !switch.unwrap_or(false),
         (Guard::Ready, Seen::Status { .. }) => true,
         (Guard::App, Seen::Status { app, .. }) => app.unwrap_or(false),
         (Guard::Echo, Seen::Bare) => true,

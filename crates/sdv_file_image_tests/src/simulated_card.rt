@@ -44,11 +44,11 @@ fn written_and_read(rt: HostRuntime) -> Result<(), Fail> {
         send(&rt, &mut port, index, argument, expect);
     }
     send(&rt, &mut port, 24, 3, Expect::R1(24));
-    assert!(rt; port.data_out(&[[7; 512]]) == DataEnd::Ok);
+    assert!(rt; port.data_out(1, &[[7; 512]]) == DataEnd::Ok);
     assert!(rt; port.wait() == WaitEnd::Ok);
     send(&rt, &mut port, 17, 3, Expect::R1(17));
     let mut blocks = [[0; 512]];
-    assert!(rt; port.data_in(&mut blocks) == DataEnd::Ok);
+    assert!(rt; port.data_in(1, &mut blocks) == DataEnd::Ok);
     assert!(rt; blocks == [[7; 512]]);
     let finished = port.into_wire().into_image().finish();
     let mut file = finished.ok().ok_or("a write-back failed")?;

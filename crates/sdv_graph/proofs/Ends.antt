@@ -7,13 +7,13 @@ use Rattle.sdv_card.specs.Guards.{passes}
 use Rattle.sdv_card.specs.Host.{Host}
 use Rattle.sdv_card.specs.ScriptEvent.{Return}
 use Rattle.sdv_graph.specs.declared.graph.Target.{Target}
-use Rattle.sdv_graph.specs.Tree.{Statements, nothing, first, Ways, otherwise, way, Statement, send, phase, setting, choice, set, clear, turns, break, done, fault}
+use Rattle.sdv_graph.specs.Tree.{Statements, nothing, first, Ways, otherwise, way, Statement, send, phase, setting, choice, set, clear, bus_lines, turns, break, done, fault}
 use Rattle.sdv_graph.specs.Counts.{statements_count, statement_count, statements_break, ways_break, statement_breaks, statements_fall, ways_fall, statement_falls}
 use Rattle.sdv_graph.specs.AddressSent.{position_of_command}
-use Rattle.sdv_graph.specs.Conditions.{condition_holds, with_flag}
+use Rattle.sdv_graph.specs.Conditions.{condition_holds, with_flag, with_lines}
 use Rattle.sdv_graph.specs.ValueOfLet.{value_of_let, with_number}
 use Rattle.sdv_graph.specs.Walk.{Fell, Broke, Open, Finished, Failed, command_deed, all_pass}
-use Rattle.sdv_graph.specs.Path.{Point, sends, phases, lets, tests, flags, heads, jumps, stops, Stand, left, entered, arrive, Move, Goes, Does, Halts, way_of, move_with, move, move_from}
+use Rattle.sdv_graph.specs.Path.{Point, sends, phases, lets, tests, flags, widths, heads, jumps, stops, Stand, left, entered, arrive, Move, Goes, Does, Halts, way_of, move_with, move, move_from}
 use Rattle.sdv_graph.specs.Points.{start_of, entry, outside, again, cases_of, other_of, point_with, points_of_statements, points_of_ways, points_of_statement, past, points_of, first_of}
 use Rattle.sdv_graph.specs.Graph.{WhereverTo, Lasts}
 use Rattle.sdv_graph.specs.Moves.{statements_moves, ways_moves, statement_moves}
@@ -152,6 +152,8 @@ module _ (k : Kind) (g : List Point) where
         at_point (point_with (flags f true next) most) at n (1 + n) ts h (omega arith) has.0 (nx refl (with_flag h f true))
     statement_lasts (clear f) at next brk most ts n has nx br h =
         at_point (point_with (flags f false next) most) at n (1 + n) ts h (omega arith) has.0 (nx refl (with_flag h f false))
+    statement_lasts (bus_lines width) at next brk most ts n has nx br h =
+        at_point (point_with (widths width next) most) at n (1 + n) ts h (omega arith) has.0 (nx refl (with_lines h width))
     statement_lasts (turns i a b) at next brk most ts n has nx br h =
         let mid = at + 1 + statements_count a in
         let inner = (i - 1) ∷ most in

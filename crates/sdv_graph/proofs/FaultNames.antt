@@ -8,9 +8,9 @@ use Rattle.sdv_card.specs.Host.{Host, host_after}
 use Rattle.sdv_card.specs.Lists.{IsOneOf}
 use Rattle.sdv_card.specs.Profile.{host_at_start}
 use Rattle.sdv_card.specs.ScriptEvent.{Return}
-use Rattle.sdv_graph.specs.Tree.{Statements, nothing, first, Ways, otherwise, way, Statement, send, phase, setting, choice, set, clear, turns, break, done, fault, Declared}
+use Rattle.sdv_graph.specs.Tree.{Statements, nothing, first, Ways, otherwise, way, Statement, send, phase, setting, choice, set, clear, bus_lines, turns, break, done, fault, Declared}
 use Rattle.sdv_graph.specs.AddressSent.{position_of_command}
-use Rattle.sdv_graph.specs.Conditions.{condition_holds, with_flag}
+use Rattle.sdv_graph.specs.Conditions.{condition_holds, with_flag, with_lines}
 use Rattle.sdv_graph.specs.NamedFaults.{statements_faults, ways_faults, statement_faults, IsFaultOf, NamesFault}
 use Rattle.sdv_graph.specs.ValueOfLet.{value_of_let, with_number}
 use Rattle.sdv_graph.specs.Walk.{Pair, Ending, Fell, Broke, Open, Rest, Stops, Here, Either, InRange, Deed, Acts, command_deed, phase_deed, all_pass, rounds, walk_statements, walk_ways, walk_statement, after_all, Walk}
@@ -97,6 +97,7 @@ module _ (k : Kind) (e : Ending) (all : List (List ℕ)) (has_number : IsOneOf a
         (statements_good b fell broke (back (statements_faults a) (statements_faults b) all w) f g h es)) x
     statement_good (set x) fell broke w f g h es y = here _ es (f (with_flag h x true) es) y
     statement_good (clear x) fell broke w f g h es y = here _ es (f (with_flag h x false) es) y
+    statement_good (bus_lines width) fell broke w f g h es y = here _ es (f (with_lines h width) es) y
     statement_good (turns n a b) fell broke w f g h es x =
         turns_good n (λ again. walk_statements k e a again fell) (walk_statements k e b fell broke)
         (λ r good. statements_good a r fell (front (statements_faults a) (statements_faults b) all w) good f)

@@ -4,10 +4,10 @@ use Rattle.std.specs.Prelude.{slice_get}
 use Rattle.std.proofs.lemmas.Option.{slice_get_past}
 use Rattle.sdv_registers.specs.declared.kind.Kind.{Kind}
 use Rattle.sdv_graph.specs.declared.graph.Target.{Target}
-use Rattle.sdv_graph.specs.Tree.{Statements, nothing, first, Ways, otherwise, way, Statement, send, phase, setting, choice, set, clear, turns, break, done, fault}
+use Rattle.sdv_graph.specs.Tree.{Statements, nothing, first, Ways, otherwise, way, Statement, send, phase, setting, choice, set, clear, bus_lines, turns, break, done, fault}
 use Rattle.sdv_graph.specs.Counts.{statements_count, statement_count}
 use Rattle.sdv_graph.specs.Walk.{Finished, Failed}
-use Rattle.sdv_graph.specs.Path.{Action, Point, sends, phases, lets, tests, flags, heads, jumps, stops, left, entered, turns_at}
+use Rattle.sdv_graph.specs.Path.{Action, Point, sends, phases, lets, tests, flags, widths, heads, jumps, stops, left, entered, turns_at}
 use Rattle.sdv_graph.specs.Points.{start_of, entry, outside, again, cases_of, other_of, point_with, points_of_statements, points_of_ways, points_of_statement, past, points_of, first_of}
 use Rattle.sdv_graph.specs.Nested.{InBox, Same, Again, Over, EachCase, EachTarget, HeadFits, Lands, Nested}
 use Rattle.sdv_graph.proofs.Standing.{HasAt, has_front, has_all, has_after, has_after_first, statements_length}
@@ -76,6 +76,7 @@ module _ (g : List Point) where
   start_in (choice c a b) at next brk most has = plain_in (tests c (entry a (at + 1) next) (entry b (at + 1 + statements_count a) next)) at most has.0
   start_in (set f) at next brk most has = plain_in (flags f true next) at most has.0
   start_in (clear f) at next brk most has = plain_in (flags f false next) at most has.0
+  start_in (bus_lines width) at next brk most has = plain_in (widths width next) at most has.0
   start_in (turns n a b) at next brk most has = enters (heads n (entry a (at + 1) (again at))
       (outside (entry b (at + 1 + statements_count a) next))) at n most has.0
   start_in break at next brk most has = plain_in (jumps brk) at most has.0
@@ -161,6 +162,7 @@ module _ (g : List Point) where
         )
     statement_fits (set f) at next brk most has nx br = ((tt, same_lands most next nx), tt)
     statement_fits (clear f) at next brk most has nx br = ((tt, same_lands most next nx), tt)
+    statement_fits (bus_lines width) at next brk most has nx br = ((tt, same_lands most next nx), tt)
     statement_fits (turns n a b) at next brk most has nx br =
         let mid = at + 1 + statements_count a in
         let inner = (n - 1) ∷ most in

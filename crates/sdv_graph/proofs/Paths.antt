@@ -9,13 +9,13 @@ use Rattle.sdv_card.specs.Host.{Host, host_after}
 use Rattle.sdv_card.specs.Profile.{host_at_start}
 use Rattle.sdv_card.specs.ScriptEvent.{Return}
 use Rattle.sdv_graph.specs.declared.graph.Target.{Target}
-use Rattle.sdv_graph.specs.Tree.{Statements, nothing, first, Ways, otherwise, way, Statement, send, phase, setting, choice, set, clear, turns, break, done, fault, Declared}
+use Rattle.sdv_graph.specs.Tree.{Statements, nothing, first, Ways, otherwise, way, Statement, send, phase, setting, choice, set, clear, bus_lines, turns, break, done, fault, Declared}
 use Rattle.sdv_graph.specs.Counts.{statements_count, statement_count, statements_break, ways_break, statement_breaks}
 use Rattle.sdv_graph.specs.AddressSent.{position_of_command}
-use Rattle.sdv_graph.specs.Conditions.{condition_holds, with_flag}
+use Rattle.sdv_graph.specs.Conditions.{condition_holds, with_flag, with_lines}
 use Rattle.sdv_graph.specs.ValueOfLet.{value_of_let, with_number}
 use Rattle.sdv_graph.specs.Walk.{Pair, Ending, Fell, Broke, Finished, Failed, Rest, Here, Either, InRange, Deed, Acts, command_deed, phase_deed, all_pass, rounds, walk_statements, walk_ways, walk_statement, after_all, Walk}
-use Rattle.sdv_graph.specs.Path.{Point, sends, phases, lets, tests, flags, heads, jumps, stops, Stand, left, entered, arrive, Move, Goes, Does, Halts, way_of, move_with, move, move_from, Follows, PathWithin, Path}
+use Rattle.sdv_graph.specs.Path.{Point, sends, phases, lets, tests, flags, widths, heads, jumps, stops, Stand, left, entered, arrive, Move, Goes, Does, Halts, way_of, move_with, move, move_from, Follows, PathWithin, Path}
 use Rattle.sdv_graph.specs.Points.{start_of, entry, outside, again, cases_of, other_of, point_with, points_of_statements, points_of_ways, points_of_statement, past, points_of, first_of}
 use Rattle.sdv_graph.proofs.Standing.{HasAt, has_front, has_all, has_after, has_after_first, statements_length, or_left, or_right, not_both}
 
@@ -170,6 +170,8 @@ module _ (k : Kind) (g : List Point) (e : Ending) where
         at_point (point_with (flags f true next) most) at ts h es _ has.0 (nx (with_flag h f true) es)
     statement_is (clear f) at next brk most ts fell broke has nx br h es =
         at_point (point_with (flags f false next) most) at ts h es _ has.0 (nx (with_flag h f false) es)
+    statement_is (bus_lines width) at next brk most ts fell broke has nx br h es =
+        at_point (point_with (widths width next) most) at ts h es _ has.0 (nx (with_lines h width) es)
     statement_is (turns n a b) at next brk most ts fell broke has nx br h es =
         let mid = at + 1 + statements_count a in
         let inner = (n - 1) ∷ most in

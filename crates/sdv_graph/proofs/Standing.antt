@@ -4,7 +4,7 @@ use Rattle.std.specs.Prelude.{slice_get, ◌||◌, ◌&&◌}
 use Rattle.std.proofs.Math.Seq.{get_or-append_seam}
 use Rattle.std.proofs.lemmas.Option.{slice_get-get_or}
 use Rattle.sdv_graph.specs.declared.graph.Target.{Target}
-use Rattle.sdv_graph.specs.Tree.{Statements, nothing, first, Ways, otherwise, way, Statement, send, phase, setting, choice, set, clear, turns, break, done, fault}
+use Rattle.sdv_graph.specs.Tree.{Statements, nothing, first, Ways, otherwise, way, Statement, send, phase, setting, choice, set, clear, bus_lines, turns, break, done, fault}
 use Rattle.sdv_graph.specs.Counts.{statements_count, ways_count, statement_count}
 use Rattle.sdv_graph.specs.Path.{Point}
 use Rattle.sdv_graph.specs.Points.{entry, outside, again, points_of_statements, points_of_ways, points_of_statement}
@@ -62,6 +62,7 @@ mutual
       omega arith
   statement_length (set f) at next brk most = refl
   statement_length (clear f) at next brk most = refl
+  statement_length (bus_lines width) at next brk most = refl
   statement_length (turns n a b) at next brk most =
       let mid = at + 1 + statements_count a in
       let inner = (n - 1) ∷ most in

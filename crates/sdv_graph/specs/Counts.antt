@@ -1,6 +1,6 @@
 -- The LIMITS of scripts that their graphs keep too, how many statements there are, and where a run can fall through.
 use Rattle.std.specs.Prelude.{ℕ, ◌+◌, ◌^◌, Bool, true, false, ◌&&◌, ◌||◌}
-use Rattle.sdv_graph.specs.Tree.{Statements, nothing, first, Ways, otherwise, way, Statement, send, phase, setting, choice, set, clear, turns, break, done, fault}
+use Rattle.sdv_graph.specs.Tree.{Statements, nothing, first, Ways, otherwise, way, Statement, send, phase, setting, choice, set, clear, bus_lines, turns, break, done, fault}
 
 -- the greatest number that a script may write
 abbrev pub max_number : ℕ
@@ -35,6 +35,7 @@ abbrev mutual
   statement_count (choice c a b) = 1 + (statements_count a + statements_count b)
   statement_count (set f) = 1
   statement_count (clear f) = 1
+  statement_count (bus_lines width) = 1
   statement_count (turns n a b) = 1 + (statements_count a + statements_count b)
   statement_count break = 1
   statement_count done = 1
@@ -59,6 +60,7 @@ abbrev mutual
   statement_breaks (choice c a b) = statements_break a || statements_break b
   statement_breaks (set f) = false
   statement_breaks (clear f) = false
+  statement_breaks (bus_lines width) = false
   statement_breaks (turns n a b) = statements_break b
   statement_breaks break = true
   statement_breaks done = false
@@ -81,6 +83,7 @@ abbrev mutual
   statement_falls (choice c a b) = statements_fall a || statements_fall b
   statement_falls (set f) = true
   statement_falls (clear f) = true
+  statement_falls (bus_lines width) = true
   statement_falls (turns n a b) = statements_fall b || statements_break a
   statement_falls break = false
   statement_falls done = false

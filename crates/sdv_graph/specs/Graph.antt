@@ -13,7 +13,7 @@ use Rattle.std.specs.Borrow.{Bor}
 use Rattle.sdv_graph.specs.declared.tree.Names.{Names}
 use Rattle.sdv_graph.specs.Tree.{Statements, Declared}
 use Rattle.sdv_graph.specs.Walk.{Pair, Ending, Finished, Failed, Walk}
-use Rattle.sdv_graph.specs.Path.{Case, Action, Point, Stand, Move, Goes, Does, Halts, sends, phases, lets, tests, flags, heads, jumps, stops, arrive, move_from, Path}
+use Rattle.sdv_graph.specs.Path.{Case, Action, Point, Stand, Move, Goes, Does, Halts, sends, phases, lets, tests, flags, widths, heads, jumps, stops, arrive, move_from, Path}
 
 -- a point without where it lies in memory
 abbrev pub seen_case : CodeCase → Case
@@ -25,6 +25,7 @@ seen_action (actions.Phase p well other) = phases p well other
 seen_action (actions.Let l t) = lets l t
 seen_action (actions.If c holds other) = tests c holds other
 seen_action (actions.Flag f on t) = flags f on t
+seen_action (actions.Lines width t) = widths width t
 seen_action (actions.Loop n body other) = heads n body other
 seen_action (actions.Break t) = jumps t
 seen_action actions.Done = stops Finished

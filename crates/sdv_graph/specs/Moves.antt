@@ -1,6 +1,6 @@
 -- How many moves a run through a part of a script has at most, each loop taken as often as it may be.
 use Rattle.std.specs.Prelude.{ℕ, ◌+◌, ◌*◌}
-use Rattle.sdv_graph.specs.Tree.{Statements, nothing, first, Ways, otherwise, way, Statement, send, phase, setting, choice, set, clear, turns, break, done, fault}
+use Rattle.sdv_graph.specs.Tree.{Statements, nothing, first, Ways, otherwise, way, Statement, send, phase, setting, choice, set, clear, bus_lines, turns, break, done, fault}
 
 abbrev mutual
   pub statements_moves : Statements → ℕ
@@ -18,6 +18,7 @@ abbrev mutual
   statement_moves (choice c a b) = 1 + (statements_moves a + statements_moves b)
   statement_moves (set f) = 1
   statement_moves (clear f) = 1
+  statement_moves (bus_lines width) = 1
   -- a turn is a move at the head and those of the body; a turn may be left in the middle
   statement_moves (turns n a b) = 1 + (n * (1 + statements_moves a) + statements_moves a + statements_moves b)
   statement_moves break = 1

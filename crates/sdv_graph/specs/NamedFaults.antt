@@ -1,7 +1,7 @@
 -- The FAULTS in which a script may end: those that it names, and the fault of a number out of range.
 use Rattle.std.specs.Prelude.{ℕ, List, [], ◌∷◌, ◌++◌, codes}
 use Rattle.sdv_card.specs.Lists.{May}
-use Rattle.sdv_graph.specs.Tree.{Statements, nothing, first, Ways, otherwise, way, Statement, send, phase, setting, choice, set, clear, turns, break, done, fault}
+use Rattle.sdv_graph.specs.Tree.{Statements, nothing, first, Ways, otherwise, way, Statement, send, phase, setting, choice, set, clear, bus_lines, turns, break, done, fault}
 use Rattle.sdv_graph.specs.Walk.{Ending, Failed}
 
 -- the names of its `fault` statements
@@ -21,6 +21,7 @@ abbrev mutual
   statement_faults (choice c a b) = statements_faults a ++ statements_faults b
   statement_faults (set f) = []
   statement_faults (clear f) = []
+  statement_faults (bus_lines width) = []
   statement_faults (turns n a b) = statements_faults a ++ statements_faults b
   statement_faults break = []
   statement_faults done = []

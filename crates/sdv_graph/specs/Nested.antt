@@ -1,7 +1,7 @@
 -- How the loops of a graph are NESTED: wherever a run stands, the turns left are those that the point allows.
 use Rattle.std.specs.Prelude.{◌≡◌, ℕ, zero, suc, ◌≤◌, List, [], ◌∷◌, slice_get, Some}
 use Rattle.sdv_graph.specs.declared.graph.Target.{Target}
-use Rattle.sdv_graph.specs.Path.{Case, Action, Point, sends, phases, lets, tests, flags, heads, jumps, stops, turns_at}
+use Rattle.sdv_graph.specs.Path.{Case, Action, Point, sends, phases, lets, tests, flags, widths, heads, jumps, stops, turns_at}
 use Rattle.sdv_graph.specs.Graph.{Graph}
 
 -- turns left that a point can have, the innermost loop first: as many as there are loops round it, and none above the
@@ -35,6 +35,7 @@ EachTarget (phases p well other) P = P Same well × P Same other
 EachTarget (lets l t) P = P Same t
 EachTarget (tests c holds other) P = P Same holds × P Same other
 EachTarget (flags f on t) P = P Same t
+EachTarget (widths width t) P = P Same t
 EachTarget (heads n body other) P = P Again body × P Over other
 EachTarget (jumps t) P = P Same t
 EachTarget (stops last) P = Unit {0}

@@ -3,6 +3,7 @@ use Rattle.std.specs.Prelude.{ℕ, zero, suc, List, [], ◌∷◌, Bool, slice_g
 use Rattle.sdv_registers.specs.declared.kind.Kind.{Kind}
 use Rattle.sdv_card.specs.declared.guard.Guard.{Guard}
 use Rattle.sdv_card.specs.declared.guard.Guard.TheVariants.{Ok as WentWell}
+use Rattle.sdv_card.specs.declared.state.Width.{Width}
 use Rattle.sdv_card.specs.Guards.{passes}
 use Rattle.sdv_card.specs.Host.{Host}
 use Rattle.sdv_card.specs.ScriptEvent.{Return}
@@ -12,7 +13,7 @@ use Rattle.sdv_graph.specs.declared.tree.Let.{Let}
 use Rattle.sdv_graph.specs.declared.tree.Condition.{Condition}
 use Rattle.sdv_graph.specs.declared.graph.Target.{Target}
 use Rattle.sdv_graph.specs.AddressSent.{position_of_command}
-use Rattle.sdv_graph.specs.Conditions.{condition_holds, with_flag}
+use Rattle.sdv_graph.specs.Conditions.{condition_holds, with_flag, with_lines}
 use Rattle.sdv_graph.specs.ValueOfLet.{value_of_let, with_number}
 use Rattle.sdv_graph.specs.Walk.{Pair, Ending, Fell, number_fault, Stops, Here, Deed, Acts, command_deed, phase_deed, all_pass}
 
@@ -30,6 +31,8 @@ pub data Action : Type 0 where
   lets : Let → Target → Action
   tests : Condition → (holds other : Target) → Action
   flags : (flag : ℕ) (on : Bool) → Target → Action
+  -- the host uses so many data lines from here on
+  widths : Width → Target → Action
   -- the head of a loop
   heads : (count : ℕ) (body other : Target) → Action
   jumps : Target → Action
@@ -98,6 +101,7 @@ action_move k (phases p well other) ts h =
 action_move k (lets l t) ts h = move_with (value_of_let k h l) (λ n. Goes (arrive t ts (with_number h l.target n)))
 action_move k (tests c holds other) ts h = Goes (arrive (if condition_holds h c then holds else other) ts h)
 action_move k (flags f on t) ts h = Goes (arrive t ts (with_flag h f on))
+action_move k (widths width t) ts h = Goes (arrive t ts (with_lines h width))
 action_move k (heads n body other) ts h = move_at_head ts body other h
 action_move k (jumps t) ts h = Goes (arrive t ts h)
 action_move k (stops last) ts h = Halts last

@@ -2,10 +2,10 @@
 -- point of a loop is its head, reached on entry and after each turn.
 use Rattle.std.specs.Prelude.{ℕ, ◌+◌, ◌-◌, List, [], ◌∷◌, ◌++◌, true, false, Option, Some, None}
 use Rattle.sdv_graph.specs.declared.graph.Target.{Target}
-use Rattle.sdv_graph.specs.Tree.{Statements, nothing, first, Ways, otherwise, way, Statement, send, phase, setting, choice, set, clear, turns, break, done, fault}
+use Rattle.sdv_graph.specs.Tree.{Statements, nothing, first, Ways, otherwise, way, Statement, send, phase, setting, choice, set, clear, bus_lines, turns, break, done, fault}
 use Rattle.sdv_graph.specs.Counts.{statements_count, statement_count}
 use Rattle.sdv_graph.specs.Walk.{Finished, Failed}
-use Rattle.sdv_graph.specs.Path.{Case, Action, Point, sends, phases, lets, tests, flags, heads, jumps, stops}
+use Rattle.sdv_graph.specs.Path.{Case, Action, Point, sends, phases, lets, tests, flags, widths, heads, jumps, stops}
 
 -- TARGETS
 
@@ -75,6 +75,7 @@ abbrev mutual
       (at + 1 + statements_count a) next brk most)
   points_of_statement (set f) at next brk most = point_with (flags f true next) most ∷ []
   points_of_statement (clear f) at next brk most = point_with (flags f false next) most ∷ []
+  points_of_statement (bus_lines width) at next brk most = point_with (widths width next) most ∷ []
   -- a body's end leads back to the head; the else block stands outside the loop
   points_of_statement (turns n a b) at next brk most =
       point_with (heads n (entry a (at + 1) (again at)) (outside (entry b (at + 1 + statements_count a) next)))

@@ -2,9 +2,10 @@
 use Rattle.std.specs.Prelude.{ℕ, List, [], ◌∷◌}
 use Rattle.sdv_registers.specs.declared.kind.Kind.{Kind}
 use Rattle.sdv_card.specs.declared.guard.Guard.{Guard}
+use Rattle.sdv_card.specs.declared.state.Width.{Width}
 use Rattle.sdv_graph.specs.declared.tree.Block.{Block, Empty, Then'}
 use Rattle.sdv_graph.specs.declared.tree.Cases.{Cases, Else', Case'}
-use Rattle.sdv_graph.specs.declared.tree.Stmt.{Stmt, Send, Phase', Let, If', Set, Clear, Loop', Break, Done, Fault}
+use Rattle.sdv_graph.specs.declared.tree.Stmt.{Stmt, Send, Phase', Let, If', Set, Clear, BusLines, Loop', Break, Done, Fault}
 use Rattle.sdv_graph.specs.declared.tree.ScriptCommand.{ScriptCommand}
 use Rattle.sdv_graph.specs.declared.tree.Phase.{Phase}
 use Rattle.sdv_graph.specs.declared.tree.Let.{Let as Setting}
@@ -28,6 +29,7 @@ mutual
     choice : Condition → Statements → Statements → Statement
     set : ℕ → Statement
     clear : ℕ → Statement
+    bus_lines : Width → Statement
     turns : ℕ → Statements → Statements → Statement
     break : Statement
     done : Statement
@@ -49,6 +51,7 @@ abbrev mutual
   statement_of (If' c p a q b) = choice c (statements_of a) (statements_of b)
   statement_of (Set f) = set f
   statement_of (Clear f) = clear f
+  statement_of (BusLines width) = bus_lines width
   statement_of (Loop' n p a q b) = turns n (statements_of a) (statements_of b)
   statement_of Break = break
   statement_of Done = done

@@ -1,12 +1,14 @@
 -- A WALK of a script: what the script does at a port, given what each event returned, by cases on its syntax tree.
 --
 -- A walk is a list of events, each with what it returned, and an end. Before the first event the variables are 0, the
--- flags are clear, the relative card address is 0, and no register was read. `walk_statements` says which lists still
--- come from a host on; what comes after a list of statements, and after a `break`, is handed to it.
+-- flags are clear, the relative card address is 0, one data line is used, and no register was read. `walk_statements`
+-- says which lists still come from a host on; what comes after a list of statements, and after a `break`, is handed to
+-- it.
 use Rattle.std.specs.Prelude.{◌≡◌, ℕ, zero, suc, ◌⊎◌, List, [], ◌∷◌, ◌++◌, length, Bool, true, false, ◌&&◌, Option, Some, None, codes}
 use Rattle.sdv_registers.specs.declared.kind.Kind.{Kind}
 use Rattle.sdv_card.specs.declared.guard.Guard.{Guard}
 use Rattle.sdv_card.specs.declared.guard.Guard.TheVariants.{Ok as WentWell}
+use Rattle.sdv_card.specs.declared.state.Width.{Width}
 use Rattle.sdv_card.specs.Card.{Block}
 use Rattle.sdv_card.specs.CommandTable.{argument_of}
 use Rattle.sdv_card.specs.Guards.{passes}
@@ -16,9 +18,9 @@ use Rattle.sdv_card.specs.ScriptEvent.{ScriptEvent, SendCommand, ReceiveBlocks, 
 use Rattle.sdv_graph.specs.declared.tree.ScriptCommand.{ScriptCommand}
 use Rattle.sdv_graph.specs.declared.tree.Phase.{Phase}
 use Rattle.sdv_graph.specs.declared.tree.Phase.TheVariants as phases
-use Rattle.sdv_graph.specs.Tree.{Statements, nothing, first, Ways, otherwise, way, Statement, send, phase, setting, choice, set, clear, turns, break, done, fault, Declared}
+use Rattle.sdv_graph.specs.Tree.{Statements, nothing, first, Ways, otherwise, way, Statement, send, phase, setting, choice, set, clear, bus_lines, turns, break, done, fault, Declared}
 use Rattle.sdv_graph.specs.AddressSent.{position_of_command, address_of_command}
-use Rattle.sdv_graph.specs.Conditions.{condition_holds, with_flag}
+use Rattle.sdv_graph.specs.Conditions.{condition_holds, with_flag, with_lines}
 use Rattle.sdv_graph.specs.ValueOfLet.{value_of_let, with_number}
 
 -- an event and what it returned
@@ -68,22 +70,22 @@ InRange e (Some n) on es = on n
 -- what a statement does at the port: one event, or a phase of so many blocks of the input, whatever is in them
 pub data Deed : Type 0 where
   exactly : ScriptEvent → Deed
-  giving : (count : ℕ) → Deed
+  giving : (lines : Width) (count : ℕ) → Deed
 
 abbrev pub IsDeed : Deed → ScriptEvent → Type 0
 IsDeed (exactly wanted) event = event ≡ wanted
-IsDeed (giving count) event = (blocks : List Block) × (length blocks ≡ count) × (event ≡ GiveBlocks blocks)
+IsDeed (giving lines count) event = (blocks : List Block) × (length blocks ≡ count) × (event ≡ GiveBlocks lines blocks)
 
 -- a command with its position, and its argument by the address of the block there, in the unit that the script sends
 abbrev pub command_deed : Kind → ScriptCommand → Host → (position : ℕ) → Deed
 command_deed k c h position =
     exactly (SendCommand c.ask position (argument_of k c.ask h.rca (address_of_command h c.address position)))
 
--- a phase is as long as was announced, or asked for, last
+-- a phase uses the data lines of the host, and is as long as was announced, or asked for, last
 abbrev pub phase_deed : Phase → Host → Deed
-phase_deed phases.ReceiveBlocks h = exactly (ReceiveBlocks h.announced)
-phase_deed phases.ReceiveRegister h = exactly (ReceiveRegister h.register_length)
-phase_deed phases.GiveBlocks h = giving h.announced
+phase_deed phases.ReceiveBlocks h = exactly (ReceiveBlocks h.lines h.announced)
+phase_deed phases.ReceiveRegister h = exactly (ReceiveRegister h.lines h.register_length)
+phase_deed phases.GiveBlocks h = giving h.lines h.announced
 phase_deed phases.Wait h = exactly AwaitReady
 
 -- an event, what it returned, and what comes after that
@@ -130,6 +132,7 @@ abbrev mutual
       (walk_statements k e b fell broke h es)) es
   walk_statement k e (set f) fell broke = λ h es. Here e (fell (with_flag h f true) es) es
   walk_statement k e (clear f) fell broke = λ h es. Here e (fell (with_flag h f false) es) es
+  walk_statement k e (bus_lines width) fell broke = λ h es. Here e (fell (with_lines h width) es) es
   walk_statement k e (turns n a b) fell broke =
       rounds e n (λ again. walk_statements k e a again fell) (walk_statements k e b fell broke)
   walk_statement k e break fell broke = λ h es. Here e (broke h es) es
@@ -149,7 +152,7 @@ Walk k names script e es =
 
 -- the blocks that a walk gives, in order
 abbrev pub given_by : ScriptEvent → List Block
-given_by (GiveBlocks blocks) = blocks
+given_by (GiveBlocks lines blocks) = blocks
 given_by event = []
 
 abbrev pub given : List Pair → List Block

@@ -4,7 +4,7 @@
 //! reached on entry and after each turn.
 
 use crate::tree::{Condition, Let, Phase, ScriptCommand};
-use sdv_card::{Guard, Kind};
+use sdv_card::{Guard, Kind, Width};
 use std::marker::Model;
 
 /// Where a run goes on, and what becomes of the loops on the way.
@@ -40,6 +40,8 @@ pub enum Action<'a> {
     If(Condition, Target, Target),
     /// A flag is set (true) or cleared.
     Flag(usize, bool, Target),
+    /// The host uses other data lines from here on.
+    Lines(Width, Target),
     /// The head of a loop of so many turns: its body while turns are left, and its else block.
     Loop(u16, Target, Target),
     /// The innermost loop is left whose body the statement stands in.

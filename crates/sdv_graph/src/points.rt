@@ -248,6 +248,7 @@ fn put_own<'a>(
         Stmt::Let(setting) => put(alloc, points, Action::Let(*setting, next), most),
         Stmt::Set(flag) => put(alloc, points, Action::Flag(*flag, true, next), most),
         Stmt::Clear(flag) => put(alloc, points, Action::Flag(*flag, false, next), most),
+        Stmt::BusLines(width) => put(alloc, points, Action::Lines(*width, next), most),
         Stmt::Break => put(alloc, points, Action::Break(brk), most),
         Stmt::Done => put(alloc, points, Action::Done, most),
         Stmt::Fault(name) => put(alloc, points, Action::Fault(name), most),

@@ -3,7 +3,7 @@
 //! Flags and number variables are named by their places in declared order, from 0. The texts of tokens that a tree keeps
 //! are slices of the script's text.
 
-use sdv_card::{Ask, Guard, Kind};
+use sdv_card::{Ask, Guard, Kind, Width};
 
 /// A list of statements: none, or a first one and the rest.
 #[derive(Drop)]
@@ -41,6 +41,8 @@ pub enum Stmt<'a> {
     Set(usize),
     /// `clear`: a flag is cleared.
     Clear(usize),
+    /// `bus.lines`: the host uses so many data lines from here on.
+    BusLines(Width),
     /// `loop`: at most so many turns of a body, 1 to 65,535, and the block after the last of them.
     Loop(u16, Box<Block<'a>>, Box<Block<'a>>),
     /// `break`: the innermost loop is left whose body it stands in.

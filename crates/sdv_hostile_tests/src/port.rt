@@ -268,7 +268,7 @@ impl CardPort for HostilePort {
         answer
     }
 
-    fn data_in(&mut self, blocks: &mut [[u8; 512]]) -> DataEnd {
+    fn data_in(&mut self, _lines: u8, blocks: &mut [[u8; 512]]) -> DataEnd {
         let end = self.phase("IN", blocks.len());
         for block in blocks.iter_mut() {
             self.rng.fill_bytes(block);
@@ -279,13 +279,13 @@ impl CardPort for HostilePort {
         end
     }
 
-    fn data_in_reg(&mut self, bytes: &mut [u8]) -> DataEnd {
+    fn data_in_reg(&mut self, _lines: u8, bytes: &mut [u8]) -> DataEnd {
         let end = self.phase("REG", bytes.len());
         self.rng.fill_bytes(bytes);
         end
     }
 
-    fn data_out(&mut self, blocks: &[[u8; 512]]) -> DataEnd {
+    fn data_out(&mut self, _lines: u8, blocks: &[[u8; 512]]) -> DataEnd {
         for block in blocks {
             self.taken = self.given.push(block[0]).is_ok() && self.taken;
         }

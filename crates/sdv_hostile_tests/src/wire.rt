@@ -98,16 +98,16 @@ impl Wire for HostileWire {
         end
     }
 
-    fn data_in(&mut self, blocks: &mut [[u8; 512]]) -> DataEnd {
-        self.port.data_in(blocks)
+    fn data_in(&mut self, lines: u8, blocks: &mut [[u8; 512]]) -> DataEnd {
+        self.port.data_in(lines, blocks)
     }
 
-    fn data_in_reg(&mut self, bytes: &mut [u8]) -> DataEnd {
-        self.port.data_in_reg(bytes)
+    fn data_in_reg(&mut self, lines: u8, bytes: &mut [u8]) -> DataEnd {
+        self.port.data_in_reg(lines, bytes)
     }
 
-    fn data_out(&mut self, blocks: &[[u8; 512]]) -> DataEnd {
-        self.port.data_out(blocks)
+    fn data_out(&mut self, lines: u8, blocks: &[[u8; 512]]) -> DataEnd {
+        self.port.data_out(lines, blocks)
     }
 
     fn wait(&mut self) -> WaitEnd {

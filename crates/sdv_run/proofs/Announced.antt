@@ -9,16 +9,17 @@ use Rattle.sdv_card.specs.declared.event.Ask.{Ask}
 use Rattle.sdv_card.specs.declared.guard.Guard.TheVariants.{Ok as WentWell}
 use Rattle.sdv_card.specs.Guards.{passes}
 use Rattle.sdv_card.specs.CommandTable.{order_of, argument_of}
+use Rattle.sdv_card.specs.declared.state.Width.{Width}
 use Rattle.sdv_card.specs.Host.{Host, announced_by, host_after_order, host_after}
 use Rattle.sdv_card.proofs.OrdersOfAsks.{WritesCount, line_of}
 use Rattle.sdv_card.specs.ScriptEvent.{ScriptEvent, SendCommand, ReceiveBlocks, ReceiveRegister, GiveBlocks, AwaitReady, Return, Answered, BlocksIn, RegisterIn, BlocksOut, Waited}
 use Rattle.sdv_graph.specs.declared.graph.Target.{Target}
 use Rattle.sdv_graph.specs.declared.tree.Phase.TheVariants as kinds
 use Rattle.sdv_graph.specs.AddressSent.{position_of_command, address_of_command}
-use Rattle.sdv_graph.specs.Conditions.{condition_holds, with_flag}
+use Rattle.sdv_graph.specs.Conditions.{condition_holds, with_flag, with_lines}
 use Rattle.sdv_graph.specs.ValueOfLet.{value_of_let, with_number}
 use Rattle.sdv_graph.specs.Walk.{exactly, giving, command_deed}
-use Rattle.sdv_graph.specs.Path.{Action, sends, phases, lets, tests, flags, heads, jumps, stops, Stand, arrive, Move, Goes, Does, way_of, move_with, action_move}
+use Rattle.sdv_graph.specs.Path.{Action, sends, phases, lets, tests, flags, widths, heads, jumps, stops, Stand, arrive, Move, Goes, Does, way_of, move_with, action_move}
 use Rattle.sdv_run.specs.Announced.{announced_at}
 use Rattle.sdv_run.specs.Run.{Steps}
 use Rattle.sdv_run.specs.Step.{World, Leads}
@@ -59,13 +60,13 @@ after_event k room (SendCommand ask position argument) (BlocksIn end blocks) h f
 after_event k room (SendCommand ask position argument) (RegisterIn end bytes) h few in_room = in_room
 after_event k room (SendCommand ask position argument) (BlocksOut end) h few in_room = in_room
 after_event k room (SendCommand ask position argument) (Waited end) h few in_room = in_room
-after_event k room (ReceiveRegister count) (RegisterIn end bytes) h few in_room = in_room
-after_event k room (ReceiveRegister count) (Answered answer) h few in_room = in_room
-after_event k room (ReceiveRegister count) (BlocksIn end blocks) h few in_room = in_room
-after_event k room (ReceiveRegister count) (BlocksOut end) h few in_room = in_room
-after_event k room (ReceiveRegister count) (Waited end) h few in_room = in_room
-after_event k room (ReceiveBlocks count) returned h few in_room = in_room
-after_event k room (GiveBlocks blocks) returned h few in_room = in_room
+after_event k room (ReceiveRegister width count) (RegisterIn end bytes) h few in_room = in_room
+after_event k room (ReceiveRegister width count) (Answered answer) h few in_room = in_room
+after_event k room (ReceiveRegister width count) (BlocksIn end blocks) h few in_room = in_room
+after_event k room (ReceiveRegister width count) (BlocksOut end) h few in_room = in_room
+after_event k room (ReceiveRegister width count) (Waited end) h few in_room = in_room
+after_event k room (ReceiveBlocks width count) returned h few in_room = in_room
+after_event k room (GiveBlocks width blocks) returned h few in_room = in_room
 after_event k room AwaitReady returned h few in_room = in_room
 
 deed_within : (room : ℕ) (wanted event : ScriptEvent) → EventWithin room wanted → event ≡ wanted → EventWithin room event
@@ -84,10 +85,9 @@ module _ {S : Type 0} (k : Kind) (steps : Steps S) (room : ℕ) where
   does_within event h target ts few in_room w w' stand p =
       subst (λ s. s.host.announced ≤ room) (sym p.4) (after_event k room p.0 p.1 h (deed_within room event p.0 few p.2) in_room)
 
-  gives_within : (count : ℕ) (h : Host) (target : Return → Target) (ts : List ℕ) → Within room h →
-      Kept (Does (giving count) h (λ returned after. arrive (target returned) ts after))
-  gives_within count h target ts in_room w w' stand p =
-      subst (λ s. s.host.announced ≤ room) (sym p.4) (after_event k room p.0 p.1 h (deed_within room (GiveBlocks p.2.0) p.0 tt p.2.2) in_room)
+  gives_within : (width : Width) (count : ℕ) (h : Host) (target : Return → Target) (ts : List ℕ) → Within room h → Kept (Does (giving width count) h (λ returned after. arrive (target returned) ts after))
+  gives_within width count h target ts in_room w w' stand p =
+      subst (λ s. s.host.announced ≤ room) (sym p.4) (after_event k room p.0 p.1 h (deed_within room (GiveBlocks width p.2.0) p.0 tt p.2.2) in_room)
 
   with_within : (o : Option ℕ) (on : ℕ → Move) → ((n : ℕ) → Kept (on n)) → Kept (move_with o on)
   with_within None on f = λ w w' stand p. absurd p
@@ -100,17 +100,18 @@ module _ {S : Type 0} (k : Kind) (steps : Steps S) (room : ℕ) where
       (λ position. does_within (SendCommand c.ask position (argument_of k c.ask h.rca (address_of_command h c.address position))) h
       (way_of k ways other) ts few in_room)
   announced_after (phases kinds.ReceiveBlocks well other) ts h few in_room =
-      does_within (ReceiveBlocks h.announced) h (λ returned. if passes k WentWell returned then well else other) ts tt in_room
+      does_within (ReceiveBlocks h.lines h.announced) h (λ returned. if passes k WentWell returned then well else other) ts tt in_room
   announced_after (phases kinds.ReceiveRegister well other) ts h few in_room =
-      does_within (ReceiveRegister h.register_length) h (λ returned. if passes k WentWell returned then well else other) ts tt in_room
+      does_within (ReceiveRegister h.lines h.register_length) h (λ returned. if passes k WentWell returned then well else other) ts tt in_room
   announced_after (phases kinds.GiveBlocks well other) ts h few in_room =
-      gives_within h.announced h (λ returned. if passes k WentWell returned then well else other) ts in_room
+      gives_within h.lines h.announced h (λ returned. if passes k WentWell returned then well else other) ts in_room
   announced_after (phases kinds.Wait well other) ts h few in_room =
       does_within AwaitReady h (λ returned. if passes k WentWell returned then well else other) ts tt in_room
   announced_after (lets l t) ts h few in_room =
       with_within (value_of_let k h l) (λ n. Goes (arrive t ts (with_number h l.target n))) (λ n. goes_within (arrive t ts (with_number h l.target n)) in_room)
   announced_after (tests c holds other) ts h few in_room = goes_within (arrive (if condition_holds h c then holds else other) ts h) in_room
   announced_after (flags f on t) ts h few in_room = goes_within (arrive t ts (with_flag h f on)) in_room
+  announced_after (widths width t) ts h few in_room = goes_within (arrive t ts (with_lines h width)) in_room
   announced_after (heads n body other) [] h few in_room = λ w w' stand p. absurd p
   announced_after (heads n body other) (zero ∷ ts) h few in_room = goes_within (arrive other (zero ∷ ts) h) in_room
   announced_after (heads n body other) (suc t ∷ ts) h few in_room = goes_within (arrive body (t ∷ ts) h) in_room

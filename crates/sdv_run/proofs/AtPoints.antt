@@ -9,10 +9,10 @@ use Rattle.sdv_card.specs.ScriptEvent.{Return}
 use Rattle.sdv_graph.specs.declared.graph.Target.{Target}
 use Rattle.sdv_script.specs.Rules.{max_flags, max_loops, max_name}
 use Rattle.sdv_graph.specs.AddressSent.{position_of_command}
-use Rattle.sdv_graph.specs.Conditions.{condition_holds, with_flag}
+use Rattle.sdv_graph.specs.Conditions.{condition_holds, with_flag, with_lines}
 use Rattle.sdv_graph.specs.ValueOfLet.{value_of_let, with_number}
 use Rattle.sdv_graph.specs.Walk.{Fell, Broke, Finished, Failed, Open, command_deed, all_pass}
-use Rattle.sdv_graph.specs.Path.{Case, Action, Point, sends, phases, lets, tests, flags, heads, jumps, stops, Stand, arrive, Move, Goes, Does, Halts, way_of, move_with, action_move, move}
+use Rattle.sdv_graph.specs.Path.{Case, Action, Point, sends, phases, lets, tests, flags, widths, heads, jumps, stops, Stand, arrive, Move, Goes, Does, Halts, way_of, move_with, action_move, move}
 use Rattle.sdv_graph.specs.declared.graph.Action.{Action as CodeAction}
 use Rattle.sdv_graph.specs.declared.graph.Action.TheVariants as actions
 use Rattle.sdv_graph.specs.Graph.{Graph, WhereverTo, Lasts, begin, seen_action}
@@ -102,6 +102,7 @@ module _ (k : Kind) (g : List Point) where
     sits_on (tests c holds other) ts h box each =
         lands (if condition_holds h c then holds else other) ts h (either_lands (condition_holds h c) holds other each.0 each.1) box
     sits_on (flags f on t) ts h box each = lands t ts (with_flag h f on) each box
+    sits_on (widths width t) ts h box each = lands t ts (with_lines h width) each box
     sits_on (heads n body other) [] h box each = tt
     sits_on (heads n body other) (zero ∷ ts) h box each = λ p here. each.1 p here (zero ∷ ts) (zero ∷ ts) box refl
     sits_on (heads n body other) (suc t ∷ ts) h box each = λ p here. each.0 p here (suc t ∷ ts) (t ∷ ts) box refl
@@ -133,6 +134,7 @@ end_fits k (phases p well other) ts h keeps = tt
 end_fits k (lets l t) ts h keeps = with_end_fits (value_of_let k h l) (λ n. Goes (arrive t ts (with_number h l.target n))) (λ n. tt)
 end_fits k (tests c holds other) ts h keeps = tt
 end_fits k (flags f on t) ts h keeps = tt
+end_fits k (widths width t) ts h keeps = tt
 end_fits k (heads n body other) [] h keeps = tt
 end_fits k (heads n body other) (zero ∷ ts) h keeps = tt
 end_fits k (heads n body other) (suc t ∷ ts) h keeps = tt
@@ -204,6 +206,7 @@ in_range (actions.Phase phase well other) keeps = tt
 in_range (actions.Let l t) keeps = tt
 in_range (actions.If c holds other) keeps = tt
 in_range (actions.Flag flag on t) keeps = let lt = ltb-true flag max_flags keeps in omega (arith, lt)
+in_range (actions.Lines width t) keeps = tt
 in_range (actions.Loop n body other) keeps = tt
 in_range (actions.Break t) keeps = tt
 in_range actions.Done keeps = tt

@@ -8,6 +8,8 @@ use Rattle.sdv_registers.specs.declared.kind.Kind.{Kind}
 use Rattle.sdv_card.specs.declared.event.Ask.{Ask}
 use Rattle.sdv_card.specs.declared.answer.Answer.{Answer}
 use Rattle.sdv_card.specs.declared.answer.DataEnd.TheVariants as ends
+use Rattle.sdv_card.specs.declared.state.Width.{Width}
+use Rattle.sdv_card.specs.Modes.{line_count}
 use Rattle.sdv_card.specs.Card.{Block}
 use Rattle.sdv_card.specs.Host.{Host, host_after}
 use Rattle.sdv_card.specs.Port.{DataIn, call_of}
@@ -188,33 +190,32 @@ module _ {S : Type 0} (steps : Steps S) (f : Graph) (room : ℕ) (start : World 
       });
     }
 
-    too_short : (count : ℕ) → ((blocks : List Block) → length blocks ≡ count → IsDeed deed (GiveBlocks blocks)) → (length w.input < count) × (w' ≡ w) →
-        Stopped steps f Input start w'
-    too_short count is p = record {
+    too_short : (width : Width) (count : ℕ) → ((blocks : List Block) → length blocks ≡ count → IsDeed deed (GiveBlocks width blocks)) → (length w.input < count) × (w' ≡ w) → Stopped steps f Input start w'
+    too_short width count is p = record {
       events = so.events;
       happened = subst (λ w. Happened f.kind steps so.events start w) (sym p.1) so.happened;
       walk = stopped_here n s w so;
       because = record {
+        width = width;
         count = count;
         short = subst (λ w. length w.input < count) (sym p.1) p.0;
-        next = λ blocks len end. comes_next (GiveBlocks blocks) (BlocksOut end) (is blocks len) tt;
+        next = λ blocks len end. comes_next (GiveBlocks width blocks) (BlocksOut end) (is blocks len) tt;
         written = subst (λ w. Written so.events start w) (sym p.1) so.written;
       };
     }
 
-    output_fails : (count : ℕ) → IsDeed deed (ReceiveBlocks count) →
-        (blocks : List Block) × (length blocks ≡ count) × steps w.port (call_of f.kind (ReceiveBlocks count)) (BlocksIn ends.Ok blocks) w'.port
-        × AppendsPart w.out w'.out (concat blocks) × (w' ≡ record w { port = w'.port; out = w'.out }) → Stopped steps f Output start w'
-    output_fails count is p =
+    output_fails : (width : Width) (count : ℕ) → IsDeed deed (ReceiveBlocks width count) → (blocks : List Block) × (length blocks ≡ count) × steps w.port (call_of f.kind (ReceiveBlocks width count)) (BlocksIn ends.Ok blocks) w'.port × AppendsPart w.out w'.out (concat blocks) × (w' ≡ record w { port = w'.port; out = w'.out }) → Stopped steps f Output start w'
+    output_fails width count is p =
         let blocks = p.0 in
-        let event = ReceiveBlocks (length blocks) in
-        let step = subst (λ n. steps w.port (DataIn n) (BlocksIn ends.Ok blocks) w'.port) (sym p.1) p.2 in
+        let event = ReceiveBlocks width (length blocks) in
+        let step = subst (λ n. steps w.port (DataIn (line_count width) n) (BlocksIn ends.Ok blocks) w'.port) (sym p.1) p.2 in
         record {
           events = so.events ++ (event, BlocksIn ends.Ok blocks) ∷ [];
           happened = one_more event (BlocksIn ends.Ok blocks) step (sym (ap (λ w. w.input) p.4));
-          walk = came event (BlocksIn ends.Ok blocks) (subst (λ n. IsDeed deed (ReceiveBlocks n)) (sym p.1) is) refl;
+          walk = came event (BlocksIn ends.Ok blocks) (subst (λ n. IsDeed deed (ReceiveBlocks width n)) (sym p.1) is) refl;
           because = record {
             earlier = so.events;
+            width = width;
             blocks = blocks;
             last = refl;
             output = breaks_off start.out w.out w'.out (received so.events) (concat blocks) so.written.output p.3;
@@ -259,21 +260,19 @@ module _ {S : Type 0} (steps : Steps S) (f : Graph) (room : ℕ) (start : World 
   stops fault n s w w' so (Halts last) at p = absurd p
   stops Reply n s w w' so (Does (exactly (SendCommand ask position argument)) before next) at p =
       either_reply n s w w' so ask position argument before next at p
-  stops Reply n s w w' so (Does (exactly (ReceiveBlocks count)) before next) at p = absurd p
-  stops Reply n s w w' so (Does (exactly (ReceiveRegister count)) before next) at p = absurd p
-  stops Reply n s w w' so (Does (exactly (GiveBlocks blocks)) before next) at p = absurd p
+  stops Reply n s w w' so (Does (exactly (ReceiveBlocks width count)) before next) at p = absurd p
+  stops Reply n s w w' so (Does (exactly (ReceiveRegister width count)) before next) at p = absurd p
+  stops Reply n s w w' so (Does (exactly (GiveBlocks width blocks)) before next) at p = absurd p
   stops Reply n s w w' so (Does (exactly AwaitReady) before next) at p = absurd p
-  stops Reply n s w w' so (Does (giving count) before next) at p = absurd p
+  stops Reply n s w w' so (Does (giving width count) before next) at p = absurd p
   stops Input n s w w' so (Does (exactly event) before next) at p = absurd p
-  stops Input n s w w' so (Does (giving count) before next) at p =
-      too_short n s w w' so (giving count) before next at count (λ blocks len. (blocks, len, refl)) p
-  stops Output n s w w' so (Does (exactly (ReceiveBlocks count)) before next) at p =
-      output_fails n s w w' so (exactly (ReceiveBlocks count)) before next at count refl p
+  stops Input n s w w' so (Does (giving width count) before next) at p = too_short n s w w' so (giving width count) before next at width count (λ blocks len. (blocks, len, refl)) p
+  stops Output n s w w' so (Does (exactly (ReceiveBlocks width count)) before next) at p = output_fails n s w w' so (exactly (ReceiveBlocks width count)) before next at width count refl p
   stops Output n s w w' so (Does (exactly (SendCommand ask position argument)) before next) at p = absurd p
-  stops Output n s w w' so (Does (exactly (ReceiveRegister count)) before next) at p = absurd p
-  stops Output n s w w' so (Does (exactly (GiveBlocks blocks)) before next) at p = absurd p
+  stops Output n s w w' so (Does (exactly (ReceiveRegister width count)) before next) at p = absurd p
+  stops Output n s w w' so (Does (exactly (GiveBlocks width blocks)) before next) at p = absurd p
   stops Output n s w w' so (Does (exactly AwaitReady) before next) at p = absurd p
-  stops Output n s w w' so (Does (giving count) before next) at p = absurd p
+  stops Output n s w w' so (Does (giving width count) before next) at p = absurd p
   stops Trace n s w w' so (Does deed before next) at p = trace_fails n s w w' so deed before next at p
   stops Memory n s w w' so (Does deed before next) at p = absurd p
 

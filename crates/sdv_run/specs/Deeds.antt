@@ -8,6 +8,8 @@ use Rattle.sdv_card.specs.declared.answer.Answer.{Answer}
 use Rattle.sdv_card.specs.declared.answer.DataEnd.{DataEnd}
 use Rattle.sdv_card.specs.declared.answer.DataEnd.TheVariants as ends
 use Rattle.sdv_card.specs.declared.answer.WaitEnd.{WaitEnd}
+use Rattle.sdv_card.specs.declared.state.Width.{Width}
+use Rattle.sdv_card.specs.Modes.{line_count}
 use Rattle.sdv_card.specs.Card.{Block}
 use Rattle.sdv_card.specs.Host.{Host, host_after, host_after_order}
 use Rattle.sdv_card.specs.Port.{command_of, call_of, Exchange, DataIn, DataInRegister, DataOut, WaitWhileBusy}
@@ -54,42 +56,37 @@ Unprinted Trace t t' text = AppendsPart t t' text
 Unprinted fault t t' text = ⊥
 
 -- or where the output fails at the blocks of a phase that ended well, which is not printed then
-abbrev pub Unreceived : RunFault → DataEnd → List Block → (o o' t t' : Option (List ℕ)) → Type 0
-Unreceived Output end blocks o o' t t' = (end ≡ ends.Ok) × AppendsPart o o' (concat blocks) × (t' ≡ t)
-Unreceived Trace end blocks o o' t t' =
-    Appends o o' (received_by (BlocksIn end blocks))
-    × AppendsPart t t' (line_of (ReceiveBlocks (length blocks)) (BlocksIn end blocks))
-Unreceived fault end blocks o o' t t' = ⊥
+abbrev pub Unreceived : RunFault → Width → DataEnd → List Block → (o o' t t' : Option (List ℕ)) → Type 0
+Unreceived Output width end blocks o o' t t' = (end ≡ ends.Ok) × AppendsPart o o' (concat blocks) × (t' ≡ t)
+Unreceived Trace width end blocks o o' t t' =
+    Appends o o' (received_by (BlocksIn end blocks)) × AppendsPart t t' (line_of (ReceiveBlocks width (length blocks)) (BlocksIn end blocks))
+Unreceived fault width end blocks o o' t t' = ⊥
 
 -- one phase of blocks from the card, which are written where it ended well
-abbrev pub Receives : {S : Type 0} → Steps S → (count : ℕ) → (s s' : S) → (o o' t t' : Option (List ℕ)) →
-    Result DataEnd RunFault → Type 0
-Receives steps count s s' o o' t t' result =
-    (end : DataEnd) × (blocks : List Block) × (length blocks ≡ count) × steps s (DataIn count) (BlocksIn end blocks) s'
+abbrev pub Receives : {S : Type 0} → Steps S → (width : Width) → (count : ℕ) → (s s' : S) → (o o' t t' : Option (List ℕ)) → Result DataEnd RunFault → Type 0
+Receives steps width count s s' o o' t t' result =
+    (end : DataEnd) × (blocks : List Block) × (length blocks ≡ count) × steps s (DataIn (line_count width) count) (BlocksIn end blocks) s'
     × MatchResult result
-    (λ e. (e ≡ end) × Appends o o' (received_by (BlocksIn end blocks))
-    × Appends t t' (line_of (ReceiveBlocks count) (BlocksIn end blocks)))
-    (λ fault. Unreceived fault end blocks o o' t t')
+    (λ e. (e ≡ end) × Appends o o' (received_by (BlocksIn end blocks)) × Appends t t' (line_of (ReceiveBlocks width count) (BlocksIn end blocks)))
+    (λ fault. Unreceived fault width end blocks o o' t t')
 
 -- one phase of a register
 abbrev pub ReceivesRegister : {S : Type 0} → Kind → Steps S → (s s' : S) → (h h' : Host) → (t t' : Option (List ℕ)) →
     Result DataEnd RunFault → Type 0
 ReceivesRegister k steps s s' h h' t t' result =
     (end : DataEnd) × (bytes : List ℕ) × (length bytes ≡ h.register_length)
-    × steps s (DataInRegister h.register_length) (RegisterIn end bytes) s'
+    × steps s (DataInRegister (line_count h.lines) h.register_length) (RegisterIn end bytes) s'
     × MatchResult result
-    (λ e. (e ≡ end) × (h' ≡ host_after k (ReceiveRegister h.register_length) (RegisterIn end bytes) h)
-    × Appends t t' (line_of (ReceiveRegister h.register_length) (RegisterIn end bytes)))
-    (λ fault. Unprinted fault t t' (line_of (ReceiveRegister h.register_length) (RegisterIn end bytes)))
+    (λ e. (e ≡ end) × (h' ≡ host_after k (ReceiveRegister h.lines h.register_length) (RegisterIn end bytes) h) × Appends t t' (line_of (ReceiveRegister h.lines h.register_length) (RegisterIn end bytes)))
+    (λ fault. Unprinted fault t t' (line_of (ReceiveRegister h.lines h.register_length) (RegisterIn end bytes)))
 
 -- one phase of blocks to the card
-abbrev pub Gives : {S : Type 0} → Steps S → List Block → (s s' : S) → (t t' : Option (List ℕ)) →
-    Result DataEnd RunFault → Type 0
-Gives steps blocks s s' t t' result =
-    (end : DataEnd) × steps s (DataOut blocks) (BlocksOut end) s'
+abbrev pub Gives : {S : Type 0} → Steps S → Width → List Block → (s s' : S) → (t t' : Option (List ℕ)) → Result DataEnd RunFault → Type 0
+Gives steps width blocks s s' t t' result =
+    (end : DataEnd) × steps s (DataOut (line_count width) blocks) (BlocksOut end) s'
     × MatchResult result
-    (λ e. (e ≡ end) × Appends t t' (line_of (GiveBlocks blocks) (BlocksOut end)))
-    (λ fault. Unprinted fault t t' (line_of (GiveBlocks blocks) (BlocksOut end)))
+    (λ e. (e ≡ end) × Appends t t' (line_of (GiveBlocks width blocks) (BlocksOut end)))
+    (λ fault. Unprinted fault t t' (line_of (GiveBlocks width blocks) (BlocksOut end)))
 
 -- one wait
 abbrev pub Awaits : {S : Type 0} → Steps S → (s s' : S) → (t t' : Option (List ℕ)) → Result WaitEnd RunFault → Type 0
@@ -136,11 +133,9 @@ PhaseGoesOn k steps event target s s' turns h stand t t' result =
     (λ fault. Unprinted fault t t' (line_of event returned))
 
 -- where blocks are received
-abbrev pub BlocksGoOn : {S : Type 0} → Kind → Steps S → (count : ℕ) → (Return → Target) → (s s' : S) →
-    (turns : List ℕ) → (h : Host) → Stand → (o o' t t' : Option (List ℕ)) → Result (Unit {0}) RunFault → Type 0
-BlocksGoOn k steps count target s s' turns h stand o o' t t' result =
-    (end : DataEnd) × (blocks : List Block) × (length blocks ≡ count) × steps s (DataIn count) (BlocksIn end blocks) s'
+abbrev pub BlocksGoOn : {S : Type 0} → Kind → Steps S → (width : Width) → (count : ℕ) → (Return → Target) → (s s' : S) → (turns : List ℕ) → (h : Host) → Stand → (o o' t t' : Option (List ℕ)) → Result (Unit {0}) RunFault → Type 0
+BlocksGoOn k steps width count target s s' turns h stand o o' t t' result =
+    (end : DataEnd) × (blocks : List Block) × (length blocks ≡ count) × steps s (DataIn (line_count width) count) (BlocksIn end blocks) s'
     × MatchResult result
-    (λ _. (stand ≡ arrive (target (BlocksIn end blocks)) turns h) × Appends o o' (received_by (BlocksIn end blocks))
-    × Appends t t' (line_of (ReceiveBlocks count) (BlocksIn end blocks)))
-    (λ fault. Unreceived fault end blocks o o' t t')
+    (λ _. (stand ≡ arrive (target (BlocksIn end blocks)) turns h) × Appends o o' (received_by (BlocksIn end blocks)) × Appends t t' (line_of (ReceiveBlocks width count) (BlocksIn end blocks)))
+    (λ fault. Unreceived fault width end blocks o o' t t')

@@ -8,6 +8,7 @@ use Rattle.sdv_card.specs.declared.event.Ask.{Ask}
 use Rattle.sdv_card.specs.declared.answer.Answer.{Answer}
 use Rattle.sdv_card.specs.declared.answer.DataEnd.{DataEnd}
 use Rattle.sdv_card.specs.declared.answer.DataEnd.TheVariants as ends
+use Rattle.sdv_card.specs.declared.state.Width.{Width}
 use Rattle.sdv_card.specs.Card.{Block}
 use Rattle.sdv_card.specs.ScriptEvent.{ScriptEvent, SendCommand, ReceiveBlocks, GiveBlocks, Return, Answered, BlocksIn, BlocksOut}
 use Rattle.sdv_graph.specs.Tree.{Statements, Declared}
@@ -73,17 +74,19 @@ pub record ArgumentIsTooWide {S : Type 0} (g : Graph) (es : List Pair) (w w' : W
 
 -- INPUT: the next event gives more blocks than are left of the input, and none was given.
 pub record InputIsShort {S : Type 0} (g : Graph) (es : List Pair) (w w' : World S) : Type 0 where
+  pub width : Width
   pub count : ℕ
   pub short : length w'.input < count
   pub next : (blocks : List Block) → length blocks ≡ count → (end : DataEnd) →
-      Path g.kind g.points Open (begin g) (es ++ (GiveBlocks blocks, BlocksOut end) ∷ [])
+      Path g.kind g.points Open (begin g) (es ++ (GiveBlocks width blocks, BlocksOut end) ∷ [])
   pub written : Written es w w'
 
 -- OUTPUT: the output did not take all blocks of the last event, a phase that ended well and was not printed.
 pub record OutputBrokeOff {S : Type 0} (es : List Pair) (w w' : World S) : Type 0 where
   pub earlier : List Pair
+  pub width : Width
   pub blocks : List Block
-  pub last : es ≡ earlier ++ (ReceiveBlocks (length blocks), BlocksIn ends.Ok blocks) ∷ []
+  pub last : es ≡ earlier ++ (ReceiveBlocks width (length blocks), BlocksIn ends.Ok blocks) ∷ []
   pub output : BreaksOff w.out w'.out (received earlier) (concat blocks)
   pub trace : Appends w.trace w'.trace (lines earlier)
 

@@ -10,6 +10,7 @@ host_of h = record {
   numbers = h.numbers.items;
   flags = h.flags;
   rca = h.rca;
+  lines = h.lines;
   csd = option_map (λ csd. csd.register) h.csd;
   ext_csd = h.ext_csd;
   announced = h.announced;

@@ -52,11 +52,10 @@ CutDeed Reply k steps (exactly (SendCommand ask position argument)) w w' =
     ⊎ ((answer : Answer) × steps w.port (call_of k (SendCommand ask position argument)) (Answered answer) w'.port
     × (is_taken k ask answer ≡ false) × (w' ≡ record w { port = w'.port }))
 -- the input has not as many blocks, and none is given
-CutDeed Input k steps (giving count) w w' = (length w.input < count) × (w' ≡ w)
+CutDeed Input k steps (giving width count) w w' = (length w.input < count) × (w' ≡ w)
 -- the output failed at the blocks of a phase that ended well
-CutDeed Output k steps (exactly (ReceiveBlocks count)) w w' =
-    (blocks : List Block) × (length blocks ≡ count)
-    × steps w.port (call_of k (ReceiveBlocks count)) (BlocksIn ends.Ok blocks) w'.port
+CutDeed Output k steps (exactly (ReceiveBlocks width count)) w w' =
+    (blocks : List Block) × (length blocks ≡ count) × steps w.port (call_of k (ReceiveBlocks width count)) (BlocksIn ends.Ok blocks) w'.port
     × AppendsPart w.out w'.out (concat blocks) × (w' ≡ record w { port = w'.port; out = w'.out })
 -- the trace failed at the event's line
 CutDeed Trace k steps deed w w' =

@@ -66,9 +66,9 @@ wait_line end = codes "WAIT" ++ (wait_text end ++ line_feed)
 -- the line of an event and of what it returned
 abbrev pub line_of : ScriptEvent → Return → List ℕ
 line_of (SendCommand ask position argument) (Answered answer) = command_line (command_of ask argument) answer
-line_of (ReceiveBlocks count) (BlocksIn end blocks) = phase_line (codes "IN") count end
-line_of (ReceiveRegister count) (RegisterIn end register) = phase_line (codes "REG") count end
-line_of (GiveBlocks blocks) (BlocksOut end) = phase_line (codes "OUT") (length blocks) end
+line_of (ReceiveBlocks width count) (BlocksIn end blocks) = phase_line (codes "IN") count end
+line_of (ReceiveRegister width count) (RegisterIn end register) = phase_line (codes "REG") count end
+line_of (GiveBlocks width blocks) (BlocksOut end) = phase_line (codes "OUT") (length blocks) end
 line_of AwaitReady (Waited end) = wait_line end
 line_of event returned = []
 

@@ -11,7 +11,7 @@ use crate::trace::{
     write_all, write_blocks_in, write_blocks_out, write_command, write_register, write_wait,
 };
 use sdv_card::state_table::order;
-use sdv_card::{Answer, Ask, CardPort, DataEnd, WaitEnd};
+use sdv_card::{Answer, Ask, CardPort, DataEnd, WaitEnd, Width};
 use sdv_frames::Command;
 use std::io::Write;
 
@@ -58,15 +58,15 @@ pub fn send<P: CardPort, T: Write>(
 ///
 /// [`RunFault::Output`] and [`RunFault::Trace`].
 pub fn receive_blocks<P: CardPort, O: Write, T: Write>(
+    lines: Width,
     blocks: &mut [[u8; 512]],
     port: &mut P,
     out: &mut O,
     trace: &mut T,
 ) -> Result<DataEnd, RunFault>
-    ensures { Receives P.steps (length blocks.old) port.old port.new (O.contents out.old) (O.contents out.new)
-        (T.contents trace.old) (T.contents trace.new) result }
+    ensures { Receives P.steps lines (length blocks.old) port.old port.new (O.contents out.old) (O.contents out.new) (T.contents trace.old) (T.contents trace.new) result }
 {
-    let end = port.data_in(blocks);
+    let end = port.data_in(lines.lines(), blocks);
     if end == DataEnd::Ok {
         match write_all(out, blocks.as_flattened()) {
             Ok(()) => {}
@@ -85,13 +85,14 @@ pub fn receive_blocks<P: CardPort, O: Write, T: Write>(
 ///
 /// [`RunFault::Trace`].
 pub fn give_blocks<P: CardPort, T: Write>(
+    lines: Width,
     blocks: &[[u8; 512]],
     port: &mut P,
     trace: &mut T,
 ) -> Result<DataEnd, RunFault>
-    ensures { Gives P.steps blocks.now port.old port.new (T.contents trace.old) (T.contents trace.new) result }
+    ensures { Gives P.steps lines blocks.now port.old port.new (T.contents trace.old) (T.contents trace.new) result }
 {
-    let end = port.data_out(blocks);
+    let end = port.data_out(lines.lines(), blocks);
     match write_blocks_out(trace, blocks.len() as u64, end) {
         Ok(()) => Ok(end),
         Err(_) => Err(RunFault::Trace),
@@ -114,7 +115,7 @@ pub fn receive_register<P: CardPort, T: Write>(
 {
     let mut register = [0; 512];
     let length = host.register_length;
-    let end = port.data_in_reg(&mut register[..length as usize]);
+    let end = port.data_in_reg(host.lines.lines(), &mut register[..length as usize]);
     if end == DataEnd::Ok && length == 512 {
         host.ext_csd = Some(register);
     }

@@ -14,7 +14,7 @@ use crate::standing::Standing;
 use crate::step::step;
 use crate::trace::write_end;
 use arrayvec::ArrayVec;
-use sdv_card::CardPort;
+use sdv_card::{CardPort, Width};
 use sdv_graph::{Action, Graph};
 use std::alloc::{AllocError, Global};
 use std::io::Write;
@@ -79,6 +79,7 @@ fn at_start(alloc: Global, graph: &Graph<'_>) -> Result<Standing, AllocError>
         numbers: vec![in alloc; 0; graph.nums()]?,
         flags: 0,
         rca: 0,
+        lines: Width::One,
         csd: None,
         ext_csd: None,
         announced: 0,

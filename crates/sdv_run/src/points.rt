@@ -84,13 +84,10 @@ pub fn receive_and_go<P: CardPort, O: Write, T: Write>(
 ) -> Result<(), RunFault>
     requires well { length (turns_at well standing.old.turns.items) ≤ 4 }
     requires other { length (turns_at other standing.old.turns.items) ≤ 4 }
-    ensures goes_on { BlocksGoOn standing.old.host.kind P.steps (length blocks.old)
-        (target_by_end standing.old.host.kind well other) port.old port.new standing.old.turns.items
-        (host_of standing.old.host) (stand_of standing.new) (O.contents out.old) (O.contents out.new)
-        (T.contents trace.old) (T.contents trace.new) result }
+    ensures goes_on { BlocksGoOn standing.old.host.kind P.steps standing.old.host.lines (length blocks.old) (target_by_end standing.old.host.kind well other) port.old port.new standing.old.turns.items (host_of standing.old.host) (stand_of standing.new) (O.contents out.old) (O.contents out.new) (T.contents trace.old) (T.contents trace.new) result }
     ensures kind { standing.new.host.kind ≡ standing.old.host.kind }
 {
-    match receive_blocks(blocks, port, out, trace) {
+    match receive_blocks(standing.host.lines, blocks, port, out, trace) {
         Ok(DataEnd::Ok) => {
             standing.go_to(well);
             Ok(())
@@ -117,10 +114,7 @@ pub fn receive_register_and_go<P: CardPort, T: Write>(
 ) -> Result<(), RunFault>
     requires well { length (turns_at well standing.old.turns.items) ≤ 4 }
     requires other { length (turns_at other standing.old.turns.items) ≤ 4 }
-    ensures goes_on { PhaseGoesOn standing.old.host.kind P.steps
-        (ReceiveRegister (host_of standing.old.host).register_length)
-        (target_by_end standing.old.host.kind well other) port.old port.new standing.old.turns.items
-        (host_of standing.old.host) (stand_of standing.new) (T.contents trace.old) (T.contents trace.new) result }
+    ensures goes_on { PhaseGoesOn standing.old.host.kind P.steps (ReceiveRegister standing.old.host.lines (host_of standing.old.host).register_length) (target_by_end standing.old.host.kind well other) port.old port.new standing.old.turns.items (host_of standing.old.host) (stand_of standing.new) (T.contents trace.old) (T.contents trace.new) result }
     ensures kind { standing.new.host.kind ≡ standing.old.host.kind }
 {
     match receive_register(&mut standing.host, port, trace) {
@@ -151,12 +145,10 @@ pub fn give_and_go<P: CardPort, T: Write>(
 ) -> Result<(), RunFault>
     requires well { length (turns_at well standing.old.turns.items) ≤ 4 }
     requires other { length (turns_at other standing.old.turns.items) ≤ 4 }
-    ensures goes_on { PhaseGoesOn standing.old.host.kind P.steps (GiveBlocks blocks.now)
-        (target_by_end standing.old.host.kind well other) port.old port.new standing.old.turns.items
-        (host_of standing.old.host) (stand_of standing.new) (T.contents trace.old) (T.contents trace.new) result }
+    ensures goes_on { PhaseGoesOn standing.old.host.kind P.steps (GiveBlocks standing.old.host.lines blocks.now) (target_by_end standing.old.host.kind well other) port.old port.new standing.old.turns.items (host_of standing.old.host) (stand_of standing.new) (T.contents trace.old) (T.contents trace.new) result }
     ensures kind { standing.new.host.kind ≡ standing.old.host.kind }
 {
-    match give_blocks(blocks, port, trace) {
+    match give_blocks(standing.host.lines, blocks, port, trace) {
         Ok(DataEnd::Ok) => {
             standing.go_to(well);
             Ok(())

@@ -19,6 +19,7 @@ use Rattle.sdv_image.specs.declared.fault.SimFault.TheVariants.{Description, Cap
 use Rattle.sdv_image.specs.declared.image.Image.{Ghosts}
 use Rattle.sdv_description.specs.Gives.{Describes}
 use Rattle.sdv_description.specs.declared.card_desc.CardDesc.{CardDesc}
+use Rattle.sdv_description.specs.Layout.{image_size}
 use Rattle.sdv_behavior.specs.SimSteps.{SimState, SimSteps, card_shown}
 use Rattle.sdv_sim.specs.declared.sim.Sim.{Sim}
 use Rattle.sdv_sim.specs.SimOf.{state_of}
@@ -111,7 +112,7 @@ module _ (U V : Type 0) (more : U → V) where
   no_card_so given image fault (inl none) = inl none
   no_card_so given image fault (inr (inl other)) = inr (inl other)
   no_card_so given image fault (inr (inr refused)) =
-      inr (inr (refused.0, refused.1, refused.2, refused_so given.codes.items (image.bytes / 512) refused.0.capacity fault refused.3))
+      inr (inr (refused.0, refused.1, refused.2, refused_so given.codes.items (image.bytes / 512) (image_size refused.0) fault refused.3))
 
   refuses_so : (given : Given) (image : CardImage) (fault : Fault) → RefusesRun given image U fault → RefusesRun given image V fault
   refuses_so given image (Script fault) refuses = refuses

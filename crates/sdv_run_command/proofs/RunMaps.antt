@@ -41,6 +41,7 @@ module _ {S T : Type 0} (f : S → T) where
     written = record { output = wide.written.output; trace = wide.written.trace };
   })
   seen_because Input g es w w' short = record {
+    width = short.width;
     count = short.count;
     short = short.short;
     next = short.next;
@@ -48,6 +49,7 @@ module _ {S T : Type 0} (f : S → T) where
   }
   seen_because Output g es w w' broken = record {
     earlier = broken.earlier;
+    width = broken.width;
     blocks = broken.blocks;
     last = broken.last;
     output = broken.output;
@@ -137,7 +139,7 @@ module _ {S T : Type 0} (f : S → T) (steps : T → WireCall → WireReturn →
   seen_step s (Exchange command expect) (RegisterIn _ _) s' made = absurd made
   seen_step s (Exchange command expect) (BlocksOut _) s' made = absurd made
   seen_step s (Exchange command expect) (Waited _) s' made = absurd made
-  seen_step s (DataIn _) r s' made = made
-  seen_step s (DataInRegister _) r s' made = made
-  seen_step s (DataOut _) r s' made = made
+  seen_step s (DataIn _ _) r s' made = made
+  seen_step s (DataInRegister _ _) r s' made = made
+  seen_step s (DataOut _ _) r s' made = made
   seen_step s WaitWhileBusy r s' made = made

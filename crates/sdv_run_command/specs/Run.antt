@@ -12,6 +12,7 @@ use Rattle.sdv_image.specs.declared.fault.SimFault.TheVariants as cards
 use Rattle.sdv_description.specs.declared.card_desc.CardDesc.{CardDesc}
 use Rattle.sdv_description.specs.Gives.{Describes}
 use Rattle.sdv_description.specs.Gives.{Refuses as IsNoCard}
+use Rattle.sdv_description.specs.Layout.{image_size}
 use Rattle.sdv_behavior.specs.SimSteps.{SimState, SimSteps, card_shown}
 use Rattle.sdv_sim.specs.Made.{IsMade, IsRefused}
 use Rattle.sdv_controller.specs.Controlled.{ControllerSteps}
@@ -30,14 +31,14 @@ use Rattle.sdv_faults.specs.Fault.{fault_of_run}
 use Rattle.sdv_faults.specs.Files.{CardImage, Files, image_of}
 use Rattle.sdv_line.specs.Number.{IsNumber, value_of}
 
--- SCHEDULES: a digit from 0 to 6 for each event; spaces and ends of lines are nothing, and any other byte is no digit
+-- SCHEDULES: a digit from 0 to 7 for each event; spaces and ends of lines are nothing, and any other byte is no digit
 
 abbrev pub is_space : (byte : ℕ) → Bool
 is_space byte = (byte == 32) || ((byte == 13) || (byte == 10))
 
 -- 9 is no value of a schedule
 abbrev pub code_of : (byte : ℕ) → ℕ
-code_of byte = if nat_le 48 byte && nat_le byte 54 then byte - 48 else 9
+code_of byte = if nat_le 48 byte && nat_le byte 55 then byte - 48 else 9
 
 abbrev pub schedule_codes : (bytes : List ℕ) → List ℕ
 schedule_codes [] = []
@@ -112,7 +113,7 @@ HasNoCard given image unread fault =
     ⊎ (((desc : CardDesc) × Describes (string_bytes given.card) desc × (image.bytes % 512 ≢ 0)
     × (fault ≡ cards.ImageLength))
     ⊎ ((desc : CardDesc) × Describes (string_bytes given.card) desc × (image.bytes % 512 ≡ 0)
-    × IsRefused given.codes.items (image.bytes / 512) desc.capacity unread fault))
+    × IsRefused given.codes.items (image.bytes / 512) (image_size desc) unread fault))
 
 -- why nothing was run; want of memory says nothing
 abbrev pub RefusesRun : Given → CardImage → (unread : Type 0) → Fault → Type 0

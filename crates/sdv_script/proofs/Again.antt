@@ -1,10 +1,18 @@
 -- What is written of a command, a value or a condition is read again.
 use Rattle.std.proofs.Common.{◌≡◌, ℕ, zero, suc, ◌+◌, ◌<◌, ◌≤◌, Bool, true, false, List, [], ◌∷◌, ◌++◌, length, get_or, refl, ap, ◌∙◌, arith, cond, append_assoc, Option, Some, None}
-use Rattle.std.specs.Prelude.{◌&&◌}
+use Rattle.std.specs.Prelude.{◌&&◌, IfSome, is_some}
 use Rattle.std.specs.Str.{bytes_eq}
 use Rattle.std.proofs.lemmas.Slice.Eq.{bytes_eq-Decides}
 use Rattle.std.proofs.lemmas.Bool.{lt-ltb, le-leb}
 use Rattle.sdv_text.specs.Fronts.{◌>>=◌}
+use Rattle.sdv_registers.specs.declared.kind.Kind.{Kind}
+use Rattle.sdv_card.specs.declared.state.Width.{Width}
+use Rattle.sdv_card.specs.declared.state.Width.TheVariants.{One, Four, Eight}
+use Rattle.sdv_card.specs.declared.state.Partition.{Partition}
+use Rattle.sdv_card.specs.declared.state.Partition.TheVariants.{User, Boot1, Boot2}
+use Rattle.sdv_card.specs.declared.command.Setting.{Setting}
+use Rattle.sdv_card.specs.declared.command.Setting.TheVariants.{Lines, Access}
+use Rattle.sdv_card.specs.Modes.{has_width, line_count, partition_number}
 use Rattle.sdv_card.specs.declared.event.Aim.{Aim}
 use Rattle.sdv_card.specs.declared.event.Aim.TheVariants.{Rca, Plain}
 use Rattle.sdv_card.specs.declared.event.Ask.{Ask}
@@ -16,7 +24,7 @@ use Rattle.sdv_card.specs.declared.state.State.TheVariants as states
 use Rattle.sdv_script.specs.declared.token.Sign.TheVariants as sign
 use Rattle.sdv_script.specs.declared.keyword.Keyword.TheVariants as word
 use Rattle.sdv_script.specs.declared.operand.Operand.{Operand}
-use Rattle.sdv_script.specs.declared.operand.Operand.TheVariants.{Bare, Select, Conditions, Addressed, Counted, Preset, Erase}
+use Rattle.sdv_script.specs.declared.operand.Operand.TheVariants.{Bare, Select, Conditions, Addressed, Counted, Preset, Erase, Switch}
 use Rattle.sdv_graph.specs.declared.tree.ScriptCommand.{ScriptCommand}
 use Rattle.sdv_graph.specs.declared.tree.Address.{Address}
 use Rattle.sdv_graph.specs.declared.tree.Unit.{Unit as AddressUnit}
@@ -31,12 +39,13 @@ use Rattle.sdv_graph.specs.declared.tree.Change.TheVariants as changes
 use Rattle.sdv_graph.specs.declared.tree.Condition.{Condition}
 use Rattle.sdv_graph.specs.declared.tree.Condition.TheVariants as conditions
 use Rattle.sdv_script.specs.Tokens.{Token, Key, Name, Number, Mark}
-use Rattle.sdv_script.specs.Commands.{operand_of, fits_order}
+use Rattle.sdv_script.specs.Commands.{operand_of, setting_argument, setting_of, fits_order}
 use Rattle.sdv_graph.specs.Tree.{Declared}
-use Rattle.sdv_script.specs.Grammar.{flag_name, number_name, unit_written, position_written, address_written, address_if_any, select_written, operand_written, operand_if_any, command_written, state_word, guard_written, guards_written, atom_written, change_written, condition_written}
+use Rattle.sdv_script.specs.Grammar.{flag_name, number_name, unit_written, position_written, address_written, address_if_any, select_written, setting_written, setting_if_any, operand_written, operand_if_any, command_written, state_word, guard_written, guards_written, atom_written, change_written, condition_written}
 use Rattle.sdv_script.specs.Rules.{max_number, max_name, place_from, place_of, AreNew, NamesFit, UnitFits, PositionFits, AddressFits, ask_with, OperandFits, CommandFits, GuardsFit, AtomFits, ChangeFits, LetFits, ConditionFits}
-use Rattle.sdv_script.specs.Reading.{Read, read_figure, read_count, read_flag, read_number_name, read_unit, read_sum, read_position, read_address, read_select, read_counted, read_operand, read_command, state_of, read_guard, read_guards, read_atom, read_change, read_let, read_test, read_condition, read_fault}
+use Rattle.sdv_script.specs.Reading.{Read, read_figure, read_count, read_flag, read_number_name, read_unit, read_sum, read_position, read_address, read_select, read_counted, read_width, read_partition, read_setting, read_switch, read_operand, read_command, state_of, read_guard, read_guards, read_atom, read_change, read_let, read_test, read_condition, read_fault}
 use Rattle.sdv_script.proofs.GuardLaws.{read_guards-is}
+use Rattle.sdv_script.proofs.SettingLaws.{has_setting, IsSet, argument_of}
 
 pub bind_is : {A B : Type 0} (o : Option A) (a : A) (f : A → Option B) (r : Option B) → o ≡ Some a → f a ≡ r → (o >>= f) ≡ r
 bind_is o a f r e g = rw e g
@@ -168,6 +177,28 @@ counted-again names c (Some a) r fit p q ok ge le =
     bind_is _ _ _ _ (address-again names a (Key word.Count ∷ Number c.ask.count ∷ Mark sign.OpenBrace ∷ r) fit ok tt)
     (bind_is _ _ _ _ (count-again c.ask.count (Mark sign.OpenBrace ∷ r) ge le) (made c (ask_with c.ask.index Plain 0 c.ask.count) (Some a) _ p q))
 
+pub width-again : (k : Kind) (w : Width) (others : List Token) → has_width k w ≡ true → read_width k (Number (line_count w) ∷ others) ≡ Some (w, others)
+width-again k One others has = test_is _ _ _ has refl
+width-again k Four others has = test_is _ _ _ has refl
+width-again k Eight others has = test_is _ _ _ has refl
+
+partition-again : (p : Partition) (others : List Token) → read_partition (Number (partition_number p) ∷ others) ≡ Some (p, others)
+partition-again User others = refl
+partition-again Boot1 others = refl
+partition-again Boot2 others = refl
+
+setting-again : (k : Kind) (s : Setting) (others : List Token) → has_setting k s ≡ true → read_setting k (setting_written s others) ≡ Some (s, others)
+setting-again k (Lines w) others has = bind_is _ _ _ _ (width-again k w others has) refl
+setting-again k (Access p) others has = test_is _ _ _ has (bind_is _ _ _ _ (partition-again p others) refl)
+
+switch-again : (names : Declared) (c : ScriptCommand) (o : Option Setting) (r : List Token) → c.ask ≡ ask_with c.ask.index Plain c.ask.argument 0
+    → c.address ≡ None → is_some o ≡ true → IfSome o (IsSet names.kind c.ask.argument)
+    → read_switch names.kind c.ask.index (setting_if_any o (Mark sign.OpenBrace ∷ r)) ≡ Some (c, Mark sign.OpenBrace ∷ r)
+switch-again names c None r p q some is = absurd (cc)
+switch-again names c (Some s) r p q some is =
+    bind_is _ _ _ _ (setting-again names.kind s (Mark sign.OpenBrace ∷ r) is.1)
+    (made c (ask_with c.ask.index Plain (setting_argument names.kind s) 0) None _ (p ∙ ap (λ (n : ℕ). ask_with c.ask.index Plain n 0) is.0) q)
+
 operand-again : (names : Declared) (operand : Operand) (c : ScriptCommand) (r : List Token) → NamesFit names → OperandFits names (Some operand) c
     → read_operand names c.ask.index operand (operand_written operand names c (Mark sign.OpenBrace ∷ r)) ≡ Some (c, Mark sign.OpenBrace ∷ r)
 operand-again names (Bare aim) c r fit ok = made c (ask_with c.ask.index aim 0 0) None _ ok.0 ok.1
@@ -178,6 +209,8 @@ operand-again names Counted c r fit ok = counted-again names c c.address r fit o
 operand-again names Preset c r fit ok =
     bind_is _ _ _ _ (count-again c.ask.count (Mark sign.OpenBrace ∷ r) ok.1 ok.2) (made c (ask_with c.ask.index Plain 0 c.ask.count) None _ ok.0 ok.3)
 operand-again names Erase c r fit ok = test_is _ _ _ ok.1 (made c (ask_with c.ask.index Plain c.ask.argument 0) None _ ok.0 ok.2)
+operand-again names Switch c r fit ok =
+    switch-again names c (setting_of names.kind c.ask.argument) r ok.0 ok.2 ok.1 (argument_of names.kind c.ask.argument)
 
 any_operand-again : (names : Declared) (o : Option Operand) (c : ScriptCommand) (r : List Token) → NamesFit names → OperandFits names o c
     → (o >>= λ operand. read_operand names c.ask.index operand (operand_if_any o names c (Mark sign.OpenBrace ∷ r))) ≡ Some (c, Mark sign.OpenBrace ∷ r)

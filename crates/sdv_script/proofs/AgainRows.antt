@@ -12,11 +12,11 @@ use Rattle.sdv_script.specs.declared.keyword.Keyword.TheVariants as word
 use Rattle.sdv_graph.specs.declared.tree.Phase.{Phase}
 use Rattle.sdv_graph.specs.declared.tree.Phase.TheVariants as phases
 use Rattle.sdv_script.specs.Tokens.{Token, Key, Mark}
-use Rattle.sdv_graph.specs.Tree.{Declared, Statements, nothing, first, Ways, otherwise, way, Statement, send, phase, setting, choice, set, clear, turns, break, done, fault}
+use Rattle.sdv_graph.specs.Tree.{Declared, Statements, nothing, first, Ways, otherwise, way, Statement, send, phase, setting, choice, set, clear, bus_lines, turns, break, done, fault}
 use Rattle.sdv_script.specs.Grammar.{guard_written, guards_written, phase_written, statements_written, ways_written, statement_written}
 use Rattle.sdv_script.specs.Rules.{max_statements, max_loops, max_braces, NamesFit, GuardsFit, deeper, in_loop, HasRoom, StatementsFit, WaysFit, StatementFits, statements_count, ways_count, statement_count}
 use Rattle.sdv_script.specs.Reading.{progress_to, Reading, Blocks, WaysOf, after_open, read_block, read_branches, read_phase, read_statement, closes, more_ways, next_way, read_statements, read_ways}
-use Rattle.sdv_script.proofs.Again.{bind_is, test_is, both_true, IsCalm, command-again, guards-again, count-again, flag-again, let-again, condition-again, fault-again}
+use Rattle.sdv_script.proofs.Again.{bind_is, test_is, both_true, IsCalm, command-again, guards-again, count-again, flag-again, width-again, let-again, condition-again, fault-again}
 
 -- HOW DEEP reading goes
 
@@ -36,6 +36,7 @@ abbrev mutual
   statement_rank (choice c a b) = statements_rank a + statements_rank b
   statement_rank (set f) = 0
   statement_rank (clear f) = 0
+  statement_rank (bus_lines width) = 0
   statement_rank (turns n a b) = statements_rank a + statements_rank b
   statement_rank break = 0
   statement_rank done = 0
@@ -71,6 +72,7 @@ statement_calm names (setting l) ts = (tt, refl)
 statement_calm names (choice c a b) ts = (tt, refl)
 statement_calm names (set f) ts = (tt, refl)
 statement_calm names (clear f) ts = (tt, refl)
+statement_calm names (bus_lines width) ts = (tt, refl)
 statement_calm names (turns n a b) ts = (tt, refl)
 statement_calm names break ts = (tt, refl)
 statement_calm names done ts = (tt, refl)
@@ -230,6 +232,9 @@ mutual
   statement-again (clear f) left names depth fit ok rank others begun calm le =
       begin_again (read_statements left names) (read_ways left names) names depth begun _ _ (omega arith)
       (bind_is _ _ _ _ (flag-again names f others fit ok) refl)
+  statement-again (bus_lines width) left names depth fit ok rank others begun calm le =
+      begin_again (read_statements left names) (read_ways left names) names depth begun _ _ (omega arith)
+      (bind_is _ _ _ _ (width-again names.kind width others ok) refl)
   statement-again (turns n a b) left names depth fit ok rank others begun calm le =
       begin_again (read_statements left names) (read_ways left names) names depth begun _ _ (omega arith)
       (test_is _ _ _ (lt-ltb depth.loops max_loops ok.2)

@@ -8,10 +8,12 @@ use Rattle.sdv_card.specs.declared.guard.Guard.{Guard}
 use Rattle.sdv_card.specs.declared.guard.Guard.TheVariants as guards
 use Rattle.sdv_registers.specs.declared.kind.Kind.{Kind}
 use Rattle.sdv_registers.specs.declared.kind.Kind.TheVariants.{Sd, Emmc}
+use Rattle.sdv_card.specs.declared.command.Setting.{Setting}
+use Rattle.sdv_card.specs.declared.command.Setting.TheVariants.{Lines, Access}
 use Rattle.sdv_card.specs.declared.event.Aim.{Aim}
 use Rattle.sdv_card.specs.declared.event.Aim.TheVariants.{Rca, Plain}
 use Rattle.sdv_script.specs.declared.operand.Operand.{Operand}
-use Rattle.sdv_script.specs.declared.operand.Operand.TheVariants.{Bare, Select, Conditions, Addressed, Counted, Preset, Erase}
+use Rattle.sdv_script.specs.declared.operand.Operand.TheVariants.{Bare, Select, Conditions, Addressed, Counted, Preset, Erase, Switch}
 use Rattle.sdv_script.specs.declared.token.Sign.TheVariants as sign
 use Rattle.sdv_script.specs.declared.keyword.Keyword.{Keyword}
 use Rattle.sdv_script.specs.declared.keyword.Keyword.TheVariants as word
@@ -30,9 +32,9 @@ use Rattle.sdv_graph.specs.declared.tree.Change.TheVariants as changes
 use Rattle.sdv_graph.specs.declared.tree.Condition.{Condition}
 use Rattle.sdv_graph.specs.declared.tree.Condition.TheVariants as conditions
 use Rattle.sdv_script.specs.Tokens.{Token, Key, Number, Mark}
-use Rattle.sdv_script.specs.Commands.{operand_of}
-use Rattle.sdv_graph.specs.Tree.{Declared, Statements, nothing, first, Ways, otherwise, way, Statement, send, phase, setting, choice, set, clear, turns, break, done, fault}
-use Rattle.sdv_script.specs.Grammar.{kind_word, unit_written, position_written, address_if_any, select_written, operand_if_any, guard_written, guards_written, atom_written, change_written, condition_written, phase_written, names_written, list_written, statements_written, ways_written, statement_written, script_written}
+use Rattle.sdv_script.specs.Commands.{operand_of, setting_of}
+use Rattle.sdv_graph.specs.Tree.{Declared, Statements, nothing, first, Ways, otherwise, way, Statement, send, phase, setting, choice, set, clear, bus_lines, turns, break, done, fault}
+use Rattle.sdv_script.specs.Grammar.{kind_word, unit_written, position_written, address_if_any, select_written, setting_if_any, operand_if_any, guard_written, guards_written, atom_written, change_written, condition_written, phase_written, names_written, list_written, statements_written, ways_written, statement_written, script_written}
 use Rattle.sdv_script.specs.Rules.{max_name, max_flags, max_numbers, max_bytes, place_from, place_of, AreNew, NamesFit, ScriptFits}
 use Rattle.sdv_script.specs.Reading.{may_follow, name_is_new, read_names, read_flags, read_nums, read_kind, read_declared, start, read_body, read_script}
 use Rattle.sdv_script.proofs.Again.{bind_is, test_is, both_true}
@@ -82,6 +84,11 @@ select_longer : (aim : Aim) (ts : List Token) → length ts ≤ length (select_w
 select_longer Rca ts = omega arith
 select_longer Plain ts = omega arith
 
+setting_longer : (o : Option Setting) (ts : List Token) → length ts ≤ length (setting_if_any o ts)
+setting_longer None ts = omega arith
+setting_longer (Some (Lines width)) ts = omega arith
+setting_longer (Some (Access partition)) ts = omega arith
+
 operand_longer : (o : Option Operand) (names : Declared) (c : ScriptCommand) (ts : List Token) → length ts ≤ length (operand_if_any o names c ts)
 operand_longer None names c ts = omega arith
 operand_longer (Some (Bare aim)) names c ts = omega arith
@@ -91,6 +98,7 @@ operand_longer (Some (Addressed count)) names c ts = address_longer names c.addr
 operand_longer (Some Counted) names c ts = let one = address_longer names c.address (Key word.Count ∷ Number c.ask.count ∷ ts) in omega arith
 operand_longer (Some Preset) names c ts = omega arith
 operand_longer (Some Erase) names c ts = omega arith
+operand_longer (Some Switch) names c ts = setting_longer (setting_of names.kind c.ask.argument) ts
 
 condition_longer : (names : Declared) (c : Condition) (ts : List Token) → length ts ≤ length (condition_written names c ts)
 condition_longer names (conditions.Flag f) ts = omega arith
@@ -158,6 +166,7 @@ mutual
       omega arith
   statement_deep (set f) names others = omega arith
   statement_deep (clear f) names others = omega arith
+  statement_deep (bus_lines width) names others = omega arith
   statement_deep (turns n a b) names others =
       let two = statements_deep a names (Mark sign.CloseBrace ∷ Key word.Else ∷ Mark sign.OpenBrace ∷ statements_written names b
       (Mark sign.CloseBrace ∷ others)) in
@@ -235,6 +244,7 @@ statement_opens names (setting l) ts = record { follows = λ w. refl; no_flags =
 statement_opens names (choice c a b) ts = record { follows = λ w. refl; no_flags = refl; no_nums = λ flags. refl }
 statement_opens names (set f) ts = record { follows = λ w. refl; no_flags = refl; no_nums = λ flags. refl }
 statement_opens names (clear f) ts = record { follows = λ w. refl; no_flags = refl; no_nums = λ flags. refl }
+statement_opens names (bus_lines width) ts = record { follows = λ w. refl; no_flags = refl; no_nums = λ flags. refl }
 statement_opens names (turns n a b) ts = record { follows = λ w. refl; no_flags = refl; no_nums = λ flags. refl }
 statement_opens names break ts = record { follows = λ w. refl; no_flags = refl; no_nums = λ flags. refl }
 statement_opens names done ts = record { follows = λ w. refl; no_flags = refl; no_nums = λ flags. refl }

@@ -8,7 +8,7 @@ use Rattle.sdv_card.specs.CommandTable.{order_of}
 use Rattle.sdv_script.specs.declared.depth.Depth.{Depth}
 use Rattle.sdv_graph.specs.declared.graph.Target.{Target}
 use Rattle.sdv_script.specs.Rules.{deeper, in_loop, StatementsFit, WaysFit, StatementFits, statements_count, statement_count}
-use Rattle.sdv_graph.specs.Tree.{Statements, nothing, first, Ways, otherwise, way, Statement, send, phase, setting, choice, set, clear, turns, break, done, fault, Declared}
+use Rattle.sdv_graph.specs.Tree.{Statements, nothing, first, Ways, otherwise, way, Statement, send, phase, setting, choice, set, clear, bus_lines, turns, break, done, fault, Declared}
 use Rattle.sdv_graph.specs.Path.{Point, sends}
 use Rattle.sdv_graph.specs.Points.{again, entry, outside, past, cases_of, other_of, point_with, points_of_statements, points_of_ways, points_of_statement}
 use Rattle.sdv_graph.specs.Graph.{Graph}
@@ -66,6 +66,7 @@ mutual
       (statements_ask names (deeper depth) b fits.3 mid next brk most))
   statement_asks names depth (set f) fits at next brk most = alone names.kind _ tt
   statement_asks names depth (clear f) fits at next brk most = alone names.kind _ tt
+  statement_asks names depth (bus_lines width) fits at next brk most = alone names.kind _ tt
   statement_asks names depth (turns n a b) fits at next brk most =
       let mid = at + 1 + statements_count a in
       let body = points_of_statements a (at + 1) (again at) (outside next) ((n - 1) ∷ most) in

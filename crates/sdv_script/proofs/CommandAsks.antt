@@ -1,9 +1,14 @@
 -- Each command of a script asks by a line of the command table of the script's kind.
-use Rattle.std.proofs.Common.{◌≡◌, ℕ, ◌≤◌, Bool, true, false, refl, ap, ◌∙◌, eqb, Option, Some, None}
+use Rattle.std.proofs.Common.{◌≡◌, ℕ, ◌≤◌, Bool, true, false, refl, ap, subst, ◌∙◌, eqb, Option, Some, None}
 use Rattle.std.specs.Prelude.{◌==◌, ◌||◌}
 use Rattle.std.proofs.lemmas.Bool.{eqb-true, eq-eqb, le-leb}
 use Rattle.sdv_registers.specs.declared.kind.Kind.{Kind}
 use Rattle.sdv_registers.specs.declared.kind.Kind.TheVariants.{Sd, Emmc}
+use Rattle.sdv_card.specs.declared.state.Width.{Width}
+use Rattle.sdv_card.specs.declared.state.Width.TheVariants.{One, Four, Eight}
+use Rattle.sdv_card.specs.declared.state.Partition.TheVariants.{User, Boot1, Boot2}
+use Rattle.sdv_card.specs.declared.command.Setting.{Setting}
+use Rattle.sdv_card.specs.declared.command.Setting.TheVariants.{Lines, Access}
 use Rattle.sdv_card.specs.declared.event.Aim.{Aim}
 use Rattle.sdv_card.specs.declared.event.Aim.TheVariants.{Rca, Plain}
 use Rattle.sdv_card.specs.declared.event.Ask.{Ask}
@@ -11,12 +16,13 @@ use Rattle.sdv_card.specs.declared.command.Order.{Order}
 use Rattle.sdv_card.specs.declared.command.Order.TheVariants as orders
 use Rattle.sdv_card.specs.CommandTable.{order_of, sd_order, emmc_order}
 use Rattle.sdv_script.specs.declared.operand.Operand.{Operand}
-use Rattle.sdv_script.specs.declared.operand.Operand.TheVariants.{Bare, Select, Conditions, Addressed, Counted, Preset, Erase}
+use Rattle.sdv_script.specs.declared.operand.Operand.TheVariants.{Bare, Select, Conditions, Addressed, Counted, Preset, Erase, Switch}
 use Rattle.sdv_graph.specs.declared.tree.ScriptCommand.{ScriptCommand}
-use Rattle.sdv_script.specs.Commands.{either, is_conditions, is_erase, sd_operand, emmc_operand, operand_of}
+use Rattle.sdv_script.specs.Commands.{either, is_conditions, is_erase, setting_argument, is_setting, sd_operand, emmc_operand, operand_of}
 use Rattle.sdv_script.specs.Rules.{ask_with, OperandFits, CommandFits}
 use Rattle.sdv_graph.specs.Tree.{Declared}
 use Rattle.sdv_script.specs.Asks.{IsAsked}
+use Rattle.sdv_script.proofs.SettingLaws.{some_setting}
 
 -- the command table of a kind
 abbrev IsTable : Kind → (Ask → Option Order) → Type 0
@@ -49,6 +55,21 @@ line_of : (k : Kind) (table : Ask → Option Order) → IsTable k table → (n :
 line_of k table is n ask aim argument count order line parts same =
     let whole : ask ≡ ask_with n aim argument count = parts ∙ ap (λ (i : ℕ). ask_with i aim argument count) (eqb-true ask.index n same) in
     (order, record { line = is ask ∙ ap (λ (a : Ask). table a) whole ∙ line })
+
+-- the lines of index 6
+sd_row : (s : Setting) → (width : Width) × (sd_order (ask_with 6 Plain (setting_argument Sd s) 0) ≡ Some (orders.SetBusWidth width))
+sd_row (Lines One) = (One, refl)
+sd_row (Lines Four) = (Four, refl)
+sd_row (Lines Eight) = (Four, refl)
+sd_row (Access partition) = (Four, refl)
+
+emmc_row : (s : Setting) → emmc_order (ask_with 6 Plain (setting_argument Emmc s) 0) ≡ Some (orders.Switch s)
+emmc_row (Lines One) = refl
+emmc_row (Lines Four) = refl
+emmc_row (Lines Eight) = refl
+emmc_row (Access User) = refl
+emmc_row (Access Boot1) = refl
+emmc_row (Access Boot2) = refl
 
 module _ (c : ScriptCommand) where
   sd_line : (n : ℕ) (aim : Aim) (argument count : ℕ) (order : Order)
@@ -129,6 +150,20 @@ module _ (c : ScriptCommand) where
       (λ e. emmc_line 38 Plain 3 0 orders.Erase refl (with_argument c.ask 3 parts e) is)
       erase
 
+  sd_switched : c.ask ≡ ask_with c.ask.index Plain c.ask.argument 0 → is_setting Sd c.ask.argument ≡ true → (c.ask.index == 6) ≡ true → IsAsked Sd c.ask
+  sd_switched parts some is =
+      let s = some_setting Sd c.ask.argument some in
+      let row = sd_row s.0 in
+      sd_line 6 Plain (setting_argument Sd s.0) 0 (orders.SetBusWidth row.0) row.1
+      (parts ∙ ap (λ (a : ℕ). ask_with c.ask.index Plain a 0) s.1) is
+
+  emmc_switched : c.ask ≡ ask_with c.ask.index Plain c.ask.argument 0 → is_setting Emmc c.ask.argument ≡ true → (c.ask.index == 6) ≡ true
+      → IsAsked Emmc c.ask
+  emmc_switched parts some is =
+      let s = some_setting Emmc c.ask.argument some in
+      emmc_line 6 Plain (setting_argument Emmc s.0) 0 (orders.Switch s.0) (emmc_row s.0)
+      (parts ∙ ap (λ (a : ℕ). ask_with c.ask.index Plain a 0) s.1) is
+
   sd_one_block : c.ask ≡ ask_with c.ask.index Plain 0 1 → ((c.ask.index == 17) || (c.ask.index == 24)) ≡ true → IsAsked Sd c.ask
   sd_one_block parts =
       or_cases _ _ (sd_line 17 Plain 0 1 orders.ReadSingleBlock refl parts) (sd_line 24 Plain 0 1 orders.WriteBlock refl parts)
@@ -166,33 +201,35 @@ module _ (c : ScriptCommand) where
         let n = c.ask.count in
         emmc_line 23 Plain 0 n (orders.SetBlockCount n) (rw (eq-eqb n n refl, le-leb 1 n some, le-leb n 65535 most) refl) parts
 
-  sd_asks : (names : Declared) → OperandFits names (sd_operand c.ask.index) c → IsAsked Sd c.ask
-  sd_asks names =
+  sd_asks : (names : Declared) → names.kind ≡ Sd → OperandFits names (sd_operand c.ask.index) c → IsAsked Sd c.ask
+  sd_asks names same =
       let Asked : Option Operand → Type 0 = λ operand. OperandFits names operand c → IsAsked Sd c.ask in
       by_operand Asked _ (Bare Plain) _ (λ is fits. sd_bare fits.0 is) (
       by_operand Asked _ (Bare Rca) _ (λ is fits. sd_by_address fits.0 is) (
+      by_operand Asked _ Switch _ (λ is fits. sd_switched fits.0 (subst (λ (k : Kind). is_setting k c.ask.argument ≡ true) same fits.1) is) (
       by_operand Asked _ Select _ (λ is fits. sd_selected c.ask.aim fits.0 is) (
       by_operand Asked _ Conditions _ (λ is fits. offered fits.0 fits.1 is) (
       by_operand Asked _ (Addressed 1) _ (λ is fits. sd_one_block fits.0 is) (
       by_operand Asked _ (Addressed 0) _ (λ is fits. sd_bounds fits.0 is) (
-      by_operand Asked _ Counted None (λ is fits. sd_counted fits.0 fits.1 fits.2 is) (λ fits. absurd fits)))))))
+      by_operand Asked _ Counted None (λ is fits. sd_counted fits.0 fits.1 fits.2 is) (λ fits. absurd fits))))))))
 
-  emmc_asks : (names : Declared) → OperandFits names (emmc_operand c.ask.index) c → IsAsked Emmc c.ask
-  emmc_asks names =
+  emmc_asks : (names : Declared) → names.kind ≡ Emmc → OperandFits names (emmc_operand c.ask.index) c → IsAsked Emmc c.ask
+  emmc_asks names same =
       let Asked : Option Operand → Type 0 = λ operand. OperandFits names operand c → IsAsked Emmc c.ask in
       by_operand Asked _ (Bare Plain) _ (λ is fits. emmc_bare fits.0 is) (
       by_operand Asked _ (Bare Rca) _ (λ is fits. emmc_by_address fits.0 is) (
+      by_operand Asked _ Switch _ (λ is fits. emmc_switched fits.0 (subst (λ (k : Kind). is_setting k c.ask.argument ≡ true) same fits.1) is) (
       by_operand Asked _ Select _ (λ is fits. emmc_selected c.ask.aim fits.0 is) (
       by_operand Asked _ Preset _ (λ is fits. preset fits.0 fits.1 fits.2 is) (
       by_operand Asked _ Erase _ (λ is fits. erased fits.0 fits.1 is) (
       by_operand Asked _ (Addressed 1) _ (λ is fits. emmc_one_block fits.0 is) (
       by_operand Asked _ (Addressed 0) _ (λ is fits. emmc_bounds fits.0 is) (
-      by_operand Asked _ Counted None (λ is fits. emmc_counted fits.0 fits.1 fits.2 is) (λ fits. absurd fits))))))))
+      by_operand Asked _ Counted None (λ is fits. emmc_counted fits.0 fits.1 fits.2 is) (λ fits. absurd fits)))))))))
 
-  asks_of : (k : Kind) (names : Declared) → OperandFits names (operand_of k c.ask.index) c → IsAsked k c.ask
-  asks_of Sd names fits = sd_asks names fits
-  asks_of Emmc names fits = emmc_asks names fits
+  asks_of : (k : Kind) (names : Declared) → names.kind ≡ k → OperandFits names (operand_of k c.ask.index) c → IsAsked k c.ask
+  asks_of Sd names same fits = sd_asks names same fits
+  asks_of Emmc names same fits = emmc_asks names same fits
 
 -- what fits its form asks by a line of the command table
 pub command_asks : (names : Declared) (c : ScriptCommand) → CommandFits names c → IsAsked names.kind c.ask
-command_asks names c fits = asks_of c names.kind names fits
+command_asks names c fits = asks_of c names.kind names refl fits

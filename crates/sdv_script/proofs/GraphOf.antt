@@ -3,7 +3,7 @@ use Rattle.std.proofs.Common.{◌≡◌, refl, arith, Bool, true, false, Option}
 use Rattle.std.specs.Prelude.{◌||◌}
 use Rattle.sdv_card.specs.declared.command.Order.{Order}
 use Rattle.sdv_card.specs.CommandTable.{order_of}
-use Rattle.sdv_graph.specs.Tree.{Statements, nothing, first, Ways, otherwise, way, Statement, send, phase, setting, choice, set, clear, turns, break, done, fault, Declared}
+use Rattle.sdv_graph.specs.Tree.{Statements, nothing, first, Ways, otherwise, way, Statement, send, phase, setting, choice, set, clear, bus_lines, turns, break, done, fault, Declared}
 use Rattle.sdv_script.specs.declared.depth.Depth.{Depth}
 use Rattle.sdv_script.specs.Rules.{StatementsFit, WaysFit, StatementFits, ScriptFits, statements_break, ways_break, statement_breaks, deeper}
 use Rattle.sdv_graph.specs.GraphOf.{CanRun, SuitsKind}
@@ -37,6 +37,7 @@ mutual
       (no_break names (deeper d) b z fit.3)
   no_break_first names d (set f) z fit = refl
   no_break_first names d (clear f) z fit = refl
+  no_break_first names d (bus_lines width) z fit = refl
   no_break_first names d (turns n a b) z fit = no_break names (deeper d) b z fit.5
   no_break_first names d break z fit = absurd (omega (arith, z, fit))
   no_break_first names d done z fit = refl

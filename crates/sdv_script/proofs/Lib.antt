@@ -14,6 +14,7 @@ pub mod RowLaws
 pub mod WhereRead
 pub mod Written
 pub mod ScriptLaws
+pub mod SettingLaws
 pub mod Taken
 pub mod TakenRows
 pub mod TakenScript

@@ -3,7 +3,7 @@ use Rattle.std.proofs.Common.{◌≡◌, ℕ, zero, suc, ◌+◌, ◌*◌, ◌<�
 use Rattle.std.proofs.lemmas.Nat.{mul-le}
 use Rattle.sdv_card.specs.declared.command.Order.{Order}
 use Rattle.sdv_card.specs.CommandTable.{order_of}
-use Rattle.sdv_graph.specs.Tree.{Statements, nothing, first, Ways, otherwise, way, Statement, send, phase, setting, choice, set, clear, turns, break, done, fault, Declared}
+use Rattle.sdv_graph.specs.Tree.{Statements, nothing, first, Ways, otherwise, way, Statement, send, phase, setting, choice, set, clear, bus_lines, turns, break, done, fault, Declared}
 use Rattle.sdv_script.specs.declared.depth.Depth.{Depth}
 use Rattle.sdv_script.specs.Rules.{StatementsFit, WaysFit, StatementFits, ScriptFits, statements_count, ways_count, statement_count, deeper, in_loop}
 use Rattle.sdv_graph.specs.Moves.{statements_moves, ways_moves, statement_moves}
@@ -70,6 +70,7 @@ mutual
       (statements_bound names (deeper d) r a z fit.2) (statements_bound names (deeper d) r b z fit.3))
   statement_bound names d r (set f) z fit = alone (power r) (power_pos r)
   statement_bound names d r (clear f) z fit = alone (power r) (power_pos r)
+  statement_bound names d r (bus_lines width) z fit = alone (power r) (power_pos r)
   statement_bound names d zero (turns n a b) z fit = absurd (omega (arith, z, fit.2))
   statement_bound names d (suc r) (turns n a b) z fit =
       loop_bound n (statements_moves a) (statements_moves b) (statements_count a) (statements_count b) r fit.1

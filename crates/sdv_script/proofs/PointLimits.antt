@@ -9,10 +9,10 @@ use Rattle.sdv_card.proofs.OrdersOfAsks.{of_ask}
 use Rattle.sdv_script.specs.declared.depth.Depth.{Depth}
 use Rattle.sdv_graph.specs.declared.graph.Target.{Target}
 use Rattle.sdv_graph.specs.declared.tree.ScriptCommand.{ScriptCommand}
-use Rattle.sdv_graph.specs.Tree.{Statements, nothing, first, Ways, otherwise, way, Statement, send, phase, setting, choice, set, clear, turns, break, done, fault, Declared}
+use Rattle.sdv_graph.specs.Tree.{Statements, nothing, first, Ways, otherwise, way, Statement, send, phase, setting, choice, set, clear, bus_lines, turns, break, done, fault, Declared}
 use Rattle.sdv_script.specs.Rules.{CommandFits, StatementsFit, WaysFit, StatementFits, ScriptFits, max_flags, max_loops, max_name, statements_count, statement_count, deeper, in_loop}
 use Rattle.sdv_graph.specs.Walk.{Finished, Failed}
-use Rattle.sdv_graph.specs.Path.{Action, Point, sends, phases, lets, tests, flags, heads, jumps, stops}
+use Rattle.sdv_graph.specs.Path.{Action, Point, sends, phases, lets, tests, flags, widths, heads, jumps, stops}
 use Rattle.sdv_graph.specs.Points.{entry, outside, again, cases_of, other_of, point_with, points_of_statements, points_of_ways, points_of_statement, past, points_of}
 use Rattle.sdv_graph.specs.Limits.{action_keeps_limits, keeps_limits, all_keep_limits}
 use Rattle.sdv_script.proofs.CommandAsks.{command_asks}
@@ -38,6 +38,8 @@ order_small orders.SendOpCond = lit< tt
 order_small orders.AllSendCid = lit< tt
 order_small orders.SendRelativeAddress = lit< tt
 order_small orders.SetRelativeAddress = lit< tt
+order_small (orders.SetBusWidth width) = lit< tt
+order_small (orders.Switch s) = lit< tt
 order_small orders.SelectCard = lit< tt
 order_small orders.DeselectCards = lit< tt
 order_small orders.SendIfCond = lit< tt
@@ -115,6 +117,7 @@ module _ (names : Declared) (few : length names.flags ≤ max_flags) where
         first_keeps (flags f true next) most [] (lt-ltb f max_flags (omega (arith, fit, few))) (omega (arith, l, m)) refl
     statement_keeps d (clear f) at next brk most l m fit =
         first_keeps (flags f false next) most [] (lt-ltb f max_flags (omega (arith, fit, few))) (omega (arith, l, m)) refl
+    statement_keeps d (bus_lines width) at next brk most l m fit = first_keeps (widths width next) most [] refl (omega (arith, l, m)) refl
     statement_keeps d (turns n a b) at next brk most l m fit =
         let mid = at + 1 + statements_count a in
         let inner = (n - 1) ∷ most in

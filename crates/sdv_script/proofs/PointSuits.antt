@@ -1,4 +1,4 @@
--- The guards and registers of a script that fits the rules suit its points.
+-- The guards, registers and data lines of a script that fits the rules suit its points.
 use Rattle.std.proofs.Common.{◌≡◌, ℕ, ◌+◌, ◌-◌, List, [], ◌∷◌, ◌++◌, Bool, true, false, refl, Option}
 use Rattle.std.specs.Prelude.{◌&&◌}
 use Rattle.sdv_registers.specs.declared.kind.Kind.{Kind}
@@ -6,12 +6,13 @@ use Rattle.sdv_registers.specs.declared.kind.Kind.TheVariants.{Sd, Emmc}
 use Rattle.sdv_card.specs.declared.command.Order.{Order}
 use Rattle.sdv_card.specs.declared.guard.Guard.{Guard}
 use Rattle.sdv_card.specs.CommandTable.{order_of}
+use Rattle.sdv_card.specs.Modes.{has_width}
 use Rattle.sdv_script.specs.declared.depth.Depth.{Depth}
 use Rattle.sdv_graph.specs.declared.graph.Target.{Target}
 use Rattle.sdv_graph.specs.declared.tree.Atom.{Atom}
 use Rattle.sdv_graph.specs.declared.tree.Atom.TheVariants as atoms
 use Rattle.sdv_graph.specs.GuardSuits.{fits_order}
-use Rattle.sdv_graph.specs.Tree.{Statements, nothing, first, Ways, otherwise, way, Statement, send, phase, setting, choice, set, clear, turns, break, done, fault, Declared}
+use Rattle.sdv_graph.specs.Tree.{Statements, nothing, first, Ways, otherwise, way, Statement, send, phase, setting, choice, set, clear, bus_lines, turns, break, done, fault, Declared}
 use Rattle.sdv_script.specs.Commands.{has_ext_csd}
 use Rattle.sdv_script.specs.Rules.{GuardsFit, AtomFits, StatementsFit, WaysFit, StatementFits, ScriptFits, statements_count, statement_count, deeper, in_loop}
 use Rattle.sdv_graph.specs.Path.{Point}
@@ -95,6 +96,7 @@ module _ (names : Declared) where
         (statements_suit (deeper d) a (at + 1) next brk most fit.2) (statements_suit (deeper d) b mid next brk most fit.3)
     statement_suits d (set f) at next brk most fit = refl
     statement_suits d (clear f) at next brk most fit = refl
+    statement_suits d (bus_lines width) at next brk most fit = both (has_width names.kind width) true fit refl
     statement_suits d (turns n a b) at next brk most fit =
         let mid = at + 1 + statements_count a in
         all_append names.kind (points_of_statements a (at + 1) (again at) (outside next) ((n - 1) ∷ most)) (points_of_statements b mid next brk most)

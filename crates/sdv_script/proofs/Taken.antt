@@ -1,25 +1,29 @@
 -- What is read of a command, a value or a condition is written so.
 use Rattle.std.proofs.Common.{◌≡◌, ℕ, suc, ◌-◌, ◌<◌, ◌≤◌, Bool, true, false, List, [], ◌∷◌, length, get_or, refl, sym, subst, ap, ◌∙◌, arith, cond, Option, Some, None}
-use Rattle.std.specs.Prelude.{IfSome, ◌&&◌, nat_lt, nat_le}
+use Rattle.std.specs.Prelude.{IfSome, ◌&&◌, nat_lt, nat_le, is_some}
 use Rattle.std.specs.Str.{bytes_eq}
 use Rattle.std.proofs.lemmas.Slice.Eq.{bytes_eq-Decides}
 use Rattle.std.proofs.lemmas.Bool.{ltb-true, leb-true}
 use Rattle.sdv_text.specs.Fronts.{◌>>=◌}
+use Rattle.sdv_registers.specs.declared.kind.Kind.{Kind}
+use Rattle.sdv_card.specs.declared.command.Setting.{Setting}
+use Rattle.sdv_card.specs.Modes.{has_width, line_count, partition_number}
 use Rattle.sdv_script.specs.declared.depth.Depth.{Depth}
 use Rattle.sdv_script.specs.declared.token.Sign.TheVariants as sign
 use Rattle.sdv_script.specs.declared.keyword.Keyword.TheVariants as word
 use Rattle.sdv_script.specs.declared.operand.Operand.{Operand}
-use Rattle.sdv_script.specs.declared.operand.Operand.TheVariants.{Bare, Select, Conditions, Addressed, Counted, Preset, Erase}
+use Rattle.sdv_script.specs.declared.operand.Operand.TheVariants.{Bare, Select, Conditions, Addressed, Counted, Preset, Erase, Switch}
 use Rattle.sdv_graph.specs.declared.tree.ScriptCommand.{ScriptCommand}
 use Rattle.sdv_graph.specs.declared.tree.Atom.{Atom}
 use Rattle.sdv_graph.specs.declared.tree.Atom.TheVariants as atoms
 use Rattle.sdv_script.specs.Tokens.{Token, Key, Name, Number, Mark}
-use Rattle.sdv_script.specs.Commands.{operand_of, is_conditions, is_erase, has_ext_csd}
+use Rattle.sdv_script.specs.Commands.{operand_of, is_conditions, is_erase, has_partitions, setting_of, setting_argument, width_with, partition_with, has_ext_csd}
 use Rattle.sdv_graph.specs.Tree.{Declared}
-use Rattle.sdv_script.specs.Grammar.{kind_word, flag_name, number_name, unit_written, position_written, address_written, operand_written, operand_if_any, command_written, atom_written, change_written, let_written, condition_written, phase_written}
+use Rattle.sdv_script.specs.Grammar.{kind_word, flag_name, number_name, unit_written, position_written, address_written, setting_written, setting_if_any, operand_written, operand_if_any, command_written, atom_written, change_written, let_written, condition_written, phase_written}
 use Rattle.sdv_script.specs.Rules.{max_number, max_name, max_braces, place_from, place_of, UnitFits, PositionFits, AddressFits, OperandFits, CommandFits, AtomFits, ChangeFits, LetFits, ConditionFits, deeper, HasRoom}
-use Rattle.sdv_script.specs.Reading.{after_open, after_close, after_equals, after_else, after_ok, after_at, after_count, after_card, read_kind, read_figure, read_count, read_flag, read_number_name, read_unit, read_sum, read_position, read_address, read_select, read_conditions, read_counted, read_preset, read_erase, read_operand, read_command, read_atom, read_change, read_let, read_test, condition_by, read_condition, read_receive, read_fault}
-use Rattle.sdv_script.proofs.WhereRead.{IfSome-bind, IfSome-given, IfSome-known, IfSome-map, both}
+use Rattle.sdv_script.specs.Reading.{after_open, after_close, after_equals, after_else, after_ok, after_at, after_count, after_card, read_kind, read_figure, read_count, read_flag, read_number_name, read_unit, read_sum, read_position, read_address, read_select, read_conditions, read_counted, read_preset, read_erase, read_width, read_partition, read_setting, read_switch, read_operand, read_command, read_atom, read_change, read_let, read_test, condition_by, read_condition, read_receive, read_fault}
+use Rattle.sdv_script.proofs.WhereRead.{IfSome-bind, IfSome-test, IfSome-given, IfSome-known, IfSome-map, both}
+use Rattle.sdv_script.proofs.SettingLaws.{has_setting, of_argument, lines_counted, partition_numbered}
 
 -- SINGLE TOKENS
 
@@ -166,6 +170,29 @@ erase-took : (names : Declared) (index : ℕ) (ts : List Token) → IfSome (read
 erase-took names index (Number n ∷ ts) = IfSome-given (is_erase n) _ _ (λ e. (refl, (refl, e, refl), refl))
 erase-took names index ts = tt
 
+pub width-took : (k : Kind) (ts : List Token) → IfSome (read_width k ts) (λ w. (ts ≡ Number (line_count w.0) ∷ w.1) × (has_width k w.0 ≡ true))
+width-took k (Number n ∷ ts) =
+    IfSome-bind (width_with n) _ _ _ (lines_counted n) (λ w e. IfSome-given (has_width k w) _ _ (λ has. (ap (λ (m : ℕ). Number m ∷ ts) e, has)))
+width-took k ts = tt
+
+partition-took : (ts : List Token) → IfSome (read_partition ts) (λ p. ts ≡ Number (partition_number p.0) ∷ p.1)
+partition-took (Number n ∷ ts) = IfSome-bind (partition_with n) _ _ _ (partition_numbered n) (λ p e. ap (λ (m : ℕ). Number m ∷ ts) e)
+partition-took ts = tt
+
+setting-took : (k : Kind) (ts : List Token) → IfSome (read_setting k ts) (λ s. (ts ≡ setting_written s.0 s.1) × (has_setting k s.0 ≡ true))
+setting-took k (Key word.BusLines ∷ ts) =
+    IfSome-bind (read_width k ts) _ _ _ (width-took k ts) (λ w p. (ap (λ (r : List Token). Key word.BusLines ∷ r) p.0, p.1))
+setting-took k (Key word.PartAccess ∷ ts) =
+    IfSome-test (has_partitions k) _ _ (λ has.
+    IfSome-bind (read_partition ts) _ _ _ (partition-took ts) (λ p e. (ap (λ (r : List Token). Key word.PartAccess ∷ r) e, has)))
+setting-took k ts = tt
+
+switch-took : (names : Declared) (index : ℕ) (ts : List Token) → IfSome (read_switch names.kind index ts) (Commanded names Switch index ts)
+switch-took names index ts =
+    IfSome-bind (read_setting names.kind ts) _ _ _ (setting-took names.kind ts) (λ s p.
+    let same : setting_of names.kind (setting_argument names.kind s.0) ≡ Some s.0 = of_argument names.kind s.0 p.1 in
+    (p.0 ∙ ap (λ (o : Option Setting). setting_if_any o s.1) (sym same), (refl, ap (λ (o : Option Setting). is_some o) same, refl), refl))
+
 operand-took : (names : Declared) (index : ℕ) (operand : Operand) (ts : List Token)
     → IfSome (read_operand names index operand ts) (Commanded names operand index ts)
 operand-took names index (Bare aim) ts = (refl, (refl, refl), refl)
@@ -175,6 +202,7 @@ operand-took names index (Addressed count) ts = IfSome-bind (read_address names 
 operand-took names index Counted ts = counted-took names index ts
 operand-took names index Preset ts = preset-took names index ts
 operand-took names index Erase ts = erase-took names index ts
+operand-took names index Switch ts = switch-took names index ts
 
 joined : (names : Declared) (n i : ℕ) (o : Option Operand) (operand : Operand) (ts rest : List Token) (c : ScriptCommand) → i ≡ n → o ≡ Some operand
     → ts ≡ operand_written operand names c rest → Number n ∷ ts ≡ Number i ∷ operand_if_any o names c rest

@@ -12,12 +12,12 @@ use Rattle.sdv_script.specs.declared.keyword.Keyword.TheVariants as word
 use Rattle.sdv_graph.specs.declared.tree.Phase.{Phase}
 use Rattle.sdv_graph.specs.declared.tree.Phase.TheVariants as phases
 use Rattle.sdv_script.specs.Tokens.{Token, Key, Name, Mark}
-use Rattle.sdv_graph.specs.Tree.{Declared, Statements, nothing, first, Ways, Guarded, Statement, setting, set, clear, fault}
+use Rattle.sdv_graph.specs.Tree.{Declared, Statements, nothing, first, Ways, Guarded, Statement, setting, set, clear, bus_lines, fault}
 use Rattle.sdv_script.specs.Grammar.{guards_written, phase_written, statements_written, ways_written, statement_written}
 use Rattle.sdv_script.specs.Rules.{max_statements, max_loops, GuardsFit, deeper, in_loop, HasRoom, StatementsFit, WaysFit, StatementFits, statements_count, ways_count, statement_count}
-use Rattle.sdv_script.specs.Reading.{Progress, progress_to, Blocks, WaysOf, Pair, after_open, after_close, after_else, after_ok, read_count, read_command, read_condition, read_receive, read_let, read_flag, read_fault, read_guards, read_block, read_branches, read_ends, read_phase, read_send, read_if, read_loop, moved, starts, read_after, read_statement, closes, last_way, read_case, next_way, more_ways, read_statements, read_ways}
+use Rattle.sdv_script.specs.Reading.{Progress, progress_to, Blocks, WaysOf, Pair, after_open, after_close, after_else, after_ok, read_count, read_command, read_condition, read_receive, read_let, read_flag, read_width, read_fault, read_guards, read_block, read_branches, read_ends, read_phase, read_send, read_if, read_loop, moved, starts, read_after, read_statement, closes, last_way, read_case, next_way, more_ways, read_statements, read_ways}
 use Rattle.sdv_script.proofs.WhereRead.{IfSome-bind, IfSome-test, IfSome-map, both}
-use Rattle.sdv_script.proofs.Taken.{after_open-took, after_close-took, after_else-took, after_ok-took, count-took, command-took, condition-took, receive-took, let-took, flag-took, fault-took}
+use Rattle.sdv_script.proofs.Taken.{after_open-took, after_close-took, after_else-took, after_ok-took, count-took, command-took, condition-took, receive-took, let-took, flag-took, width-took, fault-took}
 use Rattle.sdv_script.proofs.GuardLaws.{read_guards-took}
 
 -- so many statements were begun
@@ -206,6 +206,12 @@ fault_statement-took : (names : Declared) (depth : Depth) (at : Progress)
 fault_statement-took names depth at =
     IfSome-bind (read_fault at.tokens) _ _ _ (fault-took at.tokens) (λ n p. record { parts = rw p.0 refl; fits = p.1; counted = refl; few = λ le. le })
 
+lines_statement-took : (names : Declared) (depth : Depth) (at : Progress)
+    → IfSome (moved bus_lines at.begun (read_width names.kind at.tokens)) (AfterTook names depth word.BusLines at)
+lines_statement-took names depth at =
+    IfSome-bind (read_width names.kind at.tokens) _ _ _ (width-took names.kind at.tokens) (λ w p.
+    record { parts = ap (λ (ts : List Token). Key word.BusLines ∷ ts) p.0; fits = p.1; counted = refl; few = λ le. le })
+
 receive_statement-took : (names : Declared) (blocks : Blocks) → RowsTake names blocks → (depth : Depth) (at : Progress)
     → IfSome (read_receive at.tokens >>= λ p. read_phase blocks depth p.0 (progress_to p.1 at.begun)) (AfterTook names depth word.Recv at)
 receive_statement-took names blocks take depth at =
@@ -222,6 +228,7 @@ after-took names blocks ways rows take depth word.Let at e = let_statement-took 
 after-took names blocks ways rows take depth word.If at e = if-took names blocks rows depth at
 after-took names blocks ways rows take depth word.Set at e = flag_statement-took names depth word.Set set at (λ f ts. refl) (λ f lt. lt) (λ f. refl)
 after-took names blocks ways rows take depth word.Clear at e = flag_statement-took names depth word.Clear clear at (λ f ts. refl) (λ f lt. lt) (λ f. refl)
+after-took names blocks ways rows take depth word.BusLines at e = lines_statement-took names depth at
 after-took names blocks ways rows take depth word.Loop at e = loop-took names blocks rows depth at
 after-took names blocks ways rows take depth word.Break at e = record { parts = refl; fits = ltb-true 0 depth.loops e; counted = refl; few = λ le. le }
 after-took names blocks ways rows take depth word.Done at e = record { parts = refl; fits = tt; counted = refl; few = λ le. le }

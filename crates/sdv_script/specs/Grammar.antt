@@ -8,11 +8,14 @@ use Rattle.sdv_card.specs.declared.guard.Guard.{Guard}
 use Rattle.sdv_card.specs.declared.guard.Guard.TheVariants as guards
 use Rattle.sdv_card.specs.declared.state.State.{State}
 use Rattle.sdv_card.specs.declared.state.State.TheVariants as states
+use Rattle.sdv_card.specs.declared.command.Setting.{Setting}
+use Rattle.sdv_card.specs.declared.command.Setting.TheVariants.{Lines, Access}
+use Rattle.sdv_card.specs.Modes.{line_count, partition_number}
 use Rattle.sdv_script.specs.declared.token.Sign.TheVariants as sign
 use Rattle.sdv_script.specs.declared.keyword.Keyword.{Keyword}
 use Rattle.sdv_script.specs.declared.keyword.Keyword.TheVariants as word
 use Rattle.sdv_script.specs.declared.operand.Operand.{Operand}
-use Rattle.sdv_script.specs.declared.operand.Operand.TheVariants.{Bare, Select, Conditions, Addressed, Counted, Preset, Erase}
+use Rattle.sdv_script.specs.declared.operand.Operand.TheVariants.{Bare, Select, Conditions, Addressed, Counted, Preset, Erase, Switch}
 use Rattle.sdv_graph.specs.declared.tree.ScriptCommand.{ScriptCommand}
 use Rattle.sdv_graph.specs.declared.tree.Address.{Address}
 use Rattle.sdv_graph.specs.declared.tree.Unit.{Unit as AddressUnit}
@@ -29,8 +32,8 @@ use Rattle.sdv_graph.specs.declared.tree.Change.TheVariants as changes
 use Rattle.sdv_graph.specs.declared.tree.Condition.{Condition}
 use Rattle.sdv_graph.specs.declared.tree.Condition.TheVariants as conditions
 use Rattle.sdv_script.specs.Tokens.{Token, Key, Name, Number, Mark}
-use Rattle.sdv_script.specs.Commands.{operand_of}
-use Rattle.sdv_graph.specs.Tree.{Statements, nothing, first, Ways, otherwise, way, Statement, send, phase, setting, choice, set, clear, turns, break, done, fault, Declared}
+use Rattle.sdv_script.specs.Commands.{operand_of, setting_of}
+use Rattle.sdv_graph.specs.Tree.{Statements, nothing, first, Ways, otherwise, way, Statement, send, phase, setting, choice, set, clear, bus_lines, turns, break, done, fault, Declared}
 
 -- NAMES, by their places in declared order
 
@@ -66,6 +69,15 @@ abbrev pub select_written : Aim → List Token → List Token
 select_written Rca others = others
 select_written Plain others = Key word.None ∷ others
 
+-- setting = "bus.lines" number | "part.access" number
+abbrev pub setting_written : Setting → List Token → List Token
+setting_written (Lines width) others = Key word.BusLines ∷ Number (line_count width) ∷ others
+setting_written (Access partition) others = Key word.PartAccess ∷ Number (partition_number partition) ∷ others
+
+abbrev pub setting_if_any : Option Setting → List Token → List Token
+setting_if_any None others = others
+setting_if_any (Some s) others = setting_written s others
+
 -- what stands after the index
 abbrev pub operand_written : Operand → Declared → ScriptCommand → List Token → List Token
 operand_written (Bare aim) names c others = others
@@ -75,6 +87,7 @@ operand_written (Addressed count) names c others = address_if_any names c.addres
 operand_written Counted names c others = address_if_any names c.address (Key word.Count ∷ Number c.ask.count ∷ others)
 operand_written Preset names c others = Key word.Count ∷ Number c.ask.count ∷ others
 operand_written Erase names c others = Number c.ask.argument ∷ others
+operand_written Switch names c others = setting_if_any (setting_of names.kind c.ask.argument) others
 
 abbrev pub operand_if_any : Option Operand → Declared → ScriptCommand → List Token → List Token
 operand_if_any None names c others = others
@@ -182,6 +195,7 @@ abbrev mutual
       ∷ Key word.Else ∷ Mark sign.OpenBrace ∷ statements_written names b (Mark sign.CloseBrace ∷ others)))
   statement_written names (set f) others = Key word.Set ∷ flag_name names f ∷ others
   statement_written names (clear f) others = Key word.Clear ∷ flag_name names f ∷ others
+  statement_written names (bus_lines width) others = Key word.BusLines ∷ Number (line_count width) ∷ others
   statement_written names (turns n a b) others =
       Key word.Loop ∷ Number n
       ∷ Mark sign.OpenBrace ∷ statements_written names a (Mark sign.CloseBrace

@@ -21,6 +21,8 @@ keyword_text word.Let = codes "let"
 keyword_text word.If = codes "if"
 keyword_text word.Set = codes "set"
 keyword_text word.Clear = codes "clear"
+keyword_text word.BusLines = codes "bus.lines"
+keyword_text word.PartAccess = codes "part.access"
 keyword_text word.Loop = codes "loop"
 keyword_text word.Break = codes "break"
 keyword_text word.Done = codes "done"
@@ -56,10 +58,10 @@ keyword_text word.Dis = codes "dis"
 abbrev pub keywords : List Keyword
 keywords =
     word.Card ∷ word.Sd ∷ word.Emmc ∷ word.Flags ∷ word.Nums ∷ word.Send ∷ word.Else ∷ word.Recv ∷ word.Reg ∷ word.Give
-    ∷ word.Wait ∷ word.Ok ∷ word.Let ∷ word.If ∷ word.Set ∷ word.Clear ∷ word.Loop ∷ word.Break ∷ word.Done
-    ∷ word.Fault ∷ word.CsdBlocks ∷ word.ExtBlocks ∷ word.At ∷ word.Block ∷ word.Byte ∷ word.By ∷ word.Timeout
-    ∷ word.Answer ∷ word.Clean ∷ word.Ready ∷ word.App ∷ word.Echo ∷ word.OcrReady ∷ word.OcrBlock
-    ∷ word.State ∷ word.None ∷ word.Count ∷ word.Number ∷ word.Idle ∷ word.Ident ∷ word.Stby ∷ word.Tran
+    ∷ word.Wait ∷ word.Ok ∷ word.Let ∷ word.If ∷ word.Set ∷ word.Clear ∷ word.BusLines ∷ word.PartAccess ∷ word.Loop
+    ∷ word.Break ∷ word.Done ∷ word.Fault ∷ word.CsdBlocks ∷ word.ExtBlocks ∷ word.At ∷ word.Block ∷ word.Byte
+    ∷ word.By ∷ word.Timeout ∷ word.Answer ∷ word.Clean ∷ word.Ready ∷ word.App ∷ word.Echo ∷ word.OcrReady
+    ∷ word.OcrBlock ∷ word.State ∷ word.None ∷ word.Count ∷ word.Number ∷ word.Idle ∷ word.Ident ∷ word.Stby ∷ word.Tran
     ∷ word.Data ∷ word.Rcv ∷ word.Prg ∷ word.Dis ∷ []
 
 -- a piece of text spells the reserved word

@@ -12,6 +12,11 @@ use Rattle.sdv_card.specs.declared.guard.Guard.{Guard}
 use Rattle.sdv_card.specs.declared.guard.Guard.TheVariants as guards
 use Rattle.sdv_card.specs.declared.state.State.{State}
 use Rattle.sdv_card.specs.declared.state.State.TheVariants as states
+use Rattle.sdv_card.specs.declared.state.Width.{Width}
+use Rattle.sdv_card.specs.declared.state.Partition.{Partition}
+use Rattle.sdv_card.specs.declared.command.Setting.{Setting}
+use Rattle.sdv_card.specs.declared.command.Setting.TheVariants.{Lines, Access}
+use Rattle.sdv_card.specs.Modes.{has_width}
 use Rattle.sdv_script.specs.declared.fault.Stop.{Stop}
 use Rattle.sdv_script.specs.declared.fault.Stop.TheVariants as stop
 use Rattle.sdv_script.specs.declared.token.Sign.TheVariants as sign
@@ -19,7 +24,7 @@ use Rattle.sdv_script.specs.declared.keyword.Keyword.{Keyword}
 use Rattle.sdv_script.specs.declared.keyword.Keyword.TheVariants as word
 use Rattle.sdv_script.specs.declared.depth.Depth.{Depth}
 use Rattle.sdv_script.specs.declared.operand.Operand.{Operand}
-use Rattle.sdv_script.specs.declared.operand.Operand.TheVariants.{Bare, Select, Conditions, Addressed, Counted, Preset, Erase}
+use Rattle.sdv_script.specs.declared.operand.Operand.TheVariants.{Bare, Select, Conditions, Addressed, Counted, Preset, Erase, Switch}
 use Rattle.sdv_graph.specs.declared.tree.ScriptCommand.{ScriptCommand}
 use Rattle.sdv_graph.specs.declared.tree.Address.{Address}
 use Rattle.sdv_graph.specs.declared.tree.Unit.{Unit as AddressUnit}
@@ -36,9 +41,9 @@ use Rattle.sdv_graph.specs.declared.tree.Change.TheVariants as changes
 use Rattle.sdv_graph.specs.declared.tree.Condition.{Condition}
 use Rattle.sdv_graph.specs.declared.tree.Condition.TheVariants as conditions
 use Rattle.sdv_script.specs.Tokens.{Token, Key, Name, Number, Mark}
-use Rattle.sdv_script.specs.Commands.{operand_of, is_conditions, is_erase, has_ext_csd, fits_order}
+use Rattle.sdv_script.specs.Commands.{operand_of, is_conditions, is_erase, has_partitions, setting_argument, width_with, partition_with, has_ext_csd, fits_order}
 use Rattle.sdv_script.specs.Rules.{place_of, ask_with, deeper, in_loop, max_number, max_braces, max_loops, max_statements, max_name, max_flags, max_numbers, max_bytes, statements_fall}
-use Rattle.sdv_graph.specs.Tree.{Statements, nothing, first, Ways, otherwise, way, Statement, send, phase, setting, choice, set, clear, turns, break, done, fault, Declared, Guarded}
+use Rattle.sdv_graph.specs.Tree.{Statements, nothing, first, Ways, otherwise, way, Statement, send, phase, setting, choice, set, clear, bus_lines, turns, break, done, fault, Declared, Guarded}
 
 abbrev pub Fails : {Y : Type 0} → Stop → Option Y → Type 0
 Fails stop.Memory read = Unit {0}
@@ -165,6 +170,25 @@ abbrev pub read_erase : ℕ → List Token → Read ScriptCommand
 read_erase index (Number n ∷ ts) = if is_erase n then Some (bare_command (ask_with index Plain n 0), ts) else None
 read_erase index ts = None
 
+-- a number of data lines that the kind has
+abbrev pub read_width : Kind → List Token → Read Width
+read_width k (Number n ∷ ts) = width_with n >>= λ width. if has_width k width then Some (width, ts) else None
+read_width k ts = None
+
+abbrev pub read_partition : List Token → Read Partition
+read_partition (Number n ∷ ts) = with_rest ts (partition_with n)
+read_partition ts = None
+
+abbrev pub read_setting : Kind → List Token → Read Setting
+read_setting k (Key word.BusLines ∷ ts) = read_width k ts >>= λ w. Some (Lines w.0, w.1)
+read_setting k (Key word.PartAccess ∷ ts) =
+    if has_partitions k then (read_partition ts >>= λ p. Some (Access p.0, p.1)) else None
+read_setting k ts = None
+
+abbrev pub read_switch : Kind → ℕ → List Token → Read ScriptCommand
+read_switch k index ts =
+    read_setting k ts >>= λ s. Some (bare_command (ask_with index Plain (setting_argument k s.0) 0), s.1)
+
 abbrev pub read_operand : Declared → ℕ → Operand → List Token → Read ScriptCommand
 read_operand names index (Bare aim) ts = Some (bare_command (ask_with index aim 0 0), ts)
 read_operand names index Select ts = read_select index ts
@@ -174,6 +198,7 @@ read_operand names index (Addressed count) ts =
 read_operand names index Counted ts = read_counted names index ts
 read_operand names index Preset ts = read_preset index ts
 read_operand names index Erase ts = read_erase index ts
+read_operand names index Switch ts = read_switch names.kind index ts
 
 abbrev pub read_command : Declared → List Token → Read ScriptCommand
 read_command names (Number n ∷ ts) = operand_of names.kind n >>= λ operand. read_operand names n operand ts
@@ -359,6 +384,7 @@ begins word.Let = true
 begins word.If = true
 begins word.Set = true
 begins word.Clear = true
+begins word.BusLines = true
 begins word.Loop = true
 begins word.Break = true
 begins word.Done = true
@@ -375,6 +401,7 @@ abbrev pub read_plain : Declared → Keyword → Progress → Reading Statement
 read_plain names word.Let at = moved setting at.begun (read_let names at.tokens)
 read_plain names word.Set at = moved set at.begun (read_flag names at.tokens)
 read_plain names word.Clear at = moved clear at.begun (read_flag names at.tokens)
+read_plain names word.BusLines at = moved bus_lines at.begun (read_width names.kind at.tokens)
 read_plain names word.Break at = Some (break, at)
 read_plain names word.Done at = Some (done, at)
 read_plain names word.Fault at = moved fault at.begun (read_fault at.tokens)

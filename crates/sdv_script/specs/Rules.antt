@@ -1,5 +1,5 @@
--- What a syntax tree must meet beside the grammar: names are declared and new, guards fit, limits are kept, `break`
--- stands in a loop's body, and the script does not fall off its end.
+-- What a syntax tree must meet beside the grammar: names are declared and new, guards and data lines fit, limits
+-- are kept, `break` stands in a loop's body, and the script does not fall off its end.
 use Rattle.std.specs.Prelude.{◌≡◌, ℕ, suc, ◌+◌, ◌<◌, ◌≤◌, List, [], ◌∷◌, ◌++◌, length, false, Option, Some, None, IsTrue, if◌then◌else◌}
 use Rattle.std.specs.Str.{bytes_eq}
 use Rattle.sdv_card.specs.declared.event.Aim.{Aim}
@@ -7,10 +7,11 @@ use Rattle.sdv_card.specs.declared.event.Aim.TheVariants.{Plain}
 use Rattle.sdv_card.specs.declared.event.Ask.{Ask}
 use Rattle.sdv_card.specs.declared.command.Order.{Order}
 use Rattle.sdv_card.specs.CommandTable.{order_of}
+use Rattle.sdv_card.specs.Modes.{has_width}
 use Rattle.sdv_card.specs.declared.guard.Guard.{Guard}
 use Rattle.sdv_script.specs.declared.depth.Depth.{Depth}
 use Rattle.sdv_script.specs.declared.operand.Operand.{Operand}
-use Rattle.sdv_script.specs.declared.operand.Operand.TheVariants.{Bare, Select, Conditions, Addressed, Counted, Preset, Erase}
+use Rattle.sdv_script.specs.declared.operand.Operand.TheVariants.{Bare, Select, Conditions, Addressed, Counted, Preset, Erase, Switch}
 use Rattle.sdv_graph.specs.declared.tree.ScriptCommand.{ScriptCommand}
 use Rattle.sdv_graph.specs.declared.tree.Address.{Address}
 use Rattle.sdv_graph.specs.declared.tree.Unit.{Unit as AddressUnit}
@@ -24,8 +25,8 @@ use Rattle.sdv_graph.specs.declared.tree.Change.{Change}
 use Rattle.sdv_graph.specs.declared.tree.Change.TheVariants as changes
 use Rattle.sdv_graph.specs.declared.tree.Condition.{Condition}
 use Rattle.sdv_graph.specs.declared.tree.Condition.TheVariants as conditions
-use Rattle.sdv_script.specs.Commands.{operand_of, is_conditions, is_erase, has_ext_csd, fits_order}
-use Rattle.sdv_graph.specs.Tree.{Statements, nothing, first, Ways, otherwise, way, Statement, send, phase, setting, choice, set, clear, turns, break, done, fault, Declared}
+use Rattle.sdv_script.specs.Commands.{operand_of, is_conditions, is_erase, is_setting, has_ext_csd, fits_order}
+use Rattle.sdv_graph.specs.Tree.{Statements, nothing, first, Ways, otherwise, way, Statement, send, phase, setting, choice, set, clear, bus_lines, turns, break, done, fault, Declared}
 pub use Rattle.sdv_graph.specs.Counts.{max_number, max_statements, max_name, max_flags, max_loops, statements_count, ways_count, statement_count, statements_break, ways_break, statement_breaks, statements_fall, ways_fall, statement_falls}
 
 -- LIMITS
@@ -96,6 +97,8 @@ OperandFits names (Some Preset) c = (c.ask ≡ ask_with c.ask.index Plain 0 c.as
     × (c.ask.count ≤ 65535) × (c.address ≡ None)
 OperandFits names (Some Erase) c = (c.ask ≡ ask_with c.ask.index Plain c.ask.argument 0)
     × IsTrue (is_erase c.ask.argument) × (c.address ≡ None)
+OperandFits names (Some Switch) c = (c.ask ≡ ask_with c.ask.index Plain c.ask.argument 0)
+    × IsTrue (is_setting names.kind c.ask.argument) × (c.address ≡ None)
 
 abbrev pub CommandFits : Declared → ScriptCommand → Type 0
 CommandFits names c = OperandFits names (operand_of names.kind c.ask.index) c
@@ -159,6 +162,7 @@ abbrev mutual
       × StatementsFit names (deeper depth) b
   StatementFits names depth (set f) = f < length names.flags
   StatementFits names depth (clear f) = f < length names.flags
+  StatementFits names depth (bus_lines width) = IsTrue (has_width names.kind width)
   StatementFits names depth (turns n a b) =
       (1 ≤ n) × (n ≤ 65535) × (depth.loops < max_loops) × HasRoom depth
       × StatementsFit names (deeper (in_loop depth)) a × StatementsFit names (deeper depth) b

@@ -19,6 +19,7 @@ use crate::fault::{FaultKind, Stop};
 use crate::guards::guard_list;
 use crate::keyword::Keyword;
 use crate::progress::Progress;
+use crate::settings::width;
 use crate::token::{Sign, Token};
 use crate::values::{condition, fault_name, receive, setting};
 use sdv_card::state_table::order;
@@ -152,6 +153,10 @@ fn plain_statement<'a>(
             let (f, at) = flag(names, from.at, FaultKind::Syntax)?;
             Ok((Stmt::Clear(f), from.to(at)))
         }
+        Keyword::BusLines => {
+            let (width, at) = width(names.kind, from.at, FaultKind::Syntax)?;
+            Ok((Stmt::BusLines(width), from.to(at)))
+        }
         Keyword::Break => Ok((Stmt::Break, from)),
         Keyword::Done => Ok((Stmt::Done, from)),
         Keyword::Fault => {
@@ -186,6 +191,7 @@ pub fn is_first_word(keyword: Keyword) -> bool
             | Keyword::If
             | Keyword::Set
             | Keyword::Clear
+            | Keyword::BusLines
             | Keyword::Loop
             | Keyword::Break
             | Keyword::Done

@@ -3,15 +3,16 @@
 ghost use Rattle.std.specs.Prelude.{◌≡◌};
 ghost use Rattle.sdv_script.specs.Place.{tokens_at, names_of};
 ghost use Rattle.sdv_script.specs.Rules.{ask_with};
-ghost use Rattle.sdv_script.specs.Reading.{Gives, bare_command, addressed_command, read_unit, read_sum, read_position, read_address, read_select, read_conditions, read_counted, read_preset, read_erase, read_operand, read_command};
+ghost use Rattle.sdv_script.specs.Reading.{Gives, bare_command, addressed_command, read_unit, read_sum, read_position, read_address, read_select, read_conditions, read_counted, read_preset, read_erase, read_switch, read_operand, read_command};
 
 use crate::cursor::Cursor;
 use crate::expect::{at_word, count, count_word, figure, flag, number_name};
 use crate::fault::{FaultKind, Stop};
 use crate::keyword::Keyword;
 use crate::operand::{Operand, operand_of};
+use crate::settings::{argument, setting};
 use crate::token::{Sign, Token};
-use sdv_card::{Aim, Ask};
+use sdv_card::{Aim, Ask, Kind};
 use sdv_graph::{Address, Names, Position, ScriptCommand, Unit};
 
 /// A command, from its index on.
@@ -52,6 +53,7 @@ fn written<'a>(
         Operand::Counted => counted(names, index, at),
         Operand::Preset => preset(index, at),
         Operand::Erase => erase(index, at),
+        Operand::Switch => switch(names.kind, index, at),
     }
 }
 
@@ -122,6 +124,14 @@ fn erase(index: u8, at: Cursor<'_>) -> Result<(ScriptCommand, Cursor<'_>), Stop>
         }
         _ => Err(Stop::Fault(at.fault(FaultKind::Argument))),
     }
+}
+
+// What index 6 sets.
+fn switch(kind: Kind, index: u8, at: Cursor<'_>) -> Result<(ScriptCommand, Cursor<'_>), Stop>
+    ensures { Gives (λ x. (x.0, tokens_at x.1)) result (read_switch kind index (tokens_at at.entry)) }
+{
+    let (setting, at) = setting(kind, at)?;
+    Ok((bare(ask(index, Aim::Plain, argument(kind, setting), 0)), at))
 }
 
 // An address, `count` and a number of blocks.

@@ -36,7 +36,7 @@ fn falls(stmt: &Stmt<'_>) -> bool
         Stmt::Phase(_, good, other) => block_falls(good) || block_falls(other),
         Stmt::If(_, body, other) => block_falls(body) || block_falls(other),
         Stmt::Loop(_, body, other) => block_falls(other) || block_breaks(body),
-        Stmt::Let(_) | Stmt::Set(_) | Stmt::Clear(_) => true,
+        Stmt::Let(_) | Stmt::Set(_) | Stmt::Clear(_) | Stmt::BusLines(_) => true,
         Stmt::Break | Stmt::Done | Stmt::Fault(_) => false,
     }
 }
@@ -72,6 +72,7 @@ fn breaks(stmt: &Stmt<'_>) -> bool
         Stmt::If(_, body, other) => block_breaks(body) || block_breaks(other),
         Stmt::Loop(_, _, other) => block_breaks(other),
         Stmt::Break => true,
-        Stmt::Let(_) | Stmt::Set(_) | Stmt::Clear(_) | Stmt::Done | Stmt::Fault(_) => false,
+        Stmt::Let(_) | Stmt::Set(_) | Stmt::Clear(_) | Stmt::BusLines(_) => false,
+        Stmt::Done | Stmt::Fault(_) => false,
     }
 }

@@ -38,6 +38,10 @@ pub enum Keyword {
     Set,
     /// `clear`
     Clear,
+    /// `bus.lines`
+    BusLines,
+    /// `part.access`
+    PartAccess,
     /// `loop`
     Loop,
     /// `break`
@@ -101,7 +105,7 @@ pub enum Keyword {
 }
 
 /// Every reserved word, in the order of the type.
-const KEYWORDS: [Keyword; 46] = [
+const KEYWORDS: [Keyword; 48] = [
     Keyword::Card,
     Keyword::Sd,
     Keyword::Emmc,
@@ -118,6 +122,8 @@ const KEYWORDS: [Keyword; 46] = [
     Keyword::If,
     Keyword::Set,
     Keyword::Clear,
+    Keyword::BusLines,
+    Keyword::PartAccess,
     Keyword::Loop,
     Keyword::Break,
     Keyword::Done,
@@ -172,6 +178,8 @@ impl Keyword {
             Keyword::If => "if",
             Keyword::Set => "set",
             Keyword::Clear => "clear",
+            Keyword::BusLines => "bus.lines",
+            Keyword::PartAccess => "part.access",
             Keyword::Loop => "loop",
             Keyword::Break => "break",
             Keyword::Done => "done",

@@ -22,6 +22,7 @@ mod printing;
 mod progress;
 mod reading;
 mod script;
+mod settings;
 mod token;
 pub mod tree;
 mod values;

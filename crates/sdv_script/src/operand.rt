@@ -22,6 +22,8 @@ pub enum Operand {
     Preset,
     /// One of the three arguments of CMD38 of e.MMC.
     Erase,
+    /// What index 6 sets: data lines, or on e.MMC the partition in access.
+    Switch,
 }
 
 /// What is written after an index; none for an index that the kind has not.
@@ -40,6 +42,7 @@ fn sd_operand(index: u8) -> Option<Operand>
     match index {
         0 | 2 | 3 | 8 | 12 | 16 | 38 | 51 => Some(Operand::Bare(Aim::Plain)),
         9 | 10 | 13 | 55 => Some(Operand::Bare(Aim::Rca)),
+        6 => Some(Operand::Switch),
         7 => Some(Operand::Select),
         41 => Some(Operand::Conditions),
         17 | 24 => Some(Operand::Addressed(1)),
@@ -55,6 +58,7 @@ fn emmc_operand(index: u8) -> Option<Operand>
     match index {
         0 | 1 | 2 | 3 | 8 | 12 | 16 => Some(Operand::Bare(Aim::Plain)),
         9 | 10 | 13 => Some(Operand::Bare(Aim::Rca)),
+        6 => Some(Operand::Switch),
         7 => Some(Operand::Select),
         23 => Some(Operand::Preset),
         38 => Some(Operand::Erase),

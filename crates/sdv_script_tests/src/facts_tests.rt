@@ -57,6 +57,11 @@ const BLOCK: u64 = 0x2c04;
 
 const BLOCK_WITH_FLAG: u64 = 0x12c04;
 
+// A block-addressed device in transfer state with access to its first boot partition, and to its second.
+const IN_BOOT: u64 = 0x100_2c04;
+
+const IN_SECOND_BOOT: u64 = 0x200_2c04;
+
 // What is known of the first variable after it was set, with 100 blocks and what is known of the second one.
 static LETS: [(Known, Atom, Change, Option<Known>); 14] = [
     (
@@ -335,8 +340,8 @@ static POSITIONS: [(u8, u16, Position, bool); 15] = [
     (32, 0, Position::Number(10), false),
 ];
 
-// Two shapes, and whether an address in the unit is meant by both.
-static UNITS: [([u64; 2], Unit, bool); 12] = [
+// Two shapes, and whether an address in the unit is meant by both, in the user area.
+static UNITS: [([u64; 2], Unit, bool); 14] = [
     ([BYTE, 0x2805], Unit::Byte, true),
     ([BYTE, BLOCK], Unit::Byte, false),
     ([BLOCK, BLOCK_WITH_FLAG], Unit::Byte, false),
@@ -349,6 +354,8 @@ static UNITS: [([u64; 2], Unit, bool); 12] = [
     ([BYTE, 0x42c04], Unit::By(3), false),
     ([BYTE, 0x2805], Unit::By(60), true),
     ([BYTE, BLOCK], Unit::By(60), false),
+    ([BLOCK, IN_BOOT], Unit::Block, false),
+    ([IN_BOOT, IN_SECOND_BOOT], Unit::Block, false),
 ];
 
 #[test]
@@ -422,6 +429,7 @@ const DOUBTFUL: Seen = Seen::Status {
     state: 4,
     doubt: true,
     app: None,
+    switch: None,
 };
 
 // The same of a card that did what was asked.
@@ -429,6 +437,7 @@ const SURE: Seen = Seen::Status {
     state: 4,
     doubt: false,
     app: None,
+    switch: None,
 };
 
 // Guards of an answer, and whether all may hold and one may fail.

@@ -19,6 +19,7 @@ fn words_of(point: &Point<'_>) -> &'static str {
         Action::If(Condition::Below(..), ..) => "if <",
         Action::Flag(_, true, _) => "set",
         Action::Flag(_, false, _) => "clear",
+        Action::Lines(..) => "bus.lines",
         Action::Loop(..) => "loop",
         Action::Break(_) => "break",
         Action::Done => "done",
@@ -51,9 +52,10 @@ fn put_targets(text: &mut String, alloc: Global, point: &Point<'_>) -> Result<()
             put_target(text, alloc, *a)?;
             put_target(text, alloc, *b)
         }
-        Action::Let(_, target) | Action::Flag(_, _, target) | Action::Break(target) => {
-            put_target(text, alloc, *target)
-        }
+        Action::Let(_, target)
+        | Action::Flag(_, _, target)
+        | Action::Lines(_, target)
+        | Action::Break(target) => put_target(text, alloc, *target),
         Action::Done | Action::Fault(_) => Ok(()),
     }
 }
@@ -84,8 +86,12 @@ fn graph_text(alloc: Global, text: &str) -> Result<String, Fail> {
 }
 
 // Scripts with their graphs.
-static GRAPHS: [(&str, &str); 5] = [
+static GRAPHS: [(&str, &str); 6] = [
     ("card sd done", "0 0 1 0\ndone []"),
+    (
+        "card emmc bus.lines 8 done",
+        "0 0 2 0\nbus.lines [] 1\ndone []",
+    ),
     (
         BRING_UP,
         "1 1 8023 0
@@ -180,6 +186,57 @@ fn graphs(rt: HostRuntime) -> Result<(), Fail> {
     for &(text, wanted) in GRAPHS.iter() {
         let graph = graph_text(rt.alloc(), text)?;
         assert_eq!(rt; graph.as_str(), wanted, "{text}");
+    }
+    Ok(())
+}
+
+// Scripts that begin with a command of index 6, and its argument.
+static SETTINGS: [(&str, u32); 8] = [
+    ("card sd send 6 bus.lines 1 { else { } } done", 0),
+    ("card sd send 6 bus.lines 4 { else { } } done", 2),
+    (
+        "card emmc send 6 bus.lines 1 { else { } } done",
+        0x03b7_0000,
+    ),
+    (
+        "card emmc send 6 bus.lines 4 { else { } } done",
+        0x03b7_0100,
+    ),
+    (
+        "card emmc send 6 bus.lines 8 { else { } } done",
+        0x03b7_0200,
+    ),
+    (
+        "card emmc send 6 part.access 0 { else { } } done",
+        0x03b3_0000,
+    ),
+    (
+        "card emmc send 6 part.access 1 { else { } } done",
+        0x03b3_0100,
+    ),
+    (
+        "card emmc send 6 part.access 2 { else { } } done",
+        0x03b3_0200,
+    ),
+];
+
+// The argument of a script's first command, where it begins with one.
+fn first_argument(graph: &Graph<'_>) -> Option<u32> {
+    if graph.len() == 0 {
+        return None;
+    }
+    match &graph.point(0).action {
+        Action::Send(command, ..) => Some(command.ask.argument),
+        _ => None,
+    }
+}
+
+#[test]
+fn arguments_of_settings(rt: HostRuntime) -> Result<(), Fail> {
+    let alloc = rt.alloc();
+    for &(text, argument) in SETTINGS.iter() {
+        let graph = parse(alloc, text)?.graph(alloc)?;
+        assert_eq!(rt; first_argument(&graph), Some(argument), "{text}");
     }
     Ok(())
 }

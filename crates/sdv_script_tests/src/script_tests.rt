@@ -27,7 +27,7 @@ fn refused(rt: &impl Abort, alloc: Global, text: &str, kind: FaultKind, line: u3
 }
 
 // Scripts for SD cards, with how many statements each has.
-static SCRIPTS: [(&str, usize); 13] = [
+static SCRIPTS: [(&str, usize); 14] = [
     (BRING_UP, 23),
     ("card sd done", 1),
     ("card sd fault stop", 1),
@@ -58,6 +58,10 @@ static SCRIPTS: [(&str, usize); 13] = [
     ),
     ("card sd flags f fault a set f", 2),
     (
+        "card sd bus.lines 0x1 send 6 bus.lines 04 { clean & state=tran { bus.lines 4 } else { } } done",
+        4,
+    ),
+    (
         "card sd flags abcdefghijklmnop b c d nums e f g h i j k l done",
         1,
     ),
@@ -65,10 +69,14 @@ static SCRIPTS: [(&str, usize); 13] = [
 ];
 
 // Scripts for e.MMC devices.
-static DEVICE_SCRIPTS: [(&str, usize); 3] = [
+static DEVICE_SCRIPTS: [(&str, usize); 4] = [
     (DEVICE_BRING_UP, 26),
     (
         "card emmc nums x let x = ext.blocks send 23 count 0x10 { else { } } send 38 03 { else { } } done",
+        4,
+    ),
+    (
+        "card emmc send 6 bus.lines 8 { ready { bus.lines 8 } else { } } send 6 part.access 0x2 { clean { } else { } } done",
         4,
     ),
     (
@@ -93,7 +101,7 @@ fn scripts(rt: HostRuntime) {
 
 // What is wrong wherever a statement may stand, where the flag `f` and the number variable `x` are declared, with its
 // kind.
-static WRONG: [(&str, FaultKind); 114] = [
+static WRONG: [(&str, FaultKind); 134] = [
     ("$", FaultKind::Token),
     ("set A", FaultKind::Token),
     ("12a", FaultKind::Token),
@@ -160,7 +168,27 @@ static WRONG: [(&str, FaultKind); 114] = [
     ("send 17 at by x 0", FaultKind::Name),
     ("send 1 { else { } }", FaultKind::Command),
     ("send 64 { else { } }", FaultKind::Command),
-    ("send 6 { else { } }", FaultKind::Command),
+    ("send 6 { else { } }", FaultKind::Argument),
+    ("send 6 part.access @", FaultKind::Argument),
+    ("send 6 4 { else { } }", FaultKind::Argument),
+    ("send 6 bus.lines { else { } }", FaultKind::Argument),
+    ("send 6 bus.lines 8 { else { } }", FaultKind::Argument),
+    ("send 6 bus.lines x", FaultKind::Argument),
+    ("send 6 bus.lines 4 4", FaultKind::Argument),
+    ("send 6 part.access 0 { else { } }", FaultKind::Argument),
+    ("send 6 bus.lines @", FaultKind::Token),
+    ("bus.lines @", FaultKind::Token),
+    ("bus.lines 0x4g", FaultKind::Token),
+    ("bus.lines 3", FaultKind::Argument),
+    ("bus.lines 8", FaultKind::Argument),
+    ("bus.lines 1099511627777", FaultKind::Argument),
+    ("bus.lines x", FaultKind::Syntax),
+    ("bus.lines {", FaultKind::Syntax),
+    ("bus.lines 4 4", FaultKind::Syntax),
+    ("set f part.access 0", FaultKind::Syntax),
+    ("set bus.lines", FaultKind::Name),
+    ("fault part.access", FaultKind::Name),
+    ("send 6 bus.lines 4 { echo { } else { } }", FaultKind::Guard),
     ("send 23 count 3 { else { } }", FaultKind::Command),
     ("send 35 at block 0 { else { } }", FaultKind::Command),
     ("send 36 at block 0 { else { } }", FaultKind::Command),
@@ -232,13 +260,24 @@ static WRONG: [(&str, FaultKind); 114] = [
 ];
 
 // What is wrong so in a script for an e.MMC device.
-static WRONG_ON_DEVICE: [(&str, FaultKind); 18] = [
+static WRONG_ON_DEVICE: [(&str, FaultKind); 26] = [
     ("send 41 0x40ff8000 { else { } }", FaultKind::Command),
     ("send 55 { else { } }", FaultKind::Command),
     ("send 51 { else { } }", FaultKind::Command),
     ("send 32 at block 0 { else { } }", FaultKind::Command),
     ("send 33 at block 0 { else { } }", FaultKind::Command),
-    ("send 6 { else { } }", FaultKind::Command),
+    ("send 6 { else { } }", FaultKind::Argument),
+    ("send 6 bus.lines 2 { else { } }", FaultKind::Argument),
+    ("send 6 part.access 3 { else { } }", FaultKind::Argument),
+    ("send 6 part.access {", FaultKind::Argument),
+    ("send 6 0x03b70000 { else { } }", FaultKind::Argument),
+    ("send 6 part.access @", FaultKind::Token),
+    ("bus.lines 2", FaultKind::Argument),
+    ("set f part.access 1", FaultKind::Syntax),
+    (
+        "send 6 part.access 1 { app { } else { } }",
+        FaultKind::Guard,
+    ),
     ("send 23 { else { } }", FaultKind::Argument),
     ("send 23 3 { else { } }", FaultKind::Argument),
     ("send 23 count 0 { else { } }", FaultKind::Argument),
@@ -276,7 +315,7 @@ fn wrong_statements(rt: HostRuntime) -> Result<(), Fail> {
 }
 
 // What is wrong with a declaration, or with a text that ends too early, with the kind and the line.
-static REFUSED: [(&str, FaultKind, u32); 42] = [
+static REFUSED: [(&str, FaultKind, u32); 45] = [
     ("card sd\nelse", FaultKind::Syntax, 2),
     ("card sd\nx", FaultKind::Syntax, 2),
     (
@@ -301,11 +340,14 @@ static REFUSED: [(&str, FaultKind, u32); 42] = [
     ("card sd\nrecv { done", FaultKind::Syntax, 2),
     ("card sd\nwait { ok { } else { }", FaultKind::Syntax, 2),
     ("card sd\nfault", FaultKind::Syntax, 2),
+    ("card sd\nbus.lines", FaultKind::Syntax, 2),
     ("card sd\nsend 0 { else { }\ndone", FaultKind::Syntax, 3),
     ("card sd\nflags f f", FaultKind::Name, 2),
     ("card sd\nflags f\nnums f", FaultKind::Name, 3),
     ("card sd\nflags send", FaultKind::Name, 2),
     ("card sd\nflags f timeout", FaultKind::Name, 2),
+    ("card sd\nflags bus.lines", FaultKind::Name, 2),
+    ("card sd\nflags f part.access", FaultKind::Name, 2),
     ("card sd\nnums x\nflags f", FaultKind::Name, 3),
     ("card sd\nsend 0\ndone", FaultKind::Argument, 3),
     ("card sd\nsend 0", FaultKind::Argument, 2),

@@ -4,7 +4,7 @@ ghost use Rattle.std.specs.Prelude.{◌≡◌};
 ghost use Rattle.sdv_card.specs.StateTable.{sd_rows, targets};
 ghost use Rattle.sdv_card.specs.NextStates.{next_states};
 
-use sdv_card::{Row, State};
+use sdv_card::{Row, State, Width};
 
 /// The state after a row, if cards have the row in the state. After ACMD41 a card may stay in idle too.
 pub fn next(row: Row, from: State) -> Option<State>
@@ -24,7 +24,13 @@ pub fn next(row: Row, from: State) -> Option<State>
         (Row::Cmd12, State::Rcv) => State::Prg,
         (Row::Cmd13, State::Idle | State::Ready | State::Ident) => return None,
         (Row::Cmd13, _) => from,
-        (Row::Cmd16 | Row::Cmd32 | Row::Cmd33, State::Tran) => State::Tran,
+        (
+            Row::Acmd6 {
+                width: Width::Eight,
+            },
+            _,
+        ) => return None,
+        (Row::Cmd16 | Row::Cmd32 | Row::Cmd33 | Row::Acmd6 { .. }, State::Tran) => State::Tran,
         (Row::Cmd17 | Row::Cmd18 { .. } | Row::Acmd13 | Row::Acmd51, State::Tran) => State::Data,
         (Row::Cmd24 | Row::Cmd25 { .. }, State::Tran) => State::Rcv,
         (Row::Cmd38, State::Tran) => State::Prg,

@@ -17,25 +17,25 @@ pub record IsMade (given : CardDesc) (codes : List ℕ) (shown : Option (List Bl
   pub behaviors : map behavior_of_code codes ≡ map Some s.behaviors
   pub blocks : s.blocks ≡ shown
   -- where the image shows its blocks, it is a card of the profile before its first command
-  pub start : (contents : List Block) → shown ≡ Some contents → IsAtStart (card_of given (at_start given) contents)
+  pub start : (blocks : List Block) → shown ≡ Some blocks → IsAtStart (card_of given (at_start given) blocks)
 
--- a schedule of values that exist, and an image of as many blocks as the card has
-pub record IsWhole (codes : List ℕ) (size capacity : ℕ) : Type 0 where
+-- a schedule of values that exist, and an image of as many blocks as all partitions of the card have
+pub record IsWhole (codes : List ℕ) (size wanted : ℕ) : Type 0 where
   pub known : are_codes codes ≡ true
-  pub fits : size ≡ capacity
+  pub fits : size ≡ wanted
 
-pub record IsOtherSize (codes : List ℕ) (size capacity : ℕ) : Type 0 where
+pub record IsOtherSize (codes : List ℕ) (size wanted : ℕ) : Type 0 where
   pub known : are_codes codes ≡ true
-  pub other : size ≢ capacity
+  pub other : size ≢ wanted
 
 -- a call of the image failed, as its count of failures shows
 abbrev pub IsUnread : {I : Type 0} → (failed : I → ℕ) → I → Type 0
 IsUnread {I} failed image = (after : I) × HasFailed (failed image) (failed after)
 
 -- each refusal comes where none before it is due, and that of a read where one failed
-abbrev pub IsRefused : (codes : List ℕ) → (size capacity : ℕ) → (unread : Type 0) → SimFault → Type 0
-IsRefused codes size capacity unread faults.Description = are_codes codes ≡ false
-IsRefused codes size capacity unread faults.ImageLength = IsOtherSize codes size capacity
-IsRefused codes size capacity unread faults.ImageRead = IsWhole codes size capacity × unread
-IsRefused codes size capacity unread faults.Memory = IsWhole codes size capacity
-IsRefused codes size capacity unread faults.Capacity = ⊥
+abbrev pub IsRefused : (codes : List ℕ) → (size wanted : ℕ) → (unread : Type 0) → SimFault → Type 0
+IsRefused codes size wanted unread faults.Description = are_codes codes ≡ false
+IsRefused codes size wanted unread faults.ImageLength = IsOtherSize codes size wanted
+IsRefused codes size wanted unread faults.ImageRead = IsWhole codes size wanted × unread
+IsRefused codes size wanted unread faults.Memory = IsWhole codes size wanted
+IsRefused codes size wanted unread faults.Capacity = ⊥

@@ -2,6 +2,7 @@
 
 ghost use Rattle.std.specs.Prelude.{◌≡◌, ◌<◌, ◌^◌, length, All, MatchResult};
 ghost use Rattle.sdv_card.specs.Card.{IsByte, IsRegister};
+ghost use Rattle.sdv_description.specs.Layout.{image_size};
 ghost use Rattle.sdv_behavior.specs.Schedules.{are_codes};
 ghost use Rattle.sdv_sim.specs.SimOf.{image_of, state_of};
 ghost use Rattle.sdv_sim.specs.Made.{IsMade, IsRefused, IsUnread};
@@ -13,7 +14,7 @@ use sdv_description::CardDesc;
 use sdv_image::{Image, SimFault};
 use std::alloc::Global;
 
-/// Each value is one of a schedule, 0 to 6.
+/// Each value is one of a schedule, 0 to 7.
 fn are_codes(codes: &[u8]) -> bool
     ensures { result ≡ are_codes codes.now }
 {
@@ -38,22 +39,23 @@ fn registers_fit(csd: &[u8; 15], sectors: u32) -> usize
 
 impl<I: Image + Drop> Sim<I> {
     /// A card of a description before its first command, over an image of its blocks, with the values of a schedule,
-    /// one for each event. Later calls take no memory.
+    /// one for each event. The image has the blocks of the user area, and behind them those of each boot partition.
+    /// Later calls take no memory.
     ///
     /// # Errors
     ///
-    /// [`SimFault::Description`] where a value of the schedule is above 6, [`SimFault::ImageLength`] where the image
+    /// [`SimFault::Description`] where a value of the schedule is above 7, [`SimFault::ImageLength`] where the image
     /// has not as many blocks as the card, [`SimFault::ImageRead`] where its first block cannot be read, and
     /// [`SimFault::Memory`]: the first of them. The image is dropped then, its blocks unchanged.
     pub fn new(alloc: Global, desc: CardDesc, image: I, schedule: &[u8]) -> Result<Sim<I>, SimFault>
         ensures { MatchResult result
             (λ sim. IsMade desc schedule.now (I.blocks image) (state_of sim))
-            (IsRefused schedule.now (I.size image) desc.capacity (IsUnread I.failed image)) }
+            (IsRefused schedule.now (I.size image) (image_size desc) (IsUnread I.failed image)) }
     {
         if !are_codes(schedule) {
             return Err(SimFault::Description);
         }
-        if image.len() != desc.capacity {
+        if image.len() != desc.image_size() {
             return Err(SimFault::ImageLength);
         }
         let mut image = image;

@@ -1,6 +1,7 @@
 //! A simulated card, and the state of it that contracts see.
 
 ghost use Rattle.std.specs.Prelude.{◌≡◌};
+ghost use Rattle.sdv_description.specs.Layout.{image_size};
 
 use crate::schedule::Schedule;
 use sdv_behavior::CardState;
@@ -14,5 +15,5 @@ pub struct Sim<I: Image> {
     pub(crate) card: CardState,
     pub(crate) schedule: Schedule,
     pub(crate) image: I,
-    ghost sized: { I.size image ≡ desc.capacity },
+    ghost sized: { I.size image ≡ image_size desc },
 }

@@ -9,7 +9,10 @@ ghost use Rattle.sdv_sim.specs.SimOf.{state_of};
 
 use crate::sim::Sim;
 use crate::wire_end::give;
-use sdv_behavior::{copy_register, cuts, heard_of, length_fits, phase_over, wait_end, waited};
+use sdv_behavior::{
+    copy_register, cuts, erased_places, heard_of, length_fits, next_place, on_lines, phase_over,
+    wait_end, waited,
+};
 use sdv_card::state_table::{give_legal, recv_legal, recv_reg_legal, wait_legal};
 use sdv_card::{DataEnd, WaitEnd};
 use sdv_controller::{Wire, WireEnd};
@@ -28,12 +31,8 @@ impl<I: Image> Sim<I> {
         let behavior = self.schedule.advance();
         let heard = heard_of(&self.desc, behavior, command, &self.card);
         if heard.erases {
-            let end = if self.card.erase_last < self.desc.capacity {
-                self.card.erase_last + 1
-            } else {
-                self.desc.capacity
-            };
-            let _ = erase_blocks(&mut self.image, self.card.erase_first, end);
+            let (start, end) = erased_places(&self.desc, &self.card);
+            let _ = erase_blocks(&mut self.image, start, end);
         }
         self.card = heard.after;
         heard.reply
@@ -57,16 +56,16 @@ impl<I: Image> Wire for Sim<I> {
         }
     }
 
-    fn data_in(&mut self, blocks: &mut [[u8; 512]]) -> DataEnd {
+    fn data_in(&mut self, lines: u8, blocks: &mut [[u8; 512]]) -> DataEnd {
         let behavior = self.schedule.advance();
         if !recv_legal(self.card.state, self.card.transfer)
+            || !on_lines(&self.card, lines)
             || !length_fits(&self.desc, &self.card, blocks.len())
         {
             return DataEnd::Cut;
         }
-        let end = if cuts(behavior)
-            || read_blocks(&mut self.image, self.card.next_block, blocks).is_err()
-        {
+        let place = next_place(&self.desc, &self.card);
+        let end = if cuts(behavior) || read_blocks(&mut self.image, place, blocks).is_err() {
             DataEnd::Cut
         } else {
             DataEnd::Ok
@@ -75,31 +74,34 @@ impl<I: Image> Wire for Sim<I> {
         end
     }
 
-    fn data_in_reg(&mut self, bytes: &mut [u8]) -> DataEnd {
+    fn data_in_reg(&mut self, lines: u8, bytes: &mut [u8]) -> DataEnd {
         let behavior = self.schedule.advance();
-        if !recv_reg_legal(self.card.state, self.card.transfer) || bytes.is_empty() {
+        if !recv_reg_legal(self.card.state, self.card.transfer)
+            || !on_lines(&self.card, lines)
+            || bytes.is_empty()
+        {
             return DataEnd::Cut;
         }
         let end = if cuts(behavior) {
             DataEnd::Cut
         } else {
-            copy_register(&self.desc, self.card.transfer, bytes);
+            copy_register(&self.desc, self.card.transfer, self.card.mode, bytes);
             DataEnd::Ok
         };
         self.card = phase_over(end, &self.card);
         end
     }
 
-    fn data_out(&mut self, blocks: &[[u8; 512]]) -> DataEnd {
+    fn data_out(&mut self, lines: u8, blocks: &[[u8; 512]]) -> DataEnd {
         let behavior = self.schedule.advance();
         if !give_legal(self.card.state, self.card.transfer)
+            || !on_lines(&self.card, lines)
             || !length_fits(&self.desc, &self.card, blocks.len())
         {
             return DataEnd::Cut;
         }
-        let end = if cuts(behavior)
-            || write_blocks(&mut self.image, self.card.next_block, blocks).is_err()
-        {
+        let place = next_place(&self.desc, &self.card);
+        let end = if cuts(behavior) || write_blocks(&mut self.image, place, blocks).is_err() {
             DataEnd::Cut
         } else {
             DataEnd::Ok

@@ -15,8 +15,8 @@ fn byte_bring_up() -> [Exchange; 9] {
     bring_up(0x0001_0000, 0x80ff_8000, Answer::TimeOut, csd)
 }
 
-/// The bring-up of the device.
-fn device_bring_up() -> [Exchange; 8] {
+/// The bring-up of the device, and its EXT_CSD asked for.
+pub fn device_bring_up() -> [Exchange; 8] {
     [
         (0, 0, Expect::Nothing, Answer::Sent),
         (
@@ -56,7 +56,7 @@ fn sd_cards(rt: HostRuntime) -> Result<(), Fail> {
     play(&rt, &mut card, &byte_bring_up());
     play(&rt, &mut card, &[r1(17, 0x600, 0x900)]);
     let mut blocks = [[0; 512]];
-    let end = card.data_in(&mut blocks);
+    let end = card.data_in(1, &mut blocks);
     assert!(rt; end == DataEnd::Ok && blocks == [[0x5a; 512]]);
     Ok(())
 }
@@ -66,7 +66,7 @@ fn device(rt: HostRuntime) -> Result<(), Fail> {
     let mut card = port(rt.alloc(), DEVICE, &[], 0, 0)?;
     play(&rt, &mut card, &device_bring_up());
     let mut register = [1; 512];
-    let end = card.data_in_reg(&mut register);
+    let end = card.data_in_reg(1, &mut register);
     assert!(rt;
         end == DataEnd::Ok && register[212..216] == [0, 8, 0, 0] && register[0..212] == [0; 212]
     );

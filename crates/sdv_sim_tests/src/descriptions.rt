@@ -1,6 +1,6 @@
 //! Descriptions, and how a simulated card is made or refused.
 
-use crate::shared::{BLOCK_CARD, BYTE_CARD, DEVICE};
+use crate::shared::{BLOCK_CARD, BOOT_DEVICE, BYTE_CARD, DEVICE};
 use sdv_card::Kind;
 use sdv_sim::{CardDesc, MemImage, Sim, SimFault};
 use std::test::Fail;
@@ -10,7 +10,7 @@ const READ: Option<SimFault> = None;
 const WRONG: Option<SimFault> = Some(SimFault::Description);
 
 /// Texts, and why they are refused.
-static ROWS: [(&str, Option<SimFault>); 24] = [
+static ROWS: [(&str, Option<SimFault>); 34] = [
     (BLOCK_CARD, READ),
     (BYTE_CARD, READ),
     (DEVICE, READ),
@@ -68,6 +68,25 @@ static ROWS: [(&str, Option<SimFault>); 24] = [
     ("card emmc\nunit block\nsectors 2048\n\n", WRONG),
     ("card emmc\r\nunit block\r\nsectors 2048\r\n", WRONG),
     ("", WRONG),
+    (BOOT_DEVICE, READ),
+    ("card emmc\nunit block\nsectors 1\nboot 0\n", READ),
+    ("card emmc\nunit block\nsectors 1\nboot 0255\n", READ),
+    ("card emmc\nunit block\nsectors 1\nboot 256\n", WRONG),
+    ("card emmc\nunit block\nsectors 1\nboot 1", WRONG),
+    ("card emmc\nunit block\nsectors 1\nboot 1\nboot 1\n", WRONG),
+    ("card emmc\nunit block\nboot 1\nsectors 1\n", WRONG),
+    (
+        "card emmc\nunit byte\ncsize 0\ncmult 0\nrbl 9\nboot 2\n",
+        READ,
+    ),
+    (
+        "card emmc\nunit byte\ncsize 4095\ncmult 7\nrbl 11\nboot 0\n",
+        Some(SimFault::Capacity),
+    ),
+    (
+        "card sd\nversion 2\nunit block\ncsize 0\nrca 1\nboot 0\n",
+        WRONG,
+    ),
 ];
 
 #[test]
@@ -95,6 +114,9 @@ fn cards(rt: HostRuntime) -> Result<(), Fail> {
     assert!(rt; (d.kind, d.block_unit, d.capacity) == (Kind::Emmc, true, 2048));
     let read = d.csd;
     assert!(rt; read == csd && (d.sectors, d.block_length, d.rca) == (2048, 512, 1));
+    assert!(rt; (d.boot_size_mult, d.image_size()) == (0, 2048));
+    let d = CardDesc::parse(BOOT_DEVICE)?;
+    assert!(rt; (d.capacity, d.sectors, d.boot_size_mult, d.image_size()) == (2048, 2048, 1, 2560));
     Ok(())
 }
 
@@ -104,12 +126,15 @@ fn refusals(rt: HostRuntime) -> Result<(), Fail> {
     let alloc = rt.alloc();
     let rows = [
         (BYTE_CARD, 2048, 6, None),
-        (BYTE_CARD, 2048, 7, Some(SimFault::Description)),
+        (BYTE_CARD, 2048, 7, None),
+        (BYTE_CARD, 2048, 8, Some(SimFault::Description)),
         (BYTE_CARD, 2047, 6, None),
         (BYTE_CARD, 1536, 9, Some(SimFault::Description)),
         (BYTE_CARD, 1536, 0, Some(SimFault::ImageLength)),
         (BYTE_CARD, 2560, 0, Some(SimFault::ImageLength)),
         (BLOCK_CARD, 1023 * 512, 0, Some(SimFault::ImageLength)),
+        (BOOT_DEVICE, 2560 * 512, 7, None),
+        (BOOT_DEVICE, 2048 * 512, 7, Some(SimFault::ImageLength)),
     ];
     for (desc, size, code, fault) in rows {
         let desc = CardDesc::parse(desc)?;

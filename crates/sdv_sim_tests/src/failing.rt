@@ -60,13 +60,13 @@ fn failures(rt: HostRuntime) -> Result<(), Fail> {
     let mut card = Controller::new(Sim::new(alloc, desc, Failing { good: 1 }, &[])?);
     play(&rt, &mut card, &block_bring_up());
     play(&rt, &mut card, &[r1(17, 3, 0x900)]);
-    let read = card.data_in(&mut [[0; 512]]);
+    let read = card.data_in(1, &mut [[0; 512]]);
     play(
         &rt,
         &mut card,
         &[r1(13, 0x1234_0000, 0x900), r1(24, 3, 0x900)],
     );
-    let written = card.data_out(&[[0; 512]]);
+    let written = card.data_out(1, &[[0; 512]]);
     play(
         &rt,
         &mut card,

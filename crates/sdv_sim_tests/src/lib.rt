@@ -1,5 +1,6 @@
 //! Tests of simulated cards: descriptions, how a `Sim` is made, bring-ups with their answers to the letter, what each value
-//! of a schedule does, reads, writes and erases, and runs of scripts beside them with their traces.
+//! of a schedule does, reads, writes and erases, data lines, partitions and switches that fail, and runs of scripts beside
+//! them with their traces.
 //!
 //! The crate has no code of its own.
 #![tactic(auto)]
@@ -16,3 +17,5 @@ mod phases;
 mod runs;
 #[cfg(test)]
 mod shared;
+#[cfg(test)]
+mod switches;

@@ -25,7 +25,7 @@ fn ready(rt: &impl Abort, alloc: Global, codes: &[u8]) -> Result<Port, Fail> {
 fn read(rt: &impl Abort, card: &mut Port, place: u32) -> [u8; 512] {
     let mut blocks = [[0xee; 512]];
     play(rt, card, &[r1(17, place, 0x900)]);
-    let end = card.data_in(&mut blocks);
+    let end = card.data_in(1, &mut blocks);
     assert!(rt; end == DataEnd::Ok);
     blocks[0]
 }
@@ -35,12 +35,12 @@ fn read(rt: &impl Abort, card: &mut Port, place: u32) -> [u8; 512] {
 fn several_blocks(rt: HostRuntime) -> Result<(), Fail> {
     let mut card = ready(&rt, rt.alloc(), &[])?;
     play(&rt, &mut card, &[r1(25, 3, 0x900)]);
-    let given = card.data_out(&[[0x11; 512], [0x22; 512]]);
+    let given = card.data_out(1, &[[0x11; 512], [0x22; 512]]);
     play(&rt, &mut card, &[r1(12, 0, 0xd00)]);
     let ready = card.wait();
     play(&rt, &mut card, &[r1(13, RCA, 0x900), r1(18, 3, 0x900)]);
     let mut blocks = [[0; 512]; 2];
-    let received = card.data_in(&mut blocks);
+    let received = card.data_in(1, &mut blocks);
     play(&rt, &mut card, &[r1(12, 0, 0xb00), r1(13, RCA, 0x900)]);
     assert!(rt; (given, ready, received) == (DataEnd::Ok, WaitEnd::Ok, DataEnd::Ok));
     assert!(rt; blocks == [[0x11; 512], [0x22; 512]]);
@@ -66,13 +66,13 @@ fn erases(rt: HostRuntime) -> Result<(), Fail> {
 fn cut_and_slow(rt: HostRuntime) -> Result<(), Fail> {
     let mut card = ready(&rt, rt.alloc(), &[0, 6])?;
     play(&rt, &mut card, &[r1(24, 3, 0x900)]);
-    let end = card.data_out(&[[0x11; 512]]);
+    let end = card.data_out(1, &[[0x11; 512]]);
     play(&rt, &mut card, &[r1(13, RCA, 0xd00), r1(12, 0, 0xd00)]);
     assert!(rt; end == DataEnd::Cut && card.wait() == WaitEnd::Ok);
     assert!(rt; read(&rt, &mut card, 3) == [0x33; 512]);
     let mut card = ready(&rt, rt.alloc(), &[0, 0, 3, 3, 0])?;
     play(&rt, &mut card, &[r1(24, 3, 0x900)]);
-    let end = card.data_out(&[[0x11; 512]]);
+    let end = card.data_out(1, &[[0x11; 512]]);
     let late = card.wait();
     play(&rt, &mut card, &[r1(13, RCA, 0xe00), r1(13, RCA, 0x900)]);
     assert!(rt; (end, late) == (DataEnd::Ok, WaitEnd::Late));
@@ -86,9 +86,9 @@ fn refused(rt: HostRuntime) -> Result<(), Fail> {
     let mut card = ready(&rt, rt.alloc(), &[6, 5, 4, 3, 2, 1, 0])?;
     let mut blocks = [[0; 512]];
     let found = (
-        card.data_in(&mut blocks),
-        card.data_out(&blocks),
-        card.data_in_reg(&mut [0; 8]),
+        card.data_in(1, &mut blocks),
+        card.data_out(1, &blocks),
+        card.data_in_reg(1, &mut [0; 8]),
         ask(&rt, &mut card, 17, 1024, Expect::R1(17)),
         ask(&rt, &mut card, 2, 0, Expect::R2),
         ask(&rt, &mut card, 63, 0, Expect::Nothing),
@@ -107,10 +107,10 @@ fn refused(rt: HostRuntime) -> Result<(), Fail> {
     );
     play(&rt, &mut card, &[r1(18, 1023, 0x900)]);
     let mut blocks = [[0; 512]; 2];
-    assert!(rt; card.data_in(&mut blocks) == DataEnd::Cut);
+    assert!(rt; card.data_in(1, &mut blocks) == DataEnd::Cut);
     play(&rt, &mut card, &[r1(13, RCA, 0xb00)]);
     assert!(rt;
-        card.data_in(&mut []) == DataEnd::Cut && card.data_in(&mut blocks[..1]) == DataEnd::Ok
+        card.data_in(1, &mut []) == DataEnd::Cut && card.data_in(1, &mut blocks[..1]) == DataEnd::Ok
     );
     Ok(())
 }

@@ -20,6 +20,9 @@ pub const BYTE_CARD: &str = "card sd\nversion 1\nunit byte\ncsize 0\ncmult 0\nrb
 /// An e.MMC device with block addresses, of 2,048 blocks.
 pub const DEVICE: &str = "card emmc\nunit block\nsectors 2048\n";
 
+/// Such a device with boot partitions of 256 blocks each.
+pub const BOOT_DEVICE: &str = "card emmc\nunit block\nsectors 2048\nboot 1\n";
+
 /// The CID of an SD card.
 pub const SD_CID: [u8; 15] = [
     0x00, 0x58, 0x58, 0x53, 0x44, 0x56, 0x20, 0x20, 0x10, 0x00, 0x00, 0x00, 0x01, 0x01, 0x81,
@@ -83,7 +86,7 @@ pub fn port(
     byte: u8,
 ) -> Result<Port, Fail> {
     let desc = CardDesc::parse(desc)?;
-    let image = image(alloc, desc.capacity, block, byte)?;
+    let image = image(alloc, desc.image_size(), block, byte)?;
     Ok(Controller::new(Sim::new(alloc, desc, image, schedule)?))
 }
 

@@ -2,7 +2,7 @@
 
 ghost use Rattle.std.specs.Prelude.{◌≡◌, ◌≤◌, ◌+◌, ◌*◌, ◌++◌, length, map};
 ghost use Rattle.arrayvec.specs.ArrayVec.{array_vec_len};
-ghost use Rattle.sdv_card.specs.Outcomes.{branch, with_seen, with_status, with_conditions, app_shown, statuses, unaddressed_seen, status_seen, conditions_seen, phase_ends, wait_ends, phase_seen, wait_seen, placed};
+ghost use Rattle.sdv_card.specs.Outcomes.{branch, with_seen, with_status, with_conditions, app_shown, switch_shown, statuses, unaddressed_seen, status_seen, conditions_seen, phase_ends, wait_ends, phase_seen, wait_seen, placed};
 
 use super::phases::{after_phase, after_wait};
 use crate::answer::{DataEnd, WaitEnd};
@@ -51,10 +51,15 @@ fn status_seen(row: Row, doubt: bool, t: &Fields, after: &Fields) -> Seen
         Row::Cmd55 => Some(after.app),
         _ => None,
     };
+    let switch = match row {
+        Row::Cmd13 if t.mode.error => Some(!after.mode.error),
+        _ => None,
+    };
     Seen::Status {
         state: t.state.number(),
         doubt,
         app,
+        switch,
     }
 }
 

@@ -8,7 +8,7 @@ ghost use Rattle.sdv_card.specs.declared.event.Seen.TheVariants.{TimeOut};
 ghost use Rattle.sdv_card.specs.Lists.{May, AreDistinct};
 ghost use Rattle.sdv_card.specs.Takes.{taken_as_of};
 ghost use Rattle.sdv_card.specs.Responses.{response_of};
-ghost use Rattle.sdv_card.specs.Room.{row_room, way_room};
+ghost use Rattle.sdv_card.specs.Room.{row_room, lost_room, way_room};
 ghost use Rattle.sdv_card.specs.LegalShapes.{settled_legal, order_legal, event_legal, legal_code};
 ghost use Rattle.sdv_card.specs.Outcomes.{with_seen, lost, row_branches, settled_branches, order_branches, event_branches, outcomes_code};
 
@@ -17,6 +17,7 @@ use super::branches::{
 };
 use super::commands::order;
 use super::distinct::distinct;
+use super::modes::same_width;
 use super::phases::{give_legal, recv_legal, recv_reg_legal, wait_legal};
 use super::rows::{Rows, row_legal, stayed, taken};
 use super::rules::{matched_stayed, own_step, own_target, response};
@@ -44,9 +45,16 @@ fn event_legal<T: Rows>(event: &Event, fields: &Fields) -> bool
 {
     match event {
         Event::Send(ask) => ask_legal::<T>(ask, fields),
-        Event::RecvBlocks => recv_legal(fields.state, fields.transfer),
-        Event::RecvReg => recv_reg_legal(fields.state, fields.transfer),
-        Event::Give => give_legal(fields.state, fields.transfer),
+        Event::RecvBlocks => {
+            recv_legal(fields.state, fields.transfer) && same_width(fields.lines, fields.mode.width)
+        }
+        Event::RecvReg => {
+            recv_reg_legal(fields.state, fields.transfer)
+                && same_width(fields.lines, fields.mode.width)
+        }
+        Event::Give => {
+            give_legal(fields.state, fields.transfer) && same_width(fields.lines, fields.mode.width)
+        }
         Event::Wait => wait_legal(fields.state),
     }
 }
@@ -123,7 +131,7 @@ fn ask_branches<T: Rows>(all: &mut Branches, ask: &Ask, fields: &Fields)
     }
 }
 
-#[tactic(auto, using(crate::proofs::RoomLaws::way_fits))]
+#[tactic(auto, using(crate::proofs::RoomLaws::one_fits))]
 fn order_branches<T: Rows>(all: &mut Branches, order: Order, fields: &Fields)
     requires { array_vec_len all.old ≤ 0 }
     ensures items { all.new.items ≡ all.old.items ++ order_branches T.kind order fields.now }
@@ -187,7 +195,7 @@ fn row_branches<T: Rows>(all: &mut Branches, order: Order, row: Row, t: &Fields)
 fn add_lost<T: Rows>(all: &mut Branches, row: Row, t: &Fields)
     requires { array_vec_len all.old + row_room row t.now.state ≤ 32 }
     ensures items { all.new.items ≡ all.old.items ++ with_seen TimeOut (lost T.kind (response_of row) row t.now) }
-    ensures few { array_vec_len all.new ≤ array_vec_len all.old + 7 }
+    ensures few { array_vec_len all.new ≤ array_vec_len all.old + lost_room row t.now.state }
 {
     with_seen(all, Seen::TimeOut, &[*t]);
     with_seen(all, Seen::TimeOut, taken::<T>(row, false, t).as_slice());

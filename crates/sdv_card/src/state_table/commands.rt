@@ -3,8 +3,9 @@
 ghost use Rattle.std.specs.Prelude.{◌≡◌};
 ghost use Rattle.sdv_card.specs.CommandTable.{sd_order, emmc_order, order_of};
 
-use crate::command::Order;
+use crate::command::{Order, Setting};
 use crate::event::{Aim, Ask};
+use crate::state::{Partition, Width};
 use sdv_registers::Kind;
 
 /// The order that an ask gives, if a line of the kind's command table gives the ask.
@@ -25,6 +26,8 @@ fn sd_order(ask: &Ask) -> Option<Order>
         (0, Aim::Plain, 0, 0) => Order::GoIdleState,
         (2, Aim::Plain, 0, 0) => Order::AllSendCid,
         (3, Aim::Plain, 0, 0) => Order::SendRelativeAddress,
+        (6, Aim::Plain, 0, 0) => Order::SetBusWidth { width: Width::One },
+        (6, Aim::Plain, 2, 0) => Order::SetBusWidth { width: Width::Four },
         (7, Aim::Rca, 0, 0) => Order::SelectCard,
         (7, Aim::Plain, 0, 0) => Order::DeselectCards,
         (8, Aim::Plain, 0, 0) => Order::SendIfCond,
@@ -61,6 +64,24 @@ fn emmc_order(ask: &Ask) -> Option<Order>
         (1, Aim::Plain, 0, 0) => Order::SendOpCond,
         (2, Aim::Plain, 0, 0) => Order::AllSendCid,
         (3, Aim::Plain, 0, 0) => Order::SetRelativeAddress,
+        (6, Aim::Plain, 0x03b7_0000, 0) => Order::Switch {
+            setting: Setting::Lines(Width::One),
+        },
+        (6, Aim::Plain, 0x03b7_0100, 0) => Order::Switch {
+            setting: Setting::Lines(Width::Four),
+        },
+        (6, Aim::Plain, 0x03b7_0200, 0) => Order::Switch {
+            setting: Setting::Lines(Width::Eight),
+        },
+        (6, Aim::Plain, 0x03b3_0000, 0) => Order::Switch {
+            setting: Setting::Access(Partition::User),
+        },
+        (6, Aim::Plain, 0x03b3_0100, 0) => Order::Switch {
+            setting: Setting::Access(Partition::Boot1),
+        },
+        (6, Aim::Plain, 0x03b3_0200, 0) => Order::Switch {
+            setting: Setting::Access(Partition::Boot2),
+        },
         (7, Aim::Rca, 0, 0) => Order::SelectCard,
         (7, Aim::Plain, 0, 0) => Order::DeselectCards,
         (8, Aim::Plain, 0, 0) => Order::SendExtCsd,

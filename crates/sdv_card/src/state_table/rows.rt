@@ -1,6 +1,6 @@
 //! What a row leaves of a settled card, by what a kind says of its rows.
 
-ghost use Rattle.std.specs.Prelude.{◌≡◌, ◌≤◌, ◌+◌, ◌*◌, ◌++◌, length};
+ghost use Rattle.std.specs.Prelude.{◌≡◌, ◌≤◌, ◌+◌, ◌*◌, ◌++◌, length, Bool};
 ghost use Rattle.arrayvec.specs.ArrayVec.{array_vec_len};
 ghost use Rattle.sdv_registers.specs.declared.kind.Kind.{Kind};
 ghost use Rattle.sdv_card.specs.StateTable.{rows, targets};
@@ -9,10 +9,11 @@ ghost use Rattle.sdv_card.specs.RowRules.{preset_kept};
 ghost use Rattle.sdv_card.specs.LegalShapes.{row_legal};
 ghost use Rattle.sdv_card.specs.Outcomes.{with_presets, with_matches, taken, stayed};
 
+use super::modes::may_stay_pending;
 use super::rules::{erase_after, erase_allows, length_allows, preset_allows, transfer_after};
-use crate::command::Row;
+use crate::command::{Row, Setting};
 use crate::fields::Fields;
-use crate::state::{EraseStage, State};
+use crate::state::{EraseStage, Mode, State};
 use arrayvec::ArrayVec;
 use sdv_registers::Kind;
 
@@ -70,6 +71,7 @@ pub fn taken<T: Rows>(row: Row, heard: bool, t: &Fields) -> ArrayVec<Fields, 4>
         app: false,
         erase: erase_after(row, t.erase),
         transfer: transfer_after(row, t.preset, t.transfer),
+        mode: t.mode.calm(),
         ..*t
     };
     let kept = T::preset_kept(t.preset);
@@ -77,6 +79,7 @@ pub fn taken<T: Rows>(row: Row, heard: bool, t: &Fields) -> ArrayVec<Fields, 4>
     match row {
         Row::Cmd0 => {
             let u = Fields {
+                mode: Mode::first(),
                 matched: true,
                 preset: 0,
                 ..u
@@ -111,6 +114,24 @@ pub fn taken<T: Rows>(row: Row, heard: bool, t: &Fields) -> ArrayVec<Fields, 4>
             with_presets(&mut all, Fields { matched: true, ..u }, kept);
         }
         Row::Cmd3Emmc => with_presets(&mut all, Fields { matched: true, ..u }, kept),
+        Row::Cmd6 { setting } => {
+            let set = Fields {
+                mode: t.mode.set(setting).calm(),
+                ..u
+            };
+            with_presets(&mut all, set, kept);
+            let failed = Fields {
+                mode: t.mode.failed(),
+                ..u
+            };
+            with_presets(&mut all, failed, kept);
+        }
+        Row::Cmd13 => {
+            with_presets(&mut all, u, kept);
+            if may_stay_pending(heard, t.state, t.mode) {
+                with_presets(&mut all, Fields { mode: t.mode, ..u }, kept);
+            }
+        }
         Row::Cmd16 => {
             let set = Fields {
                 length_512: true,
@@ -123,6 +144,13 @@ pub fn taken<T: Rows>(row: Row, heard: bool, t: &Fields) -> ArrayVec<Fields, 4>
         Row::Cmd55 => {
             with_presets(&mut all, u, kept);
             with_presets(&mut all, Fields { app: true, ..u }, kept);
+        }
+        Row::Acmd6 { width } => {
+            let set = Fields {
+                mode: t.mode.set(Setting::Lines(width)).calm(),
+                ..u
+            };
+            with_presets(&mut all, set, kept);
         }
         Row::Acmd41 { high_capacity } => {
             if high_capacity || !t.block_unit {
@@ -159,14 +187,18 @@ fn with_matches(all: &mut ArrayVec<Fields, 8>, card: Fields, matches: &[bool], p
 /// or its preset count. At CMD13 it is as one that took it may be, and is not listed.
 pub fn stayed<T: Rows>(row: Row, matches: &[bool], t: &Fields) -> ArrayVec<Fields, 8>
     requires { length matches.now ≤ 2 }
-    ensures items { result.items ≡ stayed T.kind row matches.now t.now }
+    ensures items { (heard : Bool) → result.items ≡ stayed T.kind row heard matches.now t.now }
     ensures few { array_vec_len result ≤ 4 * length matches.now }
 {
     let mut all = ArrayVec::new();
     if let Row::Cmd13 = row {
         return all;
     }
-    let u = Fields { app: false, ..*t };
+    let u = Fields {
+        app: false,
+        mode: t.mode.calm(),
+        ..*t
+    };
     let kept = T::preset_kept(t.preset);
     with_matches(&mut all, u, matches, kept.as_slice());
     match row {

@@ -2,10 +2,11 @@
 
 ghost use Rattle.std.specs.Prelude.{◌≡◌};
 ghost use Rattle.sdv_card.specs.Card.{transfer_fits, kind_fits, length_fits};
+ghost use Rattle.sdv_card.specs.Modes.{mode_fits, has_width};
 ghost use Rattle.sdv_card.specs.Shapes.{is_shape, match_fits};
 
 use crate::fields::Fields;
-use crate::state::{State, Transfer};
+use crate::state::{Mode, State, Transfer, Width};
 use sdv_registers::Kind;
 
 /// The fields are those of a shape of the kind.
@@ -17,6 +18,8 @@ pub fn is_shape(kind: Kind, fields: &Fields) -> bool
         && kind_fits(kind, fields)
         && match_fits(fields.state, fields.matched)
         && length_fits(fields.block_unit, fields.length_512)
+        && mode_fits(kind, fields.mode)
+        && has_width(kind, fields.lines)
 }
 
 /// The transfer is one of the state.
@@ -79,4 +82,26 @@ fn length_fits(block_unit: bool, length_512: bool) -> bool
     ensures { result ≡ length_fits block_unit length_512 }
 {
     if block_unit { length_512 } else { true }
+}
+
+/// The mode is one that the kind has: an SD card has no boot partitions and no switch error.
+fn mode_fits(kind: Kind, mode: Mode) -> bool
+    ensures { result ≡ mode_fits kind mode }
+{
+    match kind {
+        Kind::Sd => {
+            has_width(Kind::Sd, mode.width) && mode.partition.number() == 0 && !mode.error
+        }
+        Kind::Emmc => true,
+    }
+}
+
+/// The kind has so many data lines.
+fn has_width(kind: Kind, width: Width) -> bool
+    ensures { result ≡ has_width kind width }
+{
+    match (kind, width) {
+        (Kind::Sd, Width::Eight) => false,
+        _ => true,
+    }
 }

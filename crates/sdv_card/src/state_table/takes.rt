@@ -16,12 +16,16 @@ pub fn taken_as(order: Order, app: bool, matched: bool) -> TakenAs
         Order::SendStatus if app => Row::Acmd13,
         Order::SdSendOpCond { high_capacity } if app => Row::Acmd41 { high_capacity },
         Order::SendScr if app => Row::Acmd51,
+        Order::SetBusWidth { width } if app => Row::Acmd6 { width },
         _ if app => return TakenAs::Forbidden,
-        Order::SdSendOpCond { .. } | Order::SendScr => return TakenAs::Forbidden,
+        Order::SdSendOpCond { .. } | Order::SendScr | Order::SetBusWidth { .. } => {
+            return TakenAs::Forbidden;
+        }
         Order::SendOpCond => Row::Cmd1,
         Order::AllSendCid => Row::Cmd2,
         Order::SendRelativeAddress => Row::Cmd3Sd,
         Order::SetRelativeAddress => Row::Cmd3Emmc,
+        Order::Switch { setting } => Row::Cmd6 { setting },
         Order::SelectCard if matched => Row::Cmd7Addressed,
         Order::SelectCard | Order::DeselectCards => Row::Cmd7NotAddressed,
         Order::SendIfCond => Row::Cmd8Sd,

@@ -3,6 +3,7 @@ use Rattle.std.specs.Prelude.{string_bytes}
 use Rattle.sdv_check.specs.Verified.{IsAccepted}
 use Rattle.sdv_controller.specs.Controlled.{wire_of}
 use Rattle.sdv_description.specs.Gives.{Describes}
+use Rattle.sdv_description.specs.Layout.{image_size}
 use Rattle.sdv_file_image.specs.FileImages.{failed_of, shown_of, size_of}
 use Rattle.sdv_sim.specs.Made.{IsRefused, IsUnread}
 use Rattle.sdv_sim.specs.SimOf.{image_of as image_of_sim, state_of}
@@ -29,12 +30,12 @@ returns-in_err-sim-clause-refused g c =
     let described : Describes (string_bytes given.card) c.in_ok-desc.desc = rw (c.as_str-3.ensures.value) at c.in_ok-desc.ensures in
     let image : CardImage = image_of (g.F.BlockFile.byte_count c.args.file) (g.F.BlockFile.blocks c.args.file) in
     let unread : Type 0 = IsUnread g.F.BlockFile.failed c.args.file in
-    let refused : IsRefused given.codes.items (image.bytes / 512) c.in_ok-desc.desc.capacity unread c.in_err-sim.field-0.0 =
-    subst (λ codes. IsRefused codes (image.bytes / 512) c.in_ok-desc.desc.capacity unread c.in_err-sim.field-0.0) c.as_slice.ensures.value
-    (subst (λ file. IsRefused c.as_slice.result.now (g.F.BlockFile.byte_count file / 512) c.in_ok-desc.desc.capacity unread c.in_err-sim.field-0.0)
+    let refused : IsRefused given.codes.items (image.bytes / 512) (image_size c.in_ok-desc.desc) unread c.in_err-sim.field-0.0 =
+    subst (λ codes. IsRefused codes (image.bytes / 512) (image_size c.in_ok-desc.desc) unread c.in_err-sim.field-0.0) c.as_slice.ensures.value
+    (subst (λ file. IsRefused c.as_slice.result.now (g.F.BlockFile.byte_count file / 512) (image_size c.in_ok-desc.desc) unread c.in_err-sim.field-0.0)
     c.in_ok-image.ensures.1
     (refused_so (IsUnread failed_of c.in_ok-image.image) unread (file_unread c.in_ok-image.image c.args.file c.in_ok-image.ensures.1)
-    c.as_slice.result.now (size_of c.in_ok-image.image) c.in_ok-desc.desc.capacity c.in_err-sim.field-0.0 c.in_err-sim.ensures)) in
+    c.as_slice.result.now (size_of c.in_ok-image.image) (image_size c.in_ok-desc.desc) c.in_err-sim.field-0.0 c.in_err-sim.ensures)) in
     refused_card given image unread c.in_ok-accepted.accepted accepted c.in_err-sim.field-0.0 c.from_residual-in_err-sim.result
     (inr (inr (c.in_ok-desc.desc, described, c.in_ok-image.ensures.0, refused))) c.from_residual-in_err-sim.ensures.1
 

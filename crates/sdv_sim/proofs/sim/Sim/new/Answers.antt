@@ -7,8 +7,9 @@ pub read_block-requires : goal.read_block-requires
 read_block-requires g c =
     let least = (described_law c.args.desc).least in
     let size = c.len.ensures.size in
-    let same = c.if-len-desc.false in
-    omega (arith, least, size, same)
+    let whole = c.image_size.ensures in
+    let same = c.if-len-image_size.false in
+    omega (arith, least, size, whole, same)
 
 pub returns-in-Ok : goal.returns-in-Ok
 returns-in-Ok g c =
@@ -19,5 +20,5 @@ returns-in-Ok g c =
       behaviors = c.in-Ok.ensures;
       blocks = c.read_block.ensures.same;
       start = starts c.args.desc (g.I.Image.size c.args.image) (g.I.Image.blocks c.args.image) fit.csd fit.sectors c.len.ensures.blocks
-          (sym c.len.ensures.size ∙ c.if-len-desc.false);
+          (sym c.len.ensures.size ∙ (c.if-len-image_size.false ∙ c.image_size.ensures));
     }

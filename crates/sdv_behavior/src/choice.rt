@@ -1,0 +1,66 @@
+//! What a simulated card chooses, by its behavior, where the tables leave it more than one way to take a row.
+
+ghost use Rattle.std.specs.Prelude.{◌≡◌};
+ghost use Rattle.sdv_card.specs.Modes.{has_partition};
+ghost use Rattle.sdv_description.specs.Layout.{boot_capacity};
+ghost use Rattle.sdv_behavior.specs.Heard.{is_ready, switch_fails, choice_of};
+
+use crate::behavior::Behavior;
+use sdv_card::{Partition, Row, Setting};
+use sdv_description::CardDesc;
+
+/// How a card takes a row.
+#[derive(Clone, Copy, Debug)]
+pub struct Choice {
+    /// CMD1 and ACMD41 make it ready.
+    pub ready: bool,
+    /// CMD6 fails.
+    pub switch_fails: bool,
+}
+
+/// CMD1 or ACMD41 makes the card ready.
+fn is_ready(behavior: Behavior, row: Row, block_unit: bool, checked: bool) -> bool
+    ensures { result ≡ is_ready behavior row block_unit checked }
+{
+    match (behavior, row) {
+        (Behavior::IsSlow, _) => false,
+        (_, Row::Acmd41 { high_capacity }) => !block_unit || (high_capacity && checked),
+        _ => true,
+    }
+}
+
+/// The card gives access to the partition: a boot partition has blocks.
+fn has_partition(partition: Partition, boot_capacity: u64) -> bool
+    ensures { result ≡ has_partition partition boot_capacity }
+{
+    match partition {
+        Partition::User => true,
+        Partition::Boot1 | Partition::Boot2 => boot_capacity != 0,
+    }
+}
+
+/// CMD6 fails.
+fn switch_fails(behavior: Behavior, row: Row, boot_capacity: u64) -> bool
+    ensures { result ≡ switch_fails behavior row boot_capacity }
+{
+    match (behavior, row) {
+        (Behavior::FailsSwitch, _) => true,
+        (
+            _,
+            Row::Cmd6 {
+                setting: Setting::Access(partition),
+            },
+        ) => !has_partition(partition, boot_capacity),
+        _ => false,
+    }
+}
+
+/// How the card takes the row.
+pub fn choice_of(desc: &CardDesc, behavior: Behavior, row: Row, checked: bool) -> Choice
+    ensures { result ≡ choice_of desc.now behavior row checked }
+{
+    Choice {
+        ready: is_ready(behavior, row, desc.block_unit, checked),
+        switch_fails: switch_fails(behavior, row, desc.boot_capacity()),
+    }
+}
