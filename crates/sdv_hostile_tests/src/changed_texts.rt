@@ -201,8 +201,8 @@ fn replaced(alloc: Global, text: &str, other: char) -> Result<Vec<Edit>, AllocEr
 /// How often each answer comes where a character stands in place of each of a script, of a device's script and of a
 /// certificate.
 const ANSWERS_TO_OTHERS: &str = "\
-Token 1076, Syntax 3721, Command 52, Argument 178, Name 262, accepted 336, Limit 3, Illegal 14, NoEnd 2, Guard 5
-Token 1148, Syntax 4117, Name 441, accepted 350, Argument 82, Limit 3, Command 18, Guard 12, Illegal 13, NoEnd 2
+Token 1076, Syntax 3721, Command 49, Argument 181, Name 262, accepted 336, Limit 3, Illegal 14, NoEnd 2, Guard 5
+Token 1148, Syntax 4117, Name 441, accepted 350, Argument 85, Limit 3, Guard 12, Illegal 13, NoEnd 2, Command 15
 Header 128, Syntax 18983, Points 14, Number 128, accepted 49, Bound 49, Start 46, Order 1756, Shape 1064
 ";
 
