@@ -218,7 +218,7 @@ write_cases() {
             "1099511627777 18446744073709551615 18446744073709551616 99999999999999999999999999 007 0x 0x0 0xff 0x40ff8000 " \
             "0x00ff8000 0xFFFFFFFFFFFFFFFFFF 1a -1 1.5", numbers, " ")
         parts_of("card sd emmc flags nums send recv reg give wait ok else let if set clear loop break done fault at block byte by " \
-            "count none timeout answer clean ready app echo ocr.ready ocr.block state=tran state=prg state = csd.blocks ext.blocks bus.lines part.access " \
+            "count none timeout answer clean ready app echo ocr.ready ocr.block state=tran state=prg state = csd.blocks ext.blocks ext.boot bus.lines part.access " \
             "{ } + - >= < & hc cap x g number idle abcdefghijklmnop abcdefghijklmnopq sdv-cert points p b m v s - version unit " \
             "csize cmult rbl rca sectors boot 0000000000002000 0000000000002c04 0000000000002804 ffffffffffffffff # @ $", dictionary, " ")
         parts_of("-h --help --version -V -- - --in --out --in=blocks --out=o --inn -x help frame certify check run . / nofile " \

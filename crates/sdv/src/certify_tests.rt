@@ -144,7 +144,7 @@ static EXPLAINED: [Step<'static>; 13] = [
     Call(
         EXPLAIN,
         1,
-        &[Has("\nwhy: the card may have a boot partition in access")],
+        &[Has("\nwhy: the boot partition in access may not have all blocks at by hc 0")],
         "refused Address point 33\n",
     ),
     Write("explained.sdv", &[Text(TOO_MANY)]),

@@ -10,7 +10,7 @@ use Rattle.sdv_card.specs.declared.state.EraseStage.TheVariants.{Outside}
 use Rattle.sdv_card.specs.Card.{Card, IsCard}
 use Rattle.sdv_frames.specs.Bits.{bits_of}
 use Rattle.sdv_registers.specs.Csd.{fault, blocks}
-use Rattle.sdv_registers.specs.ExtCsd.{sec_count, boot_size_mult}
+use Rattle.sdv_registers.specs.ExtCsd.{sec_count, boot_blocks}
 use Rattle.sdv_card.specs.declared.state.Width.TheVariants.{One}
 use Rattle.sdv_card.specs.Modes.{first_mode}
 use Rattle.sdv_card.specs.Host.{Host}
@@ -30,7 +30,7 @@ told_blocks k block_unit csd ext_csd = blocks k (bits_of csd)
 -- the blocks of a boot partition that the registers tell
 abbrev pub told_boot_blocks : Kind → (ext_csd : List ℕ) → ℕ
 told_boot_blocks Sd ext_csd = 0
-told_boot_blocks Emmc ext_csd = 256 * boot_size_mult ext_csd
+told_boot_blocks Emmc ext_csd = boot_blocks ext_csd
 
 -- an SD card follows version 1 or 2, and with version 1 it has byte addresses
 abbrev pub VersionFits : Kind → ℕ → Bool → Type 0

@@ -312,6 +312,7 @@ fn reads_an_ext_csd(rt: HostRuntime) {
         ext_csd.ext_csd_rev(),
         ext_csd.sec_count(),
         ext_csd.boot_size_mult(),
+        ext_csd.boot_blocks(),
     );
-    assert!(rt; found == (0x4b, 3, 2, 8, 0x0100_0800, 0x20));
+    assert!(rt; found == (0x4b, 3, 2, 8, 0x0100_0800, 0x20, 8192));
 }

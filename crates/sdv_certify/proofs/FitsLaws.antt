@@ -42,6 +42,7 @@ atom_small names (atoms.Number n) h = h
 atom_small names (atoms.Variable x) h = tt
 atom_small names atoms.CsdBlocks h = tt
 atom_small names atoms.ExtBlocks h = tt
+atom_small names atoms.ExtBoot h = tt
 
 module _ (names : Declared) (few : length names.flags ≤ 4) where
   mutual
@@ -106,6 +107,7 @@ action_prop (lets l t) = atom_prop l.atom
     atom_prop (atoms.Variable x) = hlevel props
     atom_prop atoms.CsdBlocks = hlevel props
     atom_prop atoms.ExtBlocks = hlevel props
+    atom_prop atoms.ExtBoot = hlevel props
 action_prop (tests c met unmet) = hlevel props
 action_prop (flags flag on t) = hlevel props
 action_prop (widths width t) = hlevel props

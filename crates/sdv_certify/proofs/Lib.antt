@@ -13,6 +13,8 @@ pub mod Sizes
 pub mod Pays
 pub mod Example
 pub mod WayLaws
+pub mod ToldLaws
+pub mod VersionLaws
 pub mod GrowLaws
 pub mod PassLaws
 pub mod CarryLaws
@@ -24,6 +26,7 @@ pub mod EdgeLaws
 pub mod StartLaws
 pub mod Lives
 pub mod ReachedLaws
+pub mod BootLaws
 pub mod AssembledLaws
 pub mod TextLength
 pub mod CodeLaws

@@ -7,12 +7,14 @@ use Rattle.std.specs.Io.KnownBytes.{Appends}
 use Rattle.sdv_card.specs.declared.shape.Shape.{Shape}
 use Rattle.sdv_text.specs.Written.{AppendsPart, Writes}
 use Rattle.sdv_text.proofs.WrittenLaws.{appends_none, appends_more, part_after, part_before, then_more}
+use Rattle.sdv_facts.specs.declared.certificate.Version.{Version}
+use Rattle.sdv_facts.specs.declared.certificate.Version.TheVariants.{One, Two}
 use Rattle.sdv_facts.specs.declared.numbers.VarFacts.{VarFacts}
 use Rattle.sdv_facts.specs.declared.certificate.PointFacts.{PointFacts as SharedPoint}
-use Rattle.sdv_facts.specs.Facts.{PointFacts}
-use Rattle.sdv_facts.specs.Shared.{point_in, points_in}
-use Rattle.sdv_facts.specs.CertificateText.{number_written, gap_written, var_written, shape_written, each_written, point_written, points_written, text_of}
-use Rattle.sdv_certify.specs.Pieces.{number_text, gap_text, var_text, shape_text, bound_text, numbers_text, shapes_text, line_text, lines_text, title_text, PassesOn}
+use Rattle.sdv_facts.specs.Facts.{PointFacts, Certificate}
+use Rattle.sdv_facts.specs.Shared.{point_in, points_in, certificate_in}
+use Rattle.sdv_facts.specs.CertificateText.{number_written, gap_written, boot_gap_written, boot_written, var_written, shape_written, each_written, numbers_written, point_written, points_written, version_written, text_of}
+use Rattle.sdv_certify.specs.Pieces.{number_text, gap_text, boot_gap_text, boot_text, var_text, shape_text, bound_text, numbers_text, shapes_text, line_text, lines_text, title_text, PassesOn}
 
 -- EACH PIECE, before what follows it
 
@@ -27,10 +29,21 @@ gap_is : (gap : Option ℕ) (others : List ℕ) → gap_text gap ++ others ≡ g
 gap_is None others = refl
 gap_is (Some n) others = refl
 
-var_is : (v : VarFacts) (others : List ℕ) → var_text v ++ others ≡ var_written v others
-var_is v others =
-    ap (λ (l : List ℕ). codes " v" ++ l) (append_assoc (number_text v.lo) (number_text v.hi ++ gap_text v.gap) others
-    ∙ ap (number_written v.lo) (append_assoc (number_text v.hi) (gap_text v.gap) others ∙ ap (number_written v.hi) (gap_is v.gap others)))
+boot_gap_is : (version : Version) (gap : Option ℕ) (others : List ℕ) → boot_gap_text version gap ++ others ≡ boot_gap_written version gap others
+boot_gap_is One gap others = refl
+boot_gap_is Two gap others = gap_is gap others
+
+boot_is : (version : Version) (least : ℕ) (others : List ℕ) → boot_text version least ++ others ≡ boot_written version least others
+boot_is One least others = refl
+boot_is Two least others = append_assoc (codes " mb") (number_text least) others
+
+var_is : (version : Version) (v : VarFacts) (others : List ℕ) → var_text version v ++ others ≡ var_written version v others
+var_is version v others =
+    let boot = boot_gap_text version v.bgap in
+    ap (λ (l : List ℕ). codes " v" ++ l) (append_assoc (number_text v.lo) (number_text v.hi ++ (gap_text v.gap ++ boot)) others
+    ∙ ap (number_written v.lo) (append_assoc (number_text v.hi) (gap_text v.gap ++ boot) others
+    ∙ ap (number_written v.hi) (append_assoc (gap_text v.gap) boot others
+    ∙ gap_is v.gap (boot ++ others) ∙ ap (gap_written v.gap) (boot_gap_is version v.bgap others))))
 
 bound_is : (place : ℕ) (p : PointFacts) (others : List ℕ)
     → bound_text place p ++ others ≡ codes "p" ++ number_written place (codes " b" ++ number_written p.base (each_written number_written p.turns.items others))
@@ -40,32 +53,42 @@ bound_is place p others =
     ∙ ap (λ (l : List ℕ). number_written place (codes " b" ++ l)) (append_assoc (number_text p.base) (flat_map number_text p.turns.items) others
     ∙ ap (number_written p.base) (each_is number_text number_written (λ x rest. refl) p.turns.items others)))
 
-numbers_is : (p : PointFacts) (others : List ℕ) → numbers_text p ++ others
-    ≡ codes " m" ++ number_written p.facts.numbers.m (each_written var_written p.facts.numbers.vars.items (codes " s" ++ others))
-numbers_is p others =
-    ap (λ (l : List ℕ). codes " m" ++ l) (append_assoc (number_text p.facts.numbers.m) (flat_map var_text p.facts.numbers.vars.items ++ codes " s") others
-    ∙ ap (number_written p.facts.numbers.m) (append_assoc (flat_map var_text p.facts.numbers.vars.items) (codes " s") others
-    ∙ each_is var_text var_written var_is p.facts.numbers.vars.items (codes " s" ++ others)))
+numbers_is : (version : Version) (p : PointFacts) (others : List ℕ) → numbers_text version p ++ others
+    ≡ numbers_written version p.facts.numbers (codes " s" ++ others)
+numbers_is version p others =
+    let ns = p.facts.numbers in
+    let vars = flat_map (var_text version) ns.vars.items in
+    ap (λ (l : List ℕ). codes " m" ++ l) (append_assoc (number_text ns.m) (boot_text version ns.mb ++ (vars ++ codes " s")) others
+    ∙ ap (number_written ns.m) (append_assoc (boot_text version ns.mb) (vars ++ codes " s") others
+    ∙ boot_is version ns.mb ((vars ++ codes " s") ++ others)
+    ∙ ap (boot_written version ns.mb) (append_assoc vars (codes " s") others
+    ∙ each_is (var_text version) (var_written version) (var_is version) ns.vars.items (codes " s" ++ others))))
 
-line_is : (place : ℕ) (p : PointFacts) (others : List ℕ) → line_text place p ++ others ≡ point_written place p others
-line_is place p others =
-    append_assoc (bound_text place p ++ numbers_text p) (shapes_text p.facts.shapes) others
-    ∙ append_assoc (bound_text place p) (numbers_text p) (shapes_text p.facts.shapes ++ others)
-    ∙ bound_is place p (numbers_text p ++ (shapes_text p.facts.shapes ++ others))
+line_is : (version : Version) (place : ℕ) (p : PointFacts) (others : List ℕ) → line_text version place p ++ others ≡ point_written version place p others
+line_is version place p others =
+    let numbers = numbers_text version p in
+    append_assoc (bound_text place p ++ numbers) (shapes_text p.facts.shapes) others
+    ∙ append_assoc (bound_text place p) numbers (shapes_text p.facts.shapes ++ others)
+    ∙ bound_is place p (numbers ++ (shapes_text p.facts.shapes ++ others))
     ∙ ap (λ (l : List ℕ). codes "p" ++ number_written place (codes " b" ++ number_written p.base (each_written number_written p.turns.items l)))
-    (numbers_is p (shapes_text p.facts.shapes ++ others)
-    ∙ ap (λ (l : List ℕ). codes " m" ++ number_written p.facts.numbers.m (each_written var_written p.facts.numbers.vars.items (codes " s" ++ l)))
+    (numbers_is version p (shapes_text p.facts.shapes ++ others)
+    ∙ ap (λ (l : List ℕ). numbers_written version p.facts.numbers (codes " s" ++ l))
     (append_assoc (flat_map shape_text p.facts.shapes) (10 ∷ []) others ∙ each_is shape_text shape_written (λ x rest. refl) p.facts.shapes (10 ∷ others)))
 
-lines_are : (place : ℕ) (ps : List PointFacts) → lines_text place ps ≡ points_written place ps
-lines_are place [] = refl
-lines_are place (p ∷ ps) = line_is place p (lines_text (suc place) ps) ∙ ap (point_written place p) (lines_are (suc place) ps)
+lines_are : (version : Version) (place : ℕ) (ps : List PointFacts) → lines_text version place ps ≡ points_written version place ps
+lines_are version place [] = refl
+lines_are version place (p ∷ ps) =
+    line_is version place p (lines_text version (suc place) ps) ∙ ap (point_written version place p) (lines_are version (suc place) ps)
 
 -- the whole text
-pub text_is : (c : List PointFacts) → text_of c ≡ title_text (length c) ++ lines_text 0 c
+pub text_is : (c : Certificate) → text_of c ≡ title_text c.version (length c.points) ++ lines_text c.version 0 c.points
 text_is c =
-    sym (ap (λ (l : List ℕ). codes "sdv-cert 1\npoints" ++ l)
-    (append_assoc (number_text (length c)) (10 ∷ []) (lines_text 0 c) ∙ ap (λ (l : List ℕ). number_written (length c) (10 ∷ l)) (lines_are 0 c)))
+    let lines = lines_text c.version 0 c.points in
+    let count = number_text (length c.points) in
+    sym (append_assoc (version_written c.version) (codes "points" ++ (count ++ 10 ∷ [])) lines
+    ∙ ap (λ (l : List ℕ). version_written c.version ++ l) (append_assoc (codes "points") (count ++ 10 ∷ []) lines
+    ∙ ap (λ (l : List ℕ). codes "points" ++ l) (append_assoc count (10 ∷ []) lines
+    ∙ ap (λ (l : List ℕ). number_written (length c.points) (10 ∷ l)) (lines_are c.version 0 c.points))))
 
 -- ONE MORE PIECE: what is written, and all that is to be written
 
@@ -88,45 +111,62 @@ last_shape xs i d lt =
 pub no_shape : (xs : List Shape) (i : ℕ) → length xs ≤ i → shapes_text (drop i xs) ≡ 10 ∷ []
 no_shape xs i le = ap shapes_text (drop_of_length-le xs le)
 
-pub next_line : (ps : List PointFacts) (i : ℕ) (p : PointFacts) → i < length ps → p ≡ get_or ps i p
-    → lines_text i (drop i ps) ≡ line_text i p ++ lines_text (i + 1) (drop (i + 1) ps)
-next_line ps i p lt e =
-    ap (lines_text i) (drop-cons ps i p lt) ∙ ap (λ (q : PointFacts). line_text i q ++ lines_text (suc i) (drop (suc i) ps)) (sym e) ∙ rw add-one refl
+pub next_line : (version : Version) (ps : List PointFacts) (i : ℕ) (p : PointFacts) → i < length ps → p ≡ get_or ps i p
+    → lines_text version i (drop i ps) ≡ line_text version i p ++ lines_text version (i + 1) (drop (i + 1) ps)
+next_line version ps i p lt e =
+    ap (lines_text version i) (drop-cons ps i p lt)
+    ∙ ap (λ (q : PointFacts). line_text version i q ++ lines_text version (suc i) (drop (suc i) ps)) (sym e) ∙ rw add-one refl
 
-pub no_line : (ps : List PointFacts) (i : ℕ) → length ps ≤ i → lines_text i (drop i ps) ≡ []
-no_line ps i le = ap (lines_text i) (drop_of_length-le ps le)
+pub no_line : (version : Version) (ps : List PointFacts) (i : ℕ) → length ps ≤ i → lines_text version i (drop i ps) ≡ []
+no_line version ps i le = ap (lines_text version i) (drop_of_length-le ps le)
 
 -- the same of points that name sets of a table
-pub next_point : (sets : List (List Shape)) (ps : List SharedPoint) (i : ℕ) (p : SharedPoint) → i < length ps → p ≡ get_or ps i p
-    → lines_text i (drop i (points_in sets ps)) ≡ line_text i (point_in sets p) ++ lines_text (i + 1) (drop (i + 1) (points_in sets ps))
-next_point sets ps i p lt e =
+pub next_point : (sets : List (List Shape)) (version : Version) (ps : List SharedPoint) (i : ℕ) (p : SharedPoint) → i < length ps → p ≡ get_or ps i p
+    → lines_text version i (drop i (points_in sets ps)) ≡ line_text version i (point_in sets p) ++ lines_text version (i + 1) (drop (i + 1) (points_in sets ps))
+next_point sets version ps i p lt e =
     let many = length-map ps (point_in sets) in
-    next_line (points_in sets ps) i (point_in sets p) (omega (arith, lt, many)) (ap (point_in sets) e ∙ sym (get_or-map (point_in sets) ps i p))
+    next_line version (points_in sets ps) i (point_in sets p) (omega (arith, lt, many)) (ap (point_in sets) e ∙ sym (get_or-map (point_in sets) ps i p))
 
-pub no_point : (sets : List (List Shape)) (ps : List SharedPoint) (i : ℕ) → length ps ≤ i → lines_text i (drop i (points_in sets ps)) ≡ []
-no_point sets ps i le = let many = length-map ps (point_in sets) in no_line (points_in sets ps) i (omega (arith, le, many))
+pub no_point : (sets : List (List Shape)) (version : Version) (ps : List SharedPoint) (i : ℕ) → length ps ≤ i
+    → lines_text version i (drop i (points_in sets ps)) ≡ []
+no_point sets version ps i le = let many = length-map ps (point_in sets) in no_line version (points_in sets ps) i (omega (arith, le, many))
 
 -- THE CODE: fronts of lines, and writers that failed
+
+-- a certificate that was shown
+abbrev Same_certificate : Certificate → Certificate → Type 0
+Same_certificate a b = a ≡ b
+
+parts_same : (v w : Version) (ps qs : List PointFacts) → v ≡ w → ps ≡ qs
+    → Same_certificate (record { version = v; points = ps }) (record { version = w; points = qs })
+parts_same v w ps qs e f = cc
+
+pub same_certificate : (sets : List (List Shape)) (version : Version) (ps : List SharedPoint) (c : Certificate) → version ≡ c.version
+    → points_in sets ps ≡ c.points → certificate_in sets version ps ≡ c
+same_certificate sets version ps c e f = parts_same version c.version (points_in sets ps) c.points e f
 
 pub failed : {E : Type 0} (r : Result (Unit {0}) E) (old new : Option (List ℕ)) (text : List ℕ) → IsErr r → AppendsPart old new text → Writes old new r text
 failed (Ok x) old new text err p = absurd (cc err)
 failed (Err e) old new text err p = p
 
-pub title_made : (a b c d : List ℕ) (n : ℕ) → a ≡ [] → b ≡ a ++ codes "sdv-cert 1\npoints" → c ≡ b ++ number_text n → d ≡ c ++ 10 ∷ [] → d ≡ title_text n
-title_made a b c d n e0 e1 e2 e3 =
-    let first : b ≡ codes "sdv-cert 1\npoints" = e1 ∙ ap (λ (l : List ℕ). l ++ codes "sdv-cert 1\npoints") e0 in
-    let second : c ≡ codes "sdv-cert 1\npoints" ++ number_text n = e2 ∙ ap (λ (l : List ℕ). l ++ number_text n) first in
-    e3 ∙ ap (λ (l : List ℕ). l ++ 10 ∷ []) second ∙ append_assoc (codes "sdv-cert 1\npoints") (number_text n) (10 ∷ [])
+pub title_made : (version : Version) (a b c d e : List ℕ) (n : ℕ) → a ≡ [] → b ≡ a ++ version_written version → c ≡ b ++ codes "points" → d ≡ c ++ number_text n
+    → e ≡ d ++ 10 ∷ [] → e ≡ title_text version n
+title_made version a b c d e n e0 e1 e2 e3 e4 =
+    let first : b ≡ version_written version = e1 ∙ ap (λ (l : List ℕ). l ++ version_written version) e0 in
+    let rest = number_text n ++ 10 ∷ [] in
+    e4 ∙ ap (λ (l : List ℕ). l ++ 10 ∷ []) e3 ∙ append_assoc c (number_text n) (10 ∷ [])
+    ∙ ap (λ (l : List ℕ). l ++ rest) e2 ∙ append_assoc b (codes "points") rest ∙ ap (λ (l : List ℕ). l ++ (codes "points" ++ rest)) first
 
-pub front_made : (a b c : List ℕ) (place : ℕ) (p : PointFacts) → a ≡ [] → b ≡ a ++ bound_text place p → c ≡ b ++ numbers_text p
-    → c ≡ bound_text place p ++ numbers_text p
-front_made a b c place p e0 e1 e2 = e2 ∙ ap (λ (l : List ℕ). l ++ numbers_text p) (e1 ∙ ap (λ (l : List ℕ). l ++ bound_text place p) e0)
+pub front_made : (version : Version) (a b c : List ℕ) (place : ℕ) (p : PointFacts) → a ≡ [] → b ≡ a ++ bound_text place p → c ≡ b ++ numbers_text version p
+    → c ≡ bound_text place p ++ numbers_text version p
+front_made version a b c place p e0 e1 e2 =
+    e2 ∙ ap (λ (l : List ℕ). l ++ numbers_text version p) (e1 ∙ ap (λ (l : List ℕ). l ++ bound_text place p) e0)
 
-pub title_failed : {E : Type 0} (r : Result (Unit {0}) E) (old new : Option (List ℕ)) (c : List PointFacts) → IsErr r
-    → AppendsPart old new (title_text (length c)) → Writes old new r (text_of c)
+pub title_failed : {E : Type 0} (r : Result (Unit {0}) E) (old new : Option (List ℕ)) (c : Certificate) → IsErr r
+    → AppendsPart old new (title_text c.version (length c.points)) → Writes old new r (text_of c)
 title_failed r old new c err h =
     failed r old new (text_of c) err (subst (λ (l : List ℕ). AppendsPart old new l) (sym (text_is c))
-    (part_before old new (title_text (length c)) (lines_text 0 c) h))
+    (part_before old new (title_text c.version (length c.points)) (lines_text c.version 0 c.points) h))
 
 pub all_written : (old new : Option (List ℕ)) (all written rest : List ℕ) → all ≡ written ++ rest → rest ≡ [] → Appends old new written → Appends old new all
 all_written old new all written rest e none p =
@@ -151,9 +191,9 @@ all_passed old new held text left e none p =
 pub part_passed : (old new : Option (List ℕ)) (held text : List ℕ) → text ≡ held → AppendsPart old new text → AppendsPart old new held
 part_passed old new held text e p = subst (λ (l : List ℕ). AppendsPart old new l) e p
 
-pub line_begins : (known : Option (List ℕ)) (line : List ℕ) (place : ℕ) (p : PointFacts) → line ≡ bound_text place p ++ numbers_text p
-    → Held (line_text place p) known known line (shapes_text p.facts.shapes)
-line_begins known line place p e = ([], ap (λ (l : List ℕ). l ++ shapes_text p.facts.shapes) (sym e), appends_none known)
+pub line_begins : (known : Option (List ℕ)) (line : List ℕ) (version : Version) (place : ℕ) (p : PointFacts) → line ≡ bound_text place p ++ numbers_text version p
+    → Held (line_text version place p) known known line (shapes_text p.facts.shapes)
+line_begins known line version place p e = ([], ap (λ (l : List ℕ). l ++ shapes_text p.facts.shapes) (sym e), appends_none known)
 
 pub one_held : (all : List ℕ) (old mid new : Option (List ℕ)) (line left more piece rest : List ℕ) → Held all old mid line (piece ++ rest)
     → PassesOn mid new line left

@@ -5,6 +5,7 @@ pub mod Blocks
 pub mod LoopTurns
 pub mod FormsPay
 pub mod Family
+pub mod VersionOf
 pub mod Ways
 pub mod Grows
 pub mod Quiet

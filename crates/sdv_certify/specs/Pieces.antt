@@ -4,7 +4,10 @@ use Rattle.std.specs.Int.{w64, to_be_bytes}
 use Rattle.std.specs.Io.KnownBytes.{Appends}
 use Rattle.hex.specs.Hex.{encode_lower}
 use Rattle.sdv_card.specs.declared.shape.Shape.{Shape}
+use Rattle.sdv_facts.specs.declared.certificate.Version.{Version}
+use Rattle.sdv_facts.specs.declared.certificate.Version.TheVariants.{One, Two}
 use Rattle.sdv_facts.specs.declared.numbers.VarFacts.{VarFacts}
+use Rattle.sdv_facts.specs.CertificateText.{version_written}
 use Rattle.sdv_facts.specs.Facts.{PointFacts}
 
 abbrev pub number_text : ℕ → List ℕ
@@ -14,8 +17,18 @@ abbrev pub gap_text : Option ℕ → List ℕ
 gap_text None = codes " -"
 gap_text (Some gap) = number_text gap
 
-abbrev pub var_text : VarFacts → List ℕ
-var_text v = codes " v" ++ (number_text v.lo ++ (number_text v.hi ++ gap_text v.gap))
+-- what version 2 says of boot partitions
+abbrev pub boot_gap_text : Version → Option ℕ → List ℕ
+boot_gap_text One gap = []
+boot_gap_text Two gap = gap_text gap
+
+abbrev pub boot_text : Version → ℕ → List ℕ
+boot_text One mb = []
+boot_text Two mb = codes " mb" ++ number_text mb
+
+abbrev pub var_text : Version → VarFacts → List ℕ
+var_text version v = codes " v"
+    ++ (number_text v.lo ++ (number_text v.hi ++ (gap_text v.gap ++ boot_gap_text version v.bgap)))
 
 abbrev pub shape_text : Shape → List ℕ
 shape_text s = 32 ∷ encode_lower (to_be_bytes w64 s.0)
@@ -25,25 +38,25 @@ abbrev pub bound_text : (place : ℕ) → PointFacts → List ℕ
 bound_text place p = codes "p" ++ (number_text place
     ++ (codes " b" ++ (number_text p.base ++ flat_map number_text p.turns.items)))
 
-abbrev pub numbers_text : PointFacts → List ℕ
-numbers_text p = codes " m" ++ (number_text p.facts.numbers.m
-    ++ (flat_map var_text p.facts.numbers.vars.items ++ codes " s"))
+abbrev pub numbers_text : Version → PointFacts → List ℕ
+numbers_text version p = codes " m" ++ (number_text p.facts.numbers.m
+    ++ (boot_text version p.facts.numbers.mb ++ (flat_map (var_text version) p.facts.numbers.vars.items ++ codes " s")))
 
 -- and from there on
 abbrev pub shapes_text : List Shape → List ℕ
 shapes_text shapes = flat_map shape_text shapes ++ 10 ∷ []
 
-abbrev pub line_text : (place : ℕ) → PointFacts → List ℕ
-line_text place p = (bound_text place p ++ numbers_text p) ++ shapes_text p.facts.shapes
+abbrev pub line_text : Version → (place : ℕ) → PointFacts → List ℕ
+line_text version place p = (bound_text place p ++ numbers_text version p) ++ shapes_text p.facts.shapes
 
 -- the lines of points from this place on
-abbrev pub lines_text : (place : ℕ) → List PointFacts → List ℕ
-lines_text place [] = []
-lines_text place (p ∷ ps) = line_text place p ++ lines_text (suc place) ps
+abbrev pub lines_text : Version → (place : ℕ) → List PointFacts → List ℕ
+lines_text version place [] = []
+lines_text version place (p ∷ ps) = line_text version place p ++ lines_text version (suc place) ps
 
 -- the first two lines
-abbrev pub title_text : (count : ℕ) → List ℕ
-title_text count = codes "sdv-cert 1\npoints" ++ (number_text count ++ 10 ∷ [])
+abbrev pub title_text : Version → (count : ℕ) → List ℕ
+title_text version count = version_written version ++ (codes "points" ++ (number_text count ++ 10 ∷ []))
 
 -- a front of what is held is written, and the rest is left
 abbrev pub PassesOn : (old new : Option (List ℕ)) (held left : List ℕ) → Type 0

@@ -3,8 +3,9 @@
 //!
 //! Begin at `certify`, and at `specs/Assembled.antt`, which says what it answers: what is known at each point, with its
 //! bound form. `specs/Family.antt` says what passes over the points reach, `specs/Ways.antt` what is carried along edges,
-//! and `specs/Refusal.antt` what script is refused. `specs/Forms.antt` defines the bounds of points, by the syntax alone,
-//! and `specs/FormsPay.antt` says that they fall along each edge as a certificate's should; `bound_forms` computes them.
+//! `specs/VersionOf.antt` which version a script's certificate has, and `specs/Refusal.antt` what script is refused.
+//! `specs/Forms.antt` defines the bounds of points, by the syntax alone, and `specs/FormsPay.antt` says that they fall along
+//! each edge as a certificate's should; `bound_forms` computes them.
 //! `survey` answers the same points of a script that may have no certificate. `write` writes the text of a certificate,
 //! which stands in `sdv_facts/specs/CertificateText.antt`.
 //! While passes go on each point has a list of its shapes, and in the certificate the name of a set (`assembling`).
@@ -25,6 +26,7 @@ mod passes;
 mod refusal;
 mod sets;
 mod spans;
+mod versions;
 mod ways;
 mod writing;
 

@@ -3,20 +3,20 @@
 ghost use Rattle.std.specs.Prelude.{◌≡◌, List, ◌<◌, ◌≤◌, ◌+◌, ◌++◌, [], ◌∷◌, length, OnOk, OnErr};
 ghost use Rattle.arrayvec.specs.ArrayVec.{array_vec_len};
 ghost use Rattle.sdv_card.specs.declared.shape.Shape.{Shape};
-ghost use Rattle.sdv_facts.specs.CertificateText.{text_of};
+ghost use Rattle.sdv_facts.specs.CertificateText.{version_written, text_of};
 ghost use Rattle.sdv_facts.specs.Shared.{point_in, IsNamed};
 ghost use Rattle.sdv_text.specs.Written.{AppendsPart, Writes};
-ghost use Rattle.sdv_certify.specs.Pieces.{number_text, gap_text, var_text, shape_text, bound_text, numbers_text, line_text, title_text, PassesOn};
+ghost use Rattle.sdv_certify.specs.Pieces.{number_text, gap_text, boot_gap_text, boot_text, var_text, shape_text, bound_text, numbers_text, line_text, title_text, PassesOn};
 
 use arrayvec::ArrayVec;
 use itoa::Buffer;
 use sdv_card::Shape;
-use sdv_facts::{Certificate, PointFacts, SetTable, VarFacts};
+use sdv_facts::{Certificate, PointFacts, SetTable, VarFacts, Version};
 use sdv_text::write_text;
 use std::io::{Error, Write};
 
-/// What of a line is not written yet: room for its front, of the words, four loops and eight variables with numbers of 20
-/// digits, and for the shapes of most points.
+/// What of a line is not written yet: room for its front, of the words, four loops, the capacities and eight variables with
+/// numbers of 20 digits, and for the shapes of most points.
 type LineBytes = ArrayVec<u8, 1024>;
 
 fn push(line: &mut LineBytes, bytes: &[u8])
@@ -48,15 +48,43 @@ fn push_gap(line: &mut LineBytes, gap: Option<u64>)
     }
 }
 
-fn push_variable(line: &mut LineBytes, known: &VarFacts)
-    requires { array_vec_len line.old + 65 ≤ 1024 }
-    ensures items { line.new.items ≡ line.old.items ++ var_text known.now }
-    ensures len { array_vec_len line.new ≤ array_vec_len line.old + 65 }
+// What version 2 says of a variable and boot partitions.
+fn push_boot_gap(line: &mut LineBytes, version: Version, gap: Option<u64>)
+    requires { array_vec_len line.old + 21 ≤ 1024 }
+    ensures items { line.new.items ≡ line.old.items ++ boot_gap_text version gap }
+    ensures len { array_vec_len line.new ≤ array_vec_len line.old + 21 }
+{
+    match version {
+        Version::One => {}
+        Version::Two => push_gap(line, gap),
+    }
+}
+
+// What version 2 says of the capacity of boot partitions.
+fn push_boot(line: &mut LineBytes, version: Version, least: u64)
+    requires { array_vec_len line.old + 24 ≤ 1024 }
+    ensures items { line.new.items ≡ line.old.items ++ boot_text version least }
+    ensures len { array_vec_len line.new ≤ array_vec_len line.old + 24 }
+{
+    match version {
+        Version::One => {}
+        Version::Two => {
+            push(line, b" mb");
+            push_number(line, least);
+        }
+    }
+}
+
+fn push_variable(line: &mut LineBytes, version: Version, known: &VarFacts)
+    requires { array_vec_len line.old + 86 ≤ 1024 }
+    ensures items { line.new.items ≡ line.old.items ++ var_text version known.now }
+    ensures len { array_vec_len line.new ≤ array_vec_len line.old + 86 }
 {
     push(line, b" v");
     push_number(line, known.lo);
     push_number(line, known.hi);
     push_gap(line, known.gap);
+    push_boot_gap(line, version, known.bgap);
 }
 
 // A point's place and bound.
@@ -77,18 +105,19 @@ fn push_bound(line: &mut LineBytes, place: u64, point: &PointFacts)
 }
 
 // What is known of numbers at a point.
-fn push_numbers(line: &mut LineBytes, point: &PointFacts)
-    requires { array_vec_len line.old + 600 ≤ 1024 }
+fn push_numbers(line: &mut LineBytes, version: Version, point: &PointFacts)
+    requires { array_vec_len line.old + 740 ≤ 1024 }
     ensures items { (sets : List (List Shape)) → line.new.items
-        ≡ line.old.items ++ numbers_text (point_in sets point.now) }
-    ensures len { array_vec_len line.new ≤ array_vec_len line.old + 600 }
+        ≡ line.old.items ++ numbers_text version (point_in sets point.now) }
+    ensures len { array_vec_len line.new ≤ array_vec_len line.old + 740 }
 {
     let numbers = point.facts.numbers();
     push(line, b" m");
     push_number(line, numbers.m);
+    push_boot(line, version, numbers.mb);
     let vars = numbers.vars.as_slice();
     for known in vars {
-        push_variable(line, known);
+        push_variable(line, version, known);
     }
     push(line, b" s");
 }
@@ -121,16 +150,18 @@ fn make_room<W: Write>(out: &mut W, line: &mut LineBytes) -> Result<(), Error>
 // The line of a point that names a set of the table, in one write unless it is long.
 fn put_line<W: Write>(
     out: &mut W,
+    version: Version,
     table: &SetTable,
     place: u64,
     point: &PointFacts,
 ) -> Result<(), Error>
     requires { IsNamed table.now point.now }
-    ensures { Writes (W.contents out.old) (W.contents out.new) result (line_text place (point_in table.now point.now)) }
+    ensures { Writes (W.contents out.old) (W.contents out.new) result
+        (line_text version place (point_in table.now point.now)) }
 {
     let mut line = LineBytes::new();
     push_bound(&mut line, place, point);
-    push_numbers(&mut line, point);
+    push_numbers(&mut line, version, point);
     let shapes = table.members(point.facts.set());
     for shape in shapes {
         make_room(out, &mut line)?;
@@ -140,12 +171,24 @@ fn put_line<W: Write>(
     write_text(out, line.as_slice())
 }
 
+fn push_version(line: &mut LineBytes, version: Version)
+    requires { array_vec_len line.old + 11 ≤ 1024 }
+    ensures items { line.new.items ≡ line.old.items ++ version_written version }
+    ensures len { array_vec_len line.new ≡ array_vec_len line.old + 11 }
+{
+    match version {
+        Version::One => push(line, b"sdv-cert 1\n"),
+        Version::Two => push(line, b"sdv-cert 2\n"),
+    }
+}
+
 // The first two lines.
-fn put_title<W: Write>(out: &mut W, count: u64) -> Result<(), Error>
-    ensures { Writes (W.contents out.old) (W.contents out.new) result (title_text count) }
+fn put_title<W: Write>(out: &mut W, version: Version, count: u64) -> Result<(), Error>
+    ensures { Writes (W.contents out.old) (W.contents out.new) result (title_text version count) }
 {
     let mut line = LineBytes::new();
-    push(&mut line, b"sdv-cert 1\npoints");
+    push_version(&mut line, version);
+    push(&mut line, b"points");
     push_number(&mut line, count);
     push(&mut line, b"\n");
     write_text(out, line.as_slice())
@@ -160,10 +203,11 @@ fn put_title<W: Write>(out: &mut W, count: u64) -> Result<(), Error>
 pub fn write<W: Write>(certificate: &Certificate, out: &mut W) -> Result<(), Error>
     ensures { Writes (W.contents out.old) (W.contents out.new) result (text_of certificate.now) }
 {
+    let version = certificate.version();
     let (table, points) = certificate.shown();
-    put_title(out, points.len() as u64)?;
+    put_title(out, version, points.len() as u64)?;
     for (place, point) in points.iter().enumerate() {
-        put_line(out, table, place as u64, point)?;
+        put_line(out, version, table, place as u64, point)?;
     }
     Ok(())
 }

@@ -8,9 +8,11 @@ use Rattle.hex.specs.declared.error.FromHexError.{FromHexError}
 use Rattle.sdv_text.specs.Fronts.{◌>>=◌, Read, after, is_digit, run, number_after}
 use Rattle.sdv_card.specs.declared.shape.Shape.{Shape}
 use Rattle.sdv_script.specs.Rules.{max_number}
+use Rattle.sdv_facts.specs.declared.certificate.Version.{Version}
+use Rattle.sdv_facts.specs.declared.certificate.Version.TheVariants.{One, Two}
 use Rattle.sdv_facts.specs.declared.numbers.VarFacts.{VarFacts}
 use Rattle.sdv_facts.specs.declared.numbers.Numbers.{Numbers}
-use Rattle.sdv_facts.specs.Facts.{PointFacts}
+use Rattle.sdv_facts.specs.Facts.{PointFacts, Certificate}
 use Rattle.sdv_facts.specs.CertificateText.{max_bytes, max_points, max_shapes}
 use Rattle.sdv_check.specs.declared.text.fault.CertFault.{CertFault}
 use Rattle.sdv_check.specs.declared.text.fault.CertFault.TheVariants as faults
@@ -63,13 +65,19 @@ read_gap bs = gap_from (after (codes " -") bs) bs
 
 -- VARIABLES
 
-unfoldable pub read_var : List ℕ → Read VarFacts
-read_var bs = do
+-- what version 2 says of boot partitions, and version 1 does not
+abbrev pub read_boot_gap : Version → List ℕ → Read (Option ℕ)
+read_boot_gap One bs = Some (None, bs)
+read_boot_gap Two bs = read_gap bs
+
+unfoldable pub read_var : Version → List ℕ → Read VarFacts
+read_var version bs = do
   bs ← after (codes " v") bs
   lo ← read_number bs
   hi ← read_number lo.1
   gap ← read_gap hi.1
-  Some (record { lo = lo.0; hi = hi.0; gap = gap.0 }, gap.1)
+  boot ← read_boot_gap version gap.1
+  Some (record { lo = lo.0; hi = hi.0; gap = gap.0; bgap = boot.0 }, boot.1)
 
 -- SHAPES
 
@@ -133,8 +141,8 @@ read_each begins item (suc room) last bs =
 abbrev pub read_turns : List ℕ → Read (List ℕ)
 read_turns bs = read_each begins_number (λ last. read_number) 4 None bs
 
-abbrev pub read_vars : List ℕ → Read (List VarFacts)
-read_vars bs = read_each begins_var (λ last. read_var) 8 None bs
+abbrev pub read_vars : Version → List ℕ → Read (List VarFacts)
+read_vars version bs = read_each begins_var (λ last. read_var version) 8 None bs
 
 abbrev pub read_shapes : (room : ℕ) → List ℕ → Read (List Shape)
 read_shapes room bs = read_each begins_shape read_rising room None bs
@@ -145,13 +153,19 @@ read_shapes room bs = read_each begins_shape read_rising room None bs
 unfoldable pub read_place : (place : ℕ) → List ℕ → Option (List ℕ)
 read_place place bs = read_number bs >>= λ n. if n.0 == place then Some n.1 else None
 
--- the least capacity, and what is known of the variables
-unfoldable pub read_numbers : List ℕ → Read Numbers
-read_numbers bs = do
+-- the least capacity of a boot partition, which version 1 does not say
+abbrev pub read_boot : Version → List ℕ → Read ℕ
+read_boot One bs = Some (0, bs)
+read_boot Two bs = after (codes " mb") bs >>= read_number
+
+-- the least capacities, and what is known of the variables
+unfoldable pub read_numbers : Version → List ℕ → Read Numbers
+read_numbers version bs = do
   bs ← after (codes " m") bs
   m ← read_number bs
-  vars ← read_vars m.1
-  Some (record { m = m.0; vars = record { items = vars.0 } }, vars.1)
+  mb ← read_boot version m.1
+  vars ← read_vars version mb.1
+  Some (record { m = m.0; mb = mb.0; vars = record { items = vars.0 } }, vars.1)
 
 -- what stands before them
 unfoldable pub read_bound : (place : ℕ) → List ℕ → Read (ℕ × List ℕ)
@@ -163,10 +177,10 @@ read_bound place bs = do
   turns ← read_turns base.1
   Some ((base.0, turns.0), turns.1)
 
-unfoldable pub read_point : (place room : ℕ) → List ℕ → Read PointFacts
-read_point place room bs = do
+unfoldable pub read_point : Version → (place room : ℕ) → List ℕ → Read PointFacts
+read_point version place room bs = do
   bound ← read_bound place bs
-  numbers ← read_numbers bound.1
+  numbers ← read_numbers version bound.1
   bs ← after (codes " s") numbers.1
   shapes ← read_shapes room bs
   bs ← after (10 ∷ []) shapes.1
@@ -180,11 +194,11 @@ read_point place room bs = do
   )
 
 -- so many points, from a place on, with at most so many shapes
-unfoldable pub read_points : (count place room : ℕ) → List ℕ → Read (List PointFacts)
-read_points zero place room bs = Some ([], bs)
-read_points (suc count) place room bs = do
-  p ← read_point place room bs
-  ps ← read_points count (suc place) (room - length p.0.facts.shapes) p.1
+unfoldable pub read_points : Version → (count place room : ℕ) → List ℕ → Read (List PointFacts)
+read_points version zero place room bs = Some ([], bs)
+read_points version (suc count) place room bs = do
+  p ← read_point version place room bs
+  ps ← read_points version count (suc place) (room - length p.0.facts.shapes) p.1
   Some (p.0 ∷ ps.0, ps.1)
 
 -- CERTIFICATES
@@ -197,11 +211,25 @@ read_count bs = do
   if nat_le count.0 max_points then (after (10 ∷ []) count.1 >>= λ bs. Some (count.0, bs)) else None
 
 -- behind the first line
-unfoldable pub read_lines : List ℕ → Option (List PointFacts)
-read_lines bs = do
+unfoldable pub read_lines : Version → List ℕ → Option (List PointFacts)
+read_lines version bs = do
   count ← read_count bs
-  points ← read_points count.0 0 max_shapes count.1
+  points ← read_points version count.0 0 max_shapes count.1
   if length points.1 == 0 then Some points.0 else None
 
-unfoldable pub read_text : List ℕ → Option (List PointFacts)
-read_text bs = if nat_le (length bs) max_bytes then (after (codes "sdv-cert 1\n") bs >>= read_lines) else None
+-- the first line, which says the version
+abbrev pub version_from : Option (List ℕ) → List ℕ → Read Version
+version_from (Some rest) bs = Some (One, rest)
+version_from None bs = after (codes "sdv-cert 2\n") bs >>= λ rest. Some (Two, rest)
+
+unfoldable pub read_version : List ℕ → Read Version
+read_version bs = version_from (after (codes "sdv-cert 1\n") bs) bs
+
+unfoldable pub read_certificate : List ℕ → Option Certificate
+read_certificate bs = do
+  version ← read_version bs
+  points ← read_lines version.0 version.1
+  Some (record { version = version.0; points = points })
+
+unfoldable pub read_text : List ℕ → Option Certificate
+read_text bs = if nat_le (length bs) max_bytes then read_certificate bs else None

@@ -6,7 +6,7 @@ use Rattle.sdv_script.specs.declared.fault.FaultKind.TheVariants.{Memory as NoMe
 use Rattle.sdv_script.specs.Script.{Parsed, IsScript}
 use Rattle.sdv_graph.specs.Graph.{Graph}
 use Rattle.sdv_graph.specs.GraphOf.{IsGraphOf}
-use Rattle.sdv_facts.specs.Facts.{PointFacts}
+use Rattle.sdv_facts.specs.Facts.{Certificate as Facts}
 use Rattle.sdv_facts.specs.Bounds.{bound_of}
 use Rattle.sdv_facts.specs.CertificateText.{text_of, WithinLimits}
 use Rattle.sdv_facts.specs.Closed.{Closed}
@@ -23,15 +23,15 @@ pub record IsGraphOfText (text : List ℕ) (g : Graph) : Type 0 where
   pub graph : IsGraphOf script.names script.body g
 
 -- the text is that of this certificate, which is within the limits
-pub record IsTextOf (text : List ℕ) (ps : List PointFacts) : Type 0 where
-  pub limits : WithinLimits ps
-  pub written : text ≡ text_of ps
+pub record IsTextOf (text : List ℕ) (c : Facts) : Type 0 where
+  pub limits : WithinLimits c
+  pub written : text ≡ text_of c
 
 abbrev pub IsNoScript : List ℕ → Type 0
 IsNoScript text = (s : Parsed) → s.text ≡ text → IsScript s → ⊥
 
 abbrev pub IsNoCertificate : List ℕ → Type 0
-IsNoCertificate text = (ps : List PointFacts) → WithinLimits ps → text ≡ text_of ps → ⊥
+IsNoCertificate text = (c : Facts) → WithinLimits c → text ≡ text_of c → ⊥
 
 -- a graph, and a bound of its runs
 pub record Acceptance : Type 0 where
@@ -41,10 +41,10 @@ pub record Acceptance : Type 0 where
 -- the certificate is closed for the graph of the script, and has the bound
 pub record IsAccepted (script certificate : List ℕ) (a : Acceptance) : Type 0 where
   pub graph : IsGraphOfText script a.graph
-  pub points : List PointFacts
-  pub text : IsTextOf certificate points
-  pub closed : Closed a.graph points
-  pub bound : a.bound ≡ bound_of a.graph points
+  pub facts : Facts
+  pub text : IsTextOf certificate facts
+  pub closed : Closed a.graph facts.points
+  pub bound : a.bound ≡ bound_of a.graph facts.points
 
 -- texts with which a graph and a bound were accepted
 pub record Texts (a : Acceptance) : Type 0 where
@@ -60,9 +60,9 @@ WasAccepted a = ∥ Texts a ∥₁
 pub record IsOpen (script certificate : List ℕ) (fault : CheckFault) : Type 0 where
   pub flow : Graph
   pub graph : IsGraphOfText script flow
-  pub points : List PointFacts
-  pub text : IsTextOf certificate points
-  pub fails : Fails flow points fault
+  pub facts : Facts
+  pub text : IsTextOf certificate facts
+  pub fails : Fails flow facts.points fault
 
 -- the script comes before the certificate, and both before what is checked; want of memory tells nothing
 abbrev pub Verified : (script certificate : List ℕ) → Result Acceptance VerifyFault → Type 0

@@ -35,8 +35,8 @@ use sdv_sd::SdTable;
 /// [`CheckFault::Points`] where the certificate is not of the graph's points, else [`CheckFault::Start`] where it says
 /// more of point 0 than holds there, else the lowest point that fails with the first of its clauses that does.
 pub fn check(graph: &Graph<'_>, certificate: &Certificate) -> Result<u64, CheckFault>
-    ensures checked { Checked graph.now certificate.now result }
-    ensures promised { IfOk result (λ most. Promised graph.now certificate.now most) }
+    ensures checked { Checked graph.now certificate.now.points result }
+    ensures promised { IfOk result (λ most. Promised graph.now certificate.now.points most) }
 {
     match graph.kind() {
         Kind::Sd => accept_by::<SdTable>(graph, certificate),
@@ -47,8 +47,8 @@ pub fn check(graph: &Graph<'_>, certificate: &Certificate) -> Result<u64, CheckF
 /// The same by the table of the graph's kind, of which the laws alone are used.
 fn accept_by<T: CardTable>(graph: &Graph<'_>, certificate: &Certificate) -> Result<u64, CheckFault>
     requires { T.kind ≡ graph.now.kind }
-    ensures checked { Checked graph.now certificate.now result }
-    ensures promised { IfOk result (λ most. Promised graph.now certificate.now most) }
+    ensures checked { Checked graph.now certificate.now.points result }
+    ensures promised { IfOk result (λ most. Promised graph.now certificate.now.points most) }
 {
     let first = graph.first();
     check_by::<T>(graph, certificate, first)
@@ -63,7 +63,7 @@ fn check_by<T: CardTable>(
     requires kind { T.kind ≡ graph.now.kind }
     requires first { first ≡ graph.now.first }
     requires limits { all_keep_limits graph.now.points ≡ true }
-    ensures { Checked graph.now certificate.now result }
+    ensures { Checked graph.now certificate.now.points result }
 {
     if !points_match(graph, certificate) {
         return Err(CheckFault::Points);
@@ -87,7 +87,7 @@ fn point_matches(graph: &Graph<'_>, point: &Point<'_>, facts: &PointFacts) -> bo
 
 /// The certificate is of the graph's points.
 fn points_match(graph: &Graph<'_>, certificate: &Certificate) -> bool
-    ensures { IsTrue result ↔ PointsMatch graph.now certificate.now }
+    ensures { IsTrue result ↔ PointsMatch graph.now certificate.now.points }
 {
     let (_, points) = certificate.shown();
     if points.len() != graph.len() {
@@ -117,8 +117,8 @@ fn starts_at(graph: &Graph<'_>, table: &SetTable, facts: &PointFacts) -> bool
 
 /// Point 0 does.
 fn start_covers(graph: &Graph<'_>, certificate: &Certificate) -> bool
-    requires { PointsMatch graph.now certificate.now }
-    ensures { IsTrue result ↔ StartCovers graph.now certificate.now }
+    requires { PointsMatch graph.now certificate.now.points }
+    ensures { IsTrue result ↔ StartCovers graph.now certificate.now.points }
 {
     let (table, points) = certificate.shown();
     match points.first() {
@@ -148,11 +148,11 @@ fn first_fault<T: CardTable>(
 ) -> Option<(usize, Clause)>
     requires kind { T.kind ≡ graph.now.kind }
     requires limits { all_keep_limits graph.now.points ≡ true }
-    requires matches { PointsMatch graph.now certificate.now }
+    requires matches { PointsMatch graph.now certificate.now.points }
     ensures { MatchOption result
-        (EachBelow graph.now.points certificate.now (length graph.now.points)
-        (PointClosed graph.now.kind certificate.now))
-        (λ found. FailsAt graph.now certificate.now found.1 found.0) }
+        (EachBelow graph.now.points certificate.now.points (length graph.now.points)
+        (PointClosed graph.now.kind certificate.now.points))
+        (λ found. FailsAt graph.now certificate.now.points found.1 found.0) }
 {
     let (table, points) = certificate.shown();
     for number in 0..graph.len() {
@@ -184,7 +184,7 @@ fn first_cost(enter: Option<u16>, costs: &[u64]) -> u64
 
 /// The bound at point 0.
 fn bound_at_start(first: Target, certificate: &Certificate) -> u64
-    ensures { result ≡ bound_at (slice_get certificate.now 0) (turns_at first []) }
+    ensures { result ≡ bound_at (slice_get certificate.now.points 0) (turns_at first []) }
 {
     let (_, points) = certificate.shown();
     match points.first() {

@@ -72,6 +72,14 @@ const BUSY: &str = "loop 100 { wait { ok { break } else { } } } else { fault bus
 const EXT_CSD: &str =
     "send 8 { clean { recv reg { ok { } else { fault ext } } } else { fault ext } } done";
 
+// Access to a boot partition whose capacity was read, with 256 blocks or more.
+const BOOT_CAPACITY: &str =
+    "send 8 { clean { recv reg { ok { let pos = ext.boot } else { fault ext } } } else { fault ext } } if pos >= 256 { } else { fault small }";
+
+const BOOT_ACCESS: &str = "send 6 part.access 1 { clean { } else { fault sw } }";
+
+const SWITCHED: &str = "send 13 { clean & state=tran { } else { fault sw } }";
+
 // A script for an e.MMC device, with a part for CMD3, and what follows CMD16. That begins with point 18.
 fn device_text(alloc: Global, naming: &str, rest: &[&str]) -> Result<String, AllocError> {
     let mut text = String::new(alloc);
@@ -88,7 +96,7 @@ fn device_text(alloc: Global, naming: &str, rest: &[&str]) -> Result<String, All
 }
 
 // The part for CMD3, what follows CMD16, and the answer.
-static DEVICES: [(&str, &[&str], Answer); 12] = [
+static DEVICES: [(&str, &[&str], Answer); 14] = [
     (NAMING, &[CAPACITY, "done"], Ok(1007)),
     // the CSD of a device with block addresses does not tell its capacity
     (
@@ -189,16 +197,42 @@ static DEVICES: [(&str, &[&str], Answer); 12] = [
             shape: Shape(0x80_2855),
         }),
     ),
-    // what is known of the capacity is that of the user area
+    // nothing is known of the capacity of a boot partition
     (
         NAMING,
         &[
             CAPACITY,
-            "send 6 part.access 1 { clean { } else { fault sw } }",
+            BOOT_ACCESS,
             BUSY,
-            "send 13 { clean & state=tran { } else { fault sw } } send 17 at by hc 0 { else { fault stop } }",
+            SWITCHED,
+            "send 17 at by hc 0 { else { fault stop } }",
         ],
         Err(Address { point: 33 }),
+    ),
+    // the last block of the boot partition that is known, and the next one
+    (
+        NAMING,
+        &[
+            CAPACITY,
+            BOOT_CAPACITY,
+            BOOT_ACCESS,
+            BUSY,
+            SWITCHED,
+            "send 17 at by hc 255 { clean { recv { ok { } else { fault rd } } } else { fault rd } } done",
+        ],
+        Ok(1011),
+    ),
+    (
+        NAMING,
+        &[
+            CAPACITY,
+            BOOT_CAPACITY,
+            BOOT_ACCESS,
+            BUSY,
+            SWITCHED,
+            "send 17 at by hc 256 { clean { recv { ok { } else { fault rd } } } else { fault rd } } done",
+        ],
+        Err(Address { point: 40 }),
     ),
 ];
 

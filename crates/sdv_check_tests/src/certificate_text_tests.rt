@@ -26,11 +26,11 @@ const ORDER_3: CertFault = CertFault::Order { line: 3 };
 const LIMIT: CertFault = CertFault::Limit;
 
 // Texts with their first fault.
-static REFUSED: [(&str, CertFault); 61] = [
+static REFUSED: [(&str, CertFault); 70] = [
     ("", HEADER),
     ("sdv-cert 1", HEADER),
     ("sdv-cert 1\r\npoints 0\n", HEADER),
-    ("sdv-cert 2\npoints 0\n", HEADER),
+    ("sdv-cert 0\npoints 0\n", HEADER),
     ("sdv-cert 3\npoints 0\n", HEADER),
     ("sdv-cert 01\npoints 0\n", HEADER),
     ("sdv-cert  1\npoints 0\n", HEADER),
@@ -139,6 +139,24 @@ static REFUSED: [(&str, CertFault); 61] = [
         SYNTAX_3,
     ),
     ("sdv-cert 1\npoints 1\nP 0 b 0 m 1 s\n", SYNTAX_3),
+    ("sdv-cert 1\npoints 1\np 0 b 0 m 1 mb 0 s\n", SYNTAX_3),
+    ("sdv-cert 1\npoints 1\np 0 b 0 m 1 v 0 0 - - s\n", SYNTAX_3),
+    ("sdv-cert 2\npoints 1\np 0 b 0 m 1 s\n", SYNTAX_3),
+    ("sdv-cert 2\npoints 1\np 0 b 0 mb 0 m 1 s\n", SYNTAX_3),
+    ("sdv-cert 2\npoints 1\np 0 b 0 m 1 mb 00 s\n", SYNTAX_3),
+    ("sdv-cert 2\npoints 1\np 0 b 0 m 1 mb - s\n", SYNTAX_3),
+    (
+        "sdv-cert 2\npoints 1\np 0 b 0 m 1 mb 1099511627777 s\n",
+        LIMIT,
+    ),
+    (
+        "sdv-cert 2\npoints 1\np 0 b 0 m 1 mb 0 v 0 0 - s\n",
+        SYNTAX_3,
+    ),
+    (
+        "sdv-cert 2\npoints 1\np 0 b 0 m 1 mb 0 s 0000000000002c00 0000000000002000\n",
+        ORDER_3,
+    ),
 ];
 
 #[test]
@@ -180,9 +198,10 @@ fn changed(alloc: Global, from: usize, to: usize, part: &str) -> Result<Vec<u8>,
 
 // Parts of the smallest certificate with what stands in their place, and what the text is refused for; nothing where it is
 // not.
-static CHANGED: [(usize, usize, &str, Option<CertFault>); 18] = [
+static CHANGED: [(usize, usize, &str, Option<CertFault>); 19] = [
     // a number that is raised by one
-    (9, 10, "2", Some(HEADER)),
+    (9, 10, "2", Some(SYNTAX_3)),
+    (9, 10, "3", Some(HEADER)),
     (18, 19, "3", Some(SYNTAX_5)),
     (22, 23, "1", Some(SYNTAX_3)),
     (26, 27, "2", None),

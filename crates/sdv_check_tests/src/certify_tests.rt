@@ -18,7 +18,7 @@ fn written(alloc: Global, script: &str) -> Result<Vec<u8>, Fail> {
 }
 
 // Scripts with their certificates.
-static CERTIFICATES: [(&str, &str); 3] = [
+static CERTIFICATES: [(&str, &str); 5] = [
     (SMALLEST, CERTIFICATE),
     // points that no run reaches
     (
@@ -41,6 +41,25 @@ p 0 b 0 m 1 v 0 0 1 v 0 0 1 s 0000000000002000 0000000000002800 0000000000002c00
 p 1 b 0 0 m 1 v 0 1099511627776 - v 3 3 - s 0000000000002000 0000000000002800 0000000000002c00
 p 2 b 0 0 m 1 v 0 1099511627776 - v 3 3 - s 0000000000002000 0000000000002800 0000000000002c00
 p 3 b 0 m 1 v 0 1099511627776 - v 3 3 - s 0000000000002000 0000000000002800 0000000000002c00
+",
+    ),
+    // nothing is said of boot partitions
+    (
+        "card emmc nums x let x = 0 fault stop",
+        "sdv-cert 1
+points 2
+p 0 b 0 m 1 v 0 0 1 s 0000000000002000 0000000000002800 0000000000002c00
+p 1 b 0 m 1 v 0 0 1 s 0000000000002000 0000000000002800 0000000000002c00
+",
+    ),
+    // their capacity is asked for, where no run comes
+    (
+        "card emmc nums x let x = 0 fault stop let x = ext.boot",
+        "sdv-cert 2
+points 3
+p 0 b 0 m 1 mb 0 v 0 0 1 0 s 0000000000002000 0000000000002800 0000000000002c00
+p 1 b 0 m 1 mb 0 v 0 0 1 0 s 0000000000002000 0000000000002800 0000000000002c00
+p 2 b 0 m 1 mb 0 v 0 1099511627776 - - s
 ",
     ),
 ];

@@ -348,3 +348,38 @@ fn other_texts(rt: HostRuntime) -> Result<(), Fail> {
     }
     Ok(())
 }
+
+// The smallest certificate in version 2.
+const VERSION_2: &str = "sdv-cert 2
+points 2
+p 0 b 1 m 1 mb 0 s 0000000000002000 0000000000002800 0000000000002c00
+p 1 b 0 m 1 mb 0 s 0000000000002000 0000000000002800 0000000000002c00
+";
+
+// The same, where it is said that each card has boot partitions.
+const WITH_BOOT: &str = "sdv-cert 2
+points 2
+p 0 b 1 m 1 mb 1 s 0000000000002000 0000000000002800 0000000000002c00
+p 1 b 0 m 1 mb 0 s 0000000000002000 0000000000002800 0000000000002c00
+";
+
+// And where that is said of the second point.
+const THEN_WITH_BOOT: &str = "sdv-cert 2
+points 2
+p 0 b 1 m 1 mb 0 s 0000000000002000 0000000000002800 0000000000002c00
+p 1 b 0 m 1 mb 1 s 0000000000002000 0000000000002800 0000000000002c00
+";
+
+#[test]
+fn version_2(rt: HostRuntime) -> Result<(), Fail> {
+    let alloc = rt.alloc();
+    let rows = [
+        (VERSION_2, Ok(1)),
+        (WITH_BOOT, Err(CheckFault::Start)),
+        (THEN_WITH_BOOT, Err(CheckFault::Number(0))),
+    ];
+    for (text, wanted) in rows {
+        assert_eq!(&rt; answered(alloc, SMALLEST, text)?, wanted, "{text}");
+    }
+    Ok(())
+}

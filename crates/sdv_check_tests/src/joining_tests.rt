@@ -26,8 +26,23 @@ fn numbers(m: u64, known: Known) -> Numbers
 {
     let (lo, hi, gap) = known;
     let mut vars = ArrayVec::new();
-    vars.push(VarFacts { lo, hi, gap });
-    Numbers { m, vars }
+    vars.push(VarFacts {
+        lo,
+        hi,
+        gap,
+        bgap: None,
+    });
+    Numbers { m, mb: 0, vars }
+}
+
+/// The same of a boot partition: its least capacity, and how far the variable stays from it.
+fn boot_numbers(mb: u64, bgap: Option<u64>) -> Numbers
+    ensures { length result.vars.items ≡ 1 }
+{
+    let mut numbers = numbers(1, ZERO);
+    numbers.mb = mb;
+    numbers.vars[0].bgap = bgap;
+    numbers
 }
 
 /// Facts with the shapes of these codes.
@@ -149,6 +164,34 @@ fn numbers_of_both(rt: HostRuntime) -> Result<(), Fail> {
         assert_eq!(&rt; changed, known != wanted, "{known:?} {carried:?}");
         facts.set_numbers(numbers(carried.0, carried.1));
         assert_eq!(&rt; facts.numbers(), more.numbers());
+    }
+    Ok(())
+}
+
+/// Whether the edge leads back to a loop's head, what is known of a boot partition, what is carried, and what is known of
+/// both then.
+static BOOT_NUMBERS: [(
+    bool,
+    (u64, Option<u64>),
+    (u64, Option<u64>),
+    (u64, Option<u64>),
+); 4] = [
+    (false, (512, Some(7)), (256, Some(8)), (256, Some(7))),
+    (false, (512, Some(7)), (512, None), (512, None)),
+    (true, (512, Some(7)), (512, Some(7)), (512, Some(7))),
+    (true, (512, Some(7)), (511, Some(6)), (0, None)),
+];
+
+#[test]
+fn boot_numbers_of_both(rt: HostRuntime) -> Result<(), Fail> {
+    let alloc = rt.alloc();
+    for &(back, known, carried, wanted) in BOOT_NUMBERS.iter() {
+        let mut facts = facts_of(alloc, &[1], boot_numbers(known.0, known.1))?;
+        let more = facts_of(alloc, &[1], boot_numbers(carried.0, carried.1))?;
+        let changed = join_facts(alloc, &mut facts, back, &more)?;
+        let both = boot_numbers(wanted.0, wanted.1);
+        assert_eq!(&rt; facts.numbers(), &both, "{known:?} {carried:?}");
+        assert_eq!(&rt; changed, known != wanted, "{known:?} {carried:?}");
     }
     Ok(())
 }

@@ -5,7 +5,7 @@ use arrayvec::ArrayVec;
 use sdv_card::Shape;
 use sdv_certify::write;
 use sdv_check::read;
-use sdv_facts::{Certificate, Facts, Numbers, PointFacts, SetTable, VarFacts};
+use sdv_facts::{Certificate, Facts, Numbers, PointFacts, SetTable, VarFacts, Version};
 use std::alloc::{AllocError, Global};
 use std::io::{self, ErrorKind};
 use std::str;
@@ -14,27 +14,33 @@ use std::test::Fail;
 const ONE_POINT: &str =
     "sdv-cert 1\npoints 1\np 0 b 6 12 8 m 10 v 0 9 - v 3 5 7 s 0000000000002c04\n";
 
-// A certificate with a point in two loops, with two variables and one shape.
+// The same in version 2, with 512 blocks of a boot partition.
+const ONE_POINT_WITH_BOOT: &str =
+    "sdv-cert 2\npoints 1\np 0 b 6 12 8 m 10 mb 512 v 0 9 - 503 v 3 5 7 - s 0000000000002c04\n";
+
+// A certificate of version 1 with a point in two loops, with two variables and one shape.
 fn one_point(alloc: Global) -> Result<Certificate, AllocError> {
     let (mut vars, mut turns) = (ArrayVec::new(), ArrayVec::new());
     vars.push(VarFacts {
         lo: 0,
         hi: 9,
         gap: None,
+        bgap: None,
     });
     vars.push(VarFacts {
         lo: 3,
         hi: 5,
         gap: Some(7),
+        bgap: None,
     });
     turns.push(12);
     turns.push(8);
     let mut table = SetTable::new(alloc);
     let set = table.intern(&[Shape(0x2c04)])?;
-    let facts = Facts::new(set, Numbers { m: 10, vars });
+    let facts = Facts::new(set, Numbers { m: 10, mb: 0, vars });
     let base = 6;
     let points = vec![in alloc; PointFacts { facts, base, turns }]?;
-    Ok(Certificate::from_points(table, points))
+    Ok(Certificate::from_points(Version::One, table, points))
 }
 
 #[test]
@@ -56,7 +62,16 @@ fn written_again(alloc: Global, text: &str) -> Result<Vec<u8>, Fail> {
 
 #[test]
 fn read_and_written_again(rt: HostRuntime) -> Result<(), Fail> {
-    for text in [ONE_POINT, CERTIFICATE, WIDE, "sdv-cert 1\npoints 0\n"] {
+    let empty = ["sdv-cert 1\npoints 0\n", "sdv-cert 2\npoints 0\n"];
+    let [first, second] = empty;
+    for text in [
+        ONE_POINT,
+        ONE_POINT_WITH_BOOT,
+        CERTIFICATE,
+        WIDE,
+        first,
+        second,
+    ] {
         let again = written_again(rt.alloc(), text)?;
         assert_eq!(rt; str::from_utf8(&again)?, text);
     }

@@ -44,7 +44,7 @@ pub record LeadsThere (g : Graph) (ps : List PointFacts) (fault : CertifyFault) 
   pub facts : PointFacts
   pub known : slice_get ps point ≡ Some facts
   pub shape : Shape
-  pub refused : IsRefusedAt fault place.action facts.facts.shapes shape
+  pub refused : IsRefusedAt fault place.action facts.facts shape
   pub is_way : IsWay g ps way point shape
 
 -- so does the way of a refusal, which is empty where none was found

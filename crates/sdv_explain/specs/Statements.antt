@@ -108,6 +108,7 @@ atom_words names (atoms.Number number) = decimal number
 atom_words names (atoms.Variable variable) = name_at names.numbers.items variable
 atom_words names atoms.CsdBlocks = codes "csd.blocks"
 atom_words names atoms.ExtBlocks = codes "ext.blocks"
+atom_words names atoms.ExtBoot = codes "ext.boot"
 
 abbrev pub change_words : Change → Text
 change_words Same = []

@@ -61,7 +61,7 @@ pub fn explain(alloc: Global, text: &str) -> Result<Explanation, ExplainFault>
 
 /// What is known at each point of a script.
 fn known_of(alloc: Global, script: &Script<'_>) -> Result<Certificate, ExplainFault>
-    ensures known { IfOk result (SurveyOf script.now) }
+    ensures known { IfOk result (λ known. SurveyOf script.now known.points) }
     ensures refused { IfErr result (λ fault. fault ≡ ExplainFault.TooMany
         → RefusedFor script.now CertifyFault.TooMany) }
     ensures others { IfErr result (λ fault. fault ≢ ExplainFault.TooMany → fault ≡ ExplainFault.Memory) }
@@ -80,7 +80,7 @@ fn explain_script(
     script: &Script<'_>,
     known: &Certificate,
 ) -> Result<Explanation, ExplainFault>
-    requires { SurveyOf script.now known.now }
+    requires { SurveyOf script.now known.now.points }
     ensures memory { IfErr result (λ fault. fault ≡ ExplainFault.Memory) }
     ensures certified { IfOk result (λ e. e.refusal ≡ None → (ps : List PointFacts) × CertificateOf script.now ps) }
     ensures refused { IfOk result (λ e. IfSome e.refusal (IsRefusal script.now)) }
@@ -127,7 +127,7 @@ fn refuse(
     fault: CertifyFault,
 ) -> Result<Refusal, AllocError>
     ensures fault { IfOk result (λ refusal. refusal.fault ≡ fault) }
-    ensures way { IfOk result (HasWay graph.now known.now) }
+    ensures way { IfOk result (HasWay graph.now known.now.points) }
 {
     let mut way = Vec::new(alloc);
     if let Some(number) = refused_point(fault) {
@@ -147,7 +147,7 @@ fn refuse_point(
     number: usize,
 ) -> Result<Vec<Visit>, AllocError>
     requires { NamesPoint fault number }
-    ensures { IfOk result (λ way. (way.items ≡ []) ⊎ LeadsThere graph.now known.now fault way.items) }
+    ensures { IfOk result (λ way. (way.items ≡ []) ⊎ LeadsThere graph.now known.now.points fault way.items) }
 {
     if graph.len() <= number {
         return Ok(Vec::new(alloc));
@@ -155,10 +155,10 @@ fn refuse_point(
     let Some(here) = known_at(known, number) else {
         return Ok(Vec::new(alloc));
     };
-    let Some(shape) = refused_shape(fault, &graph.point(number).action, here.shapes) else {
+    let Some(shape) = refused_shape(fault, &graph.point(number).action, &here) else {
         return Ok(Vec::new(alloc));
     };
-    put_refusal(words, graph, outline, fault, number, &here, shape)?;
+    put_refusal(words, graph, outline, fault, number, here.numbers, shape)?;
     let way = way_or_none(alloc, graph, known, number, shape)?;
     put_way(words, graph, outline, &way)?;
     Ok(way)
@@ -172,7 +172,7 @@ fn way_or_none(
     number: usize,
     shape: Shape,
 ) -> Result<Vec<Visit>, AllocError>
-    ensures { IfOk result (λ way. (way.items ≡ []) ⊎ IsWay graph.now known.now way.items number shape) }
+    ensures { IfOk result (λ way. (way.items ≡ []) ⊎ IsWay graph.now known.now.points way.items number shape) }
 {
     let way = match find_way(alloc, graph, known, number, shape)? {
         Some(way) => way,

@@ -17,8 +17,8 @@ pub struct Known<'c> {
 
 /// What is known of a point, if the certificate has it.
 pub fn known_at<'c>(known: &'c Certificate, point: usize) -> Option<Known<'c>>
-    ensures known { IfSome result (IsKnownAt known.now point) }
-    ensures none { IfNone result (slice_get known.now point ≡ None) }
+    ensures known { IfSome result (IsKnownAt known.now.points point) }
+    ensures none { IfNone result (slice_get known.now.points point ≡ None) }
 {
     let (table, points) = known.shown();
     let Some(found) = points.get(point) else {

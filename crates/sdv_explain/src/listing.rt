@@ -57,6 +57,16 @@ fn put_gap(text: &mut Text, gap: u64) -> Result<(), AllocError> {
     put(text, " or more from there on")
 }
 
+/// Adds what is known of the blocks of a boot partition from a number on.
+fn put_boot_gap(text: &mut Text, gap: u64) -> Result<(), AllocError> {
+    if gap == 0 {
+        return put(text, ", not beyond a boot partition's end");
+    }
+    put(text, ", with ")?;
+    put_count(text, gap, "block", "blocks")?;
+    put(text, " or more of a boot partition from there on")
+}
+
 /// Adds what is known of the value of a number variable.
 fn put_value(text: &mut Text, known: &VarFacts) -> Result<(), AllocError> {
     if known.lo == known.hi {
@@ -68,13 +78,16 @@ fn put_value(text: &mut Text, known: &VarFacts) -> Result<(), AllocError> {
         put_numbered(text, " is from ", known.lo, " to ")?;
         put_number(text, known.hi)?;
     }
-    match known.gap {
-        Some(gap) => put_gap(text, gap),
+    if let Some(gap) = known.gap {
+        put_gap(text, gap)?;
+    }
+    match known.bgap {
+        Some(gap) => put_boot_gap(text, gap),
         None => Ok(()),
     }
 }
 
-/// Adds what is known of the card's capacity and of number variables.
+/// Adds what is known of the card's capacity, of that of a boot partition, if anything is, and of number variables.
 pub fn put_numbers(
     text: &mut Text,
     numbers: &Numbers,
@@ -83,6 +96,11 @@ pub fn put_numbers(
     put(text, "the card has ")?;
     put_count(text, numbers.m, "block", "blocks")?;
     put(text, " or more")?;
+    if numbers.mb > 0 {
+        put(text, "; a boot partition has ")?;
+        put_count(text, numbers.mb, "block", "blocks")?;
+        put(text, " or more")?;
+    }
     for (known, name) in numbers.vars.as_slice().iter().zip(outline.numbers.iter()) {
         put(text, "; ")?;
         text.extend_from_slice(name)?;

@@ -1,18 +1,17 @@
 //! The refusal: which statement is refused beside which card, why, and a way there.
 
-use crate::known::Known;
 use crate::listing::{put_numbers, put_place};
 use crate::outline::Outline;
 use crate::reason::{Illegality, Reason, reason_of};
-use crate::refused::{fits_unit, is_user};
+use crate::refused::fits_unit;
 use crate::shapes::{lines_words, put_shape, state_word};
 use crate::statements::{put_address, put_seen, put_statement};
 use crate::text::{Text, pad, put, put_number, put_numbered};
 use crate::visit::Visit;
-use sdv_card::{Event, Kind, Shape};
+use sdv_card::{Event, Kind, Partition, Shape};
 use sdv_certify::CertifyFault;
 use sdv_emmc::EmmcTable;
-use sdv_facts::event_of_phase;
+use sdv_facts::{Numbers, event_of_phase};
 use sdv_graph::{Action, Address, Change, Condition, Graph, Unit};
 use sdv_sd::SdTable;
 use std::alloc::AllocError;
@@ -23,16 +22,6 @@ fn address_of<'g>(action: &'g Action<'_>) -> Option<&'g Address> {
         Action::Send(command, _, _) => command.address.as_ref(),
         _ => None,
     }
-}
-
-/// Some shape has a boot partition in access.
-fn leaves_user_area(shapes: &[Shape]) -> bool {
-    shapes.iter().any(|shape| !is_user(*shape))
-}
-
-/// The unit of an address is another than that of some shape.
-fn misses_unit(unit: Unit, shapes: &[Shape]) -> bool {
-    shapes.iter().any(|shape| !fits_unit(unit, *shape))
 }
 
 /// The event of a statement, if it makes one.
@@ -121,29 +110,40 @@ fn put_unit_rule(text: &mut Text, address: &Address, outline: &Outline) -> Resul
     }
 }
 
-/// Adds why an address does not fit.
+/// Adds that the partition in access may not have all blocks of an address.
+fn put_beyond(
+    text: &mut Text,
+    address: &Address,
+    partition: Partition,
+    numbers: &Numbers,
+    outline: &Outline,
+) -> Result<(), AllocError> {
+    match partition {
+        Partition::User => put(text, "the card may not have all blocks ")?,
+        Partition::Boot1 | Partition::Boot2 => put(
+            text,
+            "the boot partition in access may not have all blocks ",
+        )?,
+    }
+    put_address(text, address, outline)?;
+    put(text, ", for this is known: ")?;
+    if numbers.mb == 0 && partition != Partition::User {
+        put(text, "a boot partition has 0 blocks or more; ")?;
+    }
+    put_numbers(text, numbers, outline)
+}
+
+/// Adds why an address does not fit at a shape.
 fn put_misfit(
     text: &mut Text,
     action: &Action<'_>,
-    here: &Known<'_>,
+    numbers: &Numbers,
+    shape: Shape,
     outline: &Outline,
 ) -> Result<(), AllocError> {
     match address_of(action) {
-        Some(_) if leaves_user_area(here.shapes) => {
-            put(
-                text,
-                "the card may have a boot partition in access, whose capacity is not known",
-            )
-        }
-        Some(address) if misses_unit(address.unit, here.shapes) => {
-            put_unit_rule(text, address, outline)
-        }
-        Some(address) => {
-            put(text, "the card may not have all blocks ")?;
-            put_address(text, address, outline)?;
-            put(text, ", for this is known: ")?;
-            put_numbers(text, here.numbers, outline)
-        }
+        Some(address) if !fits_unit(address.unit, shape) => put_unit_rule(text, address, outline),
+        Some(address) => put_beyond(text, address, shape.partition(), numbers, outline),
         None => put(text, "it has no address"),
     }
 }
@@ -154,17 +154,18 @@ fn put_reason(
     kind: Kind,
     fault: CertifyFault,
     action: &Action<'_>,
-    here: &Known<'_>,
+    numbers: &Numbers,
+    shape: Shape,
     outline: &Outline,
 ) -> Result<(), AllocError> {
     put(text, "why: ")?;
     match fault {
-        CertifyFault::Illegal { shape, .. } => {
+        CertifyFault::Illegal { .. } => {
             if let Some(illegality) = illegality(kind, action, shape) {
                 put_illegality(text, illegality, action, outline)?;
             }
         }
-        CertifyFault::Address { .. } => put_misfit(text, action, here, outline)?,
+        CertifyFault::Address { .. } => put_misfit(text, action, numbers, shape, outline)?,
         CertifyFault::EndState { .. } => put(text, "at done the card has to be in tran state")?,
         CertifyFault::TooMany | CertifyFault::Memory => {}
     }
@@ -306,7 +307,7 @@ pub fn put_refusal(
     outline: &Outline,
     fault: CertifyFault,
     number: usize,
-    here: &Known<'_>,
+    numbers: &Numbers,
     shape: Shape,
 ) -> Result<(), AllocError> {
     if graph.len() <= number {
@@ -318,5 +319,5 @@ pub fn put_refusal(
     put(text, ", beside a card that is\n    ")?;
     put_shape(text, shape, &outline.flags)?;
     put(text, "\n")?;
-    put_reason(text, graph.kind(), fault, action, here, outline)
+    put_reason(text, graph.kind(), fault, action, numbers, shape, outline)
 }

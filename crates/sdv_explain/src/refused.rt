@@ -1,14 +1,16 @@
 //! The shape at which a refusal is explained.
 
 ghost use Rattle.std.specs.Prelude.{◌≡◌, ◌↔◌, [], ◌∷◌, IsTrue, IfSome, IfNone};
-ghost use Rattle.sdv_facts.specs.AddressFits.{is_user, unit_fits};
+ghost use Rattle.sdv_facts.specs.AddressFits.{unit_fits};
 ghost use Rattle.sdv_graph.specs.Graph.{seen_action};
-ghost use Rattle.sdv_explain.specs.Refused.{AllTake, IsMisfit, IsOtherEnd, IsRefusedAt, IsRefusedNowhere, IsUntaken, TakesAddress};
+ghost use Rattle.sdv_explain.specs.Known.{facts_here};
+ghost use Rattle.sdv_explain.specs.Refused.{AllTake, IsOtherEnd, IsRefusedAt, IsRefusedNowhere, IsUntaken, TakesAddress};
 ghost use Rattle.sdv_certify.specs.Refusal.{AllEnd};
 
+use crate::known::Known;
 use sdv_card::Shape;
 use sdv_certify::CertifyFault;
-use sdv_facts::ends_at;
+use sdv_facts::{Numbers, addresses_on_card, ends_at};
 use sdv_graph::{Action, Unit};
 
 /// The unit of an address is that of the shape.
@@ -23,49 +25,26 @@ pub fn fits_unit(unit: Unit, shape: Shape) -> bool
     }
 }
 
-/// The user area is in access.
-pub fn is_user(shape: Shape) -> bool
-    ensures { result ≡ is_user shape }
+/// Beside a card of the shape the blocks of a statement's command are known to lie in the partition in access, and are
+/// addressed in the card's unit. It is so where the command addresses none.
+#[tactic(auto, unfolding(crate::specs::Refused::TakesAddress))]
+fn takes_address(action: &Action<'_>, numbers: &Numbers, shape: Shape) -> bool
+    ensures { IsTrue result ↔ TakesAddress (seen_action action.now) numbers.now shape }
 {
-    shape.partition().number() == 0
+    addresses_on_card(&[shape], numbers, action)
 }
 
-/// A card of the shape takes the address of a statement's command as it is meant: in its unit, and with the user area in
-/// access. It is so where there is none.
-fn takes_address(action: &Action<'_>, shape: Shape) -> bool
-    ensures { IsTrue result ↔ TakesAddress (seen_action action.now) shape }
-{
-    match action {
-        Action::Send(command, _, _) => match &command.address {
-            Some(address) => is_user(shape) && fits_unit(address.unit, shape),
-            None => true,
-        },
-        _ => true,
-    }
-}
-
-/// The first shape that does not take an address.
-fn untaken(action: &Action<'_>, shapes: &[Shape]) -> Option<Shape>
-    ensures untaken { IfSome result (IsUntaken (seen_action action.now) shapes.now) }
-    ensures none { IfNone result (AllTake (seen_action action.now) shapes.now) }
+/// The first shape at which they are not.
+fn untaken(action: &Action<'_>, numbers: &Numbers, shapes: &[Shape]) -> Option<Shape>
+    ensures untaken { IfSome result (IsUntaken (seen_action action.now) numbers.now shapes.now) }
+    ensures none { IfNone result (AllTake (seen_action action.now) numbers.now shapes.now) }
 {
     for shape in shapes {
-        if !takes_address(action, *shape) {
+        if !takes_address(action, numbers, *shape) {
             return Some(*shape);
         }
     }
     None
-}
-
-/// The first shape that does not take an address, and the first of all where each takes it and the capacity is not known.
-fn unaddressed(action: &Action<'_>, shapes: &[Shape]) -> Option<Shape>
-    ensures misfit { IfSome result (IsMisfit (seen_action action.now) shapes.now) }
-    ensures none { IfNone result (shapes.now ≡ []) }
-{
-    match untaken(action, shapes) {
-        Some(shape) => Some(shape),
-        None => shapes.first().copied(),
-    }
 }
 
 /// The first shape that is not in the transfer state at `done`.
@@ -82,14 +61,14 @@ fn other_end(action: &Action<'_>, shapes: &[Shape]) -> Option<Shape>
 }
 
 /// The shape at which a point is refused.
-pub fn refused_shape(fault: CertifyFault, action: &Action<'_>, shapes: &[Shape]) -> Option<Shape>
-    ensures shape { IfSome result (IsRefusedAt fault (seen_action action.now) shapes.now) }
-    ensures none { IfNone result (IsRefusedNowhere fault (seen_action action.now) shapes.now) }
+pub fn refused_shape(fault: CertifyFault, action: &Action<'_>, here: &Known<'_>) -> Option<Shape>
+    ensures shape { IfSome result (IsRefusedAt fault (seen_action action.now) (facts_here here.now)) }
+    ensures none { IfNone result (IsRefusedNowhere fault (seen_action action.now) (facts_here here.now)) }
 {
     match fault {
         CertifyFault::Illegal { shape, .. } => Some(shape),
-        CertifyFault::Address { .. } => unaddressed(action, shapes),
-        CertifyFault::EndState { .. } => other_end(action, shapes),
+        CertifyFault::Address { .. } => untaken(action, here.numbers, here.shapes),
+        CertifyFault::EndState { .. } => other_end(action, here.shapes),
         CertifyFault::TooMany | CertifyFault::Memory => None,
     }
 }

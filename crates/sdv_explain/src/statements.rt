@@ -163,6 +163,7 @@ fn put_atom(text: &mut Text, atom: Atom, outline: &Outline) -> Result<(), AllocE
         Atom::Variable(variable) => put_name(text, &outline.numbers, variable),
         Atom::CsdBlocks => put(text, "csd.blocks"),
         Atom::ExtBlocks => put(text, "ext.blocks"),
+        Atom::ExtBoot => put(text, "ext.boot"),
     }
 }
 

@@ -182,7 +182,7 @@ static REFUSED: [(&str, &str, &str, &str); 15] = [
         EMMC_FRONT,
         "send 16 { clean { } else { fault len } } send 6 part.access 1 { clean { } else { fault sw } } loop 100 { wait { ok { break } else { } } } else { fault busy } send 13 { clean & state=tran { } else { fault sw } } send 17 at by hc 0 { else { } } done",
         "line 8, point 24: CMD17 at by hc 0, beside a card that is",
-        "why: the card may have a boot partition in access, whose capacity is not known",
+        "why: the boot partition in access may not have all blocks at by hc 0, for this is known: a boot partition has 0 blocks or more; the card has 1 block or more",
     ),
 ];
 

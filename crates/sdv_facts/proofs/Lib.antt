@@ -1,5 +1,6 @@
 pub mod AddressLaws
 pub mod ArgumentLaws
+pub mod BootLaws
 pub mod EdgeLaws
 pub mod FlagLaws
 mod GapLaws

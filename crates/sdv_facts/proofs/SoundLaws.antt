@@ -5,7 +5,7 @@ use Rattle.std.proofs.lemmas.List.Elements.{All-set}
 use Rattle.sdv_registers.specs.declared.kind.Kind.{Kind}
 use Rattle.sdv_graph.specs.declared.tree.Let.{Let}
 use Rattle.sdv_graph.specs.declared.tree.Atom.{Atom}
-use Rattle.sdv_graph.specs.declared.tree.Atom.TheVariants.{Number, Variable, CsdBlocks, ExtBlocks}
+use Rattle.sdv_graph.specs.declared.tree.Atom.TheVariants.{Number, Variable, CsdBlocks, ExtBlocks, ExtBoot}
 use Rattle.sdv_graph.specs.declared.tree.Change.{Change}
 use Rattle.sdv_graph.specs.declared.tree.Change.TheVariants.{Same, Plus, Minus}
 use Rattle.sdv_facts.specs.declared.test.Test.{Test}
@@ -17,7 +17,7 @@ use Rattle.sdv_facts.specs.Limits.{IsInLimits, AtomInLimits, VarInLimits, Number
 use Rattle.sdv_facts.specs.Gaps.{gap_less, gap_more}
 use Rattle.sdv_facts.specs.Joins.{NumbersSound}
 use Rattle.sdv_facts.specs.AfterLet.{csd_tells, ext_csd_tells, register_facts, atom_facts, changed_facts, after_let}
-use Rattle.sdv_facts.specs.AfterTest.{least_by, raised, lowered, after_test}
+use Rattle.sdv_facts.specs.AfterTest.{least_by, raised, lowered, raised_by, after_test}
 use Rattle.sdv_facts.specs.Start.{start_var, start_numbers}
 
 -- the first one, and the others
@@ -32,17 +32,17 @@ all_of P v vs p s zero d h = p
 all_of P v vs p s (suc k) d h = s k d (omega arith)
 
 weakest_small : VarInLimits weakest
-weakest_small = record { lo = omega arith; hi = omega arith; gap = tt }
+weakest_small = record { lo = omega arith; hi = omega arith; gap = tt; bgap = tt }
 
 at_small : (vs : List VarFacts) (x : ℕ) → All VarInLimits vs → VarInLimits (get_or vs x weakest)
 at_small [] x s = weakest_small
 at_small (v ∷ vs) zero s = first_of VarInLimits v vs s
 at_small (v ∷ vs) (suc x) s = at_small vs x (others_of VarInLimits v vs s)
 
-with_sound : (n : ℕ) (ns : Numbers) (x m : ℕ) (v : VarFacts) → NumbersSound n ns → VarInLimits v → 1 ≤ m → m ≤ 2 ^ 40
-    → NumbersSound n (record (with_var ns x v) { m = m })
-with_sound n ns x m v s t h l = record {
-  limits = record { m = l; vars = All-set VarInLimits ns.vars.items x v t s.limits.vars };
+with_sound : (n : ℕ) (ns : Numbers) (x m mb : ℕ) (v : VarFacts) → NumbersSound n ns → VarInLimits v → 1 ≤ m → m ≤ 2 ^ 40 → mb ≤ 2 ^ 40
+    → NumbersSound n (record (with_var ns x v) { m = m; mb = mb })
+with_sound n ns x m mb v s t h l lb = record {
+  limits = record { m = l; mb = lb; vars = All-set VarInLimits ns.vars.items x v t s.limits.vars };
   some = h;
   many = length-set ns.vars.items x v ∙ s.many;
 }
@@ -60,23 +60,30 @@ more_small None k = tt
 more_small (Some g) k = omega arith
 
 register_small : (b : Bool) (m : ℕ) → m ≤ 2 ^ 40 → VarInLimits (register_facts b m)
-register_small true m h = record { lo = h; hi = omega arith; gap = omega arith }
-register_small false m h = record { lo = omega arith; hi = omega arith; gap = tt }
+register_small true m h = record { lo = h; hi = omega arith; gap = omega arith; bgap = tt }
+register_small false m h = record { lo = omega arith; hi = omega arith; gap = tt; bgap = tt }
 
 atom_small : (k : Kind) (known : Facts) (a : Atom) → AtomInLimits a → NumbersInLimits known.numbers → VarInLimits (atom_facts k known a)
-atom_small k known (Number n) h s = record { lo = h; hi = h; gap = less_small (Some known.numbers.m) n s.m }
+atom_small k known (Number n) h s =
+    record { lo = h; hi = h; gap = less_small (Some known.numbers.m) n s.m; bgap = less_small (Some known.numbers.mb) n s.mb }
 atom_small k known (Variable y) h s = at_small known.numbers.vars.items y s.vars
 atom_small k known CsdBlocks h s = register_small (csd_tells k known.shapes) known.numbers.m s.m
 atom_small k known ExtBlocks h s = register_small (ext_csd_tells known.shapes) known.numbers.m s.m
+atom_small k known ExtBoot h s = record { lo = s.mb; hi = omega arith; gap = tt; bgap = omega arith }
 
 plus_small : (b : Bool) (v : VarFacts) (k : ℕ) → (b ≡ true → v.lo + k ≤ 2 ^ 40) → VarInLimits v
-    → IfSome (cond b (Some (record { lo = v.lo + k; hi = min (v.hi + k) (2 ^ 40); gap = gap_less v.gap k })) None) VarInLimits
-plus_small true v k h s = record { lo = h refl; hi = omega arith; gap = less_small v.gap k s.gap }
+    → IfSome (cond b (Some (record { lo = v.lo + k; hi = min (v.hi + k) (2 ^ 40); gap = gap_less v.gap k; bgap = gap_less v.bgap k })) None) VarInLimits
+plus_small true v k h s = record { lo = h refl; hi = omega arith; gap = less_small v.gap k s.gap; bgap = less_small v.bgap k s.bgap }
 plus_small false v k h s = tt
 
 minus_small : (b : Bool) (v : VarFacts) (k : ℕ) → VarInLimits v
-    → IfSome (cond b (Some (record { lo = v.lo - k; hi = v.hi - k; gap = gap_more v.gap k })) None) VarInLimits
-minus_small true v k s = record { lo = (let l = s.lo in omega arith); hi = (let l = s.hi in omega arith); gap = more_small v.gap k }
+    → IfSome (cond b (Some (record { lo = v.lo - k; hi = v.hi - k; gap = gap_more v.gap k; bgap = gap_more v.bgap k })) None) VarInLimits
+minus_small true v k s = record {
+  lo = (let l = s.lo in omega arith);
+  hi = (let l = s.hi in omega arith);
+  gap = more_small v.gap k;
+  bgap = more_small v.bgap k;
+}
 minus_small false v k s = tt
 
 le_true : (x y : ℕ) → nat_le x y ≡ true → x ≤ y
@@ -90,7 +97,7 @@ changed_small (Minus k) v s = minus_small (nat_le k v.hi) v k s
 set_sound : (n : ℕ) (ns : Numbers) (x : ℕ) (o : Option VarFacts) → NumbersSound n ns → IfSome o VarInLimits
     → IfSome (Rattle.std.specs.Option.option_map (λ v. with_var ns x v) o) (NumbersSound n)
 set_sound n ns x None s h = tt
-set_sound n ns x (Some v) s h = with_sound n ns x ns.m v s h s.some s.limits.m
+set_sound n ns x (Some v) s h = with_sound n ns x ns.m ns.mb v s h s.some s.limits.m s.limits.mb
 
 pub let_sound : (k : Kind) (known : Facts) (l : Let) (n : ℕ) → AtomInLimits l.atom → NumbersSound n known.numbers
     → IfSome (after_let k known l) (NumbersSound n)
@@ -105,18 +112,19 @@ least_more None lo m h = h
 least_more (Some g) lo m h = omega arith
 
 at_least_sound : (b : Bool) (n : ℕ) (ns : Numbers) (x k : ℕ) → (b ≡ true → k ≤ (var ns x).hi) → NumbersSound n ns
-    → IfSome (cond b (Some (record (with_var ns x (raised (var ns x) k)) { m = least_by (var ns x).gap (max (var ns x).lo k) ns.m })) None) (NumbersSound n)
+    → IfSome (cond b (Some (raised_by ns x k)) None) (NumbersSound n)
 at_least_sound true n ns x k h s =
     let v = at_small ns.vars.items x s.limits.vars in
-    with_sound n ns x _ (raised (var ns x) k) s (record { lo = (let e = h refl in omega (arith, e, v.lo, v.hi)); hi = v.hi; gap = v.gap })
-    (least_more (var ns x).gap (max (var ns x).lo k) ns.m s.some) (least_small (var ns x).gap (max (var ns x).lo k) ns.m s.limits.m)
+    let lo = max (var ns x).lo k in
+    with_sound n ns x _ _ (raised (var ns x) k) s (record { lo = (let e = h refl in omega (arith, e, v.lo, v.hi)); hi = v.hi; gap = v.gap; bgap = v.bgap })
+    (least_more (var ns x).gap lo ns.m s.some) (least_small (var ns x).gap lo ns.m s.limits.m) (least_small (var ns x).bgap lo ns.mb s.limits.mb)
 at_least_sound false n ns x k h s = tt
 
 below_sound : (b : Bool) (n : ℕ) (ns : Numbers) (x k : ℕ) → NumbersSound n ns
     → IfSome (cond b (Some (with_var ns x (lowered (var ns x) k))) None) (NumbersSound n)
 below_sound true n ns x k s =
     let v = at_small ns.vars.items x s.limits.vars in
-    with_sound n ns x ns.m (lowered (var ns x) k) s (record { lo = v.lo; hi = omega (arith, v.hi); gap = v.gap }) s.some s.limits.m
+    with_sound n ns x ns.m ns.mb (lowered (var ns x) k) s (record { lo = v.lo; hi = omega (arith, v.hi); gap = v.gap; bgap = v.bgap }) s.some s.limits.m s.limits.mb
 below_sound false n ns x k s = tt
 
 pub test_sound : (ns : Numbers) (t : Test) (n : ℕ) → NumbersSound n ns → IfSome (after_test ns t) (NumbersSound n)
@@ -125,11 +133,11 @@ test_sound ns (Below x k) n s = below_sound (nat_lt (var ns x).lo k) n ns x k s
 
 start_small : (n : ℕ) → All VarInLimits (replicate n start_var)
 start_small zero = λ k d h. absurd (omega arith)
-start_small (suc n) = all_of VarInLimits start_var (replicate n start_var) (record { lo = omega arith; hi = omega arith; gap = omega arith }) (start_small n)
+start_small (suc n) = all_of VarInLimits start_var (replicate n start_var) (record { lo = omega arith; hi = omega arith; gap = omega arith; bgap = omega arith }) (start_small n)
 
 start_many : (n : ℕ) → length (replicate n start_var) ≡ n
 start_many zero = refl
 start_many (suc n) = ap suc (start_many n)
 
 pub start_sound : (n : ℕ) → NumbersSound n (start_numbers n)
-start_sound n = record { limits = record { m = omega arith; vars = start_small n }; some = omega arith; many = start_many n }
+start_sound n = record { limits = record { m = omega arith; mb = omega arith; vars = start_small n }; some = omega arith; many = start_many n }

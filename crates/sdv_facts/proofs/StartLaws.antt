@@ -2,6 +2,7 @@
 use Rattle.std.proofs.Common.{◌≡◌, ℕ, ◌≤◌, inl, inr, replicate, sym, ◌∙◌, subst, arith}
 use Rattle.std.proofs.lemmas.Bool.{cases_lt}
 use Rattle.std.proofs.lemmas.List.{get_or-replicate, get_or_past, length-replicate}
+use Rattle.sdv_card.specs.Card.{Card}
 use Rattle.sdv_card.specs.Profile.{host_at_start}
 use Rattle.sdv_facts.specs.Facts.{weakest, var}
 use Rattle.sdv_facts.specs.FactsHold.{VarHolds}
@@ -15,20 +16,21 @@ is_zero n x =
       | inr le ↦ get_or_past (replicate n 0) x 0 (subst (λ m. m ≤ x) (sym (length-replicate n 0)) le)
     ]
 
-known_of_zero : (n x capacity : ℕ) → 1 ≤ capacity → VarHolds capacity (var (start_numbers n) x) 0
-known_of_zero n x capacity least =
+known_of_zero : (n x : ℕ) (c : Card) → 1 ≤ c.capacity → VarHolds c (var (start_numbers n) x) 0
+known_of_zero n x c least =
     elim (cases_lt x n) [
-      | inl lt ↦ subst (λ v. VarHolds capacity v 0) (sym (get_or-replicate n x start_var weakest lt))
-          (record { low = omega arith; high = omega arith; gap = least })
+      | inl lt ↦ subst (λ v. VarHolds c v 0) (sym (get_or-replicate n x start_var weakest lt))
+          (record { low = omega arith; high = omega arith; gap = least; bgap = omega arith })
       | inr le ↦
           let past : var (start_numbers n) x ≡ weakest =
           get_or_past (replicate n start_var) x weakest (subst (λ m. m ≤ x) (sym (length-replicate n start_var)) le) in
-          subst (λ v. VarHolds capacity v 0) (sym past) (record { low = omega arith; high = omega arith; gap = tt })
+          subst (λ v. VarHolds c v 0) (sym past) (record { low = omega arith; high = omega arith; gap = tt; bgap = tt })
     ]
 
 pub start_holds : (n : ℕ) → HoldAtStart n (start_numbers n)
 start_holds n c profile = record {
   least = profile.least;
+  least_boot = omega arith;
   many = length-replicate n 0 ∙ sym (length-replicate n start_var);
-  each = λ x. subst (λ v. VarHolds c.capacity (var (start_numbers n) x) v) (sym (is_zero n x)) (known_of_zero n x c.capacity profile.least);
+  each = λ x. subst (λ v. VarHolds c (var (start_numbers n) x) v) (sym (is_zero n x)) (known_of_zero n x c profile.least);
 }

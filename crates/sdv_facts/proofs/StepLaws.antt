@@ -56,6 +56,7 @@ use Rattle.sdv_graph.specs.Path.{Case, Action, sends, phases, lets, tests, flags
 use Rattle.sdv_graph.specs.Counts.{max_number}
 use Rattle.sdv_graph.specs.ValueOfLet.{value_of_let, with_number, number}
 use Rattle.sdv_graph.specs.Walk.{command_deed, phase_deed, Fell, Broke, Finished, Failed, Open, Ending}
+use Rattle.sdv_facts.specs.declared.numbers.VarFacts.{VarFacts}
 use Rattle.sdv_facts.specs.declared.numbers.Numbers.{Numbers}
 use Rattle.sdv_facts.specs.declared.test.Test.{Test}
 use Rattle.sdv_facts.specs.declared.test.Test.TheVariants.{AtLeast, Below}
@@ -66,7 +67,7 @@ use Rattle.sdv_facts.specs.Beside.{commands_in}
 use Rattle.sdv_facts.specs.Bounds.{bound, commands_of}
 use Rattle.sdv_facts.specs.Closed.{PointsMatch, PointClosed, Closed, AddressKnown, EndsAt}
 use Rattle.sdv_facts.specs.Edges.{EachOutcome, EachTest, EachCondition, EachEdge, event_of_phase, well_or}
-use Rattle.sdv_facts.specs.FactsHold.{VarHolds, NumbersHold, FactsHold, Carries}
+use Rattle.sdv_facts.specs.FactsHold.{GapHolds, VarHolds, NumbersHold, FactsHold, Carries}
 use Rattle.sdv_facts.specs.Keeps.{MayStandIn, IsHonest}
 use Rattle.sdv_facts.specs.Stands.{GuardsSuit, CasesSuit, ActionSuits, EachActionSuits, Arrived, HaltsWell, MovesWell, PointsStepWell, StepsWell}
 use Rattle.sdv_facts.proofs.AddressLaws.{on_card}
@@ -159,11 +160,17 @@ honest_after k laws e c h returned u fine honest step =
       sound = laws.steps_keep_sound e c h returned u fine.pair fine.made fine.legal step honest.sound;
     }
 
-numbers_kept : (ns : Numbers) (c u : Card) (h h' : Host) → c.capacity ≡ u.capacity → h'.numbers ≡ h.numbers → NumbersHold ns c h → NumbersHold ns u h'
-numbers_kept ns c u h h' size same holds = record {
+var_kept : (c u : Card) (v : VarFacts) (x : ℕ) → c.capacity ≡ u.capacity → c.boot_capacity ≡ u.boot_capacity → VarHolds c v x → VarHolds u v x
+var_kept c u v x size boot h =
+    record { low = h.low; high = h.high; gap = subst (λ n. GapHolds v.gap x n) size h.gap; bgap = subst (λ n. GapHolds v.bgap x n) boot h.bgap }
+
+numbers_kept : (ns : Numbers) (c u : Card) (h h' : Host) → c.capacity ≡ u.capacity → c.boot_capacity ≡ u.boot_capacity → h'.numbers ≡ h.numbers
+    → NumbersHold ns c h → NumbersHold ns u h'
+numbers_kept ns c u h h' size boot same holds = record {
   least = subst (λ n. ns.m ≤ n) size holds.least;
+  least_boot = subst (λ n. ns.mb ≤ n) boot holds.least_boot;
   many = ap length same ∙ holds.many;
-  each = λ x. subst (λ n. VarHolds n (var ns x) (number h' x)) size (subst (λ l. VarHolds c.capacity (var ns x) (slice_index l x)) (sym same) (holds.each x));
+  each = λ x. var_kept c u (var ns x) (number h' x) size boot (subst (λ l. VarHolds c (var ns x) (slice_index l x)) (sym same) (holds.each x));
 }
 
 -- ADDRESSES
@@ -289,7 +296,7 @@ module _ (g : Graph) (ps : List PointFacts) (laws : Laws g.kind) (points : Point
             subst (λ n. Arrived g ps (bound p ts) n (arrive (way_of k ways other returned) ts h') u) cost
             (arrives place p Same (way_of k ways other returned) (shape u h') p.facts.numbers r ts ts at.box refl u h' refl
             (ap length (numbers_same k e returned h) ∙ many_of place p ts c h at)
-            (numbers_kept p.facts.numbers c u h h' same.capacity (numbers_same k e returned h) at.holds.numbers)
+            (numbers_kept p.facts.numbers c u h h' same.capacity same.boot_capacity (numbers_same k e returned h) at.holds.numbers)
             (record {
               pair = after;
               profile = profile_kept c u k h' after same at.honest.profile;
@@ -498,7 +505,7 @@ module _ (g : Graph) (ps : List PointFacts) (laws : Laws g.kind) (points : Point
       let h' : Host = with_flag h flag on in
       let same = pair_with_flag g.kind c h flag on at.honest.pair suit in
       arrives place p Same t (with_flag_shown (shape c h) flag on) p.facts.numbers edge ts ts at.box refl c h' same (many_of place p ts c h at)
-      (record { least = at.holds.numbers.least; many = at.holds.numbers.many; each = at.holds.numbers.each })
+      (record { least = at.holds.numbers.least; least_boot = at.holds.numbers.least_boot; many = at.holds.numbers.many; each = at.holds.numbers.each })
       (record {
         pair = record {
           kind = at.honest.pair.kind;
@@ -516,7 +523,7 @@ module _ (g : Graph) (ps : List PointFacts) (laws : Laws g.kind) (points : Point
       let h' : Host = with_lines h width in
       let same = pair_with_lines g.kind c h width at.honest.pair in
       arrives place p Same t (with_lines_shown (shape c h) width) p.facts.numbers edge ts ts at.box refl c h' same (many_of place p ts c h at)
-      (record { least = at.holds.numbers.least; many = at.holds.numbers.many; each = at.holds.numbers.each })
+      (record { least = at.holds.numbers.least; least_boot = at.holds.numbers.least_boot; many = at.holds.numbers.many; each = at.holds.numbers.each })
       (record {
         pair = record {
           kind = at.honest.pair.kind;

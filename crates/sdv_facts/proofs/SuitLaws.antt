@@ -43,6 +43,7 @@ atom_at Sd (atoms.Number n) e = tt
 atom_at Sd (atoms.Variable x) e = tt
 atom_at Sd atoms.CsdBlocks e = tt
 atom_at Sd atoms.ExtBlocks e = absurd (cc)
+atom_at Sd atoms.ExtBoot e = absurd (cc)
 atom_at Emmc a e = tt
 
 action_at : (k : Kind) (action : Action) → action_suits k action ≡ true → action_keeps_limits action ≡ true → ActionSuits k action

@@ -1,15 +1,13 @@
 -- What every shape of a list says of the unit, a card with one of these shapes says.
-use Rattle.std.proofs.Common.{◌≡◌, refl, ℕ, List, [], ◌∷◌, inl, inr, ap, subst, Bool, true, false, not, ◌&&◌, ◌==◌}
+use Rattle.std.proofs.Common.{◌≡◌, refl, ℕ, List, [], ◌∷◌, inl, inr, ap, subst, Bool, true, false, not, ◌&&◌}
 use Rattle.sdv_registers.specs.declared.kind.Kind.{Kind}
 use Rattle.sdv_card.specs.Lists.{May, IsOneOf, all}
-use Rattle.sdv_card.specs.Modes.{partition_number}
 use Rattle.sdv_card.specs.Card.{Card}
 use Rattle.sdv_card.specs.Host.{Host}
 use Rattle.sdv_card.specs.Code.{digits}
 use Rattle.sdv_card.specs.Shapes.{view, pair_code, IsPair}
 use Rattle.sdv_card.proofs.Digits.{digits_law}
-use Rattle.sdv_card.specs.ShapeBits.{has_block_addresses, is_flag_set, has_flag}
-use Rattle.sdv_facts.specs.AddressFits.{is_user}
+use Rattle.sdv_card.specs.ShapeBits.{has_block_addresses, partition_shown, is_flag_set, has_flag}
 
 pub both : (a b : Bool) → a && b ≡ true → (a ≡ true) × (b ≡ true)
 both true b e = (refl, e)
@@ -34,8 +32,8 @@ module _ (k : Kind) (c : Card) (h : Host) (pair : IsPair k c h) where
   pub unit_shown : has_block_addresses (record { 0 = pair_code c h }) ≡ c.block_unit
   unit_shown = ap (λ f. f.block_unit) shown
 
-  pub user_shown : is_user (record { 0 = pair_code c h }) ≡ (partition_number c.mode.partition == 0)
-  user_shown = ap (λ f. partition_number f.mode.partition == 0) shown
+  pub access_shown : partition_shown (record { 0 = pair_code c h }) ≡ c.mode.partition
+  access_shown = ap (λ f. f.mode.partition) shown
 
   pub flag_shown : (flag : ℕ) → has_flag (record { 0 = pair_code c h }) flag ≡ is_flag_set h.flags flag
   flag_shown flag = ap (λ f. is_flag_set f.flags flag) shown

@@ -26,11 +26,15 @@ raised v k = record v { lo = max v.lo k }
 abbrev pub lowered : VarFacts → ℕ → VarFacts
 lowered v k = record v { hi = min v.hi (k - 1) }
 
+-- it does so of the user area and of a boot partition
+abbrev pub raised_by : Numbers → (x k : ℕ) → Numbers
+raised_by ns x k = record (with_var ns x (raised (var ns x) k)) {
+  m = least_by (var ns x).gap (max (var ns x).lo k) ns.m;
+  mb = least_by (var ns x).bgap (max (var ns x).lo k) ns.mb;
+}
+
 -- the numbers that are carried; none where there is no edge
 abbrev pub after_test : Numbers → Test → Option Numbers
-after_test ns (AtLeast x k) =
-    if nat_le k (var ns x).hi
-    then Some (record (with_var ns x (raised (var ns x) k)) { m = least_by (var ns x).gap (max (var ns x).lo k) ns.m })
-    else None
+after_test ns (AtLeast x k) = if nat_le k (var ns x).hi then Some (raised_by ns x k) else None
 after_test ns (Below x k) =
     if nat_lt (var ns x).lo k then Some (with_var ns x (lowered (var ns x) k)) else None

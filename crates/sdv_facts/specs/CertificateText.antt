@@ -8,9 +8,13 @@ use Rattle.std.specs.Int.{w64, to_be_bytes}
 use Rattle.std.specs.List.{AllByRecursion}
 use Rattle.hex.specs.Hex.{encode_lower}
 use Rattle.sdv_card.specs.declared.shape.Shape.{Shape}
+use Rattle.sdv_facts.specs.declared.certificate.Version.{Version}
+use Rattle.sdv_facts.specs.declared.certificate.Version.TheVariants.{One, Two}
 use Rattle.sdv_facts.specs.declared.numbers.VarFacts.{VarFacts}
-use Rattle.sdv_facts.specs.Facts.{AreRising, PointFacts}
+use Rattle.sdv_facts.specs.declared.numbers.Numbers.{Numbers}
+use Rattle.sdv_facts.specs.Facts.{AreRising, PointFacts, Certificate}
 use Rattle.sdv_facts.specs.Limits.{PointInLimits}
+use Rattle.sdv_facts.specs.Versions.{FitsVersion}
 
 -- ITEMS
 
@@ -22,9 +26,19 @@ abbrev pub gap_written : Option ℕ → List ℕ → List ℕ
 gap_written None others = codes " -" ++ others
 gap_written (Some gap) others = number_written gap others
 
+-- what version 2 says of boot partitions, and version 1 does not
+abbrev pub boot_gap_written : Version → Option ℕ → List ℕ → List ℕ
+boot_gap_written One gap others = others
+boot_gap_written Two gap others = gap_written gap others
+
+abbrev pub boot_written : Version → ℕ → List ℕ → List ℕ
+boot_written One mb others = others
+boot_written Two mb others = codes " mb" ++ number_written mb others
+
 -- what is known of a number variable
-abbrev pub var_written : VarFacts → List ℕ → List ℕ
-var_written v others = codes " v" ++ number_written v.lo (number_written v.hi (gap_written v.gap others))
+abbrev pub var_written : Version → VarFacts → List ℕ → List ℕ
+var_written version v others =
+    codes " v" ++ number_written v.lo (number_written v.hi (gap_written v.gap (boot_gap_written version v.bgap others)))
 
 abbrev pub shape_written : Shape → List ℕ → List ℕ
 shape_written s others = 32 ∷ (encode_lower (to_be_bytes w64 s.0) ++ others)
@@ -36,23 +50,32 @@ each_written written (x ∷ xs) others = written x (each_written written xs othe
 
 -- LINES
 
--- p I b BASE C1 .. Ck m M v LO HI GAP .. s SHAPE SHAPE ..
-abbrev pub point_written : (place : ℕ) → PointFacts → List ℕ → List ℕ
-point_written place p others =
+-- version 1: p I b BASE C1 .. Ck m M v LO HI GAP .. s SHAPE SHAPE ..
+-- version 2: p I b BASE C1 .. Ck m M mb MB v LO HI GAP BGAP .. s SHAPE SHAPE ..
+abbrev pub numbers_written : Version → Numbers → List ℕ → List ℕ
+numbers_written version ns others =
+    codes " m" ++ number_written ns.m (boot_written version ns.mb (each_written (var_written version) ns.vars.items others))
+
+abbrev pub point_written : Version → (place : ℕ) → PointFacts → List ℕ → List ℕ
+point_written version place p others =
     codes "p" ++ number_written place (
     codes " b" ++ number_written p.base (each_written number_written p.turns.items (
-    codes " m" ++ number_written p.facts.numbers.m (each_written var_written p.facts.numbers.vars.items (
-    codes " s" ++ each_written shape_written p.facts.shapes (10 ∷ others))))))
+    numbers_written version p.facts.numbers (
+    codes " s" ++ each_written shape_written p.facts.shapes (10 ∷ others)))))
 
 -- the points from this place on, one on each line
-abbrev pub points_written : (place : ℕ) → List PointFacts → List ℕ
-points_written place [] = []
-points_written place (p ∷ ps) = point_written place p (points_written (suc place) ps)
+abbrev pub points_written : Version → (place : ℕ) → List PointFacts → List ℕ
+points_written version place [] = []
+points_written version place (p ∷ ps) = point_written version place p (points_written version (suc place) ps)
+
+abbrev pub version_written : Version → List ℕ
+version_written One = codes "sdv-cert 1\n"
+version_written Two = codes "sdv-cert 2\n"
 
 -- THE TEXT of a certificate
-abbrev pub text_of : List PointFacts → List ℕ
-text_of points = codes "sdv-cert 1\n" ++ (codes "points" ++ number_written (length points)
-    (10 ∷ points_written 0 points))
+abbrev pub text_of : Certificate → List ℕ
+text_of c = version_written c.version ++ (codes "points" ++ number_written (length c.points)
+    (10 ∷ points_written c.version 0 c.points))
 
 -- LIMITS
 
@@ -77,8 +100,9 @@ pub record PointFits (p : PointFacts) : Type 0 where
   pub rising : AreRising p.facts.shapes
   pub words : All (λ s. s.0 < 2 ^ 64) p.facts.shapes
 
-pub record WithinLimits (certificate : List PointFacts) : Type 0 where
+pub record WithinLimits (certificate : Certificate) : Type 0 where
   pub bytes : length (text_of certificate) ≤ max_bytes
-  pub points : length certificate ≤ max_points
-  pub shapes : shape_count certificate ≤ max_shapes
-  pub each : AllByRecursion PointFits certificate
+  pub points : length certificate.points ≤ max_points
+  pub shapes : shape_count certificate.points ≤ max_shapes
+  pub each : AllByRecursion PointFits certificate.points
+  pub version : All (FitsVersion certificate.version) certificate.points

@@ -15,8 +15,10 @@ pub record VarCovers (target carried : VarFacts) : Type 0 where
   pub low : target.lo ≤ carried.lo
   pub high : carried.hi ≤ target.hi
   pub gap : GapCovers target.gap carried.gap
+  pub bgap : GapCovers target.bgap carried.bgap
 
 -- a target covers what is carried
 pub record Covers (target carried : Numbers) : Type 0 where
   pub least : target.m ≤ carried.m
+  pub least_boot : target.mb ≤ carried.mb
   pub each : (x : ℕ) → x < length target.vars.items → VarCovers (var target x) (var carried x)

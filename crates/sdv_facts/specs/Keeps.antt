@@ -12,7 +12,7 @@ use Rattle.sdv_card.specs.Shapes.{IsPair}
 use Rattle.sdv_graph.specs.declared.tree.Address.{Address}
 use Rattle.sdv_graph.specs.declared.tree.Let.{Let}
 use Rattle.sdv_graph.specs.declared.tree.Atom.{Atom}
-use Rattle.sdv_graph.specs.declared.tree.Atom.TheVariants.{ExtBlocks}
+use Rattle.sdv_graph.specs.declared.tree.Atom.TheVariants.{ExtBlocks, ExtBoot}
 use Rattle.sdv_facts.specs.declared.numbers.Numbers.{Numbers}
 use Rattle.sdv_facts.specs.declared.test.Test.{Test}
 use Rattle.sdv_facts.specs.Facts.{Facts}
@@ -21,9 +21,10 @@ use Rattle.sdv_graph.specs.ValueOfLet.{value_of_let, with_number}
 use Rattle.sdv_graph.specs.AddressSent.{position_of, address_sent}
 use Rattle.sdv_facts.specs.AfterTest.{TestHolds}
 
--- a script for an SD card has no `ext.blocks`
+-- a script for an SD card has no `ext.blocks` and no `ext.boot`
 abbrev pub MayStandIn : Kind → Atom → Type 0
 MayStandIn Sd ExtBlocks = ⊥
+MayStandIn Sd ExtBoot = ⊥
 MayStandIn k atom = Unit {0}
 
 -- a card of the profile beside its host, which knows nothing wrong of it

@@ -1,5 +1,6 @@
 pub mod Facts
 pub mod Limits
+pub mod Versions
 pub mod CertificateText
 pub mod FactsHold
 pub mod Start

@@ -20,9 +20,11 @@ pub record VarInLimits (v : VarFacts) : Type 0 where
   pub lo : IsInLimits v.lo
   pub hi : IsInLimits v.hi
   pub gap : IfSome v.gap IsInLimits
+  pub bgap : IfSome v.bgap IsInLimits
 
 pub record NumbersInLimits (ns : Numbers) : Type 0 where
   pub m : IsInLimits ns.m
+  pub mb : IsInLimits ns.mb
   pub vars : All VarInLimits ns.vars.items
 
 pub record PointInLimits (p : PointFacts) : Type 0 where

@@ -3,7 +3,8 @@
 use Rattle.std.specs.Prelude.{◌<◌, List, length, map, All, Contains}
 use Rattle.sdv_card.specs.declared.shape.Shape.{Shape}
 use Rattle.sdv_facts.specs.declared.certificate.PointFacts.{PointFacts as SharedPoint}
-use Rattle.sdv_facts.specs.Facts.{Facts, SharedFacts, PointFacts, facts_with}
+use Rattle.sdv_facts.specs.declared.certificate.Version.{Version}
+use Rattle.sdv_facts.specs.Facts.{Facts, SharedFacts, PointFacts, Certificate, facts_with}
 use Rattle.sdv_facts.specs.Limits.{PointInLimits}
 use Rattle.sdv_facts.specs.SharedSets.{members}
 
@@ -16,6 +17,9 @@ point_in sets p = record { facts = facts_in sets p.facts; base = p.base; turns =
 
 abbrev pub points_in : List (List Shape) → List SharedPoint → List PointFacts
 points_in sets ps = map (point_in sets) ps
+
+abbrev pub certificate_in : List (List Shape) → Version → List SharedPoint → Certificate
+certificate_in sets version ps = record { version = version; points = points_in sets ps }
 
 -- the point names a set of the table
 abbrev pub IsNamed : List (List Shape) → SharedPoint → Type 0

@@ -3,7 +3,8 @@
 ghost use Rattle.std.specs.Prelude.{◌≡◌, List, All, length};
 ghost use Rattle.sdv_card.specs.declared.shape.Shape.{Shape};
 ghost use Rattle.sdv_facts.specs.Limits.{PointInLimits};
-ghost use Rattle.sdv_facts.specs.Shared.{points_in, IsShared, HasSetsOf};
+ghost use Rattle.sdv_facts.specs.Shared.{certificate_in, points_in, IsShared, HasSetsOf};
+ghost use Rattle.sdv_facts.specs.Versions.{FitsVersion};
 
 use crate::facts::Facts;
 use crate::set_table::SetTable;
@@ -24,62 +25,90 @@ pub struct PointFacts {
     pub turns: ArrayVec<u64, 4>,
 }
 
-/// What is known at each point of a script, in the order of the points, which share their sets of shapes.
+/// The version of a certificate's text.
+#[derive(Clone, Copy, Debug, PartialEq, Eq)]
+pub enum Version {
+    /// Version 1, which says nothing of boot partitions.
+    One,
+    /// Version 2.
+    Two,
+}
+
+/// What is known at each point of a script, in the order of the points, which share their sets of shapes, and the version
+/// of the text that says it.
 #[derive(Drop)]
 pub struct Certificate {
+    version: Version,
     table: SetTable,
     points: Vec<PointFacts>,
 }
 
 impl Model for Certificate {
-    ghost use Rattle.std.specs.Prelude.{List};
-    ghost use Rattle.sdv_facts.specs.Facts.{PointFacts};
+    ghost use Rattle.std.specs.Prelude.{All};
+    ghost use Rattle.sdv_facts.specs.Facts.{Certificate};
 
-    ghost Value = { List PointFacts };
+    ghost Value = { Certificate };
 
-    ghost use Rattle.sdv_facts.specs.Shared.{points_in, IsShared};
+    ghost use Rattle.sdv_facts.specs.Shared.{certificate_in, points_in, IsShared};
+    ghost use Rattle.sdv_facts.specs.Versions.{FitsVersion};
 
-    ghost view = { λ c. points_in c.table c.points.items };
+    ghost view = { λ c. certificate_in c.table c.version c.points.items };
 
-    ghost invariant = { λ c. IsShared c.table c.points.items };
+    ghost invariant = { λ c. IsShared c.table c.points.items
+        × All (FitsVersion c.version) (points_in c.table c.points.items) };
 }
 
 impl Certificate {
-    /// A certificate that says this of its points, whose sets are those of the table. No number is above 2^40.
-    pub fn from_points(table: SetTable, points: Vec<PointFacts>) -> Certificate
+    /// A certificate of the version that says this of its points, whose sets are those of the table. No number is above
+    /// 2^40, and in version 1 nothing is said of boot partitions.
+    pub fn from_points(version: Version, table: SetTable, points: Vec<PointFacts>) -> Certificate
         requires shared { IsShared table points.items }
-        ensures { result ≡ points_in table points.items }
+        requires version { All (FitsVersion version) (points_in table points.items) }
+        ensures { result ≡ certificate_in table version points.items }
     {
-        Certificate { table, points }
+        Certificate {
+            version,
+            table,
+            points,
+        }
+    }
+
+    /// The version of its text.
+    pub fn version(&self) -> Version
+        ensures { result ≡ self.now.version }
+    {
+        self.version
     }
 
     /// The table of sets, and the points, in their order, which name sets of that table.
     pub fn shown(&self) -> (&SetTable, &[PointFacts])
-        ensures value { points_in result.0.now result.1.now ≡ self.now }
+        ensures value { points_in result.0.now result.1.now ≡ self.now.points }
         ensures shared { IsShared result.0.now result.1.now }
-        ensures limits { All PointInLimits self.now }
+        ensures limits { All PointInLimits self.now.points }
+        ensures version { All (FitsVersion self.now.version) self.now.points }
     {
         (&self.table, &self.points)
     }
 
     /// The points, in their order. Which table their sets are of, `shown` says.
     pub fn points(&self) -> &[PointFacts]
-        ensures value { (sets : List (List Shape)) × IsShared sets result.now × (points_in sets result.now ≡ self.now) }
-        ensures limits { All PointInLimits self.now }
+        ensures value { (sets : List (List Shape)) × IsShared sets result.now
+            × (points_in sets result.now ≡ self.now.points) }
+        ensures limits { All PointInLimits self.now.points }
     {
         &self.points
     }
 
     /// The table of sets. Each point's shapes are one of them.
     pub fn table(&self) -> &SetTable
-        ensures { HasSetsOf result.now self.now }
+        ensures { HasSetsOf result.now self.now.points }
     {
         &self.table
     }
 
     /// The number of distinct sets.
     pub fn sets(&self) -> usize
-        ensures { (sets : List (List Shape)) × (length sets ≡ result) × HasSetsOf sets self.now }
+        ensures { (sets : List (List Shape)) × (length sets ≡ result) × HasSetsOf sets self.now.points }
     {
         self.table.len()
     }

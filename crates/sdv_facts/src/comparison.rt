@@ -37,6 +37,7 @@ fn at_least(numbers: &Numbers, variable: usize, k: u64) -> Option<Numbers>
     let lo = known.lo.max(k);
     let mut after = numbers.with_var(variable, VarFacts { lo, ..known });
     after.m = least_by(known.gap, lo, numbers.m);
+    after.mb = least_by(known.bgap, lo, numbers.mb);
     Some(after)
 }
 

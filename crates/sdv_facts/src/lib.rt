@@ -25,7 +25,7 @@ mod test;
 mod units;
 
 pub use address::address_ok;
-pub use certificate::{Certificate, MAX_SHAPES, PointFacts};
+pub use certificate::{Certificate, MAX_SHAPES, PointFacts, Version};
 pub use clause::Clause;
 pub use comparison::{after_test, numbers_after_test};
 pub use cover::covers;

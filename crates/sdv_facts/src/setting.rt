@@ -1,7 +1,7 @@
 //! What is known after a number variable is set.
 
 ghost use Rattle.std.specs.Prelude.{◌≡◌, ◌<◌, IfSome, length};
-ghost use Rattle.sdv_facts.specs.AfterLet.{register_facts, atom_facts, changed_facts, after_let};
+ghost use Rattle.sdv_facts.specs.AfterLet.{register_facts, boot_facts, atom_facts, changed_facts, after_let};
 ghost use Rattle.sdv_facts.specs.Facts.{facts_with};
 ghost use Rattle.sdv_facts.specs.Limits.{AtomInLimits, VarInLimits, NumbersInLimits};
 ghost use Rattle.sdv_facts.specs.Keeps.{KeptByLet};
@@ -24,13 +24,27 @@ fn register_facts(tells: bool, m: u64) -> VarFacts
             lo: m,
             hi: 1 << 32,
             gap: Some(0),
+            bgap: None,
         }
     } else {
         VarFacts {
             lo: 0,
             hi: 1 << 32,
             gap: None,
+            bgap: None,
         }
+    }
+}
+
+/// The value of BOOT_SIZE_MULT: a boot partition has at least `mb` blocks, and 255 times 256 at most.
+fn boot_facts(mb: u64) -> VarFacts
+    ensures { result ≡ boot_facts mb }
+{
+    VarFacts {
+        lo: mb,
+        hi: 255 * 256,
+        gap: None,
+        bgap: Some(0),
     }
 }
 
@@ -45,6 +59,7 @@ fn atom_facts(kind: Kind, shapes: &[Shape], numbers: &Numbers, atom: Atom) -> Va
             lo: n,
             hi: n,
             gap: less(Some(m), n),
+            bgap: less(Some(numbers.mb), n),
         },
         Atom::Variable(variable) => numbers.var(variable),
         Atom::CsdBlocks => {
@@ -55,6 +70,7 @@ fn atom_facts(kind: Kind, shapes: &[Shape], numbers: &Numbers, atom: Atom) -> Va
             register_facts(tells, m)
         }
         Atom::ExtBlocks => register_facts(all_block(shapes), m),
+        Atom::ExtBoot => boot_facts(numbers.mb),
     }
 }
 
@@ -74,12 +90,14 @@ fn changed_facts(change: Change, known: VarFacts) -> Option<VarFacts>
                 lo,
                 hi: known.hi.saturating_add(k).min(MAX_NUMBER),
                 gap: less(known.gap, k),
+                bgap: less(known.bgap, k),
             })
         }
         Change::Minus(k) => Some(VarFacts {
             lo: known.lo.saturating_sub(k),
             hi: known.hi.checked_sub(k)?,
             gap: more(known.gap, k),
+            bgap: more(known.bgap, k),
         }),
     }
 }
@@ -88,7 +106,8 @@ fn changed_facts(change: Change, known: VarFacts) -> Option<VarFacts>
 /// numbers are within these bounds; nothing where there is no edge, as every run ends there in the fault `number`.
 ///
 /// The CSD tells the capacity of an SD card and of a byte-addressed e.MMC device, SEC_COUNT that of a block-addressed
-/// device. Of any other value of these registers is known that it is at most 2^32.
+/// device. Of any other value of these registers is known that it is at most 2^32. BOOT_SIZE_MULT tells the capacity of a
+/// boot partition.
 pub fn numbers_after_let(
     kind: Kind,
     shapes: &[Shape],

@@ -1,8 +1,8 @@
-//! What every shape of a list says of the unit of addresses, and of the partition in access.
+//! What every shape of a list says of the unit of addresses.
 
 ghost use Rattle.std.specs.Prelude.{◌≡◌};
 ghost use Rattle.sdv_facts.specs.AfterLet.{all_block_unit, all_byte_unit};
-ghost use Rattle.sdv_facts.specs.AddressFits.{all_user, unit_fits};
+ghost use Rattle.sdv_facts.specs.AddressFits.{unit_fits};
 
 use sdv_card::Shape;
 use sdv_graph::Unit;
@@ -52,16 +52,4 @@ pub fn fits(shapes: &[Shape], unit: Unit) -> bool
         Unit::Byte => all_byte(shapes),
         Unit::By(flag) => all_by(shapes, flag),
     }
-}
-
-/// The user area is in access at every one.
-pub fn all_user(shapes: &[Shape]) -> bool
-    ensures { result ≡ all_user shapes.now }
-{
-    for shape in shapes {
-        if shape.partition().number() != 0 {
-            return false;
-        }
-    }
-    true
 }

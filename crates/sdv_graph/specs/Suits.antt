@@ -9,7 +9,7 @@ use Rattle.sdv_card.specs.declared.guard.Guard.{Guard}
 use Rattle.sdv_card.specs.CommandTable.{order_of}
 use Rattle.sdv_card.specs.Modes.{has_width}
 use Rattle.sdv_graph.specs.declared.tree.Atom.{Atom}
-use Rattle.sdv_graph.specs.declared.tree.Atom.TheVariants.{ExtBlocks}
+use Rattle.sdv_graph.specs.declared.tree.Atom.TheVariants.{ExtBlocks, ExtBoot}
 use Rattle.sdv_graph.specs.GuardSuits.{fits_order}
 use Rattle.sdv_graph.specs.Path.{Case, Action, Point, sends, lets, widths}
 
@@ -23,6 +23,7 @@ cases_suit order (w ∷ ws) = guards_suit order w.guards && cases_suit order ws
 
 abbrev pub atom_suits : Kind → Atom → Bool
 atom_suits Sd ExtBlocks = false
+atom_suits Sd ExtBoot = false
 atom_suits k atom = true
 
 abbrev pub action_suits : Kind → Action → Bool

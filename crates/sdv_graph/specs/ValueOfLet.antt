@@ -5,11 +5,11 @@ use Rattle.std.specs.Prelude.{◌+◌, ◌-◌, ℕ, slice_index, slice_set, Opt
 use Rattle.sdv_frames.specs.Bits.{bits_of}
 use Rattle.sdv_registers.specs.declared.kind.Kind.{Kind}
 use Rattle.sdv_registers.specs.Csd.{blocks}
-use Rattle.sdv_registers.specs.ExtCsd.{sec_count}
+use Rattle.sdv_registers.specs.ExtCsd.{sec_count, boot_blocks}
 use Rattle.sdv_card.specs.Host.{Host}
 use Rattle.sdv_graph.specs.declared.tree.Let.{Let}
 use Rattle.sdv_graph.specs.declared.tree.Atom.{Atom}
-use Rattle.sdv_graph.specs.declared.tree.Atom.TheVariants.{Number, Variable, CsdBlocks, ExtBlocks}
+use Rattle.sdv_graph.specs.declared.tree.Atom.TheVariants.{Number, Variable, CsdBlocks, ExtBlocks, ExtBoot}
 use Rattle.sdv_graph.specs.declared.tree.Change.{Change}
 use Rattle.sdv_graph.specs.declared.tree.Change.TheVariants.{Same, Plus, Minus}
 use Rattle.sdv_graph.specs.Counts.{max_number}
@@ -28,6 +28,7 @@ value_of_atom k h (Number n) = Some n
 value_of_atom k h (Variable y) = Some (number h y)
 value_of_atom k h CsdBlocks = option_map (λ bytes. blocks k (bits_of bytes)) h.csd
 value_of_atom k h ExtBlocks = option_map sec_count h.ext_csd
+value_of_atom k h ExtBoot = option_map boot_blocks h.ext_csd
 
 -- a number of a script
 abbrev pub in_range : ℕ → Option ℕ

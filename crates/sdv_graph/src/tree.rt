@@ -126,6 +126,8 @@ pub enum Atom {
     CsdBlocks,
     /// `ext.blocks`: SEC_COUNT of the last EXT_CSD.
     ExtBlocks,
+    /// `ext.boot`: the capacity of a boot partition by the last EXT_CSD, in blocks.
+    ExtBoot,
 }
 
 /// How a value is changed.

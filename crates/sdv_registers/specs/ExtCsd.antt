@@ -1,6 +1,6 @@
 -- What the extended CSD register (EXT_CSD) of an e.MMC device says, by its 512 bytes, in their order.
 -- JESD84-B51, section 7.4 (extended CSD register).
-use Rattle.std.specs.Prelude.{ℕ, ◌+◌, ◌-◌, List, take, drop, reverse}
+use Rattle.std.specs.Prelude.{ℕ, ◌+◌, ◌-◌, ◌*◌, List, take, drop, reverse}
 use Rattle.sdv_frames.specs.Bits.{bits, bits_of, number_of}
 use Rattle.sdv_registers.specs.Field.{field}
 
@@ -30,3 +30,7 @@ sec_count register = bytes 215 212 register
 -- BOOT_SIZE_MULT, the size of a boot partition in units of 128 KiB
 abbrev pub boot_size_mult : List ℕ → ℕ
 boot_size_mult register = bytes 226 226 register
+
+-- the capacity of a boot partition in blocks of 512 bytes
+abbrev pub boot_blocks : List ℕ → ℕ
+boot_blocks register = 256 * boot_size_mult register

@@ -1,7 +1,7 @@
 //! The extended CSD register of an e.MMC device.
 
 ghost use Rattle.std.specs.Prelude.{◌≡◌, ◌+◌, ◌-◌, ◌^◌, ◌<◌, ◌≤◌};
-ghost use Rattle.sdv_registers.specs.ExtCsd.{bytes, partition_config, partition_access, bus_width, ext_csd_rev, sec_count, boot_size_mult};
+ghost use Rattle.sdv_registers.specs.ExtCsd.{bytes, partition_config, partition_access, bus_width, ext_csd_rev, sec_count, boot_size_mult, boot_blocks};
 
 use byteorder::{ByteOrder, LittleEndian};
 
@@ -57,6 +57,13 @@ impl<'a> ExtCsd<'a> {
         ensures { result ≡ boot_size_mult self.now.0.now }
     {
         bytes_of(self.0, 226, 226) as u8
+    }
+
+    /// The capacity of a boot partition by BOOT_SIZE_MULT, in blocks of 512 bytes.
+    pub fn boot_blocks(&self) -> u64
+        ensures { result ≡ boot_blocks self.now.0.now }
+    {
+        256 * u64::from(self.boot_size_mult())
     }
 }
 

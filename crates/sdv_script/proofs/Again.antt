@@ -294,6 +294,7 @@ atom-again names (atoms.Number n) others fit ok = bind_is _ _ _ _ (figure-again 
 atom-again names (atoms.Variable x) others fit ok = bind_is _ _ _ _ (number_name-again names x others fit ok) refl
 atom-again names atoms.CsdBlocks others fit ok = refl
 atom-again names atoms.ExtBlocks others fit ok = test_is _ _ _ ok refl
+atom-again names atoms.ExtBoot others fit ok = test_is _ _ _ ok refl
 
 -- after its first word
 abbrev pub let_rest : Declared → Let → List Token → List Token

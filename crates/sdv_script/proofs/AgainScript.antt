@@ -110,6 +110,7 @@ atom_longer names (atoms.Number n) ts = omega arith
 atom_longer names (atoms.Variable x) ts = omega arith
 atom_longer names atoms.CsdBlocks ts = omega arith
 atom_longer names atoms.ExtBlocks ts = omega arith
+atom_longer names atoms.ExtBoot ts = omega arith
 
 change_longer : (c : Change) (ts : List Token) → length ts ≤ length (change_written c ts)
 change_longer changes.Same ts = omega arith

@@ -45,9 +45,9 @@ cases_made names d order (way guards b rest) at next fit =
     both (guards_suit order guards) (cases_suit order (cases_of rest (at + statements_count b) next)) (guards_of order guards fit.0)
     (cases_made names d order rest (at + statements_count b) next fit.3)
 
-ext_csd_suits : (k : Kind) → has_ext_csd k ≡ true → atom_suits k atoms.ExtBlocks ≡ true
+ext_csd_suits : (k : Kind) → has_ext_csd k ≡ true → (atom_suits k atoms.ExtBlocks ≡ true) × (atom_suits k atoms.ExtBoot ≡ true)
 ext_csd_suits Sd has = absurd cc
-ext_csd_suits Emmc has = refl
+ext_csd_suits Emmc has = (refl, refl)
 
 other_suits : (k : Kind) → ((n : ℕ) → atom_suits k (atoms.Number n) ≡ true) × ((x : ℕ) → atom_suits k (atoms.Variable x) ≡ true)
     × (atom_suits k atoms.CsdBlocks ≡ true)
@@ -58,7 +58,8 @@ atom_of : (names : Declared) (a : Atom) → AtomFits names a → atom_suits name
 atom_of names (atoms.Number n) fit = (other_suits names.kind).0 n
 atom_of names (atoms.Variable x) fit = (other_suits names.kind).1 x
 atom_of names atoms.CsdBlocks fit = (other_suits names.kind).2
-atom_of names atoms.ExtBlocks fit = ext_csd_suits names.kind fit
+atom_of names atoms.ExtBlocks fit = (ext_csd_suits names.kind fit).0
+atom_of names atoms.ExtBoot fit = (ext_csd_suits names.kind fit).1
 
 module _ (names : Declared) where
   mutual

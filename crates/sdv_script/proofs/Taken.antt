@@ -236,6 +236,7 @@ atom-took : (names : Declared) (ts : List Token) → IfSome (read_atom names ts)
 atom-took names (Number n ∷ ts) = IfSome-bind (read_figure (Number n ∷ ts)) _ _ _ (figure-took (Number n ∷ ts)) (λ k p. (p.0, p.1))
 atom-took names (Key word.CsdBlocks ∷ ts) = (refl, tt)
 atom-took names (Key word.ExtBlocks ∷ ts) = IfSome-given (has_ext_csd names.kind) _ _ (λ e. (refl, e))
+atom-took names (Key word.ExtBoot ∷ ts) = IfSome-given (has_ext_csd names.kind) _ _ (λ e. (refl, e))
 atom-took names ts = named_atom-took names ts
 
 change-took : (ts : List Token) → IfSome (read_change ts) (λ c. (ts ≡ change_written c.0 c.1) × ChangeFits c.0)

@@ -131,12 +131,13 @@ guards_written (g ∷ h ∷ gs) others = guard_written g (Mark sign.And ∷ guar
 
 -- STATEMENTS WITHOUT BLOCKS
 
--- atom = number | num_name | "csd.blocks" | "ext.blocks"
+-- atom = number | num_name | "csd.blocks" | "ext.blocks" | "ext.boot"
 abbrev pub atom_written : Declared → Atom → List Token → List Token
 atom_written names (atoms.Number n) others = Number n ∷ others
 atom_written names (atoms.Variable x) others = number_name names x ∷ others
 atom_written names atoms.CsdBlocks others = Key word.CsdBlocks ∷ others
 atom_written names atoms.ExtBlocks others = Key word.ExtBlocks ∷ others
+atom_written names atoms.ExtBoot others = Key word.ExtBoot ∷ others
 
 -- [("+" | "-") number]
 abbrev pub change_written : Change → List Token → List Token

@@ -29,6 +29,7 @@ keyword_text word.Done = codes "done"
 keyword_text word.Fault = codes "fault"
 keyword_text word.CsdBlocks = codes "csd.blocks"
 keyword_text word.ExtBlocks = codes "ext.blocks"
+keyword_text word.ExtBoot = codes "ext.boot"
 keyword_text word.At = codes "at"
 keyword_text word.Block = codes "block"
 keyword_text word.Byte = codes "byte"
@@ -59,8 +60,8 @@ abbrev pub keywords : List Keyword
 keywords =
     word.Card ∷ word.Sd ∷ word.Emmc ∷ word.Flags ∷ word.Nums ∷ word.Send ∷ word.Else ∷ word.Recv ∷ word.Reg ∷ word.Give
     ∷ word.Wait ∷ word.Ok ∷ word.Let ∷ word.If ∷ word.Set ∷ word.Clear ∷ word.BusLines ∷ word.PartAccess ∷ word.Loop
-    ∷ word.Break ∷ word.Done ∷ word.Fault ∷ word.CsdBlocks ∷ word.ExtBlocks ∷ word.At ∷ word.Block ∷ word.Byte
-    ∷ word.By ∷ word.Timeout ∷ word.Answer ∷ word.Clean ∷ word.Ready ∷ word.App ∷ word.Echo ∷ word.OcrReady
+    ∷ word.Break ∷ word.Done ∷ word.Fault ∷ word.CsdBlocks ∷ word.ExtBlocks ∷ word.ExtBoot ∷ word.At ∷ word.Block
+    ∷ word.Byte ∷ word.By ∷ word.Timeout ∷ word.Answer ∷ word.Clean ∷ word.Ready ∷ word.App ∷ word.Echo ∷ word.OcrReady
     ∷ word.OcrBlock ∷ word.State ∷ word.None ∷ word.Count ∷ word.Number ∷ word.Idle ∷ word.Ident ∷ word.Stby ∷ word.Tran
     ∷ word.Data ∷ word.Rcv ∷ word.Prg ∷ word.Dis ∷ []
 

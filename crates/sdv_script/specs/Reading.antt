@@ -271,6 +271,7 @@ abbrev pub read_atom : Declared → List Token → Read Atom
 read_atom names (Number n ∷ ts) = read_figure (Number n ∷ ts) >>= λ k. Some (atoms.Number k.0, k.1)
 read_atom names (Key word.CsdBlocks ∷ ts) = Some (atoms.CsdBlocks, ts)
 read_atom names (Key word.ExtBlocks ∷ ts) = if has_ext_csd names.kind then Some (atoms.ExtBlocks, ts) else None
+read_atom names (Key word.ExtBoot ∷ ts) = if has_ext_csd names.kind then Some (atoms.ExtBoot, ts) else None
 read_atom names ts = read_number_name names ts >>= λ x. Some (atoms.Variable x.0, x.1)
 
 abbrev pub read_change : List Token → Read Change

@@ -116,6 +116,7 @@ AtomFits names (atoms.Number n) = n ≤ max_number
 AtomFits names (atoms.Variable x) = x < length names.numbers
 AtomFits names atoms.CsdBlocks = Unit {0}
 AtomFits names atoms.ExtBlocks = IsTrue (has_ext_csd names.kind)
+AtomFits names atoms.ExtBoot = IsTrue (has_ext_csd names.kind)
 
 abbrev pub ChangeFits : Change → Type 0
 ChangeFits changes.Same = Unit {0}

@@ -54,6 +54,8 @@ pub enum Keyword {
     CsdBlocks,
     /// `ext.blocks`
     ExtBlocks,
+    /// `ext.boot`
+    ExtBoot,
     /// `at`
     At,
     /// `block`
@@ -105,7 +107,7 @@ pub enum Keyword {
 }
 
 /// Every reserved word, in the order of the type.
-const KEYWORDS: [Keyword; 48] = [
+const KEYWORDS: [Keyword; 49] = [
     Keyword::Card,
     Keyword::Sd,
     Keyword::Emmc,
@@ -130,6 +132,7 @@ const KEYWORDS: [Keyword; 48] = [
     Keyword::Fault,
     Keyword::CsdBlocks,
     Keyword::ExtBlocks,
+    Keyword::ExtBoot,
     Keyword::At,
     Keyword::Block,
     Keyword::Byte,
@@ -186,6 +189,7 @@ impl Keyword {
             Keyword::Fault => "fault",
             Keyword::CsdBlocks => "csd.blocks",
             Keyword::ExtBlocks => "ext.blocks",
+            Keyword::ExtBoot => "ext.boot",
             Keyword::At => "at",
             Keyword::Block => "block",
             Keyword::Byte => "byte",

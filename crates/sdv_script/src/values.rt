@@ -46,6 +46,7 @@ fn atom<'a>(names: &Names<'_>, at: Cursor<'a>) -> Result<(Atom, Cursor<'a>), Sto
         Token::Key(Keyword::ExtBlocks) if has_ext_csd(names.kind) => {
             Ok((Atom::ExtBlocks, at.next()))
         }
+        Token::Key(Keyword::ExtBoot) if has_ext_csd(names.kind) => Ok((Atom::ExtBoot, at.next())),
         _ => {
             let (x, at) = number_name(names, at, FaultKind::Syntax)?;
             Ok((Atom::Variable(x), at))

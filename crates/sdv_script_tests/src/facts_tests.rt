@@ -18,7 +18,12 @@ const MAX: u64 = 1_099_511_627_776;
 type Known = (u64, u64, Option<u64>);
 
 fn var((lo, hi, gap): Known) -> VarFacts {
-    VarFacts { lo, hi, gap }
+    VarFacts {
+        lo,
+        hi,
+        gap,
+        bgap: None,
+    }
 }
 
 const ZERO: Known = (0, 0, None);
@@ -30,7 +35,18 @@ fn numbers(m: u64, x: Known, y: Known) -> Numbers
     let mut vars = ArrayVec::new();
     vars.push(var(x));
     vars.push(var(y));
-    Numbers { m, vars }
+    Numbers { m, mb: 0, vars }
+}
+
+// The same numbers, where a boot partition has so many blocks or more, and the first variable is so far from its end.
+fn with_boot(numbers: Numbers, mb: u64, bgap: Option<u64>) -> Numbers
+    requires { length numbers.vars.items ≡ 2 }
+    ensures { length result.vars.items ≡ 2 }
+{
+    let mut numbers = numbers;
+    numbers.mb = mb;
+    numbers.vars[0].bgap = bgap;
+    numbers
 }
 
 // A table whose one set has the shapes of these codes, of which there are two at most, and the lesser one comes first, and
@@ -177,7 +193,7 @@ fn set_first(
         atom,
         change,
     };
-    let VarFacts { lo, hi, gap } = after_let(table, kind, facts, &setting)?.var(0);
+    let VarFacts { lo, hi, gap, .. } = after_let(table, kind, facts, &setting)?.var(0);
     Some((lo, hi, gap))
 }
 
@@ -204,6 +220,49 @@ fn lets_of_registers(rt: HostRuntime) -> Result<(), Fail> {
             set_first(kind, &table, &facts, atom, Change::Same),
             Some(after),
             "{codes:?}"
+        );
+    }
+    Ok(())
+}
+
+// A value, and what is known of the first variable's distance from the end of a boot partition after it was set to that,
+// where such a partition has 512 blocks or more and the first variable was 256 blocks before its end.
+static BOOT_LETS: [(Atom, Change, Known, Option<u64>); 8] = [
+    (Atom::ExtBoot, Change::Same, (512, 65_280, None), Some(0)),
+    (
+        Atom::ExtBoot,
+        Change::Minus(8),
+        (504, 65_272, None),
+        Some(8),
+    ),
+    (Atom::ExtBoot, Change::Plus(1), (513, 65_281, None), None),
+    (Atom::Number(500), Change::Same, (500, 500, None), Some(12)),
+    (Atom::Number(513), Change::Same, (513, 513, None), None),
+    (
+        Atom::Variable(0),
+        Change::Plus(56),
+        (56, 59, None),
+        Some(200),
+    ),
+    (Atom::Variable(0), Change::Plus(257), (257, 260, None), None),
+    (Atom::ExtBlocks, Change::Same, TOLD, None),
+];
+
+#[test]
+fn lets_of_boot_partitions(rt: HostRuntime) -> Result<(), Fail> {
+    for &(atom, change, known, bgap) in BOOT_LETS.iter() {
+        let before = with_boot(numbers(100, (0, 3, None), ZERO), 512, Some(256));
+        let (table, facts) = facts_of(rt.alloc(), &[BLOCK], before)?;
+        let set = Let {
+            target: 0,
+            atom,
+            change,
+        };
+        let after = with_boot(numbers(100, known, ZERO), 512, bgap);
+        assert_eq!(&rt;
+            after_let(&table, Kind::Emmc, &facts, &set),
+            Some(after),
+            "{known:?}"
         );
     }
     Ok(())
@@ -271,6 +330,25 @@ static TARGETS: [(u64, Known, bool); 7] = [
     (10, (3, 5, Some(8)), false),
 ];
 
+// The same of a boot partition, by 512 blocks with a gap of 256.
+static BOOT_TARGETS: [(u64, Option<u64>, bool); 5] = [
+    (512, Some(256), true),
+    (0, None, true),
+    (513, None, false),
+    (512, Some(257), false),
+    (512, Some(0), true),
+];
+
+// A number that is at least 256 and 256 blocks before the end of a boot partition.
+#[test]
+fn comparison_of_a_boot_partition(rt: HostRuntime) -> Result<(), Fail> {
+    let before = with_boot(numbers(10, (0, 900, None), ZERO), 300, Some(256));
+    let (_, facts) = facts_of(rt.alloc(), &[BLOCK], before)?;
+    let after = with_boot(numbers(10, (256, 900, None), ZERO), 512, Some(256));
+    assert_eq!(&rt; after_test(&facts, &Test::AtLeast(0, 256)), Some(after));
+    Ok(())
+}
+
 #[test]
 fn comparisons(rt: HostRuntime) -> Result<(), Fail> {
     for &(x, test, after) in COMPARISONS.iter() {
@@ -293,12 +371,23 @@ fn targets(rt: HostRuntime) {
     }
     let (with, without) = ((0, 9, Some(0)), (0, 9, None));
     assert!(&rt; !covers(&numbers(1, with, with), &numbers(1, with, without)));
+    let boot = with_boot(carried, 512, Some(256));
+    for &(mb, bgap, covered) in BOOT_TARGETS.iter() {
+        let target = with_boot(numbers(1, (0, 9, None), y), mb, bgap);
+        assert_eq!(&rt; covers(&target, &boot), covered, "{mb} {bgap:?}");
+    }
 }
 
 #[test]
 fn numbers_at_the_start(rt: HostRuntime) {
     let start = (0, 0, Some(1));
-    assert_eq!(&rt; Numbers::at_start(2), numbers(1, start, start));
+    let numbers = Numbers::at_start(2);
+    assert_eq!(&rt; (numbers.m, numbers.mb, numbers.vars.len()), (1, 0, 2));
+    let start = VarFacts {
+        bgap: Some(0),
+        ..var(start)
+    };
+    assert_eq!(&rt; (numbers.var(0), numbers.var(1)), (start, start));
     assert_eq!(&rt; Numbers::at_start(0).var(0), VarFacts::weakest());
     assert_eq!(&rt; VarFacts::weakest(), var((0, MAX, None)));
 }
@@ -340,8 +429,8 @@ static POSITIONS: [(u8, u16, Position, bool); 15] = [
     (32, 0, Position::Number(10), false),
 ];
 
-// Two shapes, and whether an address in the unit is meant by both, in the user area.
-static UNITS: [([u64; 2], Unit, bool); 14] = [
+// Two shapes, and whether an address in the unit is meant by both.
+static UNITS: [([u64; 2], Unit, bool); 12] = [
     ([BYTE, 0x2805], Unit::Byte, true),
     ([BYTE, BLOCK], Unit::Byte, false),
     ([BLOCK, BLOCK_WITH_FLAG], Unit::Byte, false),
@@ -354,8 +443,6 @@ static UNITS: [([u64; 2], Unit, bool); 14] = [
     ([BYTE, 0x42c04], Unit::By(3), false),
     ([BYTE, 0x2805], Unit::By(60), true),
     ([BYTE, BLOCK], Unit::By(60), false),
-    ([BLOCK, IN_BOOT], Unit::Block, false),
-    ([IN_BOOT, IN_SECOND_BOOT], Unit::Block, false),
 ];
 
 #[test]
@@ -377,6 +464,60 @@ fn addresses(rt: HostRuntime) -> Result<(), Fail> {
             address_holds(&table, &facts, &action),
             known,
             "{index} {count}"
+        );
+    }
+    Ok(())
+}
+
+// Two shapes, the block that a command of so many blocks begins with, and whether they are known to lie in the partition
+// in access at both. The user area has 10 blocks or more, and a boot partition 512; the first variable is 3 to 5, 7 blocks
+// before the end of the one and 400 before that of the other.
+static PARTITIONS: [([u64; 2], u16, Position, bool); 10] = [
+    ([IN_BOOT, IN_SECOND_BOOT], 12, Position::Number(500), true),
+    ([IN_BOOT, IN_SECOND_BOOT], 13, Position::Number(500), false),
+    (
+        [IN_BOOT, IN_SECOND_BOOT],
+        400,
+        Position::Variable(0, None),
+        true,
+    ),
+    (
+        [IN_BOOT, IN_SECOND_BOOT],
+        507,
+        Position::Variable(0, None),
+        true,
+    ),
+    (
+        [IN_BOOT, IN_SECOND_BOOT],
+        508,
+        Position::Variable(0, None),
+        false,
+    ),
+    (
+        [IN_BOOT, IN_SECOND_BOOT],
+        1,
+        Position::Variable(0, Some(506)),
+        true,
+    ),
+    ([BLOCK, IN_BOOT], 9, Position::Number(1), true),
+    ([BLOCK, IN_BOOT], 10, Position::Number(1), false),
+    ([BLOCK, IN_BOOT], 7, Position::Variable(0, None), true),
+    ([BLOCK, IN_BOOT], 8, Position::Variable(0, None), false),
+];
+
+#[test]
+fn partitions(rt: HostRuntime) -> Result<(), Fail> {
+    for &(codes, count, position, known) in PARTITIONS.iter() {
+        let numbers = with_boot(numbers(10, (3, 5, Some(7)), ZERO), 512, Some(400));
+        let (table, facts) = facts_of(rt.alloc(), &codes, numbers)?;
+        let address = Address {
+            unit: Unit::Block,
+            position,
+        };
+        assert_eq!(&rt;
+            address_ok(&table, &facts, &address, u64::from(count)),
+            known,
+            "{codes:?} {count}"
         );
     }
     Ok(())

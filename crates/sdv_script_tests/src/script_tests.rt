@@ -69,12 +69,13 @@ static SCRIPTS: [(&str, usize); 14] = [
 ];
 
 // Scripts for e.MMC devices.
-static DEVICE_SCRIPTS: [(&str, usize); 4] = [
+static DEVICE_SCRIPTS: [(&str, usize); 5] = [
     (DEVICE_BRING_UP, 26),
     (
         "card emmc nums x let x = ext.blocks send 23 count 0x10 { else { } } send 38 03 { else { } } done",
         4,
     ),
+    ("card emmc nums x let x = ext.boot - 1 done", 2),
     (
         "card emmc send 6 bus.lines 8 { ready { bus.lines 8 } else { } } send 6 part.access 0x2 { clean { } else { } } done",
         4,
@@ -101,7 +102,7 @@ fn scripts(rt: HostRuntime) {
 
 // What is wrong wherever a statement may stand, where the flag `f` and the number variable `x` are declared, with its
 // kind.
-static WRONG: [(&str, FaultKind); 134] = [
+static WRONG: [(&str, FaultKind); 135] = [
     ("$", FaultKind::Token),
     ("set A", FaultKind::Token),
     ("12a", FaultKind::Token),
@@ -156,6 +157,7 @@ static WRONG: [(&str, FaultKind); 134] = [
     ("if ready { } else { }", FaultKind::Name),
     ("if a.b { } else { }", FaultKind::Name),
     ("let x = ext.blocks", FaultKind::Name),
+    ("let x = ext.boot", FaultKind::Name),
     ("let x = f", FaultKind::Name),
     ("let x = y", FaultKind::Name),
     ("let x = a.b", FaultKind::Name),

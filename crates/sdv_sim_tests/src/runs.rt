@@ -1,6 +1,6 @@
 //! Scripts that run beside simulated cards, with their traces to the letter.
 
-use crate::shared::{BLOCK_CARD, BYTE_CARD, DEVICE, Port, image, port};
+use crate::shared::{BLOCK_CARD, BOOT_DEVICE, BYTE_CARD, DEVICE, Port, image, port};
 use sdv_certify::{certify, write};
 use sdv_check::{Accepted, verify};
 use sdv_controller::Controller;
@@ -61,6 +61,27 @@ if hc { send 8 { clean { recv reg { ok { let cap = ext.blocks } else { fault ext
 done
 ";
 
+/// A script that reads the last block of a boot partition of 256 blocks.
+const BOOT_READ: &str = "card emmc
+flags hc
+nums cap b
+send 0 { else { } }
+loop 1000 { send 1 { ocr.ready & ocr.block { set hc break } ocr.ready { break } answer { } else { fault lost1 } } } else { fault busy }
+send 2 { answer { } else { fault cid } }
+send 3 { clean { } else { fault rca } }
+send 9 { answer { } else { fault csd } }
+send 7 { clean { } else { fault select } }
+send 16 { clean { } else { fault blen } }
+if hc { send 8 { clean { recv reg { ok { let cap = ext.blocks } else { fault ext } } } else { fault ext } } } else { let cap = csd.blocks }
+send 8 { clean { recv reg { ok { let b = ext.boot } else { fault ext } } } else { fault ext } }
+if b >= 256 { } else { fault small }
+send 6 part.access 1 { clean { } else { fault sw } }
+loop 100 { wait { ok { break } else { } } } else { fault busy }
+send 13 { clean & state=tran { } else { fault sw } }
+send 17 at by hc 255 { clean { recv { ok { } else { fault rd } } } else { fault rd } }
+done
+";
+
 /// The script of a text, with the certificate that is written for it.
 fn accepted(alloc: Global, text: &str) -> Result<Accepted<'_>, Fail> {
     let script = parse(alloc, text)?;
@@ -108,11 +129,12 @@ static LINES: [&str; 9] = [
     "CMD16 00000200 R1 00000900\n",
 ];
 
-/// Scripts, descriptions, traces, and how many bytes are put out.
-static RUNS: [(&str, &str, &str, usize); 3] = [
+/// Scripts, descriptions, the block of the image that is full of 5a, traces, and how many bytes are put out.
+static RUNS: [(&str, &str, u64, &str, usize); 4] = [
     (
         BRING_UP,
         BLOCK_CARD,
+        3,
         "CMD0 00000000 -
 CMD8 000001aa R7 000001aa
 CMD55 00000000 R1 00000120
@@ -129,6 +151,7 @@ done
     (
         LAST_BLOCK,
         BYTE_CARD,
+        3,
         "CMD0 00000000 -
 CMD8 000001aa timeout
 CMD55 00000000 R1 00000120
@@ -147,6 +170,7 @@ done
     (
         DEVICE_BRING_UP,
         DEVICE,
+        3,
         "CMD0 00000000 -
 CMD1 40ff8080 R3 c0ff8080
 CMD2 00000000 R2 000158534456455249100000000117
@@ -160,14 +184,38 @@ done
 ",
         0,
     ),
+    (
+        BOOT_READ,
+        BOOT_DEVICE,
+        2303,
+        "CMD0 00000000 -
+CMD1 40ff8080 R3 c0ff8080
+CMD2 00000000 R2 000158534456455249100000000117
+CMD3 00010000 R1 00000500
+CMD9 00010000 R2 00000000000903ffc0038000000000
+CMD7 00010000 R1 00000700
+CMD16 00000200 R1 00000900
+CMD8 00000000 R1 00000900
+REG 512 ok
+CMD8 00000000 R1 00000900
+REG 512 ok
+CMD6 03b30100 R1 00000900
+WAIT ok
+CMD13 00010000 R1 00000900
+CMD17 000000ff R1 00000900
+IN 1 ok
+done
+",
+        512,
+    ),
 ];
 
-/// Runs that end well, on cards whose block 3 is full of 5a.
+/// Runs that end well, on cards with a block that is full of 5a.
 #[test]
 fn whole_runs(rt: HostRuntime) -> Result<(), Fail> {
     let alloc = rt.alloc();
-    for &(text, desc, lines, bytes) in RUNS.iter() {
-        let mut card = port(alloc, desc, &[], 3, 0x5a)?;
+    for &(text, desc, place, lines, bytes) in RUNS.iter() {
+        let mut card = port(alloc, desc, &[], place, 0x5a)?;
         let out = put_out(
             &rt,
             alloc,

@@ -11,10 +11,10 @@ use Rattle.sdv_script.specs.GraphOf.{IsGraphOf}
 use Rattle.sdv_script.specs.Script.{Parsed, IsScript}
 use Rattle.sdv_script.specs.Shown.{shown}
 use Rattle.sdv_script.proofs.ScriptLaws.{one_tree_lem}
-use Rattle.sdv_facts.specs.Facts.{PointFacts}
+use Rattle.sdv_facts.specs.Facts.{Certificate}
 use Rattle.sdv_facts.specs.CertificateText.{text_of, WithinLimits}
 use Rattle.sdv_check.specs.Verified.{IsGraphOfText}
-use Rattle.sdv_certify.specs.Assembled.{CertificateOf, ClosedFor, RefusedFor}
+use Rattle.sdv_certify.specs.Assembled.{CertificateOf, VersionFor, ClosedFor, RefusedFor}
 use Rattle.sdv_certify.specs.declared.fault.CertifyFault.{CertifyFault}
 use Rattle.sdv_certify.specs.declared.fault.CertifyFault.TheVariants as certifies
 use Rattle.sdv_words.specs.Certify.{Certifies, CertifiesInPart, IsTextOfScript, IsCertificateOfText, Uncertifies}
@@ -30,15 +30,15 @@ graph_of_script text s g is of =
     let tree = one_tree_lem p (shown s) of.is_script is.is_script (of.same ∙ sym is.same) in
     subst (λ b. IsGraphOf (shown s).names b g) tree.1 (subst (λ n. IsGraphOf n p.body g) tree.0 of.graph)
 
-pub certificate_of_text : (text : Text) (s : Tree) (points : List PointFacts) → (shown s).text ≡ text → IsScript (shown s) → CertificateOf s points
-    → ClosedFor s points
-    → WithinLimits points → IsCertificateOfText text points
-certificate_of_text text s points same is_script certificate closed limits =
+pub certificate_of_text : (text : Text) (s : Tree) (c : Certificate) → (shown s).text ≡ text → IsScript (shown s) → CertificateOf s c.points
+    → VersionFor s c.version → ClosedFor s c.points → WithinLimits c → IsCertificateOfText text c
+certificate_of_text text s c same is_script certificate version closed limits =
     let is : IsTextOfScript text s = record { same = same; is_script = is_script } in
     record {
       script = s;
       is = is;
       certificate = certificate;
+      version = version;
       closed = λ g graph. closed g (graph_of_script text s g is graph);
       limits = limits;
     }
@@ -59,24 +59,24 @@ refused_of_text text s (certifies.EndState point) (Err f) is same is_script refu
 refused_of_text text s certifies.TooMany (Err f) is same is_script refused =
     rw is (record { script = s; is = record { same = same; is_script = is_script }; reason = λ e. cc; refused = refused })
 
-module _ (text : Text) (points : List PointFacts) (certificate : IsCertificateOfText text points) where
+module _ (text : Text) (facts : Certificate) (certificate : IsCertificateOfText text facts) where
   -- a certificate that was written whole
   pub written_whole : {E : Type 0} (before after : Option (List ℕ)) (w : Result (Unit {0}) E) (r : Result (Unit {0}) Fault) → is_ok r ≡ is_ok w
-      → Writes before after w (text_of points) → OnOk r (Certifies text before after)
+      → Writes before after w (text_of facts) → OnOk r (Certifies text before after)
   written_whole before after w r same writes =
-      let certifies : Appends before after (text_of points) → Certifies text before after =
-      λ printed. record { points = points; certificate = certificate; printed = printed } in
-      on_ok_weaker r certifies (whole before after (text_of points) w r same writes)
+      let certifies : Appends before after (text_of facts) → Certifies text before after =
+      λ printed. record { facts = facts; certificate = certificate; printed = printed } in
+      on_ok_weaker r certifies (whole before after (text_of facts) w r same writes)
 
   -- a certificate of which a part was written
   pub written_in_part : {E : Type 0} (before after : Option (List ℕ)) (w : Result (Unit {0}) E) (r : Result (Unit {0}) Fault) → is_ok r ≡ is_ok w
-      → Writes before after w (text_of points) → IfErr r (λ fault. fault ≡ Output → CertifiesInPart text before after)
+      → Writes before after w (text_of facts) → IfErr r (λ fault. fault ≡ Output → CertifiesInPart text before after)
   written_in_part before after w r same writes =
-      if_err r (λ _. AppendsPart before after (text_of points)) (λ fault. fault ≡ Output → CertifiesInPart text before after)
-      (in_part before after (text_of points) w r same writes)
-      (λ fault printed is. record { points = points; certificate = certificate; printed = printed })
+      if_err r (λ _. AppendsPart before after (text_of facts)) (λ fault. fault ≡ Output → CertifiesInPart text before after)
+      (in_part before after (text_of facts) w r same writes)
+      (λ fault printed is. record { facts = facts; certificate = certificate; printed = printed })
 
   -- of an output that failed
   pub output_failed : {T : Type 0} (r : Result T Fault) → IfErr r (λ fault. fault ≡ Output) → IfErr r (Uncertifies text)
   output_failed (Ok x) is = tt
-  output_failed (Err fault) is = rw is (points, certificate)
+  output_failed (Err fault) is = rw is (facts, certificate)

@@ -7,13 +7,13 @@ use Rattle.sdv_script.specs.Graph.{Graph}
 use Rattle.sdv_text.specs.Written.{AppendsPart}
 use Rattle.sdv_script.specs.Script.{IsScript}
 use Rattle.sdv_script.specs.Shown.{shown}
-use Rattle.sdv_facts.specs.Facts.{PointFacts}
+use Rattle.sdv_facts.specs.Facts.{Certificate}
 use Rattle.sdv_facts.specs.CertificateText.{text_of, WithinLimits}
 use Rattle.sdv_facts.specs.Closed.{Closed}
 use Rattle.sdv_check.specs.Verified.{IsGraphOfText, IsNoScript}
 use Rattle.sdv_certify.specs.declared.fault.CertifyFault.{CertifyFault}
 use Rattle.sdv_certify.specs.declared.fault.CertifyFault.TheVariants.{Memory as NoMemory}
-use Rattle.sdv_certify.specs.Assembled.{CertificateOf, RefusedFor}
+use Rattle.sdv_certify.specs.Assembled.{CertificateOf, VersionFor, RefusedFor}
 use Rattle.sdv_faults.specs.declared.fault.Fault.{Fault}
 use Rattle.sdv_faults.specs.declared.fault.Fault.TheVariants.{File, Script, Uncertified, Output, Memory}
 
@@ -24,13 +24,15 @@ pub record IsTextOfScript (text : Text) (s : Tree) : Type 0 where
   pub same : (shown s).text ≡ text
   pub is_script : IsScript (shown s)
 
--- the text is a script, and this is its certificate, which is closed for its graph and within the limits
-pub record IsCertificateOfText (text : Text) (points : List PointFacts) : Type 0 where
+-- the text is a script, and this is its certificate, which is of the script's version, closed for its graph, and within
+-- the limits
+pub record IsCertificateOfText (text : Text) (c : Certificate) : Type 0 where
   pub script : Tree
   pub is : IsTextOfScript text script
-  pub certificate : CertificateOf script points
-  pub closed : (g : Graph) → IsGraphOfText text g → Closed g points
-  pub limits : WithinLimits points
+  pub certificate : CertificateOf script c.points
+  pub version : VersionFor script c.version
+  pub closed : (g : Graph) → IsGraphOfText text g → Closed g c.points
+  pub limits : WithinLimits c
 
 -- the text is a script that has no certificate, for this reason
 pub record HasNoCertificate (text : Text) (fault : CertifyFault) : Type 0 where
@@ -41,21 +43,21 @@ pub record HasNoCertificate (text : Text) (fault : CertifyFault) : Type 0 where
 
 -- the certificate of the text was printed
 pub record Certifies (script : Text) (before after : Option (List ℕ)) : Type 0 where
-  pub points : List PointFacts
-  pub certificate : IsCertificateOfText script points
-  pub printed : Appends before after (text_of points)
+  pub facts : Certificate
+  pub certificate : IsCertificateOfText script facts
+  pub printed : Appends before after (text_of facts)
 
 -- a part of it was
 pub record CertifiesInPart (script : Text) (before after : Option (List ℕ)) : Type 0 where
-  pub points : List PointFacts
-  pub certificate : IsCertificateOfText script points
-  pub printed : AppendsPart before after (text_of points)
+  pub facts : Certificate
+  pub certificate : IsCertificateOfText script facts
+  pub printed : AppendsPart before after (text_of facts)
 
 -- what a fault says of the text; want of memory says nothing
 abbrev pub Uncertifies : (script : Text) → Fault → Type 0
 Uncertifies script (Script fault) = IsNoScript script
 Uncertifies script (Uncertified fault) = HasNoCertificate script fault
-Uncertifies script Output = (points : List PointFacts) × IsCertificateOfText script points
+Uncertifies script Output = (facts : Certificate) × IsCertificateOfText script facts
 Uncertifies script Memory = Unit {0}
 Uncertifies script fault = ⊥
 

@@ -2,13 +2,13 @@
 
 ghost use Rattle.std.specs.Prelude.{◌≡◌, ◌+◌, ◌^◌, min, length};
 ghost use Rattle.sdv_text.specs.Fronts.{is_digit, run, number_after};
-ghost use Rattle.sdv_check.specs.Reading.{Gives, is_plain, read_number, read_gap, read_var, code_of, read_shape, has_upper};
+ghost use Rattle.sdv_check.specs.Reading.{Gives, is_plain, read_number, read_gap, read_boot_gap, read_var, code_of, read_shape, has_upper};
 
 use crate::text::cursor::{TextCursor, ends_item, expect, skip};
 use crate::text::fault::CertFault;
 use hex::FromHex;
 use sdv_card::Shape;
-use sdv_facts::VarFacts;
+use sdv_facts::{VarFacts, Version};
 use sdv_graph::MAX_NUMBER;
 
 fn digits_len(text: &[u8]) -> usize
@@ -66,16 +66,34 @@ fn gap(at: TextCursor<'_>) -> Result<(Option<u64>, TextCursor<'_>), CertFault>
     Ok((Some(gap), at))
 }
 
+// What is said of a number variable's distance from the end of a boot partition, and what follows it. Version 1 says
+// nothing of that.
+fn boot_gap(
+    version: Version,
+    at: TextCursor<'_>,
+) -> Result<(Option<u64>, TextCursor<'_>), CertFault>
+    ensures { Gives (λ x. (x.0, x.1.rest.now)) result (read_boot_gap version at.entry.rest.now) }
+{
+    match version {
+        Version::One => Ok((None, at)),
+        Version::Two => gap(at),
+    }
+}
+
 /// What is said of a number variable, and what follows it.
 #[tactic(auto, unfolding(crate::specs::Reading::read_var))]
-pub fn variable(at: TextCursor<'_>) -> Result<(VarFacts, TextCursor<'_>), CertFault>
-    ensures { Gives (λ x. (x.0, x.1.rest.now)) result (read_var at.entry.rest.now) }
+pub fn variable(
+    version: Version,
+    at: TextCursor<'_>,
+) -> Result<(VarFacts, TextCursor<'_>), CertFault>
+    ensures { Gives (λ x. (x.0, x.1.rest.now)) result (read_var version at.entry.rest.now) }
 {
     let at = expect(at, b" v")?;
     let (lo, at) = number(at)?;
     let (hi, at) = number(at)?;
     let (gap, at) = gap(at)?;
-    Ok((VarFacts { lo, hi, gap }, at))
+    let (bgap, at) = boot_gap(version, at)?;
+    Ok((VarFacts { lo, hi, gap, bgap }, at))
 }
 
 fn has_upper(digits: &[u8]) -> bool

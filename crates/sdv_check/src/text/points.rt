@@ -5,14 +5,14 @@ ghost use Rattle.sdv_facts.specs.Facts.{AreRising};
 ghost use Rattle.sdv_facts.specs.CertificateText.{max_points, max_shapes};
 ghost use Rattle.sdv_facts.specs.Shared.{point_in, points_in, IsNamed};
 ghost use Rattle.sdv_facts.specs.SharedSets.{members, Interned};
-ghost use Rattle.sdv_check.specs.Reading.{Gives, begins_number, begins_var, begins_shape, read_turns, read_vars, read_rising, read_shapes, read_place, read_numbers, read_bound, read_point, read_points, is_above};
+ghost use Rattle.sdv_check.specs.Reading.{Gives, begins_number, begins_var, begins_shape, read_turns, read_vars, read_rising, read_shapes, read_place, read_boot, read_numbers, read_bound, read_point, read_points, is_above};
 
 use crate::text::cursor::{TextCursor, ends_item, expect, line_end};
 use crate::text::fault::CertFault;
 use crate::text::items::{number, shape, variable};
 use arrayvec::ArrayVec;
 use sdv_card::Shape;
-use sdv_facts::{Facts, MAX_SHAPES, Numbers, PointFacts, SetTable, VarFacts};
+use sdv_facts::{Facts, MAX_SHAPES, Numbers, PointFacts, SetTable, VarFacts, Version};
 use std::alloc::Global;
 
 fn begins_number(at: TextCursor<'_>) -> bool
@@ -51,8 +51,11 @@ fn begins_variable(at: TextCursor<'_>) -> bool
 }
 
 // What is said of the number variables, and what follows it.
-fn variables(at: TextCursor<'_>) -> Result<(ArrayVec<VarFacts, 8>, TextCursor<'_>), CertFault>
-    ensures { Gives (λ x. (x.0.items, x.1.rest.now)) result (read_vars at.entry.rest.now) }
+fn variables(
+    version: Version,
+    at: TextCursor<'_>,
+) -> Result<(ArrayVec<VarFacts, 8>, TextCursor<'_>), CertFault>
+    ensures { Gives (λ x. (x.0.items, x.1.rest.now)) result (read_vars version at.entry.rest.now) }
 {
     let mut vars = ArrayVec::new();
     let mut at = at;
@@ -60,7 +63,7 @@ fn variables(at: TextCursor<'_>) -> Result<(ArrayVec<VarFacts, 8>, TextCursor<'_
         if vars.is_full() {
             return Err(CertFault::Limit);
         }
-        let (known, rest) = variable(at)?;
+        let (known, rest) = variable(version, at)?;
         vars.push(known);
         at = rest;
     }
@@ -131,15 +134,29 @@ fn placed(at: TextCursor<'_>, place: u64) -> Result<TextCursor<'_>, CertFault>
     }
 }
 
+// The least capacity of a boot partition, and what follows it. Version 1 says nothing of that.
+fn boot(version: Version, at: TextCursor<'_>) -> Result<(u64, TextCursor<'_>), CertFault>
+    ensures { Gives (λ x. (x.0, x.1.rest.now)) result (read_boot version at.entry.rest.now) }
+{
+    match version {
+        Version::One => Ok((0, at)),
+        Version::Two => {
+            let at = expect(at, b" mb")?;
+            number(at)
+        }
+    }
+}
+
 // What is known of numbers, and what follows it.
 #[tactic(auto, unfolding(crate::specs::Reading::read_numbers))]
-fn numbers(at: TextCursor<'_>) -> Result<(Numbers, TextCursor<'_>), CertFault>
-    ensures { Gives (λ x. (x.0, x.1.rest.now)) result (read_numbers at.entry.rest.now) }
+fn numbers(version: Version, at: TextCursor<'_>) -> Result<(Numbers, TextCursor<'_>), CertFault>
+    ensures { Gives (λ x. (x.0, x.1.rest.now)) result (read_numbers version at.entry.rest.now) }
 {
     let at = expect(at, b" m")?;
     let (m, at) = number(at)?;
-    let (vars, at) = variables(at)?;
-    Ok((Numbers { m, vars }, at))
+    let (mb, at) = boot(version, at)?;
+    let (vars, at) = variables(version, at)?;
+    Ok((Numbers { m, mb, vars }, at))
 }
 
 // The bound of a point, and what follows it.
@@ -164,19 +181,20 @@ fn bound(
 fn point<'a>(
     table: &mut SetTable,
     list: &mut Vec<Shape>,
+    version: Version,
     place: u64,
     room: usize,
     at: TextCursor<'a>,
 ) -> Result<(PointFacts, TextCursor<'a>), CertFault>
     requires few { length table.old < max_points }
     ensures read { Gives (λ x. (point_in table.new x.0, x.1.rest.now)) result
-        (read_point place room at.entry.rest.now) }
+        (read_point version place room at.entry.rest.now) }
     ensures interned { IfOk result (λ x. Interned table.old list.new.items table.new x.0.facts.set) }
     ensures shapes { IfOk result (λ x. members table.new x.0.facts.set ≡ list.new.items) }
     ensures few { IsOk result → length list.new.items ≤ room }
 {
     let ((base, turns), at) = bound(at, place)?;
-    let (numbers, at) = numbers(at)?;
+    let (numbers, at) = numbers(version, at)?;
     let at = expect(at, b" s")?;
     let at = shapes(list, room, at)?;
     let at = line_end(at)?;
@@ -191,12 +209,13 @@ pub type NamedPoints = (SetTable, Vec<PointFacts>);
 /// The lines of so many points, and what follows them.
 pub fn points(
     alloc: Global,
+    version: Version,
     count: u64,
     at: TextCursor<'_>,
 ) -> Result<(NamedPoints, TextCursor<'_>), CertFault>
     requires few { count ≤ max_points }
     ensures read { Gives (λ x. (points_in x.0.0 x.0.1.items, x.1.rest.now)) result
-        (read_points count 0 max_shapes at.entry.rest.now) }
+        (read_points version count 0 max_shapes at.entry.rest.now) }
     ensures named { IfOk result (λ x. All (IsNamed x.0.0) x.0.1.items) }
 {
     let mut table = SetTable::new(alloc);
@@ -205,7 +224,7 @@ pub fn points(
     let mut room = MAX_SHAPES;
     let mut at = at;
     for place in 0..count {
-        let (point, rest) = point(&mut table, &mut list, place, room, at)?;
+        let (point, rest) = point(&mut table, &mut list, version, place, room, at)?;
         room -= list.len();
         points.push(point)?;
         at = rest;

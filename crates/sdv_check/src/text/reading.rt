@@ -1,17 +1,17 @@
 //! Certificates, read from their texts.
 
 ghost use Rattle.std.specs.Prelude.{◌≡◌, ◌≢◌, ◌<◌, ◌≤◌, List, length, IfOk, IfErr, Err, All};
-ghost use Rattle.sdv_facts.specs.Facts.{PointFacts};
+ghost use Rattle.sdv_facts.specs.Facts.{Certificate as Facts};
 ghost use Rattle.sdv_facts.specs.CertificateText.{text_of, max_bytes, max_points, WithinLimits};
-ghost use Rattle.sdv_facts.specs.Shared.{points_in, IsNamed};
-ghost use Rattle.sdv_check.specs.Reading.{Gives, read_count, read_lines, read_text};
+ghost use Rattle.sdv_facts.specs.Shared.{certificate_in, points_in, IsNamed};
+ghost use Rattle.sdv_check.specs.Reading.{Gives, read_version, read_count, read_lines, read_certificate, read_text};
 ghost use Rattle.sdv_check.specs.declared.text.fault.CertFault.TheVariants.{Limit};
 
 use crate::text::cursor::{TextCursor, expect, line_end, skip};
 use crate::text::fault::CertFault;
 use crate::text::items::number;
 use crate::text::points::{NamedPoints, points};
-use sdv_facts::Certificate;
+use sdv_facts::{Certificate, Version};
 use sdv_graph::MAX_STATEMENTS;
 use std::alloc::Global;
 
@@ -28,16 +28,16 @@ pub fn read(alloc: Global, text: &str) -> Result<Certificate, CertFault>
     ensures found { IfOk result (λ c. WithinLimits c × (text.entry.now ≡ text_of c)) }
     // Unless memory was refused, a text that is refused is that of no certificate within the limits.
     ensures only { IfErr result (λ f. f ≢ CertFault.Memory →
-        (c : List PointFacts) → WithinLimits c → text.entry.now ≡ text_of c → ⊥) }
+        (c : Facts) → WithinLimits c → text.entry.now ≡ text_of c → ⊥) }
     ensures long { max_bytes < length text.entry.now → result ≡ Err Limit }
 {
-    let (table, points) = whole(alloc, text.as_bytes())?;
-    Ok(Certificate::from_points(table, points))
+    let (version, (table, points)) = whole(alloc, text.as_bytes())?;
+    Ok(Certificate::from_points(version, table, points))
 }
 
 /// A text is that of one certificate at most.
 pub fn one_certificate()
-    ensures { (a b : List PointFacts) → WithinLimits a → WithinLimits b → text_of a ≡ text_of b → a ≡ b }
+    ensures { (a b : Facts) → WithinLimits a → WithinLimits b → text_of a ≡ text_of b → a ≡ b }
 {}
 
 // How many points there are, and what follows.
@@ -57,36 +57,59 @@ fn count(at: TextCursor<'_>) -> Result<(u64, TextCursor<'_>), CertFault>
 
 // The points with their table of sets, behind the first line.
 #[tactic(auto, unfolding(crate::specs::Reading::read_lines))]
-fn lines(alloc: Global, at: TextCursor<'_>) -> Result<NamedPoints, CertFault>
-    ensures read { Gives (λ x. points_in x.0 x.1.items) result (read_lines at.entry.rest.now) }
+fn lines(alloc: Global, version: Version, at: TextCursor<'_>) -> Result<NamedPoints, CertFault>
+    ensures read { Gives (λ x. points_in x.0 x.1.items) result (read_lines version at.entry.rest.now) }
     ensures named { IfOk result (λ x. All (IsNamed x.0) x.1.items) }
 {
     let (count, at) = count(at)?;
-    let (points, at) = points(alloc, count, at)?;
+    let (points, at) = points(alloc, version, count, at)?;
     if !at.rest.is_empty() {
         return Err(CertFault::Syntax { line: at.line });
     }
     Ok(points)
 }
 
-// The points of a text with their table of sets.
+// The version that the first line says, and what follows it.
+#[tactic(auto, unfolding(crate::specs::Reading::read_version))]
+fn version(text: &[u8]) -> Result<(Version, TextCursor<'_>), CertFault>
+    ensures { Gives (λ x. (x.0, x.1.rest.now)) result (read_version text.now) }
+{
+    let at = TextCursor {
+        rest: text,
+        line: 2,
+    };
+    if let Some(at) = skip(at, b"sdv-cert 1\n") {
+        return Ok((Version::One, at));
+    }
+    match skip(at, b"sdv-cert 2\n") {
+        Some(at) => Ok((Version::Two, at)),
+        None => Err(CertFault::Header),
+    }
+}
+
+/// A version, and points with their table of sets.
+type VersionedPoints = (Version, NamedPoints);
+
+// The version and the points of a text that is not too long.
+#[tactic(auto, unfolding(crate::specs::Reading::read_certificate))]
+fn certificate(alloc: Global, text: &[u8]) -> Result<VersionedPoints, CertFault>
+    ensures read { Gives (λ x. certificate_in x.1.0 x.0 x.1.1.items) result (read_certificate text.now) }
+    ensures named { IfOk result (λ x. All (IsNamed x.1.0) x.1.1.items) }
+{
+    let (version, at) = version(text)?;
+    let points = lines(alloc, version, at)?;
+    Ok((version, points))
+}
+
+// The version and the points of a text.
 #[tactic(auto, unfolding(crate::specs::Reading::read_text))]
-fn whole(alloc: Global, text: &[u8]) -> Result<NamedPoints, CertFault>
-    ensures read { Gives (λ x. points_in x.0 x.1.items) result (read_text text.now) }
-    ensures named { IfOk result (λ x. All (IsNamed x.0) x.1.items) }
+fn whole(alloc: Global, text: &[u8]) -> Result<VersionedPoints, CertFault>
+    ensures read { Gives (λ x. certificate_in x.1.0 x.0 x.1.1.items) result (read_text text.now) }
+    ensures named { IfOk result (λ x. All (IsNamed x.1.0) x.1.1.items) }
     ensures long { max_bytes < length text.now → result ≡ Err Limit }
 {
     if text.len() > MAX_BYTES {
         return Err(CertFault::Limit);
     }
-    match skip(
-        TextCursor {
-            rest: text,
-            line: 2,
-        },
-        b"sdv-cert 1\n",
-    ) {
-        Some(at) => lines(alloc, at),
-        None => Err(CertFault::Header),
-    }
+    certificate(alloc, text)
 }

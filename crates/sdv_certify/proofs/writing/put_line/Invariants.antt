@@ -8,6 +8,6 @@ use Rattle.sdv_certify.proofs.writing.put_line.Given as goal
 -- what is written, what is held and what is left are the line
 abbrev pub invariant-loop-shape : goal.invariant-loop-shape
 invariant-loop-shape g l = record {
-  held : Held (line_text l.place (point_in l.table l.point)) (g.W.Write.contents l.fn.out) (g.W.Write.contents l.out) l.line.items (shapes_text (drop l.shape-index l.shapes));
+  held : Held (line_text l.fn.version l.place (point_in l.table l.point)) (g.W.Write.contents l.fn.out) (g.W.Write.contents l.out) l.line.items (shapes_text (drop l.shape-index l.shapes));
   room : array_vec_len l.line < 1024;
 }

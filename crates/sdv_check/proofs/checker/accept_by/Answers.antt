@@ -19,4 +19,4 @@ returns-clause-promised g c =
       starts_hold = table.starts_hold;
       verdicts_hold = table.verdicts_hold;
     } in
-    promised c.args.graph.now c.args.certificate.now (subst (λ k. Laws k) c.requires laws) c.first-first.ensures.sound c.check_by.result c.check_by.ensures
+    promised c.args.graph.now c.args.certificate.now.points (subst (λ k. Laws k) c.requires laws) c.first-first.ensures.sound c.check_by.result c.check_by.ensures

@@ -12,18 +12,18 @@ invariant_of-at g c =
     let points = c.shown.result.1.now in
     let q = c.index-points-number.result in
     let p = point_in sets q in
-    let many = as_many sets points c.args.certificate.now c.shown.ensures.value in
+    let many = as_many sets points c.args.certificate.now.points c.shown.ensures.value in
     let there = point_there points c.loop-number.number q (omega (arith, many, c.requires.matches.count)) c.index-points-number.is in
-    let h : Here c.args.graph.now.points c.args.certificate.now c.loop-number.number (seen_point c.point.result.now) p =
+    let h : Here c.args.graph.now.points c.args.certificate.now.points c.loop-number.number (seen_point c.point.result.now) p =
     record {
       here = c.point.ensures;
-      known = facts_at sets points c.args.certificate.now c.loop-number.number q c.shown.ensures.value there;
+      known = facts_at sets points c.args.certificate.now.points c.loop-number.number q c.shown.ensures.value there;
     } in
     record {
       own = named_there sets points c.loop-number.number q c.shown.ensures.shared.named there;
       named = λ i r at. named_there sets points i r c.shown.ensures.shared.named at;
-      same = λ i r at. same_variables c.args.graph.now c.args.certificate.now c.loop-number.number (seen_point c.point.result.now) p c.requires.matches h i
-          (point_in sets r) (facts_at sets points c.args.certificate.now i r c.shown.ensures.value at);
+      same = λ i r at. same_variables c.args.graph.now c.args.certificate.now.points c.loop-number.number (seen_point c.point.result.now) p c.requires.matches h i
+          (point_in sets r) (facts_at sets points c.args.certificate.now.points i r c.shown.ensures.value at);
     }
 
 pub point_fault-requires-clause-flag : goal.point_fault-requires-clause-flag
@@ -35,16 +35,16 @@ returns-in-Some g c =
     let points = c.shown.result.1.now in
     let q = c.index-points-number.result in
     let p = point_in sets q in
-    let many = as_many sets points c.args.certificate.now c.shown.ensures.value in
+    let many = as_many sets points c.args.certificate.now.points c.shown.ensures.value in
     let there = point_there points c.loop-number.number q (omega (arith, many, c.requires.matches.count)) c.index-points-number.is in
-    let h : Here c.args.graph.now.points c.args.certificate.now c.loop-number.number (seen_point c.point.result.now) p =
+    let h : Here c.args.graph.now.points c.args.certificate.now.points c.loop-number.number (seen_point c.point.result.now) p =
     record {
       here = c.point.ensures;
-      known = facts_at sets points c.args.certificate.now c.loop-number.number q c.shown.ensures.value there;
+      known = facts_at sets points c.args.certificate.now.points c.loop-number.number q c.shown.ensures.value there;
     } in
-    fails_here c.args.graph.now c.args.certificate.now c.loop-number.number
+    fails_here c.args.graph.now c.args.certificate.now.points c.loop-number.number
     (seen_point c.point.result.now) p c.in-Some.clause h c.loop-number.invariant
-    (subst (λ k. FirstFails c.in-Some.clause k c.args.certificate.now
+    (subst (λ k. FirstFails c.in-Some.clause k c.args.certificate.now.points
     (seen_point c.point.result.now) p) c.requires.kind
     (subst (λ ps. FirstFails c.in-Some.clause g.T.CardTable.kind ps (seen_point c.point.result.now) p) c.shown.ensures.value c.in-Some.ensures))
 
@@ -54,17 +54,17 @@ loop-number-preserved g c =
     let points = c.shown.result.1.now in
     let q = c.index-points-number.result in
     let p = point_in sets q in
-    let many = as_many sets points c.args.certificate.now c.shown.ensures.value in
+    let many = as_many sets points c.args.certificate.now.points c.shown.ensures.value in
     let there = point_there points c.loop-number.number q (omega (arith, many, c.requires.matches.count)) c.index-points-number.is in
-    let h : Here c.args.graph.now.points c.args.certificate.now c.loop-number.number (seen_point c.point.result.now) p =
+    let h : Here c.args.graph.now.points c.args.certificate.now.points c.loop-number.number (seen_point c.point.result.now) p =
     record {
       here = c.point.ensures;
-      known = facts_at sets points c.args.certificate.now c.loop-number.number q c.shown.ensures.value there;
+      known = facts_at sets points c.args.certificate.now.points c.loop-number.number q c.shown.ensures.value there;
     } in
-    below_next (PointClosed c.args.graph.now.kind c.args.certificate.now) c.args.graph.now.points c.args.certificate.now c.loop-number.number
+    below_next (PointClosed c.args.graph.now.kind c.args.certificate.now.points) c.args.graph.now.points c.args.certificate.now.points c.loop-number.number
     (seen_point c.point.result.now) p h
     c.loop-number.invariant
-    (subst (λ k. PointClosed k c.args.certificate.now (seen_point c.point.result.now) p) c.requires.kind
+    (subst (λ k. PointClosed k c.args.certificate.now.points (seen_point c.point.result.now) p) c.requires.kind
     (subst (λ ps. PointClosed g.T.CardTable.kind ps (seen_point c.point.result.now) p) c.shown.ensures.value c.in_default.ensures))
 
 pub returns : goal.returns

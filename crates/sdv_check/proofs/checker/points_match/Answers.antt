@@ -12,12 +12,12 @@ returns-then-not-point_matches c =
     let q = c.index-points-number.result in
     let p = point_in sets q in
     let there = point_there points c.loop-number.number q (omega arith) c.index-points-number.is in
-    let h : Here c.args.graph.now.points c.args.certificate.now c.loop-number.number (seen_point c.point.result.now) p =
+    let h : Here c.args.graph.now.points c.args.certificate.now.points c.loop-number.number (seen_point c.point.result.now) p =
     record {
       here = c.point.ensures;
-      known = facts_at sets points c.args.certificate.now c.loop-number.number q c.shown.ensures.value there;
+      known = facts_at sets points c.args.certificate.now.points c.loop-number.number q c.shown.ensures.value there;
     } in
-    match_not c.args.graph.now c.args.certificate.now c.loop-number.number
+    match_not c.args.graph.now c.args.certificate.now.points c.loop-number.number
     (seen_point c.point.result.now) p c.point_matches.result h (c.point_matches.ensures sets) c.if-not-point_matches.true
 
 pub loop-number-preserved : goal.loop-number-preserved
@@ -27,17 +27,17 @@ loop-number-preserved c =
     let q = c.index-points-number.result in
     let p = point_in sets q in
     let there = point_there points c.loop-number.number q (omega arith) c.index-points-number.is in
-    let h : Here c.args.graph.now.points c.args.certificate.now c.loop-number.number (seen_point c.point.result.now) p =
+    let h : Here c.args.graph.now.points c.args.certificate.now.points c.loop-number.number (seen_point c.point.result.now) p =
     record {
       here = c.point.ensures;
-      known = facts_at sets points c.args.certificate.now c.loop-number.number q c.shown.ensures.value there;
+      known = facts_at sets points c.args.certificate.now.points c.loop-number.number q c.shown.ensures.value there;
     } in
-    below_next (PointMatches c.args.graph.now) c.args.graph.now.points c.args.certificate.now c.loop-number.number
+    below_next (PointMatches c.args.graph.now) c.args.graph.now.points c.args.certificate.now.points c.loop-number.number
     (seen_point c.point.result.now) p h
     c.loop-number.invariant ((c.point_matches.ensures sets).0 c.if-not-point_matches.false)
 
 pub returns : goal.returns
 returns c =
-    match_all c.args.graph.now c.args.certificate.now
-    (sym (as_many c.shown.result.0.now c.shown.result.1.now c.args.certificate.now c.shown.ensures.value) ∙ c.if-points-len.false ∙ c.len.ensures)
+    match_all c.args.graph.now c.args.certificate.now.points
+    (sym (as_many c.shown.result.0.now c.shown.result.1.now c.args.certificate.now.points c.shown.ensures.value) ∙ c.if-points-len.false ∙ c.len.ensures)
     (λ i place p lt. c.loop-number.invariant i place p (omega arith))

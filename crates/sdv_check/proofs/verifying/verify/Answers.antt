@@ -12,7 +12,7 @@ new-requires c =
       certificate = c.args.certificate.now;
       accepted = record {
         graph = c.in-Ok.ensures;
-        points = c.in-Ok-read.certificate;
+        facts = c.in-Ok-read.certificate;
         text = record { limits = found.0; written = found.1 };
         closed = closed.0;
         bound = closed.1;
@@ -21,5 +21,5 @@ new-requires c =
 
 pub returns-in-Ok-check-clause-headline : goal.returns-in-Ok-check-clause-headline
 returns-in-Ok-check-clause-headline c =
-    let runs = runs_of_text c.args.script.now c.in-Ok.graph c.in-Ok-read.certificate c.in-Ok-check.bound c.in-Ok.ensures c.in-Ok-check.ensures.promised in
+    let runs = runs_of_text c.args.script.now c.in-Ok.graph c.in-Ok-read.certificate.points c.in-Ok-check.bound c.in-Ok.ensures c.in-Ok-check.ensures.promised in
     subst (λ a. EachRunOf c.args.script.now a.bound) (sym c.new.ensures) runs

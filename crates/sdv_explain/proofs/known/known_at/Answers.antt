@@ -17,11 +17,11 @@ returns-clause-known c =
     let sets = c.shown.result.0.now in
     let qs = c.shown.result.1.now in
     let there = item_there qs c.args.point c.get.result c.in-Some.found c.get.ensures.lookup c.in-Some.is in
-    known_there sets qs c.args.known.now c.args.point c.in-Some.found.now _ c.shown.ensures.value there
+    known_there sets qs c.args.known.now.points c.args.point c.in-Some.found.now _ c.shown.ensures.value there
     (c.members.ensures.value ∙ ap (members sets) c.set.ensures) c.numbers.ensures
 
 pub returns-in_default-clause-none : goal.returns-in_default-clause-none
 returns-in_default-clause-none c =
     let qs = c.shown.result.1.now in
-    nothing_there c.shown.result.0.now qs c.args.known.now c.args.point c.shown.ensures.value
+    nothing_there c.shown.result.0.now qs c.args.known.now.points c.args.point c.shown.ensures.value
     (none_there qs c.args.point c.get.result c.get.ensures.lookup c.in_default.is)

@@ -4,4 +4,4 @@ use Rattle.sdv_explain.specs.Refused.{AllTake}
 use Rattle.sdv_explain.proofs.refused.untaken.Given as goal
 
 abbrev pub invariant-loop-shape : goal.invariant-loop-shape
-invariant-loop-shape l = AllTake (seen_action l.action) (drop l.shape-index l.shapes) ↔ AllTake (seen_action l.action) l.shapes
+invariant-loop-shape l = AllTake (seen_action l.action) l.numbers (drop l.shape-index l.shapes) ↔ AllTake (seen_action l.action) l.numbers l.shapes

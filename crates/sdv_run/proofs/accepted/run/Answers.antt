@@ -27,7 +27,7 @@ returns g c =
           g.T.Write.contents c.run_graph.new.trace;
     } in
     let has : ∥ HasCertificate accepted.graph accepted.bound ∥₁ =
-    ∥∥₁_map c.graph-graph.ensures.accepted (λ t. record { points = t.accepted.points; closed = t.accepted.closed; bound = t.accepted.bound }) in
+    ∥∥₁_map c.graph-graph.ensures.accepted (λ t. record { points = t.accepted.facts.points; closed = t.accepted.closed; bound = t.accepted.bound }) in
     let sound : IsSound accepted.graph = subst (λ v. IsSound v) c.graph-graph.ensures.graph c.first.ensures.sound in
     let ran = subst (λ v. Ran g.P.CardPort.steps v before after c.run_graph.result) c.graph-graph.ensures.graph c.run_graph.ensures.1 in
     (left, ran_beside g.P.CardPort.steps g.P.CardPort.card port.keeps_tables accepted.graph accepted.bound sound has before after c.run_graph.result ran)

@@ -13,7 +13,7 @@ pub returns-clause-certified : goal.returns-clause-certified
 returns-clause-certified g c =
     let certificate : IsCertificateOfText c.args.script.now c.in_ok-certificate.certificate =
     certificate_of_text c.args.script.now c.in_ok-script.script c.in_ok-certificate.certificate c.in_ok-script.ensures.text c.in_ok-script.ensures.script
-    c.in_ok-certificate.ensures.certificate c.in_ok-certificate.ensures.closed c.in_ok-certificate.ensures.limits in
+    c.in_ok-certificate.ensures.certificate c.in_ok-certificate.ensures.version c.in_ok-certificate.ensures.closed c.in_ok-certificate.ensures.limits in
     written_whole c.args.script.now c.in_ok-certificate.certificate certificate (g.O.Write.contents c.args.out.now) (g.O.Write.contents c.write.new.out)
     c.write.result c.map_err.result c.map_err.ensures.variant c.write.ensures
 
@@ -22,13 +22,13 @@ returns-clause-refused g c =
     let output : IfErr c.map_err.result (λ fault. fault ≡ Output) = search rules in
     let certificate : IsCertificateOfText c.args.script.now c.in_ok-certificate.certificate =
     certificate_of_text c.args.script.now c.in_ok-script.script c.in_ok-certificate.certificate c.in_ok-script.ensures.text c.in_ok-script.ensures.script
-    c.in_ok-certificate.ensures.certificate c.in_ok-certificate.ensures.closed c.in_ok-certificate.ensures.limits in
+    c.in_ok-certificate.ensures.certificate c.in_ok-certificate.ensures.version c.in_ok-certificate.ensures.closed c.in_ok-certificate.ensures.limits in
     output_failed c.args.script.now c.in_ok-certificate.certificate certificate c.map_err.result output
 
 pub returns-clause-part : goal.returns-clause-part
 returns-clause-part g c =
     let certificate : IsCertificateOfText c.args.script.now c.in_ok-certificate.certificate =
     certificate_of_text c.args.script.now c.in_ok-script.script c.in_ok-certificate.certificate c.in_ok-script.ensures.text c.in_ok-script.ensures.script
-    c.in_ok-certificate.ensures.certificate c.in_ok-certificate.ensures.closed c.in_ok-certificate.ensures.limits in
+    c.in_ok-certificate.ensures.certificate c.in_ok-certificate.ensures.version c.in_ok-certificate.ensures.closed c.in_ok-certificate.ensures.limits in
     written_in_part c.args.script.now c.in_ok-certificate.certificate certificate (g.O.Write.contents c.args.out.now) (g.O.Write.contents c.write.new.out)
     c.write.result c.map_err.result c.map_err.ensures.variant c.write.ensures

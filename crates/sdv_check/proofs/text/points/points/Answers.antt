@@ -10,7 +10,7 @@ pub returns-in_err-point-clause-read : goal.returns-in_err-point-clause-read
 returns-in_err-point-clause-read c =
     let p = err_from_is_err_and c.from_residual.result c.from_residual.ensures.1 in
     let seen = points_in c.loop-place.table c.loop-place.points.items in
-    rw (p.1, p.2) (points_fail c.in_err-point.field-0.0 c.args.count c.loop-place.place c.loop-place.room seen c.loop-place.at.rest.now _
+    rw (p.1, p.2) (points_fail c.in_err-point.field-0.0 c.args.version c.args.count c.loop-place.place c.loop-place.room seen c.loop-place.at.rest.now _
     (omega arith) c.in_err-point.ensures.read c.loop-place.invariant.read)
 
 pub loop-place-preserved : goal.loop-place-preserved
@@ -27,7 +27,7 @@ loop-place-preserved c =
     let len : c.len-room.result ≡ length c.point.new.list.items = search rules in
     let left : c.loop-place.room - c.len-room.result ≡ c.loop-place.room - length (point_in new p).facts.shapes =
     ap (λ n. c.loop-place.room - n) (len ∙ ap length (sym c.in_ok-point.ensures.shapes)) in
-    let read = points_more c.args.count c.loop-place.place c.loop-place.room (points_in old points) c.loop-place.at.rest.now (point_in new p)
+    let read = points_more c.args.version c.args.count c.loop-place.place c.loop-place.room (points_in old points) c.loop-place.at.rest.now (point_in new p)
     c.in_ok-point.rest.rest.now _ (omega arith) c.in_ok-point.ensures.read i.read in
     record {
       read = rw (more, left) read;
@@ -37,5 +37,5 @@ loop-place-preserved c =
 
 pub returns-clause-read : goal.returns-clause-read
 returns-clause-read c =
-    points_done c.args.count c.loop-place.place c.loop-place.room (points_in c.loop-place.table c.loop-place.points.items) c.loop-place.at.rest.now _
+    points_done c.args.version c.args.count c.loop-place.place c.loop-place.room (points_in c.loop-place.table c.loop-place.points.items) c.loop-place.at.rest.now _
     (omega arith) c.loop-place.invariant.read

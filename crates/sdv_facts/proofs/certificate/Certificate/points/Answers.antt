@@ -6,4 +6,4 @@ pub returns-clause-value : goal.returns-clause-value
 returns-clause-value c =
     let sets = c.self.inside.table in
     let read = c.deref.ensures.value in
-    (sets, subst (IsShared sets) (sym read) c.self.invariant, ap (points_in sets) read ∙ c.self.view_is)
+    (sets, subst (IsShared sets) (sym read) c.self.invariant.0, ap (points_in sets) read ∙ ap (λ x. x.points) c.self.view_is)

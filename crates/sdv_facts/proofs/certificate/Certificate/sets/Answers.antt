@@ -7,5 +7,6 @@ pub returns : goal.returns
 returns c = (
   c.self.inside.table,
   sym c.len.ensures,
-  subst (HasSetsOf c.self.inside.table) c.self.view_is (has_sets c.self.inside.table c.self.inside.points.items c.self.invariant.named),
+  subst (λ x. HasSetsOf c.self.inside.table x.points) c.self.view_is
+      (has_sets c.self.inside.table c.self.inside.points.items c.self.invariant.0.named),
 )
