@@ -156,7 +156,7 @@ certificate Cut: Header 11, Syntax 1971
 certificate LineTwice: Syntax 25
 certificate ShapeTwice: Order 83
 certificate PointRaised: Syntax 23
-certificate NumberRaised: Header 1, Syntax 1, accepted 22, Start 3, Number 79, Bound 19
+certificate NumberRaised: Syntax 2, accepted 22, Start 3, Number 79, Bound 19
 ";
 
 #[test]
