@@ -169,7 +169,7 @@ fn refused(alloc: Global, script: &str, certificate: &str) -> Option<VerifyFault
 static CERTIFICATES: [(&str, &str, VerifyFault); 10] = [
     (
         "sdv-cert 1",
-        "sdv-cert 2",
+        "sdv-cert 3",
         VerifyFault::Certificate(CertFault::Header),
     ),
     (
