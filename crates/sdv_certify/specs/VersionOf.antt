@@ -10,7 +10,7 @@ use Rattle.sdv_facts.specs.declared.certificate.Version.{Version}
 use Rattle.sdv_facts.specs.declared.certificate.Version.TheVariants.{One, Two}
 use Rattle.sdv_facts.specs.declared.numbers.Numbers.{Numbers}
 use Rattle.sdv_facts.specs.Facts.{Facts}
-use Rattle.sdv_facts.specs.Versions.{SaysNoBoot, without_boot}
+use Rattle.sdv_facts.specs.Versions.{IsTold, without_boot}
 use Rattle.sdv_certify.specs.Family.{Family}
 
 -- THE VERSION
@@ -39,10 +39,6 @@ told One ns = without_boot ns
 told Two ns = ns
 
 -- no more than that is known
-abbrev pub IsTold : Version → Numbers → Type 0
-IsTold One ns = SaysNoBoot ns
-IsTold Two ns = Unit {0}
-
 abbrev pub IsToldAt : Version → Option Facts → Type 0
 IsToldAt version None = Unit {0}
 IsToldAt version (Some f) = IsTold version f.numbers

@@ -12,10 +12,14 @@ pub record SaysNoBoot (ns : Numbers) : Type 0 where
   pub least : ns.mb ≡ 0
   pub gaps : All (λ v. v.bgap ≡ None) ns.vars.items
 
--- the version can say it
+-- no more than the version can say is known of numbers
+abbrev pub IsTold : Version → Numbers → Type 0
+IsTold One ns = SaysNoBoot ns
+IsTold Two ns = Unit {0}
+
+-- and of a point
 abbrev pub FitsVersion : Version → PointFacts → Type 0
-FitsVersion One p = SaysNoBoot p.facts.numbers
-FitsVersion Two p = Unit {0}
+FitsVersion version p = IsTold version p.facts.numbers
 
 -- the same numbers, with nothing said of boot partitions
 abbrev pub var_without_boot : VarFacts → VarFacts
