@@ -5,11 +5,11 @@ ghost use Rattle.std.specs.Prelude.{None, ◌^◌, ◌-◌};
 use sdv_file_image::BlockFile;
 use sdv_image::{Image, ImageFault, MemImage};
 use std::alloc::Global;
-use std::test::Fail;
+use std::process::Abort;
 
 /// Blocks in memory, and how often one was read and written. It claims nothing of its blocks, and its count of failures
 /// stands at its greatest, though no call fails.
-#[derive(Debug, Drop)]
+#[derive(Drop)]
 pub struct CountingFile {
     pub image: MemImage,
     pub bytes: u64,
@@ -19,19 +19,17 @@ pub struct CountingFile {
 
 impl CountingFile {
     /// A file of so many bytes, all zero.
-    pub fn new(alloc: Global, bytes: u64) -> Result<CountingFile, Fail> {
+    pub fn new(rt: &impl Abort, alloc: Global, bytes: u64) -> CountingFile {
         let mut zeros = Vec::new(alloc);
         for _ in 0..bytes / 512 {
-            for _ in 0..512 {
-                zeros.push(0)?;
-            }
+            zeros.extend_from_slice(&[0; 512]).expect(rt, "memory");
         }
-        Ok(CountingFile {
-            image: MemImage::from_bytes(zeros)?,
+        CountingFile {
+            image: MemImage::from_bytes(zeros).expect(rt, "whole blocks"),
             bytes,
             reads: 0,
             writes: 0,
-        })
+        }
     }
 }
 

@@ -11,4 +11,6 @@ mod file_image;
 #[cfg(test)]
 mod fuses;
 #[cfg(test)]
+mod shared;
+#[cfg(test)]
 mod simulated_card;

@@ -7,8 +7,8 @@ use sdv_file_image::FileImage;
 use sdv_frames::{Command, Expect};
 use sdv_image::Image;
 use sdv_sim::{CardDesc, Sim};
+use std::alloc::Global;
 use std::process::Abort;
-use std::test::Fail;
 
 /// An SD card of version 2 with block addresses, of 1,024 blocks.
 const CARD: &str = "card sd\nversion 2\nunit block\ncsize 0\nrca 4660\n";
@@ -34,15 +34,23 @@ fn send<P: CardPort>(rt: &impl Abort, port: &mut P, index: u8, argument: u32, ex
     assert!(rt; is_answered, "CMD{index}: {answer:?}");
 }
 
+/// A card in the transfer state, over a file.
+fn brought_up(rt: &impl Abort, alloc: Global) -> Controller<Sim<FileImage<CountingFile>>> {
+    let desc = CardDesc::parse(CARD).expect(rt, "a description");
+    let file = CountingFile::new(rt, alloc, 1024 * 512);
+    let image = FileImage::new(alloc, file).expect(rt, "an image");
+    let card = Sim::new(alloc, desc, image, &[]).expect(rt, "an image of the card's length");
+    let mut port = Controller::new(card);
+    for (index, argument, expect) in BRING_UP {
+        send(rt, &mut port, index, argument, expect);
+    }
+    port
+}
+
 /// A block that is written over the card, and read again, is in the file once the image is finished.
 #[test]
-fn written_and_read(rt: HostRuntime) -> Result<(), Fail> {
-    let alloc = rt.alloc();
-    let image = FileImage::new(alloc, CountingFile::new(alloc, 1024 * 512)?)?;
-    let mut port = Controller::new(Sim::new(alloc, CardDesc::parse(CARD)?, image, &[])?);
-    for (index, argument, expect) in BRING_UP {
-        send(&rt, &mut port, index, argument, expect);
-    }
+fn written_and_read(rt: HostRuntime) {
+    let mut port = brought_up(&rt, rt.alloc());
     send(&rt, &mut port, 24, 3, Expect::R1(24));
     assert!(rt; port.data_out(1, &[[7; 512]]) == DataEnd::Ok);
     assert!(rt; port.wait() == WaitEnd::Ok);
@@ -50,12 +58,11 @@ fn written_and_read(rt: HostRuntime) -> Result<(), Fail> {
     let mut blocks = [[0; 512]];
     assert!(rt; port.data_in(1, &mut blocks) == DataEnd::Ok);
     assert!(rt; blocks == [[7; 512]]);
+    blocks = [[0; 512]];
     let finished = port.into_wire().into_image().finish();
-    let mut file = finished.ok().ok_or("a write-back failed")?;
-    assert_eq!(rt; (file.reads, file.writes), (1, 1));
-    let mut block = [0; 512];
+    let mut file = finished.ok().expect(&rt, "no write-back fails");
+    assert!(rt; file.reads == 1 && file.writes == 1);
     assert!(rt; 3 < file.image.len());
-    assert!(rt; file.image.read_block(3, &mut block).is_ok());
-    assert!(rt; block == [7; 512]);
-    Ok(())
+    assert!(rt; file.image.read_block(3, &mut blocks[0]).is_ok());
+    assert!(rt; blocks == [[7; 512]]);
 }
