@@ -1,4 +1,14 @@
-//! Texts that tests share.
+//! Texts and comparisons that tests share.
+
+use sdv_script::{Graph, ScriptFault, parse};
+use std::alloc::Global;
+use std::fmt::Debug;
+use std::process::Abort;
+
+/// Stops the test where what was found is not what is wanted; the message shows the row.
+pub fn same<T: PartialEq + Debug, R: Debug>(rt: &impl Abort, found: &T, wanted: &T, row: &R) {
+    assert_eq!(rt; found, wanted, "{row:?}");
+}
 
 /// A script that brings a card up to the transfer state.
 pub const BRING_UP: &str = "card sd
@@ -30,3 +40,8 @@ send 16 { clean { } else { fault blen } }
 if hc { send 8 { clean { recv reg { ok { let cap = ext.blocks } else { fault ext } } } else { fault ext } } } else { let cap = csd.blocks }
 done
 ";
+
+/// The graph of the script of a text, or why it is none.
+pub fn graph_of<'a>(alloc: Global, text: &'a str) -> Result<Graph<'a>, ScriptFault> {
+    parse(alloc, text)?.graph(alloc)
+}

@@ -1,7 +1,8 @@
 //! Rows of the rules of facts, from outside.
 
-ghost use Rattle.std.specs.Prelude.{◌≡◌, ◌<◌, length, IfOk};
+ghost use Rattle.std.specs.Prelude.{◌≡◌, ◌<◌, length};
 
+use crate::common::same;
 use arrayvec::ArrayVec;
 use sdv_card::{Aim, Ask, Event, Guard, Kind, Seen, Shape, State};
 use sdv_facts::{
@@ -9,8 +10,8 @@ use sdv_facts::{
     all_may_hold, covers, ends_at, event_of_phase, one_may_fail,
 };
 use sdv_graph::{Action, Address, Atom, Change, Let, Phase, Position, ScriptCommand, Target, Unit};
-use std::alloc::{AllocError, Global};
-use std::test::Fail;
+use std::alloc::Global;
+use std::process::Abort;
 
 const MAX: u64 = 1_099_511_627_776;
 
@@ -52,18 +53,19 @@ fn with_boot(numbers: Numbers, mb: u64, bgap: Option<u64>) -> Numbers
 // A table whose one set has the shapes of these codes, of which there are two at most, and the lesser one comes first, and
 // facts with that set.
 #[tactic(auto, using(crate::proofs::FewShapes::one_rises, crate::proofs::FewShapes::two_rise))]
-fn facts_of(alloc: Global, codes: &[u64], numbers: Numbers) -> Result<(SetTable, Facts), AllocError>
+fn facts_of(rt: &impl Abort, alloc: Global, codes: &[u64], numbers: Numbers) -> (SetTable, Facts)
     requires { length numbers.vars.items ≡ 2 }
-    ensures two { IfOk result (λ x. length x.1.numbers.vars.items ≡ 2) }
-    ensures within { IfOk result (λ x. x.1.set < length x.0) }
+    ensures two { length result.1.numbers.vars.items ≡ 2 }
+    ensures within { result.1.set < length result.0 }
 {
     let mut table = SetTable::new(alloc);
     let set = match codes {
-        [code] => table.intern(&[Shape(*code)])?,
-        [code, next] if code < next => table.intern(&[Shape(*code), Shape(*next)])?,
-        _ => table.intern(&[])?,
+        [code] => table.intern(&[Shape(*code)]),
+        [code, next] if code < next => table.intern(&[Shape(*code), Shape(*next)]),
+        _ => table.intern(&[]),
     };
-    Ok((table, Facts::new(set, numbers)))
+    let set = set.expect(rt, "memory");
+    (table, Facts::new(set, numbers))
 }
 
 // A byte-addressed and a block-addressed card in transfer state; the second also with the first flag set.
@@ -177,52 +179,50 @@ static REGISTERS: [(Kind, [u64; 2], Atom, Known); 7] = [
     (Kind::Emmc, [BYTE, 0x2805], Atom::ExtBlocks, NOT_TOLD),
 ];
 
-// The first variable is set.
-fn set_first(
+// The numbers after the first variable was set, where the card has one of these shapes.
+fn after_setting(
+    rt: &impl Abort,
+    alloc: Global,
     kind: Kind,
-    table: &SetTable,
-    facts: &Facts,
-    atom: Atom,
-    change: Change,
-) -> Option<Known>
-    requires two { length facts.now.numbers.vars.items ≡ 2 }
-    requires within { facts.now.set < length table.now }
+    codes: &[u64],
+    numbers: Numbers,
+    value: (Atom, Change),
+) -> Option<Numbers>
+    requires { length numbers.vars.items ≡ 2 }
 {
+    let (table, facts) = facts_of(rt, alloc, codes, numbers);
     let setting = Let {
         target: 0,
-        atom,
-        change,
+        atom: value.0,
+        change: value.1,
     };
-    let VarFacts { lo, hi, gap, .. } = after_let(table, kind, facts, &setting)?.var(0);
+    after_let(&table, kind, &facts, &setting)
+}
+
+// What is known of the first variable.
+fn first_of(numbers: Option<Numbers>) -> Option<Known> {
+    let VarFacts { lo, hi, gap, .. } = numbers?.var(0);
     Some((lo, hi, gap))
 }
 
 #[test]
-fn lets(rt: HostRuntime) -> Result<(), Fail> {
-    let alloc = rt.alloc();
-    for &(known, atom, change, after) in LETS.iter() {
-        let (table, facts) = facts_of(alloc, &[BYTE], numbers(100, ZERO, known))?;
-        assert_eq!(&rt;
-            set_first(Kind::Sd, &table, &facts, atom, change),
-            after,
-            "{known:?}"
-        );
+fn lets(rt: HostRuntime) {
+    for row in LETS.iter() {
+        let known = numbers(100, ZERO, row.0);
+        let value = (row.1, row.2);
+        let after = after_setting(&rt, rt.alloc(), Kind::Sd, &[BYTE], known, value);
+        same(&rt, &first_of(after), &row.3, &row.0);
     }
-    Ok(())
 }
 
 #[test]
-fn lets_of_registers(rt: HostRuntime) -> Result<(), Fail> {
-    let alloc = rt.alloc();
-    for &(kind, codes, atom, after) in REGISTERS.iter() {
-        let (table, facts) = facts_of(alloc, &codes, numbers(100, ZERO, ZERO))?;
-        assert_eq!(&rt;
-            set_first(kind, &table, &facts, atom, Change::Same),
-            Some(after),
-            "{codes:?}"
-        );
+fn lets_of_registers(rt: HostRuntime) {
+    for row in REGISTERS.iter() {
+        let known = numbers(100, ZERO, ZERO);
+        let value = (row.2, Change::Same);
+        let after = after_setting(&rt, rt.alloc(), row.0, &row.1, known, value);
+        same(&rt, &first_of(after), &Some(row.3), &row.1);
     }
-    Ok(())
 }
 
 // A value, and what is known of the first variable's distance from the end of a boot partition after it was set to that,
@@ -249,23 +249,14 @@ static BOOT_LETS: [(Atom, Change, Known, Option<u64>); 8] = [
 ];
 
 #[test]
-fn lets_of_boot_partitions(rt: HostRuntime) -> Result<(), Fail> {
-    for &(atom, change, known, bgap) in BOOT_LETS.iter() {
+fn lets_of_boot_partitions(rt: HostRuntime) {
+    for row in BOOT_LETS.iter() {
         let before = with_boot(numbers(100, (0, 3, None), ZERO), 512, Some(256));
-        let (table, facts) = facts_of(rt.alloc(), &[BLOCK], before)?;
-        let set = Let {
-            target: 0,
-            atom,
-            change,
-        };
-        let after = with_boot(numbers(100, known, ZERO), 512, bgap);
-        assert_eq!(&rt;
-            after_let(&table, Kind::Emmc, &facts, &set),
-            Some(after),
-            "{known:?}"
-        );
+        let after = with_boot(numbers(100, row.2, ZERO), 512, row.3);
+        let value = (row.0, row.1);
+        let found = after_setting(&rt, rt.alloc(), Kind::Emmc, &[BLOCK], before, value);
+        same(&rt, &found, &Some(after), &row.2);
     }
-    Ok(())
 }
 
 // What is known of the first variable, a test, and what is known after it of the capacity and both variables, where ten
@@ -339,57 +330,74 @@ static BOOT_TARGETS: [(u64, Option<u64>, bool); 5] = [
     (512, Some(0), true),
 ];
 
+// The numbers along an edge with this test.
+fn tested(
+    rt: &impl Abort,
+    alloc: Global,
+    codes: &[u64],
+    numbers: Numbers,
+    test: &Test,
+) -> Option<Numbers>
+    requires { length numbers.vars.items ≡ 2 }
+{
+    let (_, facts) = facts_of(rt, alloc, codes, numbers);
+    after_test(&facts, test)
+}
+
 // A number that is at least 256 and 256 blocks before the end of a boot partition.
 #[test]
-fn comparison_of_a_boot_partition(rt: HostRuntime) -> Result<(), Fail> {
+fn comparison_of_a_boot_partition(rt: HostRuntime) {
     let before = with_boot(numbers(10, (0, 900, None), ZERO), 300, Some(256));
-    let (_, facts) = facts_of(rt.alloc(), &[BLOCK], before)?;
     let after = with_boot(numbers(10, (256, 900, None), ZERO), 512, Some(256));
-    assert_eq!(&rt; after_test(&facts, &Test::AtLeast(0, 256)), Some(after));
-    Ok(())
+    let test = Test::AtLeast(0, 256);
+    let found = tested(&rt, rt.alloc(), &[BLOCK], before, &test);
+    same(&rt, &found, &Some(after), &test);
 }
 
 #[test]
-fn comparisons(rt: HostRuntime) -> Result<(), Fail> {
-    for &(x, test, after) in COMPARISONS.iter() {
-        let (_, facts) = facts_of(rt.alloc(), &[BYTE], numbers(10, x, UP_TO_NINE))?;
-        let wanted = match after {
+fn comparisons(rt: HostRuntime) {
+    for row in COMPARISONS.iter() {
+        let wanted = match row.2 {
             Some((m, x, y)) => Some(numbers(m, x, y)),
             None => None,
         };
-        assert_eq!(&rt; after_test(&facts, &test), wanted, "{test:?}");
+        let before = numbers(10, row.0, UP_TO_NINE);
+        let found = tested(&rt, rt.alloc(), &[BYTE], before, &row.1);
+        same(&rt, &found, &wanted, &row.1);
     }
-    Ok(())
 }
 
 #[test]
 fn targets(rt: HostRuntime) {
     let y = (0, 9, None);
     let carried = numbers(10, (3, 5, Some(7)), y);
-    for &(m, x, covered) in TARGETS.iter() {
-        assert_eq!(&rt; covers(&numbers(m, x, y), &carried), covered, "{m} {x:?}");
+    for row in TARGETS.iter() {
+        let target = numbers(row.0, row.1, y);
+        same(&rt, &covers(&target, &carried), &row.2, &(row.0, row.1));
+    }
+    let boot = with_boot(carried, 512, Some(256));
+    for row in BOOT_TARGETS.iter() {
+        let target = with_boot(numbers(1, y, y), row.0, row.1);
+        same(&rt, &covers(&target, &boot), &row.2, &(row.0, row.1));
     }
     let (with, without) = ((0, 9, Some(0)), (0, 9, None));
     assert!(&rt; !covers(&numbers(1, with, with), &numbers(1, with, without)));
-    let boot = with_boot(carried, 512, Some(256));
-    for &(mb, bgap, covered) in BOOT_TARGETS.iter() {
-        let target = with_boot(numbers(1, (0, 9, None), y), mb, bgap);
-        assert_eq!(&rt; covers(&target, &boot), covered, "{mb} {bgap:?}");
-    }
 }
 
 #[test]
 fn numbers_at_the_start(rt: HostRuntime) {
-    let start = (0, 0, Some(1));
-    let numbers = Numbers::at_start(2);
-    assert_eq!(&rt; (numbers.m, numbers.mb, numbers.vars.len()), (1, 0, 2));
     let start = VarFacts {
         bgap: Some(0),
-        ..var(start)
+        ..var((0, 0, Some(1)))
     };
-    assert_eq!(&rt; (numbers.var(0), numbers.var(1)), (start, start));
-    assert_eq!(&rt; Numbers::at_start(0).var(0), VarFacts::weakest());
-    assert_eq!(&rt; VarFacts::weakest(), var((0, MAX, None)));
+    let numbers = Numbers::at_start(2);
+    let sizes = (numbers.m, numbers.mb, numbers.vars.len());
+    same(&rt, &sizes, &(1, 0, 2), &"two variables");
+    same(&rt, &numbers.var(0), &start, &"the first of two");
+    same(&rt, &numbers.var(1), &start, &"the second of two");
+    let weakest = VarFacts::weakest();
+    same(&rt, &Numbers::at_start(0).var(0), &weakest, &"one of none");
+    same(&rt, &weakest, &var((0, MAX, None)), &"nothing but a number");
 }
 
 // A command, with an address or without one.
@@ -406,6 +414,46 @@ fn send(alloc: Global, index: u8, count: u16, address: Option<Address>) -> Actio
         enter: None,
     };
     Action::Send(ScriptCommand { ask, address }, Vec::new(alloc), nowhere)
+}
+
+// Whether the blocks from the address on are known to lie on a card of these shapes.
+fn fits(
+    rt: &impl Abort,
+    alloc: Global,
+    codes: &[u64],
+    numbers: Numbers,
+    address: &Address,
+    blocks: u64,
+) -> bool
+    requires { length numbers.vars.items ≡ 2 }
+{
+    let (table, facts) = facts_of(rt, alloc, codes, numbers);
+    address_ok(&table, &facts, address, blocks)
+}
+
+// A card of at least 10 blocks. The first variable is 3 to 5 and 7 blocks before the end, the second one 2 to 4.
+fn ten_blocks() -> Numbers
+    ensures { length result.vars.items ≡ 2 }
+{
+    numbers(10, (3, 5, Some(7)), (2, 4, None))
+}
+
+// The same of the address of a statement, on a card of ten blocks; also where it needs none.
+fn holds(rt: &impl Abort, alloc: Global, codes: &[u64], action: &Action<'_>) -> bool {
+    let (table, facts) = facts_of(rt, alloc, codes, ten_blocks());
+    address_holds(&table, &facts, action)
+}
+
+// The same of a command, with an address or without one.
+fn send_holds(
+    rt: &impl Abort,
+    alloc: Global,
+    codes: &[u64],
+    command: (u8, u16),
+    address: Option<Address>,
+) -> bool {
+    let action = send(alloc, command.0, command.1, address);
+    holds(rt, alloc, codes, &action)
 }
 
 // The index of a command, the blocks that it announces, and the block that it begins with, on a card of at least 10
@@ -446,27 +494,19 @@ static UNITS: [([u64; 2], Unit, bool); 12] = [
 ];
 
 #[test]
-fn addresses(rt: HostRuntime) -> Result<(), Fail> {
-    let alloc = rt.alloc();
-    let (x, y) = ((3, 5, Some(7)), (2, 4, None));
-    let (table, facts) = facts_of(alloc, &[BYTE], numbers(10, x, y))?;
-    for &(index, count, position, known) in POSITIONS.iter() {
-        let unit = Unit::Byte;
-        let address = Address { unit, position };
-        let blocks = if index == 32 { 1 } else { u64::from(count) };
-        assert_eq!(&rt;
-            address_ok(&table, &facts, &address, blocks),
-            known,
-            "{index} {count}"
-        );
-        let action = send(alloc, index, count, Some(address));
-        assert_eq!(&rt;
-            address_holds(&table, &facts, &action),
-            known,
-            "{index} {count}"
-        );
+fn addresses(rt: HostRuntime) {
+    for row in POSITIONS.iter() {
+        let address = Address {
+            unit: Unit::Byte,
+            position: row.2,
+        };
+        let blocks = if row.0 == 32 { 1 } else { u64::from(row.1) };
+        let known = fits(&rt, rt.alloc(), &[BYTE], ten_blocks(), &address, blocks);
+        let command = (row.0, row.1);
+        same(&rt, &known, &row.3, &command);
+        let known = send_holds(&rt, rt.alloc(), &[BYTE], command, Some(address));
+        same(&rt, &known, &row.3, &command);
     }
-    Ok(())
 }
 
 // Two shapes, the block that a command of so many blocks begins with, and whether they are known to lie in the partition
@@ -506,63 +546,52 @@ static PARTITIONS: [([u64; 2], u16, Position, bool); 10] = [
 ];
 
 #[test]
-fn partitions(rt: HostRuntime) -> Result<(), Fail> {
-    for &(codes, count, position, known) in PARTITIONS.iter() {
+fn partitions(rt: HostRuntime) {
+    for row in PARTITIONS.iter() {
         let numbers = with_boot(numbers(10, (3, 5, Some(7)), ZERO), 512, Some(400));
-        let (table, facts) = facts_of(rt.alloc(), &codes, numbers)?;
         let address = Address {
             unit: Unit::Block,
-            position,
+            position: row.2,
         };
-        assert_eq!(&rt;
-            address_ok(&table, &facts, &address, u64::from(count)),
-            known,
-            "{codes:?} {count}"
-        );
+        let blocks = u64::from(row.1);
+        let known = fits(&rt, rt.alloc(), &row.0, numbers, &address, blocks);
+        same(&rt, &known, &row.3, &(row.0, row.1));
     }
-    Ok(())
 }
 
 // Eight blocks before the capacity of the CSD.
 #[test]
-fn last_blocks(rt: HostRuntime) -> Result<(), Fail> {
-    let (alloc, y) = (rt.alloc(), (2, 4, None));
-    let known = numbers(1, (0, 4_294_967_288, Some(8)), y);
-    let (table, less) = facts_of(alloc, &[BLOCK], known)?;
+fn last_blocks(rt: HostRuntime) {
     let address = Address {
         unit: Unit::Block,
         position: Position::Variable(0, None),
     };
-    assert!(&rt; address_ok(&table, &less, &address, 8));
-    assert!(&rt; !address_ok(&table, &less, &address, 9));
-    Ok(())
-}
-
-#[test]
-fn units(rt: HostRuntime) -> Result<(), Fail> {
-    let alloc = rt.alloc();
-    let (x, y) = ((3, 5, Some(7)), (2, 4, None));
-    for &(codes, unit, known) in UNITS.iter() {
-        let (table, facts) = facts_of(alloc, &codes, numbers(10, x, y))?;
-        let position = Position::Number(0);
-        let action = send(alloc, 17, 1, Some(Address { unit, position }));
-        assert_eq!(&rt; address_holds(&table, &facts, &action), known, "{codes:?}");
+    for (blocks, wanted) in [(8, true), (9, false)] {
+        let numbers = numbers(1, (0, 4_294_967_288, Some(8)), (2, 4, None));
+        let known = fits(&rt, rt.alloc(), &[BLOCK], numbers, &address, blocks);
+        same(&rt, &known, &wanted, &blocks);
     }
-    Ok(())
 }
 
 #[test]
-fn commands_without_address(rt: HostRuntime) -> Result<(), Fail> {
+fn units(rt: HostRuntime) {
+    for row in UNITS.iter() {
+        let address = Address {
+            unit: row.1,
+            position: Position::Number(0),
+        };
+        let known = send_holds(&rt, rt.alloc(), &row.0, (17, 1), Some(address));
+        same(&rt, &known, &row.2, &row.0);
+    }
+}
+
+#[test]
+fn commands_without_address(rt: HostRuntime) {
     let alloc = rt.alloc();
-    let (x, y) = ((3, 5, Some(7)), (2, 4, None));
-    let (table, facts) = facts_of(alloc, &[BYTE], numbers(10, x, y))?;
-    let nowhere = send(alloc, 18, 8, None);
-    assert!(&rt; !address_holds(&table, &facts, &nowhere));
-    assert!(&rt; address_holds(&table, &facts, &send(alloc, 13, 0, None)));
-    assert!(&rt; address_holds(&table, &facts, &Action::Done));
-    let (empty, unreached) = facts_of(alloc, &[], numbers(10, x, y))?;
-    assert!(&rt; address_holds(&empty, &unreached, &nowhere));
-    Ok(())
+    assert!(&rt; !send_holds(&rt, alloc, &[BYTE], (18, 8), None));
+    assert!(&rt; send_holds(&rt, alloc, &[BYTE], (13, 0), None));
+    assert!(&rt; holds(&rt, alloc, &[BYTE], &Action::Done));
+    assert!(&rt; send_holds(&rt, alloc, &[], (18, 8), None));
 }
 
 // A status that shows the transfer state, and may come of a card that stayed as it was.
@@ -624,19 +653,20 @@ static ENDS: [(u64, bool); 4] = [(0x2c04, true), (0x2c05, false), (0x2c06, false
 
 #[test]
 fn guards(rt: HostRuntime) {
-    for &(guards, seen, all_hold, one_fails) in GUARDS.iter() {
-        assert_eq!(&rt; all_may_hold(guards, seen), all_hold, "{guards:?}");
-        assert_eq!(&rt; one_may_fail(guards, seen), one_fails, "{guards:?}");
+    for row in GUARDS.iter() {
+        same(&rt, &all_may_hold(row.0, row.1), &row.2, &row.0);
+        same(&rt, &one_may_fail(row.0, row.1), &row.3, &row.0);
     }
 }
 
 #[test]
 fn phases_and_ends(rt: HostRuntime) {
-    for &(phase, event) in PHASES.iter() {
-        assert_eq!(&rt; event_of_phase(phase), event);
+    for row in PHASES.iter() {
+        same(&rt, &event_of_phase(row.0), &row.1, &row.1);
     }
-    for &(code, ends) in ENDS.iter() {
-        assert_eq!(&rt; ends_at(&Action::Done, Shape(code)), ends, "{code:x}");
-        assert!(&rt; ends_at(&Action::Fault("off"), Shape(code)));
+    for row in ENDS.iter() {
+        let shape = Shape(row.0);
+        same(&rt, &ends_at(&Action::Done, shape), &row.1, &shape);
+        assert!(&rt; ends_at(&Action::Fault("off"), shape));
     }
 }

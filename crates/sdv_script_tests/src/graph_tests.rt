@@ -1,9 +1,9 @@
 //! Points of scripts, beside values that were written down by hand.
 
-use crate::common::BRING_UP;
-use sdv_script::{Action, Condition, Graph, Phase, Point, Target, parse};
+use crate::common::{BRING_UP, graph_of, same};
+use sdv_script::{Action, Condition, Graph, Phase, Point, Target};
 use std::alloc::{AllocError, Global};
-use std::test::Fail;
+use std::process::Abort;
 
 // The words of a point's statement.
 fn words_of(point: &Point<'_>) -> &'static str {
@@ -28,61 +28,62 @@ fn words_of(point: &Point<'_>) -> &'static str {
 }
 
 // Adds a target: its point, and behind `-` how many loops are left, behind `+` the turns of the loop that is entered.
-fn put_target(text: &mut String, alloc: Global, target: Target) -> Result<(), AllocError> {
-    text.push_str(format!(in alloc; " {}", target.to)?.as_str())?;
+fn put_target(text: &mut String, target: Target) -> Result<(), AllocError> {
+    write!(text, " {}", target.to)?;
     if target.leave > 0 {
-        text.push_str(format!(in alloc; "-{}", target.leave)?.as_str())?;
+        write!(text, "-{}", target.leave)?;
     }
     if let Some(turns) = target.enter {
-        text.push_str(format!(in alloc; "+{turns}")?.as_str())?;
+        write!(text, "+{turns}")?;
     }
     Ok(())
 }
 
 // Adds the targets of a point, in the order of the text.
-fn put_targets(text: &mut String, alloc: Global, point: &Point<'_>) -> Result<(), AllocError> {
+fn put_targets(text: &mut String, point: &Point<'_>) -> Result<(), AllocError> {
     match &point.action {
         Action::Send(_, ways, other) => {
             for way in ways {
-                put_target(text, alloc, way.target)?;
+                put_target(text, way.target)?;
             }
-            put_target(text, alloc, *other)
+            put_target(text, *other)
         }
         Action::Phase(_, a, b) | Action::If(_, a, b) | Action::Loop(_, a, b) => {
-            put_target(text, alloc, *a)?;
-            put_target(text, alloc, *b)
+            put_target(text, *a)?;
+            put_target(text, *b)
         }
         Action::Let(_, target)
         | Action::Flag(_, _, target)
         | Action::Lines(_, target)
-        | Action::Break(target) => put_target(text, alloc, *target),
+        | Action::Break(target) => put_target(text, *target),
         Action::Done | Action::Fault(_) => Ok(()),
     }
 }
 
-// A graph: its number variables, its flags, its most moves and its first target, and a line for each point, with the most
-// turns left of the loops round it and its targets.
-fn text_of(alloc: Global, graph: &Graph<'_>) -> Result<String, AllocError> {
-    let mut text = format!(in alloc; "{} {} {}", graph.nums(), graph.flags(), graph.steps())?;
-    put_target(&mut text, alloc, graph.first())?;
-    for number in 0..graph.len() {
-        put_point(&mut text, alloc, graph.point(number))?;
-    }
-    Ok(text)
+// Adds the line of a point.
+fn put_point(text: &mut String, point: &Point<'_>) -> Result<(), AllocError> {
+    let turns = point.most_turns.as_slice();
+    write!(text, "\n{} {turns:?}", words_of(point))?;
+    put_targets(text, point)
 }
 
-// Adds the line of a point.
-fn put_point(text: &mut String, alloc: Global, point: &Point<'_>) -> Result<(), AllocError> {
-    let turns = point.most_turns.as_slice();
-    text.push_str(format!(in alloc; "\n{} {turns:?}", words_of(point))?.as_str())?;
-    put_targets(text, alloc, point)
+// Adds a graph: its number variables, its flags, its most moves and its first target, and a line for each point, with the
+// most turns left of the loops round it and its targets.
+fn put_graph(text: &mut String, graph: &Graph<'_>) -> Result<(), AllocError> {
+    write!(text, "{} {} {}", graph.nums(), graph.flags(), graph.steps())?;
+    put_target(text, graph.first())?;
+    for number in 0..graph.len() {
+        put_point(text, graph.point(number))?;
+    }
+    Ok(())
 }
 
 // The graph of the script of a text.
-fn graph_text(alloc: Global, text: &str) -> Result<String, Fail> {
-    let script = parse(alloc, text)?;
-    let graph = script.graph(alloc)?;
-    Ok(text_of(alloc, &graph)?)
+fn graph_text(rt: &impl Abort, alloc: Global, text: &str) -> String {
+    let graph = graph_of(alloc, text).expect(rt, "a script");
+    let mut text = String::new(alloc);
+    put_graph(&mut text, &graph).expect(rt, "memory");
+    text
 }
 
 // Scripts with their graphs.
@@ -182,12 +183,11 @@ done []",
 ];
 
 #[test]
-fn graphs(rt: HostRuntime) -> Result<(), Fail> {
-    for &(text, wanted) in GRAPHS.iter() {
-        let graph = graph_text(rt.alloc(), text)?;
-        assert_eq!(rt; graph.as_str(), wanted, "{text}");
+fn graphs(rt: HostRuntime) {
+    for row in GRAPHS.iter() {
+        let graph = graph_text(&rt, rt.alloc(), row.0);
+        same(&rt, &graph.as_str(), &row.1, &row.0);
     }
-    Ok(())
 }
 
 // Scripts that begin with a command of index 6, and its argument.
@@ -232,11 +232,9 @@ fn first_argument(graph: &Graph<'_>) -> Option<u32> {
 }
 
 #[test]
-fn arguments_of_settings(rt: HostRuntime) -> Result<(), Fail> {
-    let alloc = rt.alloc();
-    for &(text, argument) in SETTINGS.iter() {
-        let graph = parse(alloc, text)?.graph(alloc)?;
-        assert_eq!(rt; first_argument(&graph), Some(argument), "{text}");
+fn arguments_of_settings(rt: HostRuntime) {
+    for row in SETTINGS.iter() {
+        let graph = graph_of(rt.alloc(), row.0).expect(&rt, "a script");
+        same(&rt, &first_argument(&graph), &Some(row.1), &row.0);
     }
-    Ok(())
 }

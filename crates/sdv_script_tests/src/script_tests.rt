@@ -1,16 +1,15 @@
 //! Texts of scripts, beside what is read and printed of them.
 
-use crate::common::{BRING_UP, DEVICE_BRING_UP};
+use crate::common::{BRING_UP, DEVICE_BRING_UP, graph_of, same};
 use sdv_card::Kind;
 use sdv_script::{FaultKind, ScriptFault, parse, print};
-use std::alloc::{AllocError, Global};
+use std::alloc::Global;
 use std::process::Abort;
 use std::str;
-use std::test::Fail;
 
 // How many statements the script of a text has, or why it is none.
 fn statements(alloc: Global, text: &str) -> Result<usize, ScriptFault> {
-    Ok(parse(alloc, text)?.graph(alloc)?.len())
+    Ok(graph_of(alloc, text)?.len())
 }
 
 // The kind of card that the script of a text is for, or why it is none.
@@ -19,10 +18,11 @@ fn kind_of(alloc: Global, text: &str) -> Result<Kind, ScriptFault> {
 }
 
 fn refused(rt: &impl Abort, alloc: Global, text: &str, kind: FaultKind, line: u32) {
-    assert_eq!(rt;
-        statements(alloc, text),
-        Err(ScriptFault { kind, line }),
-        "{text:?}"
+    same(
+        rt,
+        &statements(alloc, text),
+        &Err(ScriptFault { kind, line }),
+        &text,
     );
 }
 
@@ -93,9 +93,9 @@ fn scripts(rt: HostRuntime) {
         (Kind::Sd, SCRIPTS.as_slice()),
         (Kind::Emmc, DEVICE_SCRIPTS.as_slice()),
     ] {
-        for &(text, count) in rows.iter() {
-            assert_eq!(rt; statements(alloc, text), Ok(count), "{text:?}");
-            assert_eq!(rt; kind_of(alloc, text), Ok(kind));
+        for row in rows.iter() {
+            same(&rt, &statements(alloc, row.0), &Ok(row.1), &row.0);
+            same(&rt, &kind_of(alloc, row.0), &Ok(kind), &row.0);
         }
     }
 }
@@ -294,26 +294,25 @@ static WRONG_ON_DEVICE: [(&str, FaultKind); 26] = [
     ("let x = sec.count", FaultKind::Name),
 ];
 
-// A wrong statement is refused after some others, whatever comes after it.
-#[test]
-fn wrong_statements(rt: HostRuntime) -> Result<(), Fail> {
-    let alloc = rt.alloc();
+// A wrong statement is refused, whatever stands before and after it.
+fn refused_anywhere(rt: &impl Abort, alloc: Global, card: &str, row: &(&str, FaultKind)) {
+    let statement = row.0;
     for (before, line) in [("", 2), ("send 0 { else { } }\n\n", 4)] {
-        for (card, rows) in [
-            ("sd", WRONG.as_slice()),
-            ("emmc", WRONG_ON_DEVICE.as_slice()),
-        ] {
-            for &(statement, kind) in rows.iter() {
-                for after in ["", "\ndone\n"] {
-                    let text = format!(in alloc;
-                        "card {card} flags f nums x\n{before}{statement}{after}"
-                    )?;
-                    refused(&rt, alloc, &text, kind, line);
-                }
-            }
+        for after in ["", "\ndone\n"] {
+            let text = format!(in alloc; "card {card} flags f nums x\n{before}{statement}{after}");
+            refused(rt, alloc, &text.expect(rt, "memory"), row.1, line);
         }
     }
-    Ok(())
+}
+
+#[test]
+fn wrong_statements(rt: HostRuntime) {
+    for row in WRONG.iter() {
+        refused_anywhere(&rt, rt.alloc(), "sd", row);
+    }
+    for row in WRONG_ON_DEVICE.iter() {
+        refused_anywhere(&rt, rt.alloc(), "emmc", row);
+    }
 }
 
 // What is wrong with a declaration, or with a text that ends too early, with the kind and the line.
@@ -386,31 +385,27 @@ static REFUSED: [(&str, FaultKind, u32); 45] = [
 ];
 
 #[test]
-fn refusals(rt: HostRuntime) -> Result<(), Fail> {
-    let alloc = rt.alloc();
-    for &(text, kind, line) in REFUSED.iter() {
-        refused(&rt, alloc, text, kind, line);
+fn refusals(rt: HostRuntime) {
+    for row in REFUSED.iter() {
+        refused(&rt, rt.alloc(), row.0, row.1, row.2);
     }
     let fault = ScriptFault {
         kind: FaultKind::NoEnd,
         line: 7,
     };
-    assert_eq!(rt;
-        fault.to_string(alloc)?.as_str(),
-        "script fault NoEnd line 7"
-    );
-    Ok(())
+    let text = fault.to_string(rt.alloc()).expect(&rt, "memory");
+    assert!(&rt; text.as_str() == "script fault NoEnd line 7");
 }
 
 // Pieces of a text, each so many times.
-fn repeated(alloc: Global, pieces: &[(&str, usize)]) -> Result<String, AllocError> {
+fn repeated(rt: &impl Abort, alloc: Global, pieces: &[(&str, usize)]) -> String {
     let mut text = String::new(alloc);
     for (piece, times) in pieces {
         for _ in 0..*times {
-            text.push_str(piece)?;
+            text.push_str(piece).expect(rt, "memory");
         }
     }
-    Ok(text)
+    text
 }
 
 // Texts at the limits, with how many statements they have, and past them, with the line where they are refused, and trees as deep as a text can make them: they are read, walked and freed within
@@ -473,21 +468,19 @@ static LONG: [(&[(&str, usize)], Result<usize, u32>); 10] = [
 ];
 
 #[test]
-fn long_and_deep_texts(rt: HostRuntime) -> Result<(), Fail> {
-    let alloc = rt.alloc();
-    for (number, (pieces, wanted)) in LONG.iter().enumerate() {
-        let text = repeated(alloc, pieces)?;
+fn long_and_deep_texts(rt: HostRuntime) {
+    for (number, row) in LONG.iter().enumerate() {
+        let text = repeated(&rt, rt.alloc(), row.0);
         let kind = FaultKind::Limit;
-        let wanted = match *wanted {
+        let wanted = match row.1 {
             Ok(count) => Ok(count),
             Err(line) => Err(ScriptFault { kind, line }),
         };
-        assert_eq!(rt; statements(alloc, &text), wanted, "row {number}");
+        same(&rt, &statements(rt.alloc(), &text), &wanted, &number);
     }
-    Ok(())
 }
 
-// Ok, or a fault with a line within the text.
+// Whether there is a script, or a fault with a line within the text.
 fn is_answered(alloc: Global, text: &str) -> bool {
     let lines = text.bytes().filter(|byte| *byte == b'\n').count() + 1;
     match parse(alloc, text) {
@@ -498,53 +491,54 @@ fn is_answered(alloc: Global, text: &str) -> bool {
     }
 }
 
+// The same, where the message shows the text.
+fn answered(rt: &impl Abort, alloc: Global, text: &str) {
+    assert!(rt; is_answered(alloc, text), "{text:?}");
+}
+
 // The script that brings a card up, with another character in the place of one.
-fn with_other(alloc: Global, place: usize, other: char) -> Result<String, AllocError> {
+fn with_other(rt: &impl Abort, alloc: Global, place: usize, other: char) -> String {
     let mut text = String::new(alloc);
     for (i, c) in BRING_UP.char_indices() {
-        text.push(if i == place { other } else { c })?;
+        let c = if i == place { other } else { c };
+        text.push(c).expect(rt, "memory");
     }
-    Ok(text)
+    text
 }
 
 // The script that brings a card up, with one of its lines twice.
-fn with_line_twice(alloc: Global, number: usize) -> Result<String, AllocError> {
+fn with_line_twice(rt: &impl Abort, alloc: Global, number: usize) -> String {
     let mut text = String::new(alloc);
-    for (i, line) in BRING_UP.lines().enumerate() {
+    for (i, line) in BRING_UP.split_inclusive('\n').enumerate() {
         for _ in 0..if i == number { 2 } else { 1 } {
-            text.push_str(line)?;
-            text.push('\n')?;
+            text.push_str(line).expect(rt, "memory");
         }
     }
-    Ok(text)
+    text
 }
 
 // The script that brings a card up, cut before each character.
 #[test]
-fn cut_texts(rt: HostRuntime) -> Result<(), Fail> {
-    let mut front = String::new(rt.alloc());
-    for own in BRING_UP.chars() {
-        assert!(rt; is_answered(rt.alloc(), &front), "{front:?}");
-        front.push(own)?;
+fn cut_texts(rt: HostRuntime) {
+    for (place, _) in BRING_UP.char_indices() {
+        let front = BRING_UP.get(..place).expect(&rt, "its front");
+        answered(&rt, rt.alloc(), front);
     }
-    Ok(())
 }
 
 // The same with others in the place of each character, and with each line twice.
 #[test]
-fn changed_texts(rt: HostRuntime) -> Result<(), Fail> {
-    let alloc = rt.alloc();
+fn changed_texts(rt: HostRuntime) {
     for (place, _) in BRING_UP.char_indices() {
         for other in ['{', '}', '0', 'x', ' ', '#', '@', '.'] {
-            let text = with_other(alloc, place, other)?;
-            assert!(rt; is_answered(alloc, &text), "{text:?}");
+            let text = with_other(&rt, rt.alloc(), place, other);
+            answered(&rt, rt.alloc(), &text);
         }
     }
     for (number, _) in BRING_UP.lines().enumerate() {
-        let text = with_line_twice(alloc, number)?;
-        assert!(rt; is_answered(alloc, &text), "{text:?}");
+        let text = with_line_twice(&rt, rt.alloc(), number);
+        answered(&rt, rt.alloc(), &text);
     }
-    Ok(())
 }
 
 static SOUP: [&str; 32] = [
@@ -553,44 +547,50 @@ static SOUP: [&str; 32] = [
     "done", "fault", "wait",
 ];
 
+// A text of forty words that are drawn from the seed.
+fn drawn(rt: &impl Abort, alloc: Global, seed: &mut u32) -> String {
+    let mut text = String::new(alloc);
+    text.push_str("card sd flags f nums x ")
+        .expect(rt, "memory");
+    for _ in 0..40 {
+        *seed = seed.wrapping_mul(1_664_525).wrapping_add(1_013_904_223);
+        let word = SOUP[(*seed >> 27) as usize];
+        text.push_str(word).expect(rt, "memory");
+        text.push(' ').expect(rt, "memory");
+    }
+    text
+}
+
 #[test]
-fn words_in_any_order(rt: HostRuntime) -> Result<(), Fail> {
-    let alloc = rt.alloc();
+fn words_in_any_order(rt: HostRuntime) {
     let mut seed: u32 = 1;
     for _ in 0..2000 {
-        let mut text = String::new(alloc);
-        text.push_str("card sd flags f nums x ")?;
-        for _ in 0..40 {
-            seed = seed.wrapping_mul(1_664_525).wrapping_add(1_013_904_223);
-            text.push_str(SOUP[(seed >> 27) as usize])?;
-            text.push(' ')?;
-        }
-        assert!(rt; is_answered(alloc, &text), "{text:?}");
+        let text = drawn(&rt, rt.alloc(), &mut seed);
+        answered(&rt, rt.alloc(), &text);
     }
-    Ok(())
 }
 
 // What is printed of a script.
-fn printed(alloc: Global, text: &str) -> Result<Vec<u8>, Fail> {
-    let script = parse(alloc, text)?;
+fn printed(rt: &impl Abort, alloc: Global, text: &str) -> Vec<u8> {
+    let script = parse(alloc, text).expect(rt, "a script");
     let mut out = Vec::new(alloc);
-    print(&script, &mut out)?;
-    Ok(out)
+    print(&script, &mut out).expect(rt, "memory");
+    out
 }
 
 #[test]
-fn printed_once(rt: HostRuntime) -> Result<(), Fail> {
+fn printed_once(rt: HostRuntime) {
     let text = "card  sd # kind\nnums x\nlet x=0x07 if x>=7 { done } else{fault stop}";
     let want = b"card sd nums x let x = 0x07 if x >= 7 { done } else { fault stop } \n";
-    assert_eq!(rt; printed(rt.alloc(), text)?.as_slice(), want.as_slice());
-    Ok(())
+    let found = printed(&rt, rt.alloc(), text);
+    same(&rt, &found.as_slice(), &want.as_slice(), &text);
 }
 
 #[test]
-fn printed_again(rt: HostRuntime) -> Result<(), Fail> {
-    let first = printed(rt.alloc(), BRING_UP)?;
-    let text = str::from_utf8(&first)?;
-    assert_eq!(rt; statements(rt.alloc(), text), Ok(23));
-    assert_eq!(rt; printed(rt.alloc(), text)?.as_slice(), first.as_slice());
-    Ok(())
+fn printed_again(rt: HostRuntime) {
+    let first = printed(&rt, rt.alloc(), BRING_UP);
+    let text = str::from_utf8(&first).expect(&rt, "a text");
+    same(&rt, &statements(rt.alloc(), text), &Ok(23), &text);
+    let again = printed(&rt, rt.alloc(), text);
+    same(&rt, &again.as_slice(), &first.as_slice(), &text);
 }
