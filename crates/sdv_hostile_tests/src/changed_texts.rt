@@ -1,9 +1,9 @@
 //! Bring-up scripts and a certificate that are cut, doubled in part, or changed in one character: how often each answer comes.
 
-use crate::common::{BRING_UP, DEVICE_BRING_UP, certificate_of};
+use crate::common::{BRING_UP, DEVICE_BRING_UP, certificate_of, same};
 use crate::names::{Counts, name_of_certificate, name_of_script};
 use std::alloc::{AllocError, Global};
-use std::test::Fail;
+use std::process::Abort;
 
 /// How a text is changed.
 #[derive(Clone, Copy, Debug)]
@@ -20,117 +20,117 @@ enum Change {
     NumberRaised,
 }
 
-/// A part of a text, by its first byte and the one behind its last, and what stands in its place.
+/// A text, and how often each answer came where it was changed.
 #[derive(Drop)]
-struct Edit {
-    from: usize,
-    to: usize,
-    with: String,
+struct Answers<'a> {
+    alloc: Global,
+    text: &'a str,
+    /// The script that it is a certificate of; nothing where it is a script.
+    script: Option<&'a str>,
+    counts: Counts,
 }
 
-fn edit_of(alloc: Global, from: usize, to: usize, with: &str) -> Result<Edit, AllocError> {
-    let mut owned = String::new(alloc);
-    owned.push_str(with)?;
-    Ok(Edit {
-        from,
-        to,
-        with: owned,
-    })
+fn raised(alloc: Global, number: u64) -> Result<String, AllocError> {
+    format!(in alloc; "{}", number.saturating_add(1))
 }
 
-/// The text with a part in place of another.
-fn edited(alloc: Global, text: &str, edit: &Edit) -> Result<String, AllocError> {
-    let mut other = String::new(alloc);
-    other.push_str(text.get(..edit.from).unwrap_or(""))?;
-    other.push_str(edit.with.as_str())?;
-    other.push_str(text.get(edit.to..).unwrap_or(""))?;
-    Ok(other)
-}
-
-/// The text ends before each character.
-fn cuts(alloc: Global, text: &str) -> Result<Vec<Edit>, AllocError> {
-    let mut edits = Vec::new(alloc);
-    for (place, _) in text.char_indices() {
-        edits.push(edit_of(alloc, place, text.len(), "")?)?;
-    }
-    Ok(edits)
-}
-
-/// Each line stands twice.
-fn lines_twice(alloc: Global, text: &str) -> Result<Vec<Edit>, AllocError> {
-    let mut edits = Vec::new(alloc);
-    let mut place: usize = 0;
-    for line in text.split_inclusive('\n') {
-        edits.push(edit_of(alloc, place, place, line)?)?;
-        place = place.saturating_add(line.len());
-    }
-    Ok(edits)
-}
-
-/// The edit of a word of a certificate, which may be the number of a point, if the change concerns it.
-fn word_edit(
+/// What stands in place of a word of a certificate, which may be the number of a point, if the change concerns it.
+fn changed_word(
+    rt: &impl Abort,
     alloc: Global,
     change: Change,
-    place: usize,
     is_point: bool,
     word: &str,
-) -> Result<Option<Edit>, AllocError> {
-    let end = place.saturating_add(word.len());
-    let raised = |number: u64| format!(in alloc; "{}", number.saturating_add(1));
-    match (change, word.parse::<u64>()) {
-        (Change::ShapeTwice, _) if word.len() == 16 => {
-            let twice = format!(in alloc; "{word} {word}")?;
-            Ok(Some(edit_of(alloc, place, end, &twice)?))
-        }
-        (Change::PointRaised, Ok(number)) if is_point => {
-            Ok(Some(edit_of(alloc, place, end, &raised(number)?)?))
-        }
+) -> Option<String> {
+    let other = match (change, word.parse::<u64>()) {
+        (Change::ShapeTwice, _) if word.len() == 16 => format!(in alloc; "{word} {word}"),
+        (Change::PointRaised, Ok(number)) if is_point => raised(alloc, number),
         (Change::NumberRaised, Ok(number)) if !is_point && word.len() < 16 => {
-            Ok(Some(edit_of(alloc, place, end, &raised(number)?)?))
+            raised(alloc, number)
         }
-        _ => Ok(None),
+        _ => return None,
+    };
+    Some(other.expect(rt, "memory"))
+}
+
+impl<'a> Answers<'a> {
+    fn new(alloc: Global, text: &'a str, script: Option<&'a str>) -> Answers<'a> {
+        Answers {
+            alloc,
+            text,
+            script,
+            counts: Counts::new(alloc),
+        }
+    }
+
+    /// Counts the answer to the text with other characters in place of those from one byte up to another.
+    fn count(&mut self, rt: &impl Abort, from: usize, to: usize, with: &str) {
+        let front = self.text.get(..from).unwrap_or("");
+        let back = self.text.get(to..).unwrap_or("");
+        let other = [front, with, back].concat(self.alloc).expect(rt, "memory");
+        let name = match self.script {
+            None => name_of_script(self.alloc, &other),
+            Some(script) => name_of_certificate(self.alloc, script, &other),
+        };
+        self.counts.add(rt, name);
+    }
+
+    /// The text ends before each character.
+    fn count_cuts(&mut self, rt: &impl Abort) {
+        let text = self.text;
+        for (place, _) in text.char_indices() {
+            self.count(rt, place, text.len(), "");
+        }
+    }
+
+    /// Each line stands twice.
+    fn count_lines(&mut self, rt: &impl Abort) {
+        let mut place: usize = 0;
+        for line in self.text.split_inclusive('\n') {
+            self.count(rt, place, place, line);
+            place = place.saturating_add(line.len());
+        }
+    }
+
+    /// Each word of a certificate that the change concerns is another one.
+    fn count_words(&mut self, rt: &impl Abort, change: Change) {
+        let mut is_point = false;
+        let mut place: usize = 0;
+        for word in self.text.split([' ', '\n']) {
+            let end = place.saturating_add(word.len());
+            if let Some(other) = changed_word(rt, self.alloc, change, is_point, word) {
+                self.count(rt, place, end, &other);
+            }
+            is_point = word == "p";
+            place = end.saturating_add(1);
+        }
+    }
+
+    /// Each character that is another one gives way to this one.
+    fn count_others(&mut self, rt: &impl Abort, other: char) {
+        let with = format!(in self.alloc; "{other}").expect(rt, "memory");
+        for (place, own) in self.text.char_indices() {
+            if own != other {
+                let end = place.saturating_add(own.len_utf8());
+                self.count(rt, place, end, &with);
+            }
+        }
+    }
+
+    /// How often each answer came.
+    fn text(&self, rt: &impl Abort) -> String {
+        self.counts.text(rt)
     }
 }
 
-/// The edits of the words of a certificate that the change concerns.
-fn words(alloc: Global, text: &str, change: Change) -> Result<Vec<Edit>, AllocError> {
-    let mut edits = Vec::new(alloc);
-    let mut is_point = false;
-    let mut place: usize = 0;
-    for word in text.split([' ', '\n']) {
-        if let Some(edit) = word_edit(alloc, change, place, is_point, word)? {
-            edits.push(edit)?;
-        }
-        is_point = word == "p";
-        place = place.saturating_add(word.len()).saturating_add(1);
-    }
-    Ok(edits)
-}
-
-fn edits(alloc: Global, text: &str, change: Change) -> Result<Vec<Edit>, AllocError> {
+/// How often each answer comes where a text is changed in one way.
+fn answers_to(rt: &impl Abort, mut answers: Answers<'_>, change: Change) -> String {
     match change {
-        Change::Cut => cuts(alloc, text),
-        Change::LineTwice => lines_twice(alloc, text),
-        _ => words(alloc, text, change),
+        Change::Cut => answers.count_cuts(rt),
+        Change::LineTwice => answers.count_lines(rt),
+        _ => answers.count_words(rt, change),
     }
-}
-
-/// Counts the answers where each of the edits is made in a script, or in a certificate beside a script.
-fn count(
-    alloc: Global,
-    text: &str,
-    beside: Option<&str>,
-    edits: &[Edit],
-    counts: &mut Counts,
-) -> Result<(), AllocError> {
-    for edit in edits {
-        let other = edited(alloc, text, edit)?;
-        counts.add(match beside {
-            None => name_of_script(alloc, &other),
-            Some(script) => name_of_certificate(alloc, script, &other),
-        })?;
-    }
-    Ok(())
+    answers.text(rt)
 }
 
 /// Which text is changed, and how.
@@ -160,43 +160,27 @@ certificate NumberRaised: Syntax 2, accepted 22, Start 3, Number 79, Bound 19
 ";
 
 #[test]
-fn changed_parts(rt: HostRuntime) -> Result<(), Fail> {
+fn changed_parts(rt: HostRuntime) {
     let alloc = rt.alloc();
-    let certificate = certificate_of(alloc, BRING_UP)?;
+    let certificate = certificate_of(&rt, alloc, BRING_UP);
     let mut found = String::new(alloc);
-    for &(name, change) in CHANGES.iter() {
-        let (text, beside) = match name {
-            "script" => (BRING_UP, None),
-            "device script" => (DEVICE_BRING_UP, None),
-            _ => (certificate.as_str(), Some(BRING_UP)),
+    for row in CHANGES.iter() {
+        let (name, change) = *row;
+        let answers = match name {
+            "script" => Answers::new(alloc, BRING_UP, None),
+            "device script" => Answers::new(alloc, DEVICE_BRING_UP, None),
+            _ => Answers::new(alloc, &certificate, Some(BRING_UP)),
         };
-        let mut counts = Counts::new(alloc);
-        let edits = edits(alloc, text, change)?;
-        count(alloc, text, beside, &edits, &mut counts)?;
-        let counts = counts.text()?;
-        found.push_str(format!(in alloc; "{name} {change:?}: {counts}\n")?.as_str())?;
+        let counts = answers_to(&rt, answers, change);
+        write!(found, "{name} {change:?}: {counts}\n").expect(&rt, "memory");
     }
-    assert_eq!(&rt; found.as_str(), ANSWERS);
-    Ok(())
+    same(&rt, &found.as_str(), &ANSWERS, &"changed parts");
 }
 
 /// What stands in place of each character.
 static OTHERS: [char; 12] = [
     '\0', '\n', ' ', '#', '-', '.', '0', '9', 'a', 's', '{', '\u{e9}',
 ];
-
-/// Each character that is another one gives way to this one.
-fn replaced(alloc: Global, text: &str, other: char) -> Result<Vec<Edit>, AllocError> {
-    let mut edits = Vec::new(alloc);
-    let with = format!(in alloc; "{other}")?;
-    for (place, own) in text.char_indices() {
-        if own != other {
-            let end = place.saturating_add(own.len_utf8());
-            edits.push(edit_of(alloc, place, end, &with)?)?;
-        }
-    }
-    Ok(edits)
-}
 
 /// How often each answer comes where a character stands in place of each of a script, of a device's script and of a
 /// certificate.
@@ -206,24 +190,31 @@ Token 1148, Syntax 4117, Name 441, accepted 350, Argument 85, Limit 3, Guard 12,
 Header 128, Syntax 18983, Points 14, Number 128, accepted 49, Bound 49, Start 46, Order 1756, Shape 1064
 ";
 
+/// How often each answer comes where each of the characters stands in place of each of a text.
+fn answers_to_others(rt: &impl Abort, mut answers: Answers<'_>) -> String {
+    for other in OTHERS {
+        answers.count_others(rt, other);
+    }
+    answers.text(rt)
+}
+
 #[test]
-fn changed_characters(rt: HostRuntime) -> Result<(), Fail> {
+fn changed_characters(rt: HostRuntime) {
     let alloc = rt.alloc();
-    let certificate = certificate_of(alloc, BRING_UP)?;
+    let certificate = certificate_of(&rt, alloc, BRING_UP);
     let mut found = String::new(alloc);
-    for (text, beside) in [
+    for (text, script) in [
         (BRING_UP, None),
         (DEVICE_BRING_UP, None),
         (certificate.as_str(), Some(BRING_UP)),
     ] {
-        let mut counts = Counts::new(alloc);
-        for other in OTHERS {
-            let edits = replaced(alloc, text, other)?;
-            count(alloc, text, beside, &edits, &mut counts)?;
-        }
-        found.push_str(counts.text()?.as_str())?;
-        found.push('\n')?;
+        let counts = answers_to_others(&rt, Answers::new(alloc, text, script));
+        write!(found, "{counts}\n").expect(&rt, "memory");
     }
-    assert_eq!(&rt; found.as_str(), ANSWERS_TO_OTHERS);
-    Ok(())
+    same(
+        &rt,
+        &found.as_str(),
+        &ANSWERS_TO_OTHERS,
+        &"changed characters",
+    );
 }

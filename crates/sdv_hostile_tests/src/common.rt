@@ -1,9 +1,15 @@
-//! Texts that tests share.
+//! Texts and comparisons that tests share.
 
 use sdv_certify::{certify, write};
-use sdv_script::parse;
+use sdv_script::{Graph, parse};
 use std::alloc::Global;
-use std::test::Fail;
+use std::fmt::Debug;
+use std::process::Abort;
+
+/// Stops the test where what was found is not what is wanted; the message shows the row.
+pub fn same<T: PartialEq + Debug, R: Debug>(rt: &impl Abort, found: &T, wanted: &T, row: &R) {
+    assert_eq!(rt; found, wanted, "{row:?}");
+}
 
 /// A script that brings a card up to the transfer state.
 pub const BRING_UP: &str = "card sd
@@ -46,9 +52,17 @@ p 0 b 1 m 1 s 0000000000002000 0000000000002800 0000000000002c00
 p 1 b 0 m 1 s 0000000000002000 0000000000002800 0000000000002c00
 ";
 
+/// The graph of the script of a text.
+pub fn graph_of<'a>(rt: &impl Abort, alloc: Global, text: &'a str) -> Graph<'a> {
+    let script = parse(alloc, text).expect(rt, "a script");
+    script.graph(alloc).expect(rt, "memory")
+}
+
 /// The text of the certificate of a script.
-pub fn certificate_of(alloc: Global, script: &str) -> Result<String, Fail> {
+pub fn certificate_of(rt: &impl Abort, alloc: Global, script: &str) -> String {
+    let script = parse(alloc, script).expect(rt, "a script");
+    let certificate = certify(alloc, &script).expect(rt, "a certificate");
     let mut text = Vec::new(alloc);
-    write(&certify(alloc, &parse(alloc, script)?)?, &mut text)?;
-    Ok(String::from_utf8(text)?)
+    write(&certificate, &mut text).expect(rt, "memory");
+    String::from_utf8(text).expect(rt, "a text")
 }

@@ -1,11 +1,12 @@
 //! The deepest and the widest scripts of a text at the size limit: they are read, printed, certified, checked and freed
 //! within the stack of a program.
 
+use crate::common::same;
 use crate::names::name_of_script;
 use sdv_script::{parse, print};
-use std::alloc::{AllocError, Global};
+use std::alloc::Global;
+use std::process::Abort;
 use std::str;
-use std::test::Fail;
 
 /// Pieces of a text, each so many times, and the answer.
 type Row = (&'static [(&'static str, usize)], &'static str);
@@ -96,42 +97,47 @@ static ROWS: [Row; 9] = [
 ];
 
 /// The text of a row.
-fn text_of(alloc: Global, pieces: &[(&str, usize)]) -> Result<String, AllocError> {
+fn text_of(rt: &impl Abort, alloc: Global, pieces: &[(&str, usize)]) -> String {
     let mut text = String::new(alloc);
     for (piece, times) in pieces {
-        text.push_str(piece.repeat(alloc, *times)?.as_str())?;
+        for _ in 0..*times {
+            text.push_str(piece).expect(rt, "memory");
+        }
     }
-    Ok(text)
+    text
 }
 
 /// A text without its spaces.
-fn tokens(alloc: Global, text: &str) -> Result<String, AllocError> {
+fn tokens(rt: &impl Abort, alloc: Global, text: &str) -> String {
     let mut tokens = String::new(alloc);
     for word in text.split_whitespace() {
-        tokens.push_str(word)?;
+        tokens.push_str(word).expect(rt, "memory");
     }
-    Ok(tokens)
+    tokens
+}
+
+/// What is printed of a script.
+fn printed(rt: &impl Abort, alloc: Global, text: &str) -> Vec<u8> {
+    let script = parse(alloc, text).expect(rt, "a script");
+    let mut out = Vec::new(alloc);
+    print(&script, &mut out).expect(rt, "memory");
+    out
 }
 
 /// Whether what is printed of a script has its tokens.
-fn is_printed(alloc: Global, text: &str) -> Result<bool, Fail> {
-    let script = parse(alloc, text)?;
-    let mut printed = Vec::new(alloc);
-    print(&script, &mut printed)?;
-    let printed = tokens(alloc, str::from_utf8(&printed)?)?;
-    Ok(printed.as_str() == tokens(alloc, text)?.as_str())
+fn is_printed(rt: &impl Abort, alloc: Global, text: &str) -> bool {
+    let out = printed(rt, alloc, text);
+    let printed = str::from_utf8(&out).expect(rt, "a text");
+    tokens(rt, alloc, printed).as_str() == tokens(rt, alloc, text).as_str()
 }
 
 #[test]
-fn deep_and_wide(rt: HostRuntime) -> Result<(), Fail> {
+fn deep_and_wide(rt: HostRuntime) {
     let alloc = rt.alloc();
-    for (number, &(pieces, wanted)) in ROWS.iter().enumerate() {
-        let text = text_of(alloc, pieces)?;
-        assert_eq!(&rt; name_of_script(alloc, &text), wanted, "row {number}");
-        assert!(rt;
-            wanted == "Syntax" || is_printed(alloc, &text)?,
-            "row {number}"
-        );
+    for (number, row) in ROWS.iter().enumerate() {
+        let text = text_of(&rt, alloc, row.0);
+        same(&rt, &name_of_script(alloc, &text), &row.1, &number);
+        let kept = row.1 == "Syntax" || is_printed(&rt, alloc, &text);
+        same(&rt, &kept, &true, &number);
     }
-    Ok(())
 }

@@ -4,7 +4,8 @@ use sdv_certify::{CertifyFault, certify};
 use sdv_check::{CertFault, CheckFault, VerifyFault, check, verify};
 use sdv_run::{End, RunFault};
 use sdv_script::{FaultKind, Script, parse};
-use std::alloc::{AllocError, Global};
+use std::alloc::Global;
+use std::process::Abort;
 
 fn name_of_kind(kind: FaultKind) -> &'static str {
     match kind {
@@ -55,13 +56,14 @@ fn name_of_check(fault: CheckFault) -> &'static str {
 
 /// Why a script has no certificate, or that it is accepted with the one that is written for it.
 fn name_of_parsed(alloc: Global, script: &Script<'_>) -> &'static str {
-    match (certify(alloc, script), script.graph(alloc)) {
-        (Err(fault), _) => name_of_refusal(fault),
-        (Ok(_), Err(_)) => "Memory",
-        (Ok(certificate), Ok(graph)) => match check(&graph, &certificate) {
-            Ok(_) => "accepted",
-            Err(_) => "no certificate of its own",
-        },
+    let certificate = match certify(alloc, script) {
+        Ok(certificate) => certificate,
+        Err(fault) => return name_of_refusal(fault),
+    };
+    match script.graph(alloc) {
+        Ok(graph) if check(&graph, &certificate).is_ok() => "accepted",
+        Ok(_) => "no certificate of its own",
+        Err(_) => "Memory",
     }
 }
 
@@ -114,26 +116,24 @@ impl Counts {
     }
 
     /// Counts a name once more.
-    pub fn add(&mut self, name: &str) -> Result<(), AllocError> {
+    pub fn add(&mut self, rt: &impl Abort, name: &str) {
         for (known, times) in self.names.iter_mut() {
             if known.as_str() == name {
                 *times = times.saturating_add(1);
-                return Ok(());
+                return;
             }
         }
-        let mut owned = String::new(self.alloc);
-        owned.push_str(name)?;
-        self.names.push((owned, 1))?;
-        Ok(())
+        let owned = name.to_owned(self.alloc).expect(rt, "memory");
+        self.names.push((owned, 1)).expect(rt, "memory");
     }
 
     /// Each name with its number.
-    pub fn text(&self) -> Result<String, AllocError> {
+    pub fn text(&self, rt: &impl Abort) -> String {
         let mut text = String::new(self.alloc);
         for (number, (name, times)) in self.names.iter().enumerate() {
             let before = if number == 0 { "" } else { ", " };
-            text.push_str(format!(in self.alloc; "{before}{name} {times}")?.as_str())?;
+            write!(text, "{before}{name} {times}").expect(rt, "memory");
         }
-        Ok(text)
+        text
     }
 }

@@ -142,24 +142,32 @@ fn is_taken(kind: Kind, command: Command, expect: Expect, answer: &Answer) -> bo
     }
 }
 
-/// What the line of an event says of an answer.
-fn text_of(alloc: Global, answer: &Answer) -> Result<String, AllocError> {
+/// Adds what the line of an event says of an answer.
+fn put_answer(lines: &mut String, answer: &Answer) -> Result<(), AllocError> {
     match answer {
-        Answer::Sent => format!(in alloc; "-"),
-        Answer::TimeOut => format!(in alloc; "timeout"),
-        Answer::Reply(Reply::R1 { status, .. }) => format!(in alloc; "R1 {status:08x}"),
+        Answer::Sent => lines.push_str("-"),
+        Answer::TimeOut => lines.push_str("timeout"),
+        Answer::Reply(Reply::R1 { status, .. }) => write!(lines, "R1 {status:08x}"),
         Answer::Reply(Reply::R2(register)) => {
-            let mut text = format!(in alloc; "R2 ")?;
+            lines.push_str("R2 ")?;
             for byte in register {
-                text.push_str(format!(in alloc; "{byte:02x}")?.as_str())?;
+                write!(lines, "{byte:02x}")?;
             }
-            Ok(text)
+            Ok(())
         }
-        Answer::Reply(Reply::R3(word)) => format!(in alloc; "R3 {word:08x}"),
-        Answer::Reply(Reply::R6(word)) => format!(in alloc; "R6 {word:08x}"),
-        Answer::Reply(Reply::R7(word)) => format!(in alloc; "R7 {word:08x}"),
-        Answer::Damaged(_) => format!(in alloc; "damaged"),
+        Answer::Reply(Reply::R3(word)) => write!(lines, "R3 {word:08x}"),
+        Answer::Reply(Reply::R6(word)) => write!(lines, "R6 {word:08x}"),
+        Answer::Reply(Reply::R7(word)) => write!(lines, "R7 {word:08x}"),
+        Answer::Damaged(_) => lines.push_str("damaged"),
     }
+}
+
+/// Adds the line of a command and its answer.
+fn put_exchange(lines: &mut String, command: Command, answer: &Answer) -> Result<(), AllocError> {
+    let Command { index, argument } = command;
+    write!(lines, "CMD{index} {argument:08x} ")?;
+    put_answer(lines, answer)?;
+    lines.push('\n')
 }
 
 /// A port that answers anything, beside the text of what happened there.
@@ -224,22 +232,15 @@ impl HostilePort {
 
     /// Keeps what a command was answered.
     pub fn record(&mut self, command: Command, expect: Expect, answer: &Answer) {
-        let Command { index, argument } = command;
-        let text = match text_of(self.alloc, answer) {
-            Ok(text) => format!(in self.alloc; "CMD{index} {argument:08x} {text}"),
-            Err(error) => Err(error),
-        };
         self.asked = expect;
-        self.taken = is_taken(self.kind, command, expect, answer);
-        match text {
-            Ok(text) => self.line(&text),
-            Err(_) => self.taken = false,
-        }
+        self.last = self.lines.len();
+        let whole = put_exchange(&mut self.lines, command, answer).is_ok();
+        self.taken = whole && is_taken(self.kind, command, expect, answer);
     }
 
     fn line(&mut self, text: &str) {
         self.last = self.lines.len();
-        let whole = self.lines.push_str(text).is_ok() && self.lines.push('\n').is_ok();
+        let whole = writeln!(self.lines, "{text}").is_ok();
         self.taken = self.taken && whole;
     }
 
@@ -249,10 +250,9 @@ impl HostilePort {
             0 => (DataEnd::Cut, "cut"),
             _ => (DataEnd::Ok, "ok"),
         };
-        match format!(in self.alloc; "{word} {count} {said}") {
-            Ok(text) => self.line(&text),
-            Err(_) => self.taken = false,
-        }
+        self.last = self.lines.len();
+        let whole = writeln!(self.lines, "{word} {count} {said}").is_ok();
+        self.taken = self.taken && whole;
         end
     }
 }

@@ -1,6 +1,6 @@
 //! Runs over ports that answer anything.
 
-use crate::common::{BRING_UP, DEVICE_BRING_UP};
+use crate::common::{BRING_UP, DEVICE_BRING_UP, graph_of, same};
 use crate::names::{Counts, name_of_run};
 use crate::port::{FAULTS, HostilePort};
 use crate::wire::HostileWire;
@@ -9,11 +9,10 @@ use sdv_controller::Controller;
 use sdv_frames::{Expect, Reply};
 use sdv_registers::Kind;
 use sdv_run::{End, RunFault, run_graph};
-use sdv_script::{Graph, parse};
-use std::alloc::{AllocError, Global};
+use sdv_script::Graph;
+use std::alloc::Global;
 use std::process::Abort;
 use std::str;
-use std::test::Fail;
 
 /// Every command of an SD card, every phase and every guard, twenty times.
 const EVERYTHING: &str = "card sd
@@ -88,40 +87,38 @@ done
 ";
 
 /// The input: blocks that begin with their numbers.
-fn input_blocks(alloc: Global, count: u8) -> Result<Vec<[u8; 512]>, AllocError> {
+fn input_blocks(rt: &impl Abort, alloc: Global, count: u8) -> Vec<[u8; 512]> {
     let mut blocks = Vec::new(alloc);
     for number in 0..count {
-        blocks.push([number; 512])?;
+        blocks.push([number; 512]).expect(rt, "memory");
     }
-    Ok(blocks)
+    blocks
 }
 
-/// The last line of a run that ended.
-fn last_line(alloc: Global, end: &End) -> Result<String, AllocError> {
+/// Whether this is the last line of a run that ended so.
+fn is_last_line(line: &str, end: &End) -> bool {
     match end {
-        End::Done => format!(in alloc; "done\n"),
-        End::Fault(name) => format!(in alloc; "fault {}\n", name.as_str()),
+        End::Done => line == "done\n",
+        End::Fault(name) => match line.strip_prefix("fault ") {
+            Some(rest) => rest.strip_suffix("\n") == Some(name.as_str()),
+            None => false,
+        },
     }
 }
 
 /// Whether the trace of a run says what happened at the port, as far as its outcome has it.
-fn is_trace(
-    alloc: Global,
-    outcome: &Result<End, RunFault>,
-    port: &HostilePort,
-    trace: &str,
-) -> Result<bool, AllocError> {
+fn is_trace(outcome: &Result<End, RunFault>, port: &HostilePort, trace: &str) -> bool {
     let lines = port.lines.as_str();
-    Ok(match outcome {
-        Ok(end) => {
-            let whole = format!(in alloc; "{lines}{}", last_line(alloc, end)?.as_str())?;
-            port.taken && trace == whole.as_str()
-        }
+    match outcome {
+        Ok(end) => match trace.strip_prefix(lines) {
+            Some(last) => port.taken && is_last_line(last, end),
+            None => false,
+        },
         // the last answer is not printed where it is refused; an address of more than 32 bits is not sent
         Err(RunFault::Reply) if !port.taken => Some(trace) == lines.get(..port.last),
         Err(RunFault::Reply | RunFault::Input) => port.taken && trace == lines,
         Err(_) => false,
-    })
+    }
 }
 
 /// Whether the blocks given are the first of the input, in their order.
@@ -132,24 +129,24 @@ fn is_front_of_input(given: &[u8]) -> bool {
         .all(|(number, byte)| *byte as usize == number)
 }
 
+/// Stops the test where something does not hold of a run; the message shows its trace and the lines of its port.
+fn told(rt: &impl Abort, holds: bool, trace: &str, lines: &str) {
+    assert!(rt; holds, "{trace}\nfor\n{lines}");
+}
+
 /// A run over a port or a wire says what happened there.
 fn assert_told(
     rt: &impl Abort,
-    alloc: Global,
     outcome: &Result<End, RunFault>,
     port: &HostilePort,
     out: &[u8],
     trace: &[u8],
-) -> Result<(), Fail> {
-    let trace = str::from_utf8(trace)?;
+) {
+    let trace = str::from_utf8(trace).expect(rt, "a text");
     let lines = port.lines.as_str();
-    assert!(rt;
-        is_trace(alloc, outcome, port, trace)?,
-        "{trace}\nfor\n{lines}"
-    );
-    assert!(rt; out == port.output.as_slice(), "{trace}");
-    assert!(rt; is_front_of_input(port.given.as_slice()), "{trace}");
-    Ok(())
+    told(rt, is_trace(outcome, port, trace), trace, lines);
+    told(rt, out == port.output.as_slice(), trace, lines);
+    told(rt, is_front_of_input(port.given.as_slice()), trace, lines);
 }
 
 /// Runs a script over a port: its outcome, where trace and output say what happened there.
@@ -159,11 +156,11 @@ fn run_over(
     graph: &Graph<'_>,
     port: &mut HostilePort,
     input: &[[u8; 512]],
-) -> Result<Result<End, RunFault>, Fail> {
+) -> Result<End, RunFault> {
     let (mut out, mut trace) = (Vec::new(alloc), Vec::new(alloc));
     let outcome = run_graph(alloc, graph, port, input, &mut out, &mut trace);
-    assert_told(rt, alloc, &outcome, port, &out, &trace)?;
-    Ok(outcome)
+    assert_told(rt, &outcome, port, &out, &trace);
+    outcome
 }
 
 /// The same over a wire, behind a controller.
@@ -173,13 +170,13 @@ fn run_over_wire(
     graph: &Graph<'_>,
     port: HostilePort,
     input: &[[u8; 512]],
-) -> Result<Result<End, RunFault>, Fail> {
+) -> Result<End, RunFault> {
     let (mut out, mut trace) = (Vec::new(alloc), Vec::new(alloc));
     let mut controller = Controller::new(HostileWire { port });
     let outcome = run_graph(alloc, graph, &mut controller, input, &mut out, &mut trace);
     let port = controller.into_wire().port;
-    assert_told(rt, alloc, &outcome, &port, &out, &trace)?;
-    Ok(outcome)
+    assert_told(rt, &outcome, &port, &out, &trace);
+    outcome
 }
 
 /// Scripts with their names, and one in how many answers is of any kind.
@@ -218,6 +215,21 @@ enum Way {
     Wire,
 }
 
+/// The outcome of a run that goes over a port or a wire.
+fn end_of(
+    rt: &impl Abort,
+    alloc: Global,
+    way: Way,
+    graph: &Graph<'_>,
+    mut port: HostilePort,
+    input: &[[u8; 512]],
+) -> Result<End, RunFault> {
+    match way {
+        Way::Port => run_over(rt, alloc, graph, &mut port, input),
+        Way::Wire => run_over_wire(rt, alloc, graph, port, input),
+    }
+}
+
 /// How often each end comes of five hundred runs of a script.
 fn ends_of(
     rt: &impl Abort,
@@ -226,39 +238,36 @@ fn ends_of(
     kind: Kind,
     text: &str,
     others: u32,
-) -> Result<String, Fail> {
-    let input = input_blocks(alloc, 30)?;
-    let graph = parse(alloc, text)?.graph(alloc)?;
+) -> String {
+    let input = input_blocks(rt, alloc, 30);
+    let graph = graph_of(rt, alloc, text);
     let mut counts = Counts::new(alloc);
     for seed in 0..500 {
-        let mut port = HostilePort::new(alloc, kind, seed, others);
-        let outcome = match way {
-            Way::Port => run_over(rt, alloc, &graph, &mut port, &input)?,
-            Way::Wire => run_over_wire(rt, alloc, &graph, port, &input)?,
-        };
-        counts.add(name_of_run(&outcome))?;
+        let port = HostilePort::new(alloc, kind, seed, others);
+        let outcome = end_of(rt, alloc, way, &graph, port, &input);
+        counts.add(rt, name_of_run(&outcome));
     }
-    Ok(counts.text()?)
+    counts.text(rt)
 }
 
 /// The same of each script. A wire does not see whether an answer is asked for after CMD7, so that none goes over it for which
 /// there is none.
-fn all_ends(rt: &impl Abort, alloc: Global, way: Way) -> Result<String, Fail> {
+fn all_ends(rt: &impl Abort, alloc: Global, way: Way) -> String {
     let mut found = String::new(alloc);
     let none = if way == Way::Wire { "" } else { " none" };
-    for &(name, kind, text, others) in RUNS.iter() {
-        let text = text.replace(alloc, " none", none)?;
-        let ends = ends_of(rt, alloc, way, kind, &text, others)?;
-        found.push_str(format!(in alloc; "{name}, {others}: {ends}\n")?.as_str())?;
+    for row in RUNS.iter() {
+        let (name, kind, text, others) = *row;
+        let text = text.replace(alloc, " none", none).expect(rt, "memory");
+        let ends = ends_of(rt, alloc, way, kind, &text, others);
+        write!(found, "{name}, {others}: {ends}\n").expect(rt, "memory");
     }
-    Ok(found)
+    found
 }
 
 #[test]
-fn runs_over_any_port(rt: HostRuntime) -> Result<(), Fail> {
-    let found = all_ends(&rt, rt.alloc(), Way::Port)?;
-    assert_eq!(&rt; found.as_str(), ENDS);
-    Ok(())
+fn runs_over_any_port(rt: HostRuntime) {
+    let found = all_ends(&rt, rt.alloc(), Way::Port);
+    same(&rt, &found.as_str(), &ENDS, &"over a port");
 }
 
 /// How often each end comes over a wire.
@@ -274,10 +283,9 @@ bring-up of a device, 10: done 126, Reply 164, blen 24, ext 39, rca 45, cid 16, 
 ";
 
 #[test]
-fn runs_over_any_wire(rt: HostRuntime) -> Result<(), Fail> {
-    let found = all_ends(&rt, rt.alloc(), Way::Wire)?;
-    assert_eq!(&rt; found.as_str(), ENDS_OVER_WIRES);
-    Ok(())
+fn runs_over_any_wire(rt: HostRuntime) {
+    let found = all_ends(&rt, rt.alloc(), Way::Wire);
+    same(&rt, &found.as_str(), &ENDS_OVER_WIRES, &"over a wire");
 }
 
 /// Every kind of answer, but for an R1 of the command's own index and for damaged ones. The second R2 is a CSD that cannot
@@ -333,59 +341,62 @@ static COMMANDS: [(Kind, &str, Expect); 24] = [
 ];
 
 /// The answers that a command is given.
-fn answers_to(alloc: Global, expect: Expect) -> Result<Vec<Answer>, AllocError> {
+fn answers_to(rt: &impl Abort, alloc: Global, expect: Expect) -> Vec<Answer> {
     let mut answers = Vec::new(alloc);
     for answer in ANSWERS {
-        answers.push(answer)?;
+        answers.push(answer).expect(rt, "memory");
     }
     for fault in FAULTS {
-        answers.push(Answer::Damaged(fault))?;
+        answers.push(Answer::Damaged(fault)).expect(rt, "memory");
     }
     if let Expect::R1(index) = expect {
         let status = 0xfdf9_0080;
-        answers.push(Answer::Reply(Reply::R1 { index, status }))?;
+        let answer = Answer::Reply(Reply::R1 { index, status });
+        answers.push(answer).expect(rt, "memory");
     }
-    Ok(answers)
+    answers
 }
 
-/// How many answers to a command a run goes on with: it stops at each other one.
-fn taken_of(
+/// Whether a run of a command goes on with the answer: it stops at each other one.
+fn is_taken(
     rt: &impl Abort,
     alloc: Global,
-    kind: Kind,
-    text: &str,
-    expect: Expect,
-) -> Result<usize, Fail> {
-    let graph = parse(alloc, text)?.graph(alloc)?;
+    graph: &Graph<'_>,
+    (kind, command, expect): (Kind, &str, Expect),
+    answer: Answer,
+) -> bool {
+    let mut port = HostilePort::answering(alloc, kind, answer);
+    let outcome = run_over(rt, alloc, graph, &mut port, &[]);
+    same(rt, &port.asked, &expect, &command);
+    let wanted = if port.taken { "done" } else { "Reply" };
+    same(rt, &name_of_run(&outcome), &wanted, &(command, answer));
+    port.taken
+}
+
+/// How many answers to a command a run goes on with.
+fn taken_of(rt: &impl Abort, alloc: Global, row: &(Kind, &str, Expect)) -> usize {
+    let (kind, command, expect) = *row;
+    let card = if kind == Kind::Sd { "sd" } else { "emmc" };
+    let text = format!(in alloc; "card {card} send {command} {{ else {{ }} }} done");
+    let text = text.expect(rt, "memory");
+    let graph = graph_of(rt, alloc, &text);
     let mut taken: usize = 0;
-    for answer in answers_to(alloc, expect)? {
-        let mut port = HostilePort::answering(alloc, kind, answer);
-        let outcome = run_over(rt, alloc, &graph, &mut port, &[])?;
-        assert_eq!(rt; port.asked, expect, "{text}");
-        let wanted = if port.taken { "done" } else { "Reply" };
-        assert_eq!(rt; name_of_run(&outcome), wanted, "{text} {answer:?}");
-        taken = taken.saturating_add(port.taken as usize);
+    for answer in answers_to(rt, alloc, expect) {
+        let goes_on = is_taken(rt, alloc, &graph, *row, answer);
+        taken = taken.saturating_add(goes_on as usize);
     }
-    Ok(taken)
+    taken
 }
 
 #[test]
-fn answers_to_commands(rt: HostRuntime) -> Result<(), Fail> {
-    let alloc = rt.alloc();
-    for &(kind, command, expect) in COMMANDS.iter() {
-        let card = if kind == Kind::Sd { "sd" } else { "emmc" };
-        let text = format!(in alloc; "card {card} send {command} {{ else {{ }} }} done")?;
+fn answers_to_commands(rt: HostRuntime) {
+    for row in COMMANDS.iter() {
         // one answer, or also none; any CID, and one of the two CSDs
-        let wanted = match expect {
+        let wanted = match row.2 {
             Expect::Nothing => 1,
-            Expect::R2 if command != "9" => 3,
+            Expect::R2 if row.1 != "9" => 3,
             _ => 2,
         };
-        assert_eq!(&rt;
-            taken_of(&rt, alloc, kind, &text, expect)?,
-            wanted,
-            "{text}"
-        );
+        same(&rt, &taken_of(&rt, rt.alloc(), row), &wanted, &row.1);
     }
-    Ok(())
 }
