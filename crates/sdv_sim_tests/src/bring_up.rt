@@ -1,13 +1,14 @@
 //! Bring-ups, and what each value of a schedule does at each of their commands.
 
 use crate::shared::{
-    BLOCK_CARD, BYTE_CARD, DEVICE, Exchange, ask, block_bring_up, bring_up, image, play, port, r1,
+    BLOCK_CARD, BYTE_CARD, DEVICE, Exchange, Port, ask, block_bring_up, bring_up, image, play,
+    port, r1, reads, same,
 };
 use sdv_card::{Answer, CardPort, DataEnd};
 use sdv_controller::Controller;
 use sdv_frames::{Expect, Reply};
 use sdv_sim::{CardDesc, Sim};
-use std::test::Fail;
+use std::process::Abort;
 
 /// The bring-up of the byte card of version 1.
 fn byte_bring_up() -> [Exchange; 9] {
@@ -49,35 +50,30 @@ pub fn device_bring_up() -> [Exchange; 8] {
 }
 
 #[test]
-fn sd_cards(rt: HostRuntime) -> Result<(), Fail> {
-    let mut card = port(rt.alloc(), BLOCK_CARD, &[], 0, 0)?;
+fn sd_cards(rt: HostRuntime) {
+    let mut card = port(&rt, rt.alloc(), BLOCK_CARD, &[], 0, 0);
     play(&rt, &mut card, &block_bring_up());
-    let mut card = port(rt.alloc(), BYTE_CARD, &[], 3, 0x5a)?;
+    let mut card = port(&rt, rt.alloc(), BYTE_CARD, &[], 3, 0x5a);
     play(&rt, &mut card, &byte_bring_up());
-    play(&rt, &mut card, &[r1(17, 0x600, 0x900)]);
-    let mut blocks = [[0; 512]];
-    let end = card.data_in(1, &mut blocks);
-    assert!(rt; end == DataEnd::Ok && blocks == [[0x5a; 512]]);
-    Ok(())
+    reads(&rt, &mut card, 0x600, 0x5a);
 }
 
 #[test]
-fn device(rt: HostRuntime) -> Result<(), Fail> {
-    let mut card = port(rt.alloc(), DEVICE, &[], 0, 0)?;
+fn device(rt: HostRuntime) {
+    let mut card = port(&rt, rt.alloc(), DEVICE, &[], 0, 0);
     play(&rt, &mut card, &device_bring_up());
     let mut register = [1; 512];
     let end = card.data_in_reg(1, &mut register);
     assert!(rt;
         end == DataEnd::Ok && register[212..216] == [0, 8, 0, 0] && register[0..212] == [0; 212]
     );
-    Ok(())
 }
 
 /// A card with block addresses that took no CMD8 isn't ready, nor one whose host cannot work with them.
 #[test]
-fn not_ready(rt: HostRuntime) -> Result<(), Fail> {
+fn not_ready(rt: HostRuntime) {
     let idle = Answer::Reply(Reply::R3(0x00ff_8000));
-    let mut card = port(rt.alloc(), BLOCK_CARD, &[], 0, 0)?;
+    let mut card = port(&rt, rt.alloc(), BLOCK_CARD, &[], 0, 0);
     let rows = [
         (0, 0, Expect::Nothing, Answer::Sent),
         r1(55, 0, 0x120),
@@ -90,7 +86,6 @@ fn not_ready(rt: HostRuntime) -> Result<(), Fail> {
         (41, 0x40ff_8000, Expect::R3, idle),
     ];
     play(&rt, &mut card, &rows);
-    Ok(())
 }
 
 /// An answer with the error bit that a card reports: bit 19 of a status, bit 13 of an R6.
@@ -121,30 +116,33 @@ fn with_code(code: u8, place: usize, answer: Answer) -> Answer {
     }
 }
 
-/// Each value at each command of the bring-up, and the command once more where the card did not take it.
+/// A command that meets a value of the schedule, and the command once more where the card did not take it.
+fn meets(rt: &impl Abort, card: &mut Port, code: u8, place: usize, row: &Exchange) {
+    let found = ask(rt, card, row.0, row.1, row.2);
+    same(rt, &found, &with_code(code, place, row.3), &(code, place));
+    // a lost command and a stay leave the card as it was
+    if matches!((code, place), (1 | 5, 5) | (1 | 5, 7) | (1, 4)) {
+        let found = ask(rt, card, row.0, row.1, row.2);
+        same(rt, &found, &row.3, &("again", code, place));
+    }
+}
+
+/// Each value at each command of the bring-up.
 #[test]
-fn codes(rt: HostRuntime) -> Result<(), Fail> {
+fn codes(rt: HostRuntime) {
     let alloc = rt.alloc();
     let rows = block_bring_up();
-    let desc = CardDesc::parse(BLOCK_CARD)?;
-    let mut blocks = image(alloc, 1024, 0, 0)?;
+    let desc = CardDesc::parse(BLOCK_CARD).expect(&rt, "a description");
+    let mut blocks = image(&rt, alloc, 1024, 0, 0);
     for code in 0..7 {
         for place in 0..9 {
             let mut schedule = [0; 9];
             schedule[place] = code;
-            let mut card = Controller::new(Sim::new(alloc, desc, blocks, &schedule)?);
+            let sim = Sim::new(alloc, desc, blocks, &schedule).expect(&rt, "a card");
+            let mut card = Controller::new(sim);
             play(&rt, &mut card, &rows[..place]);
-            let (index, argument, expect, answer) = rows[place];
-            let found = ask(&rt, &mut card, index, argument, expect);
-            let wanted = with_code(code, place, answer);
-            assert!(rt; found == wanted, "{code} at {place}: {found:?}");
-            // a lost command and a stay leave the card as it was
-            if matches!((code, place), (1 | 5, 5) | (1 | 5, 7) | (1, 4)) {
-                let found = ask(&rt, &mut card, index, argument, expect);
-                assert!(rt; found == answer, "{code} at {place} again: {found:?}");
-            }
+            meets(&rt, &mut card, code, place, &rows[place]);
             blocks = card.into_wire().into_image();
         }
     }
-    Ok(())
 }

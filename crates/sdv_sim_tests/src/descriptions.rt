@@ -1,9 +1,10 @@
 //! Descriptions, and how a simulated card is made or refused.
 
-use crate::shared::{BLOCK_CARD, BOOT_DEVICE, BYTE_CARD, DEVICE};
+use crate::shared::{BLOCK_CARD, BOOT_DEVICE, BYTE_CARD, DEVICE, same};
 use sdv_card::Kind;
 use sdv_sim::{CardDesc, MemImage, Sim, SimFault};
-use std::test::Fail;
+use std::alloc::Global;
+use std::process::Abort;
 
 const READ: Option<SimFault> = None;
 
@@ -91,69 +92,98 @@ static ROWS: [(&str, Option<SimFault>); 34] = [
 
 #[test]
 fn texts(rt: HostRuntime) {
-    for (text, fault) in ROWS.iter() {
-        let found = CardDesc::parse(text).err();
-        assert!(rt; found == *fault, "{text:?}: {found:?}");
+    for row in ROWS.iter() {
+        same(&rt, &CardDesc::parse(row.0).err(), &row.1, row);
     }
 }
 
-/// What a description gives: kind, version, unit, capacity, CSD, sectors, block length, relative address.
-#[test]
-fn cards(rt: HostRuntime) -> Result<(), Fail> {
-    let d = CardDesc::parse("card sd\nversion 1\nunit byte\ncsize 3875\ncmult 7\nrbl 10\nrca 9\n")?;
-    let csd = [
-        0, 0, 0, 0, 0, 0x0a, 0x03, 0xc8, 0xc0, 0x03, 0x80, 0, 0, 0, 0,
-    ];
-    assert!(rt; (d.kind, d.version, d.block_unit, d.capacity) == (Kind::Sd, 1, false, 3_969_024));
-    let read = d.csd;
-    assert!(rt; read == csd && (d.sectors, d.block_length, d.rca) == (0, 1024, 9));
-    let d = CardDesc::parse(DEVICE)?;
-    let csd = [
-        0, 0, 0, 0, 0, 0x09, 0x03, 0xff, 0xc0, 0x03, 0x80, 0, 0, 0, 0,
-    ];
-    assert!(rt; (d.kind, d.block_unit, d.capacity) == (Kind::Emmc, true, 2048));
-    let read = d.csd;
-    assert!(rt; read == csd && (d.sectors, d.block_length, d.rca) == (2048, 512, 1));
-    assert!(rt; (d.boot_size_mult, d.image_size()) == (0, 2048));
-    let d = CardDesc::parse(BOOT_DEVICE)?;
-    assert!(rt; (d.capacity, d.sectors, d.boot_size_mult, d.image_size()) == (2048, 2048, 1, 2560));
-    Ok(())
+/// A description, and what it gives: kind, version, unit, capacity; CSD; sectors, block length, relative address; the
+/// size of a boot partition, and the blocks of the image.
+type Card = (
+    &'static str,
+    (Kind, u8, bool, u64),
+    [u8; 15],
+    (u32, u16, u16),
+    (u8, u64),
+);
+
+static CARDS: [Card; 3] = [
+    (
+        "card sd\nversion 1\nunit byte\ncsize 3875\ncmult 7\nrbl 10\nrca 9\n",
+        (Kind::Sd, 1, false, 3_969_024),
+        [
+            0, 0, 0, 0, 0, 0x0a, 0x03, 0xc8, 0xc0, 0x03, 0x80, 0, 0, 0, 0,
+        ],
+        (0, 1024, 9),
+        (0, 3_969_024),
+    ),
+    (
+        DEVICE,
+        (Kind::Emmc, 0, true, 2048),
+        [
+            0, 0, 0, 0, 0, 0x09, 0x03, 0xff, 0xc0, 0x03, 0x80, 0, 0, 0, 0,
+        ],
+        (2048, 512, 1),
+        (0, 2048),
+    ),
+    (
+        BOOT_DEVICE,
+        (Kind::Emmc, 0, true, 2048),
+        [
+            0, 0, 0, 0, 0, 0x09, 0x03, 0xff, 0xc0, 0x03, 0x80, 0, 0, 0, 0,
+        ],
+        (2048, 512, 1),
+        (1, 2560),
+    ),
+];
+
+/// A description gives what its row says.
+fn gives(rt: &impl Abort, row: &Card) {
+    let d = CardDesc::parse(row.0).expect(rt, "a description");
+    let found = (d.kind, d.version, d.block_unit, d.capacity);
+    same(rt, &found, &row.1, &row.0);
+    same(rt, &d.csd, &row.2, &row.0);
+    same(rt, &(d.sectors, d.block_length, d.rca), &row.3, &row.0);
+    same(rt, &(d.boot_size_mult, d.image_size()), &row.4, &row.0);
 }
 
-/// Why there is no simulated card, by its description, the bytes of the image and the schedule.
 #[test]
-fn refusals(rt: HostRuntime) -> Result<(), Fail> {
-    let alloc = rt.alloc();
-    let rows = [
-        (BYTE_CARD, 2048, 6, None),
-        (BYTE_CARD, 2048, 7, None),
-        (BYTE_CARD, 2048, 8, Some(SimFault::Description)),
-        (BYTE_CARD, 2047, 6, None),
-        (BYTE_CARD, 1536, 9, Some(SimFault::Description)),
-        (BYTE_CARD, 1536, 0, Some(SimFault::ImageLength)),
-        (BYTE_CARD, 2560, 0, Some(SimFault::ImageLength)),
-        (BLOCK_CARD, 1023 * 512, 0, Some(SimFault::ImageLength)),
-        (BOOT_DEVICE, 2560 * 512, 7, None),
-        (BOOT_DEVICE, 2048 * 512, 7, Some(SimFault::ImageLength)),
-    ];
-    for (desc, size, code, fault) in rows {
-        let desc = CardDesc::parse(desc)?;
-        let mut bytes = Vec::new(alloc);
-        for _ in 0..size {
-            bytes.push(0)?;
-        }
-        match MemImage::from_bytes(bytes) {
-            Ok(image) => {
-                let found = Sim::new(alloc, desc, image, &[0, code]).err();
-                assert!(rt; found == fault, "{size} {code}: {found:?}");
-            }
-            Err(found) => {
-                assert!(rt;
-                    size == 2047 && found == SimFault::ImageLength,
-                    "{size}: {found:?}"
-                )
-            }
-        }
+fn cards(rt: HostRuntime) {
+    for row in CARDS.iter() {
+        gives(&rt, row);
     }
-    Ok(())
+}
+
+/// A description, the bytes of the image, the schedule's second value, and why there is no simulated card.
+type Refusal = (&'static str, usize, u8, Option<SimFault>);
+
+static REFUSALS: [Refusal; 9] = [
+    (BYTE_CARD, 2048, 6, None),
+    (BYTE_CARD, 2048, 7, None),
+    (BYTE_CARD, 2048, 8, Some(SimFault::Description)),
+    (BYTE_CARD, 1536, 9, Some(SimFault::Description)),
+    (BYTE_CARD, 1536, 0, Some(SimFault::ImageLength)),
+    (BYTE_CARD, 2560, 0, Some(SimFault::ImageLength)),
+    (BLOCK_CARD, 1023 * 512, 0, Some(SimFault::ImageLength)),
+    (BOOT_DEVICE, 2560 * 512, 7, None),
+    (BOOT_DEVICE, 2048 * 512, 7, Some(SimFault::ImageLength)),
+];
+
+/// A simulated card is made or refused as its row says.
+fn is_refused(rt: &impl Abort, alloc: Global, row: &Refusal) {
+    let desc = CardDesc::parse(row.0).expect(rt, "a description");
+    let bytes = vec![in alloc; 0; row.1].expect(rt, "memory");
+    let image = MemImage::from_bytes(bytes).expect(rt, "an image");
+    let found = Sim::new(alloc, desc, image, &[0, row.2]).err();
+    same(rt, &found, &row.3, row);
+}
+
+#[test]
+fn refusals(rt: HostRuntime) {
+    for row in REFUSALS.iter() {
+        is_refused(&rt, rt.alloc(), row);
+    }
+    let bytes = vec![in rt.alloc(); 0; 2047].expect(&rt, "memory");
+    let found = MemImage::from_bytes(bytes).err();
+    same(&rt, &found, &Some(SimFault::ImageLength), &2047);
 }

@@ -2,11 +2,10 @@
 
 ghost use Rattle.std.specs.Prelude.{None, ◌^◌, ◌-◌};
 
-use crate::shared::{BLOCK_CARD, block_bring_up, play, r1};
+use crate::shared::{BLOCK_CARD, block_bring_up, play, r1, replies, write};
 use sdv_card::{CardPort, DataEnd, WaitEnd};
 use sdv_controller::Controller;
 use sdv_sim::{CardDesc, Image, ImageFault, Sim, SimFault};
-use std::test::Fail;
 
 /// An image of 1,024 blocks of zeros, of which no write is kept. So many calls go well, and the later ones fail; its count of
 /// failures stands at its greatest.
@@ -52,26 +51,20 @@ impl Image for Failing {
 
 /// A first read that fails, phases that a later failure cuts, and an erase that one ends.
 #[test]
-fn failures(rt: HostRuntime) -> Result<(), Fail> {
+fn failures(rt: HostRuntime) {
     let alloc = rt.alloc();
-    let desc = CardDesc::parse(BLOCK_CARD)?;
+    let desc = CardDesc::parse(BLOCK_CARD).expect(&rt, "a description");
     let found = Sim::new(alloc, desc, Failing { good: 0 }, &[]).err();
     assert!(rt; found == Some(SimFault::ImageRead));
-    let mut card = Controller::new(Sim::new(alloc, desc, Failing { good: 1 }, &[])?);
+    let sim = Sim::new(alloc, desc, Failing { good: 1 }, &[]).expect(&rt, "a card");
+    let mut card = Controller::new(sim);
     play(&rt, &mut card, &block_bring_up());
-    play(&rt, &mut card, &[r1(17, 3, 0x900)]);
+    replies(&rt, &mut card, 17, 3, 0x900);
     let read = card.data_in(1, &mut [[0; 512]]);
-    play(
-        &rt,
-        &mut card,
-        &[r1(13, 0x1234_0000, 0x900), r1(24, 3, 0x900)],
-    );
-    let written = card.data_out(1, &[[0; 512]]);
-    play(
-        &rt,
-        &mut card,
-        &[r1(13, 0x1234_0000, 0xd00), r1(12, 0, 0xd00)],
-    );
+    replies(&rt, &mut card, 13, 0x1234_0000, 0x900);
+    let written = write(&rt, &mut card, 3, 0);
+    replies(&rt, &mut card, 13, 0x1234_0000, 0xd00);
+    replies(&rt, &mut card, 12, 0, 0xd00);
     let ready = card.wait();
     let rows = [
         r1(32, 3, 0x900),
@@ -81,5 +74,4 @@ fn failures(rt: HostRuntime) -> Result<(), Fail> {
     ];
     play(&rt, &mut card, &rows);
     assert!(rt; (read, written, ready) == (DataEnd::Cut, DataEnd::Cut, WaitEnd::Ok));
-    Ok(())
 }

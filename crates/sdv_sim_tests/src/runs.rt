@@ -1,16 +1,15 @@
 //! Scripts that run beside simulated cards, with their traces to the letter.
 
-use crate::shared::{BLOCK_CARD, BOOT_DEVICE, BYTE_CARD, DEVICE, Port, image, port};
+use crate::shared::{BLOCK_CARD, BOOT_DEVICE, BYTE_CARD, DEVICE, Port, image, port, same_text};
 use sdv_certify::{certify, write};
 use sdv_check::{Accepted, verify};
 use sdv_controller::Controller;
 use sdv_run::{End, RunFault, run};
 use sdv_script::parse;
 use sdv_sim::{CardDesc, Sim};
-use std::alloc::{AllocError, Global};
+use std::alloc::Global;
 use std::process::Abort;
 use std::str;
-use std::test::Fail;
 
 /// A script that brings a card up to the transfer state.
 const BRING_UP: &str = "card sd
@@ -82,12 +81,20 @@ send 17 at by hc 255 { clean { recv { ok { } else { fault rd } } } else { fault 
 done
 ";
 
+/// The text of the certificate of a script.
+fn certificate_of(rt: &impl Abort, alloc: Global, script: &str) -> Vec<u8> {
+    let script = parse(alloc, script).expect(rt, "a script");
+    let certificate = certify(alloc, &script).expect(rt, "a certificate");
+    let mut text = Vec::new(alloc);
+    write(&certificate, &mut text).expect(rt, "memory");
+    text
+}
+
 /// The script of a text, with the certificate that is written for it.
-fn accepted(alloc: Global, text: &str) -> Result<Accepted<'_>, Fail> {
-    let script = parse(alloc, text)?;
-    let mut certificate = Vec::new(alloc);
-    write(&certify(alloc, &script)?, &mut certificate)?;
-    Ok(verify(alloc, text, str::from_utf8(&certificate)?)?)
+fn accepted<'a>(rt: &impl Abort, alloc: Global, text: &'a str) -> Accepted<'a> {
+    let certificate = certificate_of(rt, alloc, text);
+    let certificate = str::from_utf8(&certificate).expect(rt, "a text");
+    verify(alloc, text, certificate).expect(rt, "an accepted script")
 }
 
 /// The fault that a run ended in, or "done".
@@ -110,32 +117,14 @@ fn put_out(
 ) -> Vec<u8> {
     let (mut out, mut trace) = (Vec::new(alloc), Vec::new(alloc));
     let outcome = run(alloc, script, card, &[], &mut out, &mut trace);
-    let trace = str::from_utf8(&trace).ok().expect(rt, "a text");
-    assert!(rt; trace == lines, "{trace}\nfor\n{lines}");
-    assert_eq!(rt; name_of(&outcome), end, "{trace}");
+    let trace = str::from_utf8(&trace).expect(rt, "a text");
+    same_text(rt, trace, lines, &end);
+    same_text(rt, name_of(&outcome), end, &trace);
     out
 }
 
-/// A bring-up that goes well, line by line.
-static LINES: [&str; 9] = [
-    "CMD0 00000000 -\n",
-    "CMD8 000001aa R7 000001aa\n",
-    "CMD55 00000000 R1 00000120\n",
-    "CMD41 40ff8000 R3 c0ff8000\n",
-    "CMD2 00000000 R2 005858534456202010000000010181\n",
-    "CMD3 00000000 R6 12340500\n",
-    "CMD9 12340000 R2 400000000009000000000000000000\n",
-    "CMD7 12340000 R1 00000700\n",
-    "CMD16 00000200 R1 00000900\n",
-];
-
-/// Scripts, descriptions, the block of the image that is full of 5a, traces, and how many bytes are put out.
-static RUNS: [(&str, &str, u64, &str, usize); 4] = [
-    (
-        BRING_UP,
-        BLOCK_CARD,
-        3,
-        "CMD0 00000000 -
+/// The lines of the block card's bring-up.
+const BLOCK_CARD_UP: &str = "CMD0 00000000 -
 CMD8 000001aa R7 000001aa
 CMD55 00000000 R1 00000120
 CMD41 40ff8000 R3 c0ff8000
@@ -144,15 +133,10 @@ CMD3 00000000 R6 12340500
 CMD9 12340000 R2 400000000009000000000000000000
 CMD7 12340000 R1 00000700
 CMD16 00000200 R1 00000900
-done
-",
-        0,
-    ),
-    (
-        LAST_BLOCK,
-        BYTE_CARD,
-        3,
-        "CMD0 00000000 -
+";
+
+/// The lines of the byte card's bring-up.
+const BYTE_CARD_UP: &str = "CMD0 00000000 -
 CMD8 000001aa timeout
 CMD55 00000000 R1 00000120
 CMD41 40ff8000 R3 80ff8000
@@ -161,17 +145,10 @@ CMD3 00000000 R6 00010500
 CMD9 00010000 R2 000000000009000000000000000000
 CMD7 00010000 R1 00000700
 CMD16 00000200 R1 00000900
-CMD17 00000600 R1 00000900
-IN 1 ok
-done
-",
-        512,
-    ),
-    (
-        DEVICE_BRING_UP,
-        DEVICE,
-        3,
-        "CMD0 00000000 -
+";
+
+/// The lines of a device's bring-up.
+const DEVICE_UP: &str = "CMD0 00000000 -
 CMD1 40ff8080 R3 c0ff8080
 CMD2 00000000 R2 000158534456455249100000000117
 CMD3 00010000 R1 00000500
@@ -180,24 +157,36 @@ CMD7 00010000 R1 00000700
 CMD16 00000200 R1 00000900
 CMD8 00000000 R1 00000900
 REG 512 ok
-done
-",
-        0,
+";
+
+/// A script, a description, the block of the image that is full of 5a, the trace: the lines of a bring-up and others behind
+/// them, and how many bytes are put out.
+type Run = (
+    &'static str,
+    &'static str,
+    u64,
+    &'static str,
+    &'static str,
+    usize,
+);
+
+static RUNS: [Run; 4] = [
+    (BRING_UP, BLOCK_CARD, 3, BLOCK_CARD_UP, "done\n", 0),
+    (
+        LAST_BLOCK,
+        BYTE_CARD,
+        3,
+        BYTE_CARD_UP,
+        "CMD17 00000600 R1 00000900\nIN 1 ok\ndone\n",
+        512,
     ),
+    (DEVICE_BRING_UP, DEVICE, 3, DEVICE_UP, "done\n", 0),
     (
         BOOT_READ,
         BOOT_DEVICE,
         2303,
-        "CMD0 00000000 -
-CMD1 40ff8080 R3 c0ff8080
-CMD2 00000000 R2 000158534456455249100000000117
-CMD3 00010000 R1 00000500
-CMD9 00010000 R2 00000000000903ffc0038000000000
-CMD7 00010000 R1 00000700
-CMD16 00000200 R1 00000900
-CMD8 00000000 R1 00000900
-REG 512 ok
-CMD8 00000000 R1 00000900
+        DEVICE_UP,
+        "CMD8 00000000 R1 00000900
 REG 512 ok
 CMD6 03b30100 R1 00000900
 WAIT ok
@@ -210,23 +199,21 @@ done
     ),
 ];
 
-/// Runs that end well, on cards with a block that is full of 5a.
+/// A run ends well, on a card with a block that is full of 5a.
+fn whole_run(rt: &impl Abort, alloc: Global, row: &Run) {
+    let (text, desc, place, bring_up, behind, bytes) = *row;
+    let script = accepted(rt, alloc, text);
+    let mut card = port(rt, alloc, desc, &[], place, 0x5a);
+    let lines = [bring_up, behind].concat(alloc).expect(rt, "memory");
+    let out = put_out(rt, alloc, &script, &mut card, "done", &lines);
+    assert!(rt; out.len() == bytes && out.iter().all(|byte| *byte == 0x5a));
+}
+
 #[test]
-fn whole_runs(rt: HostRuntime) -> Result<(), Fail> {
-    let alloc = rt.alloc();
-    for &(text, desc, place, lines, bytes) in RUNS.iter() {
-        let mut card = port(alloc, desc, &[], place, 0x5a)?;
-        let out = put_out(
-            &rt,
-            alloc,
-            &accepted(alloc, text)?,
-            &mut card,
-            "done",
-            lines,
-        );
-        assert!(rt; out.len() == bytes && out.iter().all(|byte| *byte == 0x5a));
+fn whole_runs(rt: HostRuntime) {
+    for row in RUNS.iter() {
+        whole_run(&rt, rt.alloc(), row);
     }
-    Ok(())
 }
 
 /// Where an event of the bring-up meets one of these values of a schedule: its line and those of what is tried again, and the
@@ -254,57 +241,81 @@ static LOST: [(usize, &[u8], &str, &str); 15] = [
     (8, &[4, 5], "CMD16 00000200 R1 00080900\n", "blen"),
 ];
 
-/// The lines at an event that meets a value of a schedule, and the run's end.
-fn lost(place: usize, code: u8) -> Option<(&'static str, &'static str)> {
-    for &(row, codes, lines, end) in LOST.iter() {
-        if row == place && codes.contains(&code) {
-            return Some((lines, end));
+/// The lines at an event that meets a value of a schedule, where they are not its own, and the run's end.
+fn lost(place: usize, code: u8) -> (Option<&'static str>, &'static str) {
+    for row in LOST.iter() {
+        if row.0 == place && row.1.contains(&code) {
+            return (Some(row.2), row.3);
         }
     }
-    None
+    (None, "done")
 }
 
-/// The trace of a bring-up with these lines at an event, and with that end.
-fn trace_of(alloc: Global, place: usize, lines: &str, end: &str) -> Result<String, AllocError> {
+/// The lines of a bring-up up to its end, with these at an event, or its own.
+fn lines_of(
+    rt: &impl Abort,
+    alloc: Global,
+    place: usize,
+    lines: Option<&str>,
+    end: &str,
+) -> String {
     let mut trace = String::new(alloc);
-    for (at, line) in LINES.iter().enumerate() {
-        if at == place {
-            trace.push_str(lines)?;
+    for (at, line) in BLOCK_CARD_UP.split_inclusive('\n').enumerate() {
+        let line = if at == place {
+            lines.unwrap_or(line)
         } else if at < place || end == "done" {
-            trace.push_str(line)?;
-        }
+            line
+        } else {
+            ""
+        };
+        trace.push_str(line).expect(rt, "memory");
     }
+    trace
+}
+
+/// The lines of a bring-up, and what its end puts behind them.
+fn ended(rt: &impl Abort, alloc: Global, lines: &str, end: &str) -> String {
     // a card with block addresses that took no CMD8 is never ready
-    if end == "busy" {
-        let turn = "CMD55 00000000 R1 00000120\nCMD41 40ff8000 R3 00ff8000\n";
-        trace.push_str(&turn.repeat(alloc, 1000)?)?;
-    }
-    if end != "done" {
-        trace.push_str("fault ")?;
-    }
-    trace.push_str(end)?;
-    trace.push_str("\n")?;
-    Ok(trace)
+    let turns = if end == "busy" { 1000 } else { 0 };
+    let turn = "CMD55 00000000 R1 00000120\nCMD41 40ff8000 R3 00ff8000\n";
+    let turns = turn.repeat(alloc, turns).expect(rt, "memory");
+    let fault = if end == "done" { "" } else { "fault " };
+    [lines, &turns, fault, end, "\n"]
+        .concat(alloc)
+        .expect(rt, "memory")
+}
+
+/// A run of the bring-up that meets a value of a schedule at an event.
+fn meets(
+    rt: &impl Abort,
+    alloc: Global,
+    script: &Accepted<'_>,
+    card: &mut Port,
+    place: usize,
+    code: u8,
+) {
+    let (lines, end) = lost(place, code);
+    let lines = lines_of(rt, alloc, place, lines, end);
+    let trace = ended(rt, alloc, &lines, end);
+    let out = put_out(rt, alloc, script, card, end, &trace);
+    assert!(rt; out.is_empty());
 }
 
 /// Each value of a schedule at each event of the bring-up.
 #[test]
-fn lost_events(rt: HostRuntime) -> Result<(), Fail> {
+fn lost_events(rt: HostRuntime) {
     let alloc = rt.alloc();
-    let desc = CardDesc::parse(BLOCK_CARD)?;
-    let script = accepted(alloc, BRING_UP)?;
-    let mut blocks = image(alloc, 1024, 0, 0)?;
+    let desc = CardDesc::parse(BLOCK_CARD).expect(&rt, "a description");
+    let script = accepted(&rt, alloc, BRING_UP);
+    let mut blocks = image(&rt, alloc, 1024, 0, 0);
     for code in 0..7 {
         for place in 0..9 {
-            let (lines, end) = lost(place, code).unwrap_or((LINES[place], "done"));
-            let trace = trace_of(alloc, place, lines, end)?;
             let mut schedule = [0; 9];
             schedule[place] = code;
-            let mut card = Controller::new(Sim::new(alloc, desc, blocks, &schedule)?);
-            let out = put_out(&rt, alloc, &script, &mut card, end, &trace);
-            assert!(rt; out.is_empty());
+            let sim = Sim::new(alloc, desc, blocks, &schedule).expect(&rt, "a card");
+            let mut card = Controller::new(sim);
+            meets(&rt, alloc, &script, &mut card, place, code);
             blocks = card.into_wire().into_image();
         }
     }
-    Ok(())
 }

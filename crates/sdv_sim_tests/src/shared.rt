@@ -1,12 +1,12 @@
 //! What several tests call.
 
-use sdv_card::{Answer, CardPort};
+use sdv_card::{Answer, CardPort, DataEnd};
 use sdv_controller::Controller;
 use sdv_frames::{Command, Expect, Reply};
 use sdv_sim::{CardDesc, MemImage, Sim};
 use std::alloc::Global;
+use std::fmt::Debug;
 use std::process::Abort;
-use std::test::Fail;
 
 /// A controller with a simulated card behind it.
 pub type Port = Controller<Sim<MemImage>>;
@@ -67,27 +67,56 @@ pub fn block_bring_up() -> [Exchange; 9] {
 }
 
 /// An image of zeros, but for one block of equal bytes.
-pub fn image(alloc: Global, blocks: u64, block: u64, byte: u8) -> Result<MemImage, Fail> {
+pub fn image(rt: &impl Abort, alloc: Global, blocks: u64, block: u64, byte: u8) -> MemImage {
     let mut bytes = Vec::new(alloc);
     for place in 0..blocks {
-        for _ in 0..512 {
-            bytes.push(if place == block { byte } else { 0 })?;
-        }
+        let filled = [if place == block { byte } else { 0 }; 512];
+        bytes.extend_from_slice(&filled).expect(rt, "memory");
     }
-    Ok(MemImage::from_bytes(bytes)?)
+    MemImage::from_bytes(bytes).expect(rt, "an image")
 }
 
 /// A card of a description over such an image.
 pub fn port(
+    rt: &impl Abort,
     alloc: Global,
     desc: &str,
     schedule: &[u8],
     block: u64,
     byte: u8,
-) -> Result<Port, Fail> {
-    let desc = CardDesc::parse(desc)?;
-    let image = image(alloc, desc.image_size(), block, byte)?;
-    Ok(Controller::new(Sim::new(alloc, desc, image, schedule)?))
+) -> Port {
+    let desc = CardDesc::parse(desc).expect(rt, "a description");
+    let image = image(rt, alloc, desc.image_size(), block, byte);
+    Controller::new(Sim::new(alloc, desc, image, schedule).expect(rt, "a card"))
+}
+
+/// A command is answered with an R1 of this status.
+pub fn replies<P: CardPort>(rt: &impl Abort, port: &mut P, index: u8, argument: u32, status: u32) {
+    play(rt, port, &[r1(index, argument, status)]);
+}
+
+/// A read of a block gives a byte 512 times.
+pub fn reads<P: CardPort>(rt: &impl Abort, port: &mut P, place: u32, byte: u8) {
+    let mut blocks = [[0xee; 512]];
+    replies(rt, port, 17, place, 0x900);
+    let end = port.data_in(1, &mut blocks);
+    same(rt, &(end, blocks), &(DataEnd::Ok, [[byte; 512]]), &place);
+}
+
+/// How a write of a block ends, which has a byte 512 times.
+pub fn write<P: CardPort>(rt: &impl Abort, port: &mut P, place: u32, byte: u8) -> DataEnd {
+    replies(rt, port, 24, place, 0x900);
+    port.data_out(1, &[[byte; 512]])
+}
+
+/// Stops the test where what was found is not what is wanted; the message shows the row.
+pub fn same<T: PartialEq + Debug, R: Debug>(rt: &impl Abort, found: &T, wanted: &T, row: &R) {
+    assert_eq!(rt; found, wanted, "{row:?}");
+}
+
+/// As [`same`], of texts.
+pub fn same_text<R: Debug>(rt: &impl Abort, found: &str, wanted: &str, row: &R) {
+    same(rt, &found, &wanted, row);
 }
 
 /// The answer to a command.
@@ -104,8 +133,8 @@ pub fn ask<P: CardPort>(
 
 /// Each command has its answer.
 pub fn play<P: CardPort>(rt: &impl Abort, port: &mut P, rows: &[Exchange]) {
-    for (index, argument, expect, answer) in rows.iter() {
-        let found = ask(rt, port, *index, *argument, *expect);
-        assert!(rt; found == *answer, "CMD{index} {argument:08x}: {found:?}");
+    for row in rows.iter() {
+        let found = ask(rt, port, row.0, row.1, row.2);
+        same(rt, &found, &row.3, row);
     }
 }
