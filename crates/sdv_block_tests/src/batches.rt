@@ -7,24 +7,31 @@ use sdv_check::check;
 use sdv_registers::Kind;
 use sdv_script::parse;
 use std::alloc::Global;
-use std::test::Fail;
+use std::process::Abort;
 
-/// How many commands a script may send.
-fn bound(alloc: Global, text: &str) -> Result<u64, Fail> {
-    let script = parse(alloc, text)?;
-    let certificate = certify(alloc, &script)?;
-    Ok(check(&script.graph(alloc)?, &certificate)?)
+/// How many commands the script of a batch may send.
+fn bound(rt: &impl Abort, alloc: Global, kind: Kind, requests: &[Request]) -> u64 {
+    let text = batch(alloc, kind, requests).expect(rt, "a batch");
+    let script = parse(alloc, text.as_str()).expect(rt, "a script");
+    let certificate = certify(alloc, &script).expect(rt, "a certificate");
+    let graph = script.graph(alloc).expect(rt, "memory");
+    check(&graph, &certificate).expect(rt, "a bound")
 }
 
+/// Kinds and requests, and how many commands the script of their batch may send.
+static BOUNDS: [(Kind, &[Request], u64); 4] = [
+    (Kind::Sd, WRITES_AND_READ, 2012),
+    (Kind::Sd, WRITE_AND_READ_OF_TWO, 3012),
+    (Kind::Emmc, WRITES_AND_READ, 1012),
+    (Kind::Emmc, WRITE_AND_READ_OF_TWO, 2012),
+];
+
 #[test]
-fn bounds(rt: HostRuntime) -> Result<(), Fail> {
-    for (kind, single, multiple) in [(Kind::Sd, 2012, 3012), (Kind::Emmc, 1012, 2012)] {
-        let text = batch(rt.alloc(), kind, &WRITES_AND_READ)?;
-        assert_eq!(rt; bound(rt.alloc(), text.as_str())?, single);
-        let text = batch(rt.alloc(), kind, &WRITE_AND_READ_OF_TWO)?;
-        assert_eq!(rt; bound(rt.alloc(), text.as_str())?, multiple);
+fn bounds(rt: HostRuntime) {
+    for row in BOUNDS.iter() {
+        let bound = bound(&rt, rt.alloc(), row.0, row.1);
+        assert_eq!(rt; bound, row.2);
     }
-    Ok(())
 }
 
 /// Requests, and the fault of their batch.
@@ -87,22 +94,22 @@ fn refused(rt: HostRuntime) {
 }
 
 /// Reads of so many blocks, one by one.
-fn single_reads(alloc: Global, count: u64) -> Result<Vec<Request>, Fail> {
+fn single_reads(rt: &impl Abort, alloc: Global, count: u64) -> Vec<Request> {
     let mut requests = Vec::new(alloc);
     for first in 0..count {
-        requests.push(Request::Read { first, count: 1 })?;
+        let read = Request::Read { first, count: 1 };
+        requests.push(read).expect(rt, "memory");
     }
-    Ok(requests)
+    requests
 }
 
 /// A text that is too long for a script.
 #[test]
-fn too_many_requests(rt: HostRuntime) -> Result<(), Fail> {
+fn too_many_requests(rt: HostRuntime) {
     for (count, fault) in [(500, None), (800, Some(BlockFault::Limit))] {
-        let requests = single_reads(rt.alloc(), count)?;
+        let requests = single_reads(&rt, rt.alloc(), count);
         for kind in [Kind::Sd, Kind::Emmc] {
             assert!(rt; batch(rt.alloc(), kind, requests.as_slice()).err() == fault);
         }
     }
-    Ok(())
 }

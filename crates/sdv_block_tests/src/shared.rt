@@ -1,14 +1,13 @@
 //! What several tests call.
 
-use sdv_block::Request;
+use sdv_block::{Request, serve};
 use sdv_controller::Controller;
 use sdv_registers::Kind;
+use sdv_run::End;
 use sdv_sim::{CardDesc, MemImage, Sim};
 use std::alloc::Global;
-use std::test::Fail;
-
-/// A simulated card behind a controller.
-pub type Port = Controller<Sim<MemImage>>;
+use std::process::Abort;
+use std::str;
 
 /// A card, how many blocks it has, and the lines of its bring-up.
 pub struct Disk {
@@ -42,26 +41,77 @@ pub static DISKS: [Disk; 2] = [
     },
 ];
 
+/// What is left when requests were served.
+#[derive(Drop)]
+pub struct Served {
+    /// How the run ended.
+    pub end: End,
+    /// What was read.
+    pub out: Vec<u8>,
+    /// The trace of the run.
+    pub trace: Vec<u8>,
+    /// The bytes of the card.
+    pub image: Vec<u8>,
+}
+
+impl Served {
+    /// How the run ended: `DONE`, or the name of a fault.
+    pub fn name(&self) -> &str {
+        match &self.end {
+            End::Done => "DONE",
+            End::Fault(name) => name.as_str(),
+        }
+    }
+}
+
 /// The simulated card of a disk, over an image of zeros.
-pub fn port(alloc: Global, disk: &Disk) -> Result<Port, Fail> {
-    let desc = CardDesc::parse(disk.desc)?;
+fn card(rt: &impl Abort, alloc: Global, disk: &Disk) -> Sim<MemImage> {
+    let desc = CardDesc::parse(disk.desc).expect(rt, "a description");
     let mut bytes = Vec::new(alloc);
     for _ in 0..disk.blocks {
-        bytes.extend_from_slice(&[0; 512])?;
+        bytes.extend_from_slice(&[0; 512]).expect(rt, "memory");
     }
-    let image = MemImage::from_bytes(bytes)?;
-    Ok(Controller::new(Sim::new(alloc, desc, image, &[])?))
+    let image = MemImage::from_bytes(bytes).expect(rt, "whole blocks");
+    Sim::new(alloc, desc, image, &[]).expect(rt, "an image of the card's length")
+}
+
+/// Serves requests over the simulated card of a disk, whose blocks are zeros before.
+pub fn serve_on_card(
+    rt: &impl Abort,
+    alloc: Global,
+    disk: &Disk,
+    requests: &[Request],
+    input: &[[u8; 512]],
+) -> Served {
+    let mut port = Controller::new(card(rt, alloc, disk));
+    let (mut out, mut trace) = (Vec::new(alloc), Vec::new(alloc));
+    let end = serve(
+        alloc, disk.kind, requests, &mut port, input, &mut out, &mut trace,
+    )
+    .expect(rt, "a run");
+    Served {
+        end,
+        out,
+        trace,
+        image: port.into_wire().into_image().into_bytes(),
+    }
+}
+
+/// Stops the test where the trace is not these pieces, one behind the other.
+pub fn is_traced(rt: &impl Abort, alloc: Global, served: &Served, pieces: &[&str]) {
+    let lines = pieces.concat(alloc).expect(rt, "memory");
+    assert_eq!(rt; str::from_utf8(&served.trace), Ok(lines.as_str()));
 }
 
 /// A block is written twice, and read.
-pub static WRITES_AND_READ: [Request; 3] = [
+pub const WRITES_AND_READ: &[Request] = &[
     Request::Write { first: 3, count: 1 },
     Request::Write { first: 3, count: 1 },
     Request::Read { first: 3, count: 1 },
 ];
 
 /// Two blocks are written by one command, and read by one.
-pub static WRITE_AND_READ_OF_TWO: [Request; 2] = [
+pub const WRITE_AND_READ_OF_TWO: &[Request] = &[
     Request::Write { first: 3, count: 2 },
     Request::Read { first: 3, count: 2 },
 ];
