@@ -1,12 +1,12 @@
 //! What is drawn of scripts.
 
+use crate::shared::{same, text_of};
 use sdv_certify::CertifyFault;
 use sdv_drawing::draw;
 use sdv_explain::headings;
 use sdv_script::{FaultKind, ScriptFault, parse};
 use std::process::Abort;
 use std::str;
-use std::test::Fail;
 
 /// A script with a loop, which is refused at its `done`.
 const LOOPING: &str = "card sd flags f
@@ -39,11 +39,11 @@ const DRAWN: &str = r#"digraph script {
 "#;
 
 #[test]
-fn draws_loops_and_refusals(rt: HostRuntime) -> Result<(), Fail> {
-    let drawing = draw(rt.alloc(), LOOPING)?;
-    assert_eq!(rt; str::from_utf8(&drawing.text), Ok(DRAWN));
-    assert_eq!(rt; drawing.refusal, Some(CertifyFault::EndState { point: 6 }));
-    Ok(())
+fn draws_loops_and_refusals(rt: HostRuntime) {
+    let drawing = draw(rt.alloc(), LOOPING).expect(&rt, "a script");
+    same(&rt, &str::from_utf8(&drawing.text), &Ok(DRAWN));
+    let refusal = Some(CertifyFault::EndState { point: 6 });
+    same(&rt, &drawing.refusal, &refusal);
 }
 
 /// Scripts, each with lines of its drawing.
@@ -102,15 +102,14 @@ static LINES: [(&str, [&str; 2]); 7] = [
 ];
 
 #[test]
-fn draws_lines(rt: HostRuntime) -> Result<(), Fail> {
-    for &(script, lines) in LINES.iter() {
-        let drawing = draw(rt.alloc(), script)?;
-        let text = str::from_utf8(&drawing.text)?;
-        for line in lines {
+fn draws_lines(rt: HostRuntime) {
+    for row in LINES.iter() {
+        let drawing = draw(rt.alloc(), row.0).expect(&rt, "a script");
+        let text = text_of(&rt, drawing.text);
+        for line in row.1.iter() {
             assert!(rt; text.contains(line), "{line} in {text}");
         }
     }
-    Ok(())
 }
 
 #[test]
@@ -120,18 +119,17 @@ fn texts_that_are_not_drawn(rt: HostRuntime) {
         line: 1,
     };
     let answer = draw(rt.alloc(), "card sd set hc").err();
-    assert_eq!(rt; answer, Some(fault));
+    same(&rt, &answer, &Some(fault));
 }
 
 #[test]
-fn headings_of_points(rt: HostRuntime) -> Result<(), Fail> {
+fn headings_of_points(rt: HostRuntime) {
     let alloc = rt.alloc();
-    let script = parse(alloc, LOOPING)?;
-    let graph = script.graph(alloc)?;
-    let headings = headings(alloc, LOOPING, &graph)?;
-    assert_eq!(rt; headings.len(), 8);
+    let script = parse(alloc, LOOPING).expect(&rt, "a script");
+    let graph = script.graph(alloc).expect(&rt, "memory");
+    let headings = headings(alloc, LOOPING, &graph).expect(&rt, "headings");
+    assert!(rt; headings.len() == 8);
     let heading = headings.get(2).expect(&rt, "a heading");
-    assert_eq!(rt; heading.line, 3);
-    assert_eq!(rt; str::from_utf8(&heading.words), Ok("set f"));
-    Ok(())
+    assert!(rt; heading.line == 3);
+    assert!(rt; heading.words.as_slice() == b"set f".as_slice());
 }

@@ -1,13 +1,12 @@
 //! What is explained of scripts.
 
+use crate::shared::{same, text_of};
 use sdv_card::{Seen, Shape};
 use sdv_certify::CertifyFault;
 use sdv_explain::{ExplainFault, Visit, explain};
 use sdv_script::{FaultKind, ScriptFault};
 use std::alloc::Global;
 use std::process::Abort;
-use std::str;
-use std::test::Fail;
 
 /// A bring-up in which the answer to the last ACMD41 may be lost, as far as it is refused.
 const LOST: &str = "card sd
@@ -187,29 +186,33 @@ static REFUSED: [(&str, &str, &str, &str); 15] = [
 ];
 
 /// The text that is told of a script.
-fn told(rt: &impl Abort, alloc: Global, script: &str) -> Vec<u8> {
-    explain(alloc, script).expect(rt, "a script").text
+fn told(rt: &impl Abort, alloc: Global, script: &str) -> String {
+    text_of(rt, explain(alloc, script).expect(rt, "a script").text)
 }
 
 #[test]
-fn a_refused_script(rt: HostRuntime) -> Result<(), Fail> {
+fn a_refused_script(rt: HostRuntime) {
     let text = told(&rt, rt.alloc(), LOST);
-    assert_eq!(rt; str::from_utf8(&text)?, LOST_TOLD);
-    Ok(())
+    same(&rt, &text.as_str(), &LOST_TOLD);
+}
+
+/// Stops the test where a text does not have a line.
+fn has_line(rt: &impl Abort, text: &str, wanted: &str) {
+    assert!(rt;
+        text.lines().any(|line| line == wanted),
+        "{wanted} in {text}"
+    );
 }
 
 #[test]
-fn refusals(rt: HostRuntime) -> Result<(), Fail> {
+fn refusals(rt: HostRuntime) {
     let alloc = rt.alloc();
-    for &(front, last, place, why) in REFUSED.iter() {
-        let mut script = String::from_str(alloc, front)?;
-        script.push_str(last)?;
+    for row in REFUSED.iter() {
+        let script = [row.0, row.1].concat(alloc).expect(&rt, "memory");
         let text = told(&rt, alloc, &script);
-        let lines = str::from_utf8(&text)?;
-        assert!(rt; lines.lines().any(|line| line == place), "{lines}");
-        assert!(rt; lines.lines().any(|line| line == why), "{lines}");
+        has_line(&rt, &text, row.2);
+        has_line(&rt, &text, row.3);
     }
-    Ok(())
 }
 
 /// The way to CMD55 in ready state.
@@ -238,11 +241,16 @@ fn ways(rt: HostRuntime) {
         .refusal
         .expect(&rt, "a refusal");
     let shape = Shape(0x2001);
-    assert_eq!(rt; refusal.fault, CertifyFault::Illegal { point: 3, shape });
-    assert_eq!(rt; refusal.way.len(), 7);
-    for (visit, &(point, code, seen)) in refusal.way.iter().zip(WAY.iter()) {
-        let shape = Shape(code);
-        assert_eq!(rt; *visit, Visit { point, shape, seen });
+    let fault = CertifyFault::Illegal { point: 3, shape };
+    same(&rt, &refusal.fault, &fault);
+    assert!(rt; refusal.way.len() == 7);
+    for (visit, row) in refusal.way.iter().zip(WAY.iter()) {
+        let wanted = Visit {
+            point: row.0,
+            shape: Shape(row.1),
+            seen: row.2,
+        };
+        same(&rt, visit, &wanted);
     }
 }
 
@@ -253,5 +261,5 @@ fn texts_that_are_not_explained(rt: HostRuntime) {
         line: 1,
     };
     let answer = explain(rt.alloc(), "card sd set hc").err();
-    assert_eq!(rt; answer, Some(ExplainFault::Script(fault)));
+    same(&rt, &answer, &Some(ExplainFault::Script(fault)));
 }

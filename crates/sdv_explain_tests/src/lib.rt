@@ -5,3 +5,5 @@
 mod drawing_tests;
 #[cfg(test)]
 mod explain_tests;
+#[cfg(test)]
+mod shared;
