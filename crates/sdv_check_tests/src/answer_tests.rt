@@ -1,13 +1,14 @@
 //! What is answered of scripts as a production line writes them: the bound, or why there is none.
 
+use crate::common::same;
 use sdv_card::Shape;
 use sdv_certify::CertifyFault::{Address, EndState, Illegal, TooMany};
 use sdv_certify::{CertifyFault, certify};
 use sdv_check::check;
-use sdv_script::parse;
-use std::alloc::{AllocError, Global};
+use sdv_facts::Certificate;
+use sdv_script::{Script, parse};
+use std::alloc::Global;
 use std::process::Abort;
-use std::test::Fail;
 
 type Answer = Result<u64, CertifyFault>;
 
@@ -32,30 +33,38 @@ const READ: &str =
 
 // Where a card has been brought up, as above or by another part in place of one of these. What follows the plain parts
 // begins with point 22.
-fn text_of<'a>(
-    alloc: Global,
-    part: &'a str,
-    other: &'a str,
-    rest: &str,
-) -> Result<String, AllocError> {
-    let parts: [&'a str; 7] = [RESET, POWER_UP, IDENTIFY, NAMING, CSD, SELECT, LENGTH];
-    let mut text = String::new(alloc);
-    text.push_str("card sd flags hc nums cap pos\n")?;
-    for plain in parts {
-        text.push_str(if plain == part { other } else { plain })?;
-        text.push_str("\n")?;
-    }
-    text.push_str("let cap = csd.blocks\n")?;
-    text.push_str(rest)?;
-    Ok(text)
+fn text_of(rt: &impl Abort, alloc: Global, part: &str, other: &str, rest: &str) -> String {
+    let parts = [
+        "card sd flags hc nums cap pos",
+        RESET,
+        POWER_UP,
+        IDENTIFY,
+        NAMING,
+        CSD,
+        SELECT,
+        LENGTH,
+        "let cap = csd.blocks",
+        rest,
+    ];
+    let plain = parts.join(alloc, "\n").expect(rt, "memory");
+    plain.replace(alloc, part, other).expect(rt, "memory")
+}
+
+// The bound that the checker accepts.
+fn bound(rt: &impl Abort, alloc: Global, script: &Script<'_>, certificate: Certificate) -> u64 {
+    let graph = script.graph(alloc).expect(rt, "memory");
+    check(&graph, &certificate).expect(rt, "accepted")
 }
 
 // The bound that the checker accepts, or why there is no certificate.
 fn answer(rt: &impl Abort, alloc: Global, text: &str) -> Answer {
-    let script = parse(alloc, text).ok().expect(rt, "a script");
+    let script = parse(alloc, text).expect(rt, "a script");
     let certificate = certify(alloc, &script)?;
-    let graph = script.graph(alloc).ok().expect(rt, "a graph");
-    Ok(check(&graph, &certificate).ok().expect(rt, "accepted"))
+    Ok(bound(rt, alloc, &script, certificate))
+}
+
+fn is_answered(rt: &impl Abort, alloc: Global, text: &str, wanted: &Answer) {
+    same(rt, &answer(rt, alloc, text), wanted, &text);
 }
 
 // An e.MMC device is brought up with 1007 commands at most.
@@ -80,34 +89,42 @@ const BOOT_ACCESS: &str = "send 6 part.access 1 { clean { } else { fault sw } }"
 
 const SWITCHED: &str = "send 13 { clean & state=tran { } else { fault sw } }";
 
-// A script for an e.MMC device, with a part for CMD3, and what follows CMD16. That begins with point 18.
-fn device_text(alloc: Global, naming: &str, rest: &[&str]) -> Result<String, AllocError> {
-    let mut text = String::new(alloc);
-    text.push_str("card emmc flags hc nums cap pos\nsend 0 { else { } }\n")?;
-    for part in [DEVICE_POWER_UP, IDENTIFY, naming, CSD, SELECT, LENGTH] {
-        text.push_str(part)?;
-        text.push_str("\n")?;
-    }
-    for part in rest {
-        text.push_str(part)?;
-        text.push_str("\n")?;
-    }
-    Ok(text)
+// What leads to the boot partition where its capacity is known.
+const TO_BOOT_PARTITION: [&str; 5] = [CAPACITY, BOOT_CAPACITY, BOOT_ACCESS, BUSY, SWITCHED];
+
+// A script for an e.MMC device, with a part for CMD3, and what follows CMD16: some parts and a last one. That begins with
+// point 18.
+fn device_text(rt: &impl Abort, alloc: Global, naming: &str, parts: &[&str], last: &str) -> String {
+    let parts = parts.join(alloc, "\n").expect(rt, "memory");
+    let all = [
+        "card emmc flags hc nums cap pos send 0 { else { } }",
+        DEVICE_POWER_UP,
+        IDENTIFY,
+        naming,
+        CSD,
+        SELECT,
+        LENGTH,
+        &parts,
+        last,
+    ];
+    all.join(alloc, "\n").expect(rt, "memory")
 }
 
-// The part for CMD3, what follows CMD16, and the answer.
-static DEVICES: [(&str, &[&str], Answer); 14] = [
-    (NAMING, &[CAPACITY, "done"], Ok(1007)),
+// The part for CMD3, what follows CMD16, the last part by itself, and the answer.
+static DEVICES: [(&str, &[&str], &str, Answer); 14] = [
+    (NAMING, &[CAPACITY], "done", Ok(1007)),
     // the CSD of a device with block addresses does not tell its capacity
     (
         NAMING,
-        &["let cap = csd.blocks let pos = cap - 1 send 17 at by hc pos { else { fault stop } }"],
+        &[],
+        "let cap = csd.blocks let pos = cap - 1 send 17 at by hc pos { else { fault stop } }",
         Err(Address { point: 20 }),
     ),
     // a device that took CMD3 is in stand-by state, where it takes no other one
     (
         "send 3 { clean { } else { send 3 { clean { } else { fault rca } } } }",
-        &[CAPACITY, "done"],
+        &[CAPACITY],
+        "done",
         Err(Illegal {
             point: 11,
             shape: Shape(0x2003),
@@ -116,35 +133,27 @@ static DEVICES: [(&str, &[&str], Answer); 14] = [
     // the last block by SEC_COUNT, and one more
     (
         NAMING,
-        &[
-            CAPACITY,
-            "let pos = cap - 1 send 17 at by hc pos { else { fault stop } }",
-        ],
+        &[CAPACITY],
+        "let pos = cap - 1 send 17 at by hc pos { else { fault stop } }",
         Ok(1008),
     ),
     (
         NAMING,
-        &[
-            CAPACITY,
-            "let pos = cap send 17 at by hc pos { else { fault stop } }",
-        ],
+        &[CAPACITY],
+        "let pos = cap send 17 at by hc pos { else { fault stop } }",
         Err(Address { point: 26 }),
     ),
     // a counted read, and one of another count than was set
     (
         NAMING,
-        &[
-            CAPACITY,
-            "if cap >= 8 { } else { fault small } send 23 count 8 { clean { } else { fault st } } send 18 at by hc 0 count 8 { clean { recv { ok { } else { fault rd } } } else { fault rd } } done",
-        ],
+        &[CAPACITY],
+        "if cap >= 8 { } else { fault small } send 23 count 8 { clean { } else { fault st } } send 18 at by hc 0 count 8 { clean { recv { ok { } else { fault rd } } } else { fault rd } } done",
         Ok(1009),
     ),
     (
         NAMING,
-        &[
-            CAPACITY,
-            "send 23 count 8 { clean { } else { fault st } } send 18 at by hc 0 count 4 { else { fault stop } }",
-        ],
+        &[CAPACITY],
+        "send 23 count 8 { clean { } else { fault st } } send 18 at by hc 0 count 4 { else { fault stop } }",
         Err(Illegal {
             point: 27,
             shape: Shape(0x8_0000_2804),
@@ -153,18 +162,14 @@ static DEVICES: [(&str, &[&str], Answer); 14] = [
     // a trim, and one whose end stands first
     (
         NAMING,
-        &[
-            CAPACITY,
-            "if cap >= 16 { } else { fault small } send 35 at by hc 8 { clean { } else { fault st } } send 36 at by hc 15 { clean { } else { fault st } } send 38 1 { clean { } else { fault st } } loop 9 { wait { ok { break } else { } } } else { fault busy } done",
-        ],
+        &[CAPACITY],
+        "if cap >= 16 { } else { fault small } send 35 at by hc 8 { clean { } else { fault st } } send 36 at by hc 15 { clean { } else { fault st } } send 38 1 { clean { } else { fault st } } loop 9 { wait { ok { break } else { } } } else { fault busy } done",
         Ok(1010),
     ),
     (
         NAMING,
-        &[
-            CAPACITY,
-            "if cap >= 16 { } else { fault small } send 36 at by hc 8 { else { fault stop } }",
-        ],
+        &[CAPACITY],
+        "if cap >= 16 { } else { fault small } send 36 at by hc 8 { else { fault stop } }",
         Err(Illegal {
             point: 27,
             shape: Shape(0x2804),
@@ -178,8 +183,8 @@ static DEVICES: [(&str, &[&str], Answer); 14] = [
             EIGHT_LINES,
             BUSY,
             "send 13 { clean & state=tran { bus.lines 8 } else { fault sw } }",
-            EXT_CSD,
         ],
+        EXT_CSD,
         Ok(1010),
     ),
     // a status that was lost ends the switch error, and the next one does not show it
@@ -190,8 +195,8 @@ static DEVICES: [(&str, &[&str], Answer); 14] = [
             EIGHT_LINES,
             BUSY,
             "send 13 { clean & state=tran { bus.lines 8 } timeout { send 13 { clean & state=tran { bus.lines 8 } else { fault sw } } } else { fault sw } }",
-            EXT_CSD,
         ],
+        EXT_CSD,
         Err(Illegal {
             point: 38,
             shape: Shape(0x80_2855),
@@ -200,50 +205,31 @@ static DEVICES: [(&str, &[&str], Answer); 14] = [
     // nothing is known of the capacity of a boot partition
     (
         NAMING,
-        &[
-            CAPACITY,
-            BOOT_ACCESS,
-            BUSY,
-            SWITCHED,
-            "send 17 at by hc 0 { else { fault stop } }",
-        ],
+        &[CAPACITY, BOOT_ACCESS, BUSY, SWITCHED],
+        "send 17 at by hc 0 { else { fault stop } }",
         Err(Address { point: 33 }),
     ),
     // the last block of the boot partition that is known, and the next one
     (
         NAMING,
-        &[
-            CAPACITY,
-            BOOT_CAPACITY,
-            BOOT_ACCESS,
-            BUSY,
-            SWITCHED,
-            "send 17 at by hc 255 { clean { recv { ok { } else { fault rd } } } else { fault rd } } done",
-        ],
+        &TO_BOOT_PARTITION,
+        "send 17 at by hc 255 { clean { recv { ok { } else { fault rd } } } else { fault rd } } done",
         Ok(1011),
     ),
     (
         NAMING,
-        &[
-            CAPACITY,
-            BOOT_CAPACITY,
-            BOOT_ACCESS,
-            BUSY,
-            SWITCHED,
-            "send 17 at by hc 256 { clean { recv { ok { } else { fault rd } } } else { fault rd } } done",
-        ],
+        &TO_BOOT_PARTITION,
+        "send 17 at by hc 256 { clean { recv { ok { } else { fault rd } } } else { fault rd } } done",
         Err(Address { point: 40 }),
     ),
 ];
 
 #[test]
-fn devices(rt: HostRuntime) -> Result<(), Fail> {
-    let alloc = rt.alloc();
-    for &(naming, rest, wanted) in DEVICES.iter() {
-        let text = device_text(alloc, naming, rest)?;
-        assert_eq!(&rt; answer(&rt, alloc, &text), wanted, "{text}");
+fn devices(rt: HostRuntime) {
+    for row in DEVICES.iter() {
+        let text = device_text(&rt, rt.alloc(), row.0, row.1, row.2);
+        is_answered(&rt, rt.alloc(), &text, &row.3);
     }
-    Ok(())
 }
 
 // A part of the script that brings a card up, another one in its place, and what follows.
@@ -388,13 +374,11 @@ static BRING_UPS: [(&str, &str, &str, Answer); 17] = [
 ];
 
 #[test]
-fn bring_ups(rt: HostRuntime) -> Result<(), Fail> {
-    let alloc = rt.alloc();
-    for &(part, other, rest, wanted) in BRING_UPS.iter() {
-        let text = text_of(alloc, part, other, rest)?;
-        assert_eq!(&rt; answer(&rt, alloc, &text), wanted, "{text}");
+fn bring_ups(rt: HostRuntime) {
+    for row in BRING_UPS.iter() {
+        let text = text_of(&rt, rt.alloc(), row.0, row.1, row.2);
+        is_answered(&rt, rt.alloc(), &text, &row.3);
     }
-    Ok(())
 }
 
 // What follows where a card has been brought up.
@@ -669,13 +653,11 @@ static RESTS: [(&str, Answer); 48] = [
 ];
 
 #[test]
-fn after_bringing_up(rt: HostRuntime) -> Result<(), Fail> {
-    let alloc = rt.alloc();
-    for &(rest, wanted) in RESTS.iter() {
-        let text = text_of(alloc, LENGTH, LENGTH, rest)?;
-        assert_eq!(&rt; answer(&rt, alloc, &text), wanted, "{rest}");
+fn after_bringing_up(rt: HostRuntime) {
+    for row in RESTS.iter() {
+        let text = text_of(&rt, rt.alloc(), LENGTH, LENGTH, row.0);
+        is_answered(&rt, rt.alloc(), &text, &row.1);
     }
-    Ok(())
 }
 
 // Whole scripts.
@@ -707,7 +689,7 @@ static SCRIPTS: [(&str, Answer); 4] = [
 
 #[test]
 fn whole_scripts(rt: HostRuntime) {
-    for &(text, wanted) in SCRIPTS.iter() {
-        assert_eq!(&rt; answer(&rt, rt.alloc(), text), wanted, "{text}");
+    for row in SCRIPTS.iter() {
+        is_answered(&rt, rt.alloc(), row.0, &row.1);
     }
 }

@@ -1,14 +1,20 @@
 //! Texts of certificates, and what others are refused for.
 
-use crate::common::CERTIFICATE;
+use crate::common::{CERTIFICATE, same};
 use sdv_check::{CertFault, read};
 use std::alloc::Global;
+use std::fmt::Debug;
 use std::process::Abort;
-use std::str;
-use std::test::Fail;
 
-fn refused(rt: &impl Abort, alloc: Global, text: &str, fault: CertFault) {
-    assert_eq!(rt; read(alloc, text).err(), Some(fault), "{text:?}");
+// Stops the test where a text is not refused for this fault, or is refused where there is none; the message shows the row.
+fn has_fault<R: Debug>(
+    rt: &impl Abort,
+    alloc: Global,
+    text: &str,
+    fault: Option<CertFault>,
+    row: &R,
+) {
+    same(rt, &read(alloc, text).err(), &fault, row);
 }
 
 const HEADER: CertFault = CertFault::Header;
@@ -161,8 +167,8 @@ static REFUSED: [(&str, CertFault); 70] = [
 
 #[test]
 fn refusals(rt: HostRuntime) {
-    for &(text, fault) in REFUSED.iter() {
-        refused(&rt, rt.alloc(), text, fault);
+    for row in REFUSED.iter() {
+        has_fault(&rt, rt.alloc(), row.0, Some(row.1), &row.0);
     }
 }
 
@@ -175,25 +181,18 @@ static FAULT_TEXTS: [(CertFault, &str); 5] = [
 ];
 
 #[test]
-fn fault_texts(rt: HostRuntime) -> Result<(), Fail> {
-    for &(fault, text) in FAULT_TEXTS.iter() {
-        assert_eq!(rt; fault.to_string(rt.alloc())?.as_str(), text);
+fn fault_texts(rt: HostRuntime) {
+    for row in FAULT_TEXTS.iter() {
+        let text = row.0.to_string(rt.alloc()).expect(&rt, "memory");
+        same(&rt, &text.as_str(), &row.1, &row.0);
     }
-    Ok(())
 }
 
 // The smallest certificate with one part in the place of another.
-fn changed(alloc: Global, from: usize, to: usize, part: &str) -> Result<Vec<u8>, Fail> {
-    let mut other = Vec::new(alloc);
-    for (place, byte) in CERTIFICATE.as_bytes().iter().enumerate() {
-        if place == from {
-            other.extend_from_slice(part.as_bytes())?;
-        }
-        if place < from || place >= to {
-            other.push(*byte)?;
-        }
-    }
-    Ok(other)
+fn changed(rt: &impl Abort, alloc: Global, from: usize, to: usize, part: &str) -> String {
+    let front = CERTIFICATE.get(..from).expect(rt, "a front");
+    let rest = CERTIFICATE.get(to..).expect(rt, "a rest");
+    [front, part, rest].concat(alloc).expect(rt, "memory")
 }
 
 // Parts of the smallest certificate with what stands in their place, and what the text is refused for; nothing where it is
@@ -234,49 +233,45 @@ static CHANGED: [(usize, usize, &str, Option<CertFault>); 19] = [
 ];
 
 #[test]
-fn changed_texts(rt: HostRuntime) -> Result<(), Fail> {
-    let alloc = rt.alloc();
-    for &(from, to, part, fault) in CHANGED.iter() {
-        let text = changed(alloc, from, to, part)?;
-        assert_eq!(rt;
-            read(alloc, str::from_utf8(&text)?).err(),
-            fault,
-            "at {from}"
-        );
+fn changed_texts(rt: HostRuntime) {
+    for row in CHANGED.iter() {
+        let text = changed(&rt, rt.alloc(), row.0, row.1, row.2);
+        has_fault(&rt, rt.alloc(), &text, row.3, &text);
     }
-    Ok(())
 }
 
 // The smallest certificate, cut before each byte.
 #[test]
-fn cut_texts(rt: HostRuntime) -> Result<(), Fail> {
-    let alloc = rt.alloc();
-    let mut front = Vec::new(alloc);
+fn cut_texts(rt: HostRuntime) {
     let mut fault = HEADER;
     let mut line: u32 = 1;
-    for byte in CERTIFICATE.as_bytes() {
-        refused(&rt, alloc, str::from_utf8(&front)?, fault);
-        front.push(*byte)?;
-        if *byte == b'\n' {
+    for (length, byte) in CERTIFICATE.bytes().enumerate() {
+        let front = CERTIFICATE.get(..length).expect(&rt, "a front");
+        has_fault(&rt, rt.alloc(), front, Some(fault), &front);
+        if byte == b'\n' {
             line = line.saturating_add(1);
             fault = CertFault::Syntax { line };
         }
     }
-    Ok(())
 }
 
 // Two points with so many shapes each.
-fn many_shapes(alloc: Global, counts: [u64; 2]) -> Result<String, Fail> {
+fn many_shapes(rt: &impl Abort, alloc: Global, counts: [u64; 2]) -> String {
+    let first = shapes(rt, alloc, counts[0]);
+    let second = shapes(rt, alloc, counts[1]);
+    format!(in alloc; "sdv-cert 1\npoints 2\np 0 b 0 m 1 s{first}\np 1 b 0 m 1 s{second}\n").expect(
+        rt, "memory",
+    )
+}
+
+// So many shapes, from 0.
+fn shapes(rt: &impl Abort, alloc: Global, count: u64) -> String {
     let mut text = String::new(alloc);
-    text.push_str("sdv-cert 1\npoints 2\n")?;
-    for (front, count) in ["p 0 b 0 m 1 s", "p 1 b 0 m 1 s"].iter().zip(counts) {
-        text.push_str(front)?;
-        for code in 0..count {
-            text.push_str(format!(in alloc; " {code:016x}")?.as_str())?;
-        }
-        text.push_str("\n")?;
+    for code in 0..count {
+        let shape = format!(in alloc; " {code:016x}").expect(rt, "memory");
+        text.push_str(&shape).expect(rt, "memory");
     }
-    Ok(text)
+    text
 }
 
 // How many shapes the points have, and why there is no certificate, if so.
@@ -287,21 +282,18 @@ static COUNTS: [([u64; 2], Option<CertFault>); 3] = [
 ];
 
 #[test]
-fn limits(rt: HostRuntime) -> Result<(), Fail> {
-    let alloc = rt.alloc();
-    for &(counts, fault) in COUNTS.iter() {
-        let text = many_shapes(alloc, counts)?;
-        assert_eq!(rt; read(alloc, &text).err(), fault, "{counts:?}");
+fn limits(rt: HostRuntime) {
+    for row in COUNTS.iter() {
+        let text = many_shapes(&rt, rt.alloc(), row.0);
+        has_fault(&rt, rt.alloc(), &text, row.1, &row.0);
     }
-    Ok(())
 }
 
 #[test]
-fn longest_texts(rt: HostRuntime) -> Result<(), Fail> {
-    let alloc = rt.alloc();
-    for (len, fault) in [(16_777_217, LIMIT), (16_777_216, HEADER)] {
-        let text = vec![in alloc; b'x'; len]?;
-        assert_eq!(rt; read(alloc, str::from_utf8(&text)?).err(), Some(fault));
+fn longest_texts(rt: HostRuntime) {
+    for (length, fault) in [(16_777_217, LIMIT), (16_777_216, HEADER)] {
+        let bytes = vec![in rt.alloc(); b'x'; length].expect(&rt, "memory");
+        let text = String::from_utf8(bytes).expect(&rt, "a text");
+        has_fault(&rt, rt.alloc(), &text, Some(fault), &length);
     }
-    Ok(())
 }

@@ -1,21 +1,12 @@
 //! Certificates of known scripts, beside texts that were written down by hand.
 
-use crate::common::{BRING_UP, CERTIFICATE, DEVICE_BRING_UP, SMALLEST, WIDE};
-use sdv_certify::{certify, write};
+use crate::common::{
+    BRING_UP, CERTIFICATE, DEVICE_BRING_UP, SMALLEST, WIDE, certificate_of, certified, same,
+    text_of,
+};
 use sdv_check::read;
-use sdv_script::parse;
 use std::alloc::Global;
 use std::process::Abort;
-use std::str;
-use std::test::Fail;
-
-// The text of a script's certificate.
-fn written(alloc: Global, script: &str) -> Result<Vec<u8>, Fail> {
-    let certificate = certify(alloc, &parse(alloc, script)?)?;
-    let mut out = Vec::new(alloc);
-    write(&certificate, &mut out)?;
-    Ok(out)
-}
 
 // Scripts with their certificates.
 static CERTIFICATES: [(&str, &str); 5] = [
@@ -94,54 +85,52 @@ static BOUNDS: [(&str, &[&str]); 3] = [
 ];
 
 #[test]
-fn certificates(rt: HostRuntime) -> Result<(), Fail> {
-    let alloc = rt.alloc();
-    for &(script, wanted) in CERTIFICATES.iter() {
-        let text = written(alloc, script)?;
-        assert_eq!(rt; str::from_utf8(&text)?, wanted, "{script}");
+fn certificates(rt: HostRuntime) {
+    for row in CERTIFICATES.iter() {
+        let text = certified(&rt, rt.alloc(), row.0);
+        same(&rt, &text.as_str(), &row.1, &row.0);
     }
-    Ok(())
 }
 
 // Scripts with the number of distinct sets of shapes in their certificates.
 static SETS: [(&str, usize); 3] = [(SMALLEST, 1), (BRING_UP, 15), (DEVICE_BRING_UP, 18)];
 
 // How many sets a text's certificate has when it is read.
-fn sets_read(alloc: Global, text: &[u8]) -> Result<usize, Fail> {
-    let certificate = read(alloc, str::from_utf8(text)?)?;
-    Ok(certificate.sets())
+fn sets_read(rt: &impl Abort, alloc: Global, text: &str) -> usize {
+    read(alloc, text).expect(rt, "a certificate").sets()
+}
+
+// How many sets a script's certificate has: by itself, in its table, and when its text is read.
+fn sets_of(rt: &impl Abort, alloc: Global, text: &str) -> [usize; 3] {
+    let certificate = certificate_of(rt, alloc, text);
+    let text = text_of(rt, alloc, &certificate);
+    [
+        certificate.sets(),
+        certificate.table().len(),
+        sets_read(rt, alloc, &text),
+    ]
 }
 
 #[test]
-fn sets(rt: HostRuntime) -> Result<(), Fail> {
-    let alloc = rt.alloc();
-    for &(script, wanted) in SETS.iter() {
-        let certificate = certify(alloc, &parse(alloc, script)?)?;
-        assert_eq!(rt; certificate.sets(), wanted, "{script}");
-        assert_eq!(rt; certificate.table().len(), wanted, "{script}");
-        assert_eq!(rt;
-            sets_read(alloc, &written(alloc, script)?)?,
-            wanted,
-            "{script}"
-        );
+fn sets(rt: HostRuntime) {
+    for row in SETS.iter() {
+        same(&rt, &sets_of(&rt, rt.alloc(), row.0), &[row.1; 3], &row.0);
     }
-    assert_eq!(rt; sets_read(alloc, WIDE.as_bytes())?, 2);
-    Ok(())
+    same(&rt, &sets_read(&rt, rt.alloc(), WIDE), &2, &WIDE);
 }
 
 // The points of a certificate's text have these bounds.
 fn has_bounds(rt: &impl Abort, text: &str, wanted: &[&str]) {
     for (line, bound) in text.lines().skip(2).zip(wanted) {
         let known = line.split_once(" m ").expect(rt, "a point");
-        assert_eq!(rt; known.0, *bound, "{text}");
+        same(rt, &known.0, bound, &text);
     }
 }
 
 #[test]
-fn bounds(rt: HostRuntime) -> Result<(), Fail> {
-    for &(script, wanted) in BOUNDS.iter() {
-        let text = written(rt.alloc(), script)?;
-        has_bounds(&rt, str::from_utf8(&text)?, wanted);
+fn bounds(rt: HostRuntime) {
+    for row in BOUNDS.iter() {
+        let text = certified(&rt, rt.alloc(), row.0);
+        has_bounds(&rt, &text, row.1);
     }
-    Ok(())
 }

@@ -1,29 +1,35 @@
 //! Certificates that were written down by hand, beside what is answered of them.
 
-use crate::common::SMALLEST;
-use sdv_check::{CertFault, CheckFault, VerifyFault, verify};
-use std::alloc::{AllocError, Global};
-use std::test::Fail;
+use crate::common::{SMALLEST, same};
+use sdv_check::{CheckFault, VerifyFault, verify};
+use std::alloc::Global;
+use std::process::Abort;
 
 // The text of a certificate with these points, whose shapes stand without their leading zeros.
-fn certificate(alloc: Global, points: &[&str]) -> Result<String, AllocError> {
-    let mut text = format!(in alloc; "sdv-cert 1\npoints {}\n", points.len())?;
+fn certificate(rt: &impl Abort, alloc: Global, points: &[&str]) -> String {
+    let mut text = format!(in alloc; "sdv-cert 1\npoints {}\n", points.len()).expect(rt, "memory");
     for (number, point) in points.iter().enumerate() {
-        text.push_str(format!(in alloc; "p {number}")?.as_str())?;
-        let mut length = 0;
-        for word in point.split_whitespace() {
-            text.push(' ')?;
-            for _ in word.len()..length {
-                text.push('0')?;
-            }
-            text.push_str(word)?;
-            if word == "s" {
-                length = 16;
-            }
-        }
-        text.push('\n')?;
+        let line = line(rt, alloc, number, point);
+        text.push_str(&line).expect(rt, "memory");
     }
-    Ok(text)
+    text
+}
+
+// The line of a point.
+fn line(rt: &impl Abort, alloc: Global, number: usize, point: &str) -> String {
+    let (known, codes) = point.split_once(" s").expect(rt, "shapes");
+    let shapes = shapes(rt, alloc, codes);
+    format!(in alloc; "p {number} {known} s{shapes}\n").expect(rt, "memory")
+}
+
+// These shapes with their leading zeros, each behind a blank.
+fn shapes(rt: &impl Abort, alloc: Global, codes: &str) -> String {
+    let mut text = String::new(alloc);
+    for code in codes.split_whitespace() {
+        let shape = format!(in alloc; " {code:0>16}").expect(rt, "memory");
+        text.push_str(&shape).expect(rt, "memory");
+    }
+    text
 }
 
 // A point before a command, at the start.
@@ -110,8 +116,14 @@ const PHASE: &str =
 const CASES: &str =
     "card sd send 0 { timeout { fault least } answer { fault most } else { } } fault least";
 
-// Scripts, the points of certificates, and the bound or the fault.
-static ANSWERS: [(&str, &[&str], Result<u64, CheckFault>); 55] = [
+// A script, the points of a certificate, and the bound or the fault.
+type Row = (
+    &'static str,
+    &'static [&'static str],
+    Result<u64, CheckFault>,
+);
+
+static ANSWERS: [Row; 55] = [
     (SMALLEST, &[SENT, START], Ok(1)),
     (SMALLEST, &["b 7 m 1 s 2000 2800 2c00", START], Ok(7)),
     (
@@ -310,22 +322,21 @@ static ANSWERS: [(&str, &[&str], Result<u64, CheckFault>); 55] = [
 ];
 
 #[test]
-fn certificates(rt: HostRuntime) -> Result<(), Fail> {
-    for &(script, points, wanted) in ANSWERS.iter() {
-        let text = certificate(rt.alloc(), points)?;
-        let found = answered(rt.alloc(), script, &text)?;
-        assert_eq!(rt; found, wanted, "{script} {points:?}");
+fn certificates(rt: HostRuntime) {
+    for row in ANSWERS.iter() {
+        is_answered(&rt, rt.alloc(), row);
     }
-    Ok(())
 }
 
-// The bound that is accepted, or why the certificate is refused.
-fn answered(alloc: Global, script: &str, text: &str) -> Result<Result<u64, CheckFault>, Fail> {
-    match verify(alloc, script, text) {
-        Ok(accepted) => Ok(Ok(accepted.bound())),
-        Err(VerifyFault::Check(fault)) => Ok(Err(fault)),
-        Err(fault) => Err(fault.into()),
-    }
+fn is_answered(rt: &impl Abort, alloc: Global, row: &Row) {
+    let text = certificate(rt, alloc, row.1);
+    let found = answered(alloc, row.0, &text);
+    same(rt, &found, &row.2.map_err(VerifyFault::Check), row);
+}
+
+// The bound that is accepted, or why the texts are not.
+fn answered(alloc: Global, script: &str, text: &str) -> Result<u64, VerifyFault> {
+    Ok(verify(alloc, script, text)?.bound())
 }
 
 // Texts of which one is no script or no certificate, and what is said.
@@ -340,13 +351,12 @@ static OTHER_TEXTS: [(&str, &str, &str); 3] = [
 ];
 
 #[test]
-fn other_texts(rt: HostRuntime) -> Result<(), Fail> {
-    for &(script, text, wanted) in OTHER_TEXTS.iter() {
-        let answer = verify(rt.alloc(), script, text);
-        let fault = answer.err().expect(&rt, "a fault");
-        assert_eq!(rt; fault.to_string(rt.alloc())?.as_str(), wanted);
+fn other_texts(rt: HostRuntime) {
+    for row in OTHER_TEXTS.iter() {
+        let fault = answered(rt.alloc(), row.0, row.1).expect_err(&rt, "a fault");
+        let text = fault.to_string(rt.alloc()).expect(&rt, "memory");
+        same(&rt, &text.as_str(), &row.2, row);
     }
-    Ok(())
 }
 
 // The smallest certificate in version 2.
@@ -371,15 +381,16 @@ p 1 b 0 m 1 mb 1 s 0000000000002000 0000000000002800 0000000000002c00
 ";
 
 #[test]
-fn version_2(rt: HostRuntime) -> Result<(), Fail> {
-    let alloc = rt.alloc();
+fn version_2(rt: HostRuntime) {
     let rows = [
         (VERSION_2, Ok(1)),
-        (WITH_BOOT, Err(CheckFault::Start)),
-        (THEN_WITH_BOOT, Err(CheckFault::Number(0))),
+        (WITH_BOOT, Err(VerifyFault::Check(CheckFault::Start))),
+        (
+            THEN_WITH_BOOT,
+            Err(VerifyFault::Check(CheckFault::Number(0))),
+        ),
     ];
     for (text, wanted) in rows {
-        assert_eq!(&rt; answered(alloc, SMALLEST, text)?, wanted, "{text}");
+        same(&rt, &answered(rt.alloc(), SMALLEST, text), &wanted, &text);
     }
-    Ok(())
 }

@@ -1,7 +1,12 @@
-//! Texts and a writer that tests share.
+//! Texts, a writer and a comparison that tests share.
 
+use sdv_certify::{certify, write};
+use sdv_facts::Certificate;
+use sdv_script::parse;
 use std::alloc::Global;
+use std::fmt::Debug;
 use std::io::{self, Error, ErrorKind, Write};
+use std::process::Abort;
 
 /// A script that brings a card up to the transfer state.
 pub const BRING_UP: &str = "card sd
@@ -51,6 +56,29 @@ points 2
 p 0 b 10 0 12 7 65535 m 0 v 0 1099511627776 - v 3 5 40 s
 p 1 b 1099511627776 1099511627776 m 1099511627776 v 0 0 0 v 0 0 - s 0000000000000000 ffffffffffffffff
 ";
+
+/// Stops the test where what was found is not what is wanted; the message shows the row.
+pub fn same<T: PartialEq + Debug, R: Debug>(rt: &impl Abort, found: &T, wanted: &T, row: &R) {
+    assert_eq!(rt; found, wanted, "{row:?}");
+}
+
+/// The text of a certificate.
+pub fn text_of(rt: &impl Abort, alloc: Global, certificate: &Certificate) -> String {
+    let mut out = Vec::new(alloc);
+    write(certificate, &mut out).expect(rt, "memory");
+    String::from_utf8(out).expect(rt, "a text")
+}
+
+/// A script's certificate.
+pub fn certificate_of(rt: &impl Abort, alloc: Global, text: &str) -> Certificate {
+    let script = parse(alloc, text).expect(rt, "a script");
+    certify(alloc, &script).expect(rt, "a certificate")
+}
+
+/// The text of a script's certificate.
+pub fn certified(rt: &impl Abort, alloc: Global, text: &str) -> String {
+    text_of(rt, alloc, &certificate_of(rt, alloc, text))
+}
 
 /// A writer with room for so many bytes, which takes one at a time.
 #[derive(Drop)]

@@ -1,20 +1,21 @@
 //! Sets of shapes, and what is known after one more edge, beside rows from outside.
 
-ghost use Rattle.std.specs.Prelude.{◌≡◌, length, IfOk};
+ghost use Rattle.std.specs.Prelude.{◌≡◌, length};
 
+use crate::common::same;
 use arrayvec::ArrayVec;
 use sdv_card::Shape;
 use sdv_certify::{ListedFacts, facts_of_shapes, join_facts};
 use sdv_facts::{Facts, Numbers, SetTable, VarFacts, holds_shape};
-use std::alloc::{AllocError, Global};
-use std::test::Fail;
+use std::alloc::Global;
+use std::process::Abort;
 
-fn shapes_of(alloc: Global, codes: &[u64]) -> Result<Vec<Shape>, AllocError> {
+fn shapes_of(rt: &impl Abort, alloc: Global, codes: &[u64]) -> Vec<Shape> {
     let mut shapes = Vec::new(alloc);
     for code in codes {
-        shapes.push(Shape(*code))?;
+        shapes.push(Shape(*code)).expect(rt, "memory");
     }
-    Ok(shapes)
+    shapes
 }
 
 /// What is known of one variable: its least value, its greatest, and how far it stays from the capacity.
@@ -46,11 +47,17 @@ fn boot_numbers(mb: u64, bgap: Option<u64>) -> Numbers
 }
 
 /// Facts with the shapes of these codes.
-fn facts_of(alloc: Global, codes: &[u64], numbers: Numbers) -> Result<ListedFacts, AllocError>
+fn facts_of(rt: &impl Abort, alloc: Global, codes: &[u64], numbers: Numbers) -> ListedFacts
     requires { length numbers.vars.items ≡ 1 }
-    ensures { IfOk result (λ facts. length facts.numbers.vars.items ≡ 1) }
+    ensures { length result.numbers.vars.items ≡ 1 }
 {
-    Ok(facts_of_shapes(shapes_of(alloc, codes)?, numbers))
+    facts_of_shapes(shapes_of(rt, alloc, codes), numbers)
+}
+
+/// The facts have the shapes of these codes.
+fn has_shapes(rt: &impl Abort, alloc: Global, facts: &ListedFacts, codes: &[u64]) {
+    let wanted = shapes_of(rt, alloc, codes);
+    same(rt, &facts.shapes(), &wanted.as_slice(), &codes);
 }
 
 const ZERO: Known = (0, 0, None);
@@ -78,34 +85,35 @@ static JOINED: [(&[u64], &[u64], &[u64]); 9] = [
 ];
 
 #[test]
-fn shapes(rt: HostRuntime) -> Result<(), Fail> {
-    let alloc = rt.alloc();
-    for &(codes, set) in SETS.iter() {
-        let facts = facts_of(alloc, codes, numbers(1, ZERO))?;
-        assert_eq!(&rt; facts.shapes(), shapes_of(alloc, set)?.as_slice());
-        let mut table = SetTable::new(alloc);
-        let named = Facts::new(table.intern(facts.shapes())?, facts.into_numbers());
-        for code in 0..9 {
-            assert_eq!(&rt;
-                holds_shape(&table, &named, Shape(code)),
-                set.contains(&code)
-            );
-        }
+fn shapes(rt: HostRuntime) {
+    for row in SETS.iter() {
+        let facts = facts_of(&rt, rt.alloc(), row.0, numbers(1, ZERO));
+        has_shapes(&rt, rt.alloc(), &facts, row.1);
+        holds_set(&rt, rt.alloc(), facts, row.1);
     }
-    Ok(())
+}
+
+/// In a table, the facts hold the shapes of these codes, and no other one below 9.
+fn holds_set(rt: &impl Abort, alloc: Global, facts: ListedFacts, set: &[u64]) {
+    let mut table = SetTable::new(alloc);
+    let named = table.intern(facts.shapes()).expect(rt, "memory");
+    let facts = Facts::new(named, facts.into_numbers());
+    for code in 0..9 {
+        let found = holds_shape(&table, &facts, Shape(code));
+        same(rt, &found, &set.contains(&code), &(set, code));
+    }
 }
 
 #[test]
-fn shapes_of_both(rt: HostRuntime) -> Result<(), Fail> {
+fn shapes_of_both(rt: HostRuntime) {
     let alloc = rt.alloc();
-    for &(known, carried, both) in JOINED.iter() {
-        let mut facts = facts_of(alloc, known, numbers(1, ZERO))?;
-        let more = facts_of(alloc, carried, numbers(1, ZERO))?;
-        let changed = join_facts(alloc, &mut facts, false, &more)?;
-        assert_eq!(&rt; changed, both.len() > known.len());
-        assert_eq!(&rt; facts.shapes(), shapes_of(alloc, both)?.as_slice());
+    for row in JOINED.iter() {
+        let mut facts = facts_of(&rt, alloc, row.0, numbers(1, ZERO));
+        let more = facts_of(&rt, alloc, row.1, numbers(1, ZERO));
+        let changed = join_facts(alloc, &mut facts, false, &more).expect(&rt, "memory");
+        same(&rt, &changed, &(row.2.len() > row.0.len()), row);
+        has_shapes(&rt, alloc, &facts, row.2);
     }
-    Ok(())
 }
 
 /// Whether the edge leads back to a loop's head, what is known of the capacity and a variable, what is carried, and what is
@@ -150,22 +158,18 @@ static NUMBERS: [(bool, (u64, Known), (u64, Known), (u64, Known)); 6] = [
 ];
 
 #[test]
-fn numbers_of_both(rt: HostRuntime) -> Result<(), Fail> {
+fn numbers_of_both(rt: HostRuntime) {
     let alloc = rt.alloc();
-    for &(back, known, carried, wanted) in NUMBERS.iter() {
-        let mut facts = facts_of(alloc, &[1], numbers(known.0, known.1))?;
-        let more = facts_of(alloc, &[1], numbers(carried.0, carried.1))?;
-        let changed = join_facts(alloc, &mut facts, back, &more)?;
-        assert_eq!(&rt;
-            facts.numbers(),
-            &numbers(wanted.0, wanted.1),
-            "{known:?} {carried:?}"
-        );
-        assert_eq!(&rt; changed, known != wanted, "{known:?} {carried:?}");
+    for row in NUMBERS.iter() {
+        let (back, known, carried, wanted) = *row;
+        let mut facts = facts_of(&rt, alloc, &[1], numbers(known.0, known.1));
+        let more = facts_of(&rt, alloc, &[1], numbers(carried.0, carried.1));
+        let changed = join_facts(alloc, &mut facts, back, &more).expect(&rt, "memory");
+        same(&rt, facts.numbers(), &numbers(wanted.0, wanted.1), row);
+        same(&rt, &changed, &(known != wanted), row);
         facts.set_numbers(numbers(carried.0, carried.1));
-        assert_eq!(&rt; facts.numbers(), more.numbers());
+        same(&rt, facts.numbers(), more.numbers(), row);
     }
-    Ok(())
 }
 
 /// Whether the edge leads back to a loop's head, what is known of a boot partition, what is carried, and what is known of
@@ -183,15 +187,14 @@ static BOOT_NUMBERS: [(
 ];
 
 #[test]
-fn boot_numbers_of_both(rt: HostRuntime) -> Result<(), Fail> {
+fn boot_numbers_of_both(rt: HostRuntime) {
     let alloc = rt.alloc();
-    for &(back, known, carried, wanted) in BOOT_NUMBERS.iter() {
-        let mut facts = facts_of(alloc, &[1], boot_numbers(known.0, known.1))?;
-        let more = facts_of(alloc, &[1], boot_numbers(carried.0, carried.1))?;
-        let changed = join_facts(alloc, &mut facts, back, &more)?;
-        let both = boot_numbers(wanted.0, wanted.1);
-        assert_eq!(&rt; facts.numbers(), &both, "{known:?} {carried:?}");
-        assert_eq!(&rt; changed, known != wanted, "{known:?} {carried:?}");
+    for row in BOOT_NUMBERS.iter() {
+        let (back, known, carried, wanted) = *row;
+        let mut facts = facts_of(&rt, alloc, &[1], boot_numbers(known.0, known.1));
+        let more = facts_of(&rt, alloc, &[1], boot_numbers(carried.0, carried.1));
+        let changed = join_facts(alloc, &mut facts, back, &more).expect(&rt, "memory");
+        same(&rt, facts.numbers(), &boot_numbers(wanted.0, wanted.1), row);
+        same(&rt, &changed, &(known != wanted), row);
     }
-    Ok(())
 }

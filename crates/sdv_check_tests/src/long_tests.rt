@@ -1,18 +1,17 @@
 //! Scripts of as many statements as one may have, and refusals behind thousands of them: memory suffices for each answer.
 
-use crate::common::{BRING_UP, Room};
+use crate::common::{BRING_UP, Room, certified, same};
 use crate::port::{Play, PlayPort};
 use sdv_card::{Answer, DataEnd, Shape};
 use sdv_certify::CertifyFault::{Address, EndState, Illegal, TooMany};
-use sdv_certify::{CertifyFault, certify, write};
+use sdv_certify::{CertifyFault, certify};
 use sdv_check::{Accepted, CertFault, CheckFault, VerifyFault, check, read, verify};
-use sdv_graph::Graph;
+use sdv_facts::Certificate;
 use sdv_run::{End, RunFault, run, run_graph};
-use sdv_script::{FaultKind, ScriptFault, parse};
-use std::alloc::{AllocError, Global};
+use sdv_script::{FaultKind, Script, ScriptFault, parse};
+use std::alloc::Global;
 use std::process::Abort;
 use std::str;
-use std::test::Fail;
 
 /// The most statements of a script.
 const MOST: usize = 4_096;
@@ -21,38 +20,27 @@ const PLAIN: &str = "card sd flags f\n";
 
 /// A script with the last statements, of which there are so many, and before them as many others as there may be.
 fn long(
+    rt: &impl Abort,
     alloc: Global,
     first: &str,
     head: usize,
     last: &str,
     tail: usize,
-) -> Result<String, AllocError> {
-    let mut text = String::new(alloc);
-    text.push_str(first)?;
-    for _ in 0..MOST.saturating_sub(head).saturating_sub(tail) {
-        text.push_str("set f\n")?;
-    }
-    text.push_str(last)?;
-    Ok(text)
+) -> String {
+    let others = MOST.saturating_sub(head).saturating_sub(tail);
+    let middle = "set f\n".repeat(alloc, others).expect(rt, "memory");
+    [first, &middle, last].concat(alloc).expect(rt, "memory")
 }
 
-fn plain(alloc: Global, last: &str, tail: usize) -> Result<String, AllocError> {
-    long(alloc, PLAIN, 0, last, tail)
+fn plain(rt: &impl Abort, alloc: Global, last: &str, tail: usize) -> String {
+    long(rt, alloc, PLAIN, 0, last, tail)
 }
 
 /// The same behind 23 statements that bring a card up.
-fn brought_up(alloc: Global, last: &str, tail: usize) -> Result<String, AllocError> {
-    let up = BRING_UP
-        .replace(alloc, "hc", "f")?
-        .replace(alloc, "done", "set f")?;
-    long(alloc, &up, 23, last, tail)
-}
-
-/// The text of a script's certificate.
-fn certified(alloc: Global, text: &str) -> Result<String, Fail> {
-    let mut out = Vec::new(alloc);
-    write(&certify(alloc, &parse(alloc, text)?)?, &mut out)?;
-    Ok(String::from_utf8(out)?)
+fn brought_up(rt: &impl Abort, alloc: Global, last: &str, tail: usize) -> String {
+    let up = BRING_UP.replace(alloc, "hc", "f").expect(rt, "memory");
+    let up = up.replace(alloc, "done", "set f").expect(rt, "memory");
+    long(rt, alloc, &up, 23, last, tail)
 }
 
 /// The last statements, how many they are, and why there is no certificate, if so.
@@ -83,86 +71,115 @@ send 8 { echo { set b } else { } }
 send 8 { echo { set c } else { } }
 ";
 
+/// How many statements a script has.
+fn length(rt: &impl Abort, alloc: Global, script: &Script<'_>) -> usize {
+    script.graph(alloc).expect(rt, "memory").len()
+}
+
 /// How many statements a script has, and why it has no certificate, if so.
-fn surveyed(alloc: Global, text: &str) -> Result<(usize, Option<CertifyFault>), Fail> {
-    let script = parse(alloc, text)?;
-    let statements = script.graph(alloc)?.len();
-    Ok((statements, certify(alloc, &script).err()))
+fn surveyed(rt: &impl Abort, alloc: Global, text: &str) -> (usize, Option<CertifyFault>) {
+    let script = parse(alloc, text).expect(rt, "a script");
+    let statements = length(rt, alloc, &script);
+    (statements, certify(alloc, &script).err())
 }
 
 #[test]
-fn certificates_of_long_scripts(rt: HostRuntime) -> Result<(), Fail> {
-    for &(last, tail, fault) in LAST.iter() {
-        let text = plain(rt.alloc(), last, tail)?;
-        assert_eq!(rt; surveyed(rt.alloc(), &text)?, (MOST, fault), "{last}");
+fn certificates_of_long_scripts(rt: HostRuntime) {
+    for row in LAST.iter() {
+        let text = plain(&rt, rt.alloc(), row.0, row.1);
+        let found = surveyed(&rt, rt.alloc(), &text);
+        same(&rt, &found, &(MOST, row.2), row);
     }
-    Ok(())
 }
 
 #[test]
-fn certificates_of_many_shapes(rt: HostRuntime) -> Result<(), Fail> {
-    let text = long(rt.alloc(), MANY, 6, "fault stop", 1)?;
-    assert_eq!(rt; surveyed(rt.alloc(), &text)?, (MOST, Some(TooMany)));
-    Ok(())
+fn certificates_of_many_shapes(rt: HostRuntime) {
+    let text = long(&rt, rt.alloc(), MANY, 6, "fault stop", 1);
+    let found = surveyed(&rt, rt.alloc(), &text);
+    same(&rt, &found, &(MOST, Some(TooMany)), &MANY);
 }
 
 #[test]
-fn certificates_behind_a_bring_up(rt: HostRuntime) -> Result<(), Fail> {
-    let text = brought_up(rt.alloc(), "send 17 at block 0 { else { } } fault stop", 2)?;
-    let fault = Some(Address { point: 4_094 });
-    assert_eq!(rt; surveyed(rt.alloc(), &text)?, (MOST, fault));
-    Ok(())
+fn certificates_behind_a_bring_up(rt: HostRuntime) {
+    let last = "send 17 at block 0 { else { } } fault stop";
+    let text = brought_up(&rt, rt.alloc(), last, 2);
+    let found = surveyed(&rt, rt.alloc(), &text);
+    let fault = Address { point: 4_094 };
+    same(&rt, &found, &(MOST, Some(fault)), &last);
 }
+
+/// The last statements of a script that is accepted.
+const ACCEPTED: &str = "send 0 { else { } } fault stop";
 
 /// A script of as many statements as one may have, with its certificate.
-fn accepted_pair(alloc: Global) -> Result<(String, String), Fail> {
-    let text = plain(alloc, "send 0 { else { } } fault stop", 2)?;
-    let certificate = certified(alloc, &text)?;
-    Ok((text, certificate))
+fn accepted_pair(rt: &impl Abort, alloc: Global) -> (String, String) {
+    let text = plain(rt, alloc, ACCEPTED, 2);
+    let certificate = certified(rt, alloc, &text);
+    (text, certificate)
 }
 
 /// How many points a certificate has, and what the checker answers of it and a script.
 fn checked(
+    rt: &impl Abort,
     alloc: Global,
     script: &str,
     certificate: &str,
-) -> Result<(usize, Result<u64, CheckFault>), Fail> {
-    let known = read(alloc, certificate)?;
-    let script = parse(alloc, script)?;
-    let graph = script.graph(alloc)?;
-    Ok((known.points().len(), check(&graph, &known)))
+) -> (usize, Result<u64, CheckFault>) {
+    let known = read(alloc, certificate).expect(rt, "a certificate");
+    let script = parse(alloc, script).expect(rt, "a script");
+    let answer = answer_of(rt, alloc, &script, &known);
+    (known.points().len(), answer)
+}
+
+/// What the checker answers of a certificate and a script.
+fn answer_of(
+    rt: &impl Abort,
+    alloc: Global,
+    script: &Script<'_>,
+    certificate: &Certificate,
+) -> Result<u64, CheckFault> {
+    let graph = script.graph(alloc).expect(rt, "memory");
+    check(&graph, certificate)
 }
 
 #[test]
-fn long_scripts_with_certificates(rt: HostRuntime) -> Result<(), Fail> {
-    let (text, certificate) = accepted_pair(rt.alloc())?;
-    let found = checked(rt.alloc(), &text, &certificate)?;
-    assert_eq!(rt; found, (MOST, Ok(1)));
-    Ok(())
+fn long_scripts_with_certificates(rt: HostRuntime) {
+    let (text, certificate) = accepted_pair(&rt, rt.alloc());
+    let found = checked(&rt, rt.alloc(), &text, &certificate);
+    same(&rt, &found, &(MOST, Ok(1)), &ACCEPTED);
 }
 
 /// Runs an accepted script over a port that sends one command: whether it ends in a fault that the script names.
-fn run_once(rt: &impl Abort, alloc: Global, accepted: &Accepted<'_>) -> Result<bool, Fail> {
+fn run_once(rt: &impl Abort, alloc: Global, accepted: &Accepted<'_>) -> bool {
     let plays = [Play::Answer(Answer::Sent)];
     let mut port = PlayPort::new(&plays);
     let (mut out, mut trace) = (Vec::new(alloc), Vec::new(alloc));
-    let end = run(alloc, accepted, &mut port, &[], &mut out, &mut trace)?;
-    assert_eq!(rt; port.calls, 1);
-    assert_eq!(rt; str::from_utf8(&trace)?, "CMD0 00000000 -\nfault stop\n");
-    Ok(matches!(end, End::Fault(_)))
+    let end = run(alloc, accepted, &mut port, &[], &mut out, &mut trace);
+    let lines = str::from_utf8(&trace).expect(rt, "a text");
+    let wanted = (1, "CMD0 00000000 -\nfault stop\n");
+    same(rt, &(port.calls, lines), &wanted, &ACCEPTED);
+    matches!(end, Ok(End::Fault(_)))
 }
 
 #[test]
-fn runs_of_accepted_scripts(rt: HostRuntime) -> Result<(), Fail> {
-    let (text, certificate) = accepted_pair(rt.alloc())?;
-    let accepted = verify(rt.alloc(), &text, &certificate)?;
-    assert_eq!(rt; accepted.bound(), 1);
-    assert!(rt; run_once(&rt, rt.alloc(), &accepted)?);
-    Ok(())
+fn runs_of_accepted_scripts(rt: HostRuntime) {
+    let (text, certificate) = accepted_pair(&rt, rt.alloc());
+    let accepted = verify(rt.alloc(), &text, &certificate).expect(&rt, "accepted");
+    assert!(&rt; accepted.bound() == 1);
+    assert!(&rt; run_once(&rt, rt.alloc(), &accepted));
 }
 
-fn refused(alloc: Global, script: &str, certificate: &str) -> Option<VerifyFault> {
-    verify(alloc, script, certificate).err()
+/// Stops the test where the texts are not refused for this fault; the message shows the row.
+fn refused(
+    rt: &impl Abort,
+    alloc: Global,
+    script: &str,
+    certificate: &str,
+    fault: VerifyFault,
+    row: &str,
+) {
+    let found = verify(alloc, script, certificate).err();
+    same(rt, &found, &Some(fault), &row);
 }
 
 /// What stands in place of a part of the certificate, and the fault.
@@ -238,58 +255,67 @@ static SCRIPTS: [(&str, &str, FaultKind); 8] = [
 ];
 
 #[test]
-fn long_certificates_that_are_refused(rt: HostRuntime) -> Result<(), Fail> {
-    let (text, certificate) = accepted_pair(rt.alloc())?;
-    for &(old, new, fault) in CERTIFICATES.iter() {
-        let other = certificate.replace(rt.alloc(), old, new)?;
-        assert_eq!(rt; refused(rt.alloc(), &text, &other), Some(fault), "{new}");
+fn long_certificates_that_are_refused(rt: HostRuntime) {
+    let alloc = rt.alloc();
+    let (text, certificate) = accepted_pair(&rt, alloc);
+    for row in CERTIFICATES.iter() {
+        let other = certificate
+            .replace(alloc, row.0, row.1)
+            .expect(&rt, "memory");
+        refused(&rt, alloc, &text, &other, row.2, row.1);
     }
-    Ok(())
 }
 
 #[test]
-fn long_scripts_that_are_refused(rt: HostRuntime) -> Result<(), Fail> {
-    let (text, certificate) = accepted_pair(rt.alloc())?;
-    for &(old, new, kind) in SCRIPTS.iter() {
-        let other = text.replace(rt.alloc(), old, new)?;
-        let fault = VerifyFault::Script(ScriptFault { kind, line: 4_096 });
-        assert_eq!(rt;
-            refused(rt.alloc(), &other, &certificate),
-            Some(fault),
-            "{new}"
+fn long_scripts_that_are_refused(rt: HostRuntime) {
+    let alloc = rt.alloc();
+    let (text, certificate) = accepted_pair(&rt, alloc);
+    for row in SCRIPTS.iter() {
+        let other = text.replace(alloc, row.0, row.1).expect(&rt, "memory");
+        let fault = ScriptFault {
+            kind: row.2,
+            line: 4_096,
+        };
+        refused(
+            &rt,
+            alloc,
+            &other,
+            &certificate,
+            VerifyFault::Script(fault),
+            row.1,
         );
     }
-    Ok(())
 }
 
 #[test]
-fn last_commands_that_are_illegal(rt: HostRuntime) -> Result<(), Fail> {
-    let (text, certificate) = accepted_pair(rt.alloc())?;
-    let illegal = text.replace(rt.alloc(), "send 0 {", "send 2 {")?;
+fn last_commands_that_are_illegal(rt: HostRuntime) {
+    let alloc = rt.alloc();
+    let (text, certificate) = accepted_pair(&rt, alloc);
+    let illegal = text
+        .replace(alloc, "send 0 {", "send 2 {")
+        .expect(&rt, "memory");
     let fault = VerifyFault::Check(CheckFault::Illegal(4_094));
-    assert_eq!(rt; refused(rt.alloc(), &illegal, &certificate), Some(fault));
-    Ok(())
+    refused(&rt, alloc, &illegal, &certificate, fault, "send 2");
 }
 
 #[test]
-fn last_statements_with_the_certificate_of_others(rt: HostRuntime) -> Result<(), Fail> {
+fn last_statements_with_the_certificate_of_others(rt: HostRuntime) {
     let alloc = rt.alloc();
-    let stops = certified(alloc, &plain(alloc, "fault stop", 1)?)?;
-    let ends = plain(alloc, "done", 1)?;
+    let stops = plain(&rt, alloc, "fault stop", 1);
+    let certificate = certified(&rt, alloc, &stops);
+    let ends = plain(&rt, alloc, "done", 1);
     let fault = VerifyFault::Check(CheckFault::EndState(4_095));
-    assert_eq!(rt; refused(alloc, &ends, &stops), Some(fault));
-    Ok(())
+    refused(&rt, alloc, &ends, &certificate, fault, "done");
 }
 
 #[test]
-fn last_reads_with_the_certificate_of_others(rt: HostRuntime) -> Result<(), Fail> {
+fn last_reads_with_the_certificate_of_others(rt: HostRuntime) {
     let alloc = rt.alloc();
-    let asks = brought_up(alloc, "send 13 { else { } } fault stop", 2)?;
-    let certificate = certified(alloc, &asks)?;
-    let reads = brought_up(alloc, "send 17 at block 0 { else { } } fault stop", 2)?;
+    let asks = brought_up(&rt, alloc, "send 13 { else { } } fault stop", 2);
+    let certificate = certified(&rt, alloc, &asks);
+    let reads = brought_up(&rt, alloc, "send 17 at block 0 { else { } } fault stop", 2);
     let fault = VerifyFault::Check(CheckFault::Address(4_094));
-    assert_eq!(rt; refused(alloc, &reads, &certificate), Some(fault));
-    Ok(())
+    refused(&rt, alloc, &reads, &certificate, fault, "send 17");
 }
 
 /// The last statements of a script, how many they are, how many bytes the trace takes, and how the run ends.
@@ -317,23 +343,31 @@ static ENDS: [(&str, usize, usize, Result<(), RunFault>); 5] = [
 ];
 
 #[test]
-fn runs_of_long_scripts(rt: HostRuntime) -> Result<(), Fail> {
-    let alloc = rt.alloc();
-    for &(last, tail, room, wanted) in ENDS.iter() {
-        let text = plain(alloc, last, tail)?;
-        let script = parse(alloc, &text)?;
-        let graph = script.graph(alloc)?;
-        assert!(rt; ended(alloc, &graph, room) == wanted, "{last}");
+fn runs_of_long_scripts(rt: HostRuntime) {
+    for row in ENDS.iter() {
+        let text = plain(&rt, rt.alloc(), row.0, row.1);
+        same(&rt, &ended(&rt, rt.alloc(), &text, row.2), &row.3, row);
     }
-    Ok(())
 }
 
-/// How a run ends over a port that answers one read, where the trace takes so many bytes.
-fn ended(alloc: Global, graph: &Graph<'_>, room: usize) -> Result<(), RunFault> {
+/// How the run of a script ends, where the trace takes so many bytes.
+fn ended(rt: &impl Abort, alloc: Global, text: &str, room: usize) -> Result<(), RunFault> {
+    let script = parse(alloc, text).expect(rt, "a script");
+    read_once(rt, alloc, &script, room)
+}
+
+/// The same of a script that was read, over a port that answers one read.
+fn read_once(
+    rt: &impl Abort,
+    alloc: Global,
+    script: &Script<'_>,
+    room: usize,
+) -> Result<(), RunFault> {
+    let graph = script.graph(alloc).expect(rt, "memory");
     let plays = [Play::R1(17, 0x900), Play::Data(DataEnd::Ok, 0x5a)];
     let mut port = PlayPort::new(&plays);
     let mut out = Room::new(alloc, 511);
     let mut trace = Room::new(alloc, room);
-    let end = run_graph(alloc, graph, &mut port, &[], &mut out, &mut trace);
+    let end = run_graph(alloc, &graph, &mut port, &[], &mut out, &mut trace);
     end.map(|_| ())
 }

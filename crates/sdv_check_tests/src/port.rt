@@ -7,7 +7,7 @@ use sdv_card::{Answer, CardPort, DataEnd, WaitEnd};
 use sdv_frames::{Command, Expect, Reply};
 
 /// What a call returns, with a byte that fills all that it gives.
-#[derive(Clone, Copy, Debug)]
+#[derive(Clone, Copy)]
 pub enum Play {
     Answer(Answer),
     Reply(Reply),

@@ -1,6 +1,6 @@
 //! Runs over a port that plays a list, with their traces.
 
-use crate::common::{BRING_UP, CERTIFICATE, DEVICE_BRING_UP, Room, SMALLEST};
+use crate::common::{BRING_UP, CERTIFICATE, DEVICE_BRING_UP, Room, SMALLEST, same};
 use crate::port::{Play, PlayPort};
 use sdv_card::{Answer, DataEnd, WaitEnd};
 use sdv_check::verify;
@@ -11,7 +11,6 @@ use std::alloc::Global;
 use std::io::Write;
 use std::process::Abort;
 use std::str;
-use std::test::Fail;
 
 // Runs the script of a text: its end.
 fn played<O: Write, T: Write>(
@@ -26,6 +25,20 @@ fn played<O: Write, T: Write>(
     let script = parse(alloc, text).expect(rt, "a script");
     let graph = script.graph(alloc).expect(rt, "memory");
     run_graph(alloc, &graph, port, input, out, trace)
+}
+
+// Runs the script of a text: its end, how many bytes are put out, and the trace.
+fn traced(
+    rt: &impl Abort,
+    alloc: Global,
+    text: &str,
+    port: &mut PlayPort<'_>,
+    input: &[[u8; 512]],
+) -> (Result<End, RunFault>, usize, String) {
+    let (mut out, mut trace) = (Vec::new(alloc), Vec::new(alloc));
+    let result = played(rt, alloc, text, port, input, &mut out, &mut trace);
+    let lines = String::from_utf8(trace).expect(rt, "a text");
+    (result, out.len(), lines)
 }
 
 // The name of a fault that a script ended in, or what else came of a run.
@@ -334,17 +347,15 @@ CMD3 00000000 R6 12340500
 ];
 
 #[test]
-fn runs(rt: HostRuntime) -> Result<(), Fail> {
-    let alloc = rt.alloc();
-    for &(text, plays, end, calls, lines, bytes) in RUNS.iter() {
+fn runs(rt: HostRuntime) {
+    for row in RUNS.iter() {
+        let (text, plays, end, calls, lines, bytes) = *row;
         let mut port = PlayPort::new(plays);
-        let (mut out, mut trace) = (Vec::new(alloc), Vec::new(alloc));
-        let result = played(&rt, alloc, text, &mut port, &[], &mut out, &mut trace);
-        assert_eq!(rt; name_of(&result), end, "{text}");
-        assert_eq!(rt; (port.calls, out.len()), (calls, bytes), "{text}");
-        assert_eq!(rt; str::from_utf8(&trace)?, lines, "{text}");
+        let (result, taken, trace) = traced(&rt, rt.alloc(), text, &mut port, &[]);
+        let found = (name_of(&result), port.calls, taken);
+        same(&rt, &found, &(end, calls, bytes), &text);
+        same(&rt, &trace.as_str(), &lines, &text);
     }
-    Ok(())
 }
 
 // Scripts that end with a phase, what is played to them, and the data lines of the phase.
@@ -374,27 +385,28 @@ static LINES: [(&str, &[Play], u8); 4] = [
 
 #[test]
 fn lines_of_phases(rt: HostRuntime) {
-    let alloc = rt.alloc();
-    for &(text, plays, lines) in LINES.iter() {
-        let mut port = PlayPort::new(plays);
-        let (mut out, mut trace) = (Vec::new(alloc), Vec::new(alloc));
-        let result = played(&rt, alloc, text, &mut port, &[], &mut out, &mut trace);
-        assert_eq!(rt; name_of(&result), "DONE", "{text}");
-        assert_eq!(rt; port.lines, lines, "{text}");
+    for row in LINES.iter() {
+        let mut port = PlayPort::new(row.1);
+        let (result, _, _) = traced(&rt, rt.alloc(), row.0, &mut port, &[]);
+        let found = (name_of(&result), port.lines);
+        same(&rt, &found, &("DONE", row.2), &row.0);
     }
 }
 
 #[test]
-fn runs_of_accepted_scripts(rt: HostRuntime) -> Result<(), Fail> {
+fn runs_of_accepted_scripts(rt: HostRuntime) {
     let alloc = rt.alloc();
-    let accepted = verify(alloc, SMALLEST, CERTIFICATE)?;
+    let accepted = verify(alloc, SMALLEST, CERTIFICATE).expect(&rt, "accepted");
     let plays = [Play::Answer(Answer::Sent)];
     let mut port = PlayPort::new(&plays);
     let (mut out, mut trace) = (Vec::new(alloc), Vec::new(alloc));
     let result = run(alloc, &accepted, &mut port, &[], &mut out, &mut trace);
-    assert_eq!(rt; name_of(&result), "stop");
-    assert_eq!(rt; str::from_utf8(&trace)?, "CMD0 00000000 -\nfault stop\n");
-    Ok(())
+    let found = (
+        name_of(&result),
+        str::from_utf8(&trace).expect(&rt, "a text"),
+    );
+    let wanted = ("stop", "CMD0 00000000 -\nfault stop\n");
+    same(&rt, &found, &wanted, &SMALLEST);
 }
 
 // Every kind of answer.
@@ -440,25 +452,25 @@ static COMMANDS: [(&str, usize); 22] = [
 ];
 
 #[test]
-fn answers_to_commands(rt: HostRuntime) -> Result<(), Fail> {
+fn answers_to_commands(rt: HostRuntime) {
     let alloc = rt.alloc();
-    for &(command, own) in COMMANDS.iter() {
-        let text = format!(in alloc; "card sd send {command} {{ else {{ }} }} done")?;
+    for row in COMMANDS.iter() {
+        let own = row.1;
+        let text = ["card sd send ", row.0, " { else { } } done"].concat(alloc);
+        let text = text.expect(&rt, "memory");
         for (number, answer) in ANSWERS.iter().enumerate() {
             let taken = number == own || own != 0 && number == 1;
             let found = is_taken(&rt, alloc, &text, *answer);
-            assert_eq!(&rt; found, Some(taken), "{command}, answer {number}");
+            same(&rt, &found, &Some(taken), &(row.0, number));
         }
     }
-    Ok(())
 }
 
 // Whether the answer to a script's one command was taken, and then printed; nothing where the run ended in another way.
 fn is_taken(rt: &impl Abort, alloc: Global, text: &str, answer: Answer) -> Option<bool> {
     let plays = [Play::Answer(answer)];
     let mut port = PlayPort::new(&plays);
-    let (mut out, mut trace) = (Vec::new(alloc), Vec::new(alloc));
-    let result = played(rt, alloc, text, &mut port, &[], &mut out, &mut trace);
+    let (result, _, trace) = traced(rt, alloc, text, &mut port, &[]);
     match (name_of(&result), trace.is_empty()) {
         ("DONE", false) => Some(true),
         ("REPLY", true) => Some(false),
@@ -497,30 +509,32 @@ fn writers_that_fail(rt: HostRuntime) {
         let calls = if room < 27 { 1 } else { 2 };
         let end = if room == 40 { "ended" } else { "trace" };
         let wanted = (end, calls, 512 * (calls - 1), room);
-        assert_eq!(rt; copy_into(&rt, alloc, 512, room), wanted);
+        same(&rt, &copy_into(&rt, alloc, 512, room), &wanted, &room);
     }
     for room in 0..512 {
         let wanted = ("output", 2, room, 27);
-        assert_eq!(rt; copy_into(&rt, alloc, room, 40), wanted);
+        same(&rt, &copy_into(&rt, alloc, room, 40), &wanted, &room);
     }
 }
 
 // Phases to the card take the next blocks, also where they are cut, and none begins without enough of them.
 #[test]
-fn input_in_order(rt: HostRuntime) -> Result<(), Fail> {
-    let alloc = rt.alloc();
+fn input_in_order(rt: HostRuntime) {
     let input = [[1; 512], [2; 512], [3; 512], [4; 512]];
-    for &(blocks, end, calls, sent) in GIVEN.iter() {
+    for row in GIVEN.iter() {
+        let (blocks, end, calls, sent) = *row;
         let mut port = PlayPort::new(&GIVES);
-        let (mut out, mut trace) = (Vec::new(alloc), Vec::new(alloc));
         let given = input.get(..blocks).unwrap_or(&input);
-        let result = played(&rt, alloc, GIVING, &mut port, given, &mut out, &mut trace);
+        let (result, _, trace) = traced(&rt, rt.alloc(), GIVING, &mut port, given);
         let found = (name_of(&result), port.calls, port.sent);
-        assert_eq!(&rt; found, (end, calls, sent), "{blocks} blocks");
-        let is_whole = str::from_utf8(&trace)? == GIVEN_LINES;
-        assert_eq!(&rt; is_whole, blocks > 2, "{blocks} blocks");
+        same(&rt, &found, &(end, calls, sent), &blocks);
+        same(
+            &rt,
+            &(trace.as_str() == GIVEN_LINES),
+            &(blocks > 2),
+            &blocks,
+        );
     }
-    Ok(())
 }
 
 const GIVING: &str =

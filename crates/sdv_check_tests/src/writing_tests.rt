@@ -1,15 +1,14 @@
 //! Certificates as they are written, over writers in memory and over one that takes no more than it has room for.
 
-use crate::common::{CERTIFICATE, Room, WIDE};
+use crate::common::{CERTIFICATE, Room, WIDE, same, text_of};
 use arrayvec::ArrayVec;
 use sdv_card::Shape;
 use sdv_certify::write;
 use sdv_check::read;
 use sdv_facts::{Certificate, Facts, Numbers, PointFacts, SetTable, VarFacts, Version};
-use std::alloc::{AllocError, Global};
-use std::io::{self, ErrorKind};
-use std::str;
-use std::test::Fail;
+use std::alloc::Global;
+use std::io::ErrorKind;
+use std::process::Abort;
 
 const ONE_POINT: &str =
     "sdv-cert 1\npoints 1\np 0 b 6 12 8 m 10 v 0 9 - v 3 5 7 s 0000000000002c04\n";
@@ -19,7 +18,7 @@ const ONE_POINT_WITH_BOOT: &str =
     "sdv-cert 2\npoints 1\np 0 b 6 12 8 m 10 mb 512 v 0 9 - 503 v 3 5 7 - s 0000000000002c04\n";
 
 // A certificate of version 1 with a point in two loops, with two variables and one shape.
-fn one_point(alloc: Global) -> Result<Certificate, AllocError> {
+fn one_point(rt: &impl Abort, alloc: Global) -> Certificate {
     let (mut vars, mut turns) = (ArrayVec::new(), ArrayVec::new());
     vars.push(VarFacts {
         lo: 0,
@@ -36,72 +35,63 @@ fn one_point(alloc: Global) -> Result<Certificate, AllocError> {
     turns.push(12);
     turns.push(8);
     let mut table = SetTable::new(alloc);
-    let set = table.intern(&[Shape(0x2c04)])?;
+    let set = table.intern(&[Shape(0x2c04)]).expect(rt, "memory");
     let facts = Facts::new(set, Numbers { m: 10, mb: 0, vars });
     let base = 6;
-    let points = vec![in alloc; PointFacts { facts, base, turns }]?;
-    Ok(Certificate::from_points(Version::One, table, points))
+    let points = vec![in alloc; PointFacts { facts, base, turns }].expect(rt, "memory");
+    Certificate::from_points(Version::One, table, points)
 }
 
 #[test]
-fn written(rt: HostRuntime) -> Result<(), Fail> {
-    let alloc = rt.alloc();
-    let mut out = Vec::new(alloc);
-    write(&one_point(alloc)?, &mut out)?;
-    assert_eq!(rt; str::from_utf8(&out)?, ONE_POINT);
-    Ok(())
+fn written(rt: HostRuntime) {
+    let text = text_of(&rt, rt.alloc(), &one_point(&rt, rt.alloc()));
+    same(&rt, &text.as_str(), &ONE_POINT, &"one point");
 }
 
-// The text of the certificate that is read from a text.
-fn written_again(alloc: Global, text: &str) -> Result<Vec<u8>, Fail> {
-    let certificate = read(alloc, text)?;
-    let mut out = Vec::new(alloc);
-    write(&certificate, &mut out)?;
-    Ok(out)
+// Texts of certificates.
+static TEXTS: [&str; 6] = [
+    ONE_POINT,
+    ONE_POINT_WITH_BOOT,
+    CERTIFICATE,
+    WIDE,
+    "sdv-cert 1\npoints 0\n",
+    "sdv-cert 2\npoints 0\n",
+];
+
+#[test]
+fn read_and_written_again(rt: HostRuntime) {
+    for (number, text) in TEXTS.iter().enumerate() {
+        let certificate = read(rt.alloc(), text).expect(&rt, "a certificate");
+        let again = text_of(&rt, rt.alloc(), &certificate);
+        same(&rt, &again.as_str(), text, &number);
+    }
 }
 
 #[test]
-fn read_and_written_again(rt: HostRuntime) -> Result<(), Fail> {
-    let empty = ["sdv-cert 1\npoints 0\n", "sdv-cert 2\npoints 0\n"];
-    let [first, second] = empty;
-    for text in [
-        ONE_POINT,
-        ONE_POINT_WITH_BOOT,
-        CERTIFICATE,
-        WIDE,
-        first,
-        second,
-    ] {
-        let again = written_again(rt.alloc(), text)?;
-        assert_eq!(rt; str::from_utf8(&again)?, text);
+fn writers_that_fail(rt: HostRuntime) {
+    let certificate = read(rt.alloc(), WIDE).expect(&rt, "a certificate");
+    for room in 0..WIDE.len() {
+        let full = Some(ErrorKind::StorageFull);
+        written_into(&rt, rt.alloc(), &certificate, room, full);
     }
-    Ok(())
+    written_into(&rt, rt.alloc(), &certificate, WIDE.len(), None);
 }
 
-#[test]
-fn writers_that_fail(rt: HostRuntime) -> Result<(), Fail> {
-    let alloc = rt.alloc();
-    let certificate = read(alloc, WIDE)?;
-    for room in 0..WIDE.len() + 1 {
-        let wanted = if room == WIDE.len() {
-            None
-        } else {
-            Some(ErrorKind::StorageFull)
-        };
-        let mut out = Room::new(alloc, room);
-        assert!(rt;
-            kind_of(write(&certificate, &mut out)) == wanted,
-            "{room} bytes"
-        );
-        assert_eq!(rt; out.taken.as_slice(), &WIDE.as_bytes()[..room]);
-    }
-    Ok(())
-}
-
-// Why a writer failed, if it did.
-fn kind_of(written: io::Result<()>) -> Option<ErrorKind> {
-    match written {
-        Ok(()) => None,
-        Err(error) => Some(error.kind()),
-    }
+// A writer with room for so many bytes of this certificate takes them, and then fails for this reason, if it does.
+fn written_into(
+    rt: &impl Abort,
+    alloc: Global,
+    certificate: &Certificate,
+    room: usize,
+    reason: Option<ErrorKind>,
+) {
+    let mut out = Room::new(alloc, room);
+    let fault = write(certificate, &mut out).err().map(|error| error.kind());
+    let taken = Some(out.taken.as_slice());
+    same(
+        rt,
+        &(fault, taken),
+        &(reason, WIDE.as_bytes().get(..room)),
+        &room,
+    );
 }
