@@ -4,14 +4,13 @@ use crate::texts::{
     BLOCK_CARD, BLOCK_CARD_UP, BRING_UP, BYTE_CARD, BYTE_CARD_UP, DEVICE, DEVICE_BRING_UP,
     DEVICE_UP, LAST_BLOCK,
 };
-use crate::worked::{Outcome, Setting, Work, cut_at, fuse, outcome_of, place_of};
+use crate::worked::{Outcome, Setting, Work, cut_at, fuse, outcome_of, place_of, same, same_text};
 use sdv_block::Request;
 use sdv_fuse::{Call, FuseImage};
 use sdv_registers::Kind;
 use sdv_sim::{CardDesc, MemImage};
-use std::alloc::{AllocError, Global};
+use std::alloc::Global;
 use std::process::Abort;
-use std::test::Fail;
 
 /// Every byte of an image before a run.
 const OLD: u8 = 0x5a;
@@ -86,7 +85,7 @@ CMD18 00000003 R1 00000900\nIN 2 ok\nCMD12 00000000 R1 00000b00\nCMD13 00010000 
 ];
 
 /// What fails once.
-#[derive(Clone, Copy, Debug, PartialEq, Eq)]
+#[derive(Clone, Copy, PartialEq, Eq)]
 enum Failing {
     ImageRead,
     ImageWrite,
@@ -104,44 +103,49 @@ fn due(failing: Failing, device: Failing, good: u64) -> Option<u64> {
 /// Runs it with the call failing that comes after so many good ones: what came of it, and the bytes of the image, which
 /// are none where there was no card.
 fn failed(
+    rt: &impl Abort,
     alloc: Global,
     worked: &Worked,
     failing: Failing,
     good: u64,
-) -> Result<(Outcome, Vec<u8>), Fail> {
-    let (work, card, ..) = *worked;
+) -> (Outcome, Vec<u8>) {
     let setting = Setting {
-        work,
-        card,
+        work: worked.0,
+        card: worked.1,
         input: &INPUT,
         output: fuse(Call::Write, due(failing, Output, good)),
         trace: fuse(Call::Write, due(failing, Trace, good)),
     };
-    let bytes = (CardDesc::parse(card)?.capacity as usize).saturating_mul(512);
-    let image = FuseImage {
-        image: MemImage::from_bytes(vec![in alloc; OLD; bytes]?)?,
-        fuse: match failing {
-            ImageWrite => fuse(Call::Write, Some(good)),
-            _ => fuse(Call::Read, due(failing, ImageRead, good)),
-        },
+    let fuse = match failing {
+        ImageWrite => fuse(Call::Write, Some(good)),
+        _ => fuse(Call::Read, due(failing, ImageRead, good)),
     };
-    match outcome_of(alloc, &setting, image)? {
-        (outcome, Some(image)) => Ok((outcome, image.image.into_bytes())),
-        (outcome, None) => Ok((outcome, Vec::new(alloc))),
+    let image = old_image(rt, alloc, worked.1);
+    match outcome_of(rt, alloc, &setting, FuseImage { image, fuse }) {
+        (outcome, Some(image)) => (outcome, image.image.into_bytes()),
+        (outcome, None) => (outcome, Vec::new(alloc)),
     }
+}
+
+/// The image of a card before a run.
+fn old_image(rt: &impl Abort, alloc: Global, card: &str) -> MemImage {
+    let desc = CardDesc::parse(card).expect(rt, "a description");
+    let count = (desc.capacity as usize).saturating_mul(512);
+    let bytes = vec![in alloc; OLD; count].expect(rt, "memory");
+    MemImage::from_bytes(bytes).expect(rt, "an image")
 }
 
 /// The bytes of blocks 3 and 4, each of which has one byte 512 times. Every other block is as it was.
 fn written(rt: &impl Abort, image: &[u8]) -> [u8; 2] {
     let third = image.get(3 * 512).copied().unwrap_or(OLD);
     let fourth = image.get(4 * 512).copied().unwrap_or(OLD);
-    for (place, byte) in image.iter().enumerate() {
-        let wanted = match place / 512 {
+    for (place, block) in image.chunks(512).enumerate() {
+        let wanted = match place {
             3 => third,
             4 => fourth,
             _ => OLD,
         };
-        assert!(rt; *byte == wanted, "byte {place}");
+        same(rt, &block, &[wanted; 512].as_slice(), &place);
     }
     [third, fourth]
 }
@@ -340,66 +344,53 @@ static ROWS: [Row; 28] = [
 
 /// What comes of a run where one call fails, and what is left of its image.
 #[test]
-fn one_call_fails(rt: HostRuntime) -> Result<(), Fail> {
+fn one_call_fails(rt: HostRuntime) {
     for (row, wanted) in ROWS.iter().enumerate() {
-        comes_out(&rt, rt.alloc(), row, wanted)?;
+        comes_out(&rt, rt.alloc(), row, wanted);
     }
-    Ok(())
 }
 
 /// A run comes out as its row says.
-fn comes_out(rt: &impl Abort, alloc: Global, row: usize, wanted: &Row) -> Result<(), Fail> {
-    let (number, failing, good, _, _, end, bytes, received) = *wanted;
-    let worked = WORKED.get(number).ok_or("no such run")?;
-    let lines = lines_of(alloc, worked, wanted)?;
-    let (outcome, image) = failed(alloc, worked, failing, good)?;
-    let output = outcome.output.len();
-    assert_eq!(rt;
-        (outcome.end.as_str(), output),
-        (end, received.saturating_mul(512)),
-        "row {row}"
+fn comes_out(rt: &impl Abort, alloc: Global, row: usize, wanted: &Row) {
+    let (number, failing, good, (word, at), behind, end, bytes, received) = *wanted;
+    let worked = WORKED.get(number).expect(rt, "a run of this number");
+    let lines = lines_of(rt, alloc, worked);
+    let lines = cut_at(rt, alloc, &lines, place_of(&lines, word, at), behind);
+    let (outcome, image) = failed(rt, alloc, worked, failing, good);
+    same_text(rt, &outcome.end, end, &row);
+    same(
+        rt,
+        &outcome.output.len(),
+        &received.saturating_mul(512),
+        &row,
     );
-    assert_eq!(rt; outcome.lines.as_str(), lines.as_str(), "row {row}");
-    assert_eq!(rt; written(rt, &image), bytes, "row {row}");
-    Ok(())
+    same_text(rt, &outcome.lines, &lines, &row);
+    same(rt, &written(rt, &image), &bytes, &row);
 }
 
-/// The lines of a run up to the one at which it ends, and those in its place.
-fn lines_of(alloc: Global, worked: &Worked, wanted: &Row) -> Result<String, AllocError> {
-    let (_, _, bring_up, rest) = *worked;
-    let (_, _, _, (word, at), behind, ..) = *wanted;
-    let lines = format!(in alloc; "{bring_up}{rest}")?;
-    cut_at(alloc, &lines, place_of(&lines, word, at), behind)
+/// The lines of a run that ends well.
+fn lines_of(rt: &impl Abort, alloc: Global, worked: &Worked) -> String {
+    [worked.2, worked.3].concat(alloc).expect(rt, "memory")
 }
 
 /// Each line of each trace fails in turn: those before it were printed.
 #[test]
-fn each_line_fails(rt: HostRuntime) -> Result<(), Fail> {
-    let alloc = rt.alloc();
+fn each_line_fails(rt: HostRuntime) {
     for worked in WORKED.iter() {
-        let (_, _, bring_up, rest) = *worked;
-        let lines = format!(in alloc; "{bring_up}{rest}")?;
+        let lines = lines_of(&rt, rt.alloc(), worked);
         for good in 0..21 {
-            line_fails(&rt, alloc, worked, &lines, good)?;
+            line_fails(&rt, rt.alloc(), worked, &lines, good);
         }
     }
-    Ok(())
 }
 
 /// The line after so many good ones fails, or there is none, and the run is whole.
-fn line_fails(
-    rt: &impl Abort,
-    alloc: Global,
-    worked: &Worked,
-    lines: &str,
-    good: u64,
-) -> Result<(), Fail> {
+fn line_fails(rt: &impl Abort, alloc: Global, worked: &Worked, lines: &str, good: u64) {
     let place = place_of(lines, "", good);
     let end = if place.is_some() { "Trace" } else { "done" };
-    let wanted = cut_at(alloc, lines, place, "")?;
-    let (outcome, image) = failed(alloc, worked, Trace, good)?;
-    assert_eq!(rt; outcome.end.as_str(), end, "line {good} of {lines}");
-    assert_eq!(rt; outcome.lines.as_str(), wanted.as_str(), "line {good}");
+    let wanted = cut_at(rt, alloc, lines, place, "");
+    let (outcome, image) = failed(rt, alloc, worked, Trace, good);
+    same_text(rt, &outcome.end, end, &("line", good, lines));
+    same_text(rt, &outcome.lines, &wanted, &("line", good));
     let _ = written(rt, &image);
-    Ok(())
 }

@@ -3,18 +3,17 @@
 ghost use Rattle.std.specs.Prelude.{None, ◌/◌, ◌^◌, ◌-◌};
 
 use crate::texts::{BLOCK_CARD, BLOCK_CARD_UP};
-use crate::worked::{Setting, Work, cut_at, fuse, outcome_of, place_of};
+use crate::worked::{Outcome, Setting, Work, cut_at, fuse, outcome_of, place_of, same, same_text};
 use sdv_block::Request;
 use sdv_file_image::{BlockFile, FileImage};
 use sdv_fuse::{Call, Fuse, FuseFile};
 use sdv_image::{Image, ImageFault, MemImage, SimFault};
 use sdv_registers::Kind;
-use std::alloc::{AllocError, Global};
+use std::alloc::Global;
 use std::process::Abort;
-use std::test::Fail;
 
 /// A file in memory, which claims nothing of its blocks. Its count of failures stands at its greatest.
-#[derive(Debug, Drop)]
+#[derive(Drop)]
 pub struct Blocks {
     image: MemImage,
     bytes: u64,
@@ -64,61 +63,99 @@ pub fn file_of(alloc: Global, fuse: Fuse) -> Result<FuseFile<Blocks>, SimFault> 
 }
 
 /// Forty writes of a block, one after another, and as many reads in reverse.
-fn forty(alloc: Global) -> Result<Vec<Request>, AllocError> {
+fn forty(rt: &impl Abort, alloc: Global) -> Vec<Request> {
     let mut requests = Vec::new(alloc);
     for first in 0..40u64 {
-        requests.push(Request::Write { first, count: 1 })?;
+        let write = Request::Write { first, count: 1 };
+        requests.push(write).expect(rt, "memory");
     }
     for first in (0..40u64).rev() {
-        requests.push(Request::Read { first, count: 1 })?;
+        let read = Request::Read { first, count: 1 };
+        requests.push(read).expect(rt, "memory");
     }
-    Ok(requests)
+    requests
 }
 
 /// Their trace.
-fn lines_of_forty(alloc: Global) -> Result<String, AllocError> {
-    let mut lines = String::from_str(alloc, BLOCK_CARD_UP)?;
+fn lines_of_forty(rt: &impl Abort, alloc: Global) -> String {
+    let mut lines = String::from_str(alloc, BLOCK_CARD_UP).expect(rt, "memory");
     for place in 0..40u32 {
-        lines.push_str(format!(in alloc; "CMD24 {place:08x} R1 00000900\n")?.as_str())?;
-        lines.push_str("OUT 1 ok\nWAIT ok\nCMD13 12340000 R1 00000900\n")?;
+        let write = format!(in alloc;
+            "CMD24 {place:08x} R1 00000900\nOUT 1 ok\nWAIT ok\nCMD13 12340000 R1 00000900\n"
+        );
+        let write = write.expect(rt, "memory");
+        lines.push_str(&write).expect(rt, "memory");
     }
     for place in (0..40u32).rev() {
-        lines.push_str(format!(in alloc; "CMD17 {place:08x} R1 00000900\nIN 1 ok\n")?.as_str())?;
+        let read = format!(in alloc; "CMD17 {place:08x} R1 00000900\nIN 1 ok\n");
+        let read = read.expect(rt, "memory");
+        lines.push_str(&read).expect(rt, "memory");
     }
-    lines.push_str("done\n")?;
-    Ok(lines)
+    lines.push_str("done\n").expect(rt, "memory");
+    lines
 }
 
 /// Forty blocks, each of its number.
-fn numbered(alloc: Global) -> Result<Vec<[u8; 512]>, AllocError> {
+fn numbered(rt: &impl Abort, alloc: Global) -> Vec<[u8; 512]> {
     let mut blocks = Vec::new(alloc);
     for number in 0..40u8 {
-        blocks.push([number; 512])?;
+        blocks.push([number; 512]).expect(rt, "memory");
     }
-    Ok(blocks)
+    blocks
+}
+
+/// The requests are served on the block card, and no writer fails.
+fn served<'a>(requests: &'a [Request], input: &'a [[u8; 512]]) -> Setting<'a> {
+    Setting {
+        work: Work::Requests(Kind::Sd, requests),
+        card: BLOCK_CARD,
+        input,
+        output: fuse(Call::Write, None),
+        trace: fuse(Call::Write, None),
+    }
+}
+
+/// An image over such a file, of which one call fails.
+type BlocksImage = FileImage<FuseFile<Blocks>>;
+
+/// What came of a run where one call of the file fails, and the image.
+fn outcome_over(
+    rt: &impl Abort,
+    alloc: Global,
+    setting: &Setting<'_>,
+    fuse: Fuse,
+) -> (Outcome, Option<BlocksImage>) {
+    let file = file_of(alloc, fuse).expect(rt, "a file");
+    let image = FileImage::new(alloc, file).expect(rt, "an image");
+    outcome_of(rt, alloc, setting, image)
 }
 
 /// What the file has once the image is finished, where a write-back that fails then is tried again.
-fn finished(image: FileImage<FuseFile<Blocks>>) -> Result<Vec<u8>, Fail> {
+fn finished(rt: &impl Abort, image: BlocksImage) -> Vec<u8> {
     let file = match image.finish() {
         Ok(file) => file,
-        Err((image, _)) => image.finish().ok().ok_or("a second write-back failed")?,
+        Err((image, _)) => image.finish().ok().expect(rt, "a second write-back"),
     };
-    Ok(file.file.image.into_bytes())
+    file.file.image.into_bytes()
 }
 
 /// So many blocks have their numbers, and every other one is as it was.
 fn assert_numbered(rt: &impl Abort, bytes: &[u8], count: usize) {
-    for (place, byte) in bytes.iter().enumerate() {
-        let block = place / 512;
-        let wanted = if block < count { block } else { 0xff };
-        assert!(rt; *byte as usize == wanted, "byte {place}, {count} blocks");
+    for (place, block) in bytes.chunks(512).enumerate() {
+        let wanted = if place < count {
+            u8::try_from(place).expect(rt, "a number of a block")
+        } else {
+            0xff
+        };
+        same(rt, &block, &[wanted; 512].as_slice(), &(place, count));
     }
 }
 
 /// What fails, after how many good calls, how many writes and reads were done before, and the end. The first read is
 /// that of a new card. The first 24 write-backs make room for writes, and 16 for reads.
-static ROWS: [(Call, u64, u64, u64, &str); 12] = [
+type Row = (Call, u64, u64, u64, &'static str);
+
+static ROWS: [Row; 12] = [
     (Call::Read, 0, 0, 0, "ImageRead"),
     (Call::Read, 1, 40, 16, "read"),
     (Call::Read, 2, 40, 17, "read"),
@@ -133,59 +170,50 @@ static ROWS: [(Call, u64, u64, u64, &str); 12] = [
     (Call::Write, 40, 40, 40, "done"),
 ];
 
+/// A run comes out as its row says.
+fn comes_out(rt: &impl Abort, alloc: Global, setting: &Setting<'_>, lines: &str, row: &Row) {
+    let (call, good, writes, reads, end) = *row;
+    let (outcome, image) = outcome_over(rt, alloc, setting, fuse(call, Some(good)));
+    let (place, behind) = match end {
+        "ImageRead" => (Some(0), ""),
+        "write" => (place_of(lines, "OUT", writes), "OUT 1 cut\nfault write\n"),
+        _ => (place_of(lines, "IN", reads), "IN 1 cut\nfault read\n"),
+    };
+    let wanted = cut_at(rt, alloc, lines, place, behind);
+    same_text(rt, &outcome.end, end, row);
+    same_text(rt, &outcome.lines, &wanted, row);
+    let received = (reads as usize).saturating_mul(512);
+    same(rt, &outcome.output.len(), &received, row);
+    if let Some(image) = image {
+        assert_numbered(rt, &finished(rt, image), writes as usize);
+    }
+}
+
 /// The phase that needed the call is cut, and the file holds what was written before, once the image is finished.
 #[test]
-fn one_call_of_a_file_fails(rt: HostRuntime) -> Result<(), Fail> {
+fn one_call_of_a_file_fails(rt: HostRuntime) {
     let alloc = rt.alloc();
-    let (requests, input) = (forty(alloc)?, numbered(alloc)?);
-    let lines = lines_of_forty(alloc)?;
-    let setting = Setting {
-        work: Work::Requests(Kind::Sd, &requests),
-        card: BLOCK_CARD,
-        input: &input,
-        output: fuse(Call::Write, None),
-        trace: fuse(Call::Write, None),
-    };
-    for &(call, good, writes, reads, end) in ROWS.iter() {
-        let image = FileImage::new(alloc, file_of(alloc, fuse(call, Some(good)))?)?;
-        let (outcome, image) = outcome_of(alloc, &setting, image)?;
-        let (place, behind) = match end {
-            "ImageRead" => (Some(0), ""),
-            "write" => (place_of(&lines, "OUT", writes), "OUT 1 cut\nfault write\n"),
-            _ => (place_of(&lines, "IN", reads), "IN 1 cut\nfault read\n"),
-        };
-        let wanted = cut_at(alloc, &lines, place, behind)?;
-        assert_eq!(&rt; outcome.end.as_str(), end, "{call:?} {good}");
-        assert_eq!(&rt; outcome.lines.as_str(), wanted.as_str(), "{call:?} {good}");
-        let received = (reads as usize).saturating_mul(512);
-        assert_eq!(&rt; outcome.output.len(), received, "{call:?} {good}");
-        if let Some(image) = image {
-            assert_numbered(&rt, &finished(image)?, writes as usize);
-        }
+    let (requests, input) = (forty(&rt, alloc), numbered(&rt, alloc));
+    let lines = lines_of_forty(&rt, alloc);
+    let setting = served(&requests, &input);
+    for row in ROWS.iter() {
+        comes_out(&rt, alloc, &setting, &lines, row);
     }
-    Ok(())
 }
 
 /// The requests are done, and a write-back fails when the image is finished: the next try has all of them.
 #[test]
-fn one_last_write_back_fails(rt: HostRuntime) -> Result<(), Fail> {
+fn one_last_write_back_fails(rt: HostRuntime) {
     let alloc = rt.alloc();
-    let (mut requests, input) = (forty(alloc)?, numbered(alloc)?);
+    let (mut requests, input) = (forty(&rt, alloc), numbered(&rt, alloc));
     requests.truncate(10);
-    let setting = Setting {
-        work: Work::Requests(Kind::Sd, &requests),
-        card: BLOCK_CARD,
-        input: &input,
-        output: fuse(Call::Write, None),
-        trace: fuse(Call::Write, None),
-    };
+    let setting = served(&requests, &input);
     for good in 0..11 {
-        let image = FileImage::new(alloc, file_of(alloc, fuse(Call::Write, Some(good)))?)?;
-        let (outcome, image) = outcome_of(alloc, &setting, image)?;
-        assert_eq!(&rt; outcome.end.as_str(), "done", "{good}");
+        let fuse = fuse(Call::Write, Some(good));
+        let (outcome, image) = outcome_over(&rt, alloc, &setting, fuse);
+        same_text(&rt, &outcome.end, "done", &good);
         if let Some(image) = image {
-            assert_numbered(&rt, &finished(image)?, 10);
+            assert_numbered(&rt, &finished(&rt, image), 10);
         }
     }
-    Ok(())
 }

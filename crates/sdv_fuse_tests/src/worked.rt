@@ -3,19 +3,20 @@
 use sdv_block::{BlockFault, Request, serve};
 use sdv_card::CardPort;
 use sdv_certify::{certify, write};
-use sdv_check::verify;
+use sdv_check::{Accepted, verify};
 use sdv_controller::Controller;
 use sdv_fuse::{Call, Fuse, FuseWriter};
 use sdv_registers::Kind;
 use sdv_run::{End, RunFault, run};
 use sdv_script::parse;
 use sdv_sim::{CardDesc, Image, Sim, SimFault};
-use std::alloc::{AllocError, Global};
-use std::io::Write;
-use std::test::Fail;
+use std::alloc::Global;
+use std::fmt::Debug;
+use std::process::Abort;
+use std::str;
 
 /// What is run.
-#[derive(Clone, Copy, Debug)]
+#[derive(Clone, Copy)]
 pub enum Work<'a> {
     /// A script.
     Script(&'a str),
@@ -24,7 +25,7 @@ pub enum Work<'a> {
 }
 
 /// What came of a run.
-#[derive(Debug, Drop)]
+#[derive(Drop)]
 pub struct Outcome {
     /// How it ended, or why it did not begin or end.
     pub end: String,
@@ -52,58 +53,6 @@ pub fn name_of(outcome: &Result<End, RunFault>) -> &str {
     }
 }
 
-/// The text of the certificate of a script.
-fn certificate_of(alloc: Global, script: &str) -> Result<String, Fail> {
-    let mut text = Vec::new(alloc);
-    write(&certify(alloc, &parse(alloc, script)?)?, &mut text)?;
-    Ok(String::from_utf8(text)?)
-}
-
-/// Runs it: the name of its end.
-fn end_of<P: CardPort, O: Write, T: Write>(
-    alloc: Global,
-    work: Work<'_>,
-    port: &mut P,
-    input: &[[u8; 512]],
-    out: &mut O,
-    trace: &mut T,
-) -> Result<String, Fail> {
-    let outcome = match work {
-        Work::Script(text) => script_end(alloc, text, port, input, out, trace)?,
-        Work::Requests(kind, requests) => {
-            match serve(alloc, kind, requests, port, input, out, trace) {
-                Ok(end) => Ok(end),
-                Err(BlockFault::Run(fault)) => Err(fault),
-                Err(fault) => return Err(fault.into()),
-            }
-        }
-    };
-    Ok(String::from_str(alloc, name_of(&outcome))?)
-}
-
-/// Certifies a script, and runs it.
-fn script_end<P: CardPort, O: Write, T: Write>(
-    alloc: Global,
-    text: &str,
-    port: &mut P,
-    input: &[[u8; 512]],
-    out: &mut O,
-    trace: &mut T,
-) -> Result<Result<End, RunFault>, Fail> {
-    let certificate = certificate_of(alloc, text)?;
-    let accepted = verify(alloc, text, &certificate)?;
-    Ok(run(alloc, &accepted, port, input, out, trace))
-}
-
-/// Where there is no card.
-fn unmade(alloc: Global, fault: SimFault) -> Result<Outcome, AllocError> {
-    Ok(Outcome {
-        end: format!(in alloc; "{fault:?}")?,
-        lines: String::new(alloc),
-        output: Vec::new(alloc),
-    })
-}
-
 /// What is given, on which card, and the fuses of the writers.
 #[derive(Clone, Copy)]
 pub struct Setting<'a> {
@@ -115,17 +64,64 @@ pub struct Setting<'a> {
     pub trace: Fuse,
 }
 
-/// Runs it over an image: what came of it, and the image, if a card was made over it.
-pub fn outcome_of<I: Image + Drop>(
+/// The text of the certificate of a script.
+fn certificate_of(rt: &impl Abort, alloc: Global, script: &str) -> Vec<u8> {
+    let script = parse(alloc, script).expect(rt, "a script");
+    let certificate = certify(alloc, &script).expect(rt, "a certificate");
+    let mut text = Vec::new(alloc);
+    write(&certificate, &mut text).expect(rt, "memory");
+    text
+}
+
+/// The script of a text, with the certificate that is written for it.
+fn accepted<'a>(rt: &impl Abort, alloc: Global, text: &'a str) -> Accepted<'a> {
+    let certificate = certificate_of(rt, alloc, text);
+    let certificate = str::from_utf8(&certificate).expect(rt, "a text");
+    verify(alloc, text, certificate).expect(rt, "an accepted script")
+}
+
+/// A writer into memory, of which one call may fail.
+type Writer = FuseWriter<Vec<u8>>;
+
+/// Runs it: its end.
+fn end_of<P: CardPort>(
+    rt: &impl Abort,
     alloc: Global,
     setting: &Setting<'_>,
-    image: I,
-) -> Result<(Outcome, Option<I>), Fail> {
-    let sim = match Sim::new(alloc, CardDesc::parse(setting.card)?, image, &[]) {
-        Ok(sim) => sim,
-        Err(fault) => return Ok((unmade(alloc, fault)?, None)),
-    };
-    let mut port = Controller::new(sim);
+    port: &mut P,
+    out: &mut Writer,
+    trace: &mut Writer,
+) -> Result<End, RunFault> {
+    match setting.work {
+        Work::Script(text) => {
+            let script = accepted(rt, alloc, text);
+            run(alloc, &script, port, setting.input, out, trace)
+        }
+        Work::Requests(kind, requests) => {
+            match serve(alloc, kind, requests, port, setting.input, out, trace) {
+                Err(BlockFault::Run(fault)) => Err(fault),
+                served => Ok(served.expect(rt, "requests that are served")),
+            }
+        }
+    }
+}
+
+/// Where there is no card.
+fn unmade(rt: &impl Abort, alloc: Global, fault: SimFault) -> Outcome {
+    Outcome {
+        end: format!(in alloc; "{fault:?}").expect(rt, "memory"),
+        lines: String::new(alloc),
+        output: Vec::new(alloc),
+    }
+}
+
+/// Runs it beside a port: what came of it.
+fn worked_out<P: CardPort>(
+    rt: &impl Abort,
+    alloc: Global,
+    setting: &Setting<'_>,
+    port: &mut P,
+) -> Outcome {
     let mut out = FuseWriter {
         writer: Vec::new(alloc),
         fuse: setting.output,
@@ -134,20 +130,30 @@ pub fn outcome_of<I: Image + Drop>(
         writer: Vec::new(alloc),
         fuse: setting.trace,
     };
-    let end = end_of(
-        alloc,
-        setting.work,
-        &mut port,
-        setting.input,
-        &mut out,
-        &mut trace,
-    )?;
-    let outcome = Outcome {
-        end,
-        lines: String::from_utf8(trace.writer)?,
+    let end = end_of(rt, alloc, setting, port, &mut out, &mut trace);
+    Outcome {
+        end: String::from_str(alloc, name_of(&end)).expect(rt, "memory"),
+        lines: String::from_utf8(trace.writer).expect(rt, "a text"),
         output: out.writer,
-    };
-    Ok((outcome, Some(port.into_wire().into_image())))
+    }
+}
+
+/// Runs it over an image: what came of it, and the image, if a card was made over it.
+pub fn outcome_of<I: Image + Drop>(
+    rt: &impl Abort,
+    alloc: Global,
+    setting: &Setting<'_>,
+    image: I,
+) -> (Outcome, Option<I>) {
+    let desc = CardDesc::parse(setting.card).expect(rt, "a description");
+    match Sim::new(alloc, desc, image, &[]) {
+        Ok(sim) => {
+            let mut port = Controller::new(sim);
+            let outcome = worked_out(rt, alloc, setting, &mut port);
+            (outcome, Some(port.into_wire().into_image()))
+        }
+        Err(fault) => (unmade(rt, alloc, fault), None),
+    }
 }
 
 /// Where a line begins: of those that begin with a word, the one of this number. None where there are fewer.
@@ -168,13 +174,25 @@ pub fn place_of(lines: &str, word: &str, number: u64) -> Option<usize> {
 
 /// The lines before a place, with others behind them; all of them, where there is no such place.
 pub fn cut_at(
+    rt: &impl Abort,
     alloc: Global,
     lines: &str,
     place: Option<usize>,
     behind: &str,
-) -> Result<String, AllocError> {
-    match place {
-        Some(place) => format!(in alloc; "{}{behind}", lines.get(..place).unwrap_or("")),
-        None => String::from_str(alloc, lines),
-    }
+) -> String {
+    let (before, behind) = match place {
+        Some(place) => (lines.get(..place).unwrap_or(""), behind),
+        None => (lines, ""),
+    };
+    [before, behind].concat(alloc).expect(rt, "memory")
+}
+
+/// Stops the test where what was found is not what is wanted; the message shows the row.
+pub fn same<T: PartialEq + Debug, R: Debug>(rt: &impl Abort, found: &T, wanted: &T, row: &R) {
+    assert_eq!(rt; found, wanted, "{row:?}");
+}
+
+/// As [`same`], of texts.
+pub fn same_text<R: Debug>(rt: &impl Abort, found: &str, wanted: &str, row: &R) {
+    same(rt, &found, &wanted, row);
 }
