@@ -7,7 +7,8 @@ use crate::testing::{
 };
 use sdv_words::program::program;
 use std::io;
-use std::test::Fail;
+use std::process::Abort;
+use std::rt::Files;
 
 /// A writer that takes one byte at a time, so many and no more, and keeps them.
 #[derive(Drop)]
@@ -95,13 +96,12 @@ static CERTIFIED: [(&str, u8, &str, &str); 13] = [
 ];
 
 #[test]
-fn certifies_files(rt: HostRuntime) -> Result<(), Fail> {
+fn certifies_files(rt: HostRuntime) {
     let words = ["certify", "certified.sdv"];
-    for &(script, status, printed, said) in CERTIFIED.iter() {
-        write(&rt, "certified.sdv", &[Text(script)])?;
-        call(&rt, &words, status, &[Is(printed)], said)?;
+    for row in CERTIFIED.iter() {
+        write(&rt, "certified.sdv", &[Text(row.0)]);
+        call(&rt, &words, row.1, &[Is(row.2)], row.3);
     }
-    Ok(())
 }
 
 /// Behind the bring-up: the card goes to four data lines, and the host does not.
@@ -160,8 +160,8 @@ static EXPLAINED: [Step<'static>; 13] = [
 ];
 
 #[test]
-fn explains_files(rt: HostRuntime) -> Result<(), Fail> {
-    play(&rt, &EXPLAINED)
+fn explains_files(rt: HostRuntime) {
+    play(&rt, &EXPLAINED);
 }
 
 static UNUSABLE: [Step<'static>; 4] = [
@@ -182,8 +182,8 @@ static UNUSABLE: [Step<'static>; 4] = [
 ];
 
 #[test]
-fn certifies_no_other_files(rt: HostRuntime) -> Result<(), Fail> {
-    play(&rt, &UNUSABLE)
+fn certifies_no_other_files(rt: HostRuntime) {
+    play(&rt, &UNUSABLE);
 }
 
 const CHECK: &[&str] = &["check", "bring_up.sdv", "bring_up.cert"];
@@ -204,28 +204,28 @@ static LOWERED: [Step<'static>; 6] = [
 ];
 
 #[test]
-fn checks_what_it_certified(rt: HostRuntime) -> Result<(), Fail> {
-    play(&rt, &LOWERED)
+fn checks_what_it_certified(rt: HostRuntime) {
+    play(&rt, &LOWERED);
+}
+
+/// Certifies the smallest script into a writer with room for so many bytes.
+fn certify_into<R: Files + AllocGlobal + Abort>(rt: &R, room: usize) {
+    let mut err = Vec::new(rt.alloc());
+    let mut out = Small {
+        taken: Vec::new(rt.alloc()),
+        room,
+    };
+    let status = program(rt, &["certify", "printed.sdv"], &mut out, &mut err);
+    let wanted = if room == CERTIFICATE.len() { 0 } else { 2 };
+    assert_eq!(rt; status, wanted, "at {room}");
+    assert!(rt; out.taken.len() == room && CERTIFICATE.as_bytes().starts_with(&out.taken));
+    assert!(rt; err.is_empty());
 }
 
 #[test]
-fn certifies_into_a_full_writer(rt: HostRuntime) -> Result<(), Fail> {
-    write(&rt, "printed.sdv", &[Text(SMALLEST)])?;
-    let words = ["certify", "printed.sdv"];
+fn certifies_into_a_full_writer(rt: HostRuntime) {
+    write(&rt, "printed.sdv", &[Text(SMALLEST)]);
     for room in 0..=CERTIFICATE.len() {
-        let mut err = Vec::new(rt.alloc());
-        let mut out = Small {
-            taken: Vec::new(rt.alloc()),
-            room,
-        };
-        let status = program(&rt, &words, &mut out, &mut err);
-        assert_eq!(rt; status == 0, room == CERTIFICATE.len(), "at {room}");
-        assert!(rt; status == 0 || status == 2, "at {room}");
-        assert!(rt;
-            out.taken.as_slice() == &CERTIFICATE.as_bytes()[..room],
-            "at {room}"
-        );
-        assert!(rt; err.is_empty(), "at {room}");
+        certify_into(&rt, room);
     }
-    Ok(())
 }

@@ -2,13 +2,12 @@
 use crate::testing::Piece::{Bytes, Fill, Text};
 use crate::testing::Step::{self, Call, Shut, Write};
 use crate::testing::Wanted::Is;
-use crate::testing::{CERTIFICATE, Full, ILLEGAL, SMALLEST, call, play, write};
+use crate::testing::{CERTIFICATE, Full, ILLEGAL, SMALLEST, call, compare, play, write};
 use sdv_faults::{Store, bytes_within};
 use sdv_run_command::NewImage;
 use sdv_words::program::{answer, program};
 use std::alloc::{AllocError, Global};
 use std::io::{self, ErrorKind, Read};
-use std::test::Fail;
 
 /// A script beside its certificate in memory: whatever file is asked for by the name `script` or by another.
 #[derive(Drop)]
@@ -35,9 +34,7 @@ impl Store for Pair {
         } else {
             CERTIFICATE
         };
-        let mut bytes = Vec::new(alloc);
-        bytes.extend_from_slice(text.as_bytes())?;
-        Ok(Some(bytes))
+        Ok(Some(text.as_bytes().to_vec(alloc)?))
     }
 
     fn open_image(&self, _file: &str) -> Option<NewImage> {
@@ -159,14 +156,13 @@ static CHECKED: [(&str, &str, u8, &str, &str); 13] = [
 ];
 
 #[test]
-fn checks_files(rt: HostRuntime) -> Result<(), Fail> {
+fn checks_files(rt: HostRuntime) {
     let words = ["check", "checked.sdv", "checked.cert"];
-    for &(script, certificate, status, printed, said) in CHECKED.iter() {
-        write(&rt, "checked.sdv", &[Text(script)])?;
-        write(&rt, "checked.cert", &[Text(certificate)])?;
-        call(&rt, &words, status, &[Is(printed)], said)?;
+    for row in CHECKED.iter() {
+        write(&rt, "checked.sdv", &[Text(row.0)]);
+        write(&rt, "checked.cert", &[Text(row.1)]);
+        call(&rt, &words, row.2, &[Is(row.3)], row.4);
     }
-    Ok(())
 }
 
 // A certificate of 16 mebibytes and one byte.
@@ -182,8 +178,8 @@ static LONG: [Step<'static>; 3] = [
 ];
 
 #[test]
-fn refuses_a_certificate_above_16_mebibytes(rt: HostRuntime) -> Result<(), Fail> {
-    play(&rt, &LONG)
+fn refuses_a_certificate_above_16_mebibytes(rt: HostRuntime) {
+    play(&rt, &LONG);
 }
 
 // Files that are no texts, and files that are missing.
@@ -225,8 +221,8 @@ static UNUSABLE: [Step<'static>; 9] = [
 ];
 
 #[test]
-fn names_files_that_it_cannot_use(rt: HostRuntime) -> Result<(), Fail> {
-    play(&rt, &UNUSABLE)
+fn names_files_that_it_cannot_use(rt: HostRuntime) {
+    play(&rt, &UNUSABLE);
 }
 
 static SHUT: [Step<'static>; 3] = [
@@ -236,23 +232,25 @@ static SHUT: [Step<'static>; 3] = [
 ];
 
 #[test]
-fn checks_into_a_full_writer(rt: HostRuntime) -> Result<(), Fail> {
-    play(&rt, &SHUT)?;
+fn checks_into_a_full_writer(rt: HostRuntime) {
+    play(&rt, &SHUT);
     let words = ["check", "missing.sdv", "full.cert"];
-    assert_eq!(rt; program(&rt, &words, &mut Full, &mut Full), 2);
-    Ok(())
+    let status = program(&rt, &words, &mut Full, &mut Full);
+    assert!(rt; status == 2);
 }
+
+// Words, and what the program prints in answer to them.
+static ANSWERED: [(&[&str], &str); 2] = [
+    (&["certify", "script"], CERTIFICATE),
+    (&["check", "script", "certificate"], "accepted 1\n"),
+];
 
 #[test]
 fn answers_from_texts_in_memory(rt: HostRuntime) {
-    let rows: [(&[&str], &str); 2] = [
-        (&["certify", "script"], CERTIFICATE),
-        (&["check", "script", "certificate"], "accepted 1\n"),
-    ];
-    for (words, printed) in rows {
+    for row in ANSWERED.iter() {
         let mut out = Vec::new(rt.alloc());
-        assert_eq!(rt; answer(rt.alloc(), &Pair, words, &mut out), Ok(()));
-        assert!(rt; out.as_slice() == printed.as_bytes(), "{printed}");
+        answer(rt.alloc(), &Pair, row.0, &mut out).expect(&rt, row.1);
+        compare(&rt, row.0, &out, &[Is(row.1)]);
     }
 }
 
@@ -268,17 +266,15 @@ static LIMITS: [(usize, bool, u64, Option<usize>); 6] = [
 
 #[test]
 fn reads_within_a_limit(rt: HostRuntime) {
-    for &(left, fails, limit, want) in LIMITS.iter() {
+    for row in LIMITS.iter() {
         let mut file = Slow {
-            left,
+            left: row.0,
             interrupted: false,
-            fails,
+            fails: row.1,
         };
-        let found = match bytes_within(rt.alloc(), limit, &mut file) {
-            Ok(found) => found.map(|bytes| bytes.len()),
-            Err(_) => Some(usize::MAX),
-        };
-        assert_eq!(rt; found, want, "at {left} within {limit}");
+        let found = bytes_within(rt.alloc(), row.2, &mut file).expect(&rt, "memory");
+        let count = found.map(|bytes| bytes.len());
+        assert_eq!(rt; count, row.3, "{row:?}");
     }
     let mut many: &[u8] = b"abcd";
     assert!(rt; matches!(bytes_within(rt.alloc(), 3, &mut many), Ok(None)));

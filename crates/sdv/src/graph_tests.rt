@@ -2,9 +2,8 @@
 use crate::testing::Piece::Text;
 use crate::testing::Step::{self, Call, Same, Shut, Store, Write};
 use crate::testing::Wanted::Is;
-use crate::testing::{BRING_UP, CERTIFICATE, ILLEGAL, SMALLEST, USAGE, play, write};
+use crate::testing::{BRING_UP, CERTIFICATE, ILLEGAL, SMALLEST, USAGE, call, play, same, write};
 use sdv_words::page::{HELP, VERSION, page_of, print_page};
-use std::test::Fail;
 
 const SMALLEST_DRAWN: &str = "digraph script {
     node [shape=box, fontname=\"monospace\"];
@@ -66,13 +65,11 @@ static SHOWN: [(&str, &str, u8, &str, &str); 6] = [
 ];
 
 #[test]
-fn shows_scripts(rt: HostRuntime) -> Result<(), Fail> {
-    for &(command, script, status, printed, said) in SHOWN.iter() {
-        write(&rt, "shown.sdv", &[Text(script)])?;
-        let step = Call(&[command, "shown.sdv"], status, &[Is(printed)], said);
-        play(&rt, &[step])?;
+fn shows_scripts(rt: HostRuntime) {
+    for row in SHOWN.iter() {
+        write(&rt, "shown.sdv", &[Text(row.1)]);
+        call(&rt, &[row.0, "shown.sdv"], row.2, &[Is(row.3)], row.4);
     }
-    Ok(())
 }
 
 // What is printed of a script has the script's certificate.
@@ -85,8 +82,8 @@ static PRINTED_AGAIN: [Step<'static>; 5] = [
 ];
 
 #[test]
-fn prints_the_same_script(rt: HostRuntime) -> Result<(), Fail> {
-    play(&rt, &PRINTED_AGAIN)
+fn prints_the_same_script(rt: HostRuntime) {
+    play(&rt, &PRINTED_AGAIN);
 }
 
 // Lines of one word, and lines that only look like one.
@@ -102,14 +99,14 @@ static PAGES: [Step<'static>; 8] = [
 ];
 
 #[test]
-fn answers_pages(rt: HostRuntime) -> Result<(), Fail> {
-    play(&rt, &PAGES)
+fn answers_pages(rt: HostRuntime) {
+    play(&rt, &PAGES);
 }
 
 #[test]
 fn finds_pages(rt: HostRuntime) {
-    assert_eq!(rt; page_of(&["--help"]), Some(HELP));
-    assert_eq!(rt; page_of(&["certify", "--help"]), None);
+    same(&rt, &page_of(&["--help"]), &Some(HELP));
+    same(&rt, &page_of(&["certify", "--help"]), &None);
     let mut out = Vec::new(rt.alloc());
     assert!(rt; print_page(VERSION, &mut out).is_ok());
     assert!(rt; out.as_slice() == VERSION.as_bytes());
@@ -135,8 +132,8 @@ static UNDRAWN: [Step<'static>; 6] = [
 ];
 
 #[test]
-fn draws_nothing_without_files(rt: HostRuntime) -> Result<(), Fail> {
-    play(&rt, &UNDRAWN)
+fn draws_nothing_without_files(rt: HostRuntime) {
+    play(&rt, &UNDRAWN);
 }
 
 // No file is written under the name of standard input.
@@ -161,6 +158,6 @@ static DASH: [Step<'static>; 4] = [
 ];
 
 #[test]
-fn writes_to_no_dash(rt: HostRuntime) -> Result<(), Fail> {
-    play(&rt, &DASH)
+fn writes_to_no_dash(rt: HostRuntime) {
+    play(&rt, &DASH);
 }

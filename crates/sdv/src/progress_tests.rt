@@ -3,7 +3,6 @@ use sdv_words::progress::{Below, Counted, Progress};
 use std::cell::Cell;
 use std::io::{self, Write};
 use std::process::Abort;
-use std::test::Fail;
 use std::time::{Clock, Duration};
 
 /// A clock that goes on by so many milliseconds at each look.
@@ -25,29 +24,25 @@ impl Clock for Ticking {
 }
 
 /// Three lines go out, and then one to standard error.
-fn write_lines<R: AllocGlobal + Abort, E: Write>(
-    rt: &R,
-    progress: &Progress<'_, E, Ticking>,
-) -> io::Result<()> {
+fn write_lines<R: AllocGlobal + Abort, E: Write>(rt: &R, progress: &Progress<'_, E, Ticking>) {
     let mut out = Counted {
         inner: Vec::new(rt.alloc()),
         progress,
     };
     for line in [b"CMD0 00000000 -\n".as_slice(), b"a\n", b"done\n"] {
-        out.write_all(line)?;
+        out.write_all(line).expect(rt, "a vector");
     }
     assert!(rt; out.inner.as_slice() == b"CMD0 00000000 -\na\ndone\n".as_slice());
     let mut err = Below {
         inner: Vec::new(rt.alloc()),
         progress,
     };
-    err.write_all(b"said\n")?;
+    err.write_all(b"said\n").expect(rt, "a vector");
     assert!(rt; err.inner.as_slice() == b"said\n".as_slice());
-    Ok(())
 }
 
 #[test]
-fn shows_how_many_lines_went_out(rt: HostRuntime) -> Result<(), Fail> {
+fn shows_how_many_lines_went_out(rt: HostRuntime) {
     // at 100 milliseconds a look, and at 40
     let rows: [(u64, &[u8]); 2] = [(100, b"\r2 lines\x1b[K\r3 lines\x1b[K\r\x1b[K"), (40, b"")];
     for (step, wanted) in rows {
@@ -57,11 +52,10 @@ fn shows_how_many_lines_went_out(rt: HostRuntime) -> Result<(), Fail> {
         };
         let mut shown = Vec::new(rt.alloc());
         let progress = Progress::new(Some(&mut shown), &clock);
-        write_lines(&rt, &progress)?;
+        write_lines(&rt, &progress);
         drop(progress);
         assert!(rt; shown.as_slice() == wanted, "{step}");
         let nowhere: Progress<'_, Vec<u8>, Ticking> = Progress::new(None, &clock);
-        write_lines(&rt, &nowhere)?;
+        write_lines(&rt, &nowhere);
     }
-    Ok(())
 }

@@ -5,7 +5,6 @@ use crate::testing::Wanted::{Ends, Has, Is};
 use crate::testing::{
     BRING_UP, CERTIFICATE, DEVICE_TO_TRANSFER, TO_TRANSFER, USAGE, call, play, store, write,
 };
-use std::test::Fail;
 
 /// An SD card of 1,024 blocks, with block addresses.
 const BLOCK_CARD: &str = "card sd\nversion 2\nunit block\ncsize 0\nrca 4660\n";
@@ -160,23 +159,22 @@ static RUNS: [(&[Piece<'static>], &str, &str, &str, u8, &str, &str); 9] = [
 ];
 
 #[test]
-fn runs_beside_cards(rt: HostRuntime) -> Result<(), Fail> {
-    for &(script, card, image, schedule, status, printed, said) in RUNS.iter() {
-        write(&rt, "run.sdv", script)?;
-        store(&rt, CERTIFY, "run.cert")?;
-        write(&rt, "run.card", &[Text(card)])?;
-        write(&rt, "run.schedule", &[Text(schedule)])?;
+fn runs_beside_cards(rt: HostRuntime) {
+    for row in RUNS.iter() {
+        write(&rt, "run.sdv", row.0);
+        store(&rt, CERTIFY, "run.cert");
+        write(&rt, "run.card", &[Text(row.1)]);
+        write(&rt, "run.schedule", &[Text(row.3)]);
         let words = [
             "run",
             "run.sdv",
             "run.cert",
             "run.card",
-            image,
+            row.2,
             "run.schedule",
         ];
-        call(&rt, &words, status, &[Is(printed)], said)?;
+        call(&rt, &words, row.4, &[Is(row.5)], row.6);
     }
-    Ok(())
 }
 
 const CERTIFY: &[&str] = &["certify", "run.sdv"];
@@ -236,8 +234,8 @@ static READS: [Step<'static>; 8] = [
 ];
 
 #[test]
-fn reads_images(rt: HostRuntime) -> Result<(), Fail> {
-    play(&rt, &READS)
+fn reads_images(rt: HostRuntime) {
+    play(&rt, &READS);
 }
 
 static WRITES: [Step<'static>; 7] = [
@@ -258,8 +256,8 @@ static WRITES: [Step<'static>; 7] = [
 ];
 
 #[test]
-fn writes_images(rt: HostRuntime) -> Result<(), Fail> {
-    play(&rt, &WRITES)
+fn writes_images(rt: HostRuntime) {
+    play(&rt, &WRITES);
 }
 
 // Images of as many blocks as the card has, and files that are none.
@@ -287,8 +285,8 @@ static IMAGES: [Step<'static>; 20] = [
 ];
 
 #[test]
-fn takes_image_files(rt: HostRuntime) -> Result<(), Fail> {
-    play(&rt, &IMAGES)
+fn takes_image_files(rt: HostRuntime) {
+    play(&rt, &IMAGES);
 }
 
 const FORTY: Piece<'static> = Blocks(&[
@@ -317,8 +315,8 @@ static LONG_TRANSFER: [Step<'static>; 8] = [
 ];
 
 #[test]
-fn stores_long_transfers(rt: HostRuntime) -> Result<(), Fail> {
-    play(&rt, &LONG_TRANSFER)
+fn stores_long_transfers(rt: HostRuntime) {
+    play(&rt, &LONG_TRANSFER);
 }
 
 // A device goes to eight data lines, and fails to do so where the schedule says it.
@@ -353,8 +351,8 @@ static SWITCHES: [Step<'static>; 6] = [
 ];
 
 #[test]
-fn switches_data_lines(rt: HostRuntime) -> Result<(), Fail> {
-    play(&rt, &SWITCHES)
+fn switches_data_lines(rt: HostRuntime) {
+    play(&rt, &SWITCHES);
 }
 
 // Inputs that are no blocks, or none, or two.
@@ -388,8 +386,8 @@ static INPUTS: [Step<'static>; 7] = [
 ];
 
 #[test]
-fn refuses_inputs(rt: HostRuntime) -> Result<(), Fail> {
-    play(&rt, &INPUTS)
+fn refuses_inputs(rt: HostRuntime) {
+    play(&rt, &INPUTS);
 }
 
 // The output is emptied whatever comes of the script.
@@ -409,8 +407,8 @@ static OUTPUTS: [Step<'static>; 5] = [
 ];
 
 #[test]
-fn empties_the_output(rt: HostRuntime) -> Result<(), Fail> {
-    play(&rt, &OUTPUTS)
+fn empties_the_output(rt: HostRuntime) {
+    play(&rt, &OUTPUTS);
 }
 
 static NO_COUNT: [Step<'static>; 4] = [
@@ -428,6 +426,6 @@ static NO_COUNT: [Step<'static>; 4] = [
 ];
 
 #[test]
-fn names_no_file_new(rt: HostRuntime) -> Result<(), Fail> {
-    play(&rt, &NO_COUNT)
+fn names_no_file_new(rt: HostRuntime) {
+    play(&rt, &NO_COUNT);
 }

@@ -1,12 +1,11 @@
 //! The program on the words of a process.
 use crate::testing::Piece::Text;
-use crate::testing::{USAGE, write};
+use crate::testing::{USAGE, same, write};
 use sdv_words::start::start;
 use std::io::{self, ErrorKind};
 use std::process::Abort;
 use std::rt::Files;
 use std::str;
-use std::test::Fail;
 
 fn expect_start<R: Files + AllocGlobal + Abort>(
     rt: &R,
@@ -17,17 +16,18 @@ fn expect_start<R: Files + AllocGlobal + Abort>(
 ) {
     let mut out = Vec::new(rt.alloc());
     let mut err = Vec::new(rt.alloc());
-    assert_eq!(rt; start(rt, words, &mut out, &mut err), status, "{said}");
-    assert_eq!(rt; str::from_utf8(&out), Ok(printed), "{said}");
-    assert_eq!(rt; str::from_utf8(&err), Ok(said));
+    same(rt, &start(rt, words, &mut out, &mut err), &status);
+    same(rt, &str::from_utf8(&out), &Ok(printed));
+    same(rt, &str::from_utf8(&err), &Ok(said));
 }
 
-fn owned<R: AllocGlobal>(rt: &R, words: &[&str]) -> Result<Vec<String>, Fail> {
+fn owned<R: AllocGlobal + Abort>(rt: &R, words: &[&str]) -> Vec<String> {
     let mut all = Vec::new(rt.alloc());
     for word in words {
-        all.push(String::from_str(rt.alloc(), word)?)?;
+        let word = String::from_str(rt.alloc(), word).expect(rt, "memory");
+        all.push(word).expect(rt, "memory");
     }
-    Ok(all)
+    all
 }
 
 // Words of a process, and the status, what is printed, and what is said.
@@ -45,12 +45,12 @@ static STARTS: [(&[&str], u8, &str, &str); 5] = [
 ];
 
 #[test]
-fn starts_on_words(rt: HostRuntime) -> Result<(), Fail> {
-    write(&rt, "started.sdv", &[Text("card sd\ndone\n")])?;
-    for &(words, status, printed, said) in STARTS.iter() {
-        expect_start(&rt, Ok(owned(&rt, words)?), status, printed, said);
+fn starts_on_words(rt: HostRuntime) {
+    write(&rt, "started.sdv", &[Text("card sd\ndone\n")]);
+    for row in STARTS.iter() {
+        let words = owned(&rt, row.0);
+        expect_start(&rt, Ok(words), row.1, row.2, row.3);
     }
-    Ok(())
 }
 
 // Why the words of a process cannot be had, and the status, and what is said.
@@ -61,7 +61,8 @@ static UNREAD: [(ErrorKind, u8, &str); 2] = [
 
 #[test]
 fn starts_on_no_words(rt: HostRuntime) {
-    for &(kind, status, said) in UNREAD.iter() {
-        expect_start(&rt, Err(io::Error::from(kind)), status, "", said);
+    for row in UNREAD.iter() {
+        let error = io::Error::from(row.0);
+        expect_start(&rt, Err(error), row.1, "", row.2);
     }
 }

@@ -1,10 +1,10 @@
 //! Tests as lists of steps: files are written, the program is called, and what comes of it is compared.
 use sdv_words::program::program;
 use std::alloc::{AllocError, Global};
+use std::fmt::Debug;
 use std::io::{self, Write};
 use std::process::Abort;
 use std::rt::Files;
-use std::test::Fail;
 use std::{fs, str};
 
 /// The smallest script.
@@ -124,23 +124,27 @@ impl Write for Full {
     }
 }
 
-/// Takes steps, one after another.
-pub fn play<R: Files + AllocGlobal + Abort>(rt: &R, steps: &[Step<'_>]) -> Result<(), Fail> {
-    for step in steps {
-        take(rt, step)?;
-    }
-    Ok(())
+/// Stops the test where what was found is not what is wanted.
+pub fn same<T: PartialEq + Debug, R: Abort>(rt: &R, found: &T, wanted: &T) {
+    assert_eq!(rt; found, wanted);
 }
 
-fn take<R: Files + AllocGlobal + Abort>(rt: &R, step: &Step<'_>) -> Result<(), Fail> {
+/// Takes steps, one after another.
+pub fn play<R: Files + AllocGlobal + Abort>(rt: &R, steps: &[Step<'_>]) {
+    for step in steps {
+        take(rt, step);
+    }
+}
+
+fn take<R: Files + AllocGlobal + Abort>(rt: &R, step: &Step<'_>) {
     match *step {
         Step::Write(file, pieces) => write(rt, file, pieces),
-        Step::Remove(file) => Ok(fs::remove_file(rt, file)?),
-        Step::Folder(name) => Ok(fs::create_dir(rt, name)?),
-        Step::RemoveFolder(name) => Ok(fs::remove_dir(rt, name)?),
+        Step::Remove(file) => fs::remove_file(rt, file).expect(rt, file),
+        Step::Folder(name) => fs::create_dir(rt, name).expect(rt, name),
+        Step::RemoveFolder(name) => fs::remove_dir(rt, name).expect(rt, name),
         Step::Replace(file, from, to) => replace(rt, file, from, to),
         Step::Holds(file, pieces) => holds(rt, file, pieces),
-        Step::Same(one, other) => same(rt, one, other),
+        Step::Same(one, other) => same_files(rt, one, other),
         Step::Call(words, status, wanted, said) => call(rt, words, status, wanted, said),
         Step::Store(words, file) => store(rt, words, file),
         Step::Shut(words) => shut(rt, words),
@@ -172,56 +176,39 @@ fn put_blocks(bytes: &mut Vec<u8>, numbers: &[u8]) -> Result<(), AllocError> {
     Ok(())
 }
 
-fn bytes_of(alloc: Global, pieces: &[Piece<'_>]) -> Result<Vec<u8>, AllocError> {
+fn bytes_of<R: Abort>(rt: &R, alloc: Global, pieces: &[Piece<'_>]) -> Vec<u8> {
     let mut bytes = Vec::new(alloc);
     for piece in pieces {
-        put(&mut bytes, *piece)?;
+        put(&mut bytes, *piece).expect(rt, "memory");
     }
-    Ok(bytes)
+    bytes
 }
 
 /// Writes a file of these pieces.
-pub fn write<R: Files + AllocGlobal + Abort>(
-    rt: &R,
-    file: &str,
-    pieces: &[Piece<'_>],
-) -> Result<(), Fail> {
-    let bytes = bytes_of(rt.alloc(), pieces)?;
-    Ok(fs::write(rt, file, bytes.as_slice())?)
+pub fn write<R: Files + AllocGlobal + Abort>(rt: &R, file: &str, pieces: &[Piece<'_>]) {
+    let bytes = bytes_of(rt, rt.alloc(), pieces);
+    fs::write(rt, file, bytes.as_slice()).expect(rt, file);
 }
 
-fn replace<R: Files + AllocGlobal + Abort>(
-    rt: &R,
-    file: &str,
-    from: &str,
-    to: &str,
-) -> Result<(), Fail> {
-    let text = String::from_utf8(fs::read(rt, file)?)?;
-    assert_eq!(rt; text.matches(from).count(), 1, "{from}");
-    let replaced = text.replace(rt.alloc(), from, to)?;
-    Ok(fs::write(rt, file, replaced.as_str())?)
+fn replace<R: Files + AllocGlobal + Abort>(rt: &R, file: &str, from: &str, to: &str) {
+    let bytes = fs::read(rt, file).expect(rt, file);
+    let text = String::from_utf8(bytes).expect(rt, file);
+    assert!(rt; text.matches(from).count() == 1, "{from}");
+    let replaced = text.replace(rt.alloc(), from, to).expect(rt, "memory");
+    fs::write(rt, file, replaced.as_str()).expect(rt, file);
 }
 
-fn holds<R: Files + AllocGlobal + Abort>(
-    rt: &R,
-    file: &str,
-    pieces: &[Piece<'_>],
-) -> Result<(), Fail> {
-    let bytes = bytes_of(rt.alloc(), pieces)?;
-    assert!(rt;
-        fs::read(rt, file)?.as_slice() == bytes.as_slice(),
-        "{file}"
-    );
-    Ok(())
+fn has_bytes<R: Files + AllocGlobal + Abort>(rt: &R, file: &str, wanted: &[u8]) {
+    let bytes = fs::read(rt, file).expect(rt, file);
+    assert!(rt; bytes.as_slice() == wanted, "{file}");
 }
 
-fn same<R: Files + AllocGlobal + Abort>(rt: &R, one: &str, other: &str) -> Result<(), Fail> {
-    let bytes = fs::read(rt, one)?;
-    assert!(rt;
-        fs::read(rt, other)?.as_slice() == bytes.as_slice(),
-        "{one} {other}"
-    );
-    Ok(())
+fn holds<R: Files + AllocGlobal + Abort>(rt: &R, file: &str, pieces: &[Piece<'_>]) {
+    has_bytes(rt, file, &bytes_of(rt, rt.alloc(), pieces));
+}
+
+fn same_files<R: Files + AllocGlobal + Abort>(rt: &R, one: &str, other: &str) {
+    has_bytes(rt, other, &fs::read(rt, one).expect(rt, one));
 }
 
 fn is_wanted(text: &str, wanted: Wanted<'_>) -> bool {
@@ -234,10 +221,24 @@ fn is_wanted(text: &str, wanted: Wanted<'_>) -> bool {
     }
 }
 
-fn compare<R: Abort>(rt: &R, text: &str, wanted: &[Wanted<'_>]) {
+/// Compares what the program printed in answer to words with all that is wanted of it.
+pub fn compare<R: Abort>(rt: &R, words: &[&str], printed: &[u8], wanted: &[Wanted<'_>]) {
+    let text = str::from_utf8(printed).expect(rt, "a text");
     for part in wanted {
-        assert!(rt; is_wanted(text, *part), "{text}");
+        assert!(rt; is_wanted(text, *part), "{words:?}: {text}");
     }
+}
+
+/// Calls the program with words that it has to answer with a status.
+fn answer<R: Files + AllocGlobal + Abort, O: Write, E: Write>(
+    rt: &R,
+    words: &[&str],
+    status: u8,
+    out: &mut O,
+    err: &mut E,
+) {
+    let found = program(rt, words, out, err);
+    assert_eq!(rt; found, status, "{words:?}");
 }
 
 /// Calls the program with words, and compares its status, what it prints, and all that it says on standard error.
@@ -247,41 +248,30 @@ pub fn call<R: Files + AllocGlobal + Abort>(
     status: u8,
     wanted: &[Wanted<'_>],
     said: &str,
-) -> Result<(), Fail> {
+) {
     let mut out = Vec::new(rt.alloc());
     let mut err = Vec::new(rt.alloc());
-    assert_eq!(rt; program(rt, words, &mut out, &mut err), status, "{words:?}");
-    assert_eq!(rt; str::from_utf8(&err), Ok(said), "{words:?}");
-    compare(rt, str::from_utf8(&out)?, wanted);
-    Ok(())
+    answer(rt, words, status, &mut out, &mut err);
+    compare(rt, words, &err, &[Wanted::Is(said)]);
+    compare(rt, words, &out, wanted);
 }
 
 /// Calls the program with words that it answers with status 0, and stores what it prints in a file.
-pub fn store<R: Files + AllocGlobal + Abort>(
-    rt: &R,
-    words: &[&str],
-    file: &str,
-) -> Result<(), Fail> {
+pub fn store<R: Files + AllocGlobal + Abort>(rt: &R, words: &[&str], file: &str) {
     let mut out = Vec::new(rt.alloc());
     let mut err = Vec::new(rt.alloc());
-    assert_eq!(rt; program(rt, words, &mut out, &mut err), 0, "{words:?}");
-    assert!(rt; err.is_empty(), "{words:?}");
-    Ok(fs::write(rt, file, out.as_slice())?)
+    answer(rt, words, 0, &mut out, &mut err);
+    compare(rt, words, &err, &[Wanted::Is("")]);
+    fs::write(rt, file, out.as_slice()).expect(rt, file);
 }
 
-fn shut<R: Files + AllocGlobal + Abort>(rt: &R, words: &[&str]) -> Result<(), Fail> {
+fn shut<R: Files + AllocGlobal + Abort>(rt: &R, words: &[&str]) {
     let mut err = Vec::new(rt.alloc());
-    assert_eq!(rt; program(rt, words, &mut Full, &mut err), 2, "{words:?}");
-    assert!(rt; err.is_empty(), "{words:?}");
-    Ok(())
+    answer(rt, words, 2, &mut Full, &mut err);
+    compare(rt, words, &err, &[Wanted::Is("")]);
 }
 
-fn mute<R: Files + AllocGlobal + Abort>(rt: &R, words: &[&str], status: u8) -> Result<(), Fail> {
+fn mute<R: Files + AllocGlobal + Abort>(rt: &R, words: &[&str], status: u8) {
     let mut out = Vec::new(rt.alloc());
-    assert_eq!(rt;
-        program(rt, words, &mut out, &mut Full),
-        status,
-        "{words:?}"
-    );
-    Ok(())
+    answer(rt, words, status, &mut out, &mut Full);
 }

@@ -1,14 +1,13 @@
 //! The program over writers in memory, and over one that takes nothing.
 use crate::testing::Step::{self, Call, Mute, Shut};
 use crate::testing::Wanted::{Has, Is, Starts};
-use crate::testing::{USAGE, call, play};
+use crate::testing::{USAGE, call, play, same};
 use sdv_faults::Fault;
 use sdv_frames::Command;
 use sdv_line::{Line, LineFault, line_of, number_of};
 use sdv_run::RunFault;
 use sdv_sim::SimFault;
 use sdv_words::frame::{command_of, write_frame};
-use std::test::Fail;
 
 static FRAMES: [Step<'static>; 7] = [
     Call(&["frame", "0", "0"], 0, &[Is("40 00 00 00 00 95\n")], ""),
@@ -36,8 +35,8 @@ static FRAMES: [Step<'static>; 7] = [
 ];
 
 #[test]
-fn prints_frames(rt: HostRuntime) -> Result<(), Fail> {
-    play(&rt, &FRAMES)
+fn prints_frames(rt: HostRuntime) {
+    play(&rt, &FRAMES);
 }
 
 static BATCHES: [Step<'static>; 4] = [
@@ -69,8 +68,8 @@ static BATCHES: [Step<'static>; 4] = [
 ];
 
 #[test]
-fn prints_batches(rt: HostRuntime) -> Result<(), Fail> {
-    play(&rt, &BATCHES)
+fn prints_batches(rt: HostRuntime) {
+    play(&rt, &BATCHES);
 }
 
 // Words that are no line of the program.
@@ -108,11 +107,10 @@ static OTHER_WORDS: [&[&str]; 30] = [
 ];
 
 #[test]
-fn refuses_other_words(rt: HostRuntime) -> Result<(), Fail> {
+fn refuses_other_words(rt: HostRuntime) {
     for words in OTHER_WORDS.iter() {
-        call(&rt, words, 2, &[Is("")], USAGE)?;
+        call(&rt, words, 2, &[Is("")], USAGE);
     }
-    Ok(())
 }
 
 #[test]
@@ -122,18 +120,16 @@ fn reads_a_line(rt: HostRuntime) {
         argument: "0xFFffFFff",
     };
     let words = ["frame", "63", "0xFFffFFff"];
-    assert_eq!(rt; line_of(rt.alloc(), &words), Ok(line));
-    assert_eq!(rt;
-        line_of(rt.alloc(), &["frame", "63"]),
-        Err(LineFault::Usage)
-    );
-    assert_eq!(rt; number_of("0xFFffFFff"), Some(u32::MAX));
-    assert_eq!(rt; number_of("0007"), Some(7));
+    same(&rt, &line_of(rt.alloc(), &words), &Ok(line));
+    let usage = line_of(rt.alloc(), &["frame", "63"]);
+    same(&rt, &usage, &Err(LineFault::Usage));
+    same(&rt, &number_of("0xFFffFFff"), &Some(u32::MAX));
+    same(&rt, &number_of("0007"), &Some(7));
     let command = Command {
         index: 63,
         argument: u32::MAX,
     };
-    assert_eq!(rt; command_of("63", "0xFFffFFff"), Some(command));
+    same(&rt, &command_of("63", "0xFFffFFff"), &Some(command));
     let mut out = Vec::new(rt.alloc());
     assert!(rt; write_frame(command, &mut out).is_ok());
     assert!(rt; out.as_slice() == b"7f ff ff ff ff 19\n".as_slice());
@@ -156,14 +152,15 @@ static FAULTS: [(Fault<'static>, u8, &str); 8] = [
 ];
 
 #[test]
-fn names_faults(rt: HostRuntime) -> Result<(), Fail> {
+fn names_faults(rt: HostRuntime) {
     let alloc = rt.alloc();
-    assert!(rt; LineFault::Usage.to_string(alloc)?.as_str() == USAGE.trim_end());
-    assert!(rt; LineFault::Memory.to_string(alloc)?.as_str() == "out of memory");
-    for (fault, status, line) in FAULTS.iter() {
+    let usage = LineFault::Usage.to_string(alloc).expect(&rt, "memory");
+    assert!(rt; usage.as_str() == USAGE.trim_end());
+    let memory = LineFault::Memory.to_string(alloc).expect(&rt, "memory");
+    assert!(rt; memory.as_str() == "out of memory");
+    for row in FAULTS.iter() {
         let mut err = Vec::new(alloc);
-        assert_eq!(rt; fault.report(&mut err), *status);
-        assert!(rt; err.as_slice() == line.as_bytes(), "at {line}");
+        same(&rt, &row.0.report(&mut err), &row.1);
+        assert!(rt; err.as_slice() == row.2.as_bytes(), "at {}", row.2);
     }
-    Ok(())
 }
