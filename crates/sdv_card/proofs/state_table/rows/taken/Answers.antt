@@ -30,3 +30,6 @@ returns-after-high_capacity g c = search rules
 
 pub returns-in_default-row : goal.returns-in_default-row
 returns-in_default-row g c = search rules
+
+pub returns-in-Cmd6 : goal.returns-in-Cmd6
+returns-in-Cmd6 g c = search rules

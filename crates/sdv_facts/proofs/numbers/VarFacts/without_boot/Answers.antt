@@ -1,0 +1,5 @@
+use Rattle.std.proofs.Common.{rules}
+use Rattle.sdv_facts.proofs.numbers.VarFacts.without_boot.Goals as goal
+
+pub returns : goal.returns
+returns c = search rules
