@@ -1,4 +1,4 @@
-use Rattle.std.proofs.Common.{◌∙◌, sym, arith}
+use Rattle.std.proofs.Common.{rules, ◌∙◌, sym, arith}
 use Rattle.sdv_file_image.proofs.CleanLaws.{clean_more, shown_clean}
 use Rattle.sdv_file_image.proofs.file_image.FileImage.write_all_back.Goals as goal
 
@@ -17,3 +17,6 @@ pub returns-clause-written : goal.returns-clause-written
 returns-clause-written g c =
     let inv = c.loop-index.invariant in
     sym (shown_clean _ _ _ c.loop-index.self.sound (λ i place within changed. inv.written i place (omega (arith, within)) changed)) ∙ inv.shown
+
+pub loop-index-init : goal.loop-index-init
+loop-index-init g c = search rules
