@@ -9,11 +9,11 @@ use Rattle.sdv_script.specs.declared.keyword.Keyword.TheVariants as word
 use Rattle.sdv_script.specs.declared.depth.Depth.{Depth}
 use Rattle.sdv_script.specs.Tokens.{Token, Key}
 use Rattle.sdv_script.specs.declared.blocks.Guarded.{Guarded as Case}
-use Rattle.sdv_graph.specs.Tree.{Declared, statements_of, Ways, way, Guarded, before}
+use Rattle.sdv_graph.specs.Tree.{Declared, Statements, statements_of, Ways, otherwise, way, Guarded, before}
 use Rattle.sdv_script.specs.GuardedOf.{guarded_of}
 use Rattle.sdv_script.specs.declared.fault.Stop.{Stop}
 use Rattle.sdv_script.specs.declared.fault.Stop.TheVariants as stop
-use Rattle.sdv_script.specs.Reading.{Fails, Progress, progress_to, Reading, Blocks, WaysOf, after_else, read_case, last_way, next_way, more_ways, read_statements, read_ways}
+use Rattle.sdv_script.specs.Reading.{Fails, Progress, progress_to, Reading, Blocks, WaysOf, after_else, read_block, read_case, last_way, next_way, more_ways, read_statements, read_ways}
 use Rattle.sdv_script.proofs.LevelLaws.{ways_more, ways_none}
 
 abbrev pub ahead : List Guarded → Reading Ways → Reading Ways
@@ -74,6 +74,17 @@ ahead_goes_on cs c n m names depth order at after same none e =
     ahead_more cs c (read_ways m names depth order after)
     ∙ ap (λ (r : Reading Ways). ahead cs r) (sym (ways_go_on n m names depth order at same none
     ∙ case_read (read_statements m names) (read_ways m names) depth order at after c e))
+
+-- the block of the last case is read
+pub last_read : (blocks : Blocks) (depth : Depth) (at after : Progress) (b : Statements) → read_block blocks depth at ≡ Some (b, after)
+    → last_way blocks depth at ≡ Some (otherwise b, after)
+last_read blocks depth at after b e = rw e refl
+
+-- nothing is read where the block of the last case is none
+pub last_stops : (stopped : Stop) (blocks : Blocks) (depth : Depth) (at : Progress) → Fails stopped (read_block blocks depth at)
+    → Fails stopped (last_way blocks depth at)
+last_stops stop.Memory blocks depth at fails = tt
+last_stops (stop.Fault what) blocks depth at fails = rw fails refl
 
 -- the last case is read, and stands behind those that were read
 pub ahead_ends : (cs : List Guarded) (n m : ℕ) (names : Declared) (depth : Depth) (order : Option Order) (at next after : Progress) (w all : Ways) → n ≡ suc m

@@ -5,6 +5,7 @@ pub mod AskLaws
 pub mod CaseLaws
 pub mod CommandAsks
 pub mod GuardLaws
+pub mod HeadLaws
 pub mod LevelLaws
 pub mod NameLaws
 mod OneGraph

@@ -3,6 +3,8 @@ pub mod Commands
 pub mod Faults
 pub mod Grammar
 pub mod GuardedOf
+pub mod HeadOf
+pub mod Heads
 pub mod InRow
 pub mod Refusal
 pub mod Keywords

@@ -8,27 +8,21 @@ ghost use Rattle.sdv_script.specs.Place.{tokens_at, names_of, progress_of};
 ghost use Rattle.sdv_graph.specs.Tree.{nothing, statements_of, ways_of, statement_of, before};
 ghost use Rattle.sdv_script.specs.InRow.{in_row};
 ghost use Rattle.sdv_script.specs.GuardedOf.{guarded_of};
-ghost use Rattle.sdv_script.specs.Reading.{Gives, begins, starts, closes, last_way, read_case, read_statement, read_after, read_if, read_plain};
-ghost use Rattle.sdv_script.specs.Reading.{read_send, read_phase, read_loop, read_branches, read_block, read_statements, read_ways};
+ghost use Rattle.sdv_script.specs.Heads.{before_brace, read_sent, read_forked};
+ghost use Rattle.sdv_script.specs.Reading.{Gives, closes, read_case, read_statement, read_branches, read_block};
+ghost use Rattle.sdv_script.specs.Reading.{read_statements, read_ways};
 
-use crate::commands::command;
 use crate::cursor::Cursor;
 use crate::depth::Depth;
-use crate::expect::{after_else, close_brace, count, else_word, flag, ok_word, open_brace};
+use crate::expect::{after_else, close_brace, else_word, open_brace};
 use crate::fault::{FaultKind, Stop};
 use crate::guards::guard_list;
-use crate::keyword::Keyword;
+use crate::heads::{Fork, Head, statement_head};
 use crate::progress::Progress;
-use crate::settings::width;
 use crate::token::{Sign, Token};
-use crate::values::{condition, fault_name, receive, setting};
-use sdv_card::state_table::order;
 use sdv_card::{Guard, Order};
-use sdv_graph::{Block, Cases, MAX_STATEMENTS, Names, Phase, Stmt};
+use sdv_graph::{Block, Cases, Names, ScriptCommand, Stmt};
 use std::alloc::{AllocError, Global};
-
-/// A statement stands in at most so many loops' bodies.
-pub const MAX_LOOPS: usize = 4;
 
 /// Statements, up to what can begin none. Several thousand may stand in a row, too many for a recursion.
 #[cycle(blocks)]
@@ -75,6 +69,7 @@ fn is_closed(at: Cursor<'_>) -> bool
 }
 
 #[cycle(blocks)]
+#[tactic(auto, using(crate::proofs::HeadLaws::statement_steps))]
 fn statement<'a>(
     alloc: Global,
     names: &Names<'a>,
@@ -86,199 +81,52 @@ fn statement<'a>(
         (read_statement (read_statements left names) (read_ways left names) names depth
         (tokens_at from.entry.at) from.entry.begun) }
 {
-    let Token::Key(keyword) = from.at.token else {
-        return Err(Stop::Fault(from.at.fault(FaultKind::Syntax)));
-    };
-    if !may_start(keyword, depth) {
-        return Err(Stop::Fault(from.at.fault(FaultKind::Syntax)));
-    }
-    if from.begun >= MAX_STATEMENTS {
-        return Err(Stop::Fault(from.at.fault(FaultKind::Limit)));
-    }
-    let next = Progress {
-        at: from.at.next(),
-        begun: from.begun + 1,
-    };
-    after_word(alloc, names, left, depth, keyword, from.at, next)
-}
-
-// A statement after its first word, which stands at a place that is given too.
-#[cycle(blocks)]
-fn after_word<'a>(
-    alloc: Global,
-    names: &Names<'a>,
-    left: usize,
-    depth: Depth,
-    keyword: Keyword,
-    word: Cursor<'a>,
-    from: Progress<'a>,
-) -> Result<(Stmt<'a>, Progress<'a>), Stop>
-    ensures { let names = names_of names.now in Gives (λ x. (statement_of x.0, progress_of x.1)) result
-        (read_after (read_statements left names) (read_ways left names) names depth keyword (progress_of from.entry)) }
-{
-    match keyword {
-        Keyword::Send => send(alloc, names, left, depth, from),
-        Keyword::Recv => {
-            let (phase, at) = receive(from.at);
-            ends(alloc, names, left, depth, phase, from.to(at))
+    let (head, from) = statement_head(names, depth, from)?;
+    match head {
+        Head::Plain(stmt) => Ok((stmt, from)),
+        Head::Send(command, order, inside) => {
+            let (cases, from) = ways(alloc, names, left, inside, order, from)?;
+            sent(command, cases, from)
         }
-        Keyword::Give => ends(alloc, names, left, depth, Phase::GiveBlocks, from),
-        Keyword::Wait => ends(alloc, names, left, depth, Phase::Wait, from),
-        Keyword::If => choice(alloc, names, left, depth, from),
-        Keyword::Loop => turns(alloc, names, left, depth, word, from),
-        _ => plain_statement(names, keyword, word, from),
+        Head::Fork(fork, inside, depth) => {
+            let (first, second, from) = branches(alloc, names, left, inside, depth, from)?;
+            forked(fork, first, second, from)
+        }
     }
 }
 
-// A statement without blocks, after its first word, which stands at a place that is given too.
-fn plain_statement<'a>(
-    names: &Names<'a>,
-    keyword: Keyword,
-    word: Cursor<'a>,
+// A command with its cases, behind which `}` is to stand.
+fn sent<'a>(
+    command: ScriptCommand,
+    cases: Cases<'a>,
     from: Progress<'a>,
 ) -> Result<(Stmt<'a>, Progress<'a>), Stop>
     ensures { Gives (λ x. (statement_of x.0, progress_of x.1)) result
-        (read_plain (names_of names.now) keyword (progress_of from.entry)) }
+        (read_sent command (ways_of cases.entry) (progress_of from.entry)) }
 {
-    match keyword {
-        Keyword::Let => {
-            let (setting, at) = setting(names, from.at)?;
-            Ok((Stmt::Let(setting), from.to(at)))
-        }
-        Keyword::Set => {
-            let (f, at) = flag(names, from.at, FaultKind::Syntax)?;
-            Ok((Stmt::Set(f), from.to(at)))
-        }
-        Keyword::Clear => {
-            let (f, at) = flag(names, from.at, FaultKind::Syntax)?;
-            Ok((Stmt::Clear(f), from.to(at)))
-        }
-        Keyword::BusLines => {
-            let (width, at) = width(names.kind, from.at, FaultKind::Syntax)?;
-            Ok((Stmt::BusLines(width), from.to(at)))
-        }
-        Keyword::Break => Ok((Stmt::Break, from)),
-        Keyword::Done => Ok((Stmt::Done, from)),
-        Keyword::Fault => {
-            let (name, at) = fault_name(from.at)?;
-            Ok((Stmt::Fault(name), from.to(at)))
-        }
-        _ => Err(Stop::Fault(word.fault(FaultKind::Syntax))),
-    }
-}
-
-// A statement may start with the word here.
-fn may_start(keyword: Keyword, depth: Depth) -> bool
-    ensures { result ≡ starts keyword depth }
-{
-    match keyword {
-        Keyword::Break => depth.loops > 0,
-        _ => is_first_word(keyword),
-    }
-}
-
-/// A statement may start with the word.
-pub fn is_first_word(keyword: Keyword) -> bool
-    ensures { result ≡ begins keyword }
-{
-    matches!(
-        keyword,
-        Keyword::Send
-            | Keyword::Recv
-            | Keyword::Give
-            | Keyword::Wait
-            | Keyword::Let
-            | Keyword::If
-            | Keyword::Set
-            | Keyword::Clear
-            | Keyword::BusLines
-            | Keyword::Loop
-            | Keyword::Break
-            | Keyword::Done
-            | Keyword::Fault
-    )
-}
-
-// A command, and what its answers lead to.
-#[cycle(blocks)]
-fn send<'a>(
-    alloc: Global,
-    names: &Names<'a>,
-    left: usize,
-    depth: Depth,
-    from: Progress<'a>,
-) -> Result<(Stmt<'a>, Progress<'a>), Stop>
-    ensures { let names = names_of names.now in Gives (λ x. (statement_of x.0, progress_of x.1)) result
-        (read_send (read_ways left names) names depth (progress_of from.entry)) }
-{
-    let (command, at) = command(names, from.at)?;
-    let answered = order(names.kind, &command.ask);
-    let (inside, at) = open_brace(at, depth, FaultKind::Argument)?;
-    let (cases, from) = ways(alloc, names, left, inside, answered, from.to(at))?;
     let at = close_brace(from.at)?;
     Ok((Stmt::Send(command, cases), from.to(at)))
 }
 
-// What the end of a phase leads to.
-#[cycle(blocks)]
-fn ends<'a>(
-    alloc: Global,
-    names: &Names<'a>,
-    left: usize,
-    depth: Depth,
-    phase: Phase,
+// A statement of two blocks; behind those of a phase `}` is to stand.
+fn forked<'a>(
+    fork: Fork,
+    first: Box<Block<'a>>,
+    second: Box<Block<'a>>,
     from: Progress<'a>,
 ) -> Result<(Stmt<'a>, Progress<'a>), Stop>
-    ensures { let names = names_of names.now in Gives (λ x. (statement_of x.0, progress_of x.1)) result
-        (read_phase (read_statements left names) depth phase (progress_of from.entry)) }
+    ensures { Gives (λ x. (statement_of x.0, progress_of x.1)) result
+        (read_forked fork (statements_of (box_value first.entry)) (statements_of (box_value second.entry))
+        (progress_of from.entry)) }
 {
-    let (inside, at) = open_brace(from.at, depth, FaultKind::Syntax)?;
-    let at = ok_word(at)?;
-    let (good, other, from) = branches(alloc, names, left, inside, inside, from.to(at))?;
-    let at = close_brace(from.at)?;
-    Ok((Stmt::Phase(phase, good, other), from.to(at)))
-}
-
-// What a condition leads to.
-#[cycle(blocks)]
-fn choice<'a>(
-    alloc: Global,
-    names: &Names<'a>,
-    left: usize,
-    depth: Depth,
-    from: Progress<'a>,
-) -> Result<(Stmt<'a>, Progress<'a>), Stop>
-    ensures { let names = names_of names.now in Gives (λ x. (statement_of x.0, progress_of x.1)) result
-        (read_if (read_statements left names) names depth (progress_of from.entry)) }
-{
-    let (condition, at) = condition(names, from.at)?;
-    let (body, other, from) = branches(alloc, names, left, depth, depth, from.to(at))?;
-    Ok((Stmt::If(condition, body, other), from))
-}
-
-// A loop, whose first word stands at a place that is given too.
-#[cycle(blocks)]
-fn turns<'a>(
-    alloc: Global,
-    names: &Names<'a>,
-    left: usize,
-    depth: Depth,
-    word: Cursor<'a>,
-    from: Progress<'a>,
-) -> Result<(Stmt<'a>, Progress<'a>), Stop>
-    ensures { let names = names_of names.now in Gives (λ x. (statement_of x.0, progress_of x.1)) result
-        (read_loop (read_statements left names) depth (progress_of from.entry)) }
-{
-    if depth.loops >= MAX_LOOPS {
-        return Err(Stop::Fault(word.fault(FaultKind::Limit)));
+    match fork {
+        Fork::Phase(phase) => {
+            let at = close_brace(from.at)?;
+            Ok((Stmt::Phase(phase, first, second), from.to(at)))
+        }
+        Fork::If(condition) => Ok((Stmt::If(condition, first, second), from)),
+        Fork::Loop(turns) => Ok((Stmt::Loop(turns, first, second), from)),
     }
-    let inside = Depth {
-        braces: depth.braces,
-        loops: depth.loops + 1,
-    };
-    let (turns, at) = count(from.at, FaultKind::Syntax, FaultKind::Limit)?;
-    let (body, other, from) = branches(alloc, names, left, inside, depth, from.to(at))?;
-    Ok((Stmt::Loop(turns, body, other), from))
 }
 
 // Two blocks, with `else` between them; the first may stand in one more loop.
@@ -312,26 +160,22 @@ fn boxed_block<'a>(
     ensures { Gives (λ x. (statements_of (box_value x.0), progress_of x.1)) result
         (read_block (read_statements left (names_of names.now)) depth (progress_of from.entry)) }
 {
-    let (block, from) = block(alloc, names, left, depth, from)?;
-    Ok((Box::new(alloc, block)?, from))
-}
-
-// Statements in braces.
-#[cycle(blocks)]
-fn block<'a>(
-    alloc: Global,
-    names: &Names<'a>,
-    left: usize,
-    depth: Depth,
-    from: Progress<'a>,
-) -> Result<(Block<'a>, Progress<'a>), Stop>
-    ensures { Gives (λ x. (statements_of x.0, progress_of x.1)) result
-        (read_block (read_statements left (names_of names.now)) depth (progress_of from.entry)) }
-{
     let (inside, at) = open_brace(from.at, depth, FaultKind::Syntax)?;
     let (block, from) = statements(alloc, names, left, inside, from.to(at))?;
+    boxed(alloc, block, from)
+}
+
+// A block in a box, behind which `}` is to stand.
+fn boxed<'a>(
+    alloc: Global,
+    block: Block<'a>,
+    from: Progress<'a>,
+) -> Result<(Box<Block<'a>>, Progress<'a>), Stop>
+    ensures { Gives (λ x. (statements_of (box_value x.0), progress_of x.1)) result
+        (before_brace (statements_of block.entry) (progress_of from.entry)) }
+{
     let at = close_brace(from.at)?;
-    Ok((block, from.to(at)))
+    Ok((Box::new(alloc, block)?, from.to(at)))
 }
 
 // A case before the last one.
@@ -358,8 +202,8 @@ fn ways<'a>(
     let mut from = from;
     for left in (0..left).rev() {
         if let Some(at) = after_else(from.at) {
-            let (last, from) = last_case(alloc, names, left, depth, from.to(at))?;
-            return Ok((before(alloc, read, last)?, from));
+            let (last, from) = boxed_block(alloc, names, left, depth, from.to(at))?;
+            return Ok((before(alloc, read, Cases::Else(last))?, from));
         }
         let (next, after) = case(alloc, names, left, depth, order, from)?;
         read.push(next)?;
@@ -382,22 +226,6 @@ fn before<'a>(
         all = Cases::Case(guards, block, Box::new(alloc, all)?);
     }
     Ok(all)
-}
-
-// The last case, after `else`.
-#[cycle(blocks)]
-fn last_case<'a>(
-    alloc: Global,
-    names: &Names<'a>,
-    left: usize,
-    depth: Depth,
-    from: Progress<'a>,
-) -> Result<(Cases<'a>, Progress<'a>), Stop>
-    ensures { Gives (λ x. (ways_of x.0, progress_of x.1)) result
-        (last_way (read_statements left (names_of names.now)) depth (progress_of from.entry)) }
-{
-    let (block, from) = boxed_block(alloc, names, left, depth, from)?;
-    Ok((Cases::Else(block), from))
 }
 
 // The guards and the block of a case.

@@ -5,10 +5,10 @@ ghost use Rattle.sdv_script.specs.Place.{tokens_at, texts, names_of};
 ghost use Rattle.sdv_script.specs.Faults.{no_first_kind};
 ghost use Rattle.sdv_script.specs.Reading.{Gives, may_follow, name_is_new, read_names, read_flags, read_nums, read_declared};
 
-use crate::blocks::is_first_word;
 use crate::cursor::Cursor;
 use crate::expect::{kind_word, place_of};
 use crate::fault::{FaultKind, ScriptFault, Stop};
+use crate::heads::is_first_word;
 use crate::keyword::Keyword;
 use crate::token::Token;
 use crate::values::MAX_NAME;

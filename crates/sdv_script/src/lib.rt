@@ -16,6 +16,7 @@ mod flow;
 pub mod graph;
 mod graphed;
 mod guards;
+mod heads;
 mod keyword;
 mod operand;
 mod printing;

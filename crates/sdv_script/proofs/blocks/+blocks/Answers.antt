@@ -2,9 +2,11 @@ use Rattle.std.proofs.Common.{rules, ◌-◌, map, sym, ◌∙◌, arith}
 use Rattle.std.proofs.lemmas.Result.{err_from_is_err_and}
 use Rattle.std.proofs.lemmas.List.{map-append}
 use Rattle.sdv_script.specs.Place.{names_of, progress_of}
-use Rattle.sdv_graph.specs.Tree.{statement_of, statements_of, ways_of}
+use Rattle.std.specs.Box.{box_value}
+use Rattle.sdv_graph.specs.Tree.{statement_of, statements_of, ways_of, otherwise}
+use Rattle.sdv_script.specs.Reading.{read_statements}
 use Rattle.sdv_script.specs.GuardedOf.{guarded_of}
-use Rattle.sdv_script.proofs.CaseLaws.{ahead_ends, ahead_goes_on, last_fails, case_fails, no_level_left}
+use Rattle.sdv_script.proofs.CaseLaws.{ahead_ends, ahead_goes_on, last_read, last_stops, last_fails, case_fails, no_level_left}
 use Rattle.sdv_script.proofs.RowLaws.{behind_ends, behind_fails, behind_goes_on, no_row_left}
 use Rattle.sdv_script.proofs.blocks.+blocks.Goals as goal
 
@@ -41,14 +43,17 @@ ways-returns-in_err-last t c =
     rw (p.1, p.2, ← c.loop-left.invariant)
     (last_fails c.in_err-last.field-0.0 (map guarded_of c.loop-left.read.items) c.loop-left.left (c.loop-left.left - 1)
     (names_of c.args.names.now) c.args.depth c.args.order (progress_of c.loop-left.from) (progress_of c.to.result) (omega arith)
-    (rw c.to.ensures.at (sym c.in-Some.ensures)) c.to.ensures.begun c.in_err-last.ensures)
+    (rw c.to.ensures.at (sym c.in-Some.ensures)) c.to.ensures.begun
+    (last_stops c.in_err-last.field-0.0 (read_statements (c.loop-left.left - 1) (names_of c.args.names.now)) c.args.depth (progress_of c.to.result) c.in_err-last.ensures))
 
 pub ways-returns-in-Some : goal.ways-returns-in-Some
 ways-returns-in-Some t c =
     sym c.loop-left.invariant
     ∙ ahead_ends (map guarded_of c.loop-left.read.items) c.loop-left.left (c.loop-left.left - 1) (names_of c.args.names.now) c.args.depth c.args.order
-    (progress_of c.loop-left.from) (progress_of c.to.result) (progress_of c.in_ok-last.from) (ways_of c.in_ok-last.last) (ways_of c.in_ok-before.field-0)
-    (omega arith) (rw c.to.ensures.at (sym c.in-Some.ensures)) c.to.ensures.begun c.in_ok-last.ensures c.in_ok-before.ensures
+    (progress_of c.loop-left.from) (progress_of c.to.result) (progress_of c.in_ok-last.from) (otherwise (statements_of (box_value c.in_ok-last.last)))
+    (ways_of c.in_ok-before.field-0) (omega arith) (rw c.to.ensures.at (sym c.in-Some.ensures)) c.to.ensures.begun
+    (last_read (read_statements (c.loop-left.left - 1) (names_of c.args.names.now)) c.args.depth (progress_of c.to.result) (progress_of c.in_ok-last.from)
+    (statements_of (box_value c.in_ok-last.last)) c.in_ok-last.ensures) c.in_ok-before.ensures
 
 pub ways-returns-in_err-next : goal.ways-returns-in_err-next
 ways-returns-in_err-next t c =
@@ -69,6 +74,3 @@ pub ways-returns : goal.ways-returns
 ways-returns t c =
     sym c.loop-left.invariant ∙ no_level_left (map guarded_of c.loop-left.read.items) c.loop-left.left (names_of c.args.names.now) c.args.depth c.args.order
     (progress_of c.loop-left.from) (omega arith)
-
-pub statement-returns : goal.statement-returns
-statement-returns t c = search rules
