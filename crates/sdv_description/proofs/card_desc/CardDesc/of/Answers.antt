@@ -1,4 +1,4 @@
-use Rattle.std.proofs.Common.{◌≡◌, ◌≤◌, ◌^◌, ◌==◌, ◌&&◌, ◌||◌, true}
+use Rattle.std.proofs.Common.{rules, ◌≡◌, ◌≤◌, ◌^◌, ◌==◌, ◌&&◌, ◌||◌, true}
 use Rattle.std.proofs.lemmas.Bool.{and_parts, le-leb}
 use Rattle.sdv_description.specs.declared.description.Description.TheVariants.{SdBytes}
 use Rattle.sdv_description.specs.Grammar.{size_fits, rca_fits, in_ranges}
@@ -14,3 +14,6 @@ returns-in-SdBytes c =
     let q = and_parts ((i.version == 1) || (i.version == 2)) (size_fits i.size) p.0 in
     let most : size_blocks i.size ≤ 2 ^ 23 = most_size_blocks i.size (is_size i.size q.1) in
     rw i.is (record { same = c.sd_bytes.ensures; within = le-leb _ _ most })
+
+pub returns-in-EmmcBytes : goal.returns-in-EmmcBytes
+returns-in-EmmcBytes c = search rules
