@@ -18,7 +18,7 @@ use Rattle.sdv_explain.specs.declared.explaining.Explanation.{Explanation}
 use Rattle.sdv_explain.specs.declared.explaining.Refusal.{Refusal}
 use Rattle.sdv_explain.specs.declared.fault.ExplainFault.{ExplainFault}
 use Rattle.sdv_explain.specs.declared.fault.ExplainFault.TheVariants.{Script, TooMany, Memory}
-use Rattle.sdv_explain.specs.declared.visit.Visit.{Visit}
+use Rattle.sdv_telling.specs.declared.visit.Visit.{Visit}
 use Rattle.sdv_explain.specs.Refused.{IsRefusedAt}
 use Rattle.sdv_explain.specs.Way.{IsWay}
 

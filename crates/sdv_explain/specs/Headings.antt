@@ -3,8 +3,8 @@ use Rattle.std.specs.Prelude.{◌≡◌, List, map}
 use Rattle.sdv_graph.specs.Graph.{Graph}
 use Rattle.sdv_graph.specs.Path.{Point}
 use Rattle.sdv_explain.specs.declared.heading.Heading.{Heading}
-use Rattle.sdv_explain.specs.declared.outline.Outline.{Outline}
-use Rattle.sdv_explain.specs.Statements.{Text, statement_words}
+use Rattle.sdv_telling.specs.declared.outline.Outline.{Outline}
+use Rattle.sdv_telling.specs.Statements.{Text, statement_words}
 
 abbrev pub words_of : Heading → Text
 words_of heading = heading.words.items

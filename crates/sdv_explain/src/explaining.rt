@@ -11,18 +11,15 @@ ghost use Rattle.sdv_explain.specs.Way.{IsWay};
 
 use crate::fault::ExplainFault;
 use crate::known::known_at;
-use crate::listing::put_listing;
-use crate::outline::Outline;
-use crate::refusal::{put_refusal, put_way};
+use crate::refusal::put_refusal;
 use crate::refused::refused_shape;
-use crate::text::Text;
-use crate::visit::Visit;
 use crate::way::find_way;
 use sdv_card::Shape;
 use sdv_certify::{CertifyFault, certify, survey};
 use sdv_facts::Certificate;
 use sdv_graph::Graph;
 use sdv_script::{Script, parse};
+use sdv_telling::{Outline, Text, Visit, put_listing, put_way};
 use std::alloc::{AllocError, Global};
 
 /// Why a script has no certificate, with a way to the point that is refused.

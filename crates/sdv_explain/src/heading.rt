@@ -3,11 +3,10 @@
 ghost use Rattle.std.specs.Prelude.{◌≡◌, ◌++◌, ◌∷◌, [], map, IfOk, OnOk};
 ghost use Rattle.sdv_graph.specs.Graph.{seen_action};
 ghost use Rattle.sdv_explain.specs.Headings.{AreHeadings, AreNamed, words_of};
-ghost use Rattle.sdv_explain.specs.Statements.{statement_words};
+ghost use Rattle.sdv_telling.specs.Statements.{statement_words};
 
-use crate::outline::Outline;
-use crate::statements::put_statement;
 use sdv_graph::{Action, Graph};
+use sdv_telling::{Outline, put_statement};
 use std::alloc::{AllocError, Global};
 
 /// What is told of a statement at its point.

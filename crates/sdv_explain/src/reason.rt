@@ -10,50 +10,8 @@ use sdv_card::state_table::{
     Rows, give_legal, is_shape, order, own_target, recv_legal, recv_reg_legal, same_width,
     taken_as, wait_legal,
 };
-use sdv_card::{EraseStage, Event, Fields, Order, Row, Shape, State, TakenAs, Transfer, Width};
-
-/// Why an event is not legal.
-#[derive(Clone, Copy, Debug, PartialEq, Eq)]
-pub enum Reason {
-    /// The number is no shape of a card.
-    NoCard,
-    /// The kind of card has no such command.
-    NoCommand,
-    /// The card takes the next command as an application command, and this is none.
-    NotForApplications,
-    /// The command is an application command, and the card does not take the next command as one.
-    OnlyForApplications,
-    /// The state table has no row for it in the state.
-    State(State),
-    /// The block length may not be 512.
-    BlockLength,
-    /// The erase sequence is not so far.
-    EraseSequence,
-    /// Another count is preset.
-    PresetCount(u16),
-    /// No read of blocks is due.
-    NoReadDue,
-    /// No register is due.
-    NoRegisterDue,
-    /// No write is due.
-    NoWriteDue,
-    /// The host uses other data lines than the card.
-    OtherLines {
-        /// Those of the card.
-        card: Width,
-        /// Those of the host.
-        host: Width,
-    },
-}
-
-/// Why an event is not legal, and whether that is so only after a step of the card's own.
-#[derive(Clone, Copy, Debug, PartialEq, Eq)]
-pub struct Illegality {
-    /// The reason.
-    pub reason: Reason,
-    /// The state to which the card went first.
-    pub after_step: Option<State>,
-}
+use sdv_card::{EraseStage, Event, Fields, Order, Row, Shape, TakenAs, Transfer};
+use sdv_telling::{Illegality, Reason};
 
 fn length_allows(row: Row, length_512: bool) -> bool
     ensures { result ≡ length_allows row length_512 }

@@ -1,7 +1,6 @@
 //! The shape at which a refusal is explained.
 
-ghost use Rattle.std.specs.Prelude.{◌≡◌, ◌↔◌, [], ◌∷◌, IsTrue, IfSome, IfNone};
-ghost use Rattle.sdv_facts.specs.AddressFits.{unit_fits};
+ghost use Rattle.std.specs.Prelude.{◌↔◌, IsTrue, IfSome, IfNone};
 ghost use Rattle.sdv_graph.specs.Graph.{seen_action};
 ghost use Rattle.sdv_explain.specs.Known.{facts_here};
 ghost use Rattle.sdv_explain.specs.Refused.{AllTake, IsOtherEnd, IsRefusedAt, IsRefusedNowhere, IsUntaken, TakesAddress};
@@ -11,19 +10,7 @@ use crate::known::Known;
 use sdv_card::Shape;
 use sdv_certify::CertifyFault;
 use sdv_facts::{Numbers, addresses_on_card, ends_at};
-use sdv_graph::{Action, Unit};
-
-/// The unit of an address is that of the shape.
-pub fn fits_unit(unit: Unit, shape: Shape) -> bool
-    ensures { result ≡ unit_fits (shape ∷ []) unit }
-{
-    let has_blocks = shape.has_block_addresses();
-    match unit {
-        Unit::Block => has_blocks,
-        Unit::Byte => !has_blocks,
-        Unit::By(flag) => shape.flag(flag) == has_blocks,
-    }
-}
+use sdv_graph::Action;
 
 /// Beside a card of the shape the blocks of a statement's command are known to lie in the partition in access, and are
 /// addressed in the card's unit. It is so where the command addresses none.

@@ -87,12 +87,8 @@ fn put_value(text: &mut Text, known: &VarFacts) -> Result<(), AllocError> {
     }
 }
 
-/// Adds what is known of the card's capacity, of that of a boot partition, if anything is, and of number variables.
-pub fn put_numbers(
-    text: &mut Text,
-    numbers: &Numbers,
-    outline: &Outline,
-) -> Result<(), AllocError> {
+/// Adds what is known of the card's capacity, and of that of a boot partition, if anything is.
+fn put_capacities(text: &mut Text, numbers: &Numbers) -> Result<(), AllocError> {
     put(text, "the card has ")?;
     put_count(text, numbers.m, "block", "blocks")?;
     put(text, " or more")?;
@@ -101,10 +97,25 @@ pub fn put_numbers(
         put_count(text, numbers.mb, "block", "blocks")?;
         put(text, " or more")?;
     }
+    Ok(())
+}
+
+/// Adds the name of a number variable, and what is known of its value.
+fn put_variable(text: &mut Text, name: &[u8], known: &VarFacts) -> Result<(), AllocError> {
+    put(text, "; ")?;
+    text.extend_from_slice(name)?;
+    put_value(text, known)
+}
+
+/// Adds what is known of the card's capacities and of number variables.
+pub fn put_numbers(
+    text: &mut Text,
+    numbers: &Numbers,
+    outline: &Outline,
+) -> Result<(), AllocError> {
+    put_capacities(text, numbers)?;
     for (known, name) in numbers.vars.as_slice().iter().zip(outline.numbers.iter()) {
-        put(text, "; ")?;
-        text.extend_from_slice(name)?;
-        put_value(text, known)?;
+        put_variable(text, name, known)?;
     }
     Ok(())
 }

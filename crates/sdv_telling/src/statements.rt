@@ -2,9 +2,9 @@
 
 ghost use Rattle.std.specs.Prelude.{◌≡◌, ◌++◌, OnOk};
 ghost use Rattle.sdv_graph.specs.Graph.{seen_action};
-ghost use Rattle.sdv_explain.specs.Statements.{address_if_any, address_words, aim_words, atom_words, change_words, command_words};
-ghost use Rattle.sdv_explain.specs.Statements.{condition_words, count_words, let_words, more_words, name_at, phase_words, position_words};
-ghost use Rattle.sdv_explain.specs.Statements.{set_words, setting_words, statement_words, unit_words};
+ghost use Rattle.sdv_telling.specs.Statements.{address_if_any, address_words, aim_words, atom_words, change_words, command_words};
+ghost use Rattle.sdv_telling.specs.Statements.{condition_words, count_words, let_words, more_words, name_at, phase_words, position_words};
+ghost use Rattle.sdv_telling.specs.Statements.{set_words, setting_words, statement_words, unit_words};
 
 use crate::outline::Outline;
 use crate::shapes::numbered_state_word;

@@ -23,7 +23,7 @@ use Rattle.sdv_graph.specs.declared.tree.Unit.{Unit as AddressUnit}
 use Rattle.sdv_graph.specs.declared.tree.Unit.TheVariants.{Block, Byte, By}
 use Rattle.sdv_graph.specs.Path.{Action, sends, phases, lets, tests, flags, widths, heads, jumps, stops}
 use Rattle.sdv_graph.specs.Walk.{Ending, Failed}
-use Rattle.sdv_explain.specs.declared.outline.Outline.{Outline}
+use Rattle.sdv_telling.specs.declared.outline.Outline.{Outline}
 
 -- NAMES
 

@@ -1,0 +1,107 @@
+//! Why an event is not legal at a shape, in words.
+
+use crate::outline::Outline;
+use crate::shapes::{lines_words, state_word};
+use crate::statements::put_statement;
+use crate::text::{Text, put, put_numbered};
+use sdv_card::{State, Width};
+use sdv_graph::Action;
+use std::alloc::AllocError;
+
+/// Why an event is not legal.
+#[derive(Clone, Copy)]
+pub enum Reason {
+    /// The number is no shape of a card.
+    NoCard,
+    /// The kind of card has no such command.
+    NoCommand,
+    /// The card takes the next command as an application command, and this is none.
+    NotForApplications,
+    /// The command is an application command, and the card does not take the next command as one.
+    OnlyForApplications,
+    /// The state table has no row for it in the state.
+    State(State),
+    /// The block length may not be 512.
+    BlockLength,
+    /// The erase sequence is not so far.
+    EraseSequence,
+    /// Another count is preset.
+    PresetCount(u16),
+    /// No read of blocks is due.
+    NoReadDue,
+    /// No register is due.
+    NoRegisterDue,
+    /// No write is due.
+    NoWriteDue,
+    /// The host uses other data lines than the card.
+    OtherLines {
+        /// Those of the card.
+        card: Width,
+        /// Those of the host.
+        host: Width,
+    },
+}
+
+/// Why an event is not legal, and whether that is so only after a step of the card's own.
+#[derive(Clone, Copy)]
+pub struct Illegality {
+    /// The reason.
+    pub reason: Reason,
+    /// The state to which the card went first.
+    pub after_step: Option<State>,
+}
+
+fn reason_words(reason: Reason) -> &'static str {
+    match reason {
+        Reason::NoCard => "this is no card",
+        Reason::NoCommand => "the card has no such command",
+        Reason::NotForApplications => {
+            "the card takes the next command as an application command, and this is none"
+        }
+        Reason::OnlyForApplications => {
+            "this is an application command, and the card may not take the next command as one"
+        }
+        Reason::BlockLength => "the block length may be another than 512: CMD16 was not taken",
+        Reason::EraseSequence =>
+            "the commands before it in an erase may not have been taken, one right after the other",
+        Reason::NoReadDue => "no read of blocks is due",
+        Reason::NoRegisterDue => "no register is due",
+        Reason::NoWriteDue => "no write of blocks is due",
+        Reason::State(_) | Reason::PresetCount(_) | Reason::OtherLines { .. } => "",
+    }
+}
+
+/// Adds why an event is not legal.
+pub fn put_illegality(
+    text: &mut Text,
+    illegality: Illegality,
+    action: &Action<'_>,
+    outline: &Outline,
+) -> Result<(), AllocError> {
+    if let Some(state) = illegality.after_step {
+        put(text, "the card may go to ")?;
+        put(text, state_word(state))?;
+        put(text, " state by itself; then ")?;
+    }
+    match illegality.reason {
+        Reason::State(state) => {
+            put_statement(text, action, outline)?;
+            put(text, " is not legal in ")?;
+            put(text, state_word(state))?;
+            put(text, " state")
+        }
+        Reason::PresetCount(count) => put_numbered(
+            text,
+            "the card has the preset count ",
+            u64::from(count),
+            ", and another one is announced",
+        ),
+        Reason::OtherLines { card, host } => {
+            put(text, "the card uses ")?;
+            put(text, lines_words(card))?;
+            put(text, ", and the host ")?;
+            put(text, lines_words(host))
+        }
+        reason => put(text, reason_words(reason)),
+    }
+}

@@ -1,0 +1,24 @@
+//! What is known at the points of a script, why one is refused, and a way there, in words.
+//!
+//! Begin at `put_listing`, `put_refused` and `put_way`. Of what they write no clause says anything: they are safe, and
+//! end. What the first words of a statement are is proved (`specs/Statements.antt`).
+#![tactic(auto)]
+
+mod illegality;
+mod listing;
+mod outline;
+mod refused;
+mod shapes;
+mod statements;
+mod text;
+mod visit;
+mod way;
+
+pub use illegality::{Illegality, Reason};
+pub use listing::put_listing;
+pub use outline::Outline;
+pub use refused::{Why, put_refused};
+pub use statements::put_statement;
+pub use text::Text;
+pub use visit::Visit;
+pub use way::put_way;

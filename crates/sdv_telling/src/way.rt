@@ -1,0 +1,107 @@
+//! A way in words: the events by which it leads, and the shapes after them.
+
+use crate::outline::Outline;
+use crate::shapes::put_shape;
+use crate::statements::{put_seen, put_statement};
+use crate::text::{Text, pad, put, put_numbered};
+use crate::visit::Visit;
+use sdv_graph::{Action, Change, Condition, Graph};
+use std::alloc::AllocError;
+
+/// The statement compares a number, or tests the range of one.
+fn tests_number(action: &Action<'_>) -> bool {
+    match action {
+        Action::If(Condition::AtLeast(_, _) | Condition::Below(_, _), _, _) => true,
+        Action::Let(set, _) => !matches!(set.change, Change::Same),
+        _ => false,
+    }
+}
+
+/// A number is tested at a visit.
+fn tests_at(graph: &Graph<'_>, visit: &Visit) -> bool {
+    visit.point < graph.len() && tests_number(&graph.point(visit.point).action)
+}
+
+/// Adds the line of a point and its statement, as a step of a way.
+fn put_step(
+    text: &mut Text,
+    action: &Action<'_>,
+    outline: &Outline,
+    point: usize,
+) -> Result<(), AllocError> {
+    let start = text.len();
+    put_numbered(text, "    line ", outline.line(point) as u64, "")?;
+    pad(text, start, 13)?;
+    put_statement(text, action, outline)
+}
+
+/// Adds that a loop has no turn left, where its else block comes next.
+fn put_last_turn(
+    text: &mut Text,
+    action: &Action<'_>,
+    outline: &Outline,
+    before: &Visit,
+    after: &Visit,
+) -> Result<(), AllocError> {
+    match action {
+        Action::Loop(_, body, other) if after.point == other.to && after.point != body.to => {
+            put_step(text, action, outline, before.point)?;
+            put(text, ", after its last turn\n")
+        }
+        _ => Ok(()),
+    }
+}
+
+/// Adds the event of a visit, what was seen of it, and the shape after it.
+fn put_event(
+    text: &mut Text,
+    graph: &Graph<'_>,
+    outline: &Outline,
+    before: &Visit,
+    after: &Visit,
+) -> Result<(), AllocError> {
+    if graph.len() <= before.point {
+        return Ok(());
+    }
+    let action = &graph.point(before.point).action;
+    let start = text.len();
+    let Some(seen) = after.seen else {
+        return put_last_turn(text, action, outline, before, after);
+    };
+    put_step(text, action, outline, before.point)?;
+    pad(text, start, 37)?;
+    put_seen(text, action, seen)?;
+    pad(text, start, 74)?;
+    put(text, "then ")?;
+    put_shape(text, after.shape, &outline.flags)?;
+    put(text, "\n")
+}
+
+/// Adds the events of a way.
+pub fn put_way(
+    text: &mut Text,
+    graph: &Graph<'_>,
+    outline: &Outline,
+    way: &[Visit],
+) -> Result<(), AllocError> {
+    let Some(first) = way.first() else {
+        return Ok(());
+    };
+    if way.iter().any(|visit| tests_at(graph, visit)) {
+        put(
+            text,
+            "a way there, if its tests of numbers may come out so:\n",
+        )?;
+    } else {
+        put(text, "a way there:\n")?;
+    }
+    put(text, "    before the first command    ")?;
+    put_shape(text, first.shape, &outline.flags)?;
+    put(text, "\n")?;
+    let mut before = first;
+    for visit in way {
+        put_event(text, graph, outline, before, visit)?;
+        before = visit;
+    }
+    Ok(())
+}
