@@ -45,7 +45,8 @@ pub record HasBoth (s : Statement) (a b : Statements) : Type 0 where
   pub turns : StatementTurns s → StatementsTurn a × StatementsTurn b
   pub before : (after out : Option Form) → form_before s after out ≡ leads_to (either_form (form_statements a after out) (form_statements b after out))
   pub forms : (after out : Option Form) → forms_of_statement s after out
-      ≡ leads_to (either_form (form_statements a after out) (form_statements b after out)) ∷ (forms_of_statements a after out ++ forms_of_statements b after out)
+      ≡ leads_to (either_form (form_statements a after out) (form_statements b after out)) ∷
+      (forms_of_statements a after out ++ forms_of_statements b after out)
 
 pub phase_both : (p : Phase) (a b : Statements) → HasBoth (phase p a b) a b
 phase_both p a b = record { moves = refl; size = refl; turns = λ t. t; before = λ after out. refl; forms = λ after out. refl }

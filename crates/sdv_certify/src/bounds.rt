@@ -121,15 +121,16 @@ fn put_both(
         ≡ map full_form forms.old.items ++ reverse (map full_form (leads_to
         (either_form (form_statements (statements_of a.now) after out)
         (form_statements (statements_of b.now) after out))
-        ∷ (forms_of_statements (statements_of a.now) after out ++ forms_of_statements (statements_of b.now) after out)))) }
+        ∷ (forms_of_statements (statements_of a.now) after out
+        ++ forms_of_statements (statements_of b.now) after out)))) }
 {
     let other = put_block(alloc, forms, b, after, out)?;
     let one = put_block(alloc, forms, a, after, out)?;
     push(forms, leads_to(either_form(one, other)))
 }
 
-// Appends the forms of a loop of so many turns, those of its else block first, then those of its body, and then that at its
-// head; answers the form before it.
+// Appends the forms of a loop of so many turns, those of its else block first, then those of its body, and then that at
+// its head; answers the form before it.
 #[cycle(forms)]
 fn put_loop(
     alloc: Global,

@@ -71,7 +71,8 @@ put_stmt-put_both-requires t c =
 
 pub put_stmt-put_loop-requires : goal.put_stmt-put_loop-requires
 put_stmt-put_loop-requires t c =
-    let few = subst (λ s. statement_moves (statement_of s) + max (leads_to c.args.after).base (leads_to c.args.out).base < 2 ^ 128) c.in-Loop.is c.requires.few in
+    let few = subst (λ s. statement_moves (statement_of s) + max (leads_to c.args.after).base (leads_to c.args.out).base < 2 ^ 128) c.in-Loop.is c.requires.few
+    in
     let all = subst (λ s. StatementTurns (statement_of s)) c.in-Loop.is c.requires.turns in
     let turned = all.0 in
     let one = all.1 in

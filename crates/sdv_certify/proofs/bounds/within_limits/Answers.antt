@@ -26,7 +26,8 @@ loop-form-preserved c =
     record {
       same = map_more full_form c.args.forms.now c.loop-form.form-index _ old _ c.whole-form.result c.loop-form-test.true c.whole-form.ensures
           c.in_ok-push.ensures.items c.loop-form.invariant.same;
-      limits = subst (λ l. All FormInLimits l) (sym c.in_ok-push.ensures.items) (All-push FormInLimits old c.whole-form.result c.loop-form.invariant.limits fits);
+      limits = subst (λ l. All FormInLimits l) (sym c.in_ok-push.ensures.items)
+          (All-push FormInLimits old c.whole-form.result c.loop-form.invariant.limits fits);
     }
 
 pub returns-then-not-in_limits-clause-refused : goal.returns-then-not-in_limits-clause-refused
