@@ -1,12 +1,16 @@
 -- What the forms of a part's parts give for the part.
-use Rattle.std.proofs.Common.{◌≡◌, ℕ, ◌+◌, ◌*◌, ◌^◌, ◌<◌, ◌≤◌, max, List, [], ◌∷◌, ◌++◌, map, reverse, Option, Some, None, refl, sym, ap, ◌∙◌, arith, append_assoc}
+use Rattle.std.proofs.Common.{◌≡◌, ℕ, ◌+◌, ◌*◌, ◌^◌, ◌<◌, ◌≤◌, max, List, [], ◌∷◌, ◌++◌, map, reverse, Option, Some, None, Result, Ok, Err, IfOk, OnOk, refl, sym, ap, ◌∙◌, arith, append_assoc}
 use Rattle.std.proofs.lemmas.List.{map-append, reverse-append}
-use Rattle.sdv_graph.specs.Tree.{Statements, first, Ways, Statement, turns}
+use Rattle.sdv_graph.specs.Tree.{Statements, first, Ways, Statement, phase, choice, turns}
 use Rattle.sdv_graph.specs.Moves.{statements_moves, ways_moves, statement_moves}
+use Rattle.sdv_graph.specs.declared.tree.Condition.{Condition}
+use Rattle.sdv_graph.specs.declared.tree.Phase.{Phase}
 use Rattle.sdv_certify.specs.declared.form.Form.{Form}
 use Rattle.sdv_certify.specs.declared.spans.Spans.{Spans}
 use Rattle.sdv_certify.specs.Spans.{or_zero, longest, spans_statements}
-use Rattle.sdv_certify.specs.Forms.{leads_to, last_turn, head_form, before_loop, inside_too, form_statements, form_ways, form_before, form_of_loop, forms_of_statements, forms_of_statement, full_form, in_full}
+use Rattle.sdv_certify.specs.Forms.{leads_to, either_form, last_turn, head_form, before_loop, inside_too, form_statements, form_ways, form_before, form_of_loop, forms_of_statements, forms_of_statement, full_form, in_full}
+use Rattle.sdv_certify.specs.LoopTurns.{StatementsTurn, StatementTurns}
+use Rattle.sdv_certify.proofs.Sizes.{statements_size, statement_size}
 use Rattle.sdv_certify.proofs.SpanLaws.{longest_statements}
 use Rattle.sdv_certify.proofs.FormLaws.{leads_same, last_same, head_same, before_same}
 use Rattle.sdv_certify.proofs.SameForms.{same_of_statements, same_of_statement}
@@ -31,6 +35,36 @@ room_first s r x after out few e = omega (arith, few, base_at_same x (form_state
 pub room_send : (c : Ways) (x after out : Option Form) → 1 + ways_moves c + max (base_at after) (base_at out) < 2 ^ 128
     → in_full x ≡ in_full (form_ways c after out) → 1 + base_at x < 2 ^ 128
 room_send c x after out few e = omega (arith, few, base_at_same x (form_ways c after out) e, few_ways c after out)
+
+-- A STATEMENT OF TWO BLOCKS
+
+-- one of these is taken, and nothing is counted but what is sent there
+pub record HasBoth (s : Statement) (a b : Statements) : Type 0 where
+  pub moves : statement_moves s ≡ 1 + (statements_moves a + statements_moves b)
+  pub size : statement_size s ≡ 2 + statements_size a + statements_size b
+  pub turns : StatementTurns s → StatementsTurn a × StatementsTurn b
+  pub before : (after out : Option Form) → form_before s after out ≡ leads_to (either_form (form_statements a after out) (form_statements b after out))
+  pub forms : (after out : Option Form) → forms_of_statement s after out
+      ≡ leads_to (either_form (form_statements a after out) (form_statements b after out)) ∷
+      (forms_of_statements a after out ++ forms_of_statements b after out)
+
+pub phase_both : (p : Phase) (a b : Statements) → HasBoth (phase p a b) a b
+phase_both p a b = record { moves = refl; size = refl; turns = λ t. t; before = λ after out. refl; forms = λ after out. refl }
+
+pub choice_both : (c : Condition) (a b : Statements) → HasBoth (choice c a b) a b
+choice_both c a b = record { moves = refl; size = refl; turns = λ t. t; before = λ after out. refl; forms = λ after out. refl }
+
+-- ANSWERS
+
+-- where there is one, it is so
+pub if_ok : {A E P Q : Type 0} (r : Result A E) → (P → Q) → OnOk r P → OnOk r Q
+if_ok (Ok x) f p = f p
+if_ok (Err e) f p = tt
+
+-- of a form that was pushed
+pub form_same : {E : Type 0} (r : Result Form E) (f g : Form) → IfOk r (λ h. h ≡ f) → full_form f ≡ full_form g → IfOk r (λ h. full_form h ≡ full_form g)
+form_same (Ok h) f g e same = ap full_form e ∙ same
+form_same (Err e) f g h same = tt
 
 -- LISTS
 

@@ -56,6 +56,13 @@ greatest_absorb n xs ys =
 abbrev form_is : ℕ → List ℕ → Form
 form_is base each = record { base = base; each = each }
 
+pub full_greater : (f g : Form) → full_form (greater f g)
+    ≡ form_is (max f.base g.base) (max (get_or f.each 0 0) (get_or g.each 0 0) ∷ max (get_or f.each 1 0) (get_or g.each 1 0)
+    ∷ max (get_or f.each 2 0) (get_or g.each 2 0) ∷ max (get_or f.each 3 0) (get_or g.each 3 0) ∷ [])
+full_greater f g =
+    ap (form_is (max f.base g.base)) (first_greatest 4 f.each g.each ∙ ap (λ l. greatest l (first_of 4 g.each)) (first_four f.each)
+    ∙ ap (greatest (get_or f.each 0 0 ∷ get_or f.each 1 0 ∷ get_or f.each 2 0 ∷ get_or f.each 3 0 ∷ [])) (first_four g.each))
+
 pub full_twice : (f : Form) → full_form (full_form f) ≡ full_form f
 full_twice f = ap (form_is f.base) (first_twice 4 f.each)
 

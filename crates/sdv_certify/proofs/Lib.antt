@@ -42,3 +42,4 @@ pub mod SortLaws
 pub mod SurveyLaws
 pub mod QuietLaws
 pub mod FoundLaws
+pub mod RestLaws

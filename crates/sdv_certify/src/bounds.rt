@@ -3,8 +3,8 @@
 ghost use Rattle.std.specs.Prelude.{◌≡◌, ◌≢◌, ◌+◌, ◌<◌, ◌^◌, ◌++◌, ◌∷◌, [], map, max, reverse, All, IfOk, IfErr, OnOk, IsTrue, ◌↔◌, ◌≤◌};
 ghost use Rattle.sdv_graph.specs.Moves.{statements_moves, ways_moves, statement_moves};
 ghost use Rattle.sdv_script.specs.Shown.{shown};
-ghost use Rattle.sdv_graph.specs.Tree.{statements_of, ways_of, statement_of};
-ghost use Rattle.sdv_certify.specs.Forms.{leads_to, form_statements, form_ways, form_before, forms_of_statements, forms_of_ways, forms_of_statement, forms_of, full_form, in_full, FormInLimits};
+ghost use Rattle.sdv_graph.specs.Tree.{statements_of, ways_of, statement_of, turns};
+ghost use Rattle.sdv_certify.specs.Forms.{leads_to, either_form, form_statements, form_ways, form_before, forms_of_statements, forms_of_ways, forms_of_statement, forms_of, full_form, in_full, FormInLimits};
 ghost use Rattle.sdv_script.specs.Rules.{max_number};
 ghost use Rattle.sdv_certify.specs.Blocks.{blocks_of};
 ghost use Rattle.sdv_certify.specs.LoopTurns.{StatementsTurn, WaysTurn, StatementTurns};
@@ -100,6 +100,65 @@ fn put_cases(
     Ok(before)
 }
 
+// Appends the forms of two blocks, those of the second one first, and then the form before both, which it answers.
+#[cycle(forms)]
+fn put_both(
+    alloc: Global,
+    forms: &mut Vec<Form>,
+    a: &Block<'_>,
+    b: &Block<'_>,
+    after: Option<Form>,
+    out: Option<Form>,
+) -> Result<Form, AllocError>
+    requires few { statements_moves (statements_of a.now) + statements_moves (statements_of b.now)
+        + max (leads_to after).base (leads_to out).base < 2 ^ 128 }
+    requires one { StatementsTurn (statements_of a.now) }
+    requires other { StatementsTurn (statements_of b.now) }
+    ensures before { IfOk result (λ before. full_form before ≡ full_form (leads_to
+        (either_form (form_statements (statements_of a.now) after out)
+        (form_statements (statements_of b.now) after out)))) }
+    ensures forms { OnOk result (map full_form forms.new.items
+        ≡ map full_form forms.old.items ++ reverse (map full_form (leads_to
+        (either_form (form_statements (statements_of a.now) after out)
+        (form_statements (statements_of b.now) after out))
+        ∷ (forms_of_statements (statements_of a.now) after out
+        ++ forms_of_statements (statements_of b.now) after out)))) }
+{
+    let other = put_block(alloc, forms, b, after, out)?;
+    let one = put_block(alloc, forms, a, after, out)?;
+    push(forms, leads_to(either_form(one, other)))
+}
+
+// Appends the forms of a loop of so many turns, those of its else block first, then those of its body, and then that at
+// its head; answers the form before it.
+#[cycle(forms)]
+fn put_loop(
+    alloc: Global,
+    forms: &mut Vec<Form>,
+    count: u16,
+    a: &Block<'_>,
+    b: &Block<'_>,
+    after: Option<Form>,
+    out: Option<Form>,
+) -> Result<Form, AllocError>
+    requires few { statement_moves (turns count (statements_of a.now) (statements_of b.now))
+        + max (leads_to after).base (leads_to out).base < 2 ^ 128 }
+    requires turns { StatementTurns (turns count (statements_of a.now) (statements_of b.now)) }
+    ensures before { IfOk result (λ before. full_form before
+        ≡ full_form (form_before (turns count (statements_of a.now) (statements_of b.now)) after out)) }
+    ensures forms { OnOk result (map full_form forms.new.items
+        ≡ map full_form forms.old.items ++ reverse (map full_form
+        (forms_of_statement (turns count (statements_of a.now) (statements_of b.now)) after out))) }
+{
+    let other = put_block(alloc, forms, b, after, out)?;
+    let body = block_spans(a);
+    let last = last_turn(body, leads_to(other), leads_to(after));
+    let head = head_form(body, last);
+    put_block(alloc, forms, a, Some(head), inside_too(after))?;
+    push(forms, head)?;
+    Ok(before_loop(count, body, last))
+}
+
 #[cycle(forms)]
 fn put_stmt(
     alloc: Global,
@@ -121,27 +180,8 @@ fn put_stmt(
             let next = put_cases(alloc, forms, cases, after, out)?;
             push(forms, sends_then(next))
         }
-        Stmt::Phase(_, a, b) => {
-            let other = put_block(alloc, forms, b, after, out)?;
-            let one = put_block(alloc, forms, a, after, out)?;
-            let form = push(forms, leads_to(either_form(one, other)))?;
-            Ok(form)
-        }
-        Stmt::If(_, a, b) => {
-            let other = put_block(alloc, forms, b, after, out)?;
-            let one = put_block(alloc, forms, a, after, out)?;
-            let form = push(forms, leads_to(either_form(one, other)))?;
-            Ok(form)
-        }
-        Stmt::Loop(turns, a, b) => {
-            let other = put_block(alloc, forms, b, after, out)?;
-            let body = block_spans(a);
-            let last = last_turn(body, leads_to(other), leads_to(after));
-            let head = head_form(body, last);
-            put_block(alloc, forms, a, Some(head), inside_too(after))?;
-            push(forms, head)?;
-            Ok(before_loop(*turns, body, last))
-        }
+        Stmt::Phase(_, a, b) | Stmt::If(_, a, b) => put_both(alloc, forms, a, b, after, out),
+        Stmt::Loop(turns, a, b) => put_loop(alloc, forms, *turns, a, b, after, out),
         Stmt::Let(_) | Stmt::Set(_) | Stmt::Clear(_) | Stmt::BusLines(_) => {
             push(forms, leads_to(after))
         }
