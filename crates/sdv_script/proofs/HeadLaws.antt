@@ -9,7 +9,7 @@ use Rattle.sdv_script.specs.declared.keyword.Keyword.{Keyword}
 use Rattle.sdv_script.specs.declared.keyword.Keyword.TheVariants as word
 use Rattle.sdv_script.specs.Tokens.{Token, Key}
 use Rattle.sdv_script.specs.Reading.{Progress, progress_to, Reading, Blocks, WaysOf, after_open, after_close, after_ok, read_command, read_condition, read_count, read_receive, read_plain, read_branches, read_phase, read_send, read_if, read_loop, read_after, read_statement}
-use Rattle.sdv_script.specs.Heads.{Head, plain, read_head, head_after, send_head, phase_head, if_head, loop_head, read_rest, in_two_steps}
+use Rattle.sdv_script.specs.Heads.{Head, plain, head_after, send_head, phase_head, if_head, loop_head, read_rest, in_two_steps}
 
 -- a step that is itself two steps
 one_step : {A B C : Type 0} (o : Option A) (h : A → Option C) (f : A → Option B) (g : B → Option C) → ((a : A) → h a ≡ (f a >>= g))
