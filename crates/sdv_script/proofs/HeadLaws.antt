@@ -1,17 +1,15 @@
 -- A statement is what it begins with, and then what follows it.
-use Rattle.std.proofs.Common.{◌≡◌, ℕ, ◌+◌, Bool, true, false, cond, List, [], ◌∷◌, refl, Option, Some, None}
+use Rattle.std.proofs.Common.{◌≡◌, ℕ, ◌+◌, Bool, true, false, cond, List, ◌∷◌, refl, Option, Some, None}
 use Rattle.sdv_text.specs.Fronts.{◌>>=◌}
 use Rattle.sdv_graph.specs.declared.tree.Phase.{Phase}
 use Rattle.sdv_graph.specs.declared.tree.Phase.TheVariants as phases
 use Rattle.sdv_graph.specs.Tree.{Declared, Statement}
-use Rattle.sdv_card.specs.CommandTable.{order_of}
 use Rattle.sdv_script.specs.declared.depth.Depth.{Depth}
 use Rattle.sdv_script.specs.declared.keyword.Keyword.{Keyword}
 use Rattle.sdv_script.specs.declared.keyword.Keyword.TheVariants as word
 use Rattle.sdv_script.specs.Tokens.{Token, Key}
-use Rattle.sdv_script.specs.Rules.{in_loop}
 use Rattle.sdv_script.specs.Reading.{Progress, progress_to, Reading, Blocks, WaysOf, after_open, after_close, after_ok, read_command, read_condition, read_count, read_receive, read_plain, read_branches, read_phase, read_send, read_if, read_loop, read_after, read_statement}
-use Rattle.sdv_script.specs.Heads.{Head, plain, read_head, head_after, send_head, phase_head, if_head, loop_head, read_rest, in_two_steps}
+use Rattle.sdv_script.specs.Heads.{Head, plain, head_after, send_head, phase_head, if_head, loop_head, read_rest, in_two_steps}
 
 -- a step that is itself two steps
 one_step : {A B C : Type 0} (o : Option A) (h : A → Option C) (f : A → Option B) (g : B → Option C) → ((a : A) → h a ≡ (f a >>= g))

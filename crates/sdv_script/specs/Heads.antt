@@ -1,5 +1,5 @@
 -- Reading a statement in two steps: what it begins with, and then its blocks.
-use Rattle.std.specs.Prelude.{ℕ, ◌+◌, List, [], ◌∷◌, Option, Some, None, ◌&&◌, nat_lt, if◌then◌else◌}
+use Rattle.std.specs.Prelude.{ℕ, ◌+◌, List, ◌∷◌, Option, Some, None, ◌&&◌, nat_lt, if◌then◌else◌}
 use Rattle.sdv_text.specs.Fronts.{◌>>=◌}
 use Rattle.sdv_card.specs.declared.command.Order.{Order}
 use Rattle.sdv_card.specs.CommandTable.{order_of}

@@ -69,7 +69,6 @@ fn is_closed(at: Cursor<'_>) -> bool
 }
 
 #[cycle(blocks)]
-#[tactic(auto, using(crate::proofs::HeadLaws::statement_steps))]
 fn statement<'a>(
     alloc: Global,
     names: &Names<'a>,

@@ -1,4 +1,4 @@
-use Rattle.std.proofs.Common.{rules, ◌-◌, map, sym, ◌∙◌, arith}
+use Rattle.std.proofs.Common.{◌-◌, map, sym, ◌∙◌, arith}
 use Rattle.std.proofs.lemmas.Result.{err_from_is_err_and}
 use Rattle.std.proofs.lemmas.List.{map-append}
 use Rattle.sdv_script.specs.Place.{names_of, progress_of}
@@ -7,6 +7,7 @@ use Rattle.sdv_graph.specs.Tree.{statement_of, statements_of, ways_of, otherwise
 use Rattle.sdv_script.specs.Reading.{read_statements}
 use Rattle.sdv_script.specs.GuardedOf.{guarded_of}
 use Rattle.sdv_script.proofs.CaseLaws.{ahead_ends, ahead_goes_on, last_read, last_stops, last_fails, case_fails, no_level_left}
+use Rattle.sdv_script.proofs.HeadLaws.{statement_steps}
 use Rattle.sdv_script.proofs.RowLaws.{behind_ends, behind_fails, behind_goes_on, no_row_left}
 use Rattle.sdv_script.proofs.blocks.+blocks.Goals as goal
 
@@ -74,3 +75,15 @@ pub ways-returns : goal.ways-returns
 ways-returns t c =
     sym c.loop-left.invariant ∙ no_level_left (map guarded_of c.loop-left.read.items) c.loop-left.left (names_of c.args.names.now) c.args.depth c.args.order
     (progress_of c.loop-left.from) (omega arith)
+
+pub statement-returns-in-Plain : goal.statement-returns-in-Plain
+statement-returns-in-Plain t c = grind (arith, statement_steps)
+
+pub statement-returns-in_ok-cases-in-Send : goal.statement-returns-in_ok-cases-in-Send
+statement-returns-in_ok-cases-in-Send t c = grind (arith, statement_steps)
+
+pub statement-returns-in_err-first-in-Fork : goal.statement-returns-in_err-first-in-Fork
+statement-returns-in_err-first-in-Fork t c = grind (arith, statement_steps)
+
+pub statement-returns-in_ok-first-in-Fork : goal.statement-returns-in_ok-first-in-Fork
+statement-returns-in_ok-first-in-Fork t c = grind (arith, statement_steps)
