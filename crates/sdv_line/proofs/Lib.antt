@@ -1,3 +1,2 @@
 pub mod CommandLineLaws
 pub mod WordsGiven
-pub mod WithCommand

@@ -3,13 +3,13 @@ ghost use Rattle.std.specs.Prelude.{◌≡◌, ◌≢◌, [], true, Some, IfErr,
 ghost use Rattle.std.specs.Prelude.{option_and_then, option_map};
 ghost use Rattle.std.specs.Str.{bytes_eq};
 ghost use Rattle.clap.specs.Words.{App, app_of, fault_of, found_of, kind_of, rows_of};
-ghost use Rattle.clap.specs.Words.{subcommand_rows_of, takes, with_rule, with_subcommand};
+ghost use Rattle.clap.specs.Words.{new_app, subcommand_rows_of, takes, with_rule, with_subcommand};
 ghost use Rattle.clap.specs.Walk.{texts};
 ghost use Rattle.clap.specs.declared.error.kind.ErrorKind.TheVariants.{OutOfMemory};
-ghost use Rattle.sdv_line.specs.CommandLine.{batch_command, batch_request, explain_command, explain_request};
-ghost use Rattle.sdv_line.specs.CommandLine.{graph_command, graph_request, print_command, print_request};
-ghost use Rattle.sdv_line.specs.CommandLine.{certify_command, certify_request, check_command, check_request, command_line};
-ghost use Rattle.sdv_line.specs.CommandLine.{frame_command, frame_request, meaning_of, program_shape, request_in, request_of, required, running_line};
+ghost use Rattle.sdv_line.specs.CommandLine.{batch_request, explain_request};
+ghost use Rattle.sdv_line.specs.CommandLine.{graph_request, print_request};
+ghost use Rattle.sdv_line.specs.CommandLine.{certify_request, check_request, command_line};
+ghost use Rattle.sdv_line.specs.CommandLine.{frame_request, meaning_of, program_shape, request_in, request_of, required, running_line};
 ghost use Rattle.sdv_line.specs.CommandLine.{run_command, run_files_command, run_request};
 
 use clap::error::ErrorKind;
@@ -134,88 +134,66 @@ fn top_command<'a>(alloc: Global) -> Command<'a>
 fn program_command<'a>(alloc: Global) -> Result<Command<'a>, AllocError>
     ensures { IfOk result (λ command. app_of command ≡ command_line) }
 {
-    let app = running_commands(alloc)?;
-    let app = with_command(app, batch_command(alloc))?;
-    let app = with_command(app, explain_command(alloc))?;
-    let app = with_command(app, graph_command(alloc))?;
-    with_command(app, print_command(alloc))
+    let batch = of_two_words(alloc, "batch", "KIND", "REQUESTS");
+    let app = with_command(running_commands(alloc), batch);
+    let app = with_command(app, of_one_word(alloc, "explain", "SCRIPT"));
+    let app = with_command(app, of_one_word(alloc, "graph", "SCRIPT"));
+    with_command(app, of_one_word(alloc, "print", "SCRIPT"))
 }
 
 // `sdv` with the commands that go from a script to its run.
 fn running_commands<'a>(alloc: Global) -> Result<Command<'a>, AllocError>
     ensures { IfOk result (λ command. app_of command ≡ running_line) }
 {
-    let app = with_command(top_command(alloc), frame_command(alloc))?;
-    let app = with_command(app, certify_command(alloc))?;
-    let app = with_command(app, check_command(alloc))?;
+    let frame = of_two_words(alloc, "frame", "INDEX", "ARG");
+    let app = with_command(Ok(top_command(alloc)), frame);
+    let app = with_command(app, of_one_word(alloc, "certify", "SCRIPT"));
+    let app = with_command(app, of_two_words(alloc, "check", "SCRIPT", "CERT"));
     with_command(app, run_command(alloc))
 }
 
-// The program with one command more, where there was memory for that one.
+// The program with one command more, where there was memory for both.
 fn with_command<'a>(
-    program: Command<'a>,
+    program: Result<Command<'a>, AllocError>,
     command: Result<Command<'a>, AllocError>,
 ) -> Result<Command<'a>, AllocError>
-    ensures { (app : App) → app.top.is_plain ≡ true → IfOk command.entry (λ given. app_of given ≡ app)
-        → IfOk result (λ more. app_of more ≡ with_subcommand (app_of program.entry) app.top) }
+    ensures { (all app : App) → app.top.is_plain ≡ true → IfOk program.entry (λ given. app_of given ≡ all)
+        → IfOk command.entry (λ given. app_of given ≡ app)
+        → IfOk result (λ more. app_of more ≡ with_subcommand all app.top) }
 {
-    program.subcommand(command?)
+    program?.subcommand(command?)
 }
 
-// The command with one word more, which may not be left out.
+// The command with one word more, which may not be left out, where there was memory for the command.
 fn with_word<'a>(
     alloc: Global,
-    command: Command<'a>,
-    name: &'a str,
+    command: Result<Command<'a>, AllocError>,
+    word: &'a str,
 ) -> Result<Command<'a>, AllocError>
-    ensures { IfOk result (λ more. app_of more ≡ with_rule (app_of command.entry) (required name.entry.now)) }
+    ensures { (app : App) → IfOk command.entry (λ given. app_of given ≡ app)
+        → IfOk result (λ more. app_of more ≡ with_rule app (required word.entry.now)) }
 {
-    command.arg(Arg::new(alloc, name).required(true))
+    command?.arg(Arg::new(alloc, word).required(true))
 }
 
-fn frame_command<'a>(alloc: Global) -> Result<Command<'a>, AllocError>
-    ensures { IfOk result (λ command. app_of command ≡ frame_command) }
+// A command with one word.
+fn of_one_word<'a>(alloc: Global, name: &'a str, word: &'a str) -> Result<Command<'a>, AllocError>
+    ensures { IfOk result (λ command. app_of command ≡ with_rule (new_app name.entry.now) (required word.entry.now)) }
 {
-    let command = with_word(alloc, Command::new(alloc, "frame"), "INDEX")?;
-    with_word(alloc, command, "ARG")
+    with_word(alloc, Ok(Command::new(alloc, name)), word)
 }
 
-fn certify_command<'a>(alloc: Global) -> Result<Command<'a>, AllocError>
-    ensures { IfOk result (λ command. app_of command ≡ certify_command) }
+// A command with two words.
+fn of_two_words<'a>(
+    alloc: Global,
+    name: &'a str,
+    first: &'a str,
+    second: &'a str,
+) -> Result<Command<'a>, AllocError>
+    ensures { IfOk result (λ command. app_of command
+        ≡ with_rule (with_rule (new_app name.entry.now) (required first.entry.now)) (required second.entry.now)) }
 {
-    with_word(alloc, Command::new(alloc, "certify"), "SCRIPT")
-}
-
-fn check_command<'a>(alloc: Global) -> Result<Command<'a>, AllocError>
-    ensures { IfOk result (λ command. app_of command ≡ check_command) }
-{
-    let command = with_word(alloc, Command::new(alloc, "check"), "SCRIPT")?;
-    with_word(alloc, command, "CERT")
-}
-
-fn explain_command<'a>(alloc: Global) -> Result<Command<'a>, AllocError>
-    ensures { IfOk result (λ command. app_of command ≡ explain_command) }
-{
-    with_word(alloc, Command::new(alloc, "explain"), "SCRIPT")
-}
-
-fn graph_command<'a>(alloc: Global) -> Result<Command<'a>, AllocError>
-    ensures { IfOk result (λ command. app_of command ≡ graph_command) }
-{
-    with_word(alloc, Command::new(alloc, "graph"), "SCRIPT")
-}
-
-fn print_command<'a>(alloc: Global) -> Result<Command<'a>, AllocError>
-    ensures { IfOk result (λ command. app_of command ≡ print_command) }
-{
-    with_word(alloc, Command::new(alloc, "print"), "SCRIPT")
-}
-
-fn batch_command<'a>(alloc: Global) -> Result<Command<'a>, AllocError>
-    ensures { IfOk result (λ command. app_of command ≡ batch_command) }
-{
-    let command = with_word(alloc, Command::new(alloc, "batch"), "KIND")?;
-    with_word(alloc, command, "REQUESTS")
+    with_word(alloc, of_one_word(alloc, name, first), second)
 }
 
 fn run_command<'a>(alloc: Global) -> Result<Command<'a>, AllocError>
@@ -231,10 +209,8 @@ fn run_command<'a>(alloc: Global) -> Result<Command<'a>, AllocError>
 fn run_files_command<'a>(alloc: Global) -> Result<Command<'a>, AllocError>
     ensures { IfOk result (λ command. app_of command ≡ run_files_command) }
 {
-    let command = with_word(alloc, Command::new(alloc, "run"), "SCRIPT")?;
-    let command = with_word(alloc, command, "CERT")?;
-    let command = with_word(alloc, command, "CARD")?;
-    with_word(alloc, command, "IMAGE")
+    let texts = of_two_words(alloc, "run", "SCRIPT", "CERT");
+    with_word(alloc, with_word(alloc, texts, "CARD"), "IMAGE")
 }
 
 fn line_in<'a>(matches: &ArgMatches<'a>) -> Option<Line<'a>>

@@ -1,4 +1,4 @@
-use Rattle.std.proofs.Common.{◌≡◌, ◌∙◌, ap, refl, subst, Bool, true, false, not, ◌&&◌, IfOk}
+use Rattle.std.proofs.Common.{◌≡◌, ◌∙◌, ap, ap₂, refl, subst, Bool, true, false, not, ◌&&◌, IfOk}
 use Rattle.std.proofs.lemmas.Result.{IfOk-weaker}
 use Rattle.clap.specs.Walk.{is_empty}
 use Rattle.clap.specs.Words.{App, app_of, with_subcommand}
@@ -19,7 +19,8 @@ no_globals c a is plain =
     no_global (is_empty fields.groups.items) fields.allow_external_subcommands fields.has_globals _ (ap (λ (a : App). a.top.is_plain) is ∙ plain)
 
 pub returns : goal.returns
-returns c app plain given =
+returns c all app plain known given =
     let is : app_of c.in_ok-command.field-0 ≡ app = subst (λ r. IfOk r (λ given. app_of given ≡ app)) c.in_ok-command.was given in
+    let of_all : app_of c.in_ok-program.field-0 ≡ all = subst (λ r. IfOk r (λ given. app_of given ≡ all)) c.in_ok-program.was known in
     IfOk-weaker c.subcommand.result _ _
-    (λ more added. added.shape (no_globals _ _ is plain) ∙ ap (λ (a : App). with_subcommand (app_of c.args.program) a.top) is) c.subcommand.ensures
+    (λ more added. added.shape (no_globals _ _ is plain) ∙ ap₂ (λ (all app : App). with_subcommand all app.top) of_all is) c.subcommand.ensures
