@@ -178,7 +178,8 @@ fn with_word<'a>(
 
 // A command with one word.
 fn of_one_word<'a>(alloc: Global, name: &'a str, word: &'a str) -> Result<Command<'a>, AllocError>
-    ensures { IfOk result (λ command. app_of command ≡ with_rule (new_app name.entry.now) (required word.entry.now)) }
+    ensures { IfOk result (λ command. app_of command
+        ≡ with_rule (new_app name.entry.now) (required word.entry.now)) }
 {
     with_word(alloc, Ok(Command::new(alloc, name)), word)
 }
