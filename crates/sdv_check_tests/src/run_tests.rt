@@ -558,24 +558,3 @@ static GIVEN: [(usize, &str, usize, (usize, u8)); 5] = [
     (3, "DONE", 4, (3, 3)),
     (4, "DONE", 4, (3, 3)),
 ];
-
-// Whichever allocation is refused, a run ends well or does not begin.
-#[test]
-fn memory_before_the_first_event(rt: HostRuntime) {
-    let alloc = rt.alloc();
-    let text = "card sd nums x send 17 at block x { else { } } recv { ok { } else { } } done";
-    let Ok(script) = parse(alloc, text) else {
-        return;
-    };
-    let Ok(graph) = script.graph(alloc) else {
-        return;
-    };
-    let mut port = PlayPort::new(&COPIED);
-    let (mut output, mut trace) = ([0; 512], [0; 64]);
-    let (mut out, mut lines) = (output.as_mut_slice(), trace.as_mut_slice());
-    let outcome = run_graph(alloc, &graph, &mut port, &[], &mut out, &mut lines);
-    let left = (out.len(), lines.len());
-    let refused = name_of(&outcome) == "MEMORY" && port.calls == 0 && left == (512, 64);
-    let ended = name_of(&outcome) == "DONE" && port.calls == 2 && left == (0, 24);
-    assert!(rt; refused || ended);
-}

@@ -24,7 +24,7 @@ use std::io;
 use std::test::Fail;
 
 /// Why a row has no answer.
-#[derive(Clone, Copy, Debug, PartialEq, Eq)]
+#[derive(Clone, Copy)]
 enum Stopped {
     /// A call answered that memory is wanting.
     Memory,
@@ -178,6 +178,15 @@ fn card(alloc: Global, text: &str, schedule: &[u8]) -> Result<Controller<Sim<Mem
     Ok(Controller::new(sim))
 }
 
+/// How a row ends whose run is right, or was refused memory before it was.
+fn ended(is_right: bool, is_refused: bool) -> Result<(), Stopped> {
+    match (is_right, is_refused) {
+        (true, false) => Ok(()),
+        (true, true) => Err(Stopped::Memory),
+        (false, _) => Err(Stopped::Wrong("the run")),
+    }
+}
+
 /// As many bytes as a trace may have.
 const ROOM: usize = 2048;
 
@@ -208,16 +217,9 @@ fn whole(alloc: Global, script: &Script<'_>) -> Result<(), Stopped> {
         outcome = run(alloc, &accepted, &mut port, &[], &mut io::sink(), &mut left);
     }
     let count = ROOM.saturating_sub(left.len());
-    right(name_of(&outcome) == script.end, "the end")?;
-    right(
-        trace.get(..count) == Some(script.lines.as_bytes()),
-        "the trace",
-    )?;
-    if is_refused {
-        Err(Stopped::Memory)
-    } else {
-        Ok(())
-    }
+    let is_right = name_of(&outcome) == script.end
+        && trace.get(..count) == Some(script.lines.as_bytes());
+    ended(is_right, is_refused)
 }
 
 /// The lines up to the loss of an answer.
@@ -295,19 +297,21 @@ fn requests(alloc: Global) -> Result<(), Stopped> {
         );
     }
     let count = ROOM.saturating_sub(left.len());
-    right(matches!(end, Ok(End::Done)), "the end")?;
-    right(trace.get(..count) == Some(lines.as_bytes()), "the trace")?;
-    right(output == [0x22; 512], "the output")?;
     let image = port.into_wire().into_image().into_bytes();
+    let is_right = matches!(end, Ok(End::Done))
+        && trace.get(..count) == Some(lines.as_bytes())
+        && output == [0x22; 512]
+        && has_one_block(&image);
+    ended(is_right, is_refused)
+}
+
+/// Block 3 has what was written, and all others have zeros.
+fn has_one_block(image: &[u8]) -> bool {
+    let mut is_right = true;
     for (place, byte) in image.iter().enumerate() {
-        let wanted = if place / 512 == 3 { 0x22 } else { 0 };
-        right(*byte == wanted, "the image")?;
+        is_right = is_right && *byte == if place / 512 == 3 { 0x22 } else { 0 };
     }
-    if is_refused {
-        Err(Stopped::Memory)
-    } else {
-        Ok(())
-    }
+    is_right
 }
 
 /// Requests that are refused, and one beyond the end of the card.
