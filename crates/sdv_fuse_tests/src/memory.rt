@@ -10,8 +10,9 @@ use crate::texts::{
 use crate::worked::{fuse, name_of};
 use sdv_block::{BlockFault, Request, batch, serve};
 use sdv_certify::{CertifyFault, certify, write};
-use sdv_check::{CertFault, CheckFault, VerifyFault, verify};
+use sdv_check::{Accepted, CertFault, CheckFault, VerifyFault, verify};
 use sdv_controller::Controller;
+use sdv_facts::Certificate;
 use sdv_file_image::FileImage;
 use sdv_fuse::Call;
 use sdv_image::Image;
@@ -86,14 +87,24 @@ fn right(is_right: bool, what: &'static str) -> Result<(), Stopped> {
     }
 }
 
-/// The certificate of a script. A vector takes it, or is refused memory.
-fn certificate_of(alloc: Global, script: &str) -> Result<String, Stopped> {
-    let certificate = certify(alloc, &parse(alloc, script)?)?;
+/// A script's certificate.
+fn certified(alloc: Global, script: &str) -> Result<Certificate, Stopped> {
+    let script = parse(alloc, script)?;
+    Ok(certify(alloc, &script)?)
+}
+
+/// The text of a certificate. A vector takes it, or is refused memory.
+fn text_of(alloc: Global, certificate: &Certificate) -> Result<String, Stopped> {
     let mut text = Vec::new(alloc);
-    match write(&certificate, &mut text) {
+    match write(certificate, &mut text) {
         Ok(()) => String::from_utf8(text).map_err(|_| Stopped::Wrong("the certificate")),
         Err(_) => Err(Stopped::Memory),
     }
+}
+
+/// The text of a script's certificate.
+fn certificate_of(alloc: Global, script: &str) -> Result<String, Stopped> {
+    text_of(alloc, &certified(alloc, script)?)
 }
 
 /// Texts, and the fault and the line of each.
@@ -114,17 +125,25 @@ static TEXTS: [(&str, FaultKind, u32); 10] = [
     ("card sd\nsend 16 @", FaultKind::Token, 2),
 ];
 
-fn texts(alloc: Global) -> Result<(), Stopped> {
+/// The text is no script, for this fault.
+fn is_no_script(alloc: Global, text: &str, wanted: ScriptFault) -> Result<(), Stopped> {
+    match parse(alloc, text).err() {
+        Some(fault) if fault == wanted => Ok(()),
+        Some(fault) => Err(fault.into()),
+        None => Err(Stopped::Wrong("a text that is no script")),
+    }
+}
+
+fn long_text(alloc: Global) -> Result<(), Stopped> {
     let long = " ".repeat(alloc, 65_537)?;
     let (kind, line) = (FaultKind::Limit, 1);
-    let found = parse(alloc, &long).err();
-    right(found == Some(ScriptFault { kind, line }), "a long text")?;
+    is_no_script(alloc, &long, ScriptFault { kind, line })
+}
+
+fn texts(alloc: Global) -> Result<(), Stopped> {
+    long_text(alloc)?;
     for &(text, kind, line) in TEXTS.iter() {
-        match parse(alloc, text) {
-            Err(fault) if fault == (ScriptFault { kind, line }) => {}
-            Err(fault) => return Err(fault.into()),
-            Ok(_) => return Err(Stopped::Wrong(text)),
-        }
+        is_no_script(alloc, text, ScriptFault { kind, line })?;
     }
     Ok(())
 }
@@ -153,19 +172,31 @@ static CERTIFICATES: [(&str, &str, VerifyFault); 4] = [
     ),
 ];
 
-fn smallest(alloc: Global) -> Result<(), Stopped> {
+/// The certificate with another part is refused, for this fault.
+fn is_refused(alloc: Global, old: &str, new: &str, wanted: VerifyFault) -> Result<(), Stopped> {
+    let text = CERTIFICATE.replace(alloc, old, new)?;
+    match verify(alloc, SMALLEST, &text).err() {
+        Some(fault) if fault == wanted => Ok(()),
+        Some(fault) => Err(fault.into()),
+        None => Err(Stopped::Wrong("a certificate that is refused")),
+    }
+}
+
+fn written(alloc: Global) -> Result<(), Stopped> {
     let certificate = certificate_of(alloc, SMALLEST)?;
-    right(certificate.as_str() == CERTIFICATE, "the certificate")?;
-    right(
-        verify(alloc, SMALLEST, CERTIFICATE)?.bound() == 1,
-        "the bound",
-    )?;
+    right(certificate.as_str() == CERTIFICATE, "the certificate")
+}
+
+fn verified(alloc: Global) -> Result<(), Stopped> {
+    let accepted = verify(alloc, SMALLEST, CERTIFICATE)?;
+    right(accepted.bound() == 1, "the bound")
+}
+
+fn smallest(alloc: Global) -> Result<(), Stopped> {
+    written(alloc)?;
+    verified(alloc)?;
     for &(old, new, wanted) in CERTIFICATES.iter() {
-        match verify(alloc, SMALLEST, &CERTIFICATE.replace(alloc, old, new)?) {
-            Err(fault) if fault == wanted => {}
-            Err(fault) => return Err(fault.into()),
-            Ok(_) => return Err(Stopped::Wrong(new)),
-        }
+        is_refused(alloc, old, new, wanted)?;
     }
     Ok(())
 }
@@ -201,25 +232,36 @@ struct Script<'a> {
     end: &'a str,
 }
 
-/// The script is certified, verified and run. Where the run is refused memory, it has not begun, and a second one is
-/// whole: an event more would have met another value of the schedule.
+/// An accepted script is run. Where the run is refused memory, it has not begun, and a second one is whole: an event more
+/// would have met another value of the schedule.
+fn ran(
+    alloc: Global,
+    script: &Script<'_>,
+    accepted: &Accepted<'_>,
+    port: &mut Controller<Sim<MemImage>>,
+) -> Result<(), Stopped> {
+    let mut trace = [0; ROOM];
+    let mut left = trace.as_mut_slice();
+    let mut outcome = run(alloc, accepted, port, &[], &mut io::sink(), &mut left);
+    let is_refused = matches!(outcome, Err(RunFault::Memory));
+    let is_unbegun = !is_refused || left.len() == ROOM;
+    if is_refused {
+        outcome = run(alloc, accepted, port, &[], &mut io::sink(), &mut left);
+    }
+    let count = ROOM.saturating_sub(left.len());
+    let is_right = is_unbegun
+        && name_of(&outcome) == script.end
+        && trace.get(..count) == Some(script.lines.as_bytes());
+    ended(is_right, is_refused)
+}
+
+/// The script is certified, verified and run.
 fn whole(alloc: Global, script: &Script<'_>) -> Result<(), Stopped> {
     let certificate = certificate_of(alloc, script.text)?;
     let accepted = verify(alloc, script.text, &certificate)?;
     right(accepted.bound() == script.bound, "the bound")?;
     let mut port = card(alloc, script.card, script.schedule)?;
-    let mut trace = [0; ROOM];
-    let mut left = trace.as_mut_slice();
-    let mut outcome = run(alloc, &accepted, &mut port, &[], &mut io::sink(), &mut left);
-    let is_refused = matches!(outcome, Err(RunFault::Memory));
-    if is_refused {
-        right(left.len() == ROOM, "a run that was not begun")?;
-        outcome = run(alloc, &accepted, &mut port, &[], &mut io::sink(), &mut left);
-    }
-    let count = ROOM.saturating_sub(left.len());
-    let is_right = name_of(&outcome) == script.end
-        && trace.get(..count) == Some(script.lines.as_bytes());
-    ended(is_right, is_refused)
+    ran(alloc, script, &accepted, &mut port)
 }
 
 /// The lines up to the loss of an answer.
@@ -277,32 +319,32 @@ IN 1 ok
 done
 ";
 
-fn requests(alloc: Global) -> Result<(), Stopped> {
-    let lines = format!(in alloc; "{BLOCK_CARD_UP}{SERVED}")?;
-    let mut port = card(alloc, BLOCK_CARD, &[])?;
+/// Serves the requests, and again where that is refused memory, which it is before it begins: whether what came is right, and
+/// whether memory was refused.
+fn served(alloc: Global, lines: &str, port: &mut Controller<Sim<MemImage>>) -> (bool, bool) {
     let (mut output, mut trace) = ([0; 512], [0; ROOM]);
     let (mut out, mut left) = (output.as_mut_slice(), trace.as_mut_slice());
     let kind = Kind::Sd;
-    let mut end = serve(
-        alloc, kind, &REQUESTS, &mut port, &INPUT, &mut out, &mut left,
-    );
+    let mut end = serve(alloc, kind, &REQUESTS, port, &INPUT, &mut out, &mut left);
     let is_refused = matches!(end, Err(BlockFault::Memory));
+    let is_unbegun = !is_refused || (out.len(), left.len()) == (512, ROOM);
     if is_refused {
-        right(
-            (out.len(), left.len()) == (512, ROOM),
-            "a run that was not begun",
-        )?;
-        end = serve(
-            alloc, kind, &REQUESTS, &mut port, &INPUT, &mut out, &mut left,
-        );
+        end = serve(alloc, kind, &REQUESTS, port, &INPUT, &mut out, &mut left);
     }
     let count = ROOM.saturating_sub(left.len());
-    let image = port.into_wire().into_image().into_bytes();
-    let is_right = matches!(end, Ok(End::Done))
+    let is_right = is_unbegun
+        && matches!(end, Ok(End::Done))
         && trace.get(..count) == Some(lines.as_bytes())
-        && output == [0x22; 512]
-        && has_one_block(&image);
-    ended(is_right, is_refused)
+        && output == [0x22; 512];
+    (is_right, is_refused)
+}
+
+fn requests(alloc: Global) -> Result<(), Stopped> {
+    let lines = format!(in alloc; "{BLOCK_CARD_UP}{SERVED}")?;
+    let mut port = card(alloc, BLOCK_CARD, &[])?;
+    let (is_right, is_refused) = served(alloc, &lines, &mut port);
+    let image = port.into_wire().into_image().into_bytes();
+    ended(is_right && has_one_block(&image), is_refused)
 }
 
 /// Block 3 has what was written, and all others have zeros.
@@ -314,29 +356,27 @@ fn has_one_block(image: &[u8]) -> bool {
     is_right
 }
 
-/// Requests that are refused, and one beyond the end of the card.
-fn batches(alloc: Global) -> Result<(), Stopped> {
+/// Requests that are refused.
+fn refused_requests(alloc: Global) -> Result<(), Stopped> {
     let none = batch(alloc, Kind::Sd, &[]).err();
     right(none == Some(BlockFault::Empty), "no request")?;
     let empty = [Request::Read { first: 0, count: 0 }];
     let refused = batch(alloc, Kind::Sd, &empty).err();
-    right(refused == Some(BlockFault::Range), "no block")?;
+    right(refused == Some(BlockFault::Range), "no block")
+}
+
+static BEYOND: [Request; 1] = [Request::Read {
+    first: 1024,
+    count: 1,
+}];
+
+/// Requests that are refused, and one beyond the end of the card.
+fn batches(alloc: Global) -> Result<(), Stopped> {
+    refused_requests(alloc)?;
     let mut port = card(alloc, BLOCK_CARD, &[])?;
-    let mut trace = [0; ROOM];
-    let mut left = trace.as_mut_slice();
-    let beyond = [Request::Read {
-        first: 1024,
-        count: 1,
-    }];
-    let end = serve(
-        alloc,
-        Kind::Sd,
-        &beyond,
-        &mut port,
-        &[],
-        &mut io::sink(),
-        &mut left,
-    )?;
+    let (mut out, mut trace) = (io::sink(), io::sink());
+    let kind = Kind::Sd;
+    let end = serve(alloc, kind, &BEYOND, &mut port, &[], &mut out, &mut trace)?;
     right(name_of(&Ok(end)) == "beyond", "the end")
 }
 
