@@ -232,8 +232,8 @@ struct Script<'a> {
     end: &'a str,
 }
 
-/// An accepted script is run. Where the run is refused memory, it has not begun, and a second one is whole: an event more
-/// would have met another value of the schedule.
+/// An accepted script is run. Where the run is refused memory, it has not begun, and a second one is whole: an event
+/// more would have met another value of the schedule.
 fn ran(
     alloc: Global,
     script: &Script<'_>,
@@ -319,8 +319,8 @@ IN 1 ok
 done
 ";
 
-/// Serves the requests, and again where that is refused memory, which it is before it begins: whether what came is right, and
-/// whether memory was refused.
+/// Serves the requests, and again where that is refused memory, which it is before it begins: whether what came is
+/// right, and whether memory was refused.
 fn served(alloc: Global, lines: &str, port: &mut Controller<Sim<MemImage>>) -> (bool, bool) {
     let (mut output, mut trace) = ([0; 512], [0; ROOM]);
     let (mut out, mut left) = (output.as_mut_slice(), trace.as_mut_slice());
