@@ -63,7 +63,6 @@ pub struct Point<'a> {
 }
 
 /// The points of a script, with what a run needs to know of its names.
-#[derive(Drop)]
 pub struct Graph<'a> {
     kind: Kind,
     numbers: usize,
@@ -71,6 +70,20 @@ pub struct Graph<'a> {
     points: Vec<Point<'a>>,
     first: Target,
     steps: u128,
+}
+
+impl Drop for Graph<'_> {
+    // One call where a graph is let go: the proofs of those who do need not go through its parts.
+    fn drop(self) {
+        let Graph {
+            kind: _,
+            numbers: _,
+            flags: _,
+            points: _points,
+            first: _,
+            steps: _,
+        } = self;
+    }
 }
 
 impl<'a> Model for Graph<'a> {

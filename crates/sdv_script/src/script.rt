@@ -8,7 +8,6 @@ ghost use Rattle.sdv_graph.specs.Tree.{statements_of};
 use sdv_graph::{Block, Names};
 
 /// A script: its text, what it declares, and its statements.
-#[derive(Drop)]
 pub struct Script<'a> {
     /// The text.
     pub(crate) text: &'a str,
@@ -19,4 +18,15 @@ pub struct Script<'a> {
     ghost can_run: { CanRun (statements_of body) },
     ghost suits: { SuitsKind names.kind (statements_of body) },
     pub ghost is_script: { ∥ IsScript (parsed_of text.now names body) ∥₁ },
+}
+
+impl Drop for Script<'_> {
+    // One call where a script is let go: the proofs of those who do need not go through its parts.
+    fn drop(self) {
+        let Script {
+            text: _,
+            names: _names,
+            body: _body,
+        } = self;
+    }
 }
