@@ -227,32 +227,30 @@ fn put_own<'a>(
     ensures { OnOk result (seen_points points.new.items
         ≡ seen_points points.old.items ++ take 1 (points_of_statement (statement_of stmt.now) at next brk most.now)) }
 {
-    match stmt {
-        Stmt::Send(command, cases) => {
-            let action = send_action(alloc, at + 1, command, cases, next)?;
-            put(alloc, points, action, most)
-        }
+    let action = match stmt {
+        Stmt::Send(command, cases) => send_action(alloc, at + 1, command, cases, next)?,
         Stmt::Phase(phase, a, b) => {
             let (well, other) = entries_of(a, b, at + 1, next);
-            put(alloc, points, Action::Phase(*phase, well, other), most)
+            Action::Phase(*phase, well, other)
         }
         Stmt::If(condition, a, b) => {
             let (holds, other) = entries_of(a, b, at + 1, next);
-            put(alloc, points, Action::If(*condition, holds, other), most)
+            Action::If(*condition, holds, other)
         }
         Stmt::Loop(turns, a, b) => {
             let body = entry_of(a, at + 1, head_of(at));
             let other = outside_of(entry_of(b, at + 1 + count(a), next));
-            put_head(alloc, points, *turns, body, other, most)
+            return put_head(alloc, points, *turns, body, other, most);
         }
-        Stmt::Let(setting) => put(alloc, points, Action::Let(*setting, next), most),
-        Stmt::Set(flag) => put(alloc, points, Action::Flag(*flag, true, next), most),
-        Stmt::Clear(flag) => put(alloc, points, Action::Flag(*flag, false, next), most),
-        Stmt::BusLines(width) => put(alloc, points, Action::Lines(*width, next), most),
-        Stmt::Break => put(alloc, points, Action::Break(brk), most),
-        Stmt::Done => put(alloc, points, Action::Done, most),
-        Stmt::Fault(name) => put(alloc, points, Action::Fault(name), most),
-    }
+        Stmt::Let(setting) => Action::Let(*setting, next),
+        Stmt::Set(flag) => Action::Flag(*flag, true, next),
+        Stmt::Clear(flag) => Action::Flag(*flag, false, next),
+        Stmt::BusLines(width) => Action::Lines(*width, next),
+        Stmt::Break => Action::Break(brk),
+        Stmt::Done => Action::Done,
+        Stmt::Fault(name) => Action::Fault(name),
+    };
+    put(alloc, points, action, most)
 }
 
 // Appends the points of a list of statements: its first statement has the number `at`, its end leads to `next`, a

@@ -6,7 +6,6 @@
 use sdv_card::{Ask, Guard, Kind, Width};
 
 /// A list of statements: none, or a first one and the rest.
-#[derive(Drop)]
 #[cycle(tree)]
 pub enum Block<'a> {
     /// No statement.
@@ -16,7 +15,6 @@ pub enum Block<'a> {
 }
 
 /// What the answers to a command lead to: the first case whose guards all hold is taken.
-#[derive(Drop)]
 #[cycle(tree)]
 pub enum Cases<'a> {
     /// `else`, which comes last.
@@ -26,7 +24,6 @@ pub enum Cases<'a> {
 }
 
 /// A statement.
-#[derive(Drop)]
 #[cycle(tree)]
 pub enum Stmt<'a> {
     /// `send`: a command, and what its answers lead to.
@@ -51,6 +48,57 @@ pub enum Stmt<'a> {
     Done,
     /// `fault`: the run ends in the fault of this name.
     Fault(&'a str),
+}
+
+// One call where a part of the tree is let go: the proofs of those who do need not go through the tree. What comes
+// behind in a row is let go last.
+impl Drop for Block<'_> {
+    #[cycle(tree)]
+    fn drop(self) {
+        match self {
+            Block::Empty => {}
+            Block::Then(statement, rest) => {
+                drop(statement);
+                drop(Box::into_inner(rest));
+            }
+        }
+    }
+}
+
+impl Drop for Cases<'_> {
+    #[cycle(tree)]
+    fn drop(self) {
+        match self {
+            Cases::Else(block) => drop(Box::into_inner(block)),
+            Cases::Case(guards, block, others) => {
+                drop(guards);
+                drop(Box::into_inner(block));
+                drop(Box::into_inner(others));
+            }
+        }
+    }
+}
+
+impl Drop for Stmt<'_> {
+    #[cycle(tree)]
+    fn drop(self) {
+        match self {
+            Stmt::Send(_, cases) => drop(cases),
+            Stmt::Phase(_, first, second)
+            | Stmt::If(_, first, second)
+            | Stmt::Loop(_, first, second) => {
+                drop(Box::into_inner(first));
+                drop(Box::into_inner(second));
+            }
+            Stmt::Let(_)
+            | Stmt::Set(_)
+            | Stmt::Clear(_)
+            | Stmt::BusLines(_)
+            | Stmt::Break
+            | Stmt::Done
+            | Stmt::Fault(_) => {}
+        }
+    }
 }
 
 /// A command as a script writes it.

@@ -29,7 +29,7 @@ use Rattle.sdv_faults.specs.Refused.{Refuses}
 use Rattle.sdv_line.specs.CommandLine.{RunNames}
 use Rattle.sdv_faults.specs.Fault.{fault_of_run}
 use Rattle.sdv_faults.specs.Files.{CardImage, Files, image_of}
-use Rattle.sdv_line.specs.Number.{IsNumber, value_of}
+use Rattle.sdv_text.specs.Number.{IsNumber, value_of}
 
 -- SCHEDULES: a digit from 0 to 7 for each event; spaces and ends of lines are nothing, and any other byte is no digit
 

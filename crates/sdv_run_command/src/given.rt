@@ -8,7 +8,8 @@ ghost use Rattle.sdv_run_command.specs.RunImages.{IsOfName, image_given};
 
 use crate::new_image::NewImage;
 use sdv_faults::{Fault, Store, bytes_in, text_in};
-use sdv_line::{RunFiles, number_of};
+use sdv_line::RunFiles;
+use sdv_text::number_of;
 use std::alloc::{AllocError, Global};
 
 /// The texts and bytes that a run is given, but for the image.

@@ -87,15 +87,18 @@ fn put_value(text: &mut Text, known: &VarFacts) -> Result<(), AllocError> {
     }
 }
 
+/// Adds words, and that there are so many blocks or more.
+fn put_least(text: &mut Text, words: &str, blocks: u64) -> Result<(), AllocError> {
+    put(text, words)?;
+    put_count(text, blocks, "block", "blocks")?;
+    put(text, " or more")
+}
+
 /// Adds what is known of the card's capacity, and of that of a boot partition, if anything is.
 fn put_capacities(text: &mut Text, numbers: &Numbers) -> Result<(), AllocError> {
-    put(text, "the card has ")?;
-    put_count(text, numbers.m, "block", "blocks")?;
-    put(text, " or more")?;
+    put_least(text, "the card has ", numbers.m)?;
     if numbers.mb > 0 {
-        put(text, "; a boot partition has ")?;
-        put_count(text, numbers.mb, "block", "blocks")?;
-        put(text, " or more")?;
+        put_least(text, "; a boot partition has ", numbers.mb)?;
     }
     Ok(())
 }

@@ -15,7 +15,7 @@ use Rattle.sdv_run_command.specs.Run.{RunFails}
 use Rattle.std.specs.Io.KnownBytes.{Appends, Keeps}
 use Rattle.sdv_text.specs.Written.{AppendsPart}
 use Rattle.sdv_faults.specs.Fault.{fault_of_line, status_of}
-use Rattle.sdv_line.specs.Number.{Writes}
+use Rattle.sdv_words.specs.CommandWords.{Writes}
 use Rattle.sdv_line.proofs.CommandLineLaws.{meaning-fault}
 use Rattle.sdv_faults.proofs.StartLaws.{keeps_same}
 use Rattle.sdv_line.specs.declared.line.LineFault.{LineFault}

@@ -20,7 +20,7 @@ use Rattle.sdv_faults.specs.Files.{Files}
 use Rattle.sdv_run_command.specs.Run.{EndsRun, RunFails}
 use Rattle.sdv_run.specs.declared.end.End.TheVariants.{Done}
 use Rattle.sdv_words.specs.FrameText.{frame_text}
-use Rattle.sdv_line.specs.Number.{Writes}
+use Rattle.sdv_words.specs.CommandWords.{Writes}
 
 -- FRAMES
 

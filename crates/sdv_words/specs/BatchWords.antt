@@ -17,7 +17,7 @@ use Rattle.sdv_block.specs.declared.request.Request.{Request as Blocks}
 use Rattle.sdv_block.specs.declared.request.Request.TheVariants.{Read, Write}
 use Rattle.sdv_block.specs.Batch.{batch_refusal}
 use Rattle.sdv_block.specs.BatchText.{batch_script}
-use Rattle.sdv_line.specs.Number.{IsNumber, value_of}
+use Rattle.sdv_text.specs.Number.{IsNumber, value_of}
 use Rattle.sdv_faults.specs.declared.fault.Fault.{Fault}
 use Rattle.sdv_faults.specs.declared.fault.Fault.TheVariants.{Usage, Unserved, Output, Memory}
 

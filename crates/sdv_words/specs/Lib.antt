@@ -1,3 +1,4 @@
+pub mod CommandWords
 pub mod FrameText
 pub mod Check
 pub mod BatchWords

@@ -8,9 +8,8 @@ ghost use Rattle.sdv_faults.specs.declared.fault.Fault.{Fault};
 
 use sdv_block::{Request, batch};
 use sdv_faults::Fault;
-use sdv_line::number_of;
 use sdv_registers::Kind;
-use sdv_text::write_text;
+use sdv_text::{number_of, write_text};
 use std::alloc::Global;
 use std::io::Write;
 

@@ -3,13 +3,12 @@ ghost use Rattle.std.specs.Prelude.{◌≡◌, ◌<◌, ◌≤◌, ◌+◌, ◌^
 ghost use Rattle.arrayvec.specs.ArrayVec.{array_vec_len};
 ghost use Rattle.sdv_words.specs.FrameText.{frame_text, two_digits};
 ghost use Rattle.sdv_words.specs.Answer.{PrintsFrame, PrintsFrameInPart};
-ghost use Rattle.sdv_line.specs.Number.{Writes};
+ghost use Rattle.sdv_words.specs.CommandWords.{Writes};
 ghost use Rattle.sdv_frames.specs.declared.command.Command.{Command};
 
 use arrayvec::ArrayVec;
 use sdv_frames::{Command, encode};
-use sdv_line::number_of;
-use sdv_text::write_text;
+use sdv_text::{number_of, write_text};
 use std::io::{self, Write};
 
 /// The command of an index, 0 to 63, and an argument, 0 to 2^32 - 1, which are given as texts.

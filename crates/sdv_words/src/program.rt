@@ -6,7 +6,7 @@ ghost use Rattle.sdv_words.specs.Answer.{Answers, AsksFrame, AsksNothing, AsksQu
 ghost use Rattle.sdv_words.specs.Answer.{PrintsFrameInPart, RefusesFrame};
 ghost use Rattle.sdv_faults.specs.Files.{any_files, store_of};
 ghost use Rattle.sdv_faults.specs.Fault.{status_of};
-ghost use Rattle.sdv_line.specs.Number.{Writes};
+ghost use Rattle.sdv_words.specs.CommandWords.{Writes};
 ghost use Rattle.sdv_words.specs.Page.{page_of};
 ghost use Rattle.sdv_frames.specs.declared.command.Command.{Command};
 

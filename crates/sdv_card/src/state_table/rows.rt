@@ -7,6 +7,7 @@ ghost use Rattle.sdv_card.specs.StateTable.{rows, targets};
 ghost use Rattle.sdv_card.specs.NextStates.{next_states};
 ghost use Rattle.sdv_card.specs.RowRules.{preset_kept};
 ghost use Rattle.sdv_card.specs.LegalShapes.{row_legal};
+ghost use Rattle.sdv_card.specs.Modes.{calm, failed, set};
 ghost use Rattle.sdv_card.specs.Outcomes.{with_presets, with_matches, taken, stayed};
 
 use super::modes::may_stay_pending;
@@ -56,6 +57,31 @@ fn with_presets<const N: usize>(all: &mut ArrayVec<Fields, N>, card: Fields, pre
             ..card
         });
     }
+}
+
+/// Adds a card for a switch that is made and one for a switch that fails, with each preset count. `card` is as either
+/// leaves the card but for its mode, which was `mode`.
+fn with_switch(
+    all: &mut ArrayVec<Fields, 4>,
+    card: Fields,
+    mode: Mode,
+    setting: Setting,
+    presets: &[u16],
+)
+    requires { array_vec_len all.old + 2 * length presets.now ≤ 4 }
+    ensures { all.new.items ≡ all.old.items ++ (with_presets (record card { mode = calm (set setting mode) }) presets.now ++
+        with_presets (record card { mode = failed mode }) presets.now) }
+{
+    let set = Fields {
+        mode: mode.set(setting).calm(),
+        ..card
+    };
+    with_presets(all, set, presets);
+    let failed = Fields {
+        mode: mode.failed(),
+        ..card
+    };
+    with_presets(all, failed, presets);
 }
 
 /// A settled card after a row; `heard`: the host heard the answer, or there is none.
@@ -114,18 +140,7 @@ pub fn taken<T: Rows>(row: Row, heard: bool, t: &Fields) -> ArrayVec<Fields, 4>
             with_presets(&mut all, Fields { matched: true, ..u }, kept);
         }
         Row::Cmd3Emmc => with_presets(&mut all, Fields { matched: true, ..u }, kept),
-        Row::Cmd6 { setting } => {
-            let set = Fields {
-                mode: t.mode.set(setting).calm(),
-                ..u
-            };
-            with_presets(&mut all, set, kept);
-            let failed = Fields {
-                mode: t.mode.failed(),
-                ..u
-            };
-            with_presets(&mut all, failed, kept);
-        }
+        Row::Cmd6 { setting } => with_switch(&mut all, u, t.mode, setting, kept),
         Row::Cmd13 => {
             with_presets(&mut all, u, kept);
             if may_stay_pending(heard, t.state, t.mode) {

@@ -1,8 +1,8 @@
-//! Numbers in the program's words.
+//! Numbers in words.
 ghost use Rattle.std.specs.Prelude.{◌≡◌, ◌<◌, ◌≤◌, ◌^◌};
 ghost use Rattle.std.specs.Option.{SomeIff};
 ghost use Rattle.std.specs.Str.Parse.{IsNumeral, digits_value};
-ghost use Rattle.sdv_line.specs.Number.{IsNumber, value_of};
+ghost use Rattle.sdv_text.specs.Number.{IsNumber, value_of};
 
 /// The number that a text writes: in decimal digits, or after `0x` in hexadecimal digits of either
 /// case. `None` for every other text, and for a number of 2^32 or more.
