@@ -1,14 +1,12 @@
-//! Texts and comparisons that tests share.
+//! Texts of scripts and certificates, what is made of them, a writer and a comparison that tests share.
 
-use sdv_script::{Graph, ScriptFault, parse};
+use sdv_certify::{certify, write};
+use sdv_facts::Certificate;
+use sdv_script::{Graph, ScriptFault, parse, print};
 use std::alloc::Global;
 use std::fmt::Debug;
+use std::io::{self, Error, ErrorKind, Write};
 use std::process::Abort;
-
-/// Stops the test where what was found is not what is wanted; the message shows the row.
-pub fn same<T: PartialEq + Debug, R: Debug>(rt: &impl Abort, found: &T, wanted: &T, row: &R) {
-    assert_eq!(rt; found, wanted, "{row:?}");
-}
 
 /// A script that brings a card up to the transfer state.
 pub const BRING_UP: &str = "card sd
@@ -41,7 +39,105 @@ if hc { send 8 { clean { recv reg { ok { let cap = ext.blocks } else { fault ext
 done
 ";
 
+/// The smallest script that sends a command.
+pub const SMALLEST: &str = "card sd\nsend 0 { else { } }\nfault stop\n";
+
+/// Its certificate.
+pub const CERTIFICATE: &str = "sdv-cert 1
+points 2
+p 0 b 1 m 1 s 0000000000002000 0000000000002800 0000000000002c00
+p 1 b 0 m 1 s 0000000000002000 0000000000002800 0000000000002c00
+";
+
+/// The text of a certificate with a point in four loops, with two variables and no shape, and one with the greatest
+/// numbers.
+pub const WIDE: &str = "sdv-cert 1
+points 2
+p 0 b 10 0 12 7 65535 m 0 v 0 1099511627776 - v 3 5 40 s
+p 1 b 1099511627776 1099511627776 m 1099511627776 v 0 0 0 v 0 0 - s 0000000000000000 ffffffffffffffff
+";
+
+/// Stops the test where what was found is not what is wanted; the message shows the row.
+pub fn same<T: PartialEq + Debug, R: Debug>(rt: &impl Abort, found: &T, wanted: &T, row: &R) {
+    assert_eq!(rt; found, wanted, "{row:?}");
+}
+
+/// Pieces of a text, each so many times.
+pub fn repeated(rt: &impl Abort, alloc: Global, pieces: &[(&str, usize)]) -> String {
+    let mut text = String::new(alloc);
+    for (piece, times) in pieces {
+        for _ in 0..*times {
+            text.push_str(piece).expect(rt, "memory");
+        }
+    }
+    text
+}
+
 /// The graph of the script of a text, or why it is none.
 pub fn graph_of<'a>(alloc: Global, text: &'a str) -> Result<Graph<'a>, ScriptFault> {
     parse(alloc, text)?.graph(alloc)
+}
+
+/// What is printed of a script.
+pub fn printed(rt: &impl Abort, alloc: Global, text: &str) -> Vec<u8> {
+    let script = parse(alloc, text).expect(rt, "a script");
+    let mut out = Vec::new(alloc);
+    print(&script, &mut out).expect(rt, "memory");
+    out
+}
+
+/// The text of a certificate.
+pub fn text_of(rt: &impl Abort, alloc: Global, certificate: &Certificate) -> String {
+    let mut out = Vec::new(alloc);
+    write(certificate, &mut out).expect(rt, "memory");
+    String::from_utf8(out).expect(rt, "a text")
+}
+
+/// A script's certificate.
+pub fn certificate_of(rt: &impl Abort, alloc: Global, text: &str) -> Certificate {
+    let script = parse(alloc, text).expect(rt, "a script");
+    certify(alloc, &script).expect(rt, "a certificate")
+}
+
+/// The text of a script's certificate.
+pub fn certified(rt: &impl Abort, alloc: Global, text: &str) -> String {
+    text_of(rt, alloc, &certificate_of(rt, alloc, text))
+}
+
+/// A writer with room for so many bytes, which takes one at a time.
+#[derive(Drop)]
+pub struct Room {
+    /// The bytes that it took.
+    pub taken: Vec<u8>,
+    /// How many it takes.
+    pub room: usize,
+}
+
+impl Room {
+    /// A writer that took nothing yet.
+    pub fn new(alloc: Global, room: usize) -> Room {
+        Room {
+            taken: Vec::new(alloc),
+            room,
+        }
+    }
+}
+
+impl Write for Room {
+    fn write(&mut self, buf: &[u8]) -> io::Result<usize> {
+        if self.taken.len() == self.room {
+            return Err(Error::from(ErrorKind::StorageFull));
+        }
+        match buf {
+            [] => Ok(0),
+            [byte, ..] => {
+                self.taken.push(*byte)?;
+                Ok(1)
+            }
+        }
+    }
+
+    fn flush(&mut self) -> io::Result<()> {
+        Ok(())
+    }
 }

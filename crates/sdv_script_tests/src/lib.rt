@@ -1,14 +1,18 @@
-//! Tests of the libraries of scripts, of their graphs, and of what is known at their points.
+//! Tests of the libraries of scripts: their texts and graphs, what is known at their points, certificates, runs and
+//! explanations; and of texts, ports and wires that may have or answer anything.
+//!
+//! A module stands for a group of subjects, and `common` has what several of them use. `rising` has shapes that rise,
+//! with contracts that the tests of sets need.
 #![tactic(auto)]
 
 #[cfg(test)]
+mod checks;
+#[cfg(test)]
 mod common;
 #[cfg(test)]
-mod facts_tests;
+mod explanations;
 #[cfg(test)]
-mod graph_tests;
+mod hostile;
 pub mod rising;
 #[cfg(test)]
-mod script_tests;
-#[cfg(test)]
-mod set_tests;
+mod scripts;

@@ -1,21 +1,24 @@
-//! Tests of simulated cards: descriptions, how a `Sim` is made, bring-ups with their answers to the letter, what each value
-//! of a schedule does, reads, writes and erases, data lines, partitions and switches that fail, and runs of scripts beside
-//! them with their traces.
+//! Tests of simulated cards, of images over files, and of what runs beside such a card: scripts, and the block layer; and
+//! of what fails once.
 //!
-//! The crate has no code of its own.
+//! A module stands for a group of subjects. `texts` has the scripts, cards and traces that several of them use,
+//! `requests` the requests, `scripts` accepts a script, and `shared` has what else they call. The crate has no code of
+//! its own.
 #![tactic(auto)]
 
 #[cfg(test)]
-mod bring_up;
+mod blocks;
 #[cfg(test)]
-mod descriptions;
+mod cards;
 #[cfg(test)]
-mod failing;
+mod failing_once;
 #[cfg(test)]
-mod phases;
+mod file_images;
 #[cfg(test)]
-mod runs;
+mod requests;
+#[cfg(test)]
+mod scripts;
 #[cfg(test)]
 mod shared;
 #[cfg(test)]
-mod switches;
+mod texts;

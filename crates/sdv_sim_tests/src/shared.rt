@@ -11,18 +11,6 @@ use std::process::Abort;
 /// A controller with a simulated card behind it.
 pub type Port = Controller<Sim<MemImage>>;
 
-/// An SD card of version 2 with block addresses, of 1,024 blocks.
-pub const BLOCK_CARD: &str = "card sd\nversion 2\nunit block\ncsize 0\nrca 4660\n";
-
-/// An SD card of version 1, of 4 blocks.
-pub const BYTE_CARD: &str = "card sd\nversion 1\nunit byte\ncsize 0\ncmult 0\nrbl 9\nrca 1\n";
-
-/// An e.MMC device with block addresses, of 2,048 blocks.
-pub const DEVICE: &str = "card emmc\nunit block\nsectors 2048\n";
-
-/// Such a device with boot partitions of 256 blocks each.
-pub const BOOT_DEVICE: &str = "card emmc\nunit block\nsectors 2048\nboot 1\n";
-
 /// The CID of an SD card.
 pub const SD_CID: [u8; 15] = [
     0x00, 0x58, 0x58, 0x53, 0x44, 0x56, 0x20, 0x20, 0x10, 0x00, 0x00, 0x00, 0x01, 0x01, 0x81,

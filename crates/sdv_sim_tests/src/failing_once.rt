@@ -1,0 +1,7 @@
+//! What fails once: a read or a write of an image, of its file, of the output or of the trace, in each run whose trace
+//! is known to the letter; and an allocation, in rows that the script `.ci/each-allocation` runs once for each of theirs.
+
+mod devices;
+mod files;
+mod memory;
+mod worked;
