@@ -15,7 +15,6 @@ use std::marker::Model;
 pub const MAX_SHAPES: usize = 65_536;
 
 /// What a certificate says of a point of a script.
-#[derive(Drop)]
 pub struct PointFacts {
     /// What is known there.
     pub facts: Facts,
@@ -23,6 +22,17 @@ pub struct PointFacts {
     pub base: u64,
     /// The commands that each turn left adds, of each loop round the point, the outermost first.
     pub turns: ArrayVec<u64, 4>,
+}
+
+impl Drop for PointFacts {
+    // One call, as for a certificate.
+    fn drop(self) {
+        let PointFacts {
+            facts: _facts,
+            base: _,
+            turns: _turns,
+        } = self;
+    }
 }
 
 /// The version of a certificate's text.

@@ -201,7 +201,6 @@ pub enum Condition {
 }
 
 /// What a script declares: the kind of card that it is for, and its names in their order.
-#[derive(Drop)]
 pub struct Names<'a> {
     /// The kind of card.
     pub kind: Kind,
@@ -209,4 +208,15 @@ pub struct Names<'a> {
     pub flags: Vec<&'a str>,
     /// The number variables, at most 8.
     pub numbers: Vec<&'a str>,
+}
+
+impl Drop for Names<'_> {
+    // One call, as for the tree.
+    fn drop(self) {
+        let Names {
+            kind: _,
+            flags: _flags,
+            numbers: _numbers,
+        } = self;
+    }
 }
