@@ -5,9 +5,9 @@ use crate::testing::{USAGE, call, play, same};
 use sdv_faults::Fault;
 use sdv_frames::Command;
 use sdv_line::{Line, LineFault, line_of};
-use sdv_text::number_of;
 use sdv_run::RunFault;
 use sdv_sim::SimFault;
+use sdv_text::number_of;
 use sdv_words::frame::{command_of, write_frame};
 
 static FRAMES: [Step<'static>; 7] = [
