@@ -10,7 +10,7 @@ use Rattle.sdv_certify.specs.declared.spans.Spans.{Spans}
 use Rattle.sdv_certify.specs.Spans.{or_zero, longest, spans_statements}
 use Rattle.sdv_certify.specs.Forms.{leads_to, either_form, last_turn, head_form, before_loop, inside_too, form_statements, form_ways, form_before, form_of_loop, forms_of_statements, forms_of_statement, full_form, in_full}
 use Rattle.sdv_certify.specs.LoopTurns.{StatementsTurn, StatementTurns}
-use Rattle.sdv_certify.proofs.Sizes.{statements_size, statement_size}
+use Rattle.sdv_graph.proofs.Sizes.{statements_size, statement_size}
 use Rattle.sdv_certify.proofs.SpanLaws.{longest_statements}
 use Rattle.sdv_certify.proofs.FormLaws.{leads_same, last_same, head_same, before_same}
 use Rattle.sdv_certify.proofs.SameForms.{same_of_statements, same_of_statement}

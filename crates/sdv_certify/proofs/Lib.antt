@@ -9,7 +9,6 @@ pub mod FewCommands
 pub mod BoundLaws
 pub mod RowLaws
 pub mod TurnLaws
-pub mod Sizes
 pub mod Pays
 pub mod Example
 pub mod WayLaws

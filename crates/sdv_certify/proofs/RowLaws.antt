@@ -9,7 +9,7 @@ use Rattle.sdv_certify.specs.Forms.{greatest, greater, either_form, form_stateme
 use Rattle.sdv_certify.specs.LoopTurns.{StatementsTurn, WaysTurn}
 use Rattle.sdv_certify.proofs.FewCommands.{base_at}
 use Rattle.sdv_certify.proofs.FormLaws.{either_same}
-use Rattle.sdv_certify.proofs.Sizes.{statements_size, ways_size}
+use Rattle.sdv_graph.proofs.Sizes.{statements_size, ways_size}
 
 -- ONE OF MANY FORMS
 

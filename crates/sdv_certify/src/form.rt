@@ -2,7 +2,7 @@
 
 /// How many commands are sent from a point on, at most: a base, and so many more for each turn left of each loop round the
 /// point.
-#[derive(Clone, Copy, Debug, PartialEq, Eq)]
+#[derive(Clone, Copy)]
 pub struct Form {
     /// The commands where no loop round the point has a turn left.
     pub base: u128,

@@ -4,4 +4,5 @@ pub mod FewEvents
 pub mod GraphOf
 pub mod Nesting
 pub mod Paths
+pub mod Sizes
 pub mod Standing

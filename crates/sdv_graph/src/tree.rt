@@ -3,6 +3,10 @@
 //! Flags and number variables are named by their places in declared order, from 0. The texts of tokens that a tree keeps
 //! are slices of the script's text.
 
+ghost use Rattle.std.specs.Prelude.{◌≡◌, List, MatchOption};
+ghost use Rattle.sdv_card.specs.declared.guard.Guard.{Guard};
+ghost use Rattle.sdv_graph.specs.Tree.{first, nothing, otherwise, statement_of, statements_of, way, ways_of};
+
 use sdv_card::{Ask, Guard, Kind, Width};
 
 /// A list of statements: none, or a first one and the rest.
@@ -50,17 +54,28 @@ pub enum Stmt<'a> {
     Fault(&'a str),
 }
 
-// One call where a part of the tree is let go: the proofs of those who do need not go through the tree. What comes
-// behind in a row is let go last.
+// One call where a part of the tree is let go: the proofs of those who do need not go through the tree. Rows of
+// statements and of cases are let go by loops, since a text of the size limit may have too many for a recursion.
 impl Drop for Block<'_> {
     #[cycle(tree)]
     fn drop(self) {
+        let mut row = self.pop();
+        while let Some((statement, rest)) = row {
+            drop(statement);
+            row = rest.pop();
+        }
+    }
+}
+
+impl<'a> Block<'a> {
+    // The first statement, and the block after it.
+    fn pop(self) -> Option<(Stmt<'a>, Block<'a>)>
+        ensures { MatchOption result (statements_of self.entry ≡ nothing)
+            (λ x. statements_of self.entry ≡ first (statement_of x.0) (statements_of x.1)) }
+    {
         match self {
-            Block::Empty => {}
-            Block::Then(statement, rest) => {
-                drop(statement);
-                drop(Box::into_inner(rest));
-            }
+            Block::Empty => None,
+            Block::Then(statement, rest) => Some((statement, Box::into_inner(rest))),
         }
     }
 }
@@ -68,12 +83,26 @@ impl Drop for Block<'_> {
 impl Drop for Cases<'_> {
     #[cycle(tree)]
     fn drop(self) {
+        let (block, mut row) = self.pop();
+        drop(block);
+        while let Some(cases) = row {
+            let (block, others) = cases.pop();
+            drop(block);
+            row = others;
+        }
+    }
+}
+
+impl<'a> Cases<'a> {
+    // The block of the first case, and the cases after it.
+    fn pop(self) -> (Block<'a>, Option<Cases<'a>>)
+        ensures { MatchOption result.1 (ways_of self.entry ≡ otherwise (statements_of result.0))
+            (λ x. (guards : List Guard) × (ways_of self.entry ≡ way guards (statements_of result.0) (ways_of x))) }
+    {
         match self {
-            Cases::Else(block) => drop(Box::into_inner(block)),
-            Cases::Case(guards, block, others) => {
-                drop(guards);
-                drop(Box::into_inner(block));
-                drop(Box::into_inner(others));
+            Cases::Else(block) => (Box::into_inner(block), None),
+            Cases::Case(_guards, block, others) => {
+                (Box::into_inner(block), Some(Box::into_inner(others)))
             }
         }
     }

@@ -1,5 +1,5 @@
 -- The forms of a part come from those of its parts, and are few enough to be counted.
-use Rattle.std.proofs.Common.{rules, ◌≡◌, ◌+◌, ◌<◌, ◌^◌, [], ◌∷◌, ◌++◌, map, reverse, max, Some, ◌⊎◌, inl, inr, refl, sym, ap, ◌∙◌, subst, arith}
+use Rattle.std.proofs.Common.{rules, ◌≡◌, ◌+◌, ◌<◌, ◌^◌, [], ◌∷◌, ◌++◌, map, reverse, max, Some, inl, inr, refl, sym, ap, ◌∙◌, subst, arith}
 use Rattle.sdv_graph.specs.Moves.{statements_moves, statement_moves}
 use Rattle.sdv_graph.specs.Tree.{statements_of, ways_of, statement_of}
 use Rattle.sdv_certify.specs.Spans.{spans_statements}
@@ -8,7 +8,7 @@ use Rattle.sdv_certify.specs.LoopTurns.{StatementsTurn, StatementTurns}
 use Rattle.sdv_certify.proofs.FormLaws.{either_same, leads_same}
 use Rattle.sdv_certify.proofs.SameForms.{same_before}
 use Rattle.std.proofs.lemmas.List.{map-append}
-use Rattle.sdv_certify.proofs.Sizes.{ways_size, statements_size, statement_size}
+use Rattle.sdv_graph.proofs.Sizes.{ways_size, statements_size, statement_size}
 use Rattle.sdv_certify.proofs.RowLaws.{row_begins, row_fits, row_goes_on, row_before_end, row_forms_end}
 use Rattle.sdv_certify.proofs.BoundLaws.{HasBoth, phase_both, choice_both, if_ok, form_same, room_first, room_send, room_last, room_before, room_body, forms_three, forms_first, forms_loop, before_whole, LoopParts}
 use Rattle.sdv_certify.proofs.bounds.+forms.Goals as goal

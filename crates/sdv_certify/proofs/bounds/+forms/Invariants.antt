@@ -1,7 +1,7 @@
 use Rattle.sdv_graph.specs.Tree.{statements_of, ways_of, statement_of}
 use Rattle.std.proofs.Common.{◌+◌, map, vec_len}
 use Rattle.sdv_certify.proofs.RowLaws.{RowLeft}
-use Rattle.sdv_certify.proofs.Sizes.{statements_size, ways_size, statement_size}
+use Rattle.sdv_graph.proofs.Sizes.{statements_size, ways_size, statement_size}
 use Rattle.sdv_certify.proofs.bounds.+forms.Given as goal
 
 abbrev pub decreases-put_block : goal.decreases-put_block

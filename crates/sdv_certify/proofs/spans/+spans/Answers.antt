@@ -4,7 +4,7 @@ use Rattle.std.proofs.Math.Nat.{mul-le-mul_left}
 use Rattle.sdv_graph.specs.Tree.{statements_of, ways_of, statement_of}
 use Rattle.sdv_graph.specs.Moves.{statements_moves, ways_moves, statement_moves}
 use Rattle.sdv_certify.specs.Spans.{either, longest, spans_statements, spans_ways, spans_statement}
-use Rattle.sdv_certify.proofs.Sizes.{ways_size}
+use Rattle.sdv_graph.proofs.Sizes.{ways_size}
 use Rattle.sdv_certify.proofs.SpanRows.{spans_assoc}
 use Rattle.sdv_certify.proofs.SpanLaws.{longest_statements, longest_ways, longest_statement}
 use Rattle.sdv_certify.proofs.spans.+spans.Goals as goal

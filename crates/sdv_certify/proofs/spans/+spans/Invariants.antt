@@ -2,7 +2,7 @@ use Rattle.std.proofs.Common.{◌≡◌, ◌≤◌}
 use Rattle.sdv_graph.specs.Tree.{statements_of, ways_of, statement_of}
 use Rattle.sdv_graph.specs.Moves.{ways_moves}
 use Rattle.sdv_certify.specs.Spans.{either, spans_ways}
-use Rattle.sdv_certify.proofs.Sizes.{statements_size, ways_size, statement_size}
+use Rattle.sdv_graph.proofs.Sizes.{statements_size, ways_size, statement_size}
 use Rattle.sdv_certify.proofs.spans.+spans.Given as goal
 
 abbrev pub decreases-block_spans : goal.decreases-block_spans
