@@ -3,7 +3,7 @@
 use crate::outline::Outline;
 use crate::shapes::{lines_words, state_word};
 use crate::statements::put_statement;
-use crate::text::{Text, put, put_numbered};
+use crate::text::{Text, put, put_all, put_numbered};
 use sdv_card::{State, Width};
 use sdv_graph::Action;
 use std::alloc::AllocError;
@@ -79,16 +79,19 @@ pub fn put_illegality(
     outline: &Outline,
 ) -> Result<(), AllocError> {
     if let Some(state) = illegality.after_step {
-        put(text, "the card may go to ")?;
-        put(text, state_word(state))?;
-        put(text, " state by itself; then ")?;
+        put_all(
+            text,
+            &[
+                "the card may go to ",
+                state_word(state),
+                " state by itself; then ",
+            ],
+        )?;
     }
     match illegality.reason {
         Reason::State(state) => {
             put_statement(text, action, outline)?;
-            put(text, " is not legal in ")?;
-            put(text, state_word(state))?;
-            put(text, " state")
+            put_all(text, &[" is not legal in ", state_word(state), " state"])
         }
         Reason::PresetCount(count) => put_numbered(
             text,
@@ -96,12 +99,15 @@ pub fn put_illegality(
             u64::from(count),
             ", and another one is announced",
         ),
-        Reason::OtherLines { card, host } => {
-            put(text, "the card uses ")?;
-            put(text, lines_words(card))?;
-            put(text, ", and the host ")?;
-            put(text, lines_words(host))
-        }
+        Reason::OtherLines { card, host } => put_all(
+            text,
+            &[
+                "the card uses ",
+                lines_words(card),
+                ", and the host ",
+                lines_words(host),
+            ],
+        ),
         reason => put(text, reason_words(reason)),
     }
 }

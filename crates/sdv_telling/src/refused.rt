@@ -8,7 +8,7 @@ use crate::listing::{put_numbers, put_place};
 use crate::outline::Outline;
 use crate::shapes::put_shape;
 use crate::statements::put_address;
-use crate::text::{Text, put, put_numbered};
+use crate::text::{Text, put, put_all, put_numbered};
 use sdv_card::{Partition, Shape};
 use sdv_facts::Numbers;
 use sdv_graph::{Action, Address, Unit};
@@ -133,8 +133,7 @@ fn digits_of(shape: Shape) -> [u8; 16] {
 
 /// Adds the line of a refusal of a point.
 fn put_fault(text: &mut Text, why: Why, number: usize, shape: Shape) -> Result<(), AllocError> {
-    put(text, "refused ")?;
-    put(text, fault_word(why))?;
+    put_all(text, &["refused ", fault_word(why)])?;
     put_numbered(text, " point ", number as u64, "")?;
     if let Why::Illegal(_) = why {
         put(text, " shape ")?;

@@ -1,6 +1,6 @@
 //! The shapes of cards, in words.
 
-use crate::text::{Text, put, put_numbered};
+use crate::text::{Text, put, put_all, put_numbered, words_if};
 use sdv_card::{EraseStage, Fields, Partition, Shape, State, Transfer, Width};
 use std::alloc::{AllocError, Global};
 
@@ -79,42 +79,49 @@ pub fn lines_words(width: Width) -> &'static str {
 /// Adds the data lines of a card and of its host, unless both use one.
 fn put_lines(text: &mut Text, card: Width, host: Width) -> Result<(), AllocError> {
     if card != host {
-        put(text, ", the card on ")?;
-        put(text, lines_words(card))?;
-        put(text, " and the host on ")?;
-        return put(text, lines_words(host));
+        return put_all(
+            text,
+            &[
+                ", the card on ",
+                lines_words(card),
+                " and the host on ",
+                lines_words(host),
+            ],
+        );
     }
     if card == Width::One {
         return Ok(());
     }
-    put(text, ", on ")?;
-    put(text, lines_words(card))
+    put_all(text, &[", on ", lines_words(card)])
 }
 
 /// Adds what CMD6 and ACMD6 leave of a card.
 fn put_mode(text: &mut Text, fields: &Fields) -> Result<(), AllocError> {
     put_lines(text, fields.mode.width, fields.lines)?;
-    put(text, partition_words(fields.mode.partition))?;
-    if fields.mode.error {
-        put(text, ", a switch error not yet shown")?;
-    }
-    Ok(())
+    let error = words_if(fields.mode.error, ", a switch error not yet shown");
+    put_all(text, &[partition_words(fields.mode.partition), error])
 }
 
 /// Adds the state of a card and all else of it but what varies on a line.
 fn put_state(text: &mut Text, fields: &Fields) -> Result<(), AllocError> {
-    put(text, state_word(fields.state))?;
-    put(text, transfer_words(fields.transfer))?;
-    if fields.app {
-        put(text, ", application command next")?;
-    }
-    put(text, erase_words(fields.erase))?;
+    let app = words_if(fields.app, ", application command next");
+    let words = [
+        state_word(fields.state),
+        transfer_words(fields.transfer),
+        app,
+        erase_words(fields.erase),
+    ];
+    put_all(text, &words)?;
     if fields.preset > 0 {
         put_numbered(text, ", preset count ", u64::from(fields.preset), "")?;
     }
-    if !fields.matched {
-        put(text, ", at an address that the host does not hold")?;
-    }
+    put(
+        text,
+        words_if(
+            !fields.matched,
+            ", at an address that the host does not hold",
+        ),
+    )?;
     put_mode(text, fields)
 }
 

@@ -8,7 +8,7 @@ ghost use Rattle.sdv_telling.specs.Statements.{set_words, setting_words, stateme
 
 use crate::outline::Outline;
 use crate::shapes::numbered_state_word;
-use crate::text::{Text, put, put_number, put_numbered};
+use crate::text::{Text, put, put_all, put_number, put_numbered, words_if};
 use sdv_card::{Aim, Ask, Seen};
 use sdv_graph::{
     Action, Address, Atom, Change, Condition, Let, Phase, Position, ScriptCommand, Unit,
@@ -243,19 +243,17 @@ fn cut_word(action: &Action<'_>) -> &'static str {
 }
 
 fn put_ocr(text: &mut Text, ready: bool, block: Option<bool>) -> Result<(), AllocError> {
-    put(
-        text,
-        if ready {
-            "answer, ready"
-        } else {
-            "answer, not ready"
-        },
-    )?;
-    match block {
-        Some(true) => put(text, ", block addresses"),
-        Some(false) => put(text, ", byte addresses"),
-        None => Ok(()),
-    }
+    let answer = if ready {
+        "answer, ready"
+    } else {
+        "answer, not ready"
+    };
+    let unit = match block {
+        Some(true) => ", block addresses",
+        Some(false) => ", byte addresses",
+        None => "",
+    };
+    put_all(text, &[answer, unit])
 }
 
 fn put_status(
@@ -265,18 +263,14 @@ fn put_status(
     app: bool,
     switch: bool,
 ) -> Result<(), AllocError> {
-    put(text, "status ")?;
-    put(text, numbered_state_word(state))?;
-    if app {
-        put(text, ", application command next")?;
-    }
-    if doubt {
-        put(text, ", error")?;
-    }
-    if switch {
-        put(text, ", switch error")?;
-    }
-    Ok(())
+    let words = [
+        "status ",
+        numbered_state_word(state),
+        words_if(app, ", application command next"),
+        words_if(doubt, ", error"),
+        words_if(switch, ", switch error"),
+    ];
+    put_all(text, &words)
 }
 
 /// Adds what was seen of the event of a statement.

@@ -15,6 +15,19 @@ pub fn put(text: &mut Text, words: &str) -> Result<(), AllocError>
     text.extend_from_slice(words.as_bytes())
 }
 
+/// Adds words, piece by piece.
+pub fn put_all(text: &mut Text, pieces: &[&str]) -> Result<(), AllocError> {
+    for words in pieces {
+        put(text, words)?;
+    }
+    Ok(())
+}
+
+/// The words where that holds, and none otherwise.
+pub fn words_if(holds: bool, words: &str) -> &str {
+    if holds { words } else { "" }
+}
+
 /// Adds a number, in decimal digits.
 pub fn put_number(text: &mut Text, number: u64) -> Result<(), AllocError>
     ensures { OnOk result (text.new.items ≡ text.old.items ++ decimal number) }
