@@ -4,7 +4,7 @@ ghost use Rattle.std.specs.Prelude.{◌≡◌, find};
 ghost use Rattle.sdv_script.specs.Keywords.{keyword_text, keywords, is_text};
 
 /// A reserved word: no name may be spelled like it.
-#[derive(Clone, Copy, Debug, PartialEq, Eq)]
+#[derive(Clone, Copy)]
 pub enum Keyword {
     /// `card`
     Card,

@@ -11,7 +11,7 @@ use sdv_graph::MAX_NUMBER;
 use std::str;
 
 /// A sign.
-#[derive(Clone, Copy, Debug, PartialEq, Eq)]
+#[derive(Clone, Copy)]
 pub enum Sign {
     /// `{`
     OpenBrace,

@@ -131,7 +131,6 @@ fn ask_branches<T: Rows>(all: &mut Branches, ask: &Ask, fields: &Fields)
     }
 }
 
-#[tactic(auto, using(crate::proofs::RoomLaws::one_fits))]
 fn order_branches<T: Rows>(all: &mut Branches, order: Order, fields: &Fields)
     requires { array_vec_len all.old ≤ 0 }
     ensures items { all.new.items ≡ all.old.items ++ order_branches T.kind order fields.now }
