@@ -116,14 +116,19 @@ fn refuses_other_words(rt: HostRuntime) {
 
 #[test]
 fn reads_a_line(rt: HostRuntime) {
-    let line = Line::Frame {
-        index: "63",
-        argument: "0xFFffFFff",
-    };
     let words = ["frame", "63", "0xFFffFFff"];
-    same(&rt, &line_of(rt.alloc(), &words), &Ok(line));
+    let line = line_of(rt.alloc(), &words);
+    assert!(rt;
+        matches!(
+            line,
+            Ok(Line::Frame {
+                index: "63",
+                argument: "0xFFffFFff"
+            })
+        )
+    );
     let usage = line_of(rt.alloc(), &["frame", "63"]);
-    same(&rt, &usage, &Err(LineFault::Usage));
+    same(&rt, &usage.err(), &Some(LineFault::Usage));
     same(&rt, &number_of("0xFFffFFff"), &Some(u32::MAX));
     same(&rt, &number_of("0007"), &Some(7));
     let command = Command {

@@ -13,6 +13,7 @@ mod common;
 mod explanations;
 #[cfg(test)]
 mod hostile;
-pub mod rising;
+#[cfg(test)]
+mod rising;
 #[cfg(test)]
 mod scripts;

@@ -32,7 +32,7 @@ const ORDER_3: CertFault = CertFault::Order { line: 3 };
 const LIMIT: CertFault = CertFault::Limit;
 
 // Texts with their first fault.
-static REFUSED: [(&str, CertFault); 70] = [
+static REFUSED: [(&str, CertFault); 31] = [
     ("", HEADER),
     ("sdv-cert 1", HEADER),
     ("sdv-cert 1\r\npoints 0\n", HEADER),
@@ -71,104 +71,97 @@ static REFUSED: [(&str, CertFault); 70] = [
         "sdv-cert 1\npoints 1\np 0 b 0 m 1 s\np 1 b 0 m 1 s\n",
         SYNTAX_4,
     ),
-    ("sdv-cert 1\npoints 1\np 1 b 0 m 1 s\n", SYNTAX_3),
-    ("sdv-cert 1\npoints 1\np 00 b 0 m 1 s\n", SYNTAX_3),
-    (
-        "sdv-cert 1\npoints 1\np 99999999999999 b 0 m 1 s\n",
-        SYNTAX_3,
-    ),
-    ("sdv-cert 1\npoints 1\np 0 b m 1 s\n", SYNTAX_3),
-    ("sdv-cert 1\npoints 1\np 0 b 01 m 1 s\n", SYNTAX_3),
-    ("sdv-cert 1\npoints 1\np 0 b 1099511627777 m 1 s\n", LIMIT),
-    (
-        "sdv-cert 1\npoints 1\np 0 b 123456789012345678901234567890 m 1 s\n",
-        LIMIT,
-    ),
-    (
-        "sdv-cert 1\npoints 1\np 0 b 18446744073709551616 m 1 s\n",
-        LIMIT,
-    ),
-    ("sdv-cert 1\npoints 1\np 0 b 0 1 2 3 4 5 m 1 s\n", LIMIT),
-    ("sdv-cert 1\npoints 1\np 0 b 0 1 2 3 4 05 m 1 s\n", SYNTAX_3),
-    ("sdv-cert 1\npoints 1\np 0 b 0 - m 1 s\n", SYNTAX_3),
-    ("sdv-cert 1\npoints 1\np 0 b 0 s\n", SYNTAX_3),
-    ("sdv-cert 1\npoints 1\np 0 b 0 m 1\n", SYNTAX_3),
     ("sdv-cert 1\npoints 1\np 0 b 0 m 1 s", SYNTAX_3),
     ("sdv-cert 1\npoints 1\np 0 b 0 m 1 s \n", SYNTAX_3),
-    ("sdv-cert 1\npoints 1\np 0 b 0 m 1 s\r\n", SYNTAX_3),
-    ("sdv-cert 1\npoints 1\np\t0 b 0 m 1 s\n", SYNTAX_3),
-    ("sdv-cert 1\npoints 1\np 0 b 0 m 1 v 0 0 s\n", SYNTAX_3),
-    ("sdv-cert 1\npoints 1\np 0 b 0 m 1 v 0 0 -1 s\n", SYNTAX_3),
+];
+
+// Lines that are no point of a certificate of one point, by its version and their fault.
+static POINTS: [(u8, CertFault, &str); 6] = [
     (
-        "sdv-cert 1\npoints 1\np 0 b 0 m 1 v 0 0 1099511627777 s\n",
+        1,
+        SYNTAX_3,
+        "\
+p 1 b 0 m 1 s
+p 00 b 0 m 1 s
+p 99999999999999 b 0 m 1 s
+p 0 b m 1 s
+p 0 b 01 m 1 s
+p 0 b 0 1 2 3 4 05 m 1 s
+p 0 b 0 - m 1 s
+p 0 b 0 s
+p 0 b 0 m 1
+p 0 b 0 m 1 s\r
+p\t0 b 0 m 1 s
+p 0 b 0 m 1 v 0 0 s
+p 0 b 0 m 1 v 0 0 -1 s
+p 0 b 0 m 1 v0 0 1 s
+p 0 b 0 m 1 s 000000000002000
+p 0 b 0 m 1 s 00000000000002000
+p 0 b 0 m 1 s 0000000000002C00
+p 0 b 0 m 1 s 0x00000000002c00
+p 0 b 0 m 1 s  0000000000002c00
+p 0 b 0 m 1 s 0000000000002c00 0000000000002000x
+P 0 b 0 m 1 s
+p 0 b 0 m 1 mb 0 s
+p 0 b 0 m 1 v 0 0 - - s",
+    ),
+    (
+        1,
         LIMIT,
+        "\
+p 0 b 1099511627777 m 1 s
+p 0 b 123456789012345678901234567890 m 1 s
+p 0 b 18446744073709551616 m 1 s
+p 0 b 0 1 2 3 4 5 m 1 s
+p 0 b 0 m 1 v 0 0 1099511627777 s
+p 0 b 0 m 1 v 0 0 - v 0 0 - v 0 0 - v 0 0 - v 0 0 - v 0 0 - v 0 0 - v 0 0 - v 0 0 - s",
     ),
-    ("sdv-cert 1\npoints 1\np 0 b 0 m 1 v0 0 1 s\n", SYNTAX_3),
     (
-        "sdv-cert 1\npoints 1\np 0 b 0 m 1 v 0 0 - v 0 0 - v 0 0 - v 0 0 - v 0 0 - v 0 0 - v 0 0 - v 0 0 - v 0 0 - s\n",
+        1,
+        ORDER_3,
+        "\
+p 0 b 0 m 1 s 0000000000002c00 0000000000002c00
+p 0 b 0 m 1 s 0000000000002c00 0000000000002000 x
+p 0 b 0 m 1 s 8000000000000000 7fffffffffffffff",
+    ),
+    (
+        2,
+        SYNTAX_3,
+        "\
+p 0 b 0 m 1 s
+p 0 b 0 mb 0 m 1 s
+p 0 b 0 m 1 mb 00 s
+p 0 b 0 m 1 mb - s
+p 0 b 0 m 1 mb 0 v 0 0 - s",
+    ),
+    (
+        2,
         LIMIT,
+        "\
+p 0 b 0 m 1 mb 1099511627777 s",
     ),
     (
-        "sdv-cert 1\npoints 1\np 0 b 0 m 1 s 000000000002000\n",
-        SYNTAX_3,
-    ),
-    (
-        "sdv-cert 1\npoints 1\np 0 b 0 m 1 s 00000000000002000\n",
-        SYNTAX_3,
-    ),
-    (
-        "sdv-cert 1\npoints 1\np 0 b 0 m 1 s 0000000000002C00\n",
-        SYNTAX_3,
-    ),
-    (
-        "sdv-cert 1\npoints 1\np 0 b 0 m 1 s 0x00000000002c00\n",
-        SYNTAX_3,
-    ),
-    (
-        "sdv-cert 1\npoints 1\np 0 b 0 m 1 s  0000000000002c00\n",
-        SYNTAX_3,
-    ),
-    (
-        "sdv-cert 1\npoints 1\np 0 b 0 m 1 s 0000000000002c00 0000000000002c00\n",
+        2,
         ORDER_3,
-    ),
-    (
-        "sdv-cert 1\npoints 1\np 0 b 0 m 1 s 0000000000002c00 0000000000002000 x\n",
-        ORDER_3,
-    ),
-    (
-        "sdv-cert 1\npoints 1\np 0 b 0 m 1 s 8000000000000000 7fffffffffffffff\n",
-        ORDER_3,
-    ),
-    (
-        "sdv-cert 1\npoints 1\np 0 b 0 m 1 s 0000000000002c00 0000000000002000x\n",
-        SYNTAX_3,
-    ),
-    ("sdv-cert 1\npoints 1\nP 0 b 0 m 1 s\n", SYNTAX_3),
-    ("sdv-cert 1\npoints 1\np 0 b 0 m 1 mb 0 s\n", SYNTAX_3),
-    ("sdv-cert 1\npoints 1\np 0 b 0 m 1 v 0 0 - - s\n", SYNTAX_3),
-    ("sdv-cert 2\npoints 1\np 0 b 0 m 1 s\n", SYNTAX_3),
-    ("sdv-cert 2\npoints 1\np 0 b 0 mb 0 m 1 s\n", SYNTAX_3),
-    ("sdv-cert 2\npoints 1\np 0 b 0 m 1 mb 00 s\n", SYNTAX_3),
-    ("sdv-cert 2\npoints 1\np 0 b 0 m 1 mb - s\n", SYNTAX_3),
-    (
-        "sdv-cert 2\npoints 1\np 0 b 0 m 1 mb 1099511627777 s\n",
-        LIMIT,
-    ),
-    (
-        "sdv-cert 2\npoints 1\np 0 b 0 m 1 mb 0 v 0 0 - s\n",
-        SYNTAX_3,
-    ),
-    (
-        "sdv-cert 2\npoints 1\np 0 b 0 m 1 mb 0 s 0000000000002c00 0000000000002000\n",
-        ORDER_3,
+        "\
+p 0 b 0 m 1 mb 0 s 0000000000002c00 0000000000002000",
     ),
 ];
+
+fn refused_points(rt: &impl Abort, alloc: Global, version: u8, fault: CertFault, lines: &str) {
+    for line in lines.lines() {
+        let text = format!(in alloc; "sdv-cert {version}\npoints 1\n{line}\n");
+        has_fault(rt, alloc, &text.expect(rt, "memory"), Some(fault), &line);
+    }
+}
 
 #[test]
 fn refusals(rt: HostRuntime) {
     for row in REFUSED.iter() {
         has_fault(&rt, rt.alloc(), row.0, Some(row.1), &row.0);
+    }
+    for row in POINTS.iter() {
+        refused_points(&rt, rt.alloc(), row.0, row.1, row.2);
     }
 }
 

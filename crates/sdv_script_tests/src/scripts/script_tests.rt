@@ -100,219 +100,251 @@ fn scripts(rt: HostRuntime) {
     }
 }
 
-// What is wrong wherever a statement may stand, where the flag `f` and the number variable `x` are declared, with its
-// kind.
-static WRONG: [(&str, FaultKind); 135] = [
-    ("$", FaultKind::Token),
-    ("set A", FaultKind::Token),
-    ("12a", FaultKind::Token),
-    ("0x", FaultKind::Token),
-    ("0X1", FaultKind::Token),
-    ("send 16 @", FaultKind::Token),
-    (">", FaultKind::Token),
-    ("if f > 3", FaultKind::Token),
-    ("1_", FaultKind::Token),
-    ("loop 3. { } else { }", FaultKind::Token),
-    ("fault stop!", FaultKind::Token),
-    ("set \u{e9}", FaultKind::Token),
-    ("break", FaultKind::Syntax),
-    ("}", FaultKind::Syntax),
-    ("{", FaultKind::Syntax),
-    ("17", FaultKind::Syntax),
-    ("a.b", FaultKind::Syntax),
-    ("send x", FaultKind::Syntax),
-    ("let x 3", FaultKind::Syntax),
-    ("let x = &", FaultKind::Syntax),
-    ("let x = 3 + x", FaultKind::Syntax),
-    ("if x { } else { }", FaultKind::Syntax),
-    ("if x >= x", FaultKind::Syntax),
-    ("if x < {", FaultKind::Syntax),
-    ("if f { } set", FaultKind::Syntax),
-    ("if 3 >= 3", FaultKind::Syntax),
-    ("loop f { } else { }", FaultKind::Syntax),
-    ("loop { } else { }", FaultKind::Syntax),
-    ("recv { set", FaultKind::Syntax),
-    ("recv reg ok", FaultKind::Syntax),
-    ("wait { ok { } else { } set", FaultKind::Syntax),
-    ("give reg { ok { } else { } }", FaultKind::Syntax),
-    ("fault a.b", FaultKind::Syntax),
-    ("fault 3", FaultKind::Syntax),
-    ("send 55 { ok { } else { } }", FaultKind::Syntax),
-    ("send 55 { app & { } else { } }", FaultKind::Syntax),
-    ("send 55 { app app { } else { } }", FaultKind::Syntax),
-    ("send 13 { state tran { } else { } }", FaultKind::Syntax),
-    ("send 13 { state=busy { } else { } }", FaultKind::Syntax),
-    ("send 13 { state=x { } else { } }", FaultKind::Syntax),
-    ("send 0 { }", FaultKind::Syntax),
-    ("send 0 { else { } else", FaultKind::Syntax),
-    ("loop 3 { } else { break }", FaultKind::Syntax),
-    ("set hc", FaultKind::Name),
-    ("clear hc", FaultKind::Name),
-    ("set x", FaultKind::Name),
-    ("let f = 3", FaultKind::Name),
-    ("let y = 3", FaultKind::Name),
-    ("set done", FaultKind::Name),
-    ("set a.b", FaultKind::Name),
-    ("if y >= 3", FaultKind::Name),
-    ("if ready { } else { }", FaultKind::Name),
-    ("if a.b { } else { }", FaultKind::Name),
-    ("let x = ext.blocks", FaultKind::Name),
-    ("let x = ext.boot", FaultKind::Name),
-    ("let x = f", FaultKind::Name),
-    ("let x = y", FaultKind::Name),
-    ("let x = a.b", FaultKind::Name),
-    ("fault send", FaultKind::Name),
-    ("fault number", FaultKind::Name),
-    ("fault ocr.ready", FaultKind::Name),
-    ("send 17 at block y", FaultKind::Name),
-    ("send 17 at block f", FaultKind::Name),
-    ("send 17 at by g 0", FaultKind::Name),
-    ("send 17 at by x 0", FaultKind::Name),
-    ("send 1 { else { } }", FaultKind::Command),
-    ("send 64 { else { } }", FaultKind::Command),
-    ("send 6 { else { } }", FaultKind::Argument),
-    ("send 6 part.access @", FaultKind::Argument),
-    ("send 6 4 { else { } }", FaultKind::Argument),
-    ("send 6 bus.lines { else { } }", FaultKind::Argument),
-    ("send 6 bus.lines 8 { else { } }", FaultKind::Argument),
-    ("send 6 bus.lines x", FaultKind::Argument),
-    ("send 6 bus.lines 4 4", FaultKind::Argument),
-    ("send 6 part.access 0 { else { } }", FaultKind::Argument),
-    ("send 6 bus.lines @", FaultKind::Token),
-    ("bus.lines @", FaultKind::Token),
-    ("bus.lines 0x4g", FaultKind::Token),
-    ("bus.lines 3", FaultKind::Argument),
-    ("bus.lines 8", FaultKind::Argument),
-    ("bus.lines 1099511627777", FaultKind::Argument),
-    ("bus.lines x", FaultKind::Syntax),
-    ("bus.lines {", FaultKind::Syntax),
-    ("bus.lines 4 4", FaultKind::Syntax),
-    ("set f part.access 0", FaultKind::Syntax),
-    ("set bus.lines", FaultKind::Name),
-    ("fault part.access", FaultKind::Name),
-    ("send 6 bus.lines 4 { echo { } else { } }", FaultKind::Guard),
-    ("send 23 count 3 { else { } }", FaultKind::Command),
-    ("send 35 at block 0 { else { } }", FaultKind::Command),
-    ("send 36 at block 0 { else { } }", FaultKind::Command),
-    ("send 256 { else { } }", FaultKind::Command),
-    ("send 1099511627777", FaultKind::Command),
-    ("send 17 { else { } }", FaultKind::Argument),
-    ("send 0 1 { else { } }", FaultKind::Argument),
-    ("send 16 512 { else { } }", FaultKind::Argument),
-    ("send 7 all { else { } }", FaultKind::Argument),
-    ("send 13 none { else { } }", FaultKind::Argument),
-    ("send 41 { else { } }", FaultKind::Argument),
-    ("send 41 0x40ff8001 { else { } }", FaultKind::Argument),
-    ("send 41 1099511627777", FaultKind::Argument),
-    ("send 18 at block 0 { else { } }", FaultKind::Argument),
+// What is wrong wherever a statement may stand, where the flag `f` and the number variable `x` are declared: a line each,
+// by its kind.
+static WRONG: [(FaultKind, &str); 7] = [
     (
-        "send 18 at block 0 count 0 { else { } }",
-        FaultKind::Argument,
+        FaultKind::Token,
+        "\
+$
+set A
+12a
+0x
+0X1
+send 16 @
+>
+if f > 3
+1_
+loop 3. { } else { }
+fault stop!
+set \u{e9}
+send 6 bus.lines @
+bus.lines @
+bus.lines 0x4g",
     ),
     (
-        "send 18 at block 0 count 65536 { else { } }",
-        FaultKind::Argument,
+        FaultKind::Syntax,
+        "\
+break
+}
+{
+17
+a.b
+send x
+let x 3
+let x = &
+let x = 3 + x
+if x { } else { }
+if x >= x
+if x < {
+if f { } set
+if 3 >= 3
+loop f { } else { }
+loop { } else { }
+recv { set
+recv reg ok
+wait { ok { } else { } set
+give reg { ok { } else { } }
+fault a.b
+fault 3
+send 55 { ok { } else { } }
+send 55 { app & { } else { } }
+send 55 { app app { } else { } }
+send 13 { state tran { } else { } }
+send 13 { state=busy { } else { } }
+send 13 { state=x { } else { } }
+send 0 { }
+send 0 { else { } else
+loop 3 { } else { break }
+bus.lines x
+bus.lines {
+bus.lines 4 4
+set f part.access 0",
     ),
     (
-        "send 25 at block 0 count x { else { } }",
-        FaultKind::Argument,
+        FaultKind::Name,
+        "\
+set hc
+clear hc
+set x
+let f = 3
+let y = 3
+set done
+set a.b
+if y >= 3
+if ready { } else { }
+if a.b { } else { }
+let x = ext.blocks
+let x = ext.boot
+let x = f
+let x = y
+let x = a.b
+fault send
+fault number
+fault ocr.ready
+send 17 at block y
+send 17 at block f
+send 17 at by g 0
+send 17 at by x 0
+set bus.lines
+fault part.access",
     ),
-    ("send 17 block 0 { else { } }", FaultKind::Argument),
-    ("send 17 at 0 { else { } }", FaultKind::Argument),
-    ("send 17 at block {", FaultKind::Argument),
-    ("send 17 at by 3", FaultKind::Argument),
     (
-        "send 24 at byte 0 count 3 { else { } }",
-        FaultKind::Argument,
+        FaultKind::Command,
+        "\
+send 1 { else { } }
+send 64 { else { } }
+send 23 count 3 { else { } }
+send 35 at block 0 { else { } }
+send 36 at block 0 { else { } }
+send 256 { else { } }
+send 1099511627777",
     ),
-    ("send 38 0 { else { } }", FaultKind::Argument),
-    ("send 17 at block x + x", FaultKind::Argument),
-    ("send 17 at block x - 3", FaultKind::Argument),
-    ("send 0 else", FaultKind::Argument),
-    ("send 16 { ocr.ready { } else { } }", FaultKind::Guard),
-    ("send 0 { clean { } else { } }", FaultKind::Guard),
-    ("send 7 none { ready { } else { } }", FaultKind::Guard),
-    ("send 13 { app { } else { } }", FaultKind::Guard),
-    ("send 55 { echo { } else { } }", FaultKind::Guard),
-    ("send 8 { state x { } else { } }", FaultKind::Guard),
-    ("send 8 { ready { } else { } }", FaultKind::Guard),
     (
-        "send 41 0x00ff8000 { clean { } else { } }",
+        FaultKind::Argument,
+        "\
+send 6 { else { } }
+send 6 part.access @
+send 6 4 { else { } }
+send 6 bus.lines { else { } }
+send 6 bus.lines 8 { else { } }
+send 6 bus.lines x
+send 6 bus.lines 4 4
+send 6 part.access 0 { else { } }
+bus.lines 3
+bus.lines 8
+bus.lines 1099511627777
+send 17 { else { } }
+send 0 1 { else { } }
+send 16 512 { else { } }
+send 7 all { else { } }
+send 13 none { else { } }
+send 41 { else { } }
+send 41 0x40ff8001 { else { } }
+send 41 1099511627777
+send 18 at block 0 { else { } }
+send 18 at block 0 count 0 { else { } }
+send 18 at block 0 count 65536 { else { } }
+send 25 at block 0 count x { else { } }
+send 17 block 0 { else { } }
+send 17 at 0 { else { } }
+send 17 at block {
+send 17 at by 3
+send 24 at byte 0 count 3 { else { } }
+send 38 0 { else { } }
+send 17 at block x + x
+send 17 at block x - 3
+send 0 else",
+    ),
+    (
         FaultKind::Guard,
+        "\
+send 6 bus.lines 4 { echo { } else { } }
+send 16 { ocr.ready { } else { } }
+send 0 { clean { } else { } }
+send 7 none { ready { } else { } }
+send 13 { app { } else { } }
+send 55 { echo { } else { } }
+send 8 { state x { } else { } }
+send 8 { ready { } else { } }
+send 41 0x00ff8000 { clean { } else { } }
+send 9 { answer & clean { } else { } }
+send 2 { ocr.block { } else { } }",
     ),
-    ("send 9 { answer & clean { } else { } }", FaultKind::Guard),
-    ("send 2 { ocr.block { } else { } }", FaultKind::Guard),
-    ("loop 0 { } else { }", FaultKind::Limit),
-    ("loop 65536 { } else { }", FaultKind::Limit),
-    ("loop 1099511627777", FaultKind::Limit),
-    ("fault abcdefghijklmnopq", FaultKind::Limit),
-    ("let x = 1099511627777", FaultKind::Limit),
-    ("let x = x + 0x10000000001", FaultKind::Limit),
-    ("let x = x - 1099511627777", FaultKind::Limit),
     (
-        "if x < 99999999999999999999999999999999999",
         FaultKind::Limit,
-    ),
-    ("send 17 at block 1099511627777", FaultKind::Limit),
-    ("send 17 at block x + 1099511627777", FaultKind::Limit),
-    (
-        "loop 1 { loop 1 { loop 1 { loop 1 { loop 1",
-        FaultKind::Limit,
+        "\
+loop 0 { } else { }
+loop 65536 { } else { }
+loop 1099511627777
+fault abcdefghijklmnopq
+let x = 1099511627777
+let x = x + 0x10000000001
+let x = x - 1099511627777
+if x < 99999999999999999999999999999999999
+send 17 at block 1099511627777
+send 17 at block x + 1099511627777
+loop 1 { loop 1 { loop 1 { loop 1 { loop 1",
     ),
 ];
 
 // What is wrong so in a script for an e.MMC device.
-static WRONG_ON_DEVICE: [(&str, FaultKind); 26] = [
-    ("send 41 0x40ff8000 { else { } }", FaultKind::Command),
-    ("send 55 { else { } }", FaultKind::Command),
-    ("send 51 { else { } }", FaultKind::Command),
-    ("send 32 at block 0 { else { } }", FaultKind::Command),
-    ("send 33 at block 0 { else { } }", FaultKind::Command),
-    ("send 6 { else { } }", FaultKind::Argument),
-    ("send 6 bus.lines 2 { else { } }", FaultKind::Argument),
-    ("send 6 part.access 3 { else { } }", FaultKind::Argument),
-    ("send 6 part.access {", FaultKind::Argument),
-    ("send 6 0x03b70000 { else { } }", FaultKind::Argument),
-    ("send 6 part.access @", FaultKind::Token),
-    ("bus.lines 2", FaultKind::Argument),
-    ("set f part.access 1", FaultKind::Syntax),
+static WRONG_ON_DEVICE: [(FaultKind, &str); 6] = [
     (
-        "send 6 part.access 1 { app { } else { } }",
-        FaultKind::Guard,
+        FaultKind::Command,
+        "\
+send 41 0x40ff8000 { else { } }
+send 55 { else { } }
+send 51 { else { } }
+send 32 at block 0 { else { } }
+send 33 at block 0 { else { } }",
     ),
-    ("send 23 { else { } }", FaultKind::Argument),
-    ("send 23 3 { else { } }", FaultKind::Argument),
-    ("send 23 count 0 { else { } }", FaultKind::Argument),
-    ("send 23 count 65536 { else { } }", FaultKind::Argument),
-    ("send 38 { else { } }", FaultKind::Argument),
-    ("send 38 2 { else { } }", FaultKind::Argument),
-    ("send 38 1099511627777", FaultKind::Argument),
-    ("send 1 0x40ff8080 { else { } }", FaultKind::Argument),
-    ("send 8 { echo { } else { } }", FaultKind::Guard),
-    ("send 1 { clean { } else { } }", FaultKind::Guard),
-    ("send 3 { app { } else { } }", FaultKind::Guard),
-    ("let x = sec.count", FaultKind::Name),
+    (
+        FaultKind::Argument,
+        "\
+send 6 { else { } }
+send 6 bus.lines 2 { else { } }
+send 6 part.access 3 { else { } }
+send 6 part.access {
+send 6 0x03b70000 { else { } }
+bus.lines 2
+send 23 { else { } }
+send 23 3 { else { } }
+send 23 count 0 { else { } }
+send 23 count 65536 { else { } }
+send 38 { else { } }
+send 38 2 { else { } }
+send 38 1099511627777
+send 1 0x40ff8080 { else { } }",
+    ),
+    (
+        FaultKind::Token,
+        "\
+send 6 part.access @",
+    ),
+    (
+        FaultKind::Syntax,
+        "\
+set f part.access 1",
+    ),
+    (
+        FaultKind::Guard,
+        "\
+send 6 part.access 1 { app { } else { } }
+send 8 { echo { } else { } }
+send 1 { clean { } else { } }
+send 3 { app { } else { } }",
+    ),
+    (
+        FaultKind::Name,
+        "\
+let x = sec.count",
+    ),
 ];
 
 // A wrong statement is refused, whatever stands before and after it.
-fn refused_anywhere(rt: &impl Abort, alloc: Global, card: &str, row: &(&str, FaultKind)) {
-    let statement = row.0;
+fn refused_anywhere(rt: &impl Abort, alloc: Global, card: &str, statement: &str, kind: FaultKind) {
     for (before, line) in [("", 2), ("send 0 { else { } }\n\n", 4)] {
         for after in ["", "\ndone\n"] {
             let text = format!(in alloc; "card {card} flags f nums x\n{before}{statement}{after}");
-            refused(rt, alloc, &text.expect(rt, "memory"), row.1, line);
+            refused(rt, alloc, &text.expect(rt, "memory"), kind, line);
+        }
+    }
+}
+
+// Each line of each row is refused so.
+fn all_refused(rt: &impl Abort, alloc: Global, card: &str, rows: &[(FaultKind, &str)]) {
+    for row in rows {
+        for statement in row.1.lines() {
+            refused_anywhere(rt, alloc, card, statement, row.0);
         }
     }
 }
 
 #[test]
 fn wrong_statements(rt: HostRuntime) {
-    for row in WRONG.iter() {
-        refused_anywhere(&rt, rt.alloc(), "sd", row);
-    }
-    for row in WRONG_ON_DEVICE.iter() {
-        refused_anywhere(&rt, rt.alloc(), "emmc", row);
-    }
+    all_refused(&rt, rt.alloc(), "sd", &WRONG);
+    all_refused(&rt, rt.alloc(), "emmc", &WRONG_ON_DEVICE);
 }
 
 // What is wrong with a declaration, or with a text that ends too early, with the kind and the line.
