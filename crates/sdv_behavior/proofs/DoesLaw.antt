@@ -1,5 +1,5 @@
 -- What comes of a row at a simulated card is what the tables allow.
-use Rattle.std.proofs.Common.{◌≡◌, ℕ, ◌<◌, ◌==◌, ◌^◌, inl, inr, refl, sym, ap, subst, ◌∙◌, Bool, true, false, not, List, Option, Some, None, if◌then◌else◌, lit<, eqb-true}
+use Rattle.std.proofs.Common.{◌≡◌, ℕ, ◌<◌, ◌==◌, ◌^◌, inl, inr, refl, sym, ap, subst, ◌∙◌, Bool, true, false, List, Option, Some, None, if◌then◌else◌, lit<, eqb-true}
 use Rattle.std.specs.Prelude.{IfSome}
 use Rattle.std.proofs.lemmas.List.Elements.{recursion_from_All}
 use Rattle.sdv_registers.specs.declared.kind.Kind.{Kind}

@@ -10,7 +10,7 @@ use sdv_card::{Partition, Row, Setting};
 use sdv_description::CardDesc;
 
 /// How a card takes a row.
-#[derive(Clone, Copy, Debug)]
+#[derive(Clone, Copy)]
 pub struct Choice {
     /// CMD1 and ACMD41 make it ready.
     pub ready: bool,

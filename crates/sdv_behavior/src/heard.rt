@@ -20,7 +20,7 @@ use sdv_description::CardDesc;
 use sdv_frames::{Command, Reply};
 
 /// What a card does with a row.
-#[derive(Clone, Copy, Debug, PartialEq, Eq)]
+#[derive(Clone, Copy)]
 pub enum Deed {
     /// The command did not reach it.
     Loses,
@@ -36,7 +36,7 @@ pub enum Deed {
 }
 
 /// What comes of a command.
-#[derive(Clone, Copy, Debug, PartialEq, Eq)]
+#[derive(Clone, Copy)]
 pub struct Heard {
     /// The card's state afterwards.
     pub after: CardState,

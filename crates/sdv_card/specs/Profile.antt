@@ -1,7 +1,7 @@
 -- The cards beside which a script may start: which capacities they have, what tells the capacity, and their first
 -- state. SD Physical Layer Simplified Specification, sections 4.2.2 and 5.3; JESD84-B51, sections 6.4 and 7.3. That a
 -- card is unlocked and starts in idle state, and the ranges of the capacity, are this project's profile.
-use Rattle.std.specs.Prelude.{◌≡◌, ◌≤◌, ◌-◌, ◌^◌, ◌*◌, ◌⊎◌, Bool, true, false, ℕ, List, replicate, None}
+use Rattle.std.specs.Prelude.{◌≡◌, ◌≤◌, ◌-◌, ◌^◌, ◌⊎◌, Bool, true, false, ℕ, List, replicate, None}
 use Rattle.sdv_registers.specs.declared.kind.Kind.{Kind}
 use Rattle.sdv_registers.specs.declared.kind.Kind.TheVariants.{Sd, Emmc}
 use Rattle.sdv_card.specs.declared.state.State.TheVariants.{Idle}

@@ -3,7 +3,7 @@
 use crate::state::{Partition, State, Width};
 
 /// What CMD6 of e.MMC sets: JESD84-B51, section 7.4 (BUS_WIDTH, PARTITION_CONFIG).
-#[derive(Clone, Copy, Debug, PartialEq, Eq)]
+#[derive(Clone, Copy)]
 pub enum Setting {
     /// The data lines that the device uses: byte 183 of the EXT_CSD.
     Lines(Width),
@@ -12,7 +12,7 @@ pub enum Setting {
 }
 
 /// A command that the command table of a kind has, by its name in the standard.
-#[derive(Clone, Copy, Debug, PartialEq, Eq)]
+#[derive(Clone, Copy)]
 pub enum Order {
     /// CMD0.
     GoIdleState,
@@ -93,7 +93,7 @@ pub enum Order {
 }
 
 /// A command as a card takes it: a row of the state table.
-#[derive(Clone, Copy, Debug, PartialEq, Eq)]
+#[derive(Clone, Copy)]
 pub enum Row {
     Cmd0,
     /// CMD1, which e.MMC alone has.
@@ -153,7 +153,7 @@ pub enum Row {
 }
 
 /// From one state to another, as a row of the state table leads.
-#[derive(Clone, Copy, Debug, PartialEq, Eq)]
+#[derive(Clone, Copy)]
 pub struct Move {
     /// The state in which the command is received.
     pub source: State,
@@ -162,7 +162,7 @@ pub struct Move {
 }
 
 /// How a card takes a command.
-#[derive(Clone, Copy, Debug, PartialEq, Eq)]
+#[derive(Clone, Copy)]
 pub enum TakenAs {
     /// The application flag, or its absence, forbids it.
     Forbidden,
@@ -173,7 +173,7 @@ pub enum TakenAs {
 }
 
 /// How a row is answered.
-#[derive(Clone, Copy, Debug, PartialEq, Eq)]
+#[derive(Clone, Copy)]
 pub enum Response {
     /// The row has no response, and the command always arrives.
     Absent,

@@ -75,7 +75,7 @@ pub enum Seen {
 }
 
 /// What may follow an event, field by field.
-#[derive(Clone, Copy, Debug, Default, PartialEq, Eq)]
+#[derive(Clone, Copy, Default)]
 pub struct Branch {
     /// The card and its host afterwards.
     pub fields: Fields,

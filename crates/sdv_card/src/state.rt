@@ -106,7 +106,7 @@ pub struct Mode {
 }
 
 /// A state with its transfer.
-#[derive(Clone, Copy, Debug, PartialEq, Eq)]
+#[derive(Clone, Copy, PartialEq, Eq)]
 pub struct Place {
     /// The state.
     pub state: State,

@@ -8,7 +8,7 @@ use sdv_card::{Answer, CardPort, DataEnd, WaitEnd};
 use sdv_frames::{Command, Expect, FrameFault, decode_reply, encode};
 
 /// A host controller over a wire.
-#[derive(Debug, Drop)]
+#[derive(Drop)]
 pub struct Controller<W> {
     wire: W,
 }

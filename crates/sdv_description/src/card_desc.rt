@@ -6,7 +6,7 @@ ghost use Rattle.sdv_description.specs.Described.{is_described};
 use sdv_registers::Kind;
 
 /// A card as its description says it, with the registers that it gives.
-#[derive(Clone, Copy, Debug)]
+#[derive(Clone, Copy)]
 pub struct CardDesc {
     /// SD or e.MMC.
     pub kind: Kind,

@@ -1,7 +1,7 @@
 //! A description, line by line.
 
 /// The fields of a CSD that tell the capacity of a card with byte addresses.
-#[derive(Clone, Copy, Debug, PartialEq, Eq)]
+#[derive(Clone, Copy)]
 pub struct Size {
     /// C_SIZE, at most 4,095.
     pub c_size: u16,
@@ -12,7 +12,7 @@ pub struct Size {
 }
 
 /// What the lines of a description say.
-#[derive(Clone, Copy, Debug, PartialEq, Eq)]
+#[derive(Clone, Copy)]
 pub enum Description {
     /// An SD card with byte addresses.
     SdBytes {

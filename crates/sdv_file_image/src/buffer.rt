@@ -6,7 +6,7 @@ ghost use Rattle.sdv_file_image.specs.Buffers.{has_place, no_buffer};
 use std::alloc::{AllocError, Global};
 
 /// Which block of a file a buffer has.
-#[derive(Clone, Copy, Debug, PartialEq, Eq)]
+#[derive(Clone, Copy)]
 pub enum Held {
     /// None.
     Nothing,
@@ -17,7 +17,7 @@ pub enum Held {
 }
 
 /// A block of a file, or room for one.
-#[derive(Debug, Drop)]
+#[derive(Drop)]
 pub struct Buffer {
     pub held: Held,
     pub block: [u8; 512],

@@ -15,7 +15,7 @@ use std::alloc::Global;
 ///
 /// Only [`FileImage::finish`] writes all of them back. An image that is dropped leaves the file without the changes
 /// that were not written back.
-#[derive(Debug, Drop)]
+#[derive(Drop)]
 pub struct FileImage<F: BlockFile> {
     file: F,
     buffers: Vec<Buffer>,

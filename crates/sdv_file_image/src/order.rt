@@ -10,7 +10,7 @@ use std::marker::Model;
 pub const BUFFERS: usize = 16;
 
 /// The indexes of the buffers, from the one that was used least recently on.
-#[derive(Debug, Drop)]
+#[derive(Drop)]
 pub struct Order {
     indexes: ArrayVec<usize, BUFFERS>,
 }

@@ -25,7 +25,7 @@ pub(crate) const END_BIT: u8 = 0b0000_0001;
 pub(crate) const ALL_ONES: u8 = 0b111_1111;
 
 /// What stands in the seven bits before the end bit.
-#[derive(Clone, Copy, Debug, PartialEq, Eq)]
+#[derive(Clone, Copy)]
 pub enum Check {
     /// The CRC7 of all bits before it.
     CrcOfAll,
@@ -36,7 +36,7 @@ pub enum Check {
 }
 
 /// What a receiver knows of a frame before it comes.
-#[derive(Clone, Copy, Debug, PartialEq, Eq)]
+#[derive(Clone, Copy)]
 pub struct Layout {
     /// The bytes of the frame.
     pub length: usize,

@@ -8,7 +8,7 @@ use crate::fault::SimFault;
 use crate::image::{Image, ImageFault};
 
 /// An image in memory, block after block. None of its calls fails.
-#[derive(Debug, Drop)]
+#[derive(Drop)]
 pub struct MemImage {
     bytes: Vec<u8>,
 }

@@ -22,7 +22,7 @@ pub const USAGE: &str =
     "usage: sdv frame INDEX ARG | sdv certify SCRIPT | sdv check SCRIPT CERT | sdv run SCRIPT CERT CARD IMAGE [SCHEDULE] [--in FILE] [--out FILE] | sdv batch KIND REQUESTS | sdv explain SCRIPT | sdv graph SCRIPT | sdv print SCRIPT";
 
 /// A command of the program, with the texts of its words.
-#[derive(Clone, Copy, Debug, PartialEq, Eq)]
+#[derive(Clone, Copy)]
 pub enum Line<'a> {
     /// The frame of the command with this index and argument.
     Frame {
@@ -60,7 +60,7 @@ pub enum Line<'a> {
 }
 
 /// The names of the files of a run.
-#[derive(Clone, Copy, Debug, PartialEq, Eq)]
+#[derive(Clone, Copy)]
 pub struct RunFiles<'a> {
     pub script: &'a str,
     pub certificate: &'a str,

@@ -18,7 +18,7 @@ use std::io::Write;
 type LineBytes = ArrayVec<u8, 96>;
 
 /// The writer of a trace failed.
-#[derive(Clone, Copy, Debug, PartialEq, Eq)]
+#[derive(Clone, Copy)]
 pub struct TraceFault;
 
 fn put(line: &mut LineBytes, bytes: &[u8])

@@ -13,7 +13,6 @@ use sdv_text::number_of;
 use std::alloc::{AllocError, Global};
 
 /// The texts and bytes that a run is given, but for the image.
-#[derive(Debug)]
 pub struct Given {
     pub script: String,
     pub certificate: String,
@@ -39,7 +38,7 @@ impl Drop for Given {
 }
 
 /// The image that a run is given.
-#[derive(Debug, Drop)]
+#[derive(Drop)]
 pub enum GivenImage<I> {
     /// A new one.
     New(NewImage),

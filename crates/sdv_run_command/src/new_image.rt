@@ -9,7 +9,7 @@ use sdv_image::{Image, ImageFault, MemImage, SimFault};
 use std::alloc::Global;
 
 /// The blocks of a new image, which are read and written as those of a file. No call fails.
-#[derive(Debug, Drop)]
+#[derive(Drop)]
 pub struct NewImage {
     blocks: MemImage,
     ghost fits: { size_of blocks * 512 < 2 ^ 64 },

@@ -22,7 +22,7 @@ use std::alloc::Global;
 use std::io::{self, Write};
 
 /// How a run came out.
-#[derive(Debug, Drop)]
+#[derive(Drop)]
 pub struct Outcome<F: BlockFile> {
     pub end: Result<End, RunFault>,
     /// The card's blocks after the run. Those that changed are not all written back.

@@ -8,7 +8,7 @@ use std::alloc::{AllocError, Global};
 use std::marker::Model;
 
 /// The behaviors of a simulated card, one for each event; after their end all are prompt.
-#[derive(Debug, Drop)]
+#[derive(Drop)]
 pub struct Schedule {
     behaviors: Vec<Behavior>,
     next: usize,

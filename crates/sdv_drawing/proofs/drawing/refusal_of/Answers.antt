@@ -1,4 +1,3 @@
-use Rattle.std.proofs.Common.{◌≡◌}
 use Rattle.sdv_drawing.proofs.drawing.refusal_of.Goals as goal
 use Rattle.sdv_drawing.proofs.drawing.refusal_of.Goals.{in-Ok, in-Err-Memory, in-Err}
 
