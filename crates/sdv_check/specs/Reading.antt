@@ -8,6 +8,7 @@ use Rattle.hex.specs.declared.error.FromHexError.{FromHexError}
 use Rattle.sdv_text.specs.Fronts.{◌>>=◌, Read, after, is_digit, run, number_after}
 use Rattle.sdv_card.specs.declared.shape.Shape.{Shape}
 use Rattle.sdv_script.specs.Rules.{max_number}
+use Rattle.sdv_check.specs.declared.text.cursor.TextCursor.{TextCursor}
 use Rattle.sdv_facts.specs.declared.certificate.Version.{Version}
 use Rattle.sdv_facts.specs.declared.certificate.Version.TheVariants.{One, Two}
 use Rattle.sdv_facts.specs.declared.numbers.VarFacts.{VarFacts}
@@ -25,6 +26,11 @@ Fails fault read = read ≡ None
 abbrev pub Gives : {X Y : Type 0} → (X → Y) → Result X CertFault → Option Y → Type 0
 Gives view (Ok x) read = read ≡ Some (view x)
 Gives view (Err e) read = Fails e read
+
+-- A word that may stand at a place was taken, and the place is behind it; or it does not stand there, and the place is the same.
+abbrev pub Takes : (taken : Bool) (before after : TextCursor) → (behind : Option (List ℕ)) → Type 0
+Takes true before after behind = behind ≡ Some after.rest.now
+Takes false before after behind = (behind ≡ None) × (after ≡ before)
 
 -- ENDS
 

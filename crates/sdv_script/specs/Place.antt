@@ -1,5 +1,5 @@
 -- The tokens from a place in a text on, and the names that a script declares.
-use Rattle.std.specs.Prelude.{ℕ, List, map}
+use Rattle.std.specs.Prelude.{◌≡◌, ℕ, Bool, true, false, List, map, Option, Some, None}
 use Rattle.sdv_script.specs.declared.cursor.Cursor.{Cursor}
 use Rattle.sdv_script.specs.declared.progress.Progress.{Progress as From}
 use Rattle.sdv_graph.specs.declared.tree.Names.{Names}
@@ -13,6 +13,11 @@ use Rattle.std.specs.Borrow.{Bor}
 
 abbrev pub tokens_at : Cursor → List Token
 tokens_at cursor = list_of cursor.token (tokens cursor.rest.now)
+
+-- A word that may stand at a place was taken, and the place is behind it; or it does not stand there, and the place is the same.
+abbrev pub Takes : (taken : Bool) (before after : Cursor) → (behind : Option (List Token)) → Type 0
+Takes true before after behind = behind ≡ Some (tokens_at after)
+Takes false before after behind = (behind ≡ None) × (after ≡ before)
 
 abbrev pub progress_of : From → Progress
 progress_of from = record { tokens = tokens_at from.at; begun = from.begun }

@@ -14,7 +14,7 @@ ghost use Rattle.sdv_script.specs.Reading.{read_statements, read_ways};
 
 use crate::cursor::Cursor;
 use crate::depth::Depth;
-use crate::expect::{after_else, close_brace, else_word, open_brace};
+use crate::expect::{close_brace, else_word, open_brace, takes_else};
 use crate::fault::{FaultKind, Stop};
 use crate::guards::guard_list;
 use crate::heads::{Fork, Head, statement_head};
@@ -31,20 +31,18 @@ pub fn statements<'a>(
     names: &Names<'a>,
     left: usize,
     depth: Depth,
-    from: Progress<'a>,
-) -> Result<(Block<'a>, Progress<'a>), Stop>
-    ensures { Gives (λ x. (statements_of x.0, progress_of x.1)) result
-        (read_statements left (names_of names.now) depth (progress_of from.entry)) }
+    from: &mut Progress<'a>,
+) -> Result<Block<'a>, Stop>
+    ensures { Gives (λ x. (statements_of x, progress_of from.new)) result
+        (read_statements left (names_of names.now) depth (progress_of from.old)) }
 {
     let mut read = Vec::new(alloc);
-    let mut from = from;
     for left in (0..left).rev() {
-        if is_closed(from.at) {
-            return Ok((in_row(alloc, read)?, from));
+        if is_closed(&from.at) {
+            return Ok(in_row(alloc, read)?);
         }
-        let (next, after) = statement(alloc, names, left, depth, from)?;
+        let next = statement(alloc, names, left, depth, from)?;
         read.push(next)?;
-        from = after;
     }
     Err(Stop::Fault(from.at.fault(FaultKind::Limit)))
 }
@@ -62,8 +60,8 @@ fn in_row<'a>(alloc: Global, statements: Vec<Stmt<'a>>) -> Result<Block<'a>, All
 }
 
 // No further statement stands here.
-fn is_closed(at: Cursor<'_>) -> bool
-    ensures { result ≡ closes (tokens_at at.entry) }
+fn is_closed(at: &Cursor<'_>) -> bool
+    ensures { result ≡ closes (tokens_at at.now) }
 {
     matches!(at.token, Token::End | Token::Mark(Sign::CloseBrace))
 }
@@ -74,21 +72,20 @@ fn statement<'a>(
     names: &Names<'a>,
     left: usize,
     depth: Depth,
-    from: Progress<'a>,
-) -> Result<(Stmt<'a>, Progress<'a>), Stop>
-    ensures { let names = names_of names.now in Gives (λ x. (statement_of x.0, progress_of x.1)) result
+    from: &mut Progress<'a>,
+) -> Result<Stmt<'a>, Stop>
+    ensures { let names = names_of names.now in Gives (λ x. (statement_of x, progress_of from.new)) result
         (read_statement (read_statements left names) (read_ways left names) names depth
-        (tokens_at from.entry.at) from.entry.begun) }
+        (tokens_at from.old.at) from.old.begun) }
 {
-    let (head, from) = statement_head(names, depth, from)?;
-    match head {
-        Head::Plain(stmt) => Ok((stmt, from)),
+    match statement_head(names, depth, from)? {
+        Head::Plain(stmt) => Ok(stmt),
         Head::Send(command, order, inside) => {
-            let (cases, from) = ways(alloc, names, left, inside, order, from)?;
+            let cases = ways(alloc, names, left, inside, order, from)?;
             sent(command, cases, from)
         }
         Head::Fork(fork, inside, depth) => {
-            let (first, second, from) = branches(alloc, names, left, inside, depth, from)?;
+            let (first, second) = branches(alloc, names, left, inside, depth, from)?;
             forked(fork, first, second, from)
         }
     }
@@ -98,13 +95,13 @@ fn statement<'a>(
 fn sent<'a>(
     command: ScriptCommand,
     cases: Cases<'a>,
-    from: Progress<'a>,
-) -> Result<(Stmt<'a>, Progress<'a>), Stop>
-    ensures { Gives (λ x. (statement_of x.0, progress_of x.1)) result
-        (read_sent command (ways_of cases.entry) (progress_of from.entry)) }
+    from: &mut Progress<'a>,
+) -> Result<Stmt<'a>, Stop>
+    ensures { Gives (λ x. (statement_of x, progress_of from.new)) result
+        (read_sent command (ways_of cases.entry) (progress_of from.old)) }
 {
-    let at = close_brace(from.at)?;
-    Ok((Stmt::Send(command, cases), from.to(at)))
+    close_brace(&mut from.at)?;
+    Ok(Stmt::Send(command, cases))
 }
 
 // A statement of two blocks; behind those of a phase `}` is to stand.
@@ -112,19 +109,19 @@ fn forked<'a>(
     fork: Fork,
     first: Box<Block<'a>>,
     second: Box<Block<'a>>,
-    from: Progress<'a>,
-) -> Result<(Stmt<'a>, Progress<'a>), Stop>
-    ensures { Gives (λ x. (statement_of x.0, progress_of x.1)) result
+    from: &mut Progress<'a>,
+) -> Result<Stmt<'a>, Stop>
+    ensures { Gives (λ x. (statement_of x, progress_of from.new)) result
         (read_forked fork (statements_of (box_value first.entry)) (statements_of (box_value second.entry))
-        (progress_of from.entry)) }
+        (progress_of from.old)) }
 {
     match fork {
         Fork::Phase(phase) => {
-            let at = close_brace(from.at)?;
-            Ok((Stmt::Phase(phase, first, second), from.to(at)))
+            close_brace(&mut from.at)?;
+            Ok(Stmt::Phase(phase, first, second))
         }
-        Fork::If(condition) => Ok((Stmt::If(condition, first, second), from)),
-        Fork::Loop(turns) => Ok((Stmt::Loop(turns, first, second), from)),
+        Fork::If(condition) => Ok(Stmt::If(condition, first, second)),
+        Fork::Loop(turns) => Ok(Stmt::Loop(turns, first, second)),
     }
 }
 
@@ -136,15 +133,15 @@ fn branches<'a>(
     left: usize,
     inside: Depth,
     depth: Depth,
-    from: Progress<'a>,
-) -> Result<(Box<Block<'a>>, Box<Block<'a>>, Progress<'a>), Stop>
-    ensures { Gives (λ x. ((statements_of (box_value x.0), statements_of (box_value x.1)), progress_of x.2)) result
-        (read_branches (read_statements left (names_of names.now)) inside depth (progress_of from.entry)) }
+    from: &mut Progress<'a>,
+) -> Result<(Box<Block<'a>>, Box<Block<'a>>), Stop>
+    ensures { Gives (λ x. ((statements_of (box_value x.0), statements_of (box_value x.1)), progress_of from.new)) result
+        (read_branches (read_statements left (names_of names.now)) inside depth (progress_of from.old)) }
 {
-    let (first, from) = boxed_block(alloc, names, left, inside, from)?;
-    let at = else_word(from.at)?;
-    let (second, from) = boxed_block(alloc, names, left, depth, from.to(at))?;
-    Ok((first, second, from))
+    let first = boxed_block(alloc, names, left, inside, from)?;
+    else_word(&mut from.at)?;
+    let second = boxed_block(alloc, names, left, depth, from)?;
+    Ok((first, second))
 }
 
 // Statements in braces, in a box.
@@ -154,13 +151,13 @@ fn boxed_block<'a>(
     names: &Names<'a>,
     left: usize,
     depth: Depth,
-    from: Progress<'a>,
-) -> Result<(Box<Block<'a>>, Progress<'a>), Stop>
-    ensures { Gives (λ x. (statements_of (box_value x.0), progress_of x.1)) result
-        (read_block (read_statements left (names_of names.now)) depth (progress_of from.entry)) }
+    from: &mut Progress<'a>,
+) -> Result<Box<Block<'a>>, Stop>
+    ensures { Gives (λ x. (statements_of (box_value x), progress_of from.new)) result
+        (read_block (read_statements left (names_of names.now)) depth (progress_of from.old)) }
 {
-    let (inside, at) = open_brace(from.at, depth, FaultKind::Syntax)?;
-    let (block, from) = statements(alloc, names, left, inside, from.to(at))?;
+    let inside = open_brace(&mut from.at, depth, FaultKind::Syntax)?;
+    let block = statements(alloc, names, left, inside, from)?;
     boxed(alloc, block, from)
 }
 
@@ -168,13 +165,13 @@ fn boxed_block<'a>(
 fn boxed<'a>(
     alloc: Global,
     block: Block<'a>,
-    from: Progress<'a>,
-) -> Result<(Box<Block<'a>>, Progress<'a>), Stop>
-    ensures { Gives (λ x. (statements_of (box_value x.0), progress_of x.1)) result
-        (before_brace (statements_of block.entry) (progress_of from.entry)) }
+    from: &mut Progress<'a>,
+) -> Result<Box<Block<'a>>, Stop>
+    ensures { Gives (λ x. (statements_of (box_value x), progress_of from.new)) result
+        (before_brace (statements_of block.entry) (progress_of from.old)) }
 {
-    let at = close_brace(from.at)?;
-    Ok((Box::new(alloc, block)?, from.to(at)))
+    close_brace(&mut from.at)?;
+    Ok(Box::new(alloc, block)?)
 }
 
 // A case before the last one.
@@ -192,21 +189,19 @@ fn ways<'a>(
     left: usize,
     depth: Depth,
     order: Option<Order>,
-    from: Progress<'a>,
-) -> Result<(Cases<'a>, Progress<'a>), Stop>
-    ensures { Gives (λ x. (ways_of x.0, progress_of x.1)) result
-        (read_ways left (names_of names.now) depth order (progress_of from.entry)) }
+    from: &mut Progress<'a>,
+) -> Result<Cases<'a>, Stop>
+    ensures { Gives (λ x. (ways_of x, progress_of from.new)) result
+        (read_ways left (names_of names.now) depth order (progress_of from.old)) }
 {
     let mut read = Vec::new(alloc);
-    let mut from = from;
     for left in (0..left).rev() {
-        if let Some(at) = after_else(from.at) {
-            let (last, from) = boxed_block(alloc, names, left, depth, from.to(at))?;
-            return Ok((before(alloc, read, Cases::Else(last))?, from));
+        if takes_else(&mut from.at) {
+            let last = boxed_block(alloc, names, left, depth, from)?;
+            return Ok(before(alloc, read, Cases::Else(last))?);
         }
-        let (next, after) = case(alloc, names, left, depth, order, from)?;
+        let next = case(alloc, names, left, depth, order, from)?;
         read.push(next)?;
-        from = after;
     }
     Err(Stop::Fault(from.at.fault(FaultKind::Limit)))
 }
@@ -235,12 +230,12 @@ fn case<'a>(
     left: usize,
     depth: Depth,
     order: Option<Order>,
-    from: Progress<'a>,
-) -> Result<(Guarded<'a>, Progress<'a>), Stop>
-    ensures { Gives (λ x. (guarded_of x.0, progress_of x.1)) result
-        (read_case (read_statements left (names_of names.now)) depth order (progress_of from.entry)) }
+    from: &mut Progress<'a>,
+) -> Result<Guarded<'a>, Stop>
+    ensures { Gives (λ x. (guarded_of x, progress_of from.new)) result
+        (read_case (read_statements left (names_of names.now)) depth order (progress_of from.old)) }
 {
-    let (guards, at) = guard_list(alloc, order, from.at)?;
-    let (block, from) = boxed_block(alloc, names, left, depth, from.to(at))?;
-    Ok((Guarded { guards, block }, from))
+    let guards = guard_list(alloc, order, &mut from.at)?;
+    let block = boxed_block(alloc, names, left, depth, from)?;
+    Ok(Guarded { guards, block })
 }

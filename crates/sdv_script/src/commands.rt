@@ -16,8 +16,8 @@ use sdv_card::{Aim, Ask, Kind};
 use sdv_graph::{Address, Names, Position, ScriptCommand, Unit};
 
 /// A command, from its index on.
-pub fn command<'a>(names: &Names<'_>, at: Cursor<'a>) -> Result<(ScriptCommand, Cursor<'a>), Stop>
-    ensures { Gives (λ x. (x.0, tokens_at x.1)) result (read_command (names_of names.now) (tokens_at at.entry)) }
+pub fn command(names: &Names<'_>, at: &mut Cursor<'_>) -> Result<ScriptCommand, Stop>
+    ensures { Gives (λ x. (x, tokens_at at.new)) result (read_command (names_of names.now) (tokens_at at.old)) }
 {
     let number = match at.token {
         Token::Number(number) => number,
@@ -27,28 +27,31 @@ pub fn command<'a>(names: &Names<'_>, at: Cursor<'a>) -> Result<(ScriptCommand, 
         return Err(Stop::Fault(at.fault(FaultKind::Command)));
     };
     match operand_of(names.kind, index) {
-        Some(operand) => written(names, index, operand, at.next()),
+        Some(operand) => {
+            at.advance();
+            written(names, index, operand, at)
+        }
         None => Err(Stop::Fault(at.fault(FaultKind::Command))),
     }
 }
 
 // What stands after the index.
-fn written<'a>(
+fn written(
     names: &Names<'_>,
     index: u8,
     operand: Operand,
-    at: Cursor<'a>,
-) -> Result<(ScriptCommand, Cursor<'a>), Stop>
-    ensures { Gives (λ x. (x.0, tokens_at x.1)) result
-        (read_operand (names_of names.now) index operand (tokens_at at.entry)) }
+    at: &mut Cursor<'_>,
+) -> Result<ScriptCommand, Stop>
+    ensures { Gives (λ x. (x, tokens_at at.new)) result
+        (read_operand (names_of names.now) index operand (tokens_at at.old)) }
 {
     match operand {
-        Operand::Bare(aim) => Ok((bare(ask(index, aim, 0, 0)), at)),
-        Operand::Select => select(index, at),
+        Operand::Bare(aim) => Ok(bare(ask(index, aim, 0, 0))),
+        Operand::Select => Ok(select(index, at)),
         Operand::Conditions => conditions(index, at),
         Operand::Addressed(blocks) => {
-            let (address, at) = address(names, at)?;
-            Ok((addressed(ask(index, Aim::Plain, 0, blocks), address), at))
+            let address = address(names, at)?;
+            Ok(addressed(ask(index, Aim::Plain, 0, blocks), address))
         }
         Operand::Counted => counted(names, index, at),
         Operand::Preset => preset(index, at),
@@ -84,117 +87,122 @@ fn addressed(ask: Ask, address: Address) -> ScriptCommand
 }
 
 // Nothing, or `none`.
-fn select(index: u8, at: Cursor<'_>) -> Result<(ScriptCommand, Cursor<'_>), Stop>
-    ensures { Gives (λ x. (x.0, tokens_at x.1)) result (read_select index (tokens_at at.entry)) }
+fn select(index: u8, at: &mut Cursor<'_>) -> ScriptCommand
+    ensures { read_select index (tokens_at at.old) ≡ Some (result, tokens_at at.new) }
 {
     match at.token {
-        Token::Key(Keyword::None) => Ok((bare(ask(index, Aim::Plain, 0, 0)), at.next())),
-        _ => Ok((bare(ask(index, Aim::Rca, 0, 0)), at)),
+        Token::Key(Keyword::None) => {
+            at.advance();
+            bare(ask(index, Aim::Plain, 0, 0))
+        }
+        _ => bare(ask(index, Aim::Rca, 0, 0)),
     }
 }
 
 // One of the two arguments of ACMD41.
-fn conditions(index: u8, at: Cursor<'_>) -> Result<(ScriptCommand, Cursor<'_>), Stop>
-    ensures { Gives (λ x. (x.0, tokens_at x.1)) result (read_conditions index (tokens_at at.entry)) }
+fn conditions(index: u8, at: &mut Cursor<'_>) -> Result<ScriptCommand, Stop>
+    ensures { Gives (λ x. (x, tokens_at at.new)) result (read_conditions index (tokens_at at.old)) }
 {
     match at.token {
         Token::Number(n) if n == 0x00ff_8000 || n == 0x40ff_8000 => {
-            Ok((bare(ask(index, Aim::Plain, n as u32, 0)), at.next()))
+            at.advance();
+            Ok(bare(ask(index, Aim::Plain, n as u32, 0)))
         }
         _ => Err(Stop::Fault(at.fault(FaultKind::Argument))),
     }
 }
 
 // `count` and a number of blocks.
-fn preset(index: u8, at: Cursor<'_>) -> Result<(ScriptCommand, Cursor<'_>), Stop>
-    ensures { Gives (λ x. (x.0, tokens_at x.1)) result (read_preset index (tokens_at at.entry)) }
+fn preset(index: u8, at: &mut Cursor<'_>) -> Result<ScriptCommand, Stop>
+    ensures { Gives (λ x. (x, tokens_at at.new)) result (read_preset index (tokens_at at.old)) }
 {
-    let at = count_word(at)?;
-    let (count, at) = count(at, FaultKind::Argument, FaultKind::Argument)?;
-    Ok((bare(ask(index, Aim::Plain, 0, count)), at))
+    count_word(at)?;
+    let count = count(at, FaultKind::Argument, FaultKind::Argument)?;
+    Ok(bare(ask(index, Aim::Plain, 0, count)))
 }
 
 // An erase, a trim or a discard.
-fn erase(index: u8, at: Cursor<'_>) -> Result<(ScriptCommand, Cursor<'_>), Stop>
-    ensures { Gives (λ x. (x.0, tokens_at x.1)) result (read_erase index (tokens_at at.entry)) }
+fn erase(index: u8, at: &mut Cursor<'_>) -> Result<ScriptCommand, Stop>
+    ensures { Gives (λ x. (x, tokens_at at.new)) result (read_erase index (tokens_at at.old)) }
 {
     match at.token {
         Token::Number(n) if n == 0 || n == 1 || n == 3 => {
-            Ok((bare(ask(index, Aim::Plain, n as u32, 0)), at.next()))
+            at.advance();
+            Ok(bare(ask(index, Aim::Plain, n as u32, 0)))
         }
         _ => Err(Stop::Fault(at.fault(FaultKind::Argument))),
     }
 }
 
 // What index 6 sets.
-fn switch(kind: Kind, index: u8, at: Cursor<'_>) -> Result<(ScriptCommand, Cursor<'_>), Stop>
-    ensures { Gives (λ x. (x.0, tokens_at x.1)) result (read_switch kind index (tokens_at at.entry)) }
+fn switch(kind: Kind, index: u8, at: &mut Cursor<'_>) -> Result<ScriptCommand, Stop>
+    ensures { Gives (λ x. (x, tokens_at at.new)) result (read_switch kind index (tokens_at at.old)) }
 {
-    let (setting, at) = setting(kind, at)?;
-    Ok((bare(ask(index, Aim::Plain, argument(kind, setting), 0)), at))
+    let argument = argument(kind, setting(kind, at)?);
+    Ok(bare(ask(index, Aim::Plain, argument, 0)))
 }
 
 // An address, `count` and a number of blocks.
-fn counted<'a>(
-    names: &Names<'_>,
-    index: u8,
-    at: Cursor<'a>,
-) -> Result<(ScriptCommand, Cursor<'a>), Stop>
-    ensures { Gives (λ x. (x.0, tokens_at x.1)) result (read_counted (names_of names.now) index (tokens_at at.entry)) }
+fn counted(names: &Names<'_>, index: u8, at: &mut Cursor<'_>) -> Result<ScriptCommand, Stop>
+    ensures { Gives (λ x. (x, tokens_at at.new)) result (read_counted (names_of names.now) index (tokens_at at.old)) }
 {
-    let (address, at) = address(names, at)?;
-    let at = count_word(at)?;
-    let (blocks, at) = count(at, FaultKind::Argument, FaultKind::Argument)?;
-    Ok((addressed(ask(index, Aim::Plain, 0, blocks), address), at))
+    let address = address(names, at)?;
+    count_word(at)?;
+    let blocks = count(at, FaultKind::Argument, FaultKind::Argument)?;
+    Ok(addressed(ask(index, Aim::Plain, 0, blocks), address))
 }
 
-fn address<'a>(names: &Names<'_>, at: Cursor<'a>) -> Result<(Address, Cursor<'a>), Stop>
-    ensures { Gives (λ x. (x.0, tokens_at x.1)) result (read_address (names_of names.now) (tokens_at at.entry)) }
+fn address(names: &Names<'_>, at: &mut Cursor<'_>) -> Result<Address, Stop>
+    ensures { Gives (λ x. (x, tokens_at at.new)) result (read_address (names_of names.now) (tokens_at at.old)) }
 {
-    let at = at_word(at)?;
-    let (unit, at) = unit(names, at)?;
-    let (position, at) = position(names, at)?;
-    Ok((Address { unit, position }, at))
+    at_word(at)?;
+    let unit = unit(names, at)?;
+    let position = position(names, at)?;
+    Ok(Address { unit, position })
 }
 
-fn unit<'a>(names: &Names<'_>, at: Cursor<'a>) -> Result<(Unit, Cursor<'a>), Stop>
-    ensures { Gives (λ x. (x.0, tokens_at x.1)) result (read_unit (names_of names.now) (tokens_at at.entry)) }
+fn unit(names: &Names<'_>, at: &mut Cursor<'_>) -> Result<Unit, Stop>
+    ensures { Gives (λ x. (x, tokens_at at.new)) result (read_unit (names_of names.now) (tokens_at at.old)) }
 {
     match at.token {
-        Token::Key(Keyword::Block) => Ok((Unit::Block, at.next())),
-        Token::Key(Keyword::Byte) => Ok((Unit::Byte, at.next())),
+        Token::Key(Keyword::Block) => {
+            at.advance();
+            Ok(Unit::Block)
+        }
+        Token::Key(Keyword::Byte) => {
+            at.advance();
+            Ok(Unit::Byte)
+        }
         Token::Key(Keyword::By) => {
-            let (f, at) = flag(names, at.next(), FaultKind::Argument)?;
-            Ok((Unit::By(f), at))
+            at.advance();
+            Ok(Unit::By(flag(names, at, FaultKind::Argument)?))
         }
         _ => Err(Stop::Fault(at.fault(FaultKind::Argument))),
     }
 }
 
-fn position<'a>(names: &Names<'_>, at: Cursor<'a>) -> Result<(Position, Cursor<'a>), Stop>
-    ensures { Gives (λ x. (x.0, tokens_at x.1)) result (read_position (names_of names.now) (tokens_at at.entry)) }
+fn position(names: &Names<'_>, at: &mut Cursor<'_>) -> Result<Position, Stop>
+    ensures { Gives (λ x. (x, tokens_at at.new)) result (read_position (names_of names.now) (tokens_at at.old)) }
 {
     match at.token {
-        Token::Number(_) => {
-            let (n, at) = figure(at, FaultKind::Argument)?;
-            Ok((Position::Number(n), at))
-        }
+        Token::Number(_) => Ok(Position::Number(figure(at, FaultKind::Argument)?)),
         _ => {
-            let (x, at) = number_name(names, at, FaultKind::Argument)?;
+            let x = number_name(names, at, FaultKind::Argument)?;
             sum(x, at)
         }
     }
 }
 
 // A number variable, with what is added to it.
-fn sum(x: usize, at: Cursor<'_>) -> Result<(Position, Cursor<'_>), Stop>
-    ensures { Gives (λ x. (x.0, tokens_at x.1)) result (read_sum x (tokens_at at.entry)) }
+fn sum(x: usize, at: &mut Cursor<'_>) -> Result<Position, Stop>
+    ensures { Gives (λ x. (x, tokens_at at.new)) result (read_sum x (tokens_at at.old)) }
 {
     match at.token {
         Token::Mark(Sign::Plus) => {
-            let (k, at) = figure(at.next(), FaultKind::Argument)?;
-            Ok((Position::Variable(x, Some(k)), at))
+            at.advance();
+            let k = figure(at, FaultKind::Argument)?;
+            Ok(Position::Variable(x, Some(k)))
         }
-        _ => Ok((Position::Variable(x, None), at)),
+        _ => Ok(Position::Variable(x, None)),
     }
 }

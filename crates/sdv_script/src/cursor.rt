@@ -32,18 +32,18 @@ impl<'a> Cursor<'a> {
         token_after(text.as_bytes(), 1)
     }
 
-    /// The next token.
-    pub fn next(self) -> Cursor<'a>
-        ensures tokens { tokens_at result ≡ tokens self.entry.rest.now }
-        ensures pieces { pieces_at result ≡ pieces self.entry.rest.now }
+    /// Goes on to the next token.
+    pub fn advance(&mut self)
+        ensures tokens { tokens_at self.new ≡ tokens self.old.rest.now }
+        ensures pieces { pieces_at self.new ≡ pieces self.old.rest.now }
     {
-        token_after(self.rest, self.line)
+        *self = token_after(self.rest, self.line);
     }
 
     /// What is wrong at the token; a stray token is wrong whatever was wanted.
-    pub fn fault(self, kind: FaultKind) -> ScriptFault
-        ensures kind { result.kind ≡ kind_at self.entry.token kind }
-        ensures line { result.line ≡ self.entry.line }
+    pub fn fault(&self, kind: FaultKind) -> ScriptFault
+        ensures kind { result.kind ≡ kind_at self.now.token kind }
+        ensures line { result.line ≡ self.now.line }
     {
         let kind = match self.token {
             Token::Stray => FaultKind::Token,

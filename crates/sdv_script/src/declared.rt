@@ -22,41 +22,40 @@ pub const MAX_FLAGS: usize = 4;
 pub const MAX_NUMBERS: usize = 8;
 
 /// The kind of card, the flags and the number variables.
-pub fn declared<'a>(alloc: Global, at: Cursor<'a>) -> Result<(Names<'a>, Cursor<'a>), Stop>
-    ensures { Gives (λ x. (names_of x.0, tokens_at x.1)) result (read_declared (tokens_at at.entry)) }
+pub fn declared<'a>(alloc: Global, at: &mut Cursor<'a>) -> Result<Names<'a>, Stop>
+    ensures { Gives (λ x. (names_of x, tokens_at at.new)) result (read_declared (tokens_at at.old)) }
 {
-    let (kind, at) = kind_word(at)?;
-    let (flags, at) = flags(alloc, at)?;
-    let (numbers, at) = numbers(alloc, &flags, at)?;
-    Ok((
-        Names {
-            kind,
-            flags,
-            numbers,
-        },
-        at,
-    ))
+    let kind = kind_word(at)?;
+    let flags = flags(alloc, at)?;
+    let numbers = numbers(alloc, &flags, at)?;
+    Ok(Names {
+        kind,
+        flags,
+        numbers,
+    })
 }
 
-fn flags<'a>(alloc: Global, at: Cursor<'a>) -> Result<(Vec<&'a str>, Cursor<'a>), Stop>
-    ensures { Gives (λ x. (texts x.0.items, tokens_at x.1)) result (read_flags (tokens_at at.entry)) }
+fn flags<'a>(alloc: Global, at: &mut Cursor<'a>) -> Result<Vec<&'a str>, Stop>
+    ensures { Gives (λ x. (texts x.items, tokens_at at.new)) result (read_flags (tokens_at at.old)) }
 {
     match at.token {
-        Token::Key(Keyword::Flags) => names(alloc, true, &[], MAX_FLAGS, at.next()),
-        _ => Ok((Vec::new(alloc), at)),
+        Token::Key(Keyword::Flags) => {
+            at.advance();
+            names(alloc, true, &[], MAX_FLAGS, at)
+        }
+        _ => Ok(Vec::new(alloc)),
     }
 }
 
-fn numbers<'a>(
-    alloc: Global,
-    flags: &[&str],
-    at: Cursor<'a>,
-) -> Result<(Vec<&'a str>, Cursor<'a>), Stop>
-    ensures { Gives (λ x. (texts x.0.items, tokens_at x.1)) result (read_nums (texts flags.now) (tokens_at at.entry)) }
+fn numbers<'a>(alloc: Global, flags: &[&str], at: &mut Cursor<'a>) -> Result<Vec<&'a str>, Stop>
+    ensures { Gives (λ x. (texts x.items, tokens_at at.new)) result (read_nums (texts flags.now) (tokens_at at.old)) }
 {
     match at.token {
-        Token::Key(Keyword::Nums) => names(alloc, false, flags, MAX_NUMBERS, at.next()),
-        _ => Ok((Vec::new(alloc), at)),
+        Token::Key(Keyword::Nums) => {
+            at.advance();
+            names(alloc, false, flags, MAX_NUMBERS, at)
+        }
+        _ => Ok(Vec::new(alloc)),
     }
 }
 
@@ -66,19 +65,18 @@ fn names<'a>(
     with_nums: bool,
     earlier: &[&str],
     limit: usize,
-    at: Cursor<'a>,
-) -> Result<(Vec<&'a str>, Cursor<'a>), Stop>
-    ensures { Gives (λ x. (texts x.0.items, tokens_at x.1)) result
-        (read_names with_nums (texts earlier.now) [] limit (tokens_at at.entry)) }
+    at: &mut Cursor<'a>,
+) -> Result<Vec<&'a str>, Stop>
+    ensures { Gives (λ x. (texts x.items, tokens_at at.new)) result
+        (read_names with_nums (texts earlier.now) [] limit (tokens_at at.old)) }
 {
     let mut names = Vec::new(alloc);
-    let mut at = at;
     while let Token::Name(name) = at.token {
         if let Some(kind) = refusal(earlier, &names, limit, name) {
             return Err(Stop::Fault(at.fault(kind)));
         }
         names.push(name)?;
-        at = at.next();
+        at.advance();
     }
     if names.is_empty() {
         return Err(Stop::Fault(no_first_name(at)));
@@ -86,7 +84,7 @@ fn names<'a>(
     if !may_end(with_nums, at) {
         return Err(Stop::Fault(at.fault(FaultKind::Name)));
     }
-    Ok((names, at))
+    Ok(names)
 }
 
 // Why a name cannot be declared after others.
@@ -102,9 +100,9 @@ fn refusal(earlier: &[&str], names: &[&str], limit: usize, name: &str) -> Option
     None
 }
 
-fn no_first_name(at: Cursor<'_>) -> ScriptFault
-    ensures kind { result.kind ≡ no_first_kind at.entry.token }
-    ensures line { result.line ≡ at.entry.line }
+fn no_first_name(at: &Cursor<'_>) -> ScriptFault
+    ensures kind { result.kind ≡ no_first_kind at.now.token }
+    ensures line { result.line ≡ at.now.line }
 {
     match at.token {
         Token::Key(_) => at.fault(FaultKind::Name),
@@ -113,8 +111,8 @@ fn no_first_name(at: Cursor<'_>) -> ScriptFault
 }
 
 // A list of names may end before this token: a reserved word has to begin what follows.
-fn may_end(with_nums: bool, at: Cursor<'_>) -> bool
-    ensures { result ≡ may_follow with_nums (tokens_at at.entry) }
+fn may_end(with_nums: bool, at: &Cursor<'_>) -> bool
+    ensures { result ≡ may_follow with_nums (tokens_at at.now) }
 {
     match at.token {
         Token::Key(Keyword::Nums) => with_nums,

@@ -1,9 +1,9 @@
 //! Guards of the cases of a command.
 
-ghost use Rattle.std.specs.Prelude.{◌≡◌, [], option_map};
+ghost use Rattle.std.specs.Prelude.{◌≡◌, []};
 ghost use Rattle.sdv_card.specs.Guards.{guard_fits, has_status, has_ocr};
 ghost use Rattle.sdv_script.specs.Commands.{fits_order};
-ghost use Rattle.sdv_script.specs.Place.{tokens_at};
+ghost use Rattle.sdv_script.specs.Place.{Takes, tokens_at};
 ghost use Rattle.sdv_script.specs.Tokens.{tokens};
 ghost use Rattle.sdv_script.specs.Reading.{Gives, after_and, state_of, guard_of, read_state, read_state_guard, read_word_guard, read_guard, read_guards};
 
@@ -16,37 +16,38 @@ use sdv_card::{Guard, Order, State};
 use std::alloc::Global;
 
 /// The guards of a case, which say something of the answers to a command by its order.
-pub fn guard_list<'a>(
+pub fn guard_list(
     alloc: Global,
     order: Option<Order>,
-    at: Cursor<'a>,
-) -> Result<(Vec<Guard>, Cursor<'a>), Stop>
-    ensures { Gives (λ x. (x.0.items, tokens_at x.1)) result (read_guards order [] (tokens_at at.entry)) }
+    at: &mut Cursor<'_>,
+) -> Result<Vec<Guard>, Stop>
+    ensures { Gives (λ x. (x.items, tokens_at at.new)) result (read_guards order [] (tokens_at at.old)) }
 {
     let mut guards = Vec::new(alloc);
-    let mut at = at;
     loop {
-        let (first, after) = guard(order, at)?;
+        let first = guard(order, at)?;
         guards.push(first)?;
-        match and_sign(after) {
-            Some(next) => at = next,
-            None => return Ok((guards, after)),
+        if !takes_and(at) {
+            return Ok(guards);
         }
     }
 }
 
-// What follows `&`, if it stands here.
-fn and_sign(at: Cursor<'_>) -> Option<Cursor<'_>>
-    ensures { option_map tokens_at result ≡ after_and (tokens_at at.entry) }
+// `&`, if it stands here.
+fn takes_and(at: &mut Cursor<'_>) -> bool
+    ensures { Takes result at.old at.new (after_and (tokens_at at.old)) }
 {
     match at.token {
-        Token::Mark(Sign::And) => Some(at.next()),
-        _ => None,
+        Token::Mark(Sign::And) => {
+            at.advance();
+            true
+        }
+        _ => false,
     }
 }
 
-fn guard<'a>(order: Option<Order>, at: Cursor<'a>) -> Result<(Guard, Cursor<'a>), Stop>
-    ensures { Gives (λ x. (x.0, tokens_at x.1)) result (read_guard order (tokens_at at.entry)) }
+fn guard(order: Option<Order>, at: &mut Cursor<'_>) -> Result<Guard, Stop>
+    ensures { Gives (λ x. (x, tokens_at at.new)) result (read_guard order (tokens_at at.old)) }
 {
     match at.token {
         Token::Key(Keyword::State) => state_guard(order, at),
@@ -56,40 +57,42 @@ fn guard<'a>(order: Option<Order>, at: Cursor<'a>) -> Result<(Guard, Cursor<'a>)
 }
 
 // A guard of one word, at a place that has the word.
-fn word_guard<'a>(
-    order: Option<Order>,
-    keyword: Keyword,
-    at: Cursor<'a>,
-) -> Result<(Guard, Cursor<'a>), Stop>
-    ensures { Gives (λ x. (x.0, tokens_at x.1)) result (read_word_guard order keyword (tokens at.entry.rest.now)) }
+fn word_guard(order: Option<Order>, keyword: Keyword, at: &mut Cursor<'_>) -> Result<Guard, Stop>
+    ensures { Gives (λ x. (x, tokens_at at.new)) result (read_word_guard order keyword (tokens at.old.rest.now)) }
 {
     match guard_of(keyword) {
-        Some(guard) if suits(guard, order) => Ok((guard, at.next())),
+        Some(guard) if suits(guard, order) => {
+            at.advance();
+            Ok(guard)
+        }
         Some(_) => Err(Stop::Fault(at.fault(FaultKind::Guard))),
         None => Err(Stop::Fault(at.fault(FaultKind::Syntax))),
     }
 }
 
 // `state`, `=` and a state, at the place of `state`.
-fn state_guard<'a>(order: Option<Order>, at: Cursor<'a>) -> Result<(Guard, Cursor<'a>), Stop>
-    ensures { Gives (λ x. (x.0, tokens_at x.1)) result (read_state_guard order (tokens at.entry.rest.now)) }
+fn state_guard(order: Option<Order>, at: &mut Cursor<'_>) -> Result<Guard, Stop>
+    ensures { Gives (λ x. (x, tokens_at at.new)) result (read_state_guard order (tokens at.old.rest.now)) }
 {
     if !suits(Guard::State(State::Idle), order) {
         return Err(Stop::Fault(at.fault(FaultKind::Guard)));
     }
-    let at = equals(at.next())?;
-    let (state, at) = state(at)?;
-    Ok((Guard::State(state), at))
+    at.advance();
+    equals(at)?;
+    Ok(Guard::State(state(at)?))
 }
 
-fn state(at: Cursor<'_>) -> Result<(State, Cursor<'_>), Stop>
-    ensures { Gives (λ x. (x.0, tokens_at x.1)) result (read_state (tokens_at at.entry)) }
+fn state(at: &mut Cursor<'_>) -> Result<State, Stop>
+    ensures { Gives (λ x. (x, tokens_at at.new)) result (read_state (tokens_at at.old)) }
 {
     let Token::Key(keyword) = at.token else {
         return Err(Stop::Fault(at.fault(FaultKind::Syntax)));
     };
     match state_of(keyword) {
-        Some(state) => Ok((state, at.next())),
+        Some(state) => {
+            at.advance();
+            Ok(state)
+        }
         None => Err(Stop::Fault(at.fault(FaultKind::Syntax))),
     }
 }

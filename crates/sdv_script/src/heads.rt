@@ -50,25 +50,24 @@ pub enum Head<'a> {
 pub fn statement_head<'a>(
     names: &Names<'a>,
     depth: Depth,
-    from: Progress<'a>,
-) -> Result<(Head<'a>, Progress<'a>), Stop>
-    ensures { Gives (λ x. (head_of x.0, progress_of x.1)) result
-        (read_head (names_of names.now) depth (tokens_at from.entry.at) from.entry.begun) }
+    from: &mut Progress<'a>,
+) -> Result<Head<'a>, Stop>
+    ensures { Gives (λ x. (head_of x, progress_of from.new)) result
+        (read_head (names_of names.now) depth (tokens_at from.old.at) from.old.begun) }
 {
-    let Token::Key(keyword) = from.at.token else {
-        return Err(Stop::Fault(from.at.fault(FaultKind::Syntax)));
+    let word = from.at;
+    let Token::Key(keyword) = word.token else {
+        return Err(Stop::Fault(word.fault(FaultKind::Syntax)));
     };
     if !may_start(keyword, depth) {
-        return Err(Stop::Fault(from.at.fault(FaultKind::Syntax)));
+        return Err(Stop::Fault(word.fault(FaultKind::Syntax)));
     }
     if from.begun >= MAX_STATEMENTS {
-        return Err(Stop::Fault(from.at.fault(FaultKind::Limit)));
+        return Err(Stop::Fault(word.fault(FaultKind::Limit)));
     }
-    let next = Progress {
-        at: from.at.next(),
-        begun: from.begun + 1,
-    };
-    after_word(names, depth, keyword, from.at, next)
+    from.at.advance();
+    from.begun += 1;
+    after_word(names, depth, keyword, &word, from)
 }
 
 // What a statement begins with, after its first word, which stands at a place that is given too.
@@ -76,67 +75,52 @@ fn after_word<'a>(
     names: &Names<'a>,
     depth: Depth,
     keyword: Keyword,
-    word: Cursor<'a>,
-    from: Progress<'a>,
-) -> Result<(Head<'a>, Progress<'a>), Stop>
-    ensures { Gives (λ x. (head_of x.0, progress_of x.1)) result
-        (head_after (names_of names.now) depth keyword (progress_of from.entry)) }
+    word: &Cursor<'_>,
+    from: &mut Progress<'a>,
+) -> Result<Head<'a>, Stop>
+    ensures { Gives (λ x. (head_of x, progress_of from.new)) result
+        (head_after (names_of names.now) depth keyword (progress_of from.old)) }
 {
     match keyword {
         Keyword::Send => send(names, depth, from),
         Keyword::Recv => {
-            let (phase, at) = receive(from.at);
-            ends(depth, phase, from.to(at))
+            let phase = receive(&mut from.at);
+            ends(depth, phase, from)
         }
         Keyword::Give => ends(depth, Phase::GiveBlocks, from),
         Keyword::Wait => ends(depth, Phase::Wait, from),
         Keyword::If => {
-            let (condition, at) = condition(names, from.at)?;
-            Ok((Head::Fork(Fork::If(condition), depth, depth), from.to(at)))
+            let condition = condition(names, &mut from.at)?;
+            Ok(Head::Fork(Fork::If(condition), depth, depth))
         }
         Keyword::Loop => turns(depth, word, from),
-        _ => {
-            let (stmt, from) = plain_statement(names, keyword, word, from)?;
-            Ok((Head::Plain(stmt), from))
-        }
+        _ => Ok(Head::Plain(plain_statement(names, keyword, word, from)?)),
     }
 }
 
 // A command, and `{`.
-fn send<'a>(
-    names: &Names<'a>,
-    depth: Depth,
-    from: Progress<'a>,
-) -> Result<(Head<'a>, Progress<'a>), Stop>
-    ensures { Gives (λ x. (head_of x.0, progress_of x.1)) result
-        (send_head (names_of names.now) depth (progress_of from.entry)) }
+fn send<'a>(names: &Names<'a>, depth: Depth, from: &mut Progress<'a>) -> Result<Head<'a>, Stop>
+    ensures { Gives (λ x. (head_of x, progress_of from.new)) result
+        (send_head (names_of names.now) depth (progress_of from.old)) }
 {
-    let (command, at) = command(names, from.at)?;
+    let command = command(names, &mut from.at)?;
     let answered = order(names.kind, &command.ask);
-    let (inside, at) = open_brace(at, depth, FaultKind::Argument)?;
-    Ok((Head::Send(command, answered, inside), from.to(at)))
+    let inside = open_brace(&mut from.at, depth, FaultKind::Argument)?;
+    Ok(Head::Send(command, answered, inside))
 }
 
 // `{` and `ok`, after the words of a phase.
-fn ends<'a>(
-    depth: Depth,
-    phase: Phase,
-    from: Progress<'a>,
-) -> Result<(Head<'a>, Progress<'a>), Stop>
-    ensures { Gives (λ x. (head_of x.0, progress_of x.1)) result (phase_head depth phase (progress_of from.entry)) }
+fn ends<'a>(depth: Depth, phase: Phase, from: &mut Progress<'a>) -> Result<Head<'a>, Stop>
+    ensures { Gives (λ x. (head_of x, progress_of from.new)) result (phase_head depth phase (progress_of from.old)) }
 {
-    let (inside, at) = open_brace(from.at, depth, FaultKind::Syntax)?;
-    let at = ok_word(at)?;
-    Ok((Head::Fork(Fork::Phase(phase), inside, inside), from.to(at)))
+    let inside = open_brace(&mut from.at, depth, FaultKind::Syntax)?;
+    ok_word(&mut from.at)?;
+    Ok(Head::Fork(Fork::Phase(phase), inside, inside))
 }
 
 // The turns of a loop, whose first word stands at a place that is given too.
-fn turns<'a>(
-    depth: Depth,
-    word: Cursor<'a>,
-    from: Progress<'a>,
-) -> Result<(Head<'a>, Progress<'a>), Stop>
-    ensures { Gives (λ x. (head_of x.0, progress_of x.1)) result (loop_head depth (progress_of from.entry)) }
+fn turns<'a>(depth: Depth, word: &Cursor<'_>, from: &mut Progress<'a>) -> Result<Head<'a>, Stop>
+    ensures { Gives (λ x. (head_of x, progress_of from.new)) result (loop_head depth (progress_of from.old)) }
 {
     if depth.loops >= MAX_LOOPS {
         return Err(Stop::Fault(word.fault(FaultKind::Limit)));
@@ -145,43 +129,29 @@ fn turns<'a>(
         braces: depth.braces,
         loops: depth.loops + 1,
     };
-    let (turns, at) = count(from.at, FaultKind::Syntax, FaultKind::Limit)?;
-    Ok((Head::Fork(Fork::Loop(turns), inside, depth), from.to(at)))
+    let turns = count(&mut from.at, FaultKind::Syntax, FaultKind::Limit)?;
+    Ok(Head::Fork(Fork::Loop(turns), inside, depth))
 }
 
 // A statement without blocks, after its first word, which stands at a place that is given too.
 fn plain_statement<'a>(
     names: &Names<'a>,
     keyword: Keyword,
-    word: Cursor<'a>,
-    from: Progress<'a>,
-) -> Result<(Stmt<'a>, Progress<'a>), Stop>
-    ensures { Gives (λ x. (statement_of x.0, progress_of x.1)) result
-        (read_plain (names_of names.now) keyword (progress_of from.entry)) }
+    word: &Cursor<'_>,
+    from: &mut Progress<'a>,
+) -> Result<Stmt<'a>, Stop>
+    ensures { Gives (λ x. (statement_of x, progress_of from.new)) result
+        (read_plain (names_of names.now) keyword (progress_of from.old)) }
 {
+    let at = &mut from.at;
     match keyword {
-        Keyword::Let => {
-            let (setting, at) = setting(names, from.at)?;
-            Ok((Stmt::Let(setting), from.to(at)))
-        }
-        Keyword::Set => {
-            let (f, at) = flag(names, from.at, FaultKind::Syntax)?;
-            Ok((Stmt::Set(f), from.to(at)))
-        }
-        Keyword::Clear => {
-            let (f, at) = flag(names, from.at, FaultKind::Syntax)?;
-            Ok((Stmt::Clear(f), from.to(at)))
-        }
-        Keyword::BusLines => {
-            let (width, at) = width(names.kind, from.at, FaultKind::Syntax)?;
-            Ok((Stmt::BusLines(width), from.to(at)))
-        }
-        Keyword::Break => Ok((Stmt::Break, from)),
-        Keyword::Done => Ok((Stmt::Done, from)),
-        Keyword::Fault => {
-            let (name, at) = fault_name(from.at)?;
-            Ok((Stmt::Fault(name), from.to(at)))
-        }
+        Keyword::Let => Ok(Stmt::Let(setting(names, at)?)),
+        Keyword::Set => Ok(Stmt::Set(flag(names, at, FaultKind::Syntax)?)),
+        Keyword::Clear => Ok(Stmt::Clear(flag(names, at, FaultKind::Syntax)?)),
+        Keyword::BusLines => Ok(Stmt::BusLines(width(names.kind, at, FaultKind::Syntax)?)),
+        Keyword::Break => Ok(Stmt::Break),
+        Keyword::Done => Ok(Stmt::Done),
+        Keyword::Fault => Ok(Stmt::Fault(fault_name(at)?)),
         _ => Err(Stop::Fault(word.fault(FaultKind::Syntax))),
     }
 }

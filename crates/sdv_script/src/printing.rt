@@ -29,7 +29,7 @@ pub fn print<W: Write>(script: &Script<'_>, out: &mut W) -> Result<(), Error>
         if let Err(error) = put_spaced(out, at.text) {
             return Err(error);
         }
-        at = at.next();
+        at.advance();
     }
     write_text(out, b"\n")
 }

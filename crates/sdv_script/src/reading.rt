@@ -70,9 +70,9 @@ pub fn asks_by_table()
 fn whole(alloc: Global, text: &str) -> Result<(Names<'_>, Block<'_>), Stop>
     ensures { Gives (λ x. (names_of x.0, statements_of x.1)) result (read_script (tokens text.entry.now)) }
 {
-    let at = Cursor::new(text);
-    let at = card_word(at)?;
-    let (names, at) = declared(alloc, at)?;
+    let mut at = Cursor::new(text);
+    card_word(&mut at)?;
+    let names = declared(alloc, &mut at)?;
     let body = body(alloc, &names, at)?;
     Ok((names, body))
 }
@@ -86,8 +86,8 @@ fn body<'a>(alloc: Global, names: &Names<'a>, at: Cursor<'a>) -> Result<Block<'a
         braces: 0,
         loops: 0,
     };
-    let from = Progress { at, begun: 0 };
-    let (body, from) = statements(alloc, names, MAX_BYTES, outside, from)?;
+    let mut from = Progress { at, begun: 0 };
+    let body = statements(alloc, names, MAX_BYTES, outside, &mut from)?;
     let Token::End = from.at.token else {
         return Err(Stop::Fault(from.at.fault(FaultKind::Syntax)));
     };

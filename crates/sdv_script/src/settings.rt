@@ -12,31 +12,34 @@ use crate::keyword::Keyword;
 use crate::token::Token;
 use sdv_card::{Kind, Partition, Setting, Width};
 
-/// A number of data lines, and what follows it. What is wrong with a token that is no number is given.
-pub fn width(kind: Kind, at: Cursor<'_>, other: FaultKind) -> Result<(Width, Cursor<'_>), Stop>
-    ensures { Gives (λ x. (x.0, tokens_at x.1)) result (read_width kind (tokens_at at.entry)) }
+/// A number of data lines. What is wrong with a token that is no number is given.
+pub fn width(kind: Kind, at: &mut Cursor<'_>, other: FaultKind) -> Result<Width, Stop>
+    ensures { Gives (λ x. (x, tokens_at at.new)) result (read_width kind (tokens_at at.old)) }
 {
     let Token::Number(lines) = at.token else {
         return Err(Stop::Fault(at.fault(other)));
     };
     match width_with(lines) {
-        Some(width) if has_width(kind, width) => Ok((width, at.next())),
+        Some(width) if has_width(kind, width) => {
+            at.advance();
+            Ok(width)
+        }
         _ => Err(Stop::Fault(at.fault(FaultKind::Argument))),
     }
 }
 
-/// What a command with index 6 sets, and what follows it.
-pub fn setting(kind: Kind, at: Cursor<'_>) -> Result<(Setting, Cursor<'_>), Stop>
-    ensures { Gives (λ x. (x.0, tokens_at x.1)) result (read_setting kind (tokens_at at.entry)) }
+/// What a command with index 6 sets.
+pub fn setting(kind: Kind, at: &mut Cursor<'_>) -> Result<Setting, Stop>
+    ensures { Gives (λ x. (x, tokens_at at.new)) result (read_setting kind (tokens_at at.old)) }
 {
     match at.token {
         Token::Key(Keyword::BusLines) => {
-            let (width, at) = width(kind, at.next(), FaultKind::Argument)?;
-            Ok((Setting::Lines(width), at))
+            at.advance();
+            Ok(Setting::Lines(width(kind, at, FaultKind::Argument)?))
         }
         Token::Key(Keyword::PartAccess) if has_partitions(kind) => {
-            let (partition, at) = partition(at.next())?;
-            Ok((Setting::Access(partition), at))
+            at.advance();
+            Ok(Setting::Access(partition(at)?))
         }
         _ => Err(Stop::Fault(at.fault(FaultKind::Argument))),
     }
@@ -76,15 +79,18 @@ fn emmc_argument(setting: Setting) -> u32
     }
 }
 
-// The number of a partition, and what follows it.
-fn partition(at: Cursor<'_>) -> Result<(Partition, Cursor<'_>), Stop>
-    ensures { Gives (λ x. (x.0, tokens_at x.1)) result (read_partition (tokens_at at.entry)) }
+// The number of a partition.
+fn partition(at: &mut Cursor<'_>) -> Result<Partition, Stop>
+    ensures { Gives (λ x. (x, tokens_at at.new)) result (read_partition (tokens_at at.old)) }
 {
     let Token::Number(number) = at.token else {
         return Err(Stop::Fault(at.fault(FaultKind::Argument)));
     };
     match partition_with(number) {
-        Some(partition) => Ok((partition, at.next())),
+        Some(partition) => {
+            at.advance();
+            Ok(partition)
+        }
         None => Err(Stop::Fault(at.fault(FaultKind::Argument))),
     }
 }

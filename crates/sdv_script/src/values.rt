@@ -17,40 +17,38 @@ use sdv_graph::{Atom, Change, Condition, Let, Names, Phase};
 pub const MAX_NAME: usize = 16;
 
 /// What stands after `let`.
-pub fn setting<'a>(names: &Names<'_>, at: Cursor<'a>) -> Result<(Let, Cursor<'a>), Stop>
-    ensures { Gives (λ x. (x.0, tokens_at x.1)) result (read_let (names_of names.now) (tokens_at at.entry)) }
+pub fn setting(names: &Names<'_>, at: &mut Cursor<'_>) -> Result<Let, Stop>
+    ensures { Gives (λ x. (x, tokens_at at.new)) result (read_let (names_of names.now) (tokens_at at.old)) }
 {
-    let (target, at) = number_name(names, at, FaultKind::Syntax)?;
-    let at = equals(at)?;
-    let (atom, at) = atom(names, at)?;
-    let (change, at) = change(at)?;
-    Ok((
-        Let {
-            target,
-            atom,
-            change,
-        },
-        at,
-    ))
+    let target = number_name(names, at, FaultKind::Syntax)?;
+    equals(at)?;
+    let atom = atom(names, at)?;
+    let change = change(at)?;
+    Ok(Let {
+        target,
+        atom,
+        change,
+    })
 }
 
-fn atom<'a>(names: &Names<'_>, at: Cursor<'a>) -> Result<(Atom, Cursor<'a>), Stop>
-    ensures { Gives (λ x. (x.0, tokens_at x.1)) result (read_atom (names_of names.now) (tokens_at at.entry)) }
+fn atom(names: &Names<'_>, at: &mut Cursor<'_>) -> Result<Atom, Stop>
+    ensures { Gives (λ x. (x, tokens_at at.new)) result (read_atom (names_of names.now) (tokens_at at.old)) }
 {
     match at.token {
-        Token::Number(_) => {
-            let (n, at) = figure(at, FaultKind::Syntax)?;
-            Ok((Atom::Number(n), at))
+        Token::Number(_) => Ok(Atom::Number(figure(at, FaultKind::Syntax)?)),
+        Token::Key(Keyword::CsdBlocks) => {
+            at.advance();
+            Ok(Atom::CsdBlocks)
         }
-        Token::Key(Keyword::CsdBlocks) => Ok((Atom::CsdBlocks, at.next())),
         Token::Key(Keyword::ExtBlocks) if has_ext_csd(names.kind) => {
-            Ok((Atom::ExtBlocks, at.next()))
+            at.advance();
+            Ok(Atom::ExtBlocks)
         }
-        Token::Key(Keyword::ExtBoot) if has_ext_csd(names.kind) => Ok((Atom::ExtBoot, at.next())),
-        _ => {
-            let (x, at) = number_name(names, at, FaultKind::Syntax)?;
-            Ok((Atom::Variable(x), at))
+        Token::Key(Keyword::ExtBoot) if has_ext_csd(names.kind) => {
+            at.advance();
+            Ok(Atom::ExtBoot)
         }
+        _ => Ok(Atom::Variable(number_name(names, at, FaultKind::Syntax)?)),
     }
 }
 
@@ -61,25 +59,25 @@ fn has_ext_csd(kind: Kind) -> bool
     matches!(kind, Kind::Emmc)
 }
 
-fn change(at: Cursor<'_>) -> Result<(Change, Cursor<'_>), Stop>
-    ensures { Gives (λ x. (x.0, tokens_at x.1)) result (read_change (tokens_at at.entry)) }
+fn change(at: &mut Cursor<'_>) -> Result<Change, Stop>
+    ensures { Gives (λ x. (x, tokens_at at.new)) result (read_change (tokens_at at.old)) }
 {
     match at.token {
         Token::Mark(Sign::Plus) => {
-            let (k, at) = figure(at.next(), FaultKind::Syntax)?;
-            Ok((Change::Plus(k), at))
+            at.advance();
+            Ok(Change::Plus(figure(at, FaultKind::Syntax)?))
         }
         Token::Mark(Sign::Minus) => {
-            let (k, at) = figure(at.next(), FaultKind::Syntax)?;
-            Ok((Change::Minus(k), at))
+            at.advance();
+            Ok(Change::Minus(figure(at, FaultKind::Syntax)?))
         }
-        _ => Ok((Change::Same, at)),
+        _ => Ok(Change::Same),
     }
 }
 
 /// What stands after `if`.
-pub fn condition<'a>(names: &Names<'_>, at: Cursor<'a>) -> Result<(Condition, Cursor<'a>), Stop>
-    ensures { Gives (λ x. (x.0, tokens_at x.1)) result (read_condition (names_of names.now) (tokens_at at.entry)) }
+pub fn condition(names: &Names<'_>, at: &mut Cursor<'_>) -> Result<Condition, Stop>
+    ensures { Gives (λ x. (x, tokens_at at.new)) result (read_condition (names_of names.now) (tokens_at at.old)) }
 {
     let name = match at.token {
         Token::Name(name) => name,
@@ -87,47 +85,57 @@ pub fn condition<'a>(names: &Names<'_>, at: Cursor<'a>) -> Result<(Condition, Cu
         _ => return Err(Stop::Fault(at.fault(FaultKind::Syntax))),
     };
     if let Some(f) = place_of(name, &names.flags) {
-        return Ok((Condition::Flag(f), at.next()));
+        at.advance();
+        return Ok(Condition::Flag(f));
     }
     match place_of(name, &names.numbers) {
-        Some(x) => test(x, at.next()),
+        Some(x) => {
+            at.advance();
+            test(x, at)
+        }
         None => Err(Stop::Fault(at.fault(FaultKind::Name))),
     }
 }
 
 // A number variable is compared.
-fn test(x: usize, at: Cursor<'_>) -> Result<(Condition, Cursor<'_>), Stop>
-    ensures { Gives (λ x. (x.0, tokens_at x.1)) result (read_test x (tokens_at at.entry)) }
+fn test(x: usize, at: &mut Cursor<'_>) -> Result<Condition, Stop>
+    ensures { Gives (λ x. (x, tokens_at at.new)) result (read_test x (tokens_at at.old)) }
 {
     match at.token {
         Token::Mark(Sign::AtLeast) => {
-            let (k, at) = figure(at.next(), FaultKind::Syntax)?;
-            Ok((Condition::AtLeast(x, k), at))
+            at.advance();
+            Ok(Condition::AtLeast(x, figure(at, FaultKind::Syntax)?))
         }
         Token::Mark(Sign::Below) => {
-            let (k, at) = figure(at.next(), FaultKind::Syntax)?;
-            Ok((Condition::Below(x, k), at))
+            at.advance();
+            Ok(Condition::Below(x, figure(at, FaultKind::Syntax)?))
         }
         _ => Err(Stop::Fault(at.fault(FaultKind::Syntax))),
     }
 }
 
 /// What stands after `recv`.
-pub fn receive(at: Cursor<'_>) -> (Phase, Cursor<'_>)
-    ensures { read_receive (tokens_at at.entry) ≡ Some (result.0, tokens_at result.1) }
+pub fn receive(at: &mut Cursor<'_>) -> Phase
+    ensures { read_receive (tokens_at at.old) ≡ Some (result, tokens_at at.new) }
 {
     match at.token {
-        Token::Key(Keyword::Reg) => (Phase::ReceiveRegister, at.next()),
-        _ => (Phase::ReceiveBlocks, at),
+        Token::Key(Keyword::Reg) => {
+            at.advance();
+            Phase::ReceiveRegister
+        }
+        _ => Phase::ReceiveBlocks,
     }
 }
 
 /// The name of a fault.
-pub fn fault_name(at: Cursor<'_>) -> Result<(&str, Cursor<'_>), Stop>
-    ensures { Gives (λ x. (x.0.now, tokens_at x.1)) result (read_fault (tokens_at at.entry)) }
+pub fn fault_name<'a>(at: &mut Cursor<'a>) -> Result<&'a str, Stop>
+    ensures { Gives (λ x. (x.now, tokens_at at.new)) result (read_fault (tokens_at at.old)) }
 {
     match at.token {
-        Token::Name(name) if name.len() <= MAX_NAME => Ok((name, at.next())),
+        Token::Name(name) if name.len() <= MAX_NAME => {
+            at.advance();
+            Ok(name)
+        }
         Token::Name(_) => Err(Stop::Fault(at.fault(FaultKind::Limit))),
         Token::Key(_) => Err(Stop::Fault(at.fault(FaultKind::Name))),
         _ => Err(Stop::Fault(at.fault(FaultKind::Syntax))),

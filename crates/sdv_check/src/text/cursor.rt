@@ -1,8 +1,8 @@
 //! Places in the text of a certificate, and the words and ends that are wanted there.
 
-ghost use Rattle.std.specs.Prelude.{◌≡◌, [], ◌∷◌, option_map};
+ghost use Rattle.std.specs.Prelude.{◌≡◌, [], ◌∷◌};
 ghost use Rattle.sdv_text.specs.Fronts.{after};
-ghost use Rattle.sdv_check.specs.Reading.{Gives, ends_item};
+ghost use Rattle.sdv_check.specs.Reading.{Gives, Takes, ends_item};
 
 use crate::text::fault::CertFault;
 
@@ -15,32 +15,37 @@ pub struct TextCursor<'a> {
     pub line: u32,
 }
 
-/// What follows a word, if the text goes on with it.
-pub fn skip<'a>(at: TextCursor<'a>, word: &[u8]) -> Option<TextCursor<'a>>
-    ensures { option_map (λ x. x.rest.now) result ≡ after word.now at.entry.rest.now }
+/// A word, if the text goes on with it.
+pub fn takes(at: &mut TextCursor<'_>, word: &[u8]) -> bool
+    ensures { Takes result at.old at.new (after word.now at.old.rest.now) }
 {
     match at.rest.strip_prefix(word) {
-        Some(rest) => Some(TextCursor { rest, ..at }),
-        None => None,
+        Some(rest) => {
+            at.rest = rest;
+            true
+        }
+        None => false,
     }
 }
 
-/// What follows a word that has to stand here.
-pub fn expect<'a>(at: TextCursor<'a>, word: &[u8]) -> Result<TextCursor<'a>, CertFault>
-    ensures { Gives (λ x. x.rest.now) result (after word.now at.entry.rest.now) }
+/// A word that has to stand here.
+pub fn expect(at: &mut TextCursor<'_>, word: &[u8]) -> Result<(), CertFault>
+    ensures { Gives (λ _. at.new.rest.now) result (after word.now at.old.rest.now) }
 {
-    skip(at, word).ok_or(CertFault::Syntax { line: at.line })
+    if takes(at, word) {
+        Ok(())
+    } else {
+        Err(CertFault::Syntax { line: at.line })
+    }
 }
 
-/// What follows the end of a line.
-pub fn line_end(at: TextCursor<'_>) -> Result<TextCursor<'_>, CertFault>
-    ensures { Gives (λ x. x.rest.now) result (after (10 ∷ []) at.entry.rest.now) }
+/// The end of a line.
+pub fn line_end(at: &mut TextCursor<'_>) -> Result<(), CertFault>
+    ensures { Gives (λ _. at.new.rest.now) result (after (10 ∷ []) at.old.rest.now) }
 {
-    let at = expect(at, b"\n")?;
-    Ok(TextCursor {
-        line: at.line.saturating_add(1),
-        ..at
-    })
+    expect(at, b"\n")?;
+    at.line = at.line.saturating_add(1);
+    Ok(())
 }
 
 /// An item ends before this: the text ends, or a space or an end of line follows.

@@ -4,7 +4,7 @@ ghost use Rattle.std.specs.Prelude.{◌≡◌, ◌+◌, ◌^◌, min, length};
 ghost use Rattle.sdv_text.specs.Fronts.{is_digit, run, number_after};
 ghost use Rattle.sdv_check.specs.Reading.{Gives, is_plain, read_number, read_gap, read_boot_gap, read_var, code_of, read_shape, has_upper};
 
-use crate::text::cursor::{TextCursor, ends_item, expect, skip};
+use crate::text::cursor::{TextCursor, ends_item, expect, takes};
 use crate::text::fault::CertFault;
 use hex::FromHex;
 use sdv_card::Shape;
@@ -37,12 +37,12 @@ fn capped_value(digits: &[u8]) -> u64
     value
 }
 
-/// A number behind a space, and what follows it.
+/// A number behind a space.
 #[tactic(auto, unfolding(crate::specs::Reading::read_number))]
-pub fn number(at: TextCursor<'_>) -> Result<(u64, TextCursor<'_>), CertFault>
-    ensures { Gives (λ x. (x.0, x.1.rest.now)) result (read_number at.entry.rest.now) }
+pub fn number(at: &mut TextCursor<'_>) -> Result<u64, CertFault>
+    ensures { Gives (λ x. (x, at.new.rest.now)) result (read_number at.old.rest.now) }
 {
-    let at = expect(at, b" ")?;
+    expect(at, b" ")?;
     let (digits, rest) = at.rest.split_at(digits_len(at.rest));
     if !is_plain(digits) || !ends_item(rest) {
         return Err(CertFault::Syntax { line: at.line });
@@ -51,49 +51,43 @@ pub fn number(at: TextCursor<'_>) -> Result<(u64, TextCursor<'_>), CertFault>
     if value > MAX_NUMBER {
         return Err(CertFault::Limit);
     }
-    Ok((value, TextCursor { rest, ..at }))
+    at.rest = rest;
+    Ok(value)
 }
 
-// A gap, or `-` for none, and what follows it.
+// A gap, or `-` for none.
 #[tactic(auto, unfolding(crate::specs::Reading::read_gap))]
-fn gap(at: TextCursor<'_>) -> Result<(Option<u64>, TextCursor<'_>), CertFault>
-    ensures { Gives (λ x. (x.0, x.1.rest.now)) result (read_gap at.entry.rest.now) }
+fn gap(at: &mut TextCursor<'_>) -> Result<Option<u64>, CertFault>
+    ensures { Gives (λ x. (x, at.new.rest.now)) result (read_gap at.old.rest.now) }
 {
-    if let Some(at) = skip(at, b" -") {
-        return Ok((None, at));
+    if takes(at, b" -") {
+        return Ok(None);
     }
-    let (gap, at) = number(at)?;
-    Ok((Some(gap), at))
+    Ok(Some(number(at)?))
 }
 
-// What is said of a number variable's distance from the end of a boot partition, and what follows it. Version 1 says
+// What is said of a number variable's distance from the end of a boot partition. Version 1 says
 // nothing of that.
-fn boot_gap(
-    version: Version,
-    at: TextCursor<'_>,
-) -> Result<(Option<u64>, TextCursor<'_>), CertFault>
-    ensures { Gives (λ x. (x.0, x.1.rest.now)) result (read_boot_gap version at.entry.rest.now) }
+fn boot_gap(version: Version, at: &mut TextCursor<'_>) -> Result<Option<u64>, CertFault>
+    ensures { Gives (λ x. (x, at.new.rest.now)) result (read_boot_gap version at.old.rest.now) }
 {
     match version {
-        Version::One => Ok((None, at)),
+        Version::One => Ok(None),
         Version::Two => gap(at),
     }
 }
 
-/// What is said of a number variable, and what follows it.
+/// What is said of a number variable.
 #[tactic(auto, unfolding(crate::specs::Reading::read_var))]
-pub fn variable(
-    version: Version,
-    at: TextCursor<'_>,
-) -> Result<(VarFacts, TextCursor<'_>), CertFault>
-    ensures { Gives (λ x. (x.0, x.1.rest.now)) result (read_var version at.entry.rest.now) }
+pub fn variable(version: Version, at: &mut TextCursor<'_>) -> Result<VarFacts, CertFault>
+    ensures { Gives (λ x. (x, at.new.rest.now)) result (read_var version at.old.rest.now) }
 {
-    let at = expect(at, b" v")?;
-    let (lo, at) = number(at)?;
-    let (hi, at) = number(at)?;
-    let (gap, at) = gap(at)?;
-    let (bgap, at) = boot_gap(version, at)?;
-    Ok((VarFacts { lo, hi, gap, bgap }, at))
+    expect(at, b" v")?;
+    let lo = number(at)?;
+    let hi = number(at)?;
+    let gap = gap(at)?;
+    let bgap = boot_gap(version, at)?;
+    Ok(VarFacts { lo, hi, gap, bgap })
 }
 
 fn has_upper(digits: &[u8]) -> bool
@@ -115,19 +109,22 @@ fn code_of(digits: &[u8]) -> Option<u64>
     }
 }
 
-/// A shape, and what follows it.
+/// A shape.
 #[tactic(auto, unfolding(crate::specs::Reading::read_shape))]
-pub fn shape(at: TextCursor<'_>) -> Result<(Shape, TextCursor<'_>), CertFault>
-    ensures { Gives (λ x. (x.0, x.1.rest.now)) result (read_shape at.entry.rest.now) }
+pub fn shape(at: &mut TextCursor<'_>) -> Result<Shape, CertFault>
+    ensures { Gives (λ x. (x, at.new.rest.now)) result (read_shape at.old.rest.now) }
 {
-    let at = expect(at, b" ")?;
+    expect(at, b" ")?;
     let fault = CertFault::Syntax { line: at.line };
     if at.rest.len() < 16 {
         return Err(fault);
     }
     let (digits, rest) = at.rest.split_at(16);
     match code_of(digits) {
-        Some(code) if ends_item(rest) => Ok((Shape(code), TextCursor { rest, ..at })),
+        Some(code) if ends_item(rest) => {
+            at.rest = rest;
+            Ok(Shape(code))
+        }
         _ => Err(fault),
     }
 }

@@ -15,8 +15,8 @@ use sdv_card::Shape;
 use sdv_facts::{Facts, MAX_SHAPES, Numbers, PointFacts, SetTable, VarFacts, Version};
 use std::alloc::Global;
 
-fn begins_number(at: TextCursor<'_>) -> bool
-    ensures { result ≡ begins_number at.entry.rest.now }
+fn begins_number(at: &TextCursor<'_>) -> bool
+    ensures { result ≡ begins_number at.now.rest.now }
 {
     match at.rest {
         [b' ', byte, ..] => matches!(*byte, b'0'..=b'9'),
@@ -24,25 +24,23 @@ fn begins_number(at: TextCursor<'_>) -> bool
     }
 }
 
-// The coefficients of the loops round a point, and what follows them.
-fn turns(at: TextCursor<'_>) -> Result<(ArrayVec<u64, 4>, TextCursor<'_>), CertFault>
-    ensures { Gives (λ x. (x.0.items, x.1.rest.now)) result (read_turns at.entry.rest.now) }
+// The coefficients of the loops round a point.
+fn turns(at: &mut TextCursor<'_>) -> Result<ArrayVec<u64, 4>, CertFault>
+    ensures { Gives (λ x. (x.items, at.new.rest.now)) result (read_turns at.old.rest.now) }
 {
     let mut turns = ArrayVec::new();
-    let mut at = at;
     while begins_number(at) {
-        let (turn, rest) = number(at)?;
+        let turn = number(at)?;
         if turns.is_full() {
             return Err(CertFault::Limit);
         }
         turns.push(turn);
-        at = rest;
     }
-    Ok((turns, at))
+    Ok(turns)
 }
 
-fn begins_variable(at: TextCursor<'_>) -> bool
-    ensures { result ≡ begins_var at.entry.rest.now }
+fn begins_variable(at: &TextCursor<'_>) -> bool
+    ensures { result ≡ begins_var at.now.rest.now }
 {
     match at.rest {
         [b' ', b'v', rest @ ..] => ends_item(rest),
@@ -50,28 +48,23 @@ fn begins_variable(at: TextCursor<'_>) -> bool
     }
 }
 
-// What is said of the number variables, and what follows it.
-fn variables(
-    version: Version,
-    at: TextCursor<'_>,
-) -> Result<(ArrayVec<VarFacts, 8>, TextCursor<'_>), CertFault>
-    ensures { Gives (λ x. (x.0.items, x.1.rest.now)) result (read_vars version at.entry.rest.now) }
+// What is said of the number variables.
+fn variables(version: Version, at: &mut TextCursor<'_>) -> Result<ArrayVec<VarFacts, 8>, CertFault>
+    ensures { Gives (λ x. (x.items, at.new.rest.now)) result (read_vars version at.old.rest.now) }
 {
     let mut vars = ArrayVec::new();
-    let mut at = at;
     while begins_variable(at) {
         if vars.is_full() {
             return Err(CertFault::Limit);
         }
-        let (known, rest) = variable(version, at)?;
+        let known = variable(version, at)?;
         vars.push(known);
-        at = rest;
     }
-    Ok((vars, at))
+    Ok(vars)
 }
 
-fn begins_shape(at: TextCursor<'_>) -> bool
-    ensures { result ≡ begins_shape at.entry.rest.now }
+fn begins_shape(at: &TextCursor<'_>) -> bool
+    ensures { result ≡ begins_shape at.now.rest.now }
 {
     matches!(at.rest, [b' ', ..])
 }
@@ -85,149 +78,138 @@ fn is_above(last: Option<Shape>, shape: Shape) -> bool
     }
 }
 
-// A shape above the one before, and what follows it.
+// A shape above the one before.
 #[tactic(auto, unfolding(crate::specs::Reading::read_rising))]
-fn next_shape(last: Option<Shape>, at: TextCursor<'_>) -> Result<(Shape, TextCursor<'_>), CertFault>
-    ensures { Gives (λ x. (x.0, x.1.rest.now)) result (read_rising last at.entry.rest.now) }
+fn next_shape(last: Option<Shape>, at: &mut TextCursor<'_>) -> Result<Shape, CertFault>
+    ensures { Gives (λ x. (x, at.new.rest.now)) result (read_rising last at.old.rest.now) }
 {
-    let (shape, rest) = shape(at)?;
+    let shape = shape(at)?;
     if !is_above(last, shape) {
         return Err(CertFault::Order { line: at.line });
     }
-    Ok((shape, rest))
+    Ok(shape)
 }
 
-// At most so many shapes in the place of those that were there, and what follows them.
-fn shapes<'a>(
-    shapes: &mut Vec<Shape>,
-    room: usize,
-    at: TextCursor<'a>,
-) -> Result<TextCursor<'a>, CertFault>
-    ensures read { Gives (λ x. (shapes.new.items, x.rest.now)) result (read_shapes room at.entry.rest.now) }
+// At most so many shapes in the place of those that were there.
+fn shapes(shapes: &mut Vec<Shape>, room: usize, at: &mut TextCursor<'_>) -> Result<(), CertFault>
+    ensures read { Gives (λ _. (shapes.new.items, at.new.rest.now)) result (read_shapes room at.old.rest.now) }
     ensures rising { IsOk result → AreRising shapes.new.items }
     ensures few { IsOk result → length shapes.new.items ≤ room }
 {
     shapes.clear();
     let mut last = None;
-    let mut at = at;
     while begins_shape(at) {
-        let (shape, rest) = next_shape(last, at)?;
+        let shape = next_shape(last, at)?;
         if shapes.len() >= room {
             return Err(CertFault::Limit);
         }
         shapes.push(shape)?;
         last = Some(shape);
-        at = rest;
     }
-    Ok(at)
+    Ok(())
 }
 
-// What follows the place of a point.
+// The place of a point.
 #[tactic(auto, unfolding(crate::specs::Reading::read_place))]
-fn placed(at: TextCursor<'_>, place: u64) -> Result<TextCursor<'_>, CertFault>
-    ensures { Gives (λ x. x.rest.now) result (read_place place at.entry.rest.now) }
+fn placed(at: &mut TextCursor<'_>, place: u64) -> Result<(), CertFault>
+    ensures { Gives (λ _. at.new.rest.now) result (read_place place at.old.rest.now) }
 {
     match number(at) {
-        Ok((number, rest)) if number == place => Ok(rest),
+        Ok(number) if number == place => Ok(()),
         Ok(_) | Err(CertFault::Limit) => Err(CertFault::Syntax { line: at.line }),
         Err(fault) => Err(fault),
     }
 }
 
-// The least capacity of a boot partition, and what follows it. Version 1 says nothing of that.
-fn boot(version: Version, at: TextCursor<'_>) -> Result<(u64, TextCursor<'_>), CertFault>
-    ensures { Gives (λ x. (x.0, x.1.rest.now)) result (read_boot version at.entry.rest.now) }
+// The least capacity of a boot partition. Version 1 says nothing of that.
+fn boot(version: Version, at: &mut TextCursor<'_>) -> Result<u64, CertFault>
+    ensures { Gives (λ x. (x, at.new.rest.now)) result (read_boot version at.old.rest.now) }
 {
     match version {
-        Version::One => Ok((0, at)),
+        Version::One => Ok(0),
         Version::Two => {
-            let at = expect(at, b" mb")?;
+            expect(at, b" mb")?;
             number(at)
         }
     }
 }
 
-// What is known of numbers, and what follows it.
+// What is known of numbers.
 #[tactic(auto, unfolding(crate::specs::Reading::read_numbers))]
-fn numbers(version: Version, at: TextCursor<'_>) -> Result<(Numbers, TextCursor<'_>), CertFault>
-    ensures { Gives (λ x. (x.0, x.1.rest.now)) result (read_numbers version at.entry.rest.now) }
+fn numbers(version: Version, at: &mut TextCursor<'_>) -> Result<Numbers, CertFault>
+    ensures { Gives (λ x. (x, at.new.rest.now)) result (read_numbers version at.old.rest.now) }
 {
-    let at = expect(at, b" m")?;
-    let (m, at) = number(at)?;
-    let (mb, at) = boot(version, at)?;
-    let (vars, at) = variables(version, at)?;
-    Ok((Numbers { m, mb, vars }, at))
+    expect(at, b" m")?;
+    let m = number(at)?;
+    let mb = boot(version, at)?;
+    let vars = variables(version, at)?;
+    Ok(Numbers { m, mb, vars })
 }
 
-// The bound of a point, and what follows it.
+// The bound of a point.
 #[tactic(auto, unfolding(crate::specs::Reading::read_bound))]
-fn bound(
-    at: TextCursor<'_>,
-    place: u64,
-) -> Result<((u64, ArrayVec<u64, 4>), TextCursor<'_>), CertFault>
-    ensures { Gives (λ x. ((x.0.0, x.0.1.items), x.1.rest.now)) result (read_bound place at.entry.rest.now) }
+fn bound(at: &mut TextCursor<'_>, place: u64) -> Result<(u64, ArrayVec<u64, 4>), CertFault>
+    ensures { Gives (λ x. ((x.0, x.1.items), at.new.rest.now)) result (read_bound place at.old.rest.now) }
 {
-    let at = expect(at, b"p")?;
-    let at = placed(at, place)?;
-    let at = expect(at, b" b")?;
-    let (base, at) = number(at)?;
-    let (turns, at) = turns(at)?;
-    Ok(((base, turns), at))
+    expect(at, b"p")?;
+    placed(at, place)?;
+    expect(at, b" b")?;
+    let base = number(at)?;
+    let turns = turns(at)?;
+    Ok((base, turns))
 }
 
-// The line of a point with at most so many shapes, whose set gets a name, and what follows it. The shapes are read into
+// The line of a point with at most so many shapes, whose set gets a name. The shapes are read into
 // a list that may hold others.
 #[tactic(auto, unfolding(crate::specs::Reading::read_point))]
-fn point<'a>(
+fn point(
     table: &mut SetTable,
     list: &mut Vec<Shape>,
     version: Version,
     place: u64,
     room: usize,
-    at: TextCursor<'a>,
-) -> Result<(PointFacts, TextCursor<'a>), CertFault>
+    at: &mut TextCursor<'_>,
+) -> Result<PointFacts, CertFault>
     requires few { length table.old < max_points }
-    ensures read { Gives (λ x. (point_in table.new x.0, x.1.rest.now)) result
-        (read_point version place room at.entry.rest.now) }
-    ensures interned { IfOk result (λ x. Interned table.old list.new.items table.new x.0.facts.set) }
-    ensures shapes { IfOk result (λ x. members table.new x.0.facts.set ≡ list.new.items) }
+    ensures read { Gives (λ x. (point_in table.new x, at.new.rest.now)) result
+        (read_point version place room at.old.rest.now) }
+    ensures interned { IfOk result (λ x. Interned table.old list.new.items table.new x.facts.set) }
+    ensures shapes { IfOk result (λ x. members table.new x.facts.set ≡ list.new.items) }
     ensures few { IsOk result → length list.new.items ≤ room }
 {
-    let ((base, turns), at) = bound(at, place)?;
-    let (numbers, at) = numbers(version, at)?;
-    let at = expect(at, b" s")?;
-    let at = shapes(list, room, at)?;
-    let at = line_end(at)?;
+    let (base, turns) = bound(at, place)?;
+    let numbers = numbers(version, at)?;
+    expect(at, b" s")?;
+    shapes(list, room, at)?;
+    line_end(at)?;
     let set = table.intern(list.as_slice())?;
     let facts = Facts::new(set, numbers);
-    Ok((PointFacts { facts, base, turns }, at))
+    Ok(PointFacts { facts, base, turns })
 }
 
 /// A table of sets, and points that name sets of it.
 pub type NamedPoints = (SetTable, Vec<PointFacts>);
 
-/// The lines of so many points, and what follows them.
+/// The lines of so many points.
 pub fn points(
     alloc: Global,
     version: Version,
     count: u64,
-    at: TextCursor<'_>,
-) -> Result<(NamedPoints, TextCursor<'_>), CertFault>
+    at: &mut TextCursor<'_>,
+) -> Result<NamedPoints, CertFault>
     requires few { count ≤ max_points }
-    ensures read { Gives (λ x. (points_in x.0.0 x.0.1.items, x.1.rest.now)) result
-        (read_points version count 0 max_shapes at.entry.rest.now) }
-    ensures named { IfOk result (λ x. All (IsNamed x.0.0) x.0.1.items) }
+    ensures read { Gives (λ x. (points_in x.0 x.1.items, at.new.rest.now)) result
+        (read_points version count 0 max_shapes at.old.rest.now) }
+    ensures named { IfOk result (λ x. All (IsNamed x.0) x.1.items) }
 {
     let mut table = SetTable::new(alloc);
     let mut points = Vec::new(alloc);
     let mut list = Vec::new(alloc);
     let mut room = MAX_SHAPES;
-    let mut at = at;
     for place in 0..count {
-        let (point, rest) = point(&mut table, &mut list, version, place, room, at)?;
+        let point = point(&mut table, &mut list, version, place, room, at)?;
         room -= list.len();
         points.push(point)?;
-        at = rest;
     }
-    Ok(((table, points), at))
+    Ok((table, points))
 }

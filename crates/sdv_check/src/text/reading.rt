@@ -7,7 +7,7 @@ ghost use Rattle.sdv_facts.specs.Shared.{certificate_in, points_in, IsNamed};
 ghost use Rattle.sdv_check.specs.Reading.{Gives, read_version, read_count, read_lines, read_certificate, read_text};
 ghost use Rattle.sdv_check.specs.declared.text.fault.CertFault.TheVariants.{Limit};
 
-use crate::text::cursor::{TextCursor, expect, line_end, skip};
+use crate::text::cursor::{TextCursor, expect, line_end, takes};
 use crate::text::fault::CertFault;
 use crate::text::items::number;
 use crate::text::points::{NamedPoints, points};
@@ -40,19 +40,19 @@ pub fn one_certificate()
     ensures { (a b : Facts) → WithinLimits a → WithinLimits b → text_of a ≡ text_of b → a ≡ b }
 {}
 
-// How many points there are, and what follows.
+// How many points there are.
 #[tactic(auto, unfolding(crate::specs::Reading::read_count))]
-fn count(at: TextCursor<'_>) -> Result<(u64, TextCursor<'_>), CertFault>
-    ensures read { Gives (λ x. (x.0, x.1.rest.now)) result (read_count at.entry.rest.now) }
-    ensures few { IfOk result (λ x. x.0 ≤ max_points) }
+fn count(at: &mut TextCursor<'_>) -> Result<u64, CertFault>
+    ensures read { Gives (λ x. (x, at.new.rest.now)) result (read_count at.old.rest.now) }
+    ensures few { IfOk result (λ x. x ≤ max_points) }
 {
-    let at = expect(at, b"points")?;
-    let (count, at) = number(at)?;
+    expect(at, b"points")?;
+    let count = number(at)?;
     if count > MAX_STATEMENTS as u64 {
         return Err(CertFault::Limit);
     }
-    let at = line_end(at)?;
-    Ok((count, at))
+    line_end(at)?;
+    Ok(count)
 }
 
 // The points with their table of sets, behind the first line.
@@ -61,8 +61,9 @@ fn lines(alloc: Global, version: Version, at: TextCursor<'_>) -> Result<NamedPoi
     ensures read { Gives (λ x. points_in x.0 x.1.items) result (read_lines version at.entry.rest.now) }
     ensures named { IfOk result (λ x. All (IsNamed x.0) x.1.items) }
 {
-    let (count, at) = count(at)?;
-    let (points, at) = points(alloc, version, count, at)?;
+    let mut at = at;
+    let count = count(&mut at)?;
+    let points = points(alloc, version, count, &mut at)?;
     if !at.rest.is_empty() {
         return Err(CertFault::Syntax { line: at.line });
     }
@@ -74,17 +75,17 @@ fn lines(alloc: Global, version: Version, at: TextCursor<'_>) -> Result<NamedPoi
 fn version(text: &[u8]) -> Result<(Version, TextCursor<'_>), CertFault>
     ensures { Gives (λ x. (x.0, x.1.rest.now)) result (read_version text.now) }
 {
-    let at = TextCursor {
+    let mut at = TextCursor {
         rest: text,
         line: 2,
     };
-    if let Some(at) = skip(at, b"sdv-cert 1\n") {
+    if takes(&mut at, b"sdv-cert 1\n") {
         return Ok((Version::One, at));
     }
-    match skip(at, b"sdv-cert 2\n") {
-        Some(at) => Ok((Version::Two, at)),
-        None => Err(CertFault::Header),
+    if takes(&mut at, b"sdv-cert 2\n") {
+        return Ok((Version::Two, at));
     }
+    Err(CertFault::Header)
 }
 
 /// A version, and points with their table of sets.

@@ -1,7 +1,8 @@
-use Rattle.std.proofs.Common.{◌-◌, map, sym, ◌∙◌, arith}
+use Rattle.std.proofs.Common.{◌-◌, map, refl, sym, ◌∙◌, arith}
 use Rattle.std.proofs.lemmas.Result.{err_from_is_err_and}
 use Rattle.std.proofs.lemmas.List.{map-append}
 use Rattle.sdv_script.specs.Place.{names_of, progress_of}
+use Rattle.sdv_script.specs.declared.progress.Progress.{Progress as From}
 use Rattle.std.specs.Box.{box_value}
 use Rattle.sdv_graph.specs.Tree.{statement_of, statements_of, ways_of, otherwise}
 use Rattle.sdv_script.specs.Reading.{read_statements}
@@ -28,7 +29,7 @@ pub statements-loop-left-preserved : goal.statements-loop-left-preserved
 statements-loop-left-preserved t c =
     rw (c.in_ok-push.ensures.items, map-append)
     (behind_goes_on (map statement_of c.loop-left.read.items) (statement_of c.in_ok-next.next) c.loop-left.left (c.loop-left.left - 1)
-    (names_of c.args.names.now) c.args.depth (progress_of c.loop-left.from) (progress_of c.in_ok-next.after) (omega arith)
+    (names_of c.args.names.now) c.args.depth (progress_of c.loop-left.from) (progress_of c.statement.new.from) (omega arith)
     (sym c.if-is_closed.ensures) c.in_ok-next.ensures
     ∙ c.loop-left.invariant)
 
@@ -40,35 +41,38 @@ statements-returns t c =
 
 pub ways-returns-in_err-last : goal.ways-returns-in_err-last
 ways-returns-in_err-last t c =
+    let from : From = record { at = c.takes_else.new.at; begun = c.loop-left.from.begun } in
     let p = err_from_is_err_and c.from_residual.result c.from_residual.ensures.1 in
     rw (p.1, p.2, ← c.loop-left.invariant)
     (last_fails c.in_err-last.field-0.0 (map guarded_of c.loop-left.read.items) c.loop-left.left (c.loop-left.left - 1)
-    (names_of c.args.names.now) c.args.depth c.args.order (progress_of c.loop-left.from) (progress_of c.to.result) (omega arith)
-    (rw c.to.ensures.at (sym c.in-Some.ensures)) c.to.ensures.begun
-    (last_stops c.in_err-last.field-0.0 (read_statements (c.loop-left.left - 1) (names_of c.args.names.now)) c.args.depth (progress_of c.to.result) c.in_err-last.ensures))
+    (names_of c.args.names.now) c.args.depth c.args.order (progress_of c.loop-left.from) (progress_of from) (omega arith) c.if-takes_else.ensures refl
+    (last_stops c.in_err-last.field-0.0 (read_statements (c.loop-left.left - 1) (names_of c.args.names.now)) c.args.depth (progress_of from) c.in_err-last.ensures))
 
-pub ways-returns-in-Some : goal.ways-returns-in-Some
-ways-returns-in-Some t c =
+pub ways-returns-then-takes_else : goal.ways-returns-then-takes_else
+ways-returns-then-takes_else t c =
+    let from : From = record { at = c.takes_else.new.at; begun = c.loop-left.from.begun } in
+    let last = statements_of (box_value c.in_ok-last.last) in
     sym c.loop-left.invariant
     ∙ ahead_ends (map guarded_of c.loop-left.read.items) c.loop-left.left (c.loop-left.left - 1) (names_of c.args.names.now) c.args.depth c.args.order
-    (progress_of c.loop-left.from) (progress_of c.to.result) (progress_of c.in_ok-last.from) (otherwise (statements_of (box_value c.in_ok-last.last)))
-    (ways_of c.in_ok-before.field-0) (omega arith) (rw c.to.ensures.at (sym c.in-Some.ensures)) c.to.ensures.begun
-    (last_read (read_statements (c.loop-left.left - 1) (names_of c.args.names.now)) c.args.depth (progress_of c.to.result) (progress_of c.in_ok-last.from)
-    (statements_of (box_value c.in_ok-last.last)) c.in_ok-last.ensures) c.in_ok-before.ensures
+    (progress_of c.loop-left.from) (progress_of from) (progress_of c.boxed_block.new.from) (otherwise last) (ways_of c.in_ok-before.field-0) (omega arith)
+    c.if-takes_else.ensures refl
+    (last_read (read_statements (c.loop-left.left - 1) (names_of c.args.names.now)) c.args.depth (progress_of from) (progress_of c.boxed_block.new.from) last
+    c.in_ok-last.ensures) c.in_ok-before.ensures
 
 pub ways-returns-in_err-next : goal.ways-returns-in_err-next
 ways-returns-in_err-next t c =
     let p = err_from_is_err_and c.from_residual-in_err-next.result c.from_residual-in_err-next.ensures.1 in
     rw (p.1, p.2, ← c.loop-left.invariant)
     (case_fails c.in_err-next.field-0.0 (map guarded_of c.loop-left.read.items) c.loop-left.left (c.loop-left.left - 1)
-    (names_of c.args.names.now) c.args.depth c.args.order (progress_of c.loop-left.from) (omega arith) (sym c.in_default.ensures) c.in_err-next.ensures)
+    (names_of c.args.names.now) c.args.depth c.args.order (progress_of c.loop-left.from) (omega arith) c.if-takes_else.ensures.0
+    (rw c.if-takes_else.ensures.1 at c.in_err-next.ensures))
 
 pub ways-loop-left-preserved : goal.ways-loop-left-preserved
 ways-loop-left-preserved t c =
     rw (c.in_ok-push.ensures.items, map-append)
     (ahead_goes_on (map guarded_of c.loop-left.read.items) (guarded_of c.in_ok-next.next) c.loop-left.left (c.loop-left.left - 1)
-    (names_of c.args.names.now) c.args.depth c.args.order (progress_of c.loop-left.from) (progress_of c.in_ok-next.after) (omega arith)
-    (sym c.in_default.ensures) c.in_ok-next.ensures
+    (names_of c.args.names.now) c.args.depth c.args.order (progress_of c.loop-left.from) (progress_of c.case.new.from) (omega arith)
+    c.if-takes_else.ensures.0 (rw c.if-takes_else.ensures.1 at c.in_ok-next.ensures)
     ∙ c.loop-left.invariant)
 
 pub ways-returns : goal.ways-returns

@@ -12,19 +12,17 @@ returns-in_err-first c =
 
 pub loop-guards-smaller : goal.loop-guards-smaller
 loop-guards-smaller c =
-    guards_shrink c.args.order (tokens_at c.loop-guards.at) c.in_ok-first.first (tokens_at c.in_ok-first.after) (tokens_at c.in-Some.next) c.in_ok-first.ensures
-    (sym c.in-Some.ensures)
+    guards_shrink c.args.order (tokens_at c.loop-guards.at) c.in_ok-first.first (tokens_at c.guard.new.at) (tokens_at c.takes_and.new.at) c.in_ok-first.ensures
+    c.if-not-takes_and.ensures
 
 pub loop-guards-preserved : goal.loop-guards-preserved
 loop-guards-preserved c =
     rw c.in_ok-push.ensures.items
-    (guards_go_on c.args.order c.loop-guards.guards.items (tokens_at c.loop-guards.at) c.in_ok-first.first (tokens_at c.in_ok-first.after)
-    (tokens_at c.in-Some.next) c.in_ok-first.ensures
-    (sym c.in-Some.ensures) ∙ c.loop-guards.invariant)
+    (guards_go_on c.args.order c.loop-guards.guards.items (tokens_at c.loop-guards.at) c.in_ok-first.first (tokens_at c.guard.new.at)
+    (tokens_at c.takes_and.new.at) c.in_ok-first.ensures c.if-not-takes_and.ensures ∙ c.loop-guards.invariant)
 
-pub returns-in-None : goal.returns-in-None
-returns-in-None c =
-    rw c.in_ok-push.ensures.items
+pub returns-then-not-takes_and : goal.returns-then-not-takes_and
+returns-then-not-takes_and c =
+    rw (c.if-not-takes_and.ensures.1, c.in_ok-push.ensures.items)
     (sym c.loop-guards.invariant ∙ guards_end c.args.order c.loop-guards.guards.items (tokens_at c.loop-guards.at) c.in_ok-first.first
-    (tokens_at c.in_ok-first.after) c.in_ok-first.ensures
-    (sym c.in-None.ensures))
+    (tokens_at c.guard.new.at) c.in_ok-first.ensures c.if-not-takes_and.ensures.0)

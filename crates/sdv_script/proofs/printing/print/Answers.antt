@@ -10,12 +10,12 @@ returns-in-Err g c =
     ∙ ap (λ (ps : List (List ℕ)). i.0 ++ printed_pieces ps) (c.is_end.ensures.more c.loop-at-test.true)) i.2 c.in-Err.ensures
 
 pub loop-at-smaller : goal.loop-at-smaller
-loop-at-smaller g c = rw c.next-at.ensures.tokens (c.is_end.ensures.shorter c.loop-at-test.true)
+loop-at-smaller g c = rw c.advance.ensures.tokens (c.is_end.ensures.shorter c.loop-at-test.true)
 
 pub loop-at-preserved : goal.loop-at-preserved
 loop-at-preserved g c =
     let i = c.loop-at.invariant in
-    rw c.next-at.ensures.pieces
+    rw c.advance.ensures.pieces
     (piece_done _ _ _ _ i.0 c.loop-at.at.text.now _ (i.1
     ∙ ap (λ (ps : List (List ℕ)). i.0 ++ printed_pieces ps) (c.is_end.ensures.more c.loop-at-test.true)) i.2 c.in_default.ensures)
 

@@ -23,12 +23,12 @@ pub returns-then-block_falls : goal.returns-then-block_falls
 returns-then-block_falls c =
     let names = names_of c.args.names.now in
     ap (λ read. read >>= λ b. whole_if names b.0 b.1.tokens) c.in_ok-body.ensures
-    ∙ whole_falls names (statements_of c.in_ok-body.body) (tokens_at c.in_ok-body.from.at) (sym c.block_falls.ensures ∙ c.if-block_falls.true)
+    ∙ whole_falls names (statements_of c.in_ok-body.body) (tokens_at c.statements.new.from.at) (sym c.block_falls.ensures ∙ c.if-block_falls.true)
 
 pub returns : goal.returns
 returns c =
     let names = names_of c.args.names.now in
-    let at = c.in_ok-body.from.at in
+    let at = c.statements.new.from.at in
     let end = ap (λ t. list_of t (tokens at.rest.now)) c.in-End.is in
     ap (λ read. read >>= λ b. whole_if names b.0 b.1.tokens) c.in_ok-body.ensures
     ∙ whole_there names (statements_of c.in_ok-body.body) (tokens_at at) end (sym c.block_falls.ensures ∙ c.if-block_falls.false)

@@ -28,7 +28,7 @@ loop-place-preserved c =
     let left : c.loop-place.room - c.len-room.result ≡ c.loop-place.room - length (point_in new p).facts.shapes =
     ap (λ n. c.loop-place.room - n) (len ∙ ap length (sym c.in_ok-point.ensures.shapes)) in
     let read = points_more c.args.version c.args.count c.loop-place.place c.loop-place.room (points_in old points) c.loop-place.at.rest.now (point_in new p)
-    c.in_ok-point.rest.rest.now _ (omega arith) c.in_ok-point.ensures.read i.read in
+    c.point.new.at.rest.now _ (omega arith) c.in_ok-point.ensures.read i.read in
     record {
       read = rw (more, left) read;
       named = subst (λ l. All (IsNamed new) l) (sym pushed) (all_named_more old new _ _ points p interned i.named (named_within old new _ _ interned));

@@ -23,7 +23,7 @@ loop-last-preserved c = (
   grind arith,
   rw c.in_ok-push.ensures.items
       (each_more begins_shape read_rising c.args.room c.loop-last.shapes.items c.loop-last.last c.loop-last.at.rest.now c.in_ok-shape.shape
-      c.in_ok-shape.rest.rest.now _ (sym c.begins_shape.ensures ∙ c.loop-last-test.true) (omega arith) c.in_ok-shape.ensures c.loop-last.invariant.1),
+      c.next_shape.new.at.rest.now _ (sym c.begins_shape.ensures ∙ c.loop-last-test.true) (omega arith) c.in_ok-shape.ensures c.loop-last.invariant.1),
 )
 
 pub returns-clause-read : goal.returns-clause-read
@@ -36,5 +36,5 @@ returns-clause-rising c ok =
     let read = each_done begins_shape read_rising c.args.room c.loop-last.shapes.items c.loop-last.last c.loop-last.at.rest.now _
     (sym c.begins_shape.ensures ∙ c.loop-last-test.false) c.loop-last.invariant.1 in
     rising None c.loop-last.shapes.items
-    (each_takes begins_shape read_rising shape_written IsNext rising_takes c.args.room None c.args.at.rest.now c.loop-last.shapes.items c.loop-last.at.rest.now
+    (each_takes begins_shape read_rising shape_written IsNext rising_takes c.args.room None c.args.at.now.rest.now c.loop-last.shapes.items c.loop-last.at.rest.now
     read).2

@@ -25,7 +25,7 @@ loop-at-preserved c =
       (
         Some c.in_ok-turn.turn,
         rw c.push.ensures.items (each_more begins_number
-            (λ last. read_number) 4 c.loop-at.turns.items i.1.0 c.loop-at.at.rest.now c.in_ok-turn.turn c.in_ok-turn.rest.rest.now _
+            (λ last. read_number) 4 c.loop-at.turns.items i.1.0 c.loop-at.at.rest.now c.in_ok-turn.turn c.number.new.at.rest.now _
             (sym c.begins_number.ensures ∙ c.loop-at-test.true) (grind (arith, nat_tests)) c.in_ok-turn.ensures i.1.1),
       ),
     )

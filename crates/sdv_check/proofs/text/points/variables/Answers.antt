@@ -25,7 +25,7 @@ loop-version-preserved c =
       (
         Some c.in_ok-known.known,
         rw c.push.ensures.items (each_more begins_var
-            (λ last. read_var c.args.version) 8 c.loop-version.vars.items i.1.0 c.loop-version.at.rest.now c.in_ok-known.known c.in_ok-known.rest.rest.now _
+            (λ last. read_var c.args.version) 8 c.loop-version.vars.items i.1.0 c.loop-version.at.rest.now c.in_ok-known.known c.variable.new.at.rest.now _
             (sym c.begins_variable.ensures ∙ c.loop-version-test.true) (grind (arith, nat_tests)) c.in_ok-known.ensures i.1.1),
       ),
     )
