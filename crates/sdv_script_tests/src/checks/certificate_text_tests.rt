@@ -32,7 +32,7 @@ const ORDER_3: CertFault = CertFault::Order { line: 3 };
 const LIMIT: CertFault = CertFault::Limit;
 
 // Texts with their first fault.
-static REFUSED: [(&str, CertFault); 31] = [
+static REFUSED: [(&str, CertFault); 32] = [
     ("", HEADER),
     ("sdv-cert 1", HEADER),
     ("sdv-cert 1\r\npoints 0\n", HEADER),
@@ -73,6 +73,7 @@ static REFUSED: [(&str, CertFault); 31] = [
     ),
     ("sdv-cert 1\npoints 1\np 0 b 0 m 1 s", SYNTAX_3),
     ("sdv-cert 1\npoints 1\np 0 b 0 m 1 s \n", SYNTAX_3),
+    ("sdv-cert 1\npoints 1\np 0 b 0 m 1 s\r\n", SYNTAX_3),
 ];
 
 // Lines that are no point of a certificate of one point, by its version and their fault.
@@ -90,7 +91,6 @@ p 0 b 0 1 2 3 4 05 m 1 s
 p 0 b 0 - m 1 s
 p 0 b 0 s
 p 0 b 0 m 1
-p 0 b 0 m 1 s\r
 p\t0 b 0 m 1 s
 p 0 b 0 m 1 v 0 0 s
 p 0 b 0 m 1 v 0 0 -1 s
