@@ -6,14 +6,16 @@
 #
 # With valgrind on the path it also says how many instructions that is for each point and each shape; the number does not
 # depend on what else the machine does.
+#
+# It takes the program that rt ci left, or the one that SDV names, or else has rt make it.
 set -eu
 top=$(cd "$(dirname "$0")/.." && pwd)
 export PATH="/opt/rattle/bin:$PATH"
 work=$(mktemp -d)
 trap 'rm -rf "$work"' EXIT
 
-(cd "$top/crates/sdv" && rt run -- frame 0 0) > "$work/built" 2>&1 || { cat "$work/built"; exit 1; }
-sdv="$top/crates/sdv/out/sdv"
+sdv=${SDV:-$top/crates/sdv/out/sdv}
+[ -x "$sdv" ] || (cd "$top/crates/sdv" && rt run -- frame 0 0) > "$work/built" 2>&1 || { cat "$work/built"; exit 1; }
 
 repeat() {
     awk -v count="$1" -v statement="$2" 'BEGIN { for (i = 0; i < count; i++) print statement }'

@@ -1,14 +1,16 @@
 //! What a row leaves of a settled card, by what a kind says of its rows.
 
-ghost use Rattle.std.specs.Prelude.{◌≡◌, ◌≤◌, ◌+◌, ◌*◌, ◌++◌, length, Bool};
+ghost use Rattle.std.specs.Prelude.{◌≡◌, ◌≤◌, ◌+◌, ◌*◌, ◌++◌, ◌∷◌, [], if◌then◌else◌, length, Bool, true, false};
 ghost use Rattle.arrayvec.specs.ArrayVec.{array_vec_len};
 ghost use Rattle.sdv_registers.specs.declared.kind.Kind.{Kind};
 ghost use Rattle.sdv_card.specs.StateTable.{rows, targets};
 ghost use Rattle.sdv_card.specs.NextStates.{next_states};
-ghost use Rattle.sdv_card.specs.RowRules.{preset_kept};
+ghost use Rattle.sdv_card.specs.RowRules.{erase_after, length_after, preset_kept, transfer_after};
 ghost use Rattle.sdv_card.specs.LegalShapes.{row_legal};
-ghost use Rattle.sdv_card.specs.Modes.{calm, failed, set};
-ghost use Rattle.sdv_card.specs.Outcomes.{with_presets, with_matches, taken, stayed};
+ghost use Rattle.sdv_card.specs.Modes.{calm, failed, first_mode, set};
+ghost use Rattle.sdv_card.specs.Outcomes.{with_lengths, with_presets, with_matches, taken, stayed};
+ghost use Rattle.sdv_card.specs.declared.command.Row.TheVariants.{Cmd0};
+ghost use Rattle.sdv_card.specs.declared.state.State.TheVariants.{Idle};
 
 use super::modes::may_stay_pending;
 use super::rules::{erase_after, erase_allows, length_allows, preset_allows, transfer_after};
@@ -84,6 +86,107 @@ fn with_switch(
     with_presets(all, failed, presets);
 }
 
+/// Adds a reset card, with each block length that it may have.
+fn with_reset(all: &mut ArrayVec<Fields, 4>, card: Fields)
+    requires { array_vec_len all.old + 2 ≤ 4 }
+    ensures { all.new.items ≡ all.old.items ++ with_lengths card (length_after Cmd0 card.block_unit card.length_512)
+        (first_mode ∷ []) (true ∷ []) (0 ∷ []) }
+{
+    let reset = Fields {
+        mode: Mode::first(),
+        matched: true,
+        preset: 0,
+        ..card
+    };
+    if !card.block_unit {
+        all.push(Fields {
+            length_512: false,
+            ..reset
+        });
+    }
+    all.push(Fields {
+        length_512: true,
+        ..reset
+    });
+}
+
+/// Adds a card that is initialized, if it may be, and one that stays in idle state, with each preset count.
+fn with_idle(all: &mut ArrayVec<Fields, 4>, card: Fields, may_be_ready: bool, presets: &[u16])
+    requires { array_vec_len all.old + 2 * length presets.now ≤ 4 }
+    ensures { all.new.items ≡ all.old.items ++ ((if may_be_ready then with_presets card presets.now else []) ++
+        with_presets (record card { state = Idle }) presets.now) }
+{
+    if may_be_ready {
+        with_presets(all, card, presets);
+    }
+    let idle = Fields {
+        state: State::Idle,
+        ..card
+    };
+    with_presets(all, idle, presets);
+}
+
+/// Adds a card with the address that the host heard, and where it heard none also one with another, with each preset
+/// count.
+fn with_address(all: &mut ArrayVec<Fields, 4>, card: Fields, heard: bool, presets: &[u16])
+    requires { array_vec_len all.old + 2 * length presets.now ≤ 4 }
+    ensures { all.new.items ≡ all.old.items ++
+        ((if heard then [] else with_presets (record card { matched = false }) presets.now) ++
+        with_presets (record card { matched = true }) presets.now) }
+{
+    if !heard {
+        let unknown = Fields {
+            matched: false,
+            ..card
+        };
+        with_presets(all, unknown, presets);
+    }
+    let known = Fields {
+        matched: true,
+        ..card
+    };
+    with_presets(all, known, presets);
+}
+
+/// Adds a card, and one whose mode is still `mode` if that may be, with each preset count.
+fn with_told(
+    all: &mut ArrayVec<Fields, 4>,
+    card: Fields,
+    mode: Mode,
+    may_stay: bool,
+    presets: &[u16],
+)
+    requires { array_vec_len all.old + 2 * length presets.now ≤ 4 }
+    ensures { all.new.items ≡ all.old.items ++ (with_presets card presets.now ++
+        (if may_stay then with_presets (record card { mode = mode }) presets.now else [])) }
+{
+    with_presets(all, card, presets);
+    if may_stay {
+        with_presets(all, Fields { mode, ..card }, presets);
+    }
+}
+
+/// A settled card in the state after a row, with what every row does to the other parts: CMD0 does more, and where a row
+/// leaves several cards, they differ from this one.
+fn in_next_state(row: Row, state: State, t: &Fields) -> Fields
+    ensures { result ≡ record t.now {
+      state = state;
+      app = false;
+      erase = erase_after row t.now.erase;
+      transfer = transfer_after row t.now.preset t.now.transfer;
+      mode = calm t.now.mode;
+    } }
+{
+    Fields {
+        state,
+        app: false,
+        erase: erase_after(row, t.erase),
+        transfer: transfer_after(row, t.preset, t.transfer),
+        mode: t.mode.calm(),
+        ..*t
+    }
+}
+
 /// A settled card after a row; `heard`: the host heard the answer, or there is none.
 pub fn taken<T: Rows>(row: Row, heard: bool, t: &Fields) -> ArrayVec<Fields, 4>
     ensures { result.items ≡ taken T.kind row heard t.now }
@@ -92,67 +195,22 @@ pub fn taken<T: Rows>(row: Row, heard: bool, t: &Fields) -> ArrayVec<Fields, 4>
     let Some(state) = T::next(row, t.state) else {
         return all;
     };
-    let u = Fields {
-        state,
-        app: false,
-        erase: erase_after(row, t.erase),
-        transfer: transfer_after(row, t.preset, t.transfer),
-        mode: t.mode.calm(),
-        ..*t
-    };
+    let u = in_next_state(row, state, t);
     let kept = T::preset_kept(t.preset);
     let kept = kept.as_slice();
     match row {
-        Row::Cmd0 => {
-            let u = Fields {
-                mode: Mode::first(),
-                matched: true,
-                preset: 0,
-                ..u
-            };
-            if !t.block_unit {
-                all.push(Fields {
-                    length_512: false,
-                    ..u
-                });
-            }
-            all.push(Fields {
-                length_512: true,
-                ..u
-            });
-        }
-        Row::Cmd1 => {
-            with_presets(&mut all, u, kept);
-            let idle = Fields {
-                state: State::Idle,
-                ..u
-            };
-            with_presets(&mut all, idle, kept);
-        }
-        Row::Cmd3Sd => {
-            if !heard {
-                let unknown = Fields {
-                    matched: false,
-                    ..u
-                };
-                with_presets(&mut all, unknown, kept);
-            }
-            with_presets(&mut all, Fields { matched: true, ..u }, kept);
-        }
+        Row::Cmd0 => with_reset(&mut all, u),
+        Row::Cmd1 => with_idle(&mut all, u, true, kept),
+        Row::Cmd3Sd => with_address(&mut all, u, heard, kept),
         Row::Cmd3Emmc => with_presets(&mut all, Fields { matched: true, ..u }, kept),
         Row::Cmd6 { setting } => with_switch(&mut all, u, t.mode, setting, kept),
         Row::Cmd13 => {
-            with_presets(&mut all, u, kept);
-            if may_stay_pending(heard, t.state, t.mode) {
-                with_presets(&mut all, Fields { mode: t.mode, ..u }, kept);
-            }
+            let may_stay = may_stay_pending(heard, t.state, t.mode);
+            with_told(&mut all, u, t.mode, may_stay, kept);
         }
         Row::Cmd16 => {
-            let set = Fields {
-                length_512: true,
-                ..u
-            };
-            with_presets(&mut all, set, kept);
+            let length_512 = true;
+            with_presets(&mut all, Fields { length_512, ..u }, kept);
         }
         Row::Cmd18 { .. } | Row::Cmd25 { .. } => all.push(Fields { preset: 0, ..u }),
         Row::Cmd23 { count } => all.push(Fields { preset: count, ..u }),
@@ -161,21 +219,11 @@ pub fn taken<T: Rows>(row: Row, heard: bool, t: &Fields) -> ArrayVec<Fields, 4>
             with_presets(&mut all, Fields { app: true, ..u }, kept);
         }
         Row::Acmd6 { width } => {
-            let set = Fields {
-                mode: t.mode.set(Setting::Lines(width)).calm(),
-                ..u
-            };
-            with_presets(&mut all, set, kept);
+            let mode = t.mode.set(Setting::Lines(width)).calm();
+            with_presets(&mut all, Fields { mode, ..u }, kept);
         }
         Row::Acmd41 { high_capacity } => {
-            if high_capacity || !t.block_unit {
-                with_presets(&mut all, u, kept);
-            }
-            let idle = Fields {
-                state: State::Idle,
-                ..u
-            };
-            with_presets(&mut all, idle, kept);
+            with_idle(&mut all, u, high_capacity | !t.block_unit, kept);
         }
         _ => with_presets(&mut all, u, kept),
     }
