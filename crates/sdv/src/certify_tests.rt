@@ -3,9 +3,9 @@ use crate::testing::Piece::{Bytes, Text};
 use crate::testing::Step::{self, Call, Replace, Store, Write};
 use crate::testing::Wanted::{Has, Is, Lines, Starts};
 use crate::testing::{
-    BRING_UP, CERTIFICATE, DEVICE_TO_TRANSFER, ILLEGAL, SMALLEST, TO_TRANSFER, call, play, write,
+    BRING_UP, CERTIFICATE, DEVICE_TO_TRANSFER, ILLEGAL, SMALLEST, TO_TRANSFER, answer, call, play,
+    write,
 };
-use sdv_words::program::program;
 use std::io;
 use std::process::Abort;
 use std::rt::Files;
@@ -215,9 +215,8 @@ fn certify_into<R: Files + AllocGlobal + Abort>(rt: &R, room: usize) {
         taken: Vec::new(rt.alloc()),
         room,
     };
-    let status = program(rt, &["certify", "printed.sdv"], &mut out, &mut err);
-    let wanted = if room == CERTIFICATE.len() { 0 } else { 2 };
-    assert_eq!(rt; status, wanted, "at {room}");
+    let status = if room == CERTIFICATE.len() { 0 } else { 2 };
+    answer(rt, &["certify", "printed.sdv"], status, &mut out, &mut err);
     assert!(rt; out.taken.len() == room && CERTIFICATE.as_bytes().starts_with(&out.taken));
     assert!(rt; err.is_empty());
 }

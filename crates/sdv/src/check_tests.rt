@@ -274,7 +274,7 @@ fn reads_within_a_limit(rt: HostRuntime) {
         };
         let found = bytes_within(rt.alloc(), row.2, &mut file).expect(&rt, "memory");
         let count = found.map(|bytes| bytes.len());
-        assert_eq!(rt; count, row.3, "{row:?}");
+        assert!(rt; count == row.3, "{row:?}");
     }
     let mut many: &[u8] = b"abcd";
     assert!(rt; matches!(bytes_within(rt.alloc(), 3, &mut many), Ok(None)));

@@ -230,7 +230,7 @@ pub fn compare<R: Abort>(rt: &R, words: &[&str], printed: &[u8], wanted: &[Wante
 }
 
 /// Calls the program with words that it has to answer with a status.
-fn answer<R: Files + AllocGlobal + Abort, O: Write, E: Write>(
+pub fn answer<R: Files + AllocGlobal + Abort, O: Write, E: Write>(
     rt: &R,
     words: &[&str],
     status: u8,

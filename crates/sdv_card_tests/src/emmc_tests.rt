@@ -61,16 +61,15 @@ fn legal_at_shapes_of_emmc(rt: HostRuntime) {
         let found = follow::<EmmcTable>(Shape(code), &event).is_some();
         assert!(rt; found == legal, "command {index} at {code:x}");
     }
-    let found = shapes_and_longest_list::<EmmcTable>(Kind::Emmc, 0x1_0000_0000);
-    assert_eq!(rt; found, (261, 28));
-    assert_eq!(rt;
-        outcomes_of::<EmmcTable>(0x1_0000_2108, &send(7, Aim::Rca, 0, 0)),
-        28
+    let (shapes, longest) = shapes_and_longest_list::<EmmcTable>(Kind::Emmc, 0x1_0000_0000);
+    assert!(rt;
+        shapes == 261 && longest == 28,
+        "{shapes} shapes, {longest} outcomes"
     );
-    assert_eq!(rt;
-        outcomes_of::<EmmcTable>(0x1_0400_2108, &send(7, Aim::Rca, 0, 0)),
-        30
-    );
+    for (code, wanted) in [(0x1_0000_2108, 28), (0x1_0400_2108, 30)] {
+        let outcomes = outcomes_of::<EmmcTable>(code, &send(7, Aim::Rca, 0, 0));
+        assert!(rt; outcomes == wanted, "{outcomes} outcomes at {code:x}");
+    }
 }
 
 /// What may follow the operating conditions, the address that the host gives, the EXT_CSD and its phase, and commands that

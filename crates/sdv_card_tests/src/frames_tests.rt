@@ -181,7 +181,8 @@ static FAULT_TEXTS: [(FrameFault, &str); 7] = [
 #[test]
 fn fault_texts(rt: HostRuntime) -> Result<(), Fail> {
     for &(fault, text) in FAULT_TEXTS.iter() {
-        assert_eq!(rt; fault.to_string(rt.alloc())?.as_str(), text);
+        let printed = fault.to_string(rt.alloc())?;
+        assert!(rt; printed.as_str() == text, "{printed}");
     }
     Ok(())
 }

@@ -127,9 +127,11 @@ fn widths_at_shapes_of_sd(rt: HostRuntime) {
 /// The shapes of SD cards without flags and with one data line, and the longest list of outcomes at them.
 #[test]
 fn shapes_of_sd(rt: HostRuntime) {
-    assert_eq!(rt; shapes_and_longest_list::<SdTable>(Kind::Sd, 0), (558, 18));
-    assert_eq!(rt;
-        outcomes_of::<SdTable>(0x3107, &send(55, Aim::Rca, 0, 0)),
-        18
+    let (shapes, longest) = shapes_and_longest_list::<SdTable>(Kind::Sd, 0);
+    assert!(rt;
+        shapes == 558 && longest == 18,
+        "{shapes} shapes, {longest} outcomes"
     );
+    let outcomes = outcomes_of::<SdTable>(0x3107, &send(55, Aim::Rca, 0, 0));
+    assert!(rt; outcomes == 18, "{outcomes} outcomes");
 }

@@ -15,13 +15,23 @@ use std::alloc::Global;
 ///
 /// Only [`FileImage::finish`] writes all of them back. An image that is dropped leaves the file without the changes
 /// that were not written back.
-#[derive(Drop)]
 pub struct FileImage<F: BlockFile> {
     file: F,
     buffers: Vec<Buffer>,
     order: Order,
     ghost count: { vec_len buffers ≡ 16 },
     ghost sound: { AreSound buffers.items (F.byte_count file / 512) (F.blocks file) },
+}
+
+impl<F: BlockFile + Drop> Drop for FileImage<F> {
+    // One call where an image is let go: the proofs of those who do need not go through its parts.
+    fn drop(self) {
+        let FileImage {
+            file: _file,
+            buffers: _buffers,
+            order: _order,
+        } = self;
+    }
 }
 
 impl<F: BlockFile + Drop> FileImage<F> {
@@ -111,16 +121,21 @@ impl<F: BlockFile> FileImage<F> {
     {
         let mut image = self;
         match image.write_all_back() {
-            Ok(()) => {
-                let FileImage {
-                    file,
-                    buffers: _,
-                    order: _,
-                } = image;
-                Ok(file)
-            }
+            Ok(()) => Ok(image.into_file()),
             Err(fault) => Err((image, fault)),
         }
+    }
+
+    // The file, without what was not written back.
+    fn into_file(self) -> F
+        ensures { result ≡ file_of self }
+    {
+        let FileImage {
+            file,
+            buffers: _buffers,
+            order: _order,
+        } = self;
+        file
     }
 
     /// Gives up the buffer that was used least recently, and says which.

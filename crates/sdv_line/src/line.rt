@@ -9,7 +9,7 @@ ghost use Rattle.clap.specs.declared.error.kind.ErrorKind.TheVariants.{OutOfMemo
 ghost use Rattle.sdv_line.specs.CommandLine.{batch_request, explain_request};
 ghost use Rattle.sdv_line.specs.CommandLine.{graph_request, print_request};
 ghost use Rattle.sdv_line.specs.CommandLine.{certify_request, check_request, command_line};
-ghost use Rattle.sdv_line.specs.CommandLine.{frame_request, meaning_of, program_shape, request_in, request_of, required, running_line};
+ghost use Rattle.sdv_line.specs.CommandLine.{frame_request, meaning_of, option, program_shape, request_in, request_of, required, running_line};
 ghost use Rattle.sdv_line.specs.CommandLine.{run_command, run_files_command, run_request};
 
 use clap::error::ErrorKind;
@@ -197,13 +197,23 @@ fn of_two_words<'a>(
     with_word(alloc, of_one_word(alloc, name, first), second)
 }
 
+// The command with one option more, whose value is a word, where there was memory for the command.
+fn with_option<'a>(
+    alloc: Global,
+    command: Result<Command<'a>, AllocError>,
+    name: &'a str,
+) -> Result<Command<'a>, AllocError>
+    ensures { (app : App) → IfOk command.entry (λ given. app_of given ≡ app)
+        → IfOk result (λ more. app_of more ≡ with_rule app (option name.entry.now name.entry.now)) }
+{
+    command?.arg(Arg::new(alloc, name).long(name))
+}
+
 fn run_command<'a>(alloc: Global) -> Result<Command<'a>, AllocError>
     ensures { IfOk result (λ command. app_of command ≡ run_command) }
 {
-    run_files_command(alloc)?
-        .arg(Arg::new(alloc, "SCHEDULE"))?
-        .arg(Arg::new(alloc, "in").long("in"))?
-        .arg(Arg::new(alloc, "out").long("out"))
+    let command = run_files_command(alloc)?.arg(Arg::new(alloc, "SCHEDULE"));
+    with_option(alloc, with_option(alloc, command, "in"), "out")
 }
 
 // The files that every run needs.

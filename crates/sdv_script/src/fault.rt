@@ -40,7 +40,7 @@ pub struct ScriptFault {
 }
 
 /// Why reading stopped.
-#[derive(Drop)]
+#[derive(Clone, Copy)]
 pub enum Stop {
     /// Memory ran out.
     Memory,

@@ -4,7 +4,7 @@ ghost use Rattle.std.specs.Prelude.{◌≡◌, ◌<◌, ◌^◌, length, All, Ma
 ghost use Rattle.sdv_card.specs.Card.{IsByte, IsRegister};
 ghost use Rattle.sdv_description.specs.Layout.{image_size};
 ghost use Rattle.sdv_behavior.specs.Schedules.{are_codes};
-ghost use Rattle.sdv_sim.specs.SimOf.{image_of, state_of};
+ghost use Rattle.sdv_sim.specs.SimOf.{state_of};
 ghost use Rattle.sdv_sim.specs.Made.{IsMade, IsRefused, IsUnread};
 
 use crate::schedule::Schedule;
@@ -72,20 +72,5 @@ impl<I: Image + Drop> Sim<I> {
             }),
             Err(_) => Err(SimFault::Memory),
         }
-    }
-}
-
-impl<I: Image> Sim<I> {
-    /// Gives the image back.
-    pub fn into_image(self) -> I
-        ensures { result ≡ image_of self }
-    {
-        let Sim {
-            desc: _,
-            card: _,
-            schedule: _,
-            image,
-        } = self;
-        image
     }
 }

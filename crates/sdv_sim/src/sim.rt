@@ -9,11 +9,39 @@ use sdv_description::CardDesc;
 use sdv_image::Image;
 
 /// A simulated card over an image.
-#[derive(Drop)]
 pub struct Sim<I: Image> {
     pub(crate) desc: CardDesc,
     pub(crate) card: CardState,
     pub(crate) schedule: Schedule,
     pub(crate) image: I,
     ghost sized: { I.size image ≡ image_size desc },
+}
+
+impl<I: Image + Drop> Drop for Sim<I> {
+    // One call where a card is let go: the proofs of those who do need not go through its parts.
+    fn drop(self) {
+        let Sim {
+            desc: _,
+            card: _,
+            schedule: _schedule,
+            image: _image,
+        } = self;
+    }
+}
+
+impl<I: Image> Sim<I> {
+    ghost use Rattle.sdv_sim.specs.SimOf.{image_of};
+
+    /// Gives the image back.
+    pub fn into_image(self) -> I
+        ensures { result ≡ image_of self }
+    {
+        let Sim {
+            desc: _,
+            card: _,
+            schedule: _schedule,
+            image,
+        } = self;
+        image
+    }
 }

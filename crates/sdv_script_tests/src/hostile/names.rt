@@ -101,10 +101,19 @@ pub fn name_of_run(outcome: &Result<End, RunFault>) -> &str {
 }
 
 /// How often each name came, in the order in which they came first.
-#[derive(Drop)]
 pub struct Counts {
     names: Vec<(String, usize)>,
     alloc: Global,
+}
+
+impl Drop for Counts {
+    // One call where counts are let go: the proofs of those who do need not go through its parts.
+    fn drop(self) {
+        let Counts {
+            names: _names,
+            alloc: _,
+        } = self;
+    }
 }
 
 impl Counts {

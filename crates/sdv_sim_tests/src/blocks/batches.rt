@@ -30,7 +30,7 @@ static BOUNDS: [(Kind, &[Request], u64); 4] = [
 fn bounds(rt: HostRuntime) {
     for row in BOUNDS.iter() {
         let bound = bound(&rt, rt.alloc(), row.0, row.1);
-        assert_eq!(rt; bound, row.2);
+        assert!(rt; bound == row.2, "{bound}");
     }
 }
 
