@@ -217,7 +217,8 @@ fn certify_into<R: Files + AllocGlobal + Abort>(rt: &R, room: usize) {
     };
     let status = if room == CERTIFICATE.len() { 0 } else { 2 };
     answer(rt, &["certify", "printed.sdv"], status, &mut out, &mut err);
-    assert!(rt; out.taken.len() == room && CERTIFICATE.as_bytes().starts_with(&out.taken));
+    let is_front = CERTIFICATE.as_bytes().starts_with(&out.taken);
+    assert!(rt; out.taken.len() == room && is_front, "at {room}");
     assert!(rt; err.is_empty());
 }
 
