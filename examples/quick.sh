@@ -1,0 +1,52 @@
+#!/bin/sh
+# sh examples/quick.sh
+#
+# A first look, in about two minutes on a new machine. It compiles the program without proving anything, and shows a script
+# that is refused, with the reason; the bring-up of an SD card that is accepted; and the run of that bring-up beside a
+# simulated card. `make build` proves the program.
+set -eu
+top=$(cd "$(dirname "$0")/.." && pwd)
+export PATH="/opt/rattle/bin:$PATH"
+command -v rt > /dev/null || { echo "rt is not on the path: README.md says where the toolchain comes from" >&2; exit 2; }
+
+cases=$(mktemp -d)
+trap 'rm -rf "$cases"' EXIT
+
+# words NAME WORD..: a call of the program with these words
+words() {
+    : > "$cases/$1"
+    printf '%s\n' "$2" $3 > "$cases/$1.args"
+}
+words 1 explain "refused_block_address.sdv"
+words 2 check "sd_bring_up.sdv sd_bring_up.cert"
+words 3 run "sd_bring_up.sdv sd_bring_up.cert sd_block.card new:1024"
+
+data=""
+for name in refused_block_address.sdv sd_bring_up.sdv sd_bring_up.cert sd_block.card; do
+    data="$data --data $name=$top/examples/$name"
+done
+
+echo "Compiling the program. Nothing is proved on the way. This takes about two minutes."
+# shellcheck disable=SC2086
+(cd "$top/crates/sdv" && rt try --cases "$cases" $data) > "$cases/said" 2>&1 || true
+
+# part NUMBER: what the program printed in this case
+part() {
+    sed -n "/^== $1\$/,/^case=$1 /p" "$cases/said" | sed '1d;$d'
+}
+part 3 | grep -q '^done$' || { cat "$cases/said"; exit 1; }
+
+echo
+echo "A read of block 8 by its number, whatever unit the card's addresses have, is refused:"
+echo "  sdv explain examples/refused_block_address.sdv"
+part 1 | sed -n '/^refused/,$p' | sed '$d; s/^/    /'
+echo
+echo "The bring-up of an SD card is accepted: no run of it sends more than 2,007 commands."
+echo "  sdv check examples/sd_bring_up.sdv examples/sd_bring_up.cert"
+part 2 | sed 's/^/    /'
+echo
+echo "It runs beside a simulated card of 1,024 blocks:"
+echo "  sdv run examples/sd_bring_up.sdv examples/sd_bring_up.cert examples/sd_block.card new:1024"
+part 3 | sed 's/^/    /'
+echo
+echo "Nothing was proved. 'make build' proves the program and leaves it as crates/sdv/out/sdv."
