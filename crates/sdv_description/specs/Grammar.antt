@@ -80,3 +80,7 @@ in_ranges (EmmcBlocks sectors boot) = nat_le 1 sectors && nat_le sectors 4294967
 pub record IsTextOf (read : Description) (text : List ℕ) : Type 0 where
   pub lines : HasLines (lines_of read) text
   pub ranges : IsTrue (in_ranges read)
+
+-- a text is that of one description at most
+abbrev pub OneDescription : Type 0
+OneDescription = (text : List ℕ) (a b : Description) → IsTextOf a text → IsTextOf b text → a ≡ b

@@ -9,6 +9,7 @@ mod card_desc;
 mod csd;
 mod describing;
 mod description;
+pub mod laws;
 mod layout;
 mod reading;
 
