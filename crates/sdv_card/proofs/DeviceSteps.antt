@@ -1,5 +1,5 @@
 -- The example of e.MMC: a device is brought up, and its EXT_CSD is read.
-use Rattle.std.proofs.Common.{◌≡◌, inl, refl, true, false, IsTrue, ℕ, List, [], ◌∷◌, replicate, Option, Some, None, lit<, lit≤}
+use Rattle.std.proofs.Common.{◌≡◌, inl, refl, true, false, IsTrue, ℕ, List, [], ◌∷◌, ◌++◌, replicate, Option, Some, None, lit<, lit≤}
 use Rattle.std.proofs.lemmas.List.Elements.{All-append, All-replicate}
 use Rattle.sdv_registers.specs.declared.kind.Kind.TheVariants.{Emmc}
 use Rattle.sdv_frames.specs.Bits.{bits, bits_of, number_of}
@@ -20,13 +20,13 @@ use Rattle.sdv_card.specs.StateTable.{rows, ◌to◌}
 use Rattle.sdv_card.specs.RowRules.{may_reach, app_after, erase_after, preset_after, mode_after, may_switch, transfer_after}
 use Rattle.sdv_card.specs.Modes.{first_mode}
 use Rattle.sdv_card.specs.CommandTable.{order_of}
-use Rattle.sdv_card.specs.Card.{Card, IsRegister, AreBlocks, ContentsFit, IsByte, Block}
+use Rattle.sdv_card.specs.Card.{Card, IsRegister, AreBlocks, ContentsFit, IsByte, Block, Partitions}
 use Rattle.sdv_card.specs.Phases.{◌with◌}
 use Rattle.sdv_card.specs.Taken.{Taken, RcaAfter, LengthAfter, BlocksAfter, ContentsAfter}
 use Rattle.sdv_card.specs.Host.{Host}
-use Rattle.sdv_card.specs.Profile.{IsAtStart, host_at_start}
+use Rattle.sdv_card.specs.Profile.{IsAtStart, IsOfProfile, host_at_start}
 use Rattle.sdv_card.specs.BringUp.{Happens, command}
-use Rattle.sdv_card.specs.EmmcBringUp.{device_csd, device_cid, device_ext_csd, example_device, read_ext_csd, DeviceBringUpHappens}
+use Rattle.sdv_card.specs.EmmcBringUp.{device_csd, device_cid, device_ext_csd, example_device, read_ext_csd, DeviceBringUpHappens, boot_ext_csd, boot_device}
 use Rattle.sdv_card.proofs.Steps.{happens, first, made, bytes_fit, no_boot_blocks}
 use Rattle.sdv_card.proofs.ExampleAnswers.{no_error, no_blocks}
 
@@ -313,6 +313,49 @@ at_start cs blocks = record {
   transfer = refl;
   mode = refl;
   unshown_error = refl;
+}
+
+-- A DEVICE WITH BOOT PARTITIONS
+
+boot_ext_csd_fits : IsRegister 512 boot_ext_csd
+boot_ext_csd_fits = record {
+  size = refl;
+  bytes_fit = All-append IsByte (replicate 212 0) (0 ∷ 4 ∷ 0 ∷ 0 ∷ (replicate 10 0 ++ (1 ∷ replicate 285 0))) (All-replicate IsByte 212 0 (lit< tt))
+      (All-append IsByte (0 ∷ 4 ∷ 0 ∷ 0 ∷ []) (replicate 10 0 ++ (1 ∷ replicate 285 0))
+      (bytes_fit (0 ∷ 4 ∷ 0 ∷ 0 ∷ []) (lit< tt, (lit< tt, (lit< tt, (lit< tt, tt)))))
+      (All-append IsByte (replicate 10 0) (1 ∷ replicate 285 0) (All-replicate IsByte 10 0 (lit< tt))
+      (All-append IsByte (1 ∷ []) (replicate 285 0) (bytes_fit (1 ∷ []) (lit< tt, tt)) (All-replicate IsByte 285 0 (lit< tt)))));
+}
+
+boot_contents : (contents : Partitions) → AreBlocks 1024 contents.user → AreBlocks 256 contents.boot_1 → AreBlocks 256 contents.boot_2 →
+    ContentsFit (boot_device contents)
+boot_contents contents user boot_1 boot_2 User = user
+boot_contents contents user boot_1 boot_2 Boot1 = boot_1
+boot_contents contents user boot_1 boot_2 Boot2 = boot_2
+
+pub of_profile : (contents : Partitions) → AreBlocks 1024 contents.user → AreBlocks 256 contents.boot_1 → AreBlocks 256 contents.boot_2 →
+    IsOfProfile (boot_device contents)
+unfolding bits bits_of number_of
+of_profile contents user boot_1 boot_2 = record {
+  card = record {
+    csd = csd_fits;
+    cid = cid_fits;
+    registers = boot_ext_csd_fits;
+    address = (1, refl, lit< tt, lit< tt);
+    transfer = refl;
+    kind_rules = refl;
+    block_length = refl;
+    mode = refl;
+    preset = lit< tt;
+    announced = lit< tt;
+    contents = boot_contents contents user boot_1 boot_2;
+  };
+  version = tt;
+  least = lit≤ tt;
+  most = lit≤ tt;
+  readable = refl;
+  told = refl;
+  told_boot = refl;
 }
 
 -- THE WHOLE

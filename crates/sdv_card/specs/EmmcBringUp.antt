@@ -11,10 +11,10 @@ use Rattle.sdv_card.specs.declared.state.Partition.TheVariants.{Boot1}
 use Rattle.sdv_card.specs.declared.event.Aim.TheVariants.{Rca, Plain}
 use Rattle.sdv_card.specs.declared.answer.Answer.TheVariants.{Sent, Reply as Replied}
 use Rattle.sdv_card.specs.declared.answer.DataEnd.TheVariants.{Ok}
-use Rattle.sdv_card.specs.Card.{Card, Block, AreBlocks}
+use Rattle.sdv_card.specs.Card.{Card, Block, Partitions, AreBlocks}
 use Rattle.sdv_card.specs.Modes.{first_mode}
 use Rattle.sdv_card.specs.ScriptEvent.{ReceiveRegister, RegisterIn}
-use Rattle.sdv_card.specs.Profile.{IsAtStart, host_at_start}
+use Rattle.sdv_card.specs.Profile.{IsAtStart, IsOfProfile, host_at_start}
 use Rattle.sdv_card.specs.Legal.{InBounds}
 use Rattle.sdv_card.specs.BringUp.{Happening, AllHappen, command, read_at}
 
@@ -83,12 +83,24 @@ pub record DeviceBringUpHappens : Type 0 where
   pub all : (contents : List Block) →
       AllHappen device_bring_up (example_device contents) (host_at_start 0) (selected_device contents)
 
--- a device with boot partitions of 256 blocks each, the first of them in access
-abbrev pub boot_device : List Block → Card
-boot_device contents =
-    record (selected_device contents) { boot_capacity = 256; mode = record first_mode { partition = Boot1 } }
+-- the same EXT_CSD with BOOT_SIZE_MULT 1, in byte 226: two boot partitions of 256 blocks each
+abbrev pub boot_ext_csd : List ℕ
+boot_ext_csd = replicate 212 0 ++ (0 ∷ 4 ∷ 0 ∷ 0 ∷ (replicate 10 0 ++ (1 ∷ replicate 285 0)))
 
--- the last block of the partition in access is in bounds, and the one after it is not, though the user area has it
+-- a device with these partitions when it is selected, with the first boot partition in access
+abbrev pub boot_device : Partitions → Card
+boot_device contents =
+    record (selected_device contents.user) {
+      boot_capacity = 256;
+      ext_csd = boot_ext_csd;
+      mode = record first_mode { partition = Boot1 };
+      contents = contents;
+    }
+
+-- it is a device of the profile; the last block of the partition in access is in bounds, and the one after it is not,
+-- though the user area has it
 pub record BootBlockIsBound : Type 0 where
-  pub last : (contents : List Block) → InBounds (read_at 255 255) (boot_device contents)
-  pub next : (contents : List Block) → InBounds (read_at 256 256) (boot_device contents) → ⊥
+  pub device : (contents : Partitions) → AreBlocks 1024 contents.user → AreBlocks 256 contents.boot_1 →
+      AreBlocks 256 contents.boot_2 → IsOfProfile (boot_device contents)
+  pub last : (contents : Partitions) → InBounds (read_at 255 255) (boot_device contents)
+  pub next : (contents : Partitions) → InBounds (read_at 256 256) (boot_device contents) → ⊥

@@ -57,7 +57,7 @@ pub fn lines_must_agree()
     ensures { LinesMustAgree }
 {}
 
-/// In bounds goes by the partition in access.
+/// In bounds goes by the partition in access, at a device of the profile that has boot partitions.
 pub fn boot_block_is_bound()
     ensures { BootBlockIsBound }
 {}
