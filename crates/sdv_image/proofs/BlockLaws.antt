@@ -1,18 +1,9 @@
 -- Blocks of an image that are read and written one after another.
-use Rattle.std.proofs.Common.{◌≡◌, ◌⊎◌, ℕ, zero, suc, ◌<◌, ◌≤◌, ◌+◌, ◌-◌, ◌^◌, inl, inr, refl, sym, ap, subst, ◌∙◌, List, [], ◌∷◌, ◌++◌, length, take, drop, Option, Some, None, arith, add-one, get_or, set, replicate, length-append, length-take-le}
+use Rattle.std.proofs.Common.{◌≡◌, ◌⊎◌, ℕ, zero, suc, ◌<◌, ◌≤◌, ◌+◌, ◌-◌, inl, inr, refl, sym, ap, subst, ◌∙◌, List, [], ◌∷◌, ◌++◌, length, take, drop, Option, Some, None, arith, add-one, get_or, set, replicate, length-append, length-take-le}
 use Rattle.std.proofs.lemmas.List.{drop-drop, drop-take, take_more_set, length-replicate}
 use Rattle.std.proofs.Math.Seq.{take-add, take-suc}
-use Rattle.std.proofs.Math.Nat.{eq-or-lt_of_le}
 use Rattle.sdv_card.specs.Card.{Block}
-use Rattle.sdv_image.specs.Images.{HasFailed, Shown, OnlyThese, OnlyAt, zeros}
-
--- A failure after some calls is one of all of them.
-pub failed_later : (a b c : ℕ) → a ≤ b → b ≤ c → HasFailed b c → HasFailed a c
-failed_later a b c h i (inl f) = inl (omega (arith, h, f))
-failed_later a b c h i (inr f) = elim (eq-or-lt_of_le (at_most a b h f.0)) [ inl e ↦ inr (e, f.1) | inr l ↦ inl (let m = f.1 in omega (arith, l, m)) ]
-  where
-    at_most : (a b : ℕ) → a ≤ b → b ≡ 2 ^ 64 - 1 → a ≤ 2 ^ 64 - 1
-    at_most a b h f = omega (arith, h, f)
+use Rattle.sdv_image.specs.Images.{Shown, OnlyThese, OnlyAt, ErasedUpTo, zeros}
 
 -- no blocks are shown by any image
 pub shown_none : (first : ℕ) (b : Option (List Block)) → Shown first [] b
@@ -73,6 +64,15 @@ only_more first count place (Some a) b c l r x y = go (subst (λ v. OnlyAt place
     go : OnlyAt place 1 (Some x.0) c → OnlyAt first count (Some a) c
     go y = (y.0, y.1, only_both first count place a x.0 y.0 l r x.2 y.2)
 
+-- more blocks than those may be others
+pub only_wider : (first count more : ℕ) (a b : Option (List Block)) → count ≤ more → OnlyAt first count a b → OnlyAt first more a b
+only_wider first count more None b h o = o
+only_wider first count more (Some a) b h o = (
+  o.0,
+  o.1,
+  record { size = o.2.size; below = o.2.below; above = further (first + more) (first + count) a o.0 (omega (arith, h)) o.2.above },
+)
+
 -- ONE TURN of a loop over blocks
 
 pub read_more : (first i : ℕ) (blocks : List Block) (b : Block) (shown now : Option (List Block)) → i < length blocks → Shown first (take i blocks) shown →
@@ -127,15 +127,28 @@ erase_more first place old new h before only k =
     (shown_kept first 1 (zeros (place - first)) old new (subst (λ v. OnlyAt v 1 old new) n only) before)
     (subst (λ v. Shown v (replicate 512 0 ∷ []) new) n k)))
 
+-- the write at a place failed
+pub erase_cut : (first end place : ℕ) (start old new : Option (List Block)) → first ≤ place → place < end → Shown first (zeros (place - first)) old →
+    OnlyAt first (place - first) start old → OnlyAt place 1 old new → ErasedUpTo first end start new
+erase_cut first end place start old new h below before others only =
+    let n : place ≡ first + length (zeros (place - first)) = let l = length-zeros (place - first) in omega (arith, h, l) in
+    record {
+      place = place;
+      from = h;
+      below = below;
+      zeroed = shown_kept first 1 (zeros (place - first)) old new (subst (λ v. OnlyAt v 1 old new) n only) before;
+      others = only_more first (place - first + 1) place start old new h (omega (arith, h))
+          (only_wider first (place - first) (place - first + 1) start old (omega arith) others) only;
+    }
+
 le-or-lt : (a b : ℕ) → (a ≤ b) ⊎ (b < a)
 le-or-lt zero b = inl (omega arith)
 le-or-lt (suc a) zero = inr (omega arith)
 le-or-lt (suc a) (suc b) = elim (le-or-lt a b) [ inl h ↦ inl (omega (arith, h)) | inr h ↦ inr (omega (arith, h)) ]
 
-pub erase_all : (first end place : ℕ) (b : Option (List Block)) → end ≤ place → (first ≤ end → place ≤ end) → (end < first → place ≡ first) →
-    Shown first (zeros (place - first)) b → Shown first (zeros (end - first)) b
-erase_all first end place b low high none s =
-    subst (λ n. Shown first (zeros n) b) (elim (le-or-lt first end) [ inl l ↦ reached (high l) | inr l ↦ empty l (none l) ]) s
+-- where the loop ends
+pub erased_count : (first end place : ℕ) → end ≤ place → (first ≤ end → place ≤ end) → (end < first → place ≡ first) → place - first ≡ end - first
+erased_count first end place low high none = elim (le-or-lt first end) [ inl l ↦ reached (high l) | inr l ↦ empty l (none l) ]
   where
     reached : place ≤ end → place - first ≡ end - first
     reached h = omega (arith, h, low)

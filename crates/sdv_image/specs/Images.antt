@@ -1,5 +1,5 @@
 -- What calls of an image leave of its blocks, and when they may fail.
-use Rattle.std.specs.Prelude.{◌≡◌, ◌<◌, ◌⊎◌, ◌+◌, ◌-◌, ◌^◌, ℕ, List, length, take, drop, replicate, Option, Some, None, IfSome}
+use Rattle.std.specs.Prelude.{◌≡◌, ◌<◌, ◌≤◌, ◌⊎◌, ◌+◌, ◌-◌, ◌^◌, ℕ, List, length, take, drop, replicate, Option, Some, None, IfSome}
 use Rattle.sdv_card.specs.Card.{Block, AreBlocks}
 
 -- a call failed: the count of failures rose, or it stands at its greatest
@@ -28,3 +28,11 @@ AreSized size shown = IfSome shown (AreBlocks size)
 -- so many blocks of zeros
 unfoldable pub zeros : ℕ → List Block
 zeros count = replicate count (replicate 512 0)
+
+-- an erase that a failure ended at a block: zeros before it, anything in it, and every other block as it was
+pub record ErasedUpTo (first end : ℕ) (old new : Option (List Block)) : Type 0 where
+  pub place : ℕ
+  pub from : first ≤ place
+  pub below : place < end
+  pub zeroed : Shown first (zeros (place - first)) new
+  pub others : OnlyAt first (place - first + 1) old new

@@ -1,6 +1,6 @@
 //! Images, the blocks of a simulated card.
 
-ghost use Rattle.std.specs.Prelude.{◌≡◌, ◌<◌, ◌≤◌, ◌^◌, ◌∷◌, [], ℕ, List, Option, OnOk, OnErr};
+ghost use Rattle.std.specs.Prelude.{◌≡◌, ◌<◌, ◌∷◌, [], ℕ, List, Option, OnOk, OnErr};
 ghost use Rattle.sdv_card.specs.Card.{Block};
 ghost use Rattle.sdv_image.specs.Images.{HasFailed, Shown, OnlyAt, AreSized};
 
@@ -11,7 +11,8 @@ pub struct ImageFault;
 /// The blocks of a card, of 512 bytes each.
 ///
 /// An image shows its blocks to contracts, or it claims nothing of them, as one over a file of which nobody knows who
-/// else writes it. A call answers a fault only where the count of failures rose in it, or stands at its greatest.
+/// else writes it. A call that answers a fault raises the count of failures, unless that stands at its greatest; a call
+/// that answers none leaves it.
 pub trait Image {
     /// How many blocks it has.
     ghost size: { Self → ℕ };
@@ -34,7 +35,7 @@ pub trait Image {
         ensures same { blocks self.new ≡ blocks self.old }
         ensures read { OnOk result (Shown place (block.new ∷ []) (blocks self.old)) }
         ensures fault { OnErr result (HasFailed (failed self.old) (failed self.new)) }
-        ensures count { failed self.old ≤ failed self.new };
+        ensures no_fault { OnOk result (failed self.new ≡ failed self.old) };
 
     /// Writes a block, which is below the length. Where that fails, the block holds anything. No other block changes.
     fn write_block(&mut self, place: u64, block: &[u8; 512]) -> Result<(), ImageFault>
@@ -44,7 +45,7 @@ pub trait Image {
         ensures others { OnlyAt place 1 (blocks self.old) (blocks self.new) }
         ensures fit { AreSized (size self.old) (blocks self.old) → AreSized (size self.new) (blocks self.new) }
         ensures fault { OnErr result (HasFailed (failed self.old) (failed self.new)) }
-        ensures count { failed self.old ≤ failed self.new };
+        ensures no_fault { OnOk result (failed self.new ≡ failed self.old) };
 
     /// How many of its calls failed: at 2^64 - 1 the count stays.
     fn failures(&self) -> u64

@@ -9,6 +9,6 @@ loop-i-preserved g c =
     record {
       size = e.size ∙ inv.size;
       same = e.same ∙ inv.same;
-      count = omega arith;
+      failed = e.no_fault ∙ inv.failed;
       read = read_more c.args.first c.loop-i.i c.loop-i.blocks c.read_block.new.block _ _ (omega arith) inv.read inv.same e.read;
     }

@@ -12,7 +12,7 @@ loop-i-preserved g c =
     let e = c.in_ok-write_block.ensures in
     record {
       size = e.size ∙ inv.size;
-      count = omega arith;
+      failed = e.no_fault ∙ inv.failed;
       written = write_more c.args.first c.loop-i.i _ _ _ _ (omega arith) refl inv.written e.others e.written;
       others = only_more c.args.first _ (c.args.first + c.loop-i.i) _ _ _ (omega arith) (omega arith) inv.others e.others;
       fit = λ h. e.fit (inv.fit h);
