@@ -7,7 +7,7 @@ use Rattle.sdv_card.specs.Card.{Block, IsByte, IsRegister}
 use Rattle.sdv_image.specs.Images.{AreSized}
 use Rattle.sdv_file_image.specs.declared.buffer.Held.TheVariants.{Changed}
 use Rattle.sdv_file_image.specs.declared.buffer.Buffer.{Buffer}
-use Rattle.sdv_file_image.specs.Buffers.{place_of, no_buffer, buffer_at, block_shown, blocks_from, shown_over, written_back, HasPlace, AreSound}
+use Rattle.sdv_file_image.specs.Buffers.{place_of, no_buffer, buffer_at, block_shown, blocks_from, shown_over, written_back, HasPlace, AreSound, IsUnwritten}
 use Rattle.sdv_file_image.proofs.ShownLaws.{place_cases, same_place, other_place, length-blocks_from, at_place}
 use Rattle.sdv_file_image.proofs.SoundLaws.{set_beside}
 use Rattle.sdv_file_image.proofs.FindLaws.{has_index}
@@ -68,6 +68,9 @@ module _ (bs : List Buffer) (e : bs ≡ replicate 16 no_buffer) where
   pub shown_empty : (file : Option (List Block)) → shown_over bs file ≡ file
   shown_empty None = refl
   shown_empty (Some all) = ap (λ (l : List Block). Some l) (all_agree bs all (λ place i p. absurd (no_place i place p)))
+
+  pub none_unwritten : (place : ℕ) → IsUnwritten bs place → ⊥
+  none_unwritten place (i, u) = no_place i place (ap place_of u)
 
   zeros_fit : IsRegister 512 (replicate 512 0)
   zeros_fit = record { size = length-replicate {A = ℕ} 512 0; bytes_fit = All-replicate IsByte 512 0 (omega arith) }

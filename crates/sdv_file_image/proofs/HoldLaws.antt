@@ -19,7 +19,7 @@ held_unchanged Nothing q e n = let clash : None ≡ Some q = e in absurd (cc)
 held_unchanged (Unchanged p) q e n = let same : p ≡ q = cc in ap (λ (k : ℕ). Unchanged k) same
 held_unchanged (Changed p) q e n = absurd (n p refl)
 
-not_changed : (held : Held) (p : ℕ) → unchanged held ≡ Changed p → ⊥
+pub not_changed : (held : Held) (p : ℕ) → unchanged held ≡ Changed p → ⊥
 not_changed Nothing p e = cc
 not_changed (Unchanged q) p e = cc
 not_changed (Changed q) p e = cc

@@ -5,4 +5,5 @@ mod ImageLaws
 mod OrderLaws
 mod ShownLaws
 mod SoundLaws
+mod UnwrittenLaws
 mod WriteLaws

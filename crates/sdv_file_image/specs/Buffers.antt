@@ -74,6 +74,10 @@ written_back buffer = record { held = unchanged buffer.held; block = buffer.bloc
 abbrev pub NoMorePlaces : (old new : List Buffer) → Type 0
 NoMorePlaces old new = (index place : ℕ) → HasPlace new index place → HasPlace old index place
 
+-- the block at a place changed, and the file has not got it yet
+abbrev pub IsUnwritten : List Buffer → (place : ℕ) → Type 0
+IsUnwritten buffers place = (index : ℕ) × ((buffer_at buffers index).held ≡ Changed place)
+
 -- a buffer is empty or has the block at a place, and no other buffer has that block
 pub record IsFreeFor (buffers : List Buffer) (index place : ℕ) : Type 0 where
   pub own : (held : ℕ) → HasPlace buffers index held → held ≡ place

@@ -1,6 +1,6 @@
 //! Files of blocks.
 
-ghost use Rattle.std.specs.Prelude.{◌≡◌, ◌<◌, ◌≤◌, ◌/◌, ◌∷◌, [], ℕ, List, Option, OnOk, OnErr};
+ghost use Rattle.std.specs.Prelude.{◌≡◌, ◌<◌, ◌/◌, ◌∷◌, [], ℕ, List, Option, OnOk, OnErr};
 ghost use Rattle.sdv_card.specs.Card.{Block};
 ghost use Rattle.sdv_image.specs.Images.{HasFailed, Shown, OnlyAt, AreSized};
 
@@ -9,7 +9,8 @@ use sdv_image::ImageFault;
 /// A file that is read and written a block of 512 bytes at a time. A place is the number of a block.
 ///
 /// A file shows its blocks to contracts, or it claims nothing of them, as one of which nobody knows who else writes it.
-/// A call answers a fault only where the count of failures rose in that call, or stands at its greatest.
+/// A call that answers a fault raises the count of failures, unless that stands at its greatest; a call that answers
+/// none leaves it.
 pub trait BlockFile {
     /// How many bytes it has.
     ghost byte_count: { Self → ℕ };
@@ -32,7 +33,7 @@ pub trait BlockFile {
         ensures same { blocks self.new ≡ blocks self.old }
         ensures read { OnOk result (Shown place (block.new ∷ []) (blocks self.old)) }
         ensures fault { OnErr result (HasFailed (failed self.old) (failed self.new)) }
-        ensures count { failed self.old ≤ failed self.new };
+        ensures no_fault { OnOk result (failed self.new ≡ failed self.old) };
 
     /// Writes a block, which is a whole one of the file. Where that fails, the block holds anything. No other block
     /// changes.
@@ -44,7 +45,7 @@ pub trait BlockFile {
         ensures fit { AreSized (byte_count self.old / 512) (blocks self.old) →
             AreSized (byte_count self.new / 512) (blocks self.new) }
         ensures fault { OnErr result (HasFailed (failed self.old) (failed self.new)) }
-        ensures count { failed self.old ≤ failed self.new };
+        ensures no_fault { OnOk result (failed self.new ≡ failed self.old) };
 
     /// How many of its calls failed: at 2^64 - 1 the count stays.
     fn failures(&self) -> u64

@@ -1,7 +1,7 @@
 //! An image that is kept in a file.
 
-ghost use Rattle.std.specs.Prelude.{◌≡◌, ◌<◌, ◌≤◌, ◌/◌, ◌%◌, ℕ, vec_len, OnOk, OnErr, IfOk, IfErr, MatchResult, Some, option_map, [], ◌∷◌};
-ghost use Rattle.sdv_image.specs.Images.{HasFailed, Shown};
+ghost use Rattle.std.specs.Prelude.{◌≡◌, ◌≢◌, ◌<◌, ◌/◌, ◌%◌, ◌⊎◌, ℕ, vec_len, IsOk, OnOk, OnErr, IfOk, IfErr, MatchResult, Some, option_map, [], ◌∷◌};
+ghost use Rattle.sdv_image.specs.Images.{HasFailed, Shown, OnlyAt, AreSized};
 ghost use Rattle.sdv_file_image.specs.Buffers.{AreSound};
 
 use crate::block_file::BlockFile;
@@ -35,10 +35,10 @@ impl<F: BlockFile + Drop> Drop for FileImage<F> {
 }
 
 impl<F: BlockFile + Drop> FileImage<F> {
-    ghost use Rattle.sdv_file_image.specs.FileImages.{file_of, shown_of};
+    ghost use Rattle.sdv_file_image.specs.FileImages.{file_of, shown_of, IsWritten};
     ghost use Rattle.sdv_file_image.specs.Refused.{IsRefused};
 
-    /// An image over a file. Later calls take no memory.
+    /// An image over a file, of which no block is to be written back. Later calls take no memory.
     ///
     /// # Errors
     ///
@@ -46,7 +46,8 @@ impl<F: BlockFile + Drop> FileImage<F> {
     /// of them. The file is dropped then, its blocks unchanged.
     pub fn new(alloc: Global, file: F) -> Result<FileImage<F>, SimFault>
         ensures { MatchResult result
-            (λ image. (F.byte_count file % 512 ≡ 0) × (file_of image ≡ file) × (shown_of image ≡ F.blocks file))
+            (λ image. (F.byte_count file % 512 ≡ 0) × (file_of image ≡ file) × (shown_of image ≡ F.blocks file)
+            × IsWritten image)
             (IsRefused (F.byte_count file)) }
     {
         if file.bytes() % 512 != 0 {
@@ -65,8 +66,8 @@ impl<F: BlockFile + Drop> FileImage<F> {
 
 impl<F: BlockFile> FileImage<F> {
     ghost use Rattle.std.specs.Prelude.{slice_get, slice_set};
-    ghost use Rattle.sdv_file_image.specs.Buffers.{buffer_at, place_of, written_back, NoMorePlaces, IsFreeFor};
-    ghost use Rattle.sdv_file_image.specs.FileImages.{file_of, buffers_of, order_of, bytes_of, size_of, shown_of, failed_of};
+    ghost use Rattle.sdv_file_image.specs.Buffers.{buffer_at, place_of, written_back, NoMorePlaces, IsUnwritten, IsFreeFor};
+    ghost use Rattle.sdv_file_image.specs.FileImages.{file_of, buffers_of, order_of, bytes_of, size_of, shown_of, failed_of, IsWritten, NoMoreUnwritten};
     ghost use Rattle.sdv_file_image.specs.Orders.{used};
 
     /// Writes the block of a buffer back, where it changed.
@@ -77,8 +78,10 @@ impl<F: BlockFile> FileImage<F> {
         ensures written { let buffers = buffers_of self.old in
             OnOk result (buffers_of self.new ≡ slice_set buffers index (written_back (buffer_at buffers index))) }
         ensures kept { OnErr result (buffers_of self.new ≡ buffers_of self.old) }
+        ensures unchanged { ((place : ℕ) → (buffer_at (buffers_of self.old) index).held ≢ Held.Changed place) →
+            IsOk result × (file_of self.new ≡ file_of self.old) }
         ensures fault { OnErr result (HasFailed (failed_of self.old) (failed_of self.new)) }
-        ensures count { failed_of self.old ≤ failed_of self.new }
+        ensures no_fault { OnOk result (failed_of self.new ≡ failed_of self.old) }
     {
         let buffer = &mut self.buffers[index];
         if let Held::Changed(place) = buffer.held {
@@ -93,8 +96,10 @@ impl<F: BlockFile> FileImage<F> {
         ensures bytes { bytes_of self.new ≡ bytes_of self.old }
         ensures shown { shown_of self.new ≡ shown_of self.old }
         ensures written { OnOk result (F.blocks (file_of self.new) ≡ shown_of self.old) }
+        ensures unchanged { IsWritten self.old → IsOk result × (file_of self.new ≡ file_of self.old) }
+        ensures unwritten { NoMoreUnwritten self.old self.new }
         ensures fault { OnErr result (HasFailed (failed_of self.old) (failed_of self.new)) }
-        ensures count { failed_of self.old ≤ failed_of self.new }
+        ensures no_fault { OnOk result (failed_of self.new ≡ failed_of self.old) }
     {
         for index in 0..BUFFERS {
             self.write_back(index)?;
@@ -102,7 +107,7 @@ impl<F: BlockFile> FileImage<F> {
         Ok(())
     }
 
-    /// Writes all changed blocks back, and gives the file.
+    /// Writes all changed blocks back, and gives the file. Where no block changed, that is the file as it is.
     ///
     /// # Errors
     ///
@@ -114,10 +119,10 @@ impl<F: BlockFile> FileImage<F> {
         ensures shown { MatchResult result
             (λ file. F.blocks file ≡ shown_of self)
             (λ refused. shown_of refused.0 ≡ shown_of self) }
+        ensures unchanged { IsWritten self → result ≡ Ok (file_of self) }
+        ensures unwritten { IfErr result (λ refused. NoMoreUnwritten self refused.0) }
         ensures fault { IfErr result (λ refused. HasFailed (failed_of self) (failed_of refused.0)) }
-        ensures count { MatchResult result
-            (λ file. failed_of self ≤ F.failed file)
-            (λ refused. failed_of self ≤ failed_of refused.0) }
+        ensures no_fault { IfOk result (λ file. F.failed file ≡ failed_of self) }
     {
         let mut image = self;
         match image.write_all_back() {
@@ -146,8 +151,9 @@ impl<F: BlockFile> FileImage<F> {
         ensures least_recent { IfOk result (λ index. slice_get (order_of self.old) 0 ≡ Some index) }
         ensures empty { IfOk result (λ index. (buffer_at (buffers_of self.new) index).held ≡ Held.Nothing) }
         ensures places { NoMorePlaces (buffers_of self.old) (buffers_of self.new) }
+        ensures unwritten { NoMoreUnwritten self.old self.new }
         ensures fault { OnErr result (HasFailed (failed_of self.old) (failed_of self.new)) }
-        ensures count { failed_of self.old ≤ failed_of self.new }
+        ensures no_fault { OnOk result (failed_of self.new ≡ failed_of self.old) }
     {
         let index = self.order.least_recent();
         self.write_back(index)?;
@@ -161,8 +167,9 @@ impl<F: BlockFile> FileImage<F> {
         ensures shown { shown_of self.new ≡ shown_of self.old }
         ensures index { IfOk result (λ index. index < BUFFERS) }
         ensures free { IfOk result (λ index. IsFreeFor (buffers_of self.new) index place) }
+        ensures unwritten { NoMoreUnwritten self.old self.new }
         ensures fault { OnErr result (HasFailed (failed_of self.old) (failed_of self.new)) }
-        ensures count { failed_of self.old ≤ failed_of self.new }
+        ensures no_fault { OnOk result (failed_of self.new ≡ failed_of self.old) }
     {
         match find(&self.buffers, place) {
             Some(index) => Ok(index),
@@ -181,6 +188,8 @@ impl<F: BlockFile> FileImage<F> {
         ensures shown { (place : ℕ) → place_of held ≡ Some place →
             shown_of self.new ≡ option_map (λ blocks. slice_set blocks place block.now) (shown_of self.old) }
         ensures used { order_of self.new ≡ used (order_of self.old) index }
+        ensures unwritten { (place : ℕ) → IsUnwritten (buffers_of self.new) place →
+            (held ≡ Held.Changed place) ⊎ IsUnwritten (buffers_of self.old) place }
         ensures failed { failed_of self.new ≡ failed_of self.old }
     {
         let buffer = &mut self.buffers[index];
@@ -191,7 +200,7 @@ impl<F: BlockFile> FileImage<F> {
 }
 
 impl<F: BlockFile> Image for FileImage<F> {
-    ghost use Rattle.sdv_file_image.specs.FileImages.{size_of, shown_of, failed_of};
+    ghost use Rattle.sdv_file_image.specs.FileImages.{size_of, shown_of, failed_of, NoMoreUnwritten, OneMoreUnwritten};
 
     ghost size = { size_of };
 
@@ -203,7 +212,16 @@ impl<F: BlockFile> Image for FileImage<F> {
         self.file.bytes() / 512
     }
 
-    fn read_block(&mut self, place: u64, block: &mut [u8; 512]) -> Result<(), ImageFault> {
+    // A read asks for no write but that of the block whose buffer it takes.
+    fn read_block(&mut self, place: u64, block: &mut [u8; 512]) -> Result<(), ImageFault>
+        requires { place < size_of self.old }
+        ensures size { size_of self.new ≡ size_of self.old }
+        ensures same { shown_of self.new ≡ shown_of self.old }
+        ensures read { OnOk result (Shown place (block.new ∷ []) (shown_of self.old)) }
+        ensures unwritten { NoMoreUnwritten self.old self.new }
+        ensures fault { OnErr result (HasFailed (failed_of self.old) (failed_of self.new)) }
+        ensures no_fault { OnOk result (failed_of self.new ≡ failed_of self.old) }
+    {
         match find(&self.buffers, place) {
             Some(index) => {
                 *block = self.buffers[index].block;
@@ -218,7 +236,18 @@ impl<F: BlockFile> Image for FileImage<F> {
         Ok(())
     }
 
-    fn write_block(&mut self, place: u64, block: &[u8; 512]) -> Result<(), ImageFault> {
+    // Where it fails, no block changes.
+    fn write_block(&mut self, place: u64, block: &[u8; 512]) -> Result<(), ImageFault>
+        requires { place < size_of self.old }
+        ensures size { size_of self.new ≡ size_of self.old }
+        ensures written { OnOk result (Shown place (block.now ∷ []) (shown_of self.new)) }
+        ensures kept { OnErr result (shown_of self.new ≡ shown_of self.old) }
+        ensures others { OnlyAt place 1 (shown_of self.old) (shown_of self.new) }
+        ensures fit { AreSized (size_of self.old) (shown_of self.old) → AreSized (size_of self.new) (shown_of self.new) }
+        ensures unwritten { OneMoreUnwritten place self.old self.new }
+        ensures fault { OnErr result (HasFailed (failed_of self.old) (failed_of self.new)) }
+        ensures no_fault { OnOk result (failed_of self.new ≡ failed_of self.old) }
+    {
         let index = self.buffer_for(place)?;
         self.hold(index, Held::Changed(place), block);
         Ok(())

@@ -1,4 +1,4 @@
-use Rattle.std.proofs.Common.{◌≡◌, ◌∙◌, ◌∷◌, [], ℕ, List, Option, subst, ap, refl, option_map, set}
+use Rattle.std.proofs.Common.{◌≡◌, ◌∙◌, ◌∷◌, [], ℕ, List, Option, subst, ap, refl, inl, inr, option_map, set}
 use Rattle.sdv_card.specs.Card.{Block}
 use Rattle.sdv_image.specs.Images.{Shown}
 use Rattle.sdv_file_image.specs.declared.buffer.Buffer.{Buffer}
@@ -36,3 +36,9 @@ returns-in_ok-read_at-in-None-clause-same g c =
     ∙ (ap (λ (o : Option (List Block)). option_map (λ (blocks : List Block). set blocks c.args.place c.read_at.new.block)
     (shown_over c.make_room.new.self.buffers.items o)) c.read_at.ensures.same
     ∙ (put_same c.args.place c.read_at.new.block _ read ∙ c.make_room.ensures.shown))
+
+pub returns-in_ok-read_at-in-None-clause-unwritten : goal.returns-in_ok-read_at-in-None-clause-unwritten
+returns-in_ok-read_at-in-None-clause-unwritten g c = λ place u. elim (c.hold.ensures.unwritten place u) [
+  | inl clash ↦ absurd (cc)
+  | inr before ↦ c.make_room.ensures.unwritten place before
+]
