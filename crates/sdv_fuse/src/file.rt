@@ -1,6 +1,6 @@
 //! A file of which one call fails.
 
-ghost use Rattle.std.specs.Prelude.{◌≡◌, ◌<◌, ◌≤◌, ◌/◌, ◌∷◌, [], IsErr, OnOk, OnErr};
+ghost use Rattle.std.specs.Prelude.{◌≡◌, ◌<◌, ◌/◌, ◌∷◌, [], IsErr, OnOk, OnErr};
 ghost use Rattle.sdv_image.specs.Images.{HasFailed, Shown, OnlyAt, AreSized};
 
 use crate::fuse::{Call, Fuse};
@@ -35,8 +35,9 @@ impl<F: BlockFile> BlockFile for FuseFile<F> {
         ensures fault { OnErr result (HasFailed
             (failed_in_all (F.failed self.old.file) self.old.fuse)
             (failed_in_all (F.failed self.new.file) self.new.fuse)) }
-        ensures count { failed_in_all (F.failed self.old.file) self.old.fuse ≤
-            failed_in_all (F.failed self.new.file) self.new.fuse }
+        ensures no_fault { OnOk result
+            (failed_in_all (F.failed self.new.file) self.new.fuse
+            ≡ failed_in_all (F.failed self.old.file) self.old.fuse) }
         ensures fuse { self.new.fuse ≡ after Call.Read self.old.fuse }
         ensures due { IsDue Call.Read self.old.fuse → IsErr result × (self.new.file ≡ self.old.file) }
         ensures not_due { ¬ IsDue Call.Read self.old.fuse →
@@ -58,8 +59,9 @@ impl<F: BlockFile> BlockFile for FuseFile<F> {
         ensures fault { OnErr result (HasFailed
             (failed_in_all (F.failed self.old.file) self.old.fuse)
             (failed_in_all (F.failed self.new.file) self.new.fuse)) }
-        ensures count { failed_in_all (F.failed self.old.file) self.old.fuse ≤
-            failed_in_all (F.failed self.new.file) self.new.fuse }
+        ensures no_fault { OnOk result
+            (failed_in_all (F.failed self.new.file) self.new.fuse
+            ≡ failed_in_all (F.failed self.old.file) self.old.fuse) }
         ensures fuse { self.new.fuse ≡ after Call.Write self.old.fuse }
         ensures due { IsDue Call.Write self.old.fuse → IsErr result × (self.new.file ≡ self.old.file) }
         ensures not_due { ¬ IsDue Call.Write self.old.fuse →

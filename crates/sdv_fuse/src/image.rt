@@ -1,6 +1,6 @@
 //! An image of which one call fails.
 
-ghost use Rattle.std.specs.Prelude.{◌≡◌, ◌<◌, ◌≤◌, ◌∷◌, [], IsErr, OnOk, OnErr};
+ghost use Rattle.std.specs.Prelude.{◌≡◌, ◌<◌, ◌∷◌, [], IsErr, OnOk, OnErr};
 ghost use Rattle.sdv_image.specs.Images.{HasFailed, Shown, OnlyAt, AreSized};
 
 use crate::fuse::{Call, Fuse};
@@ -34,8 +34,9 @@ impl<I: Image> Image for FuseImage<I> {
         ensures fault { OnErr result (HasFailed
             (failed_in_all (I.failed self.old.image) self.old.fuse)
             (failed_in_all (I.failed self.new.image) self.new.fuse)) }
-        ensures count { failed_in_all (I.failed self.old.image) self.old.fuse ≤
-            failed_in_all (I.failed self.new.image) self.new.fuse }
+        ensures no_fault { OnOk result
+            (failed_in_all (I.failed self.new.image) self.new.fuse
+            ≡ failed_in_all (I.failed self.old.image) self.old.fuse) }
         ensures fuse { self.new.fuse ≡ after Call.Read self.old.fuse }
         ensures due { IsDue Call.Read self.old.fuse → IsErr result × (self.new.image ≡ self.old.image) }
         ensures not_due { ¬ IsDue Call.Read self.old.fuse →
@@ -57,8 +58,9 @@ impl<I: Image> Image for FuseImage<I> {
         ensures fault { OnErr result (HasFailed
             (failed_in_all (I.failed self.old.image) self.old.fuse)
             (failed_in_all (I.failed self.new.image) self.new.fuse)) }
-        ensures count { failed_in_all (I.failed self.old.image) self.old.fuse ≤
-            failed_in_all (I.failed self.new.image) self.new.fuse }
+        ensures no_fault { OnOk result
+            (failed_in_all (I.failed self.new.image) self.new.fuse
+            ≡ failed_in_all (I.failed self.old.image) self.old.fuse) }
         ensures fuse { self.new.fuse ≡ after Call.Write self.old.fuse }
         ensures due { IsDue Call.Write self.old.fuse → IsErr result × (self.new.image ≡ self.old.image) }
         ensures not_due { ¬ IsDue Call.Write self.old.fuse →
