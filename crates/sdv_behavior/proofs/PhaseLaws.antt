@@ -211,7 +211,7 @@ module _ (s s' : SimState) (all : List Block) (shows : s.blocks ≡ Some all) (a
         step = record { due = due; size = size; truth = truth end r.truth; moved = record { place = a.place; may = may a; card = refl } };
         shown = record {
           shown = card_of s.desc (at a.place) all;
-          shows = now_shown (at a.place) all (sym shows ∙ r.same) (subst (λ c. Goes c s s') (over_is a) r.goes);
+          shows = now_shown (at a.place) all (sym shows ∙ r.same.blocks) (subst (λ c. Goes c s s') (over_is a) r.goes);
           same = refl;
           count = λ k. no (sym a.unknown ∙ k);
         };
@@ -302,7 +302,7 @@ module _ (s s' : SimState) (all : List Block) (shows : s.blocks ≡ Some all) (a
     step = record { state = first_of (after_wait s.card.state end) s.card.state; may = wait_may s.card.state end legal; card = refl };
     shown = record {
       shown = card_of s.desc (wait_state s.card.state end s.card) all;
-      shows = now_shown (wait_state s.card.state end s.card) all (sym shows ∙ w.same) w.goes;
+      shows = now_shown (wait_state s.card.state end s.card) all (sym shows ∙ w.same.blocks) w.goes;
       same = refl;
       count = knows;
     };

@@ -74,7 +74,7 @@ record Left (erases : Bool) (s : SimState) (all : List Block) (blocks : Option (
 
 left_of : (erases : Bool) (s s' : SimState) (all : List Block) → s.blocks ≡ Some all → AreBlocks (image_size s.desc) all → BlocksLeft erases s s' →
     Left erases s all s'.blocks
-left_of false s s' all e fit same = record { all' = all; shown = sym e ∙ same; leaves = refl }
+left_of false s s' all e fit same = record { all' = all; shown = sym e ∙ same.blocks; leaves = refl }
 left_of true s s' all e fit erased = go s.blocks e erased.others
   where
     sized : (left : List Block) → Some left ≡ s'.blocks → AreBlocks (image_size s.desc) left

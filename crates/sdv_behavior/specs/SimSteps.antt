@@ -33,7 +33,7 @@ use Rattle.sdv_behavior.specs.Accepts.{accepts}
 use Rattle.sdv_behavior.specs.CardOf.{card_of}
 use Rattle.sdv_behavior.specs.Commands.{order_read}
 use Rattle.sdv_behavior.specs.Heard.{hear, unheard}
-use Rattle.sdv_image.specs.Images.{HasFailed, Shown, OnlyAt, AreSized, zeros}
+use Rattle.sdv_image.specs.Images.{HasFailed, Shown, OnlyAt, AreSized, ErasedUpTo, zeros}
 use Rattle.sdv_description.specs.Layout.{partition_size, partition_place, image_size}
 use Rattle.sdv_description.specs.Registers.{scr, sd_status, ext_csd_of}
 use Rattle.sdv_behavior.specs.RowTaken.{first_of}
@@ -97,16 +97,30 @@ erase_end d s =
 abbrev pub erase_start : CardDesc → CardState → ℕ
 erase_start d s = min (partition_place d s.mode.partition + s.erase_first) (erase_end d s)
 
--- an erase writes zeros from the first to the last block that the partition has; a failure ends it
-pub record Erased (first count size : ℕ) (s s' : SimState) : Type 0 where
-  pub others : OnlyAt first count s.blocks s'.blocks
+-- nothing is asked of the image
+pub record SameImage (s s' : SimState) : Type 0 where
+  pub blocks : s.blocks ≡ s'.blocks
+  pub failed : s.failed ≡ s'.failed
+
+-- zeros are written from the first place to before the end
+pub record IsErased (first end : ℕ) (s s' : SimState) : Type 0 where
+  pub zeroed : Shown first (zeros (end - first)) s'.blocks
+  pub failed : s.failed ≡ s'.failed
+
+-- a failure of the image ends that: zeros before the block that failed, anything in it, and no other block changed
+pub record IsCutShort (first end : ℕ) (s s' : SimState) : Type 0 where
+  pub blocks : ErasedUpTo first end s.blocks s'.blocks
+  pub failed : HasFailed s.failed s'.failed
+
+-- an erase does the one or the other, and changes no block beside those that it names
+pub record Erased (first end size : ℕ) (s s' : SimState) : Type 0 where
+  pub others : OnlyAt first (end - first) s.blocks s'.blocks
   pub fit : AreSized size s.blocks → AreSized size s'.blocks
-  pub erased : Shown first (zeros count) s'.blocks ⊎ HasFailed s.failed s'.failed
+  pub erased : IsErased first end s s' ⊎ IsCutShort first end s s'
 
 abbrev pub BlocksLeft : (erases : Bool) → SimState → SimState → Type 0
-BlocksLeft false s s' = s.blocks ≡ s'.blocks
-BlocksLeft true s s' =
-    Erased (erase_start s.desc s.card) (erase_end s.desc s.card - erase_start s.desc s.card) (image_size s.desc) s s'
+BlocksLeft false s s' = SameImage s s'
+BlocksLeft true s s' = Erased (erase_start s.desc s.card) (erase_end s.desc s.card) (image_size s.desc) s s'
 
 pub record Transfers (heard : Heard) (end : WireEnd) (response : List ℕ) (s s' : SimState) : Type 0 where
   pub goes : Goes heard.after s s'
@@ -121,8 +135,8 @@ cuts behavior = false
 
 -- a phase ends well, unless the behavior or a failure of the image cuts it
 abbrev pub EndFits : Behavior → (failed failed' : ℕ) → DataEnd → Type 0
-EndFits behavior failed failed' Ok = cuts behavior ≡ false
-EndFits behavior failed failed' Cut = (cuts behavior ≡ true) ⊎ HasFailed failed failed'
+EndFits behavior failed failed' Ok = (cuts behavior ≡ false) × (failed ≡ failed')
+EndFits behavior failed failed' Cut = ((cuts behavior ≡ true) × (failed ≡ failed')) ⊎ HasFailed failed failed'
 
 -- where the card is after a phase: of more than one place the first, in which a phase that was cut is over
 abbrev pub first_place : List Place → CardState → CardState
@@ -158,7 +172,7 @@ takes_blocks s lines count =
 pub record Refused (end : DataEnd) (s s' : SimState) : Type 0 where
   pub goes : Goes s.card s s'
   pub end_is : Cut ≡ end
-  pub same : s.blocks ≡ s'.blocks
+  pub same : SameImage s s'
 
 -- a phase that ended well moved the true blocks
 abbrev pub IfEndedWell : DataEnd → Type 0 → Type 0
@@ -189,7 +203,7 @@ pub record ReceivesRegister (end : DataEnd) (bytes : List ℕ) (s s' : SimState)
   pub goes : Goes (phase_over end s.card) s s'
   pub end_is : (if cuts (behavior_of s) then Cut else Ok) ≡ end
   pub truth : IfEndedWell end (bytes ≡ padded (register_of s.card.transfer s.desc s.card.mode) (length bytes))
-  pub same : s.blocks ≡ s'.blocks
+  pub same : SameImage s s'
 
 pub record TakesBlocks (end : DataEnd) (blocks : List Block) (s s' : SimState) : Type 0 where
   pub goes : Goes (phase_over end s.card) s s'
@@ -212,7 +226,7 @@ wait_state state end s = record s { state = first_of (after_wait state end) stat
 pub record Waits (end : WaitEnd) (s s' : SimState) : Type 0 where
   pub goes : Goes (wait_state s.card.state end s.card) s s'
   pub end_is : (if wait_legal s.card.state then wait_end (behavior_of s) else Over) ≡ end
-  pub same : s.blocks ≡ s'.blocks
+  pub same : SameImage s s'
 
 -- ALL CALLS
 
