@@ -28,9 +28,12 @@ pub record IsOtherSize (codes : List ℕ) (size wanted : ℕ) : Type 0 where
   pub known : are_codes codes ≡ true
   pub other : size ≢ wanted
 
--- a call of the image failed, as its count of failures shows
-abbrev pub IsUnread : {I : Type 0} → (failed : I → ℕ) → I → Type 0
-IsUnread {I} failed image = (after : I) × HasFailed (failed image) (failed after)
+-- A read of the image failed. It left an image of the same size, which shows the same blocks and counts the failure.
+pub record IsUnread {I : Type 0} (size : I → ℕ) (shown : I → Option (List Block)) (failed : I → ℕ) (image : I) : Type 0 where
+  pub after : I
+  pub same_size : size after ≡ size image
+  pub same_blocks : shown after ≡ shown image
+  pub counted : HasFailed (failed image) (failed after)
 
 -- each refusal comes where none before it is due, and that of a read where one failed
 abbrev pub IsRefused : (codes : List ℕ) → (size wanted : ℕ) → (unread : Type 0) → SimFault → Type 0

@@ -12,5 +12,6 @@ mod wire_end;
 
 pub use sdv_behavior::Behavior;
 pub use sdv_description::CardDesc;
+pub use sdv_file_image::{BlockFile, FileImage};
 pub use sdv_image::{Image, ImageFault, MemImage, SimFault};
 pub use sim::Sim;

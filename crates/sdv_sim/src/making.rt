@@ -1,6 +1,6 @@
 //! New simulated cards.
 
-ghost use Rattle.std.specs.Prelude.{◌≡◌, ◌<◌, ◌^◌, length, All, MatchResult};
+ghost use Rattle.std.specs.Prelude.{◌≡◌, ◌<◌, ◌^◌, length, All, IfOk, MatchResult};
 ghost use Rattle.sdv_card.specs.Card.{IsByte, IsRegister};
 ghost use Rattle.sdv_description.specs.Layout.{image_size};
 ghost use Rattle.sdv_behavior.specs.Schedules.{are_codes};
@@ -39,8 +39,8 @@ fn registers_fit(csd: &[u8; 15], sectors: u32) -> usize
 
 impl<I: Image + Drop> Sim<I> {
     /// A card of a description before its first command, over an image of its blocks, with the values of a schedule,
-    /// one for each event. The image has the blocks of the user area, and behind them those of each boot partition.
-    /// Later calls take no memory.
+    /// one for each event. The image has the blocks of the user area, and behind them those of each boot partition. No
+    /// call of it has failed. Later calls take no memory.
     ///
     /// # Errors
     ///
@@ -48,9 +48,10 @@ impl<I: Image + Drop> Sim<I> {
     /// has not as many blocks as the card, [`SimFault::ImageRead`] where its first block cannot be read, and
     /// [`SimFault::Memory`]: the first of them. The image is dropped then, its blocks unchanged.
     pub fn new(alloc: Global, desc: CardDesc, image: I, schedule: &[u8]) -> Result<Sim<I>, SimFault>
-        ensures { MatchResult result
+        ensures made { MatchResult result
             (λ sim. IsMade desc schedule.now (I.blocks image) (state_of sim))
-            (IsRefused schedule.now (I.size image) (image_size desc) (IsUnread I.failed image)) }
+            (IsRefused schedule.now (I.size image) (image_size desc) (IsUnread I.size I.blocks I.failed image)) }
+        ensures no_fault { IfOk result (λ sim. (state_of sim).failed ≡ I.failed image) }
     {
         if !are_codes(schedule) {
             return Err(SimFault::Description);

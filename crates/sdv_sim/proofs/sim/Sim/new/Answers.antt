@@ -11,8 +11,8 @@ read_block-requires g c =
     let same = c.if-len-image_size.false in
     omega (arith, least, size, whole, same)
 
-pub returns-in-Ok : goal.returns-in-Ok
-returns-in-Ok g c =
+pub returns-in-Ok-clause-made : goal.returns-in-Ok-clause-made
+returns-in-Ok-clause-made g c =
     let fit = c.registers_fit-fit.ensures in
     record {
       desc = refl;
