@@ -26,4 +26,5 @@ pub use port::CardPort;
 pub use sdv_registers::Kind;
 pub use shape::{START_SHAPES, Shape};
 pub use state::{EraseStage, Mode, Partition, Place, State, Transfer, Width};
+pub use state_table as laws;
 pub use table::CardTable;

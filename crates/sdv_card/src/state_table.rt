@@ -1,5 +1,6 @@
 //! What the state tables of both kinds share: the command table, how a card takes a command, and the rules of each part.
-//! A kind gives its rows (`Rows`), and `legal_by_rows` and `outcomes_by_rows` the rest.
+//! A kind gives its rows (`Rows`), and `legal_by_rows` and `outcomes_by_rows` the rest. The crates of the kinds name this
+//! module `laws`.
 //!
 //! Each function computes the definition that its contract names.
 

@@ -4,7 +4,7 @@ ghost use Rattle.sdv_registers.specs.declared.kind.Kind.TheVariants.{Sd};
 
 use crate::rows;
 use arrayvec::ArrayVec;
-use sdv_card::state_table::{Rows, legal_by_rows, outcomes_by_rows};
+use sdv_card::laws::{Rows, legal_by_rows, outcomes_by_rows};
 use sdv_card::{CardTable, Event, Outcome, Row, Shape, State};
 use sdv_registers::Kind;
 
