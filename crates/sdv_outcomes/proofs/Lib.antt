@@ -1,0 +1,16 @@
+pub mod MembersBack
+pub mod ResponseWords
+pub mod TakenCards
+pub mod RowSteps
+pub mod SettledSteps
+pub mod Splices
+pub mod EventSteps
+pub mod ImpossibleMatches
+pub mod MadeEvents
+pub mod HistoryRuns
+pub mod RunHistories
+pub mod ShapeCards
+pub mod GreatestCards
+pub mod StartRuns
+pub mod NeededPremises
+pub mod GuardLaws

@@ -1,0 +1,9 @@
+pub mod OpenGuards
+pub mod Representative
+pub mod OutcomeSteps
+pub mod Histories
+pub mod Runs
+pub mod EachShape
+pub mod StartCards
+pub mod IllegalShapes
+pub mod Needed
