@@ -1,8 +1,9 @@
-use Rattle.std.proofs.Common.{rules}
+use Rattle.std.proofs.Common.{rules, arith}
+use Rattle.std.proofs.lemmas.Grind.{common_steps}
 use Rattle.sdv_card.proofs.state_table.branches.statuses.Goals as goal
 
-pub with_status-requires-3 : goal.with_status-requires-3
-with_status-requires-3 c = search rules
+pub returns-clause-items : goal.returns-clause-items
+returns-clause-items c = grind (arith, common_steps)
 
 pub returns-clause-len : goal.returns-clause-len
 returns-clause-len c = search rules
