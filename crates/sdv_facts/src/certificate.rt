@@ -1,9 +1,8 @@
 //! Certificates: what is known at each point of a script.
 
-ghost use Rattle.std.specs.Prelude.{◌≡◌, List, All, length};
-ghost use Rattle.sdv_card.specs.declared.shape.Shape.{Shape};
+ghost use Rattle.std.specs.Prelude.{◌≡◌, All, length};
 ghost use Rattle.sdv_facts.specs.Limits.{PointInLimits};
-ghost use Rattle.sdv_facts.specs.Shared.{certificate_in, points_in, IsShared, HasSetsOf};
+ghost use Rattle.sdv_facts.specs.Shared.{certificate_in, points_in, sets_of, IsNamed, IsShared, HasSetsOf};
 ghost use Rattle.sdv_facts.specs.Versions.{FitsVersion};
 
 use crate::facts::Facts;
@@ -79,8 +78,8 @@ impl Model for Certificate {
 }
 
 impl Certificate {
-    /// A certificate of the version that says this of its points, whose sets are those of the table. No number is above
-    /// 2^40, and in version 1 nothing is said of boot partitions.
+    /// A certificate of the version that says this of its points. The sets of the table are theirs, in the order of the
+    /// first points that have them. No number is above 2^40, and in version 1 nothing is said of boot partitions.
     pub fn from_points(version: Version, table: SetTable, points: Vec<PointFacts>) -> Certificate
         requires shared { IsShared table points.items }
         requires version { All (FitsVersion version) (points_in table points.items) }
@@ -102,6 +101,7 @@ impl Certificate {
 
     /// The table of sets, and the points, in their order, which name sets of that table.
     pub fn shown(&self) -> (&SetTable, &[PointFacts])
+        ensures table { result.0.now ≡ sets_of self.now.points }
         ensures value { points_in result.0.now result.1.now ≡ self.now.points }
         ensures shared { IsShared result.0.now result.1.now }
         ensures limits { All PointInLimits self.now.points }
@@ -110,25 +110,26 @@ impl Certificate {
         (&self.table, &self.points)
     }
 
-    /// The points, in their order. Which table their sets are of, `shown` says.
+    /// The points, in their order, which name sets of the table.
     pub fn points(&self) -> &[PointFacts]
-        ensures value { (sets : List (List Shape)) × IsShared sets result.now
-            × (points_in sets result.now ≡ self.now.points) }
+        ensures value { points_in (sets_of self.now.points) result.now ≡ self.now.points }
+        ensures named { All (IsNamed (sets_of self.now.points)) result.now }
         ensures limits { All PointInLimits self.now.points }
     {
         &self.points
     }
 
-    /// The table of sets. Each point's shapes are one of them.
+    /// The table of sets: those of the points, each once, in the order of the first points that have them.
     pub fn table(&self) -> &SetTable
-        ensures { HasSetsOf result.now self.now.points }
+        ensures table { result.now ≡ sets_of self.now.points }
+        ensures sets { HasSetsOf result.now self.now.points }
     {
         &self.table
     }
 
     /// The number of distinct sets.
     pub fn sets(&self) -> usize
-        ensures { (sets : List (List Shape)) × (length sets ≡ result) × HasSetsOf sets self.now.points }
+        ensures { result ≡ length (sets_of self.now.points) }
     {
         self.table.len()
     }

@@ -3,7 +3,7 @@
 ghost use Rattle.std.specs.Prelude.{◌≡◌, ◌<◌, ◌≤◌, List, All, length, IsOk, IfOk};
 ghost use Rattle.sdv_facts.specs.Facts.{AreRising};
 ghost use Rattle.sdv_facts.specs.CertificateText.{max_points, max_shapes};
-ghost use Rattle.sdv_facts.specs.Shared.{point_in, points_in, IsNamed};
+ghost use Rattle.sdv_facts.specs.Shared.{point_in, points_in, sets_of, IsNamed};
 ghost use Rattle.sdv_facts.specs.SharedSets.{members, Interned};
 ghost use Rattle.sdv_check.specs.Reading.{Gives, begins_number, begins_var, begins_shape, read_turns, read_vars, read_rising, read_shapes, read_place, read_boot, read_numbers, read_bound, read_point, read_points, is_above};
 
@@ -201,6 +201,7 @@ pub fn points(
     ensures read { Gives (λ x. (points_in x.0 x.1.items, at.new.rest.now)) result
         (read_points version count 0 max_shapes at.old.rest.now) }
     ensures named { IfOk result (λ x. All (IsNamed x.0) x.1.items) }
+    ensures table { IfOk result (λ x. x.0 ≡ sets_of (points_in x.0 x.1.items)) }
 {
     let mut table = SetTable::new(alloc);
     let mut points = Vec::new(alloc);

@@ -3,7 +3,7 @@
 ghost use Rattle.std.specs.Prelude.{◌≡◌, ◌≢◌, ◌<◌, ◌≤◌, List, length, IfOk, IfErr, Err, All};
 ghost use Rattle.sdv_facts.specs.Facts.{Certificate as Facts};
 ghost use Rattle.sdv_facts.specs.CertificateText.{text_of, max_bytes, max_points, WithinLimits};
-ghost use Rattle.sdv_facts.specs.Shared.{certificate_in, points_in, IsNamed};
+ghost use Rattle.sdv_facts.specs.Shared.{certificate_in, points_in, sets_of, IsNamed};
 ghost use Rattle.sdv_check.specs.Reading.{Gives, read_version, read_count, read_lines, read_certificate, read_text};
 ghost use Rattle.sdv_check.specs.declared.text.fault.CertFault.TheVariants.{Limit};
 
@@ -60,6 +60,7 @@ fn count(at: &mut TextCursor<'_>) -> Result<u64, CertFault>
 fn lines(alloc: Global, version: Version, at: TextCursor<'_>) -> Result<NamedPoints, CertFault>
     ensures read { Gives (λ x. points_in x.0 x.1.items) result (read_lines version at.entry.rest.now) }
     ensures named { IfOk result (λ x. All (IsNamed x.0) x.1.items) }
+    ensures table { IfOk result (λ x. x.0 ≡ sets_of (points_in x.0 x.1.items)) }
 {
     let mut at = at;
     let count = count(&mut at)?;
@@ -96,6 +97,7 @@ type VersionedPoints = (Version, NamedPoints);
 fn certificate(alloc: Global, text: &[u8]) -> Result<VersionedPoints, CertFault>
     ensures read { Gives (λ x. certificate_in x.1.0 x.0 x.1.1.items) result (read_certificate text.now) }
     ensures named { IfOk result (λ x. All (IsNamed x.1.0) x.1.1.items) }
+    ensures table { IfOk result (λ x. x.1.0 ≡ sets_of (points_in x.1.0 x.1.1.items)) }
 {
     let (version, at) = version(text)?;
     let points = lines(alloc, version, at)?;
@@ -107,6 +109,7 @@ fn certificate(alloc: Global, text: &[u8]) -> Result<VersionedPoints, CertFault>
 fn whole(alloc: Global, text: &[u8]) -> Result<VersionedPoints, CertFault>
     ensures read { Gives (λ x. certificate_in x.1.0 x.0 x.1.1.items) result (read_text text.now) }
     ensures named { IfOk result (λ x. All (IsNamed x.1.0) x.1.1.items) }
+    ensures table { IfOk result (λ x. x.1.0 ≡ sets_of (points_in x.1.0 x.1.1.items)) }
     ensures long { max_bytes < length text.now → result ≡ Err Limit }
 {
     if text.len() > MAX_BYTES {

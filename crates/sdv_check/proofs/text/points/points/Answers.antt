@@ -1,8 +1,8 @@
 use Rattle.std.proofs.Common.{rules, ◌≡◌, ◌-◌, ◌∷◌, ◌++◌, [], All, length, sym, ap, ◌∙◌, subst, arith}
 use Rattle.std.proofs.lemmas.Result.{err_from_is_err_and}
-use Rattle.sdv_facts.specs.Shared.{IsNamed, point_in, points_in}
+use Rattle.sdv_facts.specs.Shared.{IsNamed, point_in, points_in, sets_of}
 use Rattle.sdv_facts.proofs.InternLaws.{at_most_one_more, named_within}
-use Rattle.sdv_facts.proofs.SharedLaws.{one_point_more, all_named_more}
+use Rattle.sdv_facts.proofs.SharedLaws.{one_point_more, all_named_more, table_more}
 use Rattle.sdv_check.proofs.PointLoop.{points_more, points_fail, points_done}
 use Rattle.sdv_check.proofs.text.points.points.Goals as goal
 
@@ -32,6 +32,7 @@ loop-place-preserved c =
     record {
       read = rw (more, left) read;
       named = subst (λ l. All (IsNamed new) l) (sym pushed) (all_named_more old new _ _ points p interned i.named (named_within old new _ _ interned));
+      table = subst (λ l. new ≡ sets_of (points_in new l)) (sym pushed) (table_more old new _ points p interned i.named i.table);
       few = (let f = i.few in omega (arith, f, at_most_one_more old new _ _ interned));
     }
 

@@ -13,7 +13,10 @@ pub from_points-requires : goal.from_points-requires
 from_points-requires c =
     let points = points_in c.in_ok-version.table c.in_ok-version.points.items in
     let limits = (text_takes _ _ c.in_ok-version.ensures.read).0 in
-    record { shared = record { named = c.in_ok-version.ensures.named; limits = points_in_limits points limits.each }; version = limits.version }
+    record {
+      shared = record { named = c.in_ok-version.ensures.named; table = c.in_ok-version.ensures.table; limits = points_in_limits points limits.each };
+      version = limits.version;
+    }
 
 pub returns-clause-found : goal.returns-clause-found
 returns-clause-found c =

@@ -1,12 +1,6 @@
-use Rattle.std.proofs.Common.{sym, subst}
-use Rattle.sdv_facts.specs.Shared.{HasSetsOf}
-use Rattle.sdv_facts.proofs.SharedLaws.{has_sets}
+use Rattle.std.proofs.Common.{rules, length, ap}
+use Rattle.sdv_facts.proofs.SharedLaws.{table_seen}
 use Rattle.sdv_facts.proofs.certificate.Certificate.sets.Goals as goal
 
 pub returns : goal.returns
-returns c = (
-  c.self.inside.table,
-  sym c.len.ensures,
-  subst (λ x. HasSetsOf c.self.inside.table x.points) c.self.view_is
-      (has_sets c.self.inside.table c.self.inside.points.items c.self.invariant.0.named),
-)
+returns c = search (rules, ap length (table_seen c.self.inside.table c.self.inside.version _ _ c.self.invariant.0 c.self.view_is))
