@@ -8,7 +8,7 @@ use Rattle.std.specs.Io.KnownBytes.{Keeps}
 use Rattle.clap.specs.Words.{Text}
 use Rattle.sdv_card.specs.Card.{Block}
 use Rattle.sdv_check.specs.Verified.{Acceptance, IsAccepted}
-use Rattle.sdv_file_image.specs.FileImages.{failed_of, file_of}
+use Rattle.sdv_file_image.specs.FileImages.{failed_of, file_of, shown_of, size_of}
 use Rattle.sdv_file_image.specs.Refused.{IsRefused as IsNoImage}
 use Rattle.sdv_file_image.specs.declared.block_file.BlockFile.{Ghosts as FileGhosts}
 use Rattle.sdv_file_image.specs.declared.file_image.FileImage.{FileImage}
@@ -41,6 +41,7 @@ use Rattle.sdv_run_command.specs.Run.{AreGiven, EndsRun, FailsToKeep, HasNoCard,
 use Rattle.sdv_faults.specs.declared.fault.Fault.{Fault}
 use Rattle.sdv_faults.specs.declared.fault.Fault.TheVariants.{File, Script, Certificate, Refused, Card, Memory as NoMemory}
 use Rattle.sdv_run_command.specs.declared.given.Given.{Given}
+use Rattle.sdv_run_command.specs.RunImages.{MayHaveFailed}
 use Rattle.sdv_run_command.proofs.GivenLaws.{output_unusable}
 use Rattle.sdv_run_command.proofs.RunMaps.{seen, seen_run, seen_step}
 use Rattle.sdv_faults.proofs.StartLaws.{keeps_same}
@@ -90,12 +91,14 @@ module _ {I : Type 0} {images : Ghosts I} where
       subst (λ t. IsMade desc codes' shown' (state_of t)) (sym same)
       (subst (λ known. IsMade desc codes' known (state_of s)) same_shown (subst (λ c. IsMade desc c shown (state_of s)) same_codes made))
 
--- a failed call of an image is one of its file
-pub file_unread : {F : Type 0} {file : FileGhosts F} (image : FileImage F file) (f : F) → file_of image ≡ f → IsUnread failed_of image → IsUnread file.failed f
-file_unread {file = file} image f same unread = (file_of unread.0, subst (λ known. HasFailed (file.failed known) (failed_of unread.0)) same unread.1)
+-- a failed read of an image is a failed call of its file
+pub file_unread : {F : Type 0} {file : FileGhosts F} (image : FileImage F file) (f : F) → file_of image ≡ f → IsUnread size_of shown_of failed_of image →
+    MayHaveFailed file.failed f
+file_unread {file = file} image f same unread =
+    (file_of unread.after, subst (λ known. HasFailed (file.failed known) (failed_of unread.after)) same unread.counted)
 
 -- no call of a new image fails
-pub never_unread : {I : Type 0} (image : I) → IsUnread (λ _. 0) image → ⊥
+pub never_unread : {I : Type 0} (image : I) → MayHaveFailed (λ _. 0) image → ⊥
 never_unread image (after, inl rose) = absurd (omega (arith, rose))
 never_unread image (after, inr greatest) = absurd (omega (arith, greatest))
 

@@ -3,10 +3,9 @@ ghost use Rattle.std.specs.Prelude.{◌≡◌, OnOk, IfErr, IfOk};
 ghost use Rattle.std.specs.Io.KnownBytes.{Keeps};
 ghost use Rattle.sdv_line.specs.CommandLine.{names_of};
 ghost use Rattle.sdv_file_image.specs.FileImages.{shown_of};
-ghost use Rattle.sdv_sim.specs.Made.{IsUnread};
 ghost use Rattle.sdv_faults.specs.Files.{image_of, store_of};
 ghost use Rattle.sdv_run_command.specs.Run.{EndsRun, FailsToKeep, IsKept, IsRun, RefusesRun, RunFails, answer_of};
-ghost use Rattle.sdv_run_command.specs.RunImages.{IsOfName, image_given};
+ghost use Rattle.sdv_run_command.specs.RunImages.{IsOfName, MayHaveFailed, image_given};
 ghost use Rattle.sdv_run.specs.declared.end.End.TheVariants.{Done};
 ghost use Rattle.sdv_faults.specs.declared.fault.Fault.{Fault};
 
@@ -138,7 +137,7 @@ pub fn run_given<F: BlockFile + Drop, O: Write, T: Write>(
         (shown_of outcome.image) outcome.end
         (O.contents out.old) (O.contents out.new) (T.contents trace.old) (T.contents trace.new)) }
     ensures refused { IfErr result
-        (RefusesRun given.now (image_of (F.byte_count file) (F.blocks file)) (IsUnread F.failed file)) }
+        (RefusesRun given.now (image_of (F.byte_count file) (F.blocks file)) (MayHaveFailed F.failed file)) }
     ensures quiet { IfErr result (λ _. Keeps (T.contents trace.old) (T.contents trace.new)) }
 {
     let accepted = verify(alloc, given.script.as_str(), given.certificate.as_str())?;

@@ -1,9 +1,8 @@
 use Rattle.std.proofs.Common.{IfErr, subst, sym}
-use Rattle.sdv_sim.specs.Made.{IsUnread}
 use Rattle.sdv_line.specs.CommandLine.{names_of}
 use Rattle.sdv_faults.specs.Files.{Files, store_of}
 use Rattle.sdv_run_command.specs.Run.{FailsToKeep}
-use Rattle.sdv_run_command.specs.RunImages.{IsOfName, image_given}
+use Rattle.sdv_run_command.specs.RunImages.{IsOfName, MayHaveFailed, image_given}
 use Rattle.sdv_run_command.specs.declared.given.GivenImage.TheVariants.{New, File}
 use Rattle.sdv_run_command.proofs.RunLaws.{never_unread, refusal_unkept}
 use Rattle.sdv_run_command.proofs.run.run_kept.Goals as goal
@@ -16,7 +15,7 @@ returns-in_err-outcome-in-New-clause-fails g c =
     (g.T.Write.contents c.args.trace.now) (g.T.Write.contents c.run_given.new.trace))) (sym c.in-New.is)
     (refusal_unkept files (names_of c.args.names.now) c.args.given.now
     (image_given g.S.Image.BlockFile.byte_count g.S.Image.BlockFile.blocks (New c.in-New.image)) _ _
-    (IsUnread (λ _. 0) c.in-New.image) (λ unread. absurd (never_unread c.in-New.image unread)) c.in_err-outcome-in-New.field-0.0
+    (MayHaveFailed (λ _. 0) c.in-New.image) (λ unread. absurd (never_unread c.in-New.image unread)) c.in_err-outcome-in-New.field-0.0
     c.in_err-outcome-in-New.ensures.refused c.in_err-outcome-in-New.ensures.quiet c.from_residual.result c.from_residual.ensures.1)
 
 pub returns-in_err-end-in-File-clause-fails : goal.returns-in_err-end-in-File-clause-fails
@@ -29,6 +28,6 @@ returns-in_err-end-in-File-clause-fails g c =
     (g.T.Write.contents c.args.trace.now) (g.T.Write.contents c.run_given-in-File.new.trace))) (sym c.in-File.is)
     (refusal_unkept files (names_of c.args.names.now) c.args.given.now
     (image_given g.S.Image.BlockFile.byte_count g.S.Image.BlockFile.blocks (File c.in-File.file)) _ _
-    (IsUnread g.S.Image.BlockFile.failed c.in-File.file) (λ unread. (of_name.0, of_name.1 unread)) c.in_err-end-in-File.field-0.0
+    (MayHaveFailed g.S.Image.BlockFile.failed c.in-File.file) (λ unread. (of_name.0, of_name.1 unread)) c.in_err-end-in-File.field-0.0
     c.in_err-end-in-File.ensures.refused c.in_err-end-in-File.ensures.quiet c.from_residual-in_err-end-in-File.result
     c.from_residual-in_err-end-in-File.ensures.1)

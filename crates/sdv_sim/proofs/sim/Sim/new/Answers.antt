@@ -1,4 +1,4 @@
-use Rattle.std.proofs.Common.{refl, sym, ◌∙◌, arith}
+use Rattle.std.proofs.Common.{rules, refl, sym, ◌∙◌, arith}
 use Rattle.sdv_description.proofs.Described.{described_law}
 use Rattle.sdv_sim.proofs.MadeLaws.{starts}
 use Rattle.sdv_sim.proofs.sim.Sim.new.Goals as goal
@@ -22,3 +22,6 @@ returns-in-Ok-clause-made g c =
       start = starts c.args.desc (g.I.Image.size c.args.image) (g.I.Image.blocks c.args.image) fit.csd fit.sectors c.len.ensures.blocks
           (sym c.len.ensures.size ∙ (c.if-len-image_size.false ∙ c.image_size.ensures));
     }
+
+pub returns-in-Ok-clause-no_fault : goal.returns-in-Ok-clause-no_fault
+returns-in-Ok-clause-no_fault g c = search rules
