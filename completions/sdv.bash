@@ -1,22 +1,60 @@
-# Completion of the program's words, for bash: source this file, or put it where bash-completion finds it.
+# Completion for bash: source this file, or put it where bash-completion finds it, under the name sdv.
+
+# _sdv_files WORD PATTERN..: folders, and the files that a pattern fits
+_sdv_files() {
+    local word=$1 pattern file
+    shift
+    mapfile -t COMPREPLY < <(compgen -d -- "$word")
+    while IFS= read -r file; do
+        for pattern in "$@"; do
+            # shellcheck disable=SC2053
+            [ -d "$file" ] || [[ $file != $pattern ]] || COMPREPLY+=("$file")
+        done
+    done < <(compgen -f -- "$word")
+    compopt -o filenames 2> /dev/null
+}
+
+# _sdv_words WORD LIST
+_sdv_words() {
+    mapfile -t COMPREPLY < <(compgen -W "$2" -- "$1")
+}
+
 _sdv() {
-    local word=${COMP_WORDS[COMP_CWORD]} before=${COMP_WORDS[COMP_CWORD - 1]}
+    COMPREPLY=()
+    local word=${COMP_WORDS[COMP_CWORD]} before=${COMP_WORDS[COMP_CWORD - 1]} place=0 at
     if [ "$COMP_CWORD" -eq 1 ]; then
-        mapfile -t COMPREPLY < <(compgen -W "frame certify check run batch explain graph print --help --version" -- "$word")
+        _sdv_words "$word" "frame certify check run batch explain graph print --help --version"
         return
     fi
-    case ${COMP_WORDS[1]} in
-    batch)
-        [ "$COMP_CWORD" -eq 2 ] && mapfile -t COMPREPLY < <(compgen -W "sd emmc" -- "$word")
-        ;;
-    run)
-        if [ "$before" != --in ] && [ "$before" != --out ] && [[ $word == -* ]]; then
-            mapfile -t COMPREPLY < <(compgen -W "--in --out" -- "$word")
-        else
-            mapfile -t COMPREPLY < <(compgen -f -- "$word")
-        fi
-        ;;
-    certify | check | explain | graph | print) mapfile -t COMPREPLY < <(compgen -f -- "$word") ;;
+    # which of the command's words this is, options and their files left out
+    for ((at = 2; at < COMP_CWORD; at++)); do
+        case ${COMP_WORDS[at]} in
+        --in | --out) at=$((at + 1)) ;;
+        -?*) ;;
+        *) place=$((place + 1)) ;;
+        esac
+    done
+    case ${COMP_WORDS[1]}:$place in
+    run:*)
+        case $before in
+        --in | --out) _sdv_files "$word" '*' && return ;;
+        esac
+        case $word:$place in
+        -*) _sdv_words "$word" "--in --out" ;;
+        *:0) _sdv_files "$word" '*.sdv' ;;
+        *:1) _sdv_files "$word" '*.cert' ;;
+        *:2) _sdv_files "$word" '*.card' ;;
+        *:3)
+            _sdv_files "$word" '*.img' '*.image' '*.bin'
+            if [[ new: == "$word"* ]]; then
+                COMPREPLY+=(new:)
+                compopt -o nospace 2> /dev/null
+            fi ;;
+        *:4) _sdv_files "$word" '*' ;;
+        esac ;;
+    batch:0) _sdv_words "$word" "sd emmc" ;;
+    check:1) _sdv_files "$word" '*.cert' ;;
+    certify:0 | check:0 | explain:0 | graph:0 | print:0) _sdv_files "$word" '*.sdv' ;;
     esac
 }
-complete -o filenames -F _sdv sdv
+complete -F _sdv sdv

@@ -1,0 +1,46 @@
+# Completion for fish: put this file into ~/.config/fish/completions.
+
+# how many words of the command stand before the cursor, options and their files left out
+function __sdv_place
+    set -l words (commandline -opc)[3..]
+    set -l place 0
+    set -l skip 0
+    for word in $words
+        if test $skip -eq 1
+            set skip 0
+        else if contains -- $word --in --out
+            set skip 1
+        else
+            set place (math $place + 1)
+        end
+    end
+    echo $place
+end
+
+# whether the cursor is at word PLACE of one of the commands: __sdv_at PLACE COMMAND..
+function __sdv_at
+    __fish_seen_subcommand_from $argv[2..]; and test (__sdv_place) -eq $argv[1]
+end
+
+set -l commands frame certify check run batch explain graph print
+
+complete -c sdv -f
+complete -c sdv -n "not __fish_seen_subcommand_from $commands" -s h -l help -d "How the program is called"
+complete -c sdv -n "not __fish_seen_subcommand_from $commands" -s V -l version -d "The version"
+complete -c sdv -n "not __fish_seen_subcommand_from $commands" -a frame -d "The six bytes of a command frame"
+complete -c sdv -n "not __fish_seen_subcommand_from $commands" -a certify -d "The certificate of a script"
+complete -c sdv -n "not __fish_seen_subcommand_from $commands" -a check -d "Check a script with its certificate"
+complete -c sdv -n "not __fish_seen_subcommand_from $commands" -a run -d "Run a script beside a simulated card"
+complete -c sdv -n "not __fish_seen_subcommand_from $commands" -a batch -d "A script that serves requests"
+complete -c sdv -n "not __fish_seen_subcommand_from $commands" -a explain -d "What is known at each statement"
+complete -c sdv -n "not __fish_seen_subcommand_from $commands" -a graph -d "The graph of a script for Graphviz"
+complete -c sdv -n "not __fish_seen_subcommand_from $commands" -a print -d "The tokens of a script"
+
+complete -c sdv -n "__sdv_at 0 certify check run explain graph print" -k -a "(__fish_complete_suffix .sdv)"
+complete -c sdv -n "__sdv_at 1 check run" -k -a "(__fish_complete_suffix .cert)"
+complete -c sdv -n "__sdv_at 2 run" -k -a "(__fish_complete_suffix .card)"
+complete -c sdv -n "__sdv_at 3 run" -F -a "new:" -d "An image of zeros: new:BLOCKS"
+complete -c sdv -n "__sdv_at 4 run" -F -d "Schedule"
+complete -c sdv -n "__fish_seen_subcommand_from run" -l in -r -F -d "The blocks that the script gives"
+complete -c sdv -n "__fish_seen_subcommand_from run" -l out -r -F -d "The file for the blocks that it receives"
+complete -c sdv -n "__sdv_at 0 batch" -a "sd emmc"
