@@ -12,7 +12,7 @@ help:
 	@echo "make quick       a first look in two minutes, without proofs"
 	@echo "make build       proves what changed, with JOBS=$(JOBS) crates side by side, and builds $(program)"
 	@echo "make check       the gate: every proof from nothing, must-fail edits, tests and examples"
-	@echo "make install     builds the program if its sources changed, and copies it, its man page and completion below"
+	@echo "make install     builds the program if its sources changed, and copies it, its man page and completions below"
 	@echo "                 PREFIX=$(PREFIX)"
 	@echo "make uninstall   removes what make install copied"
 
@@ -30,7 +30,10 @@ install: build
 	install -D -m 755 $(program) $(DESTDIR)$(PREFIX)/bin/sdv
 	install -D -m 644 docs/sdv.1 $(DESTDIR)$(PREFIX)/share/man/man1/sdv.1
 	install -D -m 644 completions/sdv.bash $(DESTDIR)$(PREFIX)/share/bash-completion/completions/sdv
+	install -D -m 644 completions/_sdv $(DESTDIR)$(PREFIX)/share/zsh/site-functions/_sdv
+	install -D -m 644 completions/sdv.fish $(DESTDIR)$(PREFIX)/share/fish/vendor_completions.d/sdv.fish
 
 uninstall:
 	rm -f $(DESTDIR)$(PREFIX)/bin/sdv $(DESTDIR)$(PREFIX)/share/man/man1/sdv.1
-	rm -f $(DESTDIR)$(PREFIX)/share/bash-completion/completions/sdv
+	rm -f $(DESTDIR)$(PREFIX)/share/bash-completion/completions/sdv $(DESTDIR)$(PREFIX)/share/zsh/site-functions/_sdv
+	rm -f $(DESTDIR)$(PREFIX)/share/fish/vendor_completions.d/sdv.fish
