@@ -1,8 +1,8 @@
 //! Texts of scripts and certificates, what is made of them, a writer and a comparison that tests share.
 
-use sdv_certify::{certify, write};
+use sdv_certify::write;
 use sdv_facts::Certificate;
-use sdv_script::{Graph, ScriptFault, parse, print};
+use sdv_script::{Graph, ScriptFault, parse};
 use std::alloc::Global;
 use std::fmt::Debug;
 use std::io::{self, Error, ErrorKind, Write};
@@ -62,28 +62,9 @@ pub fn same<T: PartialEq + Debug, R: Debug>(rt: &impl Abort, found: &T, wanted: 
     assert_eq!(rt; found, wanted, "{row:?}");
 }
 
-/// Pieces of a text, each so many times.
-pub fn repeated(rt: &impl Abort, alloc: Global, pieces: &[(&str, usize)]) -> String {
-    let mut text = String::new(alloc);
-    for (piece, times) in pieces {
-        for _ in 0..*times {
-            text.push_str(piece).expect(rt, "memory");
-        }
-    }
-    text
-}
-
 /// The graph of the script of a text, or why it is none.
 pub fn graph_of<'a>(alloc: Global, text: &'a str) -> Result<Graph<'a>, ScriptFault> {
     parse(alloc, text)?.graph(alloc)
-}
-
-/// What is printed of a script.
-pub fn printed(rt: &impl Abort, alloc: Global, text: &str) -> Vec<u8> {
-    let script = parse(alloc, text).expect(rt, "a script");
-    let mut out = Vec::new(alloc);
-    print(&script, &mut out).expect(rt, "memory");
-    out
 }
 
 /// The text of a certificate.
@@ -91,17 +72,6 @@ pub fn text_of(rt: &impl Abort, alloc: Global, certificate: &Certificate) -> Str
     let mut out = Vec::new(alloc);
     write(certificate, &mut out).expect(rt, "memory");
     String::from_utf8(out).expect(rt, "a text")
-}
-
-/// A script's certificate.
-pub fn certificate_of(rt: &impl Abort, alloc: Global, text: &str) -> Certificate {
-    let script = parse(alloc, text).expect(rt, "a script");
-    certify(alloc, &script).expect(rt, "a certificate")
-}
-
-/// The text of a script's certificate.
-pub fn certified(rt: &impl Abort, alloc: Global, text: &str) -> String {
-    text_of(rt, alloc, &certificate_of(rt, alloc, text))
 }
 
 /// A writer with room for so many bytes, which takes one at a time.

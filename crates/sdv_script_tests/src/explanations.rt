@@ -1,5 +1,3 @@
-//! Explanations: the listing, the refusals, and the ways to them; and headings and drawings.
+//! Explanations: the way to a refusal; and headings of points.
 
-mod drawing_tests;
 mod explain_tests;
-mod shared;

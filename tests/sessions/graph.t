@@ -1,0 +1,46 @@
+Drawings and tokens of scripts.
+
+  $ printf 'card sd\nsend 0 { else { } }\nfault stop\n' > a.sdv; sdv graph a.sdv
+  digraph script {
+      node [shape=box, fontname="monospace"];
+      edge [fontname="monospace"];
+      0 [label="line 2, point 0\nCMD0"];
+      1 [label="line 3, point 1\nfault stop"];
+      0 -> 1 [label=""];
+  }
+  $ printf 'card sd send 7 { else { } } fault stop' > refused.sdv; sdv graph refused.sdv
+  digraph script {
+      node [shape=box, fontname="monospace"];
+      edge [fontname="monospace"];
+      0 [label="line 1, point 0\nCMD7\nrefused Illegal", color=red, fontcolor=red, penwidth=2];
+      1 [label="line 1, point 1\nfault stop"];
+      0 -> 1 [label=""];
+  }
+  refused Illegal point 0 shape 0000000000002000
+  [1]
+  $ printf 'card sd\nsend 16 @\n' > wrong.sdv; sdv graph wrong.sdv; sdv print wrong.sdv
+  script fault Token line 2
+  script fault Token line 2
+  [1]
+  $ printf '# none\ncard sd\nsend 0 {else{ }}\n fault stop' | sdv print -
+  card sd send 0 { else { } } fault stop 
+
+What the writer of certificates refuses has tokens too.
+
+  $ sdv print refused.sdv
+  card sd send 7 { else { } } fault stop 
+
+What is printed of a script has the script's certificate.
+
+  $ sdv print $EXAMPLES/sd_bring_up.sdv > printed.sdv; sdv certify printed.sdv | cmp - $EXAMPLES/sd_bring_up.cert
+
+No file, or nowhere to write.
+
+  $ sdv graph a.sdv > /dev/full
+  [2]
+  $ sdv print a.sdv > /dev/full
+  [2]
+  $ sdv graph missing.sdv; sdv print missing.sdv
+  cannot use missing.sdv
+  cannot use missing.sdv
+  [2]
