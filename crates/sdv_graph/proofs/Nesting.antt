@@ -1,10 +1,9 @@
 -- The loops of a script's graph are nested: each target is reached with turns left that its point can have.
-use Rattle.std.proofs.Common.{◌≡◌, ℕ, zero, suc, ◌+◌, ◌-◌, List, [], ◌∷◌, ◌++◌, Some, None, refl, sym, subst, arith, add-one, true, false}
+use Rattle.std.proofs.Common.{◌≡◌, ℕ, zero, suc, ◌+◌, ◌-◌, List, [], ◌∷◌, ◌++◌, length, Some, None, refl, sym, subst, arith, add-one, true, false}
 use Rattle.std.specs.Prelude.{slice_get}
 use Rattle.std.proofs.lemmas.Option.{slice_get_past}
-use Rattle.sdv_registers.specs.declared.kind.Kind.{Kind}
 use Rattle.sdv_graph.specs.declared.graph.Target.{Target}
-use Rattle.sdv_graph.specs.Tree.{Statements, nothing, first, Ways, otherwise, way, Statement, send, phase, setting, choice, set, clear, bus_lines, turns, break, done, fault}
+use Rattle.sdv_graph.specs.Tree.{Statements, nothing, first, Ways, otherwise, way, Statement, send, phase, setting, choice, set, clear, bus_lines, turns, break, done, fault, Declared}
 use Rattle.sdv_graph.specs.Counts.{statements_count, statement_count}
 use Rattle.sdv_graph.specs.Walk.{Finished, Failed}
 use Rattle.sdv_graph.specs.Path.{Action, Point, sends, phases, lets, tests, flags, widths, heads, jumps, stops, left, entered, turns_at}
@@ -208,8 +207,18 @@ first_leaves : (b : Statements) → (first_of b).leave ≡ 0
 first_leaves nothing = refl
 first_leaves (first s rest) = refl
 
-pub nested : (k : Kind) (n f m : ℕ) (b : Statements) → Nested (record { kind = k; numbers = n; flags = f; points = points_of b; first = first_of b; steps = m })
-nested k n f m b =
+pub nested : (names : Declared) (b : Statements) (lines : List ℕ) (steps : ℕ)
+    → Nested (record {
+      kind = names.kind;
+      numbers = length names.numbers;
+      flags = length names.flags;
+      names = names;
+      points = points_of b;
+      lines = lines;
+      first = first_of b;
+      steps = steps;
+    })
+nested names b lines steps =
     let g = points_of b in
     let has = has_all g [] in
     let fit = statements_fit g b 0 (past b) (past b) [] has (past_in b []) (past_in b []) in

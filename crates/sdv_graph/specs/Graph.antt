@@ -1,5 +1,5 @@
 -- What contracts see of a graph, and what is claimed of it.
-use Rattle.std.specs.Prelude.{◌↔◌, ℕ, zero, suc, List, [], map}
+use Rattle.std.specs.Prelude.{◌↔◌, ℕ, zero, suc, List, [], length, map}
 use Rattle.sdv_registers.specs.declared.kind.Kind.{Kind}
 use Rattle.sdv_card.specs.Host.{Host}
 use Rattle.sdv_card.specs.Profile.{host_at_start}
@@ -37,21 +37,42 @@ seen_point p = record { action = seen_action p.action; most = p.most_turns.items
 abbrev pub seen_points : List CodePoint → List Point
 seen_points ps = map seen_point ps
 
+abbrev pub texts : List (Bor (List ℕ)) → List (List ℕ)
+texts names = map (λ n. n.now) names
+
+-- what a script declares
+abbrev pub declared_names : Names → Declared
+declared_names names =
+    record { kind = names.kind; flags = texts names.flags.items; numbers = texts names.numbers.items }
+
 -- a graph
 pub record Graph : Type 0 where
   pub kind : Kind
   -- how many number variables and flags the script has
   pub numbers : ℕ
   pub flags : ℕ
+  -- what the script declares
+  pub names : Declared
   pub points : List Point
+  -- for each point the line of the script's text on which its statement begins, counted from 1
+  pub lines : List ℕ
   -- where a run begins
   pub first : Target
   -- no run has more moves
   pub steps : ℕ
 
 -- the graph of these parts
-abbrev pub graph_with : Kind → (numbers flags : ℕ) → List CodePoint → Target → (steps : ℕ) → Graph
-graph_with k n f ps t m = record { kind = k; numbers = n; flags = f; points = seen_points ps; first = t; steps = m }
+abbrev pub graph_with : Declared → List CodePoint → (lines : List ℕ) → Target → (steps : ℕ) → Graph
+graph_with names ps lines t m = record {
+  kind = names.kind;
+  numbers = length names.numbers;
+  flags = length names.flags;
+  names = names;
+  points = seen_points ps;
+  lines = lines;
+  first = t;
+  steps = m;
+}
 
 abbrev pub begin : Graph → Stand
 begin g = arrive g.first [] (host_at_start g.numbers)
@@ -78,13 +99,3 @@ Lasts k g (suc n) s = WhereverTo (Lasts k g n) (move_from k g s)
 
 abbrev pub EachRunEnds : Graph → Type 0
 EachRunEnds g = Lasts g.kind g.points g.steps (begin g)
-
--- THE GRAPH OF A SCRIPT
-
-abbrev pub texts : List (Bor (List ℕ)) → List (List ℕ)
-texts names = map (λ n. n.now) names
-
--- what a script declares
-abbrev pub declared_names : Names → Declared
-declared_names names =
-    record { kind = names.kind; flags = texts names.flags.items; numbers = texts names.numbers.items }

@@ -1,6 +1,6 @@
 -- When a graph is the GRAPH OF A SCRIPT: its paths are the script's walks, each run over it ends, and its loops are
 -- nested as its targets say.
-use Rattle.std.specs.Prelude.{◌≡◌, ◌<◌, ◌≤◌, ◌^◌, true, false, length}
+use Rattle.std.specs.Prelude.{◌≡◌, ℕ, ◌<◌, ◌≤◌, ◌^◌, List, true, false, length}
 use Rattle.sdv_registers.specs.declared.kind.Kind.{Kind}
 use Rattle.sdv_graph.specs.Tree.{Statements, Declared}
 use Rattle.sdv_graph.specs.Counts.{statements_break, statements_fall, statements_count, max_statements}
@@ -30,13 +30,19 @@ pub record IsSound (g : Graph) : Type 0 where
   pub nested : Nested g
   pub limits : all_keep_limits g.points ≡ true
   pub suits : all_suit g.kind g.points ≡ true
+  -- each point has a line
+  pub located : length g.lines ≡ length g.points
 
-pub record IsGraphOf (names : Declared) (script : Statements) (g : Graph) : Type 0 where
+-- the graph of these statements, which stand on these lines
+pub record IsGraphOf (names : Declared) (script : Statements) (lines : List ℕ) (g : Graph) : Type 0 where
   pub kind_same : g.kind ≡ names.kind
+  pub names_same : g.names ≡ names
   pub numbers_same : g.numbers ≡ length names.numbers
   pub flags_same : g.flags ≡ length names.flags
   -- one point for each statement, in the order of their first tokens
   pub points_same : g.points ≡ points_of script
+  -- the line of each point is that of its statement
+  pub lines_same : g.lines ≡ lines
   pub first_same : g.first ≡ first_of script
   pub steps_same : g.steps ≡ statements_moves script
   -- the walks are the paths

@@ -3,7 +3,7 @@
 //! A point is numbered by the order of the statements' first tokens, from 0. The point of a loop is its head, which is
 //! reached on entry and after each turn.
 
-use crate::tree::{Condition, Let, Phase, ScriptCommand};
+use crate::tree::{Condition, Let, Names, Phase, ScriptCommand};
 use sdv_card::{Guard, Kind, Width};
 use std::marker::Model;
 
@@ -88,12 +88,11 @@ impl Drop for Point<'_> {
     }
 }
 
-/// The points of a script, with what a run needs to know of its names.
+/// The points of a script, each with the line of its statement, and what the script declares.
 pub struct Graph<'a> {
-    kind: Kind,
-    numbers: usize,
-    flags: usize,
+    names: Names<'a>,
     points: Vec<Point<'a>>,
+    lines: Vec<u32>,
     first: Target,
     steps: u128,
 }
@@ -102,10 +101,9 @@ impl Drop for Graph<'_> {
     // One call where a graph is let go: the proofs of those who do need not go through its parts.
     fn drop(self) {
         let Graph {
-            kind: _,
-            numbers: _,
-            flags: _,
+            names: _names,
             points: _points,
+            lines: _lines,
             first: _,
             steps: _,
         } = self;
@@ -113,38 +111,36 @@ impl Drop for Graph<'_> {
 }
 
 impl<'a> Model for Graph<'a> {
-    ghost use Rattle.sdv_graph.specs.Graph.{Graph, graph_with};
+    ghost use Rattle.sdv_graph.specs.Graph.{Graph, graph_with, declared_names};
     ghost use Rattle.sdv_graph.specs.GraphOf.{IsSound};
 
     ghost Value = { Graph };
 
-    ghost view = { λ g. graph_with g.kind g.numbers g.flags g.points.items g.first g.steps };
+    ghost view = { λ g. graph_with (declared_names g.names) g.points.items g.lines.items g.first g.steps };
 
-    ghost invariant = { λ g. IsSound (graph_with g.kind g.numbers g.flags g.points.items g.first g.steps) };
+    ghost invariant = { λ g. IsSound (graph_with (declared_names g.names) g.points.items g.lines.items g.first g.steps) };
 }
 
 impl<'a> Graph<'a> {
     ghost use Rattle.std.specs.Prelude.{◌≡◌, ◌<◌, length, slice_get, Some};
-    ghost use Rattle.sdv_graph.specs.Graph.{Graph, EachRunEnds, graph_with, seen_point};
+    ghost use Rattle.sdv_graph.specs.Graph.{Graph, EachRunEnds, graph_with, seen_point, declared_names};
     ghost use Rattle.sdv_graph.specs.GraphOf.{IsSound};
 
-    /// A graph of these points.
+    /// A graph of these points, whose statements stand on these lines.
     pub(crate) fn from_points(
-        kind: Kind,
-        numbers: usize,
-        flags: usize,
+        names: Names<'a>,
         points: Vec<Point<'a>>,
+        lines: Vec<u32>,
         first: Target,
         steps: u128,
     ) -> Self
-        requires { IsSound (graph_with kind numbers flags points.items first steps) }
-        ensures { result ≡ graph_with kind numbers flags points.entry.items first steps }
+        requires { IsSound (graph_with (declared_names names) points.items lines.items first steps) }
+        ensures { result ≡ graph_with (declared_names names.entry) points.entry.items lines.items first steps }
     {
         Graph {
-            kind,
-            numbers,
-            flags,
+            names,
             points,
+            lines,
             first,
             steps,
         }
@@ -154,21 +150,28 @@ impl<'a> Graph<'a> {
     pub fn kind(&self) -> Kind
         ensures { result ≡ self.now.kind }
     {
-        self.kind
+        self.names.kind
     }
 
     /// How many number variables the script has.
     pub fn nums(&self) -> usize
         ensures { result ≡ self.now.numbers }
     {
-        self.numbers
+        self.names.numbers.len()
     }
 
     /// How many flags the script has.
     pub fn flags(&self) -> usize
         ensures { result ≡ self.now.flags }
     {
-        self.flags
+        self.names.flags.len()
+    }
+
+    /// What the script declares: the kind of card, and its names in the order of their numbers.
+    pub fn names(&self) -> &Names<'a>
+        ensures { declared_names result.now ≡ self.now.names }
+    {
+        &self.names
     }
 
     /// The number of points.
@@ -184,6 +187,14 @@ impl<'a> Graph<'a> {
         ensures { slice_get self.now.points number ≡ Some (seen_point result.now) }
     {
         &self.points[number]
+    }
+
+    /// The line of the script's text on which the statement of a point with a number below `len()` begins, from 1.
+    pub fn line(&self, number: usize) -> u32
+        requires { number < length self.now.points }
+        ensures { slice_get self.now.lines number ≡ Some result }
+    {
+        self.lines[number]
     }
 
     /// Where a run begins: at point 0. Each run ends, and the loops are nested as the targets say.

@@ -1,6 +1,6 @@
 //! From the syntax tree of a script to the points of its graph.
 
-ghost use Rattle.std.specs.Prelude.{◌≡◌, ◌+◌, ◌-◌, ◌<◌, ◌^◌, ◌++◌, ◌∷◌, [], IfOk, OnOk, map, take, drop};
+ghost use Rattle.std.specs.Prelude.{◌≡◌, ◌+◌, ◌-◌, ◌<◌, ◌^◌, ◌++◌, ◌∷◌, [], IfOk, OnOk, length, map, take, drop};
 ghost use Rattle.sdv_graph.specs.Tree.{statements_of, ways_of, statement_of};
 ghost use Rattle.sdv_graph.specs.Counts.{statements_count, ways_count, statement_count};
 ghost use Rattle.sdv_graph.specs.Moves.{statements_moves};
@@ -14,23 +14,37 @@ use crate::moves::moves;
 use crate::tree::{Block, Cases, Names, ScriptCommand, Stmt};
 use std::alloc::{AllocError, Global};
 
-/// The graph of a script, by what it declares and its statements. It is refused only for want of memory.
+/// The graph of a script, by what it declares, its statements, and the line on which each of them begins, in the order
+/// of their first tokens. It is refused only for want of memory.
 pub fn graph_of<'a>(
     alloc: Global,
     names: &Names<'a>,
     block: &Block<'a>,
+    lines: &[u32],
 ) -> Result<Graph<'a>, AllocError>
     requires runs { CanRun (statements_of block.now) }
     requires suits { SuitsKind names.now.kind (statements_of block.now) }
-    ensures { IfOk result (λ g. IsGraphOf (declared_names names.now) (statements_of block.now) g) }
+    requires located { length lines.now ≡ statements_count (statements_of block.now) }
+    ensures { IfOk result (λ g. IsGraphOf (declared_names names.now) (statements_of block.now) lines.now g) }
 {
     let end = head_of(count(block));
     let mut points = Vec::new(alloc);
     put_block(alloc, &mut points, 0, block, end, end, &[])?;
+    let lines = Vec::from_slice(alloc, lines)?;
+    let names = copied(alloc, names)?;
     let first = entry_of(block, 0, end);
-    let steps = moves(block);
-    let (numbers, flags) = (names.numbers.len(), names.flags.len());
-    Ok(Graph::from_points(names.kind, numbers, flags, points, first, steps))
+    Ok(Graph::from_points(names, points, lines, first, moves(block)))
+}
+
+// The same names, in memory of their own.
+fn copied<'a>(alloc: Global, names: &Names<'a>) -> Result<Names<'a>, AllocError>
+    ensures { IfOk result (λ copy. declared_names copy ≡ declared_names names.now) }
+{
+    Ok(Names {
+        kind: names.kind,
+        flags: Vec::from_slice(alloc, &names.flags)?,
+        numbers: Vec::from_slice(alloc, &names.numbers)?,
+    })
 }
 
 // How many statements a list of statements has, those of its blocks included.

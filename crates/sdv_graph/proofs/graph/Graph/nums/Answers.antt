@@ -1,5 +1,6 @@
 use Rattle.std.proofs.Common.{rules}
+use Rattle.std.proofs.lemmas.List.{length-map}
 use Rattle.sdv_graph.proofs.graph.Graph.nums.Goals as goal
 
 pub returns : goal.returns
-returns c = search rules
+returns c = search (rules, length-map)
