@@ -12,7 +12,7 @@ use Rattle.sdv_graph.specs.Tree.{Statements, nothing, first, Ways, otherwise, wa
 use Rattle.sdv_graph.specs.Path.{Point, sends}
 use Rattle.sdv_graph.specs.Points.{again, entry, outside, past, cases_of, other_of, point_with, points_of_statements, points_of_ways, points_of_statement}
 use Rattle.sdv_graph.specs.Graph.{Graph}
-use Rattle.sdv_graph.specs.GraphOf.{IsGraphOf}
+use Rattle.sdv_script.specs.OneGraph.{IsGraphOfScript}
 use Rattle.sdv_script.specs.Script.{Parsed, IsScript}
 use Rattle.sdv_script.specs.Asks.{PointAsks, AsksByTable}
 use Rattle.sdv_script.proofs.CommandAsks.{command_asks}
@@ -79,7 +79,7 @@ mutual
   statement_asks names depth (fault name) fits at next brk most = alone names.kind _ tt
 
 -- each command of a script's graph asks by a line of the command table
-pub asks_by_table : (s : Parsed) (g : Graph) → IsScript s → IsGraphOf s.names s.body g → AsksByTable g
+pub asks_by_table : (s : Parsed) (g : Graph) → IsScript s → IsGraphOfScript s g → AsksByTable g
 asks_by_table s g is graph =
     let start : Depth = record { braces = 0; loops = 0 } in
     subst (λ k. All (PointAsks k) g.points) (sym graph.kind_same)

@@ -10,7 +10,7 @@ use Rattle.sdv_graph.specs.GraphOf.{CanRun, SuitsKind}
 use Rattle.sdv_script.proofs.MovesBound.{few_moves}
 use Rattle.sdv_script.proofs.PointLimits.{points_keep_limits}
 use Rattle.sdv_script.proofs.PointSuits.{points_suit}
-pub use Rattle.sdv_graph.proofs.GraphOf.{parts, graph_of_body, graph_is, sound, is_graph_of}
+pub use Rattle.sdv_graph.proofs.GraphOf.{parts, graph_of_body, graph_is, only_graph, sound, is_graph_of}
 
 neither : (a b : Bool) → a ≡ false → b ≡ false → a || b ≡ false
 neither true b p q = absurd (cc)

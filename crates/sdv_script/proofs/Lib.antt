@@ -6,7 +6,9 @@ pub mod CaseLaws
 pub mod CommandAsks
 pub mod GuardLaws
 pub mod HeadLaws
+pub mod HeadsFound
 pub mod LevelLaws
+pub mod LineLaws
 pub mod NameLaws
 mod OneGraph
 pub mod PieceLaws

@@ -1,11 +1,13 @@
 pub mod Asks
 pub mod Commands
 pub mod Faults
+pub mod FoundLines
 pub mod Grammar
 pub mod GuardedOf
 pub mod HeadOf
 pub mod Heads
 pub mod InRow
+pub mod Lines
 pub mod Refusal
 pub mod Keywords
 pub mod OneGraph

@@ -1,8 +1,10 @@
 //! Places in a script's text, token by token.
 
-ghost use Rattle.std.specs.Prelude.{◌≡◌, ◌≤◌, ◌+◌, false, length, drop, min, count_by};
+ghost use Rattle.std.specs.Prelude.{◌≡◌, ◌≤◌, ◌+◌, ◌-◌, ◌∷◌, [], true, false, length, take, drop, min, count_by};
 ghost use Rattle.sdv_script.specs.Tokens.{after_gap, gap_step, tokens, tokens_by};
-ghost use Rattle.sdv_script.specs.TokenView.{list_of};
+ghost use Rattle.sdv_script.specs.TokenView.{list_of, token_of};
+ghost use Rattle.sdv_script.specs.Lines.{gap_of, line_behind, lines_by, token_lines};
+ghost use Rattle.sdv_script.specs.FoundLines.{lines_at, reach};
 ghost use Rattle.sdv_script.specs.Place.{tokens_at};
 ghost use Rattle.sdv_script.specs.Faults.{kind_at, is_line_feed};
 ghost use Rattle.sdv_script.specs.Printed.{pieces_by, pieces, pieces_at};
@@ -28,6 +30,8 @@ impl<'a> Cursor<'a> {
     pub fn new(text: &'a str) -> Cursor<'a>
         ensures tokens { tokens_at result ≡ tokens text.entry.now }
         ensures pieces { pieces_at result ≡ pieces text.entry.now }
+        ensures lines { 1 + length text.entry.now ≤ u32.MAX → lines_at result ≡ token_lines 1 text.entry.now }
+        ensures reach { reach result ≤ 1 + length text.entry.now }
     {
         token_after(text.as_bytes(), 1)
     }
@@ -36,8 +40,21 @@ impl<'a> Cursor<'a> {
     pub fn advance(&mut self)
         ensures tokens { tokens_at self.new ≡ tokens self.old.rest.now }
         ensures pieces { pieces_at self.new ≡ pieces self.old.rest.now }
+        ensures lines { reach self.old ≤ u32.MAX →
+            lines_at self.new ≡ token_lines (line_behind self.old.line self.old.text.now) self.old.rest.now }
+        ensures reach { reach self.new ≤ reach self.old }
     {
-        *self = token_after(self.rest, self.line);
+        *self = token_after(self.rest, line_after(self.text, self.line));
+    }
+
+    /// No token stands here.
+    pub fn is_end(&self) -> bool
+        ensures end { result ≡ true → tokens_at self.now ≡ [] }
+        ensures token { result ≡ false → tokens_at self.now ≡ token_of self.now.token ∷ tokens self.now.rest.now }
+        ensures line { result ≡ false → lines_at self.now ≡ self.now.line
+            ∷ token_lines (line_behind self.now.line self.now.text.now) self.now.rest.now }
+    {
+        matches!(self.token, Token::End)
     }
 
     /// What is wrong at the token; a stray token is wrong whatever was wanted.
@@ -56,21 +73,25 @@ impl<'a> Cursor<'a> {
     }
 }
 
-// The first token of what follows a token, whose line is given.
+// The first token of a text that begins on a line.
 #[tactic(auto, using(crate::proofs::TokensLaws::tokens_is, crate::proofs::PieceLaws::pieces_is))]
 fn token_after(text: &[u8], line: u32) -> Cursor<'_>
     ensures tokens { tokens_at result ≡ tokens text.entry.now }
     ensures pieces { pieces_at result ≡ pieces text.entry.now }
+    ensures lines { line + length text.entry.now ≤ u32.MAX → lines_at result ≡ token_lines line text.entry.now }
+    ensures reach { reach result ≤ line + length text.entry.now }
 {
     let (gap, text) = text.split_at(gap_len(text));
     token_here(text, line_after(gap, line))
 }
 
-// The first token of a text that begins with no blank and no comment.
-#[tactic(auto, using(crate::proofs::TokensLaws::tokens_none, crate::proofs::TokensLaws::tokens_some, crate::proofs::PieceLaws::pieces_none, crate::proofs::PieceLaws::pieces_some))]
+// The same of a text that begins with no blank and no comment.
+#[tactic(auto, using(crate::proofs::TokensLaws::tokens_none, crate::proofs::TokensLaws::tokens_some, crate::proofs::PieceLaws::pieces_none, crate::proofs::PieceLaws::pieces_some, crate::proofs::LineLaws::lines_none, crate::proofs::LineLaws::lines_some))]
 fn token_here(text: &[u8], line: u32) -> Cursor<'_>
     ensures tokens { tokens_at result ≡ tokens_by tokens text.entry.now }
     ensures pieces { pieces_at result ≡ pieces_by pieces text.entry.now }
+    ensures lines { lines_at result ≡ lines_by token_lines line text.entry.now }
+    ensures reach { reach result ≡ line + length text.entry.now }
 {
     if text.is_empty() {
         return Cursor {

@@ -1,8 +1,7 @@
 //! The graph of a script.
 
 ghost use Rattle.std.specs.Prelude.{◌≡◌, MatchResult};
-ghost use Rattle.sdv_graph.specs.GraphOf.{IsGraphOf};
-ghost use Rattle.sdv_script.specs.OneGraph.{HasOneGraph};
+ghost use Rattle.sdv_script.specs.OneGraph.{HasOneGraph, IsGraphOfScript};
 ghost use Rattle.sdv_script.specs.Refusal.{memory_fault};
 ghost use Rattle.sdv_script.specs.Script.{Parsed, IsScript};
 ghost use Rattle.sdv_script.specs.Shown.{shown};
@@ -13,13 +12,12 @@ use sdv_graph::{Graph, graph_of};
 use std::alloc::Global;
 
 impl<'a> Script<'a> {
-    /// The graph of the script: its paths are the script's walks, each run over it ends, and its loops are nested. It is
-    /// refused only for want of memory.
+    /// The graph of the script: its paths are the script's walks, each run over it ends, its loops are nested, and the
+    /// line of each point is the one on which its statement begins. It is refused only for want of memory.
     pub fn graph(&self, alloc: Global) -> Result<Graph<'a>, ScriptFault>
-        ensures { MatchResult result (λ g. IsGraphOf (shown self.now).names (shown self.now).body g)
-            (λ f. f ≡ memory_fault) }
+        ensures { MatchResult result (λ g. IsGraphOfScript (shown self.now) g) (λ f. f ≡ memory_fault) }
     {
-        match graph_of(alloc, &self.names, &self.body) {
+        match graph_of(alloc, &self.names, &self.body, &self.lines) {
             Ok(graph) => Ok(graph),
             Err(_) => Err(ScriptFault {
                 kind: FaultKind::Memory,

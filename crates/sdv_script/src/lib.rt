@@ -18,6 +18,7 @@ mod graphed;
 mod guards;
 mod heads;
 mod keyword;
+mod lines;
 mod operand;
 mod printing;
 mod progress;

@@ -1,10 +1,14 @@
 //! Reading a script.
 
-ghost use Rattle.std.specs.Prelude.{◌≡◌, ◌≢◌, IfOk, IfErr};
+ghost use Rattle.std.specs.Prelude.{◌≡◌, ◌≢◌, ◌≤◌, length, IfOk, IfErr};
 ghost use Rattle.sdv_script.specs.Asks.{AsksByTable};
 ghost use Rattle.sdv_graph.specs.Graph.{Graph};
-ghost use Rattle.sdv_graph.specs.GraphOf.{IsGraphOf};
+ghost use Rattle.sdv_script.specs.OneGraph.{IsGraphOfScript};
+ghost use Rattle.sdv_script.specs.Lines.{token_lines};
+ghost use Rattle.sdv_script.specs.FoundLines.{found_lines};
+ghost use Rattle.sdv_script.specs.Rules.{max_bytes};
 ghost use Rattle.sdv_script.specs.Script.{Parsed, IsScript};
+ghost use Rattle.sdv_script.specs.declared.lines.Before.TheVariants.{Other};
 ghost use Rattle.sdv_script.specs.Place.{tokens_at, names_of};
 ghost use Rattle.sdv_script.specs.Shown.{shown};
 ghost use Rattle.sdv_graph.specs.Tree.{statements_of};
@@ -18,6 +22,7 @@ use crate::depth::Depth;
 use crate::expect::card_word;
 use crate::fault::{FaultKind, ScriptFault, Stop};
 use crate::flow::block_falls;
+use crate::lines::lines_of_statements;
 use crate::progress::Progress;
 use crate::script::Script;
 use crate::token::Token;
@@ -47,7 +52,12 @@ pub fn parse(alloc: Global, text: &str) -> Result<Script<'_>, ScriptFault>
         });
     }
     match whole(alloc, text) {
-        Ok((names, body)) => Ok(Script { text, names, body }),
+        Ok((names, body, lines)) => Ok(Script {
+            text,
+            names,
+            body,
+            lines,
+        }),
         Err(Stop::Fault(fault)) => Err(fault),
         Err(Stop::Memory) => Err(ScriptFault {
             kind: FaultKind::Memory,
@@ -63,18 +73,22 @@ pub fn one_tree()
 
 /// Each command of a script's graph asks by a line of the command table.
 pub fn asks_by_table()
-    ensures { (s : Parsed) → (g : Graph) → IsScript s → IsGraphOf s.names s.body g → AsksByTable g }
+    ensures { (s : Parsed) → (g : Graph) → IsScript s → IsGraphOfScript s g → AsksByTable g }
 {}
 
 #[tactic(auto, unfolding(crate::specs::Reading::read_script))]
-fn whole(alloc: Global, text: &str) -> Result<(Names<'_>, Block<'_>), Stop>
-    ensures { Gives (λ x. (names_of x.0, statements_of x.1)) result (read_script (tokens text.entry.now)) }
+fn whole(alloc: Global, text: &str) -> Result<(Names<'_>, Block<'_>, Vec<u32>), Stop>
+    requires { length text.now ≤ max_bytes }
+    ensures read { Gives (λ x. (names_of x.0, statements_of x.1)) result (read_script (tokens text.entry.now)) }
+    ensures lines { IfOk result (λ x. x.2.items
+        ≡ found_lines Other (tokens text.entry.now) (token_lines 1 text.entry.now)) }
 {
     let mut at = Cursor::new(text);
     card_word(&mut at)?;
     let names = declared(alloc, &mut at)?;
     let body = body(alloc, &names, at)?;
-    Ok((names, body))
+    let lines = lines_of_statements(alloc, text)?;
+    Ok((names, body, lines))
 }
 
 // The statements of a script, up to the end of the text.
