@@ -189,6 +189,14 @@ impl<'a> Graph<'a> {
         &self.points[number]
     }
 
+    /// The line of the script's text on which the statement of each point begins, from 1.
+    pub fn lines(&self) -> &[u32]
+        ensures lines { result.now ≡ self.now.lines }
+        ensures each { length result.now ≡ length self.now.points }
+    {
+        &self.lines
+    }
+
     /// The line of the script's text on which the statement of a point with a number below `len()` begins, from 1.
     pub fn line(&self, number: usize) -> u32
         requires { number < length self.now.points }
