@@ -12,6 +12,7 @@ use Rattle.sdv_card.specs.Port.{KeepsTables}
 use Rattle.sdv_card.specs.ScriptEvent.{Return, BlocksIn}
 use Rattle.sdv_graph.specs.Graph.{Graph}
 use Rattle.sdv_graph.specs.Walk.{Pair, Ending, Open, Walk}
+use Rattle.sdv_script.specs.Lines.{statement_lines}
 use Rattle.sdv_script.specs.Script.{IsScript}
 use Rattle.sdv_script.proofs.ScriptLaws.{one_tree_lem}
 use Rattle.sdv_facts.specs.Facts.{PointFacts}
@@ -68,7 +69,7 @@ module _ (k : Kind) (rs : List Request) (g : Graph) (is : IsScript (batch_script
   walk_of : (e : Ending) (es : List Pair) → IsWalk g e es → Walk k (batch_names k) (batch_body k (greatest_end rs) rs) e es
   walk_of e es w =
       subst (λ names. Walk names.kind names (batch_body k (greatest_end rs) rs) e es) same_tree.0
-      (subst (λ body. Walk of.script.names.kind of.script.names body e es) same_tree.1 (w.walk of.script.names of.script.body of.graph))
+      (subst (λ body. Walk of.script.names.kind of.script.names body e es) same_tree.1 (w.walk of.script.names of.script.body (statement_lines of.script) of.graph))
 
   kind_is : g.kind ≡ k
   kind_is = of.graph.kind_same ∙ ap (λ names. names.kind) same_tree.0

@@ -2,6 +2,9 @@
 use Rattle.std.proofs.Common.{◌≡◌, ℕ, zero, suc, ◌+◌, ◌-◌, ◌≤◌, List, [], ◌∷◌, ◌++◌, Some, length, slice_get, sym, ap, ◌∙◌, subst, arith, Option}
 use Rattle.std.proofs.Props.{props}
 use Rattle.std.proofs.Math.Logic.{∥∥₁_elim}
+use Rattle.sdv_script.specs.Lines.{statement_lines}
+use Rattle.sdv_script.specs.OneGraph.{IsGraphOfScript}
+use Rattle.sdv_script.proofs.GraphOf.{only_graph}
 use Rattle.sdv_script.specs.declared.depth.Depth.{Depth}
 use Rattle.sdv_graph.specs.declared.graph.Target.{Target}
 use Rattle.sdv_script.specs.declared.script.Script.{Script}
@@ -10,7 +13,6 @@ use Rattle.sdv_graph.specs.declared.tree.Atom.TheVariants as atoms
 use Rattle.sdv_card.specs.declared.command.Order.{Order}
 use Rattle.sdv_card.specs.CommandTable.{order_of}
 use Rattle.sdv_graph.specs.Graph.{Graph}
-use Rattle.sdv_graph.specs.GraphOf.{IsGraphOf}
 use Rattle.sdv_graph.specs.Path.{Action, Point, sends, phases, lets, tests, flags, widths, heads, jumps, stops}
 use Rattle.sdv_graph.specs.Points.{points_of, points_of_statements, points_of_ways, points_of_statement, entry, again, outside, past}
 use Rattle.sdv_script.specs.Rules.{AtomFits, StatementsFit, WaysFit, StatementFits, deeper, in_loop, statements_count, statement_count}
@@ -18,7 +20,6 @@ use Rattle.sdv_script.specs.Script.{IsScript, Parsed}
 use Rattle.sdv_script.specs.Shown.{shown}
 use Rattle.sdv_graph.specs.Tree.{Statements, nothing, first, Ways, otherwise, way, Statement, send, phase, setting, choice, set, clear, bus_lines, turns, break, done, fault, Declared}
 use Rattle.sdv_facts.specs.Limits.{AtomInLimits}
-use Rattle.sdv_registers.specs.declared.kind.Kind.{Kind}
 use Rattle.sdv_certify.specs.declared.fault.CertifyFault.{CertifyFault}
 use Rattle.sdv_certify.specs.Refusal.{RefusedAs}
 use Rattle.sdv_certify.specs.Answers.{IsRefused}
@@ -89,7 +90,7 @@ module _ (names : Declared) (few : length names.flags ≤ 4) where
     statement_fits depth done at next brk most f = (tt, tt)
     statement_fits depth (fault name) at next brk most f = (tt, tt)
 
-graph_fits : (p : Parsed) (g : Graph) → IsGraphOf p.names p.body g → IsScript p → GraphFits g
+graph_fits : (p : Parsed) (g : Graph) → IsGraphOfScript p g → IsScript p → GraphFits g
 graph_fits p g is s = record {
   few = (let n = s.fits.names_fit.few_numbers in let e = is.numbers_same in omega (arith, n, e));
   actions = λ i place here. each_at (points_of p.body) i place
@@ -118,24 +119,13 @@ action_prop (stops last) = hlevel props
 fits_prop : (g : Graph) → IsProp (GraphFits g)
 fits_prop g = hlevel (props, action_prop)
 
-pub script_fits : (s : Script) (g : Graph) → IsGraphOf (shown s).names (shown s).body g → GraphFits g
+pub script_fits : (s : Script) (g : Graph) → IsGraphOfScript (shown s) g → GraphFits g
 script_fits s g is = ∥∥₁_elim s.is_script (fits_prop g) (graph_fits (shown s) g is)
 
 -- ONE GRAPH
 
-abbrev Same_graph : Graph → Graph → Type 0
-Same_graph a b = a ≡ b
+pub one_graph : (p : Parsed) (g h : Graph) → IsGraphOfScript p g → IsGraphOfScript p h → g ≡ h
+one_graph p g h a b = only_graph p.names p.body (statement_lines p) g a ∙ sym (only_graph p.names p.body (statement_lines p) h b)
 
-graph_same : (k l : Kind) (m n f h : ℕ) (ps qs : List Point) (t u : Target) (x y : ℕ) → k ≡ l → m ≡ n → f ≡ h → ps ≡ qs → t ≡ u → x ≡ y
-    → Same_graph (record { kind = k; numbers = m; flags = f; points = ps; first = t; steps = x })
-    (record { kind = l; numbers = n; flags = h; points = qs; first = u; steps = y })
-graph_same k l m n f h ps qs t u x y a b c d e g = cc
-
-pub one_graph : (p : Parsed) (g h : Graph) → IsGraphOf p.names p.body g → IsGraphOf p.names p.body h → g ≡ h
-one_graph p g h a b =
-    graph_same g.kind h.kind g.numbers h.numbers g.flags h.flags g.points h.points g.first h.first g.steps h.steps (a.kind_same ∙ sym b.kind_same)
-    (a.numbers_same ∙ sym b.numbers_same)
-    (a.flags_same ∙ sym b.flags_same) (a.points_same ∙ sym b.points_same) (a.first_same ∙ sym b.first_same) (a.steps_same ∙ sym b.steps_same)
-
-pub refused_of : (s : Script) (g : Graph) (why : CertifyFault) → IsGraphOf (shown s).names (shown s).body g → RefusedAs g why → IsRefused s why
+pub refused_of : (s : Script) (g : Graph) (why : CertifyFault) → IsGraphOfScript (shown s) g → RefusedAs g why → IsRefused s why
 refused_of s g why is r h other = subst (λ (x : Graph). RefusedAs x why) (one_graph (shown s) g h is other) r

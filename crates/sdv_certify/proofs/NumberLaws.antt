@@ -75,9 +75,10 @@ mutual
 abbrev pub PointsTestNoNumber : Graph → Type 0
 PointsTestNoNumber g = (i : ℕ) (place : Point) → slice_get g.points i ≡ Some place → ActionTestsNoNumber place.action
 
-pub points_test_no_number : (names : Declared) (script : Statements) (g : Graph) → StatementsTestNoNumber script → IsGraphOf names script g
+pub points_test_no_number : (names : Declared) (script : Statements) (lines : List ℕ) (g : Graph) → StatementsTestNoNumber script
+    → IsGraphOf names script lines g
     → PointsTestNoNumber g
-points_test_no_number names script g h is i place here =
+points_test_no_number names script lines g h is i place here =
     each_at (points_of script) i place (of_statements script 0 (past script) (past script) [] h) (ap (λ l. slice_get l i) (sym is.points_same) ∙ here)
 
 -- a value that keeps is carried along an edge, whatever is known

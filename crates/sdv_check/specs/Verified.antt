@@ -1,11 +1,11 @@
 -- What is answered of the texts of a script and a certificate.
 use Rattle.std.specs.Prelude.{◌≡◌, ℕ, List, Result, Ok, Err}
+use Rattle.sdv_script.specs.OneGraph.{IsGraphOfScript}
 use Rattle.sdv_script.specs.declared.fault.ScriptFault.{ScriptFault}
 use Rattle.sdv_script.specs.declared.fault.FaultKind.{FaultKind}
 use Rattle.sdv_script.specs.declared.fault.FaultKind.TheVariants.{Memory as NoMemory}
 use Rattle.sdv_script.specs.Script.{Parsed, IsScript}
 use Rattle.sdv_graph.specs.Graph.{Graph}
-use Rattle.sdv_graph.specs.GraphOf.{IsGraphOf}
 use Rattle.sdv_facts.specs.Facts.{Certificate as Facts}
 use Rattle.sdv_facts.specs.Bounds.{bound_of}
 use Rattle.sdv_facts.specs.CertificateText.{text_of, WithinLimits}
@@ -20,7 +20,7 @@ pub record IsGraphOfText (text : List ℕ) (g : Graph) : Type 0 where
   pub script : Parsed
   pub same : script.text ≡ text
   pub is_script : IsScript script
-  pub graph : IsGraphOf script.names script.body g
+  pub graph : IsGraphOfScript script g
 
 -- the text is that of this certificate, which is within the limits
 pub record IsTextOf (text : List ℕ) (c : Facts) : Type 0 where

@@ -36,7 +36,7 @@ use Rattle.sdv_run.proofs.Announced.{announced_after}
 use Rattle.sdv_run.proofs.Made.{received_more, happened_more, written_more, none_happened, none_written, moves, led_to, led_onward}
 
 is_walk : (f : Graph) (e : Ending) (es : List Pair) → Path f.kind f.points e (begin f) es → IsWalk f e es
-is_walk f e es path = record { path = path; walk = λ names script is. subst (λ k. Walk k names script e es) is.kind_same ((is.walks e es).1 path) }
+is_walk f e es path = record { path = path; walk = λ names script begin_lines is. subst (λ k. Walk k names script e es) is.kind_same ((is.walks e es).1 path) }
 
 -- a path may stop anywhere
 open_here : (k : Kind) (g : List Point) (s : Stand) → Path k g Open s []

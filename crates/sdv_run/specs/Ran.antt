@@ -34,7 +34,8 @@ pub record Happened {S : Type 0} (k : Kind) (steps : Steps S) (es : List Pair) (
 -- They are a path of the graph, and so a walk of its script, which ends so.
 pub record IsWalk (g : Graph) (last : Ending) (es : List Pair) : Type 0 where
   pub path : Path g.kind g.points last (begin g) es
-  pub walk : (names : Declared) (script : Statements) → IsGraphOf names script g → Walk names.kind names script last es
+  pub walk : (names : Declared) (script : Statements) (begin_lines : List ℕ) → IsGraphOf names script begin_lines g
+      → Walk names.kind names script last es
 
 -- Their blocks were written, and their lines were printed.
 pub record Written {S : Type 0} (es : List Pair) (w w' : World S) : Type 0 where

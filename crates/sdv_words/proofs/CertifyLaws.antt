@@ -5,10 +5,11 @@ use Rattle.clap.specs.Words.{Text}
 use Rattle.std.specs.Io.KnownBytes.{Appends}
 use Rattle.sdv_text.specs.Written.{AppendsPart, Writes}
 use Rattle.std.proofs.lemmas.Result.{on_ok_weaker}
+use Rattle.sdv_script.specs.OneGraph.{IsGraphOfScript}
 use Rattle.sdv_script.specs.declared.script.Script.{Script as Tree}
 use Rattle.sdv_script.specs.Graph.{Graph}
-use Rattle.sdv_script.specs.GraphOf.{IsGraphOf}
 use Rattle.sdv_script.specs.Script.{Parsed, IsScript}
+use Rattle.sdv_script.specs.Tree.{Statements, Declared}
 use Rattle.sdv_script.specs.Shown.{shown}
 use Rattle.sdv_script.proofs.ScriptLaws.{one_tree_lem}
 use Rattle.sdv_facts.specs.Facts.{Certificate}
@@ -23,12 +24,20 @@ use Rattle.sdv_faults.specs.declared.fault.Fault.{Fault}
 use Rattle.sdv_faults.specs.declared.fault.Fault.TheVariants.{Output}
 use Rattle.sdv_faults.proofs.OutputLaws.{whole, in_part, if_err}
 
+abbrev Same : Parsed → Parsed → Type 0
+Same p q = p ≡ q
+
+same_parts : (t u : Text) (m n : Declared) (b c : Statements) → t ≡ u → m ≡ n → b ≡ c
+    → Same (record { text = t; names = m; body = b }) (record { text = u; names = n; body = c })
+same_parts t u m n b c x y z = cc
+
 -- a graph of the text is one of the script, since a text has one tree
-graph_of_script : (text : Text) (s : Tree) (g : Graph) → IsTextOfScript text s → IsGraphOfText text g → IsGraphOf (shown s).names (shown s).body g
+graph_of_script : (text : Text) (s : Tree) (g : Graph) → IsTextOfScript text s → IsGraphOfText text g → IsGraphOfScript (shown s) g
 graph_of_script text s g is of =
     let p : Parsed = of.script in
     let tree = one_tree_lem p (shown s) of.is_script is.is_script (of.same ∙ sym is.same) in
-    subst (λ b. IsGraphOf (shown s).names b g) tree.1 (subst (λ n. IsGraphOf n p.body g) tree.0 of.graph)
+    let same = same_parts p.text (shown s).text p.names (shown s).names p.body (shown s).body (of.same ∙ sym is.same) tree.0 tree.1 in
+    subst (λ (q : Parsed). IsGraphOfScript q g) same of.graph
 
 pub certificate_of_text : (text : Text) (s : Tree) (c : Certificate) → (shown s).text ≡ text → IsScript (shown s) → CertificateOf s c.points
     → VersionFor s c.version → ClosedFor s c.points → WithinLimits c → IsCertificateOfText text c
