@@ -1,5 +1,6 @@
 pub mod Known
 pub mod Refused
+pub mod Reason
 pub mod Edge
 pub mod Way
 pub mod Found

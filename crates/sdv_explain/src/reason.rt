@@ -5,6 +5,7 @@ ghost use Rattle.sdv_card.specs.LegalShapes.{row_legal, settled_legal, order_leg
 ghost use Rattle.sdv_card.specs.RowRules.{length_allows, erase_allows, preset_allows};
 ghost use Rattle.sdv_card.specs.Modes.{same_width};
 ghost use Rattle.sdv_card.specs.Takes.{taken_as_of};
+ghost use Rattle.sdv_explain.specs.Reason.{event_illegality, first_broken, illegality_of, order_illegality, order_rules, phase_rules, row_rules};
 
 use sdv_card::state_table::{
     Rows, give_legal, is_shape, order, own_target, recv_legal, recv_reg_legal, same_width,
@@ -43,7 +44,8 @@ fn preset_allows(row: Row, preset: u16) -> bool
 
 /// Why a settled card does not take a row.
 fn row_reason<T: Rows>(row: Row, t: &Fields) -> Option<Reason>
-    ensures { is_none result ≡ row_legal T.kind row t.now }
+    ensures reason { result ≡ first_broken (row_rules T.kind row t.now) }
+    ensures none { is_none result ≡ row_legal T.kind row t.now }
 {
     if T::next(row, t.state).is_none() {
         return Some(Reason::State(t.state));
@@ -62,7 +64,8 @@ fn row_reason<T: Rows>(row: Row, t: &Fields) -> Option<Reason>
 
 /// Why an order is not legal at a settled card.
 fn settled_reason<T: Rows>(order: Order, t: &Fields) -> Option<Reason>
-    ensures { is_none result ≡ settled_legal T.kind t.now (taken_as_of order t.now.app t.now.matched) }
+    ensures reason { result ≡ first_broken (order_rules T.kind order t.now) }
+    ensures none { is_none result ≡ settled_legal T.kind t.now (taken_as_of order t.now.app t.now.matched) }
 {
     match taken_as(order, t.app, t.matched) {
         TakenAs::Forbidden if t.app => Some(Reason::NotForApplications),
@@ -74,7 +77,8 @@ fn settled_reason<T: Rows>(order: Order, t: &Fields) -> Option<Reason>
 
 /// Why an order is not legal at a card, as it is or after its own step.
 fn order_reason<T: Rows>(order: Order, fields: &Fields) -> Option<Illegality>
-    ensures { is_none result ≡ order_legal T.kind order fields.now }
+    ensures reason { result ≡ order_illegality T.kind order fields.now }
+    ensures none { is_none result ≡ order_legal T.kind order fields.now }
 {
     if let Some(reason) = settled_reason::<T>(order, fields) {
         return Some(Illegality {
@@ -101,7 +105,8 @@ fn order_reason<T: Rows>(order: Order, fields: &Fields) -> Option<Illegality>
 
 /// Why a data phase is not legal: none is due, or host and card use other data lines.
 fn phase_reason(is_due: bool, none_due: Reason, fields: &Fields) -> Option<Reason>
-    ensures { is_none result ≡ is_due && same_width fields.now.lines fields.now.mode.width }
+    ensures reason { result ≡ first_broken (phase_rules is_due none_due fields.now) }
+    ensures none { is_none result ≡ is_due && same_width fields.now.lines fields.now.mode.width }
 {
     let (card, host) = (fields.mode.width, fields.lines);
     if !is_due {
@@ -115,7 +120,8 @@ fn phase_reason(is_due: bool, none_due: Reason, fields: &Fields) -> Option<Reaso
 
 /// Why an event is not legal at a card.
 fn event_reason<T: Rows>(event: &Event, fields: &Fields) -> Option<Illegality>
-    ensures { is_none result ≡ event_legal T.kind event.now fields.now }
+    ensures reason { result ≡ event_illegality T.kind event.now fields.now }
+    ensures none { is_none result ≡ event_legal T.kind event.now fields.now }
 {
     let reason = match event {
         Event::Send(ask) => match order(T::kind(), ask) {
@@ -146,9 +152,11 @@ fn event_reason<T: Rows>(event: &Event, fields: &Fields) -> Option<Illegality>
     }
 }
 
-/// Why an event is not legal at a shape, if it is not.
+/// Why an event is not legal at a shape, if it is not: the first rule that is not kept, in the order of the tables of
+/// `specs/Reason.antt`.
 pub fn reason_of<T: Rows>(event: &Event, shape: Shape) -> Option<Illegality>
-    ensures { is_none result ≡ legal_code T.kind shape.0 event.now }
+    ensures reason { result ≡ illegality_of T.kind shape.0 event.now }
+    ensures none { is_none result ≡ legal_code T.kind shape.0 event.now }
 {
     match shape.decode() {
         Some(fields) if is_shape(T::kind(), &fields) => event_reason::<T>(event, &fields),
