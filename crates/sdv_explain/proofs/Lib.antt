@@ -1,5 +1,10 @@
 pub mod EdgeLaws
+pub mod EachLaws
+pub mod MemberLaws
 pub mod FoundLaws
+pub mod MetLaws
+pub mod NextLaws
+pub mod SearchLaws
 pub mod ExplainedLaws
 pub mod StandLaws
 mod RefusedLaws
