@@ -1,7 +1,10 @@
-use Rattle.std.proofs.Common.{subst}
+use Rattle.std.proofs.Common.{rules, subst}
 use Rattle.sdv_facts.proofs.StepLaws.{Laws}
 use Rattle.sdv_check.proofs.PromiseLaws.{promised}
 use Rattle.sdv_check.proofs.checker.accept_by.Goals as goal
+
+pub returns-clause-checked : goal.returns-clause-checked
+returns-clause-checked g c = search rules
 
 pub returns-clause-promised : goal.returns-clause-promised
 returns-clause-promised g c =
