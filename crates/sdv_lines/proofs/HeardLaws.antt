@@ -1,0 +1,185 @@
+-- Answers of one line, and what is none.
+use Rattle.std.proofs.Common.{◌≡◌, ℕ, suc, ◌+◌, ◌*◌, ◌<◌, ◌≤◌, List, [], ◌∷◌, ◌++◌, length, Option, Some, None, Result, Ok, Err, refl, sym, ap, ◌∙◌, subst, append_assoc, arith, length-append}
+use Rattle.std.specs.Prelude.{IfSome, codes}
+use Rattle.std.specs.Int.{w32, to_be_bytes}
+use Rattle.std.specs.List.{AllByRecursion}
+use Rattle.std.specs.Io.KnownBytes.{Consumes, IsAtEnd}
+use Rattle.hex.proofs.HexLemmas.{decode_of-ok}
+use Rattle.sdv_frames.specs.declared.command.Command.{Command}
+use Rattle.sdv_frames.specs.declared.reply.Expect.{Expect}
+use Rattle.sdv_frames.specs.declared.reply.Expect.TheVariants as expects
+use Rattle.sdv_frames.specs.declared.reply.Reply.{Reply}
+use Rattle.sdv_frames.specs.declared.reply.Reply.TheVariants.{R1, R2, R3, R6, R7}
+use Rattle.sdv_card.specs.declared.answer.Answer.{Answer}
+use Rattle.sdv_card.specs.declared.answer.Answer.TheVariants as answers
+use Rattle.sdv_card.specs.declared.answer.DataEnd.{DataEnd}
+use Rattle.sdv_card.specs.declared.answer.DataEnd.TheVariants as ends
+use Rattle.sdv_card.specs.declared.answer.WaitEnd.{WaitEnd}
+use Rattle.sdv_card.specs.declared.answer.WaitEnd.TheVariants as waits
+use Rattle.sdv_card.specs.Card.{Block}
+use Rattle.sdv_card.specs.Port.{Call, Exchange, DataIn, DataInRegister, DataOut, WaitWhileBusy}
+use Rattle.sdv_card.specs.ScriptEvent.{Return, Answered, BlocksIn, RegisterIn, BlocksOut, Waited}
+use Rattle.sdv_lines.specs.declared.fault.LineFault.{LineFault}
+use Rattle.sdv_lines.specs.declared.fault.LineFault.TheVariants as faults
+use Rattle.sdv_run.specs.Trace.{line_feed}
+use Rattle.sdv_lines.specs.Texts.{IsText, AreDigits, lines_of}
+use Rattle.sdv_lines.specs.Answers.{IsReplyOf, IsWordOf, TellsReply, TellsAnswer, data_end_text, wait_end_text, IsAnswer, Answers}
+use Rattle.sdv_lines.specs.Reading.{BeginsLong, ReadsNoLine}
+use Rattle.sdv_lines.specs.Streams.{Heard, HasNoAnswer, Unheard}
+
+-- LINES AT THE FRONT OF BYTES
+
+-- a text ends at the first line feed
+pub split_one : (a b r s : List ℕ) → IsText a → IsText b → a ++ 10 ∷ r ≡ b ++ 10 ∷ s → (a ≡ b) × (r ≡ s)
+split_one [] [] r s p q e = (refl, cc)
+split_one [] (y ∷ b) r s p q e = let clash : y ≡ 10 = cc in absurd (q.0 clash)
+split_one (x ∷ a) [] r s p q e = let clash : x ≡ 10 = cc in absurd (p.0 clash)
+split_one (x ∷ a) (y ∷ b) r s p q e =
+    let tails : a ++ 10 ∷ r ≡ b ++ 10 ∷ s = cc in
+    let rest = split_one a b r s p.1 q.1 tails in
+    let heads : x ≡ y = cc in
+    (ap (λ h. h ∷ a) heads ∙ ap (λ l. y ∷ l) rest.0, rest.1)
+
+not_text : (t rest : List ℕ) → IsText (t ++ 10 ∷ rest) → ⊥
+not_text [] rest p = p.0 refl
+not_text (x ∷ t) rest p = not_text t rest p.1
+
+-- a text at the front is no longer than the first line
+no_longer : (t front rest back : List ℕ) → IsText front → t ++ 10 ∷ rest ≡ front ++ back → length front ≤ length t
+no_longer t [] rest back p e = omega arith
+no_longer [] (y ∷ front) rest back p e = let clash : y ≡ 10 = cc in absurd (p.0 clash)
+no_longer (x ∷ t) (y ∷ front) rest back p e =
+    let tails : t ++ 10 ∷ rest ≡ front ++ back = cc in
+    let less = no_longer t front rest back p.1 tails in
+    omega (arith, less)
+
+-- THE FIRST LINE OF AN ANSWER HAS 1,024 BYTES AT MOST
+
+word_short : (format text : List ℕ) (word : ℕ) → length format ≡ 3 → IsWordOf format word text → length text ≤ 1024
+word_short format text word n w =
+    let digits = (decode_of-ok w.reply.digits (to_be_bytes w32 word) w.reply.are).2 in
+    let four : length (to_be_bytes w32 word) ≡ 4 = refl in
+    omega (arith, ap length w.reply.split, length-append format w.reply.digits, digits, four, n)
+
+register_short : (format text bytes : List ℕ) → length format ≡ 3 → length bytes ≡ 15 → IsReplyOf format bytes text → length text ≤ 1024
+register_short format text bytes n fifteen r =
+    let digits = (decode_of-ok r.digits bytes r.are).2 in
+    omega (arith, ap length r.split, length-append format r.digits, digits, fifteen, n)
+
+reply_short : (expect : Expect) (reply : Reply) (text : List ℕ) → TellsReply expect reply text → length text ≤ 1024
+reply_short (expects.R1 wanted) (R1 index status) text t = word_short (codes "R1 ") text status refl t.1
+reply_short expects.R2 (R2 register) text t = register_short (codes "R2 ") text register refl t.0 t.1
+reply_short expects.R3 (R3 ocr) text t = word_short (codes "R3 ") text ocr refl t
+reply_short expects.R6 (R6 word) text t = word_short (codes "R6 ") text word refl t
+reply_short expects.R7 (R7 word) text t = word_short (codes "R7 ") text word refl t
+reply_short expect reply text t = absurd t
+
+short_word : (word text : List ℕ) → length word ≤ 1024 → text ≡ word → length text ≤ 1024
+short_word word text n e = omega (arith, n, ap length e)
+
+answer_short : (expect : Expect) (answer : Answer) (text : List ℕ) → TellsAnswer expect answer text → length text ≤ 1024
+answer_short expects.Nothing answers.Sent text t = short_word (codes "-") text (omega arith) t
+answer_short (expects.R1 i) answers.TimeOut text t = short_word (codes "timeout") text (omega arith) t
+answer_short expects.R2 answers.TimeOut text t = short_word (codes "timeout") text (omega arith) t
+answer_short expects.R3 answers.TimeOut text t = short_word (codes "timeout") text (omega arith) t
+answer_short expects.R6 answers.TimeOut text t = short_word (codes "timeout") text (omega arith) t
+answer_short expects.R7 answers.TimeOut text t = short_word (codes "timeout") text (omega arith) t
+answer_short (expects.R1 i) (answers.Damaged f) text t = short_word (codes "damaged") text (omega arith) t.1
+answer_short expects.R2 (answers.Damaged f) text t = short_word (codes "damaged") text (omega arith) t.1
+answer_short expects.R3 (answers.Damaged f) text t = short_word (codes "damaged") text (omega arith) t.1
+answer_short expects.R6 (answers.Damaged f) text t = short_word (codes "damaged") text (omega arith) t.1
+answer_short expects.R7 (answers.Damaged f) text t = short_word (codes "damaged") text (omega arith) t.1
+answer_short (expects.R1 i) (answers.Reply reply) text t = reply_short (expects.R1 i) reply text t
+answer_short expects.R2 (answers.Reply reply) text t = reply_short expects.R2 reply text t
+answer_short expects.R3 (answers.Reply reply) text t = reply_short expects.R3 reply text t
+answer_short expects.R6 (answers.Reply reply) text t = reply_short expects.R6 reply text t
+answer_short expects.R7 (answers.Reply reply) text t = reply_short expects.R7 reply text t
+answer_short expect answer text t = absurd t
+
+first_short : (call : Call) (text : List ℕ) (texts : List (List ℕ)) (returned : Return) → IsAnswer call (text ∷ texts) returned → length text ≤ 1024
+first_short (Exchange command expect) text [] (Answered answer) a = answer_short expect answer text a
+first_short (DataIn lines count) text texts (BlocksIn ends.Ok blocks) a = short_word (codes "ok") text (omega arith) a.0
+first_short (DataIn lines count) text [] (BlocksIn ends.Cut blocks) a = short_word (codes "cut") text (omega arith) a
+first_short (DataInRegister lines count) text (digits ∷ []) (RegisterIn ends.Ok bytes) a = short_word (codes "ok") text (omega arith) a.0
+first_short (DataInRegister lines count) text [] (RegisterIn ends.Cut bytes) a = short_word (codes "cut") text (omega arith) a
+first_short (DataOut lines blocks) text [] (BlocksOut ends.Ok) a = short_word (codes "ok") text (omega arith) a
+first_short (DataOut lines blocks) text [] (BlocksOut ends.Cut) a = short_word (codes "cut") text (omega arith) a
+first_short WaitWhileBusy text [] (Waited waits.Ok) a = short_word (codes "ok") text (omega arith) a
+first_short WaitWhileBusy text [] (Waited waits.Late) a = short_word (codes "late") text (omega arith) a
+first_short call text texts returned a = absurd a
+
+-- no answer has no line
+nonempty : (call : Call) (returned : Return) → IsAnswer call [] returned → ⊥
+nonempty (Exchange command expect) returned a = a
+nonempty (DataIn lines count) returned a = a
+nonempty (DataInRegister lines count) returned a = a
+nonempty (DataOut lines blocks) returned a = a
+nonempty WaitWhileBusy returned a = a
+
+-- WHAT IS NO ANSWER
+
+first_line : (text : List ℕ) (texts : List (List ℕ)) (rest bytes : List ℕ) → bytes ≡ lines_of (text ∷ texts) ++ rest
+    → bytes ≡ text ++ 10 ∷ (lines_of texts ++ rest)
+first_line text texts rest bytes e = e ∙ append_assoc text (10 ∷ lines_of texts) rest
+
+-- bytes without a line feed
+unended : (call : Call) (bytes : List ℕ) → IsText bytes → HasNoAnswer call bytes
+unended call bytes t [] rest returned a e = nonempty call returned a.says
+unended call bytes t (text ∷ texts) rest returned a e =
+    not_text text (lines_of texts ++ rest) (subst (λ (l : List ℕ). IsText l) (first_line text texts rest bytes e) t)
+
+-- bytes whose first line is too long
+overlong : (call : Call) (bytes : List ℕ) → BeginsLong bytes → HasNoAnswer call bytes
+overlong call bytes b [] rest returned a e = nonempty call returned a.says
+overlong call bytes (front, back, is, t, long) (text ∷ texts) rest returned a e =
+    let short = first_short call text texts returned a.says in
+    let less = no_longer text front (lines_of texts ++ rest) back t (sym (first_line text texts rest bytes e) ∙ is) in
+    absurd (omega (arith, short, less, long))
+
+-- bytes whose first line is that of no answer
+pub wrong_line : (call : Call) (text rest bytes : List ℕ) → IsText text → bytes ≡ text ++ 10 ∷ rest
+    → ((texts : List (List ℕ)) (returned : Return) → IsAnswer call (text ∷ texts) returned → ⊥) → HasNoAnswer call bytes
+wrong_line call text rest bytes t is other [] back returned a e = nonempty call returned a.says
+wrong_line call text rest bytes t is other (first ∷ texts) back returned a e =
+    let same = split_one first text (lines_of texts ++ back) rest a.lines.0 t (sym (first_line first texts back bytes e) ∙ is) in
+    other texts returned (subst (λ (l : List ℕ). IsAnswer call (l ∷ texts) returned) same.0 a.says)
+
+-- ANSWERS
+
+-- an answer of one line
+pub heard_one : (call : Call) (returned : Return) (old new : Option (List ℕ)) (text : List ℕ) → IsText text → Consumes old new (text ++ line_feed)
+    → IsAnswer call (text ∷ []) returned → Heard call returned old new
+heard_one call returned old new text t c a = record { texts = text ∷ []; answers = record { lines = (t, tt); says = a }; read = c }
+
+-- no line was read
+pub unread : (call : Call) (old new : Option (List ℕ)) (fault : LineFault) → ReadsNoLine fault old new → Unheard fault call old new
+unread call None new faults.Closed r = (tt, r.1)
+unread call (Some xs) new faults.Closed r = (unended call xs r.0, r.1)
+unread call None new faults.Answer r = tt
+unread call (Some xs) new faults.Answer r = overlong call xs r
+unread call old new faults.Read r = tt
+unread call old new faults.Write r = absurd r
+
+-- a line that is that of no answer
+pub refused : (call : Call) (old new : Option (List ℕ)) (text : List ℕ) → IsText text → Consumes old new (text ++ line_feed)
+    → ((texts : List (List ℕ)) (returned : Return) → IsAnswer call (text ∷ texts) returned → ⊥) → IfSome old (HasNoAnswer call)
+refused call None new text t c other = tt
+refused call (Some xs) None text t c other = absurd c
+refused call (Some xs) (Some ys) text t c other = wrong_line call text ys xs t (c ∙ append_assoc text (10 ∷ []) ys) other
+
+-- ANSWERS THAT ARE NOT TOLD
+
+pub no_answer : (command : Command) (expect : Expect) (text : List ℕ) → ((answer : Answer) → TellsAnswer expect answer text → ⊥)
+    → (texts : List (List ℕ)) (returned : Return) → IsAnswer (Exchange command expect) (text ∷ texts) returned → ⊥
+no_answer command expect text n [] (Answered answer) a = n answer a
+no_answer command expect text n texts returned a = a
+
+pub no_wait : (text : List ℕ) → ((end : WaitEnd) → text ≡ wait_end_text end → ⊥) → (texts : List (List ℕ)) (returned : Return)
+    → IsAnswer WaitWhileBusy (text ∷ texts) returned → ⊥
+no_wait text n [] (Waited end) a = n end a
+no_wait text n texts returned a = a
+
+pub no_end : (lines : ℕ) (blocks : List Block) (text : List ℕ) → ((end : DataEnd) → text ≡ data_end_text end → ⊥) → (texts : List (List ℕ))
+    (returned : Return) → IsAnswer (DataOut lines blocks) (text ∷ texts) returned → ⊥
+no_end lines blocks text n [] (BlocksOut end) a = n end a
+no_end lines blocks text n texts returned a = a

@@ -1,0 +1,4 @@
+pub mod LineLaws
+pub mod AnswerLaws
+pub mod HeardLaws
+pub mod AskLaws

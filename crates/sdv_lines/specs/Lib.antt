@@ -1,0 +1,5 @@
+pub mod Texts
+pub mod Requests
+pub mod Answers
+pub mod Reading
+pub mod Streams

@@ -1,0 +1,97 @@
+-- What a call of a port of lines does to its two streams: the request that it writes, and the answer that it reads.
+use Rattle.std.specs.Prelude.{◌≡◌, ◌⊎◌, ℕ, List, ◌++◌, length, Option, Some, None, MatchOption, Result, MatchResult, IfSome}
+use Rattle.std.specs.Io.KnownBytes.{Appends, Consumes, IsAtEnd}
+use Rattle.sdv_frames.specs.declared.fault.FrameFault.TheVariants.{Length}
+use Rattle.sdv_card.specs.declared.answer.Answer.TheVariants.{Damaged}
+use Rattle.sdv_card.specs.declared.answer.DataEnd.TheVariants.{Cut}
+use Rattle.sdv_card.specs.declared.answer.WaitEnd.TheVariants.{Late}
+use Rattle.sdv_card.specs.Port.{Call, Exchange, DataIn, DataInRegister, DataOut, WaitWhileBusy}
+use Rattle.sdv_card.specs.ScriptEvent.{Return, Answered, BlocksIn, RegisterIn, BlocksOut, Waited}
+use Rattle.sdv_lines.specs.declared.fault.LineFault.{LineFault}
+use Rattle.sdv_lines.specs.declared.fault.LineFault.TheVariants as faults
+use Rattle.sdv_lines.specs.Texts.{lines_of}
+use Rattle.sdv_lines.specs.Requests.{request_of}
+use Rattle.sdv_lines.specs.Answers.{Answers}
+
+-- the streams of a port, and the fault that it keeps
+pub record Streams : Type 0 where
+  -- the bytes that the reader has left, where they are known
+  pub answers : Option (List ℕ)
+  -- the bytes that the writer holds, where they are known
+  pub requests : Option (List ℕ)
+  pub fault : Option LineFault
+
+-- WRITING: known bytes grow by a front of a text, perhaps by all of it
+abbrev pub AppendsFront : Option (List ℕ) → Option (List ℕ) → List ℕ → Type 0
+AppendsFront old new text = (front back : List ℕ) × (text ≡ front ++ back) × Appends old new front
+
+-- a text was written and flushed, or the writer failed
+abbrev pub Sends : {A : Type 0} → Option (List ℕ) → Option (List ℕ) → Result A LineFault → List ℕ → Type 0
+Sends old new result text =
+    MatchResult result (λ _. Appends old new text) (λ fault. (fault ≡ faults.Write) × AppendsFront old new text)
+
+-- READING: the lines that were read are an answer
+pub record Heard (call : Call) (returned : Return) (old new : Option (List ℕ)) : Type 0 where
+  pub texts : List (List ℕ)
+  pub answers : Answers call texts returned
+  pub read : Consumes old new (lines_of texts)
+
+-- bytes do not begin with an answer
+abbrev pub HasNoAnswer : Call → List ℕ → Type 0
+HasNoAnswer call bytes =
+    (texts : List (List ℕ)) (rest : List ℕ) (returned : Return) →
+    Answers call texts returned → bytes ≡ lines_of texts ++ rest → ⊥
+
+-- no answer was read: what came is none, or it ended before there was one, or the reader failed
+abbrev pub Unheard : LineFault → Call → Option (List ℕ) → Option (List ℕ) → Type 0
+Unheard faults.Answer call old new = IfSome old (HasNoAnswer call)
+Unheard faults.Closed call old new = IfSome old (HasNoAnswer call) × IsAtEnd new
+Unheard faults.Read call old new = Unit {0}
+Unheard fault call old new = ⊥
+
+-- a call's answer was read, or none
+abbrev pub Hears : {A : Type 0} → Call → (A → Return) → Option (List ℕ) → Option (List ℕ) → Result A LineFault → Type 0
+Hears call returns old new result =
+    MatchResult result (λ a. Heard call (returns a) old new) (λ fault. Unheard fault call old new)
+
+-- A CALL
+
+-- its streams failed: the request was written in part and nothing was read, or it was written and no answer was read
+abbrev pub Failed : LineFault → Call → (a a' r r' : Option (List ℕ)) → Type 0
+Failed faults.Write call a a' r r' = AppendsFront r r' (request_of call) × (a' ≡ a)
+Failed fault call a a' r r' = Appends r r' (request_of call) × Unheard fault call a a'
+
+-- its request was written and its answer read, or its streams failed
+abbrev pub Asks : {A : Type 0} → Call → (A → Return) → (a a' r r' : Option (List ℕ)) → Result A LineFault → Type 0
+Asks call returns a a' r r' result =
+    MatchResult result (λ x. Appends r r' (request_of call) × Heard call (returns x) a a') (λ fault. Failed fault call a a' r r')
+
+-- THE STEPS OF A PORT OF LINES
+
+-- what a port answers that has given up: a damaged response, a phase that was cut, a wait that came to no end
+abbrev pub IsSilent : Call → Return → Type 0
+IsSilent (Exchange command expect) (Answered answer) = answer ≡ Damaged Length
+IsSilent (DataIn lines count) (BlocksIn end blocks) = (end ≡ Cut) × (length blocks ≡ count)
+IsSilent (DataInRegister lines count) (RegisterIn end bytes) = (end ≡ Cut) × (length bytes ≡ count)
+IsSilent (DataOut lines blocks) (BlocksOut end) = end ≡ Cut
+IsSilent WaitWhileBusy (Waited end) = end ≡ Late
+IsSilent call returned = ⊥
+
+-- a call was asked and answered
+pub record Asked (call : Call) (returned : Return) (s s' : Streams) : Type 0 where
+  pub written : Appends s.requests s'.requests (request_of call)
+  pub heard : Heard call returned s.answers s'.answers
+  pub well : s'.fault ≡ None
+
+-- a call found its streams failed, and the port keeps why
+pub record GaveUp (call : Call) (returned : Return) (s s' : Streams) : Type 0 where
+  pub why : LineFault
+  pub failed : Failed why call s.answers s'.answers s.requests s'.requests
+  pub kept : s'.fault ≡ Some why
+  pub silent : IsSilent call returned
+
+-- a port that gave up neither reads nor writes
+abbrev pub LineSteps : Streams → Call → Return → Streams → Type 0
+LineSteps s call returned s' =
+    MatchOption s.fault (Asked call returned s s' ⊎ GaveUp call returned s s')
+    (λ why. (s' ≡ s) × IsSilent call returned)

@@ -1,0 +1,13 @@
+//! A port over lines: requests go out over a writer, and answers come in over a reader.
+//!
+//! `docs/PROTOCOL.md` has the lines as a table. Begin at `specs/Requests.antt` and `specs/Answers.antt`, which say what
+//! each line is, and at `specs/Streams.antt`, which says what a call does to the two streams.
+#![tactic(auto)]
+
+mod answer;
+mod ask;
+mod fault;
+mod line;
+mod request;
+
+pub use fault::LineFault;
