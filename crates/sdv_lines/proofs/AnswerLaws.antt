@@ -39,17 +39,23 @@ decoded digits out n (Ok bytes) r is m ok =
 decoded digits out n (Err e) r is m ok = absurd (cc)
 
 -- what was not
+pub undecoded : (digits out bytes : List ℕ) (n : ℕ) (d : Result (List ℕ) FromHexError) (r : Result (Unit {0}) FromHexError) (fault : FromHexError)
+    → decode_sized digits n ≡ d → MatchResult d (λ bytes. (r ≡ Ok tt) × (out ≡ bytes)) (λ e. r ≡ Err e) → r ≡ Err fault
+    → length bytes ≡ n → AreDigits digits bytes → ⊥
+undecoded digits out bytes n (Ok other) r fault is m err len are = absurd (cc)
+undecoded digits out bytes n (Err e) r fault is m err len are =
+    let twice : length digits ≡ 2 * n = (decode_of-ok digits bytes are).2 ∙ ap (λ k. 2 * k) len in
+    let clash : Ok bytes ≡ Err e = sym are ∙ sym (decode_sized-twice digits n twice) ∙ is in
+    absurd (cc)
+
 pub not_decoded : (format text digits out bytes : List ℕ) (n : ℕ) (d : Result (List ℕ) FromHexError) (r : Result (Unit {0}) FromHexError)
     (fault : FromHexError) → text ≡ format ++ digits → decode_sized digits n ≡ d
     → MatchResult d (λ bytes. (r ≡ Ok tt) × (out ≡ bytes)) (λ e. r ≡ Err e) → r ≡ Err fault → length bytes ≡ n
     → IsReplyOf format bytes text → ⊥
-not_decoded format text digits out bytes n (Ok other) r fault t is m err len reply = absurd (cc)
-not_decoded format text digits out bytes n (Err e) r fault t is m err len reply =
-    let same : digits ≡ reply.digits =
-    some_is digits reply.digits (sym (after_again format digits) ∙ ap (after format) (sym t ∙ reply.split) ∙ after_again format reply.digits) in
-    let twice : length digits ≡ 2 * n = ap length same ∙ (decode_of-ok reply.digits bytes reply.are).2 ∙ ap (λ k. 2 * k) len in
-    let clash : Ok bytes ≡ Err e = sym reply.are ∙ ap decode_of (sym same) ∙ sym (decode_sized-twice digits n twice) ∙ is in
-    absurd (cc)
+not_decoded format text digits out bytes n d r fault t is m err len reply =
+    let same : reply.digits ≡ digits =
+    some_is reply.digits digits (sym (after_again format reply.digits) ∙ ap (after format) (sym reply.split ∙ t) ∙ after_again format digits) in
+    undecoded digits out bytes n d r fault is m err len (subst (λ l. AreDigits l bytes) same reply.are)
 
 -- WORDS
 

@@ -40,12 +40,12 @@ split_one (x ∷ a) (y ∷ b) r s p q e =
     let heads : x ≡ y = cc in
     (ap (λ h. h ∷ a) heads ∙ ap (λ l. y ∷ l) rest.0, rest.1)
 
-not_text : (t rest : List ℕ) → IsText (t ++ 10 ∷ rest) → ⊥
+pub not_text : (t rest : List ℕ) → IsText (t ++ 10 ∷ rest) → ⊥
 not_text [] rest p = p.0 refl
 not_text (x ∷ t) rest p = not_text t rest p.1
 
 -- a text at the front is no longer than the first line
-no_longer : (t front rest back : List ℕ) → IsText front → t ++ 10 ∷ rest ≡ front ++ back → length front ≤ length t
+pub no_longer : (t front rest back : List ℕ) → IsText front → t ++ 10 ∷ rest ≡ front ++ back → length front ≤ length t
 no_longer t [] rest back p e = omega arith
 no_longer [] (y ∷ front) rest back p e = let clash : y ≡ 10 = cc in absurd (p.0 clash)
 no_longer (x ∷ t) (y ∷ front) rest back p e =
@@ -109,7 +109,7 @@ first_short WaitWhileBusy text [] (Waited waits.Late) a = short_word (codes "lat
 first_short call text texts returned a = absurd a
 
 -- no answer has no line
-nonempty : (call : Call) (returned : Return) → IsAnswer call [] returned → ⊥
+pub nonempty : (call : Call) (returned : Return) → IsAnswer call [] returned → ⊥
 nonempty (Exchange command expect) returned a = a
 nonempty (DataIn lines count) returned a = a
 nonempty (DataInRegister lines count) returned a = a
@@ -118,7 +118,7 @@ nonempty WaitWhileBusy returned a = a
 
 -- WHAT IS NO ANSWER
 
-first_line : (text : List ℕ) (texts : List (List ℕ)) (rest bytes : List ℕ) → bytes ≡ lines_of (text ∷ texts) ++ rest
+pub first_line : (text : List ℕ) (texts : List (List ℕ)) (rest bytes : List ℕ) → bytes ≡ lines_of (text ∷ texts) ++ rest
     → bytes ≡ text ++ 10 ∷ (lines_of texts ++ rest)
 first_line text texts rest bytes e = e ∙ append_assoc text (10 ∷ lines_of texts) rest
 
@@ -183,3 +183,15 @@ pub no_end : (lines : ℕ) (blocks : List Block) (text : List ℕ) → ((end : D
     (returned : Return) → IsAnswer (DataOut lines blocks) (text ∷ texts) returned → ⊥
 no_end lines blocks text n [] (BlocksOut end) a = n end a
 no_end lines blocks text n texts returned a = a
+
+pub no_data : (lines count : ℕ) (text : List ℕ) → ((end : DataEnd) → text ≡ data_end_text end → ⊥) → (texts : List (List ℕ)) (returned : Return)
+    → IsAnswer (DataIn lines count) (text ∷ texts) returned → ⊥
+no_data lines count text n texts (BlocksIn ends.Ok blocks) a = n ends.Ok a.0
+no_data lines count text n [] (BlocksIn ends.Cut blocks) a = n ends.Cut a
+no_data lines count text n texts returned a = a
+
+pub no_register : (lines count : ℕ) (text : List ℕ) → ((end : DataEnd) → text ≡ data_end_text end → ⊥) → (texts : List (List ℕ))
+    (returned : Return) → IsAnswer (DataInRegister lines count) (text ∷ texts) returned → ⊥
+no_register lines count text n (digits ∷ []) (RegisterIn ends.Ok bytes) a = n ends.Ok a.0
+no_register lines count text n [] (RegisterIn ends.Cut bytes) a = n ends.Cut a
+no_register lines count text n texts returned a = a

@@ -2,3 +2,6 @@ pub mod LineLaws
 pub mod AnswerLaws
 pub mod HeardLaws
 pub mod AskLaws
+pub mod SendLaws
+pub mod DigitLaws
+pub mod DataLaws

@@ -1,10 +1,12 @@
--- What reading a byte, and a line, does to the bytes that a reader has left.
-use Rattle.std.specs.Prelude.{◌≡◌, ◌<◌, ℕ, List, [], ◌∷◌, ◌++◌, length, Option, Result, Ok, Err, MatchResult, IfSome}
+-- What reading a byte, a line, and lines of digits does to the bytes that a reader has left.
+use Rattle.std.specs.Prelude.{◌≡◌, ◌<◌, ◌≤◌, ℕ, List, [], ◌∷◌, ◌++◌, length, Option, Result, Ok, Err, MatchResult, IfSome}
+use Rattle.std.specs.List.{AllByRecursion}
 use Rattle.std.specs.Io.KnownBytes.{Consumes, IsAtEnd}
 use Rattle.sdv_lines.specs.declared.fault.LineFault.{LineFault}
 use Rattle.sdv_lines.specs.declared.fault.LineFault.TheVariants as faults
 use Rattle.sdv_run.specs.Trace.{line_feed}
-use Rattle.sdv_lines.specs.Texts.{IsText}
+use Rattle.sdv_card.specs.Card.{Block}
+use Rattle.sdv_lines.specs.Texts.{IsText, AreDigits, AreBlocks, lines_of}
 
 -- a byte was read, or none is left, or the reader failed
 abbrev pub ReadsByte : Option (List ℕ) → Option (List ℕ) → Result ℕ LineFault → Type 0
@@ -27,4 +29,55 @@ ReadsNoLine fault old new = ⊥
 -- a line was read, without its line feed, or none was
 abbrev pub ReadsLine : {A : Type 0} → Option (List ℕ) → Option (List ℕ) → (text : List ℕ) → Result A LineFault → Type 0
 ReadsLine old new text result =
-    MatchResult result (λ _. IsText text × Consumes old new (text ++ line_feed)) (λ fault. ReadsNoLine fault old new)
+    MatchResult result (λ _. IsText text × (length text ≤ 1024) × Consumes old new (text ++ line_feed)) (λ fault. ReadsNoLine fault old new)
+
+-- DIGITS: a line of digits of so many bytes, 512 at most
+
+-- bytes begin with no such line
+abbrev pub HasNoDigits : ℕ → List ℕ → Type 0
+HasNoDigits count xs =
+    (text bytes rest : List ℕ) → count ≤ 512 → IsText text → AreDigits text bytes → length bytes ≡ count →
+    xs ≡ text ++ 10 ∷ rest → ⊥
+
+abbrev pub ReadsNoDigits : LineFault → ℕ → Option (List ℕ) → Option (List ℕ) → Type 0
+ReadsNoDigits faults.Closed count old new = IfSome old (HasNoDigits count) × IsAtEnd new
+ReadsNoDigits faults.Answer count old new = IfSome old (HasNoDigits count)
+ReadsNoDigits faults.Read count old new = Unit {0}
+ReadsNoDigits fault count old new = ⊥
+
+-- a line of the digits of these bytes
+pub record DigitsRead (old new : Option (List ℕ)) (bytes : List ℕ) : Type 0 where
+  pub text : List ℕ
+  pub line : IsText text
+  pub are : AreDigits text bytes
+  pub short : length bytes ≤ 512
+  pub read : Consumes old new (text ++ line_feed)
+
+abbrev pub ReadsDigits : {A : Type 0} → Option (List ℕ) → Option (List ℕ) → (count : ℕ) (bytes : List ℕ) → Result A LineFault → Type 0
+ReadsDigits old new count bytes result =
+    MatchResult result (λ _. DigitsRead old new bytes × (length bytes ≡ count)) (λ fault. ReadsNoDigits fault count old new)
+
+-- BLOCKS: a line of digits for each
+
+-- bytes begin with no such lines
+abbrev pub HasNoBlocks : ℕ → List ℕ → Type 0
+HasNoBlocks count xs =
+    (texts : List (List ℕ)) (blocks : List Block) (rest : List ℕ) → AllByRecursion IsText texts → AreBlocks texts blocks →
+    length blocks ≡ count → xs ≡ lines_of texts ++ rest → ⊥
+
+abbrev pub ReadsNoBlocks : LineFault → ℕ → Option (List ℕ) → Option (List ℕ) → Type 0
+ReadsNoBlocks faults.Closed count old new = IfSome old (HasNoBlocks count) × IsAtEnd new
+ReadsNoBlocks faults.Answer count old new = IfSome old (HasNoBlocks count)
+ReadsNoBlocks faults.Read count old new = Unit {0}
+ReadsNoBlocks fault count old new = ⊥
+
+-- lines of the digits of these blocks
+pub record BlocksRead (old new : Option (List ℕ)) (blocks : List Block) : Type 0 where
+  pub texts : List (List ℕ)
+  pub lines : AllByRecursion IsText texts
+  pub are : AreBlocks texts blocks
+  pub read : Consumes old new (lines_of texts)
+
+abbrev pub ReadsBlocks : {A : Type 0} → Option (List ℕ) → Option (List ℕ) → (count : ℕ) (blocks : List Block) → Result A LineFault → Type 0
+ReadsBlocks old new count blocks result =
+    MatchResult result (λ _. BlocksRead old new blocks × (length blocks ≡ count)) (λ fault. ReadsNoBlocks fault count old new)

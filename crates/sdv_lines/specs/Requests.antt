@@ -1,8 +1,9 @@
 -- The lines of a request: what is written for each call of a port.
-use Rattle.std.specs.Prelude.{ℕ, List, [], ◌∷◌, ◌++◌, length, map, codes, decimal}
+use Rattle.std.specs.Prelude.{ℕ, List, [], ◌∷◌, ◌++◌, length, codes, decimal}
 use Rattle.hex.specs.Hex.{encode_lower}
 use Rattle.sdv_frames.specs.declared.reply.Expect.{Expect}
 use Rattle.sdv_frames.specs.declared.reply.Expect.TheVariants as expects
+use Rattle.sdv_card.specs.Card.{Block}
 use Rattle.sdv_card.specs.Port.{Call, Exchange, DataIn, DataInRegister, DataOut, WaitWhileBusy}
 use Rattle.sdv_run.specs.Trace.{command_text}
 use Rattle.sdv_lines.specs.Texts.{lines_of}
@@ -20,12 +21,17 @@ expect_text expects.R7 = codes "R7"
 abbrev pub phase_text : List ℕ → (count lines : ℕ) → List ℕ
 phase_text word count lines = word ++ (codes " " ++ (decimal count ++ (codes " lines " ++ decimal lines)))
 
+-- a line of digits for each block
+abbrev pub block_texts : List Block → List (List ℕ)
+block_texts [] = []
+block_texts (block ∷ blocks) = encode_lower block ∷ block_texts blocks
+
 -- the texts of a request: one line, and a line for each block that is given
 abbrev pub request_texts : Call → List (List ℕ)
 request_texts (Exchange command expect) = (command_text command ++ expect_text expect) ∷ []
 request_texts (DataIn lines count) = phase_text (codes "IN") count lines ∷ []
 request_texts (DataInRegister lines count) = phase_text (codes "REG") count lines ∷ []
-request_texts (DataOut lines blocks) = phase_text (codes "OUT") (length blocks) lines ∷ map encode_lower blocks
+request_texts (DataOut lines blocks) = phase_text (codes "OUT") (length blocks) lines ∷ block_texts blocks
 request_texts WaitWhileBusy = codes "WAIT" ∷ []
 
 abbrev pub request_of : Call → List ℕ

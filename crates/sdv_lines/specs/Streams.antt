@@ -9,17 +9,22 @@ use Rattle.sdv_card.specs.Port.{Call, Exchange, DataIn, DataInRegister, DataOut,
 use Rattle.sdv_card.specs.ScriptEvent.{Return, Answered, BlocksIn, RegisterIn, BlocksOut, Waited}
 use Rattle.sdv_lines.specs.declared.fault.LineFault.{LineFault}
 use Rattle.sdv_lines.specs.declared.fault.LineFault.TheVariants as faults
+use Rattle.sdv_lines.specs.declared.port.LinePort.{LinePort}
 use Rattle.sdv_lines.specs.Texts.{lines_of}
 use Rattle.sdv_lines.specs.Requests.{request_of}
 use Rattle.sdv_lines.specs.Answers.{Answers}
 
--- the streams of a port, and the fault that it keeps
+-- what is known of the two streams of a port, and the fault that it keeps
 pub record Streams : Type 0 where
   -- the bytes that the reader has left, where they are known
   pub answers : Option (List ℕ)
   -- the bytes that the writer holds, where they are known
   pub requests : Option (List ℕ)
   pub fault : Option LineFault
+
+-- a new port
+abbrev pub IsNew : (answers requests : Option (List ℕ)) → Streams → Type 0
+IsNew answers requests s = (s.answers ≡ answers) × (s.requests ≡ requests) × (s.fault ≡ None)
 
 -- WRITING: known bytes grow by a front of a text, perhaps by all of it
 abbrev pub AppendsFront : Option (List ℕ) → Option (List ℕ) → List ℕ → Type 0
@@ -95,3 +100,11 @@ abbrev pub LineSteps : Streams → Call → Return → Streams → Type 0
 LineSteps s call returned s' =
     MatchOption s.fault (Asked call returned s s' ⊎ GaveUp call returned s s')
     (λ why. (s' ≡ s) × IsSilent call returned)
+
+-- what is known of a port
+abbrev pub streams_of : {R W : Type 0} → (R → Option (List ℕ)) → (W → Option (List ℕ)) → LinePort R W → Streams
+streams_of remaining contents port = record {
+  answers = remaining port.reader;
+  requests = contents port.writer;
+  fault = port.fault;
+}

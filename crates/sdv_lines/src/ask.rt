@@ -1,15 +1,19 @@
 //! Calls of a port over two streams: each writes its request, and then reads its answer.
 
-ghost use Rattle.sdv_card.specs.Port.{Exchange, WaitWhileBusy};
-ghost use Rattle.sdv_card.specs.ScriptEvent.{Answered, Waited};
+ghost use Rattle.std.specs.Prelude.{ℕ, List, length};
+ghost use Rattle.sdv_card.specs.Card.{Block};
+ghost use Rattle.sdv_card.specs.Port.{Exchange, DataIn, DataInRegister, DataOut, WaitWhileBusy};
+ghost use Rattle.sdv_card.specs.ScriptEvent.{Answered, BlocksIn, RegisterIn, BlocksOut, Waited};
 ghost use Rattle.sdv_frames.specs.declared.command.Command.{Command};
-ghost use Rattle.sdv_lines.specs.Streams.{Hears, Asks};
+ghost use Rattle.sdv_lines.specs.Requests.{request_of};
+ghost use Rattle.sdv_lines.specs.Streams.{Sends, Hears, Asks};
 
-use crate::answer::{answer_of, wait_end_of};
+use crate::answer::{answer_of, data_end_of, wait_end_of};
+use crate::digits::{put_blocks, read_blocks, read_digits};
 use crate::fault::LineFault;
-use crate::line::{Line, read_line, send};
-use crate::request::exchange_request;
-use sdv_card::{Answer, WaitEnd};
+use crate::line::{Line, flush, put, read_line, send};
+use crate::request::{exchange_request, phase_request};
+use sdv_card::{Answer, DataEnd, WaitEnd};
 use sdv_frames::{Command, Expect};
 use std::io::{Read, Write};
 
@@ -36,6 +40,65 @@ fn hear_wait<R: Read>(reader: &mut R) -> Result<WaitEnd, LineFault>
         Some(end) => Ok(end),
         None => Err(LineFault::Answer),
     }
+}
+
+/// Reads the answer to a phase of blocks from the card, and the blocks.
+fn hear_blocks<R: Read>(reader: &mut R, blocks: &mut [[u8; 512]]) -> Result<DataEnd, LineFault>
+    ensures { (lines : ℕ) → Hears (DataIn lines (length blocks.old)) (λ end. BlocksIn end blocks.new)
+        (R.remaining reader.old) (R.remaining reader.new) result }
+{
+    let mut line = Line::new();
+    read_line(reader, &mut line)?;
+    match data_end_of(line.as_slice()) {
+        Some(DataEnd::Ok) => match read_blocks(reader, &mut line, blocks) {
+            Ok(()) => Ok(DataEnd::Ok),
+            Err(fault) => Err(fault),
+        },
+        Some(DataEnd::Cut) => Ok(DataEnd::Cut),
+        None => Err(LineFault::Answer),
+    }
+}
+
+/// Reads the answer to a phase of a register, and its bytes.
+fn hear_register<R: Read>(reader: &mut R, bytes: &mut [u8]) -> Result<DataEnd, LineFault>
+    ensures { (lines : ℕ) → Hears (DataInRegister lines (length bytes.old)) (λ end. RegisterIn end bytes.new)
+        (R.remaining reader.old) (R.remaining reader.new) result }
+{
+    let mut line = Line::new();
+    read_line(reader, &mut line)?;
+    match data_end_of(line.as_slice()) {
+        Some(DataEnd::Ok) => match read_digits(reader, &mut line, bytes) {
+            Ok(()) => Ok(DataEnd::Ok),
+            Err(fault) => Err(fault),
+        },
+        Some(DataEnd::Cut) => Ok(DataEnd::Cut),
+        None => Err(LineFault::Answer),
+    }
+}
+
+/// Reads the answer to a phase of blocks to the card.
+fn hear_data_end<R: Read>(reader: &mut R) -> Result<DataEnd, LineFault>
+    ensures { (lines : ℕ) (blocks : List Block) → Hears (DataOut lines blocks) BlocksOut (R.remaining reader.old)
+        (R.remaining reader.new) result }
+{
+    let mut line = Line::new();
+    read_line(reader, &mut line)?;
+    match data_end_of(line.as_slice()) {
+        Some(end) => Ok(end),
+        None => Err(LineFault::Answer),
+    }
+}
+
+/// Writes the request of a phase of blocks to the card, with the blocks, and flushes it.
+fn send_blocks<W: Write>(writer: &mut W, lines: u8, blocks: &[[u8; 512]]) -> Result<(), LineFault>
+    ensures { Sends (W.contents writer.old) (W.contents writer.new) result (request_of (DataOut lines blocks.now)) }
+{
+    put(
+        writer,
+        phase_request(b"OUT", blocks.len(), lines).as_slice(),
+    )?;
+    put_blocks(writer, blocks)?;
+    flush(writer)
 }
 
 /// Sends a command, and hears what came of it.
@@ -67,4 +130,58 @@ pub fn wait<R: Read, W: Write>(reader: &mut R, writer: &mut W) -> Result<WaitEnd
 {
     send(writer, b"WAIT\n")?;
     hear_wait(reader)
+}
+
+/// Receives as many blocks as there is room for.
+///
+/// # Errors
+///
+/// Each [`LineFault`].
+pub fn data_in<R: Read, W: Write>(
+    reader: &mut R,
+    writer: &mut W,
+    lines: u8,
+    blocks: &mut [[u8; 512]],
+) -> Result<DataEnd, LineFault>
+    ensures { Asks (DataIn lines (length blocks.old)) (λ end. BlocksIn end blocks.new) (R.remaining reader.old)
+        (R.remaining reader.new) (W.contents writer.old) (W.contents writer.new) result }
+{
+    send(writer, phase_request(b"IN", blocks.len(), lines).as_slice())?;
+    hear_blocks(reader, blocks)
+}
+
+/// Receives as many bytes of a register as there is room for.
+///
+/// # Errors
+///
+/// Each [`LineFault`].
+pub fn data_in_register<R: Read, W: Write>(
+    reader: &mut R,
+    writer: &mut W,
+    lines: u8,
+    bytes: &mut [u8],
+) -> Result<DataEnd, LineFault>
+    ensures { Asks (DataInRegister lines (length bytes.old)) (λ end. RegisterIn end bytes.new) (R.remaining reader.old)
+        (R.remaining reader.new) (W.contents writer.old) (W.contents writer.new) result }
+{
+    send(writer, phase_request(b"REG", bytes.len(), lines).as_slice())?;
+    hear_register(reader, bytes)
+}
+
+/// Gives blocks.
+///
+/// # Errors
+///
+/// Each [`LineFault`].
+pub fn data_out<R: Read, W: Write>(
+    reader: &mut R,
+    writer: &mut W,
+    lines: u8,
+    blocks: &[[u8; 512]],
+) -> Result<DataEnd, LineFault>
+    ensures { Asks (DataOut lines blocks.now) BlocksOut (R.remaining reader.old) (R.remaining reader.new)
+        (W.contents writer.old) (W.contents writer.new) result }
+{
+    send_blocks(writer, lines, blocks)?;
+    hear_data_end(reader)
 }

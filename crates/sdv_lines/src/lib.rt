@@ -6,8 +6,11 @@
 
 mod answer;
 mod ask;
+mod digits;
 mod fault;
 mod line;
+mod port;
 mod request;
 
 pub use fault::LineFault;
+pub use port::LinePort;

@@ -1,5 +1,7 @@
 //! One line of a stream.
 
+ghost use Rattle.std.specs.Prelude.{◌≡◌, IfErr};
+ghost use Rattle.std.specs.Io.KnownBytes.{Keeps};
 ghost use Rattle.sdv_lines.specs.Reading.{ReadsByte, ReadsLine};
 ghost use Rattle.sdv_lines.specs.Streams.{Sends};
 
@@ -14,6 +16,35 @@ pub const LONGEST: usize = 1024;
 /// A line without its line feed.
 pub type Line = ArrayVec<u8, LONGEST>;
 
+/// Writes a text whole.
+///
+/// # Errors
+///
+/// [`LineFault::Write`].
+pub fn put<W: Write>(writer: &mut W, text: &[u8]) -> Result<(), LineFault>
+    ensures { Sends (W.contents writer.old) (W.contents writer.new) result text.now }
+{
+    match write_text(writer, text) {
+        Ok(()) => Ok(()),
+        Err(_) => Err(LineFault::Write),
+    }
+}
+
+/// Hands on what was written.
+///
+/// # Errors
+///
+/// [`LineFault::Write`].
+pub fn flush<W: Write>(writer: &mut W) -> Result<(), LineFault>
+    ensures same { Keeps (W.contents writer.old) (W.contents writer.new) }
+    ensures fault { IfErr result (λ fault. fault ≡ LineFault.Write) }
+{
+    match writer.flush() {
+        Ok(()) => Ok(()),
+        Err(_) => Err(LineFault::Write),
+    }
+}
+
 /// Writes a request whole, and flushes it.
 ///
 /// # Errors
@@ -22,14 +53,8 @@ pub type Line = ArrayVec<u8, LONGEST>;
 pub fn send<W: Write>(writer: &mut W, request: &[u8]) -> Result<(), LineFault>
     ensures { Sends (W.contents writer.old) (W.contents writer.new) result request.now }
 {
-    match write_text(writer, request) {
-        Ok(()) => {}
-        Err(_) => return Err(LineFault::Write),
-    }
-    match writer.flush() {
-        Ok(()) => Ok(()),
-        Err(_) => Err(LineFault::Write),
-    }
+    put(writer, request)?;
+    flush(writer)
 }
 
 /// Reads the next byte.

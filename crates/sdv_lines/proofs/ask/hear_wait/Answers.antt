@@ -7,12 +7,12 @@ use Rattle.sdv_lines.proofs.ask.hear_wait.Goals as goal
 pub returns-in-Some : goal.returns-in-Some
 returns-in-Some g c =
     let read = c.in_ok-read_line.ensures in
-    heard_one WaitWhileBusy (Waited c.in-Some.end) _ _ c.read_line.new.line.items read.0 read.1
+    heard_one WaitWhileBusy (Waited c.in-Some.end) _ _ c.read_line.new.line.items read.0 read.2
     (sym c.as_slice.ensures.value ∙ c.in-Some.ensures)
 
 pub returns-in-None : goal.returns-in-None
 returns-in-None g c =
     let read = c.in_ok-read_line.ensures in
     refused WaitWhileBusy (g.R.Read.remaining c.args.reader.now) (g.R.Read.remaining c.read_line.new.reader)
-    c.read_line.new.line.items read.0 read.1
+    c.read_line.new.line.items read.0 read.2
     (no_wait c.read_line.new.line.items (λ end told. c.in-None.ensures end (c.as_slice.ensures.value ∙ told)))

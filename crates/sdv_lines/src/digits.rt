@@ -1,0 +1,93 @@
+//! Blocks and registers as lines of hexadecimal digits.
+
+ghost use Rattle.std.specs.Prelude.{◌≡◌, ◌++◌, length};
+ghost use Rattle.hex.specs.Hex.{encode_lower};
+ghost use Rattle.sdv_run.specs.Trace.{line_feed};
+ghost use Rattle.sdv_lines.specs.Reading.{ReadsDigits, ReadsBlocks};
+ghost use Rattle.sdv_lines.specs.Requests.{block_texts};
+ghost use Rattle.sdv_lines.specs.Streams.{Sends};
+ghost use Rattle.sdv_lines.specs.Texts.{lines_of};
+
+use crate::fault::LineFault;
+use crate::line::{Line, put, read_line};
+use std::io::{Read, Write};
+
+/// The digits of a block.
+fn digits_of(block: &[u8; 512]) -> [u8; 1024]
+    ensures { result ≡ encode_lower block.now }
+{
+    let mut digits = [0; 1024];
+    hex::encode_to_slice(block.as_slice(), &mut digits).unwrap();
+    digits
+}
+
+/// Writes the line of a block.
+fn put_block<W: Write>(writer: &mut W, block: &[u8; 512]) -> Result<(), LineFault>
+    ensures { Sends (W.contents writer.old) (W.contents writer.new) result (encode_lower block.now ++ line_feed) }
+{
+    let digits = digits_of(block);
+    put(writer, &digits)?;
+    put(writer, b"\n")
+}
+
+/// Writes a line for each block.
+///
+/// # Errors
+///
+/// [`LineFault::Write`].
+pub fn put_blocks<W: Write>(writer: &mut W, blocks: &[[u8; 512]]) -> Result<(), LineFault>
+    ensures { Sends (W.contents writer.old) (W.contents writer.new) result (lines_of (block_texts blocks.now)) }
+{
+    for block in blocks {
+        put_block(writer, block)?;
+    }
+    Ok(())
+}
+
+/// Reads a line of the digits of as many bytes as there is room for.
+///
+/// # Errors
+///
+/// [`LineFault::Closed`], [`LineFault::Read`], and [`LineFault::Answer`] for any other line.
+pub fn read_digits<R: Read>(
+    reader: &mut R,
+    line: &mut Line,
+    bytes: &mut [u8],
+) -> Result<(), LineFault>
+    ensures { ReadsDigits (R.remaining reader.old) (R.remaining reader.new) (length bytes.old) bytes.new result }
+{
+    read_line(reader, line)?;
+    match hex::decode_to_slice(line.as_slice(), bytes) {
+        Ok(()) => Ok(()),
+        Err(_) => Err(LineFault::Answer),
+    }
+}
+
+/// Reads the line of a block.
+fn read_block<R: Read>(
+    reader: &mut R,
+    line: &mut Line,
+    block: &mut [u8; 512],
+) -> Result<(), LineFault>
+    ensures { ReadsDigits (R.remaining reader.old) (R.remaining reader.new) 512 block.new result }
+{
+    read_digits(reader, line, block)
+}
+
+/// Reads a line for each block that there is room for.
+///
+/// # Errors
+///
+/// As [`read_digits`].
+pub fn read_blocks<R: Read>(
+    reader: &mut R,
+    line: &mut Line,
+    blocks: &mut [[u8; 512]],
+) -> Result<(), LineFault>
+    ensures { ReadsBlocks (R.remaining reader.old) (R.remaining reader.new) (length blocks.old) blocks.new result }
+{
+    for i in 0..blocks.len() {
+        read_block(reader, line, &mut blocks[i])?;
+    }
+    Ok(())
+}
