@@ -1,0 +1,44 @@
+-- The TABLE of a graph: a header of six words, a word for each point, and the points' rows.
+use Rattle.std.specs.Prelude.{◌≡◌, ℕ, ◌+◌, ◌*◌, ◌<◌, List, [], ◌∷◌, ◌++◌, length}
+use Rattle.sdv_registers.specs.declared.kind.Kind.{Kind}
+use Rattle.sdv_registers.specs.declared.kind.Kind.TheVariants.{Sd, Emmc}
+use Rattle.sdv_graph.specs.Path.{Point}
+use Rattle.sdv_graph.specs.Graph.{Graph}
+use Rattle.sdv_table.specs.Row.{head_of_action, row_of_action, target_word, low, high}
+
+abbrev pub rows : Kind → List Point → List ℕ
+rows k [] = []
+rows k (p ∷ ps) = row_of_action k p.action ++ rows k ps
+
+-- each point's word: its statement's kind and small parts, and above them where its row stands
+abbrev pub heads : Kind → ℕ → List Point → List ℕ
+heads k at [] = []
+heads k at (p ∷ ps) = (head_of_action p.action + 65536 * at) ∷ heads k (at + length (row_of_action k p.action)) ps
+
+abbrev pub kind_code : Kind → ℕ
+kind_code Sd = 0
+kind_code Emmc = 1
+
+-- the letters SDVT, the first one in the lowest byte
+abbrev pub magic : ℕ
+magic = 0x54564453
+
+abbrev pub version : ℕ
+version = 1
+
+abbrev pub header_size : ℕ
+header_size = 6
+
+abbrev pub first_row : Graph → ℕ
+first_row g = header_size + length g.points
+
+abbrev pub size : Graph → ℕ
+size g = first_row g + length (rows g.kind g.points)
+
+abbrev pub header : Graph → List ℕ
+header g =
+    magic ∷ (version + 256 * (kind_code g.kind + 256 * (g.numbers + 256 * g.flags))) ∷ (length g.points + 65536 * size g)
+    ∷ target_word g.first ∷ low g.steps ∷ high g.steps ∷ []
+
+unfoldable pub table_of : Graph → List ℕ
+table_of g = header g ++ (heads g.kind (first_row g) g.points ++ rows g.kind g.points)

@@ -1,0 +1,139 @@
+//! How a command is sent.
+
+ghost use Rattle.std.specs.Prelude.{◌≡◌, ◌<◌, ◌^◌};
+ghost use Rattle.sdv_card.specs.CommandTable.{argument_or_none, expect_or_nothing};
+ghost use Rattle.sdv_table.specs.Row.{expect_code, data_code, sending_code};
+ghost use Rattle.sdv_table.specs.Sending.{data_or_nothing, sending_of};
+
+use sdv_card::state_table::order;
+use sdv_card::{Ask, Kind, Order};
+use sdv_frames::Expect;
+
+/// What follows a command on the data lines, where the card takes the command.
+#[derive(Clone, Copy, Debug, PartialEq, Eq)]
+pub enum Data {
+    /// Nothing.
+    Nothing,
+    /// The card may be busy.
+    Busy,
+    /// The card sends blocks: as many as the command announces.
+    BlocksIn,
+    /// The host sends blocks: as many as the command announces.
+    BlocksOut,
+    /// The card sends its SCR, 8 bytes.
+    Scr,
+    /// The card sends its SD status, 64 bytes, if it takes the command as ACMD13; as CMD13 it has no data.
+    SdStatus,
+    /// The card sends its EXT_CSD, 512 bytes.
+    ExtCsd,
+}
+
+/// How a command is sent: what a host must know before it.
+#[derive(Clone, Copy, Debug, PartialEq, Eq)]
+pub struct Sending {
+    /// The argument, of a command that is sent with neither the relative card address nor the address of a block. Of
+    /// those commands it is 0.
+    pub argument: u32,
+    /// The response to wait for.
+    pub expect: Expect,
+    /// What follows on the data lines.
+    pub follows: Data,
+}
+
+fn argument_at_zero(order: Option<Order>, argument: u32) -> u32
+    ensures { result ≡ argument_or_none order argument 0 0 }
+{
+    match order {
+        Some(Order::SendOpCond) => 0x40ff_8080,
+        Some(Order::SetRelativeAddress) => 0x0001_0000,
+        Some(Order::SendIfCond) => 0x0000_01aa,
+        Some(Order::SetBlockLength) => 512,
+        Some(Order::SetBlockCount { count }) => u32::from(count),
+        Some(
+            Order::Erase
+            | Order::SetBusWidth { .. }
+            | Order::Switch { .. }
+            | Order::SdSendOpCond { .. },
+        ) => argument,
+        _ => 0,
+    }
+}
+
+fn expect_of(order: Option<Order>, index: u8) -> Expect
+    ensures { result ≡ expect_or_nothing order index }
+{
+    match order {
+        None | Some(Order::GoIdleState | Order::DeselectCards) => Expect::Nothing,
+        Some(Order::AllSendCid | Order::SendCsd | Order::SendCid) => Expect::R2,
+        Some(Order::SendOpCond | Order::SdSendOpCond { .. }) => Expect::R3,
+        Some(Order::SendRelativeAddress) => Expect::R6,
+        Some(Order::SendIfCond) => Expect::R7,
+        Some(_) => Expect::R1(index),
+    }
+}
+
+fn data_of(kind: Kind, order: Option<Order>) -> Data
+    ensures { result ≡ data_or_nothing kind order }
+{
+    match (kind, order) {
+        (
+            _,
+            Some(Order::SelectCard | Order::Switch { .. } | Order::StopTransmission | Order::Erase),
+        ) => Data::Busy,
+        (_, Some(Order::ReadSingleBlock | Order::ReadMultipleBlock { .. })) => Data::BlocksIn,
+        (_, Some(Order::WriteBlock | Order::WriteMultipleBlock { .. })) => Data::BlocksOut,
+        (_, Some(Order::SendScr)) => Data::Scr,
+        (_, Some(Order::SendExtCsd)) => Data::ExtCsd,
+        (Kind::Sd, Some(Order::SendStatus)) => Data::SdStatus,
+        _ => Data::Nothing,
+    }
+}
+
+/// How a command is sent to a card of the kind.
+pub(crate) fn sending_of(kind: Kind, ask: &Ask) -> Sending
+    ensures { result ≡ sending_of kind ask.now }
+{
+    let order = order(kind, ask);
+    Sending {
+        argument: argument_at_zero(order, ask.argument),
+        expect: expect_of(order, ask.index),
+        follows: data_of(kind, order),
+    }
+}
+
+fn expect_code(expect: Expect) -> u32
+    ensures code { result ≡ expect_code expect }
+    ensures small { result < 8 }
+{
+    match expect {
+        Expect::Nothing => 0,
+        Expect::R1(_) => 1,
+        Expect::R2 => 2,
+        Expect::R3 => 3,
+        Expect::R6 => 6,
+        Expect::R7 => 7,
+    }
+}
+
+fn data_code(follows: Data) -> u32
+    ensures code { result ≡ data_code follows }
+    ensures small { result < 8 }
+{
+    match follows {
+        Data::Nothing => 0,
+        Data::Busy => 1,
+        Data::BlocksIn => 2,
+        Data::BlocksOut => 3,
+        Data::Scr => 4,
+        Data::SdStatus => 5,
+        Data::ExtCsd => 6,
+    }
+}
+
+/// The response and the data in six bits.
+pub(crate) fn sending_code(sending: Sending) -> u32
+    ensures code { result ≡ sending_code sending }
+    ensures small { result < 64 }
+{
+    expect_code(sending.expect) + 8 * data_code(sending.follows)
+}
