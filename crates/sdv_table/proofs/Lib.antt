@@ -1,3 +1,6 @@
 pub mod Greatest
 pub mod Growing
+pub mod Inverse
+pub mod Places
 pub mod Small
+pub mod Statements

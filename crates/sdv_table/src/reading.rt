@@ -1,8 +1,11 @@
 //! Reading tables, whatever their words are.
 
-ghost use Rattle.std.specs.Prelude.{◌≡◌, ◌+◌, ◌<◌, ◌/◌, ◌%◌, drop, slice_index, option_map, Some};
+ghost use Rattle.std.specs.Prelude.{◌≡◌, ◌+◌, ◌<◌, ◌/◌, ◌%◌, drop, slice_get, slice_index, option_map, Some};
 ghost use Rattle.sdv_graph.specs.Walk.{Failed};
-ghost use Rattle.sdv_graph.specs.Path.{sends, tests, stops};
+ghost use Rattle.sdv_graph.specs.Path.{Point, sends, tests, stops};
+ghost use Rattle.sdv_graph.specs.Graph.{Graph};
+ghost use Rattle.sdv_table.specs.Fits.{IsTable};
+ghost use Rattle.sdv_table.specs.Loading.{IsSentRight};
 ghost use Rattle.sdv_table.specs.Reading.{target_of, number_at, phase_of, width_of, aim_of, atom_of, code_size, change_of, condition_of, unit_of, position_of, address_of, own_argument, command_of, cases_place, cases_count, cases_of, let_of, name_of, expect_read, data_read, sending_read, action_of, head_read, place_read, small_read, row_read, counts_read, action_at, sending_at, seen_row};
 
 use crate::sending::{Data, Sending};
@@ -341,10 +344,9 @@ pub(crate) fn points_at(words: &[u32]) -> usize
     (word(words, 2) % 65536) as usize
 }
 
-/// The statement at a point, as the words say it; none past the last point, and where the words say none. Any words may
-/// be read.
-pub fn row_at(words: &[u32], number: usize) -> Option<Row<'_>>
-    ensures read { option_map seen_row result ≡ action_at words.now number }
+// The statement at a point, as the words say it.
+pub(crate) fn read_row(words: &[u32], number: usize) -> Option<Row<'_>>
+    ensures { option_map seen_row result ≡ action_at words.now number }
 {
     if number >= points_at(words) {
         return None;
@@ -357,10 +359,10 @@ pub fn row_at(words: &[u32], number: usize) -> Option<Row<'_>>
     )
 }
 
-/// How the command at a point is sent, as the words say it. Any words may be read, at any point.
-pub fn sending_at(words: &[u32], number: usize) -> Sending
+// How the command at a point is sent, as the words say it.
+pub(crate) fn read_sending(words: &[u32], number: usize) -> Sending
     requires { number < 65536 }
-    ensures read { result ≡ sending_at words.now number }
+    ensures { result ≡ sending_at words.now number }
 {
     let small = head_at(words, number) / 16 % 4096;
     let row = from_place(words, place_at(words, number));
@@ -369,4 +371,25 @@ pub fn sending_at(words: &[u32], number: usize) -> Sending
         expect: expect_read(word(row, 2) / 65536 % 8, (small % 64) as u8),
         follows: data_read(word(row, 2) / 524_288 % 8),
     }
+}
+
+/// The statement at a point, as the words say it: none past the last point, and none where they say none. Any words may
+/// be read. Those of the table of a graph say what the graph has there.
+pub fn row_at(words: &[u32], number: usize) -> Option<Row<'_>>
+    ensures read { option_map seen_row result ≡ action_at words.now number }
+    ensures table { (g : Graph) → IsTable g words.now
+        → option_map seen_row result ≡ option_map (λ p. p.action) (slice_get g.points number) }
+{
+    read_row(words, number)
+}
+
+/// How the command at a point is sent, as the words say it. Any words may be read, at any of 65,536 points. Those of the
+/// table of a graph say what the command table says of the graph's command.
+pub fn sending_at(words: &[u32], number: usize) -> Sending
+    requires { number < 65536 }
+    ensures read { result ≡ sending_at words.now number }
+    ensures table { (g : Graph) → IsTable g words.now → (p : Point) → slice_get g.points number ≡ Some p
+        → IsSentRight g.kind p.action result }
+{
+    read_sending(words, number)
 }
