@@ -9,11 +9,13 @@ mod counts;
 mod encoding;
 mod fault;
 mod fits;
+mod loading;
 mod reading;
 mod row;
 mod sending;
 
 pub use encoding::encode;
 pub use fault::{NoTable, Part, TableFault};
+pub use loading::is_table;
 pub use reading::{CaseRows, NameRow, Row, row_at, sending_at};
 pub use sending::{Data, Sending};
