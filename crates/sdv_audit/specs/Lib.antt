@@ -1,0 +1,3 @@
+pub mod ReadParts
+pub mod Reading
+pub mod Spelling
