@@ -19,8 +19,8 @@ use Rattle.sdv_explain.specs.declared.explaining.Refusal.{Refusal}
 use Rattle.sdv_explain.specs.declared.fault.ExplainFault.{ExplainFault}
 use Rattle.sdv_explain.specs.declared.fault.ExplainFault.TheVariants.{Script, TooMany, Memory}
 use Rattle.sdv_telling.specs.declared.visit.Visit.{Visit}
-use Rattle.sdv_explain.specs.Refused.{IsRefusedAt}
-use Rattle.sdv_explain.specs.Way.{IsWay}
+use Rattle.sdv_explain.specs.Refused.{IsRefusedAt, IsRefusedNowhere}
+use Rattle.sdv_explain.specs.Way.{IsWay, HasFewest, HasNoWay}
 
 -- want of memory says nothing of the text
 abbrev pub fault_of_script : FaultKind → ScriptFault → ExplainFault
@@ -35,7 +35,8 @@ NamesPoint (certifies.EndState number) point = number ≡ point
 NamesPoint certifies.TooMany point = ⊥
 NamesPoint certifies.Memory point = ⊥
 
--- the way leads to the point that a refusal names, by what is known of the points, and there to the shape that is refused
+-- the way leads to the point that a refusal names, by what is known of the points, and there to the shape that is
+-- refused; no way there has fewer visits
 pub record LeadsThere (g : Graph) (ps : List PointFacts) (fault : CertifyFault) (way : List Visit) : Type 0 where
   pub point : ℕ
   pub named : NamesPoint fault point
@@ -46,10 +47,28 @@ pub record LeadsThere (g : Graph) (ps : List PointFacts) (fault : CertifyFault) 
   pub shape : Shape
   pub refused : IsRefusedAt fault place.action facts.facts shape
   pub is_way : IsWay g ps way point shape
+  pub fewest : HasFewest g ps way point shape
 
--- so does the way of a refusal, which is empty where none was found
+-- a shape is refused at the point, and there is no way to it
+pub record IsOutOfReach (g : Graph) (ps : List PointFacts) (fault : CertifyFault) (point : ℕ) (place : Point) (facts : PointFacts) : Type 0 where
+  pub shape : Shape
+  pub refused : IsRefusedAt fault place.action facts.facts shape
+  pub no_way : HasNoWay g ps point shape
+
+-- if the refusal names a point, of which something is known, then no shape is refused there, or there is no way to it
+abbrev pub LeadsNowhere : Graph → List PointFacts → CertifyFault → Type 0
+LeadsNowhere g ps fault =
+    (point : ℕ) → NamesPoint fault point → (place : Point) → slice_get g.points point ≡ Some place
+    → (facts : PointFacts) → slice_get ps point ≡ Some facts
+    → IsRefusedNowhere fault place.action facts.facts ⊎ IsOutOfReach g ps fault point place facts
+
+-- it leads there, or it is empty and no way does
+abbrev pub EndsThere : Graph → List PointFacts → CertifyFault → (way : List Visit) → Type 0
+EndsThere g ps fault way = ((way ≡ []) × LeadsNowhere g ps fault) ⊎ LeadsThere g ps fault way
+
+-- so it is of the way of a refusal
 abbrev pub HasWay : Graph → List PointFacts → Refusal → Type 0
-HasWay g ps refusal = (refusal.way.items ≡ []) ⊎ LeadsThere g ps refusal.fault refusal.way.items
+HasWay g ps refusal = EndsThere g ps refusal.fault refusal.way.items
 
 -- a script is refused so
 pub record IsRefusal (s : Tree) (refusal : Refusal) : Type 0 where

@@ -1,13 +1,13 @@
 //! The explanation of a script.
 
-ghost use Rattle.std.specs.Prelude.{◌≡◌, ◌≢◌, [], ◌⊎◌, IfErr, IfOk, IfSome, None, ℕ, List};
+ghost use Rattle.std.specs.Prelude.{◌≡◌, ◌≢◌, [], ◌⊎◌, IfErr, IfNone, IfOk, IfSome, None, ℕ, List};
 ghost use Rattle.sdv_graph.specs.Graph.{Graph};
 ghost use Rattle.sdv_graph.specs.GraphOf.{IsGraphOf};
 ghost use Rattle.sdv_facts.specs.Facts.{PointFacts};
 ghost use Rattle.sdv_script.specs.Shown.{shown};
 ghost use Rattle.sdv_certify.specs.Assembled.{CertificateOf, RefusedFor, SurveyOf};
-ghost use Rattle.sdv_explain.specs.Explained.{Explains, HasWay, IsRefusal, LeadsThere, NamesPoint, Unexplained};
-ghost use Rattle.sdv_explain.specs.Way.{IsWay};
+ghost use Rattle.sdv_explain.specs.Explained.{EndsThere, Explains, HasWay, IsRefusal, NamesPoint, Unexplained};
+ghost use Rattle.sdv_explain.specs.Way.{HasNoWay, IsShortest};
 
 use crate::fault::ExplainFault;
 use crate::known::known_at;
@@ -27,7 +27,7 @@ use std::alloc::{AllocError, Global};
 pub struct Refusal {
     /// What `certify` answers.
     pub fault: CertifyFault,
-    /// A shortest way to a shape of the point that is refused; empty where none was found.
+    /// A way with the fewest visits to a shape that is refused at the point; empty where no way leads there.
     pub way: Vec<Visit>,
 }
 
@@ -104,7 +104,8 @@ fn explain_script(
 
 /// The point that a refusal names.
 fn refused_point(fault: CertifyFault) -> Option<usize>
-    ensures { IfSome result (NamesPoint fault) }
+    ensures point { IfSome result (NamesPoint fault) }
+    ensures none { IfNone result ((point : ℕ) → NamesPoint fault point → ⊥) }
 {
     match fault {
         CertifyFault::Illegal { point, .. }
@@ -144,7 +145,7 @@ fn refuse_point(
     number: usize,
 ) -> Result<Vec<Visit>, AllocError>
     requires { NamesPoint fault number }
-    ensures { IfOk result (λ way. (way.items ≡ []) ⊎ LeadsThere graph.now known.now.points fault way.items) }
+    ensures { IfOk result (λ way. EndsThere graph.now known.now.points fault way.items) }
 {
     if graph.len() <= number {
         return Ok(Vec::new(alloc));
@@ -161,7 +162,7 @@ fn refuse_point(
     Ok(way)
 }
 
-/// A way to a shape of a point; an empty one where none was found.
+/// A way to a shape of a point with the fewest visits; an empty one where there is none.
 fn way_or_none(
     alloc: Global,
     graph: &Graph<'_>,
@@ -169,7 +170,8 @@ fn way_or_none(
     number: usize,
     shape: Shape,
 ) -> Result<Vec<Visit>, AllocError>
-    ensures { IfOk result (λ way. (way.items ≡ []) ⊎ IsWay graph.now known.now.points way.items number shape) }
+    ensures { IfOk result (λ way. ((way.items ≡ []) × HasNoWay graph.now known.now.points number shape)
+        ⊎ IsShortest graph.now known.now.points way.items number shape) }
 {
     let way = match find_way(alloc, graph, known, number, shape)? {
         Some(way) => way,
