@@ -5,3 +5,4 @@ pub mod Lengths
 pub mod Places
 pub mod Small
 pub mod Statements
+pub mod WellFormed

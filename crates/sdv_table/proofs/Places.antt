@@ -26,7 +26,7 @@ heads_append k at (p ∷ ps) qs =
     ap (λ h. (head_of_action p.action + 65536 * at) ∷ h) (heads_append k (at + length row) ps qs
     ∙ ap (λ n. heads k (at + length row) ps ++ heads k n qs) places)
 
-length-heads : (k : Kind) (at : ℕ) (ps : List Point) → length (heads k at ps) ≡ length ps
+pub length-heads : (k : Kind) (at : ℕ) (ps : List Point) → length (heads k at ps) ≡ length ps
 length-heads k at [] = refl
 length-heads k at (p ∷ ps) = ap (λ n. suc n) (length-heads k (at + length (row_of_action k p.action)) ps)
 

@@ -3,6 +3,7 @@
 ghost use Rattle.std.specs.Prelude.{◌≡◌, ◌<◌, ◌^◌, ◌+◌, ◌*◌, ◌++◌, ◌∷◌, [], length, IfOk, IfErr};
 ghost use Rattle.sdv_table.specs.Table.{heads, rows, header, header_size, size, kind_code};
 ghost use Rattle.sdv_table.specs.Fits.{CountsFit, PointsFit, TargetFits, IsTable, IsReason, counts_of};
+ghost use Rattle.sdv_table.specs.Loading.{IsWellFormed};
 
 use crate::counts::Counts;
 use crate::fault::{Part, TableFault};
@@ -123,12 +124,8 @@ fn header_of(
     Ok(words)
 }
 
-/// The table of a graph.
-///
-/// # Errors
-///
-/// [`TableFault::Wide`] where a part of the graph has no room, and [`TableFault::Memory`].
-pub fn encode(alloc: Global, graph: &Graph<'_>) -> Result<Vec<u32>, TableFault>
+// The table of a graph.
+fn table_of(alloc: Global, graph: &Graph<'_>) -> Result<Vec<u32>, TableFault>
     ensures table { IfOk result (λ words. IsTable graph.now words.items) }
     ensures reason { IfErr result (IsReason graph.now) }
 {
@@ -142,5 +139,19 @@ pub fn encode(alloc: Global, graph: &Graph<'_>) -> Result<Vec<u32>, TableFault>
     let mut words = header_of(alloc, graph, counts, start + row_words)?;
     words.extend_from_slice(&points.heads)?;
     words.extend_from_slice(&points.rows)?;
+    Ok(words)
+}
+
+/// The table of a graph, which is well formed.
+///
+/// # Errors
+///
+/// [`TableFault::Wide`] where a part of the graph has no room, and [`TableFault::Memory`].
+pub fn encode(alloc: Global, graph: &Graph<'_>) -> Result<Vec<u32>, TableFault>
+    ensures table { IfOk result (λ words. IsTable graph.now words.items) }
+    ensures reason { IfErr result (IsReason graph.now) }
+    ensures well_formed { IfOk result (λ words. IsWellFormed words.items) }
+{
+    let words = table_of(alloc, graph)?;
     Ok(words)
 }
