@@ -1,0 +1,230 @@
+# What the converters of this folder share: it turns commands and data phases into the lines of a trace.
+#
+# A converter calls command() for each command in the order in which the host sent them, and phase() after a command whose data
+# phase it knows. One that sees only the command line calls seen() instead, which works out the data phases itself. It calls
+# finish() at the end of its input. `emmc` is 1 for an e.MMC device and 0 for an SD card, and `name` is the converter's name.
+#
+# Commands that no script can name are left out, because a trace is read against the same tables. With an application command
+# goes the CMD55 in front of it. Arguments that a script cannot write, but that mean the same to the card, are replaced.
+# notes() then says on standard error what was left out or replaced, how often, and in which line first.
+#
+# POSIX awk. Arguments and answers are texts of eight hexadecimal digits, so no number exceeds 2^32.
+
+# MESSAGES
+
+function say(text) { print name ": " text | "cat 1>&2" }
+
+# A line that the converter should understand is malformed: the conversion ends.
+function die(text) {
+    dead = 1
+    say("line " NR ": " text)
+    close("cat 1>&2")
+    exit 1
+}
+
+# At most 100 different notes are kept.
+function note(text) {
+    if (!(text in note_count)) {
+        if (note_number == 100) text = "more was left out or replaced"
+        else note_number++
+        if (!(text in note_count)) {
+            note_first[text] = NR
+            note_order[++note_last] = text
+        }
+    }
+    note_count[text]++
+}
+
+function notes(    i, text) {
+    for (i = 1; i <= note_last; i++) {
+        text = note_order[i]
+        say(text " (line " note_first[text] (note_count[text] > 1 ? ", " note_count[text] " times" : "") ")")
+    }
+    close("cat 1>&2")
+}
+
+# WORDS of eight hexadecimal digits
+
+function digit(text, place) { return index("0123456789abcdef", substr(text, place, 1)) - 1 }
+
+function is_hex(text, length_wanted) { return length(text) == length_wanted && text !~ /[^0-9a-f]/ }
+
+function bit(word, n) { return int(digit(word, 8 - int(n / 4)) / 2 ^ (n % 4)) % 2 }
+
+function word_of(number) { return sprintf("%04x%04x", int(number / 65536), number % 65536) }
+
+# The state that a status shows: 0 idle, 1 ready, 2 ident, 3 stby, 4 tran, 5 data, 6 rcv, 7 prg, 8 dis.
+function state_of(status) { return bit(status, 12) * 8 + bit(status, 11) * 4 + bit(status, 10) * 2 + bit(status, 9) }
+
+# The state that an answer shows, or -1.
+function shown(answer) { return answer ~ /^R1 / ? state_of(substr(answer, 4)) : -1 }
+
+# LINES OF THE TRACE
+
+# While it is open whether a data phase took place, the lines behind it wait in later[].
+function out(line) {
+    if (due == "") print line
+    else later[++laters] = line
+}
+
+# The held line is a CMD55 whose next command is not known yet.
+function let_go() {
+    if (held != "") out(held)
+    held = ""
+}
+
+# DATA LINES. No capture shows when a host changes its own. It is taken to do so with the answer to ACMD6; for an e.MMC device,
+# with the first CMD13 behind CMD6 that shows the transfer state without an error, or else before the next command; and with CMD0.
+
+function set_lines(count) {
+    if (lines != count) out("LINES " count)
+    lines = count
+}
+
+function use_lines_due() {
+    set_lines(lines_due)
+    lines_due = 0
+}
+
+function change_lines(arg, answer) {
+    if (answer !~ /^R1 /) return
+    if (emmc && arg ~ /^03b7/) lines_due = substr("148", 1 + substr(arg, 6, 1), 1)
+    if (!emmc && arg == "00000000") set_lines(1)
+    if (!emmc && arg == "00000002") set_lines(4)
+}
+
+# COMMANDS
+
+# An application command that no script can name. `app`: it comes behind CMD55.
+function is_other_application(i, app) { return app && i ~ /^(14|15|16|22|23|4[2-9])$/ }
+
+# A script can name the command.
+function in_tables(i, arg, app) {
+    if (emmc) {
+        if (i == 6) return arg ~ /^03b[37]0[012]/
+        if (i == 8) return arg == "00000000"
+        return i ~ /^([01237]|9|10|12|13|16|17|18|23|24|25|35|36|38)$/
+    }
+    if (is_other_application(i, app)) return 0
+    if (i == 6) return app
+    return i ~ /^([02378]|9|10|12|13|16|17|18|24|25|32|33|38|41|51|55)$/
+}
+
+# It asks for the voltages that the card takes, and starts nothing.
+function is_inquiry(i, arg) { return i == (emmc ? 1 : 41) && substr(arg, 3) == "000000" }
+
+# The argument that a script writes in place of this one.
+function argument_of(i, arg) {
+    if (!emmc && i == 41) return bit(arg, 30) ? "40ff8000" : "00ff8000"
+    if (!emmc && i == 8 && arg ~ /^000001/) return "000001aa"
+    if (emmc && i == 1) return "40ff8080"
+    if (emmc && i == 6) return substr(arg, 1, 6) "00"
+    return arg
+}
+
+# The answer to CMD8 with another check pattern: the two patterns change places in it.
+function echo_of(arg, answer,    back) {
+    back = substr(answer, 10)
+    if (answer !~ /^R7 / || arg == "000001aa") return answer
+    if (back == substr(arg, 7)) return substr(answer, 1, 9) "aa"
+    if (back == "aa") return substr(answer, 1, 9) substr(arg, 7)
+    return answer
+}
+
+# A command, and what came of it: `-`, `timeout` or a response. It returns 1 if the trace has the command.
+function command(i, arg, answer,    app, taken, want, state) {
+    app = after_55
+    taken = held_taken
+    after_55 = !emmc && i == 55
+    held_taken = 0
+    state = shown(answer)
+    if (after_left && i == 13 && state >= 5 && state <= 7) {
+        note("left out: CMD13 while the card was at work on a command that was left out")
+        return 0
+    }
+    after_left = 0
+    if (is_inquiry(i, arg) && (emmc || taken)) {
+        note("left out: " (emmc ? "CMD1" : "CMD55 and CMD41") " " arg ", an inquiry")
+        held = ""
+        return 0
+    }
+    if (!in_tables(i, arg, app)) {
+        after_left = 1
+        if (is_other_application(i, app)) {
+            note("left out: CMD55 and CMD" i)
+            held = ""
+        } else note("left out: CMD" i (emmc && i == 6 ? " " arg : ""))
+        return 0
+    }
+    let_go()
+    want = argument_of(i, arg)
+    if (want != arg) {
+        note("CMD" i " " arg " stands as CMD" i " " want)
+        if (i == 8) answer = echo_of(arg, answer)
+        arg = want
+    }
+    if (i == 0) {
+        lines_due = 0
+        set_lines(1)
+    } else if (lines_due && i != 13) use_lines_due()
+    if (after_55) {
+        held = "CMD55 " arg " " answer
+        held_taken = answer ~ /^R1 / && bit(substr(answer, 4), 5)
+        return 1
+    }
+    out("CMD" i " " arg " " answer)
+    if (i == 6) change_lines(arg, answer)
+    else if (lines_due && i == 13 && state >= 0) {
+        if (bit(substr(answer, 4), 7)) lines_due = 0
+        else if (state == 4) use_lines_due()
+    }
+    return 1
+}
+
+# A data phase, as IN, OUT or REG, how many blocks or bytes, and whether it ended well.
+function phase(word, count, well) { out(word " " count (well ? " ok" : " cut")) }
+
+# The data phase that a command asks for, with one block for a transfer of an unknown number, or nothing.
+function asked(i, app) {
+    if (i == 17 || i == 18) return "IN 1 ok"
+    if (i == 24 || i == 25) return "OUT 1 ok"
+    if (emmc) return i == 8 ? "REG 512 ok" : ""
+    return app && i == 51 ? "REG 8 ok" : app && i == 13 ? "REG 64 ok" : ""
+}
+
+# It is settled whether the phase took place.
+function settle(took_place,    i, line) {
+    if (due == "") return
+    line = due
+    due = ""
+    if (took_place) {
+        print line
+        note(line " is taken to have come where the next command shows it; one block stands for any number")
+    }
+    for (i = 1; i <= laters; i++) print later[i]
+    laters = 0
+}
+
+# A command on the command line alone. `state` is the state in which the card received it, or -1. The next command with a state
+# shows whether the data phase took place: the card is in transfer state (4) again, or programming (7). A CMD12 behind an open
+# transfer shows it too. It is not known to have taken place if 64 lines do not show it.
+function seen(i, arg, answer, state,    app) {
+    app = after_55
+    if (due != "") {
+        if (open_due && i == 12) settle(1)
+        else if (state >= 0) settle(state == 4 || (state == 7 && due ~ /^OUT/))
+        else if (laters >= 64) settle(0)
+    }
+    if (command(i, arg, answer) && answer ~ /^R1 /) {
+        due = asked(i, app)
+        open_due = i == 18 || i == 25
+    }
+}
+
+function finish() {
+    let_go()
+    settle(0)
+    notes()
+}
+
+BEGIN { lines = 1 }
