@@ -12,7 +12,12 @@
 
 # MESSAGES
 
-function say(text) { print name ": " text | "cat 1>&2" }
+# Of a text only 200 characters are shown, and a ? for each that cannot be printed.
+function say(text) {
+    text = substr(text, 1, 200)
+    gsub(/[^ -~]/, "?", text)
+    print name ": " text | "cat 1>&2"
+}
 
 # A line that the converter should understand is malformed: the conversion ends.
 function die(text) {
@@ -49,7 +54,9 @@ function digit(text, place) { return index("0123456789abcdef", substr(text, plac
 
 function is_hex(text, length_wanted) { return length(text) == length_wanted && text !~ /[^0-9a-f]/ }
 
-function bit(word, n) { return int(digit(word, 8 - int(n / 4)) / 2 ^ (n % 4)) % 2 }
+function power(n) { return substr("1248", n + 1, 1) + 0 }
+
+function bit(word, n) { return int(digit(word, 8 - int(n / 4)) / power(n % 4)) % 2 }
 
 function word_of(number) { return sprintf("%04x%04x", int(number / 65536), number % 65536) }
 
@@ -96,7 +103,7 @@ function change_lines(arg, answer) {
 # COMMANDS
 
 # An application command that no script can name. `app`: it comes behind CMD55.
-function is_other_application(i, app) { return app && i ~ /^(14|15|16|22|23|4[2-9])$/ }
+function is_other_application(i, app) { return app && i ~ /^(22|23|4[2-9])$/ }
 
 # A script can name the command.
 function in_tables(i, arg, app) {
@@ -199,15 +206,15 @@ function settle(took_place,    i, line) {
     due = ""
     if (took_place) {
         print line
-        note(line " is taken to have come where the next command shows it; one block stands for any number")
+        note("put in: " line (open_due ? " for any number of blocks" : "") ", because a later command shows the phase")
     }
     for (i = 1; i <= laters; i++) print later[i]
     laters = 0
 }
 
 # A command on the command line alone. `state` is the state in which the card received it, or -1. The next command with a state
-# shows whether the data phase took place: the card is in transfer state (4) again, or programming (7). A CMD12 behind an open
-# transfer shows it too. It is not known to have taken place if 64 lines do not show it.
+# shows whether the data phase before it took place: if so, the card is in transfer state (4) again, or programming (7). A CMD12
+# behind an open transfer shows it too. A phase that 64 lines do not show is not put in.
 function seen(i, arg, answer, state,    app) {
     app = after_55
     if (due != "") {
