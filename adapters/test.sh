@@ -377,6 +377,52 @@ left out: CMD25, because the CMD23 before it failed (line 46)
 left out: a transfer of the command queue (line 50)
 END
 
+takes "linux: transfers of an SD card by count" events 0 linux-mmc-trace --busy << 'END'
+start 2 cmd_opcode=18 cmd_arg=0x8 cmd_flags=0xb5 sbc_opcode=23 sbc_arg=0x8 sbc_flags=0x15 stop_opcode=12 stop_flags=0x95 blocks=8 block_size=512 data_flags=0x200
+end 2 cmd_opcode=18 cmd_resp=0x900,0x0,0x0,0x0 sbc_opcode=23 sbc_resp=0x900,0x0,0x0,0x0 stop_opcode=12 bytes_xfered=4096
+start 2 cmd_opcode=25 cmd_arg=0x8 cmd_flags=0xb5 sbc_opcode=23 sbc_arg=0x8 sbc_flags=0x15 blocks=8 block_size=512 data_flags=0x100
+end 2 cmd_opcode=25 cmd_resp=0x900,0x0,0x0,0x0 sbc_opcode=23 sbc_resp=0x900,0x0,0x0,0x0 bytes_xfered=4096
+start 2 cmd_opcode=25 cmd_arg=0x8 cmd_flags=0xb5 sbc_opcode=23 sbc_arg=0x8 sbc_flags=0x15 stop_opcode=12 stop_flags=0x49d blocks=8 block_size=512 data_flags=0x100
+end 2 cmd_opcode=25 cmd_resp=0x900,0x0,0x0,0x0 sbc_opcode=23 sbc_resp=0x900,0x0,0x0,0x0 stop_opcode=12 stop_resp=0xd00,0x0,0x0,0x0 data_err=-110
+start 2 cmd_opcode=18 cmd_arg=0x8 cmd_flags=0xb5 sbc_opcode=23 sbc_arg=0x8 sbc_flags=0x15 stop_opcode=12 stop_flags=0x95 blocks=8 block_size=512 data_flags=0x200
+end 2 cmd_opcode=18 cmd_err=-110 sbc_opcode=23 sbc_resp=0x900,0x0,0x0,0x0 stop_opcode=12
+=
+CMD18 00000008 R1 00000900
+IN 8 ok
+CMD12 00000000 R1 00000b00
+CMD25 00000008 R1 00000900
+OUT 8 ok
+CMD12 00000000 R1 00000d00
+WAIT ok
+CMD25 00000008 R1 00000900
+OUT 8 cut
+CMD12 00000000 R1 00000d00
+WAIT ok
+CMD18 00000008 timeout
+=
+left out: CMD23 (line 2, 4 times)
+CMD12 stands for the end of a transfer by the count of CMD23 (line 2, 2 times)
+END
+
+takes "linux: partitions of an e.MMC device" events 0 linux-mmc-trace --emmc << 'END'
+start 1 cmd_opcode=6 cmd_arg=0x3b34901 cmd_flags=0x49d
+end 1 cmd_opcode=6 cmd_resp=0x800,0x0,0x0,0x0
+start 1 cmd_opcode=6 cmd_arg=0x3b34801 cmd_flags=0x49d
+end 1 cmd_opcode=6 cmd_resp=0x800,0x0,0x0,0x0
+start 1 cmd_opcode=6 cmd_arg=0x3b30301 cmd_flags=0x49d
+end 1 cmd_opcode=6 cmd_resp=0x800,0x0,0x0,0x0
+start 1 cmd_opcode=6 cmd_arg=0x3b70601 cmd_flags=0x49d
+end 1 cmd_opcode=6 cmd_resp=0x800,0x0,0x0,0x0
+=
+CMD6 03b30100 R1 00000800
+CMD6 03b30000 R1 00000800
+=
+CMD6 03b34901 stands as CMD6 03b30100 (line 2)
+CMD6 03b34801 stands as CMD6 03b30000 (line 4)
+left out: CMD6 03b30301 (line 6)
+left out: CMD6 03b70601 (line 8)
+END
+
 takes "linux: a controller that sends CMD12, and waits" events 0 linux-mmc-trace --busy << 'END'
 start 1 cmd_opcode=18 cmd_arg=0x8 cmd_flags=0xb5 stop_opcode=12 stop_flags=0x95 blocks=8 block_size=512 data_flags=0x200
 end 1 cmd_opcode=18 cmd_resp=0x900,0x0,0x0,0x0 stop_opcode=12 bytes_xfered=4096
@@ -840,6 +886,11 @@ ACMD41  00000000 -> no answer  (idle)
 CMD55   00000000 -> 00000120  (idle)
 CMD1    00000000 -> no answer  (idle)
 CMD51   00000000 -> no answer  (transfer)
+CMD23   00000008 -> 00000900  (transfer)
+CMD18   00000008 -> 00000900  (transfer)
+CMD23   00000008 -> 00000900  (transfer)
+CMD25   00000008 -> 00000900  (transfer)
+CMD12   00000000 -> 00000d00  (receivingdata)
 =
 CMD8 000001aa R7 000001ff
 CMD8 000001aa R7 000001f0
@@ -848,11 +899,21 @@ CMD41 40ff8000 timeout
 CMD41 00ff8000 timeout
 CMD55 00000000 R1 00000120
 CMD51 00000000 timeout
+CMD18 00000008 R1 00000900
+IN 1 ok
+CMD12 00000000 R1 00000b00
+CMD25 00000008 R1 00000900
+OUT 1 ok
+CMD12 00000000 R1 00000d00
 =
 CMD8 000001ff stands as CMD8 000001aa (line 1, 2 times)
 CMD41 40000000 stands as CMD41 40ff8000 (line 4)
 CMD41 00000000 stands as CMD41 00ff8000 (line 5)
 left out: CMD1 (line 7)
+left out: CMD23 (line 9, 2 times)
+CMD12 stands for the end of a transfer by the count of CMD23 (line 11)
+put in: IN 1 ok for any number of blocks, because a later command shows the phase (line 11)
+put in: OUT 1 ok for any number of blocks, because a later command shows the phase (line 13)
 END
 
 malformed_line() {

@@ -108,7 +108,7 @@ function is_other_application(i, app) { return app && i ~ /^(22|23|4[2-9])$/ }
 # A script can name the command.
 function in_tables(i, arg, app) {
     if (emmc) {
-        if (i == 6) return arg ~ /^03b[37]0[012]/
+        if (i == 6) return arg ~ /^03b70[012]/ || arg ~ /^03b3.[01289a]/
         if (i == 8) return arg == "00000000"
         return i ~ /^([01237]|9|10|12|13|16|17|18|23|24|25|35|36|38)$/
     }
@@ -125,7 +125,8 @@ function argument_of(i, arg) {
     if (!emmc && i == 41) return bit(arg, 30) ? "40ff8000" : "00ff8000"
     if (!emmc && i == 8 && arg ~ /^000001/) return "000001aa"
     if (emmc && i == 1) return "40ff8080"
-    if (emmc && i == 6) return substr(arg, 1, 6) "00"
+    # of byte 179 only the access bits count, and the command set does not count where a byte is written
+    if (emmc && i == 6) return substr(arg, 1, 4) "0" (digit(arg, 6) % 8) "00"
     return arg
 }
 
@@ -138,9 +139,12 @@ function echo_of(arg, answer,    back) {
     return answer
 }
 
-# A command, and what came of it: `-`, `timeout` or a response. It returns 1 if the trace has the command.
+# A command, and what came of it: `-`, `timeout` or a response. It returns 1 if the trace has the command. `counted` is 1 behind
+# the CMD23 of an SD card, and behind the transfer that follows it.
 function command(i, arg, answer,    app, taken, want, state) {
     app = after_55
+    counted = counted && last_index == 23 && (i == 18 || i == 25)
+    last_index = i
     taken = held_taken
     after_55 = !emmc && i == 55
     held_taken = 0
@@ -157,6 +161,7 @@ function command(i, arg, answer,    app, taken, want, state) {
     }
     if (!in_tables(i, arg, app)) {
         after_left = 1
+        counted = !emmc && i == 23 && !app && answer ~ /^R1 /
         if (is_other_application(i, app)) {
             note("left out: CMD55 and CMD" i)
             held = ""
@@ -188,6 +193,13 @@ function command(i, arg, answer,    app, taken, want, state) {
     return 1
 }
 
+# The end of a transfer by its count: no script can send CMD23 to an SD card, and CMD12 stands for it.
+function end_by_count(is_write) {
+    note("CMD12 stands for the end of a transfer by the count of CMD23")
+    counted = 0
+    out("CMD12 00000000 R1 00000" (is_write ? "d00" : "b00"))
+}
+
 # A data phase, as IN, OUT or REG, how many blocks or bytes, and whether it ended well.
 function phase(word, count, well) { out(word " " count (well ? " ok" : " cut")) }
 
@@ -206,6 +218,7 @@ function settle(took_place,    i, line) {
     due = ""
     if (took_place) {
         print line
+        if (counted) end_by_count(line ~ /^OUT/)
         note("put in: " line (open_due ? " for any number of blocks" : "") ", because a later command shows the phase")
     }
     for (i = 1; i <= laters; i++) print later[i]
@@ -218,7 +231,10 @@ function settle(took_place,    i, line) {
 function seen(i, arg, answer, state,    app) {
     app = after_55
     if (due != "") {
-        if (open_due && i == 12) settle(1)
+        if (open_due && i == 12) {
+            counted = 0
+            settle(1)
+        }
         else if (state >= 0) settle(state == 4 || (state == 7 && due ~ /^OUT/))
         else if (laters >= 64) settle(0)
     }
