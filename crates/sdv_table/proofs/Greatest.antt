@@ -44,7 +44,6 @@ command_grown c command few fits = record {
   argument = fits.argument;
   count = fits.count;
   address = address_grown c command.address few fits.address;
-  addressed = fits.addressed;
 }
 
 atom_grown : (n : ℕ) (a : Atom) → n ≤ 8 → AtomFits n a → AtomFits 8 a

@@ -38,10 +38,12 @@ use Rattle.sdv_graph.specs.declared.tree.Condition.TheVariants as conditions
 use Rattle.sdv_graph.specs.Path.{Case}
 use Rattle.sdv_table.specs.declared.sending.Data.{Data}
 use Rattle.sdv_table.specs.declared.sending.Data.TheVariants as uses
+use Rattle.sdv_table.specs.declared.sending.Source.{Source}
+use Rattle.sdv_table.specs.declared.sending.Source.TheVariants as sources
 use Rattle.sdv_table.specs.declared.sending.Sending.{Sending}
 use Rattle.sdv_table.specs.Sending.{sending_of, data_or_nothing}
-use Rattle.sdv_table.specs.Row.{turns_number, target_word, atom_code, atom_words, change_code, change_words, condition_code, condition_words, phase_code, width_code, aim_code, unit_code, position_code, position_number, address_words, has_address, low, high, guard_code, guards_word, cases_words, name_words, expect_code, data_code, counts_word}
-use Rattle.sdv_table.specs.Reading.{enter_of, target_of, number_at, atom_of, code_size, change_of, condition_of, phase_of, width_of, aim_of, unit_of, position_of, address_of, own_argument, command_of, cases_place, let_of, guard_of, guards_of, cases_of, expect_read, data_read, sending_read, byte_at, name_of}
+use Rattle.sdv_table.specs.Row.{turns_number, target_word, atom_code, atom_words, change_code, change_words, condition_code, condition_words, phase_code, width_code, aim_code, unit_code, position_code, position_number, address_words, has_address, low, high, guard_code, guards_word, cases_words, name_words, expect_code, data_code, source_code, counts_word}
+use Rattle.sdv_table.specs.Reading.{enter_of, target_of, number_at, atom_of, code_size, change_of, condition_of, phase_of, width_of, aim_of, unit_of, position_of, address_of, own_argument, command_of, cases_place, let_of, guard_of, guards_of, cases_of, expect_read, data_read, source_read, sending_read, byte_at, name_of}
 use Rattle.sdv_table.specs.Fits.{EnterFits, TargetFits, CasesFit, AtomFits, ChangeFits, ConditionFits, UnitFits, PositionFits, AddressFits, CommandFits, LetFits, AreBytes, HasOrder, greatest}
 use Rattle.sdv_table.proofs.Small.{guard_small}
 
@@ -207,6 +209,16 @@ expect_small expects.R3 = lit< tt
 expect_small expects.R6 = lit< tt
 expect_small expects.R7 = lit< tt
 
+source_back : (s : Source) → source_read (source_code s) ≡ s
+source_back sources.Own = refl
+source_back sources.Rca = refl
+source_back sources.Address = refl
+
+source_small : (s : Source) → source_code s < 4
+source_small sources.Own = lit< tt
+source_small sources.Rca = lit< tt
+source_small sources.Address = lit< tt
+
 data_small : (d : Data) → data_code d < 8
 data_small uses.Nothing = lit< tt
 data_small uses.Busy = lit< tt
@@ -217,23 +229,31 @@ data_small uses.SdStatus = lit< tt
 data_small uses.ExtCsd = lit< tt
 
 -- the parts of the word of counts
-pub record Counted (word count expect follows cases : ℕ) : Type 0 where
+pub record Counted (word count expect follows source cases : ℕ) : Type 0 where
   pub count_back : word % 65536 ≡ count
   pub expect_back : word / 65536 % 8 ≡ expect
   pub follows_back : word / 524288 % 8 ≡ follows
-  pub cases_back : word / 4194304 ≡ cases
+  pub source_back : word / 4194304 % 4 ≡ source
+  pub cases_back : word / 16777216 ≡ cases
 
-counted : (word count e d n : ℕ) → word ≡ count + 65536 * ((e + 8 * d) + 64 * n) → count < 65536 → e < 8 → d < 8 → Counted word count e d n
-counted word count e d n is few small_e small_d =
-    record { count_back = omega arith; expect_back = omega arith; follows_back = omega arith; cases_back = omega arith }
+counted : (word count e d s n : ℕ) → word ≡ count + 65536 * ((e + 8 * (d + 8 * s)) + 256 * n) → count < 65536 → e < 8 → d < 8 → s < 4
+    → Counted word count e d s n
+counted word count e d s n is few small_e small_d small_s = record {
+  count_back = omega arith;
+  expect_back = omega arith;
+  follows_back = omega arith;
+  source_back = omega arith;
+  cases_back = omega arith;
+}
 
 pub counts_back : (s : Sending) (count n : ℕ) → count < 65536
-    → Counted (counts_word count s n) count (expect_code s.expect) (data_code s.follows) n
+    → Counted (counts_word count s n) count (expect_code s.expect) (data_code s.follows) (source_code s.source) n
 counts_back s count n few =
-    counted (counts_word count s n) count (expect_code s.expect) (data_code s.follows) n refl few (expect_small s.expect) (data_small s.follows)
+    counted (counts_word count s n) count (expect_code s.expect) (data_code s.follows) (source_code s.source) n refl few (expect_small s.expect)
+    (data_small s.follows) (source_small s.source)
 
-sending_with : ℕ → Expect → Data → Sending
-sending_with a e d = record { argument = a; expect = e; follows = d }
+sending_with : Source → ℕ → Expect → Data → Sending
+sending_with f a e d = record { source = f; argument = a; expect = e; follows = d }
 
 pub sending_back : (k : Kind) (ask : Ask) (small other n : ℕ) (ws more : List ℕ) → ask.count < 65536 → small % 64 ≡ ask.index
     → ws ≡ other ∷ (sending_of k ask).argument ∷ counts_word ask.count (sending_of k ask) n ∷ more
@@ -244,11 +264,13 @@ sending_back k ask small other n ws more few index is =
     let w = counts_word ask.count s n in
     let parts = counts_back s ask.count n few in
     ap (λ ws. sending_read small ws) is
-    ∙ ap (λ i. sending_with s.argument (expect_read (w / 65536 % 8) i) (data_read (w / 524288 % 8))) index
-    ∙ ap (λ e. sending_with s.argument (expect_read e ask.index) (data_read (w / 524288 % 8))) parts.expect_back
-    ∙ ap (λ d. sending_with s.argument (expect_read (expect_code s.expect) ask.index) (data_read d)) parts.follows_back
-    ∙ ap (λ e. sending_with s.argument e (data_read (data_code s.follows))) (expect_back (order_of k ask) ask.index)
-    ∙ ap (λ d. sending_with s.argument s.expect d) (data_back s.follows)
+    ∙ ap (λ i. sending_with (source_read (w / 4194304 % 4)) s.argument (expect_read (w / 65536 % 8) i) (data_read (w / 524288 % 8))) index
+    ∙ ap (λ f. sending_with (source_read f) s.argument (expect_read (w / 65536 % 8) ask.index) (data_read (w / 524288 % 8))) parts.source_back
+    ∙ ap (λ f. sending_with f s.argument (expect_read (w / 65536 % 8) ask.index) (data_read (w / 524288 % 8))) (source_back s.source)
+    ∙ ap (λ e. sending_with s.source s.argument (expect_read e ask.index) (data_read (w / 524288 % 8))) parts.expect_back
+    ∙ ap (λ d. sending_with s.source s.argument (expect_read (expect_code s.expect) ask.index) (data_read d)) parts.follows_back
+    ∙ ap (λ e. sending_with s.source s.argument e (data_read (data_code s.follows))) (expect_back (order_of k ask) ask.index)
+    ∙ ap (λ d. sending_with s.source s.argument s.expect d) (data_back s.follows)
 
 command_with : ℕ → Aim → ℕ → ℕ → Option Address → ScriptCommand
 command_with i a arg n address = record { ask = record { index = i; aim = a; argument = arg; count = n }; address = address }

@@ -1,3 +1,4 @@
+pub mod Enough
 pub mod Greatest
 pub mod Growing
 pub mod Inverse

@@ -1,9 +1,9 @@
 -- When a graph FITS a table: each part has the bits that it needs, and names what the header counts.
-use Rattle.std.specs.Prelude.{◌≡◌, ℕ, ◌<◌, ◌≤◌, ◌^◌, List, [], ◌∷◌, length, true, is_some, Option, Some, None, slice_get}
+use Rattle.std.specs.Prelude.{◌≡◌, ℕ, ◌<◌, ◌≤◌, ◌^◌, List, [], ◌∷◌, length, Option, Some, None, slice_get}
 use Rattle.sdv_registers.specs.declared.kind.Kind.{Kind}
 use Rattle.sdv_card.specs.declared.command.Order.{Order}
 use Rattle.sdv_card.specs.declared.event.Ask.{Ask}
-use Rattle.sdv_card.specs.CommandTable.{Asks, addressed_blocks}
+use Rattle.sdv_card.specs.CommandTable.{Asks}
 use Rattle.sdv_graph.specs.declared.graph.Target.{Target}
 use Rattle.sdv_graph.specs.declared.tree.ScriptCommand.{ScriptCommand}
 use Rattle.sdv_graph.specs.declared.tree.Address.{Address}
@@ -76,17 +76,11 @@ abbrev pub AddressFits : Counts → Option Address → Type 0
 AddressFits c None = Unit {0}
 AddressFits c (Some a) = UnitFits c.flags a.unit × PositionFits c.numbers a.position
 
--- only a command that is sent with the address of a block has one
-abbrev pub IsAddressed : Ask → Option Address → Type 0
-IsAddressed ask None = Unit {0}
-IsAddressed ask (Some a) = is_some (addressed_blocks ask) ≡ true
-
 pub record CommandFits (c : Counts) (command : ScriptCommand) : Type 0 where
   pub index : command.ask.index < 64
   pub argument : command.ask.argument < 2 ^ 32
   pub count : command.ask.count < 65536
   pub address : AddressFits c command.address
-  pub addressed : IsAddressed command.ask command.address
 
 -- LETS AND CONDITIONS
 
@@ -119,7 +113,7 @@ AreBytes (b ∷ bs) = (b < 256) × AreBytes bs
 -- each part has its bits, and names a variable, a flag or a point that the header counts
 abbrev pub PartsFit : Counts → Action → Type 0
 PartsFit c (sends command cases other) =
-    CommandFits c command × (length cases < 1024) × CasesFit c.points cases × TargetFits c.points other
+    CommandFits c command × (length cases < 256) × CasesFit c.points cases × TargetFits c.points other
 PartsFit c (phases p well other) = TargetFits c.points well × TargetFits c.points other
 PartsFit c (lets l t) = LetFits c l × TargetFits c.points t
 PartsFit c (tests condition holds other) =

@@ -36,6 +36,8 @@ use Rattle.sdv_table.specs.declared.reading.Row.{Row}
 use Rattle.sdv_table.specs.declared.reading.Row.TheVariants as rows
 use Rattle.sdv_table.specs.declared.sending.Data.{Data}
 use Rattle.sdv_table.specs.declared.sending.Data.TheVariants as uses
+use Rattle.sdv_table.specs.declared.sending.Source.{Source}
+use Rattle.sdv_table.specs.declared.sending.Source.TheVariants as sources
 use Rattle.sdv_table.specs.declared.sending.Sending.{Sending}
 use Rattle.sdv_table.specs.Table.{header_size}
 
@@ -134,7 +136,7 @@ cases_of zero ws = []
 cases_of (suc n) ws = case_of ws ∷ cases_of n (drop 2 ws)
 
 abbrev pub cases_count : List ℕ → ℕ
-cases_count ws = slice_index ws 2 / 4194304
+cases_count ws = slice_index ws 2 / 16777216
 
 -- HOW A COMMAND IS SENT
 
@@ -147,8 +149,12 @@ data_read code = if code == 0 then uses.Nothing else (if code == 1 then uses.Bus
     if code == 2 then uses.BlocksIn else (if code == 3 then uses.BlocksOut else (
     if code == 4 then uses.Scr else (if code == 5 then uses.SdStatus else uses.ExtCsd)))))
 
+abbrev pub source_read : ℕ → Source
+source_read code = if code == 0 then sources.Own else (if code == 1 then sources.Rca else sources.Address)
+
 abbrev pub sending_read : ℕ → List ℕ → Sending
 sending_read small ws = record {
+  source = source_read (slice_index ws 2 / 4194304 % 4);
   argument = slice_index ws 1;
   expect = expect_read (slice_index ws 2 / 65536 % 8) (small % 64);
   follows = data_read (slice_index ws 2 / 524288 % 8);

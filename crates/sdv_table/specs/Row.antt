@@ -27,6 +27,8 @@ use Rattle.sdv_graph.specs.declared.tree.Condition.TheVariants as conditions
 use Rattle.sdv_graph.specs.Walk.{Failed}
 use Rattle.sdv_table.specs.declared.sending.Data.{Data}
 use Rattle.sdv_table.specs.declared.sending.Data.TheVariants as uses
+use Rattle.sdv_table.specs.declared.sending.Source.{Source}
+use Rattle.sdv_table.specs.declared.sending.Source.TheVariants as sources
 use Rattle.sdv_table.specs.declared.sending.Sending.{Sending}
 use Rattle.sdv_table.specs.Sending.{sending_of}
 use Rattle.sdv_graph.specs.Path.{Case, Action, sends, phases as phase_point, lets, tests, flags, widths, heads, jumps, stops}
@@ -163,12 +165,17 @@ data_code uses.Scr = 4
 data_code uses.SdStatus = 5
 data_code uses.ExtCsd = 6
 
+abbrev pub source_code : Source → ℕ
+source_code sources.Own = 0
+source_code sources.Rca = 1
+source_code sources.Address = 2
+
 abbrev pub sending_code : Sending → ℕ
-sending_code s = expect_code s.expect + 8 * data_code s.follows
+sending_code s = expect_code s.expect + 8 * (data_code s.follows + 8 * source_code s.source)
 
 -- the announced count, how the command is sent, and how many cases there are
 abbrev pub counts_word : (count : ℕ) → Sending → (cases : ℕ) → ℕ
-counts_word count s cases = count + 65536 * (sending_code s + 64 * cases)
+counts_word count s cases = count + 65536 * (sending_code s + 256 * cases)
 
 -- ROWS
 

@@ -19,7 +19,7 @@ pub enum Part {
     /// The target of the first point.
     First,
     /// The statement of the point with this number: a variable or a flag that is not declared, a target behind the last
-    /// point, more than 6 guards in a case or 1,023 cases, a number above 2^40, a name of more than 16 bytes, or a command
+    /// point, more than 6 guards in a case or 255 cases, a number above 2^40, a name of more than 16 bytes, or a command
     /// that its kind of card does not have.
     Point(usize),
     /// The table would have 65,536 words or more.

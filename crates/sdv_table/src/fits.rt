@@ -1,7 +1,6 @@
 //! Whether the parts of a statement fit a table.
 
-ghost use Rattle.std.specs.Prelude.{◌≡◌, ◌<◌, ◌≤◌, true, is_some, map, length};
-ghost use Rattle.sdv_card.specs.CommandTable.{addressed_blocks};
+ghost use Rattle.std.specs.Prelude.{◌≡◌, ◌<◌, ◌≤◌, true, map, length};
 ghost use Rattle.sdv_graph.specs.Counts.{max_number, max_name};
 ghost use Rattle.sdv_graph.specs.Graph.{seen_action, seen_case};
 ghost use Rattle.sdv_table.specs.Fits.{AreBytes, TurnsFit, EnterFits, TargetFits, CasesFit, UnitFits, PositionFits, AddressFits, CommandFits, AtomFits, ChangeFits, LetFits, ConditionFits, PartsFit, HasOrder, IsOfKind, ActionFits};
@@ -55,13 +54,6 @@ fn position_fits(numbers: usize, position: Position) -> bool
     }
 }
 
-// Whether a command is sent with the address of a block.
-fn takes_address(ask: Ask) -> bool
-    ensures { result ≡ is_some (addressed_blocks ask) }
-{
-    matches!(ask.index, 17 | 18 | 24 | 25 | 32 | 33 | 35 | 36)
-}
-
 fn address_fits(counts: Counts, address: Option<Address>) -> bool
     ensures yes { result ≡ true → AddressFits counts address }
     ensures no { AddressFits counts address → result ≡ true }
@@ -85,9 +77,7 @@ pub(crate) fn command_fits(counts: Counts, command: ScriptCommand) -> bool
     ensures yes { result ≡ true → CommandFits counts command }
     ensures no { CommandFits counts command → result ≡ true }
 {
-    command.ask.index < 64
-        && address_fits(counts, command.address)
-        && (command.address.is_none() || takes_address(command.ask))
+    command.ask.index < 64 && address_fits(counts, command.address)
 }
 
 fn atom_fits(numbers: usize, atom: Atom) -> bool
@@ -167,7 +157,7 @@ fn parts_fit(counts: Counts, action: &Action<'_>) -> bool
     match action {
         Action::Send(command, cases, other) => {
             command_fits(counts, *command)
-                && cases.len() < 1024
+                && cases.len() < 256
                 && cases_fit(points, cases)
                 && target_fits(points, *other)
         }

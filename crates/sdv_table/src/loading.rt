@@ -31,11 +31,11 @@ fn cases_fit(points: usize, count: u16, words: &[u32]) -> bool
 
 fn case_rows_fit(points: usize, cases: CaseRows<'_>) -> bool
     ensures cases { result ≡ true → CasesFit points (cases_of cases.entry.count cases.entry.words.now) }
-    ensures few { result ≡ true → length (cases_of cases.entry.count cases.entry.words.now) < 1024 }
+    ensures few { result ≡ true → length (cases_of cases.entry.count cases.entry.words.now) < 256 }
     ensures no { CasesFit points (cases_of cases.entry.count cases.entry.words.now)
-        → length (cases_of cases.entry.count cases.entry.words.now) < 1024 → result ≡ true }
+        → length (cases_of cases.entry.count cases.entry.words.now) < 256 → result ≡ true }
 {
-    if cases.count >= 1024 {
+    if cases.count >= 256 {
         return false;
     }
     cases_fit(points, cases.count, cases.words)

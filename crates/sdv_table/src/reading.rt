@@ -6,9 +6,9 @@ ghost use Rattle.sdv_graph.specs.Path.{Point, sends, tests, stops};
 ghost use Rattle.sdv_graph.specs.Graph.{Graph};
 ghost use Rattle.sdv_table.specs.Fits.{IsTable};
 ghost use Rattle.sdv_table.specs.Loading.{IsSentRight};
-ghost use Rattle.sdv_table.specs.Reading.{target_of, number_at, phase_of, width_of, aim_of, atom_of, code_size, change_of, condition_of, unit_of, position_of, address_of, own_argument, command_of, cases_place, cases_count, cases_of, let_of, name_of, expect_read, data_read, sending_read, action_of, head_read, place_read, small_read, row_read, counts_read, action_at, sending_at, seen_row};
+ghost use Rattle.sdv_table.specs.Reading.{target_of, number_at, phase_of, width_of, aim_of, atom_of, code_size, change_of, condition_of, unit_of, position_of, address_of, own_argument, command_of, cases_place, cases_count, cases_of, let_of, name_of, expect_read, data_read, source_read, sending_read, action_of, head_read, place_read, small_read, row_read, counts_read, action_at, sending_at, seen_row};
 
-use crate::sending::{Data, Sending};
+use crate::sending::{Data, Sending, Source};
 use sdv_card::{Aim, Ask, Width};
 use sdv_frames::Expect;
 use sdv_graph::{
@@ -243,6 +243,16 @@ fn data_read(code: u32) -> Data
     }
 }
 
+fn source_read(code: u32) -> Source
+    ensures { result ≡ source_read code }
+{
+    match code {
+        0 => Source::Own,
+        1 => Source::Rca,
+        _ => Source::Address,
+    }
+}
+
 // The words from a place on.
 pub(crate) fn from_place(words: &[u32], at: usize) -> &[u32]
     ensures { result.now ≡ drop at words.now }
@@ -271,7 +281,7 @@ fn send_row(small: u32, row: &[u32]) -> Row<'_>
         (cases_of (cases_count row.now) (drop (cases_place (small / 128)) row.now)) (target_of (slice_index row.now 0)) }
 {
     let cases = CaseRows {
-        count: (word(row, 2) / 4_194_304) as u16,
+        count: (word(row, 2) / 16_777_216) as u16,
         words: from_place(row, cases_place(small / 128)),
     };
     Row::Send(command_of(small, row), cases, target_at(row, 0))
@@ -367,6 +377,7 @@ pub(crate) fn read_sending(words: &[u32], number: usize) -> Sending
     let small = head_at(words, number) / 16 % 4096;
     let row = from_place(words, place_at(words, number));
     Sending {
+        source: source_read(word(row, 2) / 4_194_304 % 4),
         argument: word(row, 1),
         expect: expect_read(word(row, 2) / 65536 % 8, (small % 64) as u8),
         follows: data_read(word(row, 2) / 524_288 % 8),

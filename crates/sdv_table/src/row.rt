@@ -289,7 +289,7 @@ fn put_send(
         ≡ words.old.items ++ row_of_action kind (sends command (map seen_case cases.now) other)) }
 {
     let sending = sending_of(kind, &command.ask);
-    let how = sending_code(sending) + 64 * cases.len() as u32;
+    let how = sending_code(sending) + 256 * cases.len() as u32;
     words.push(target_word(other))?;
     words.push(sending.argument)?;
     words.push(u32::from(command.ask.count) + 65536 * how)?;

@@ -2,8 +2,8 @@
 
 ghost use Rattle.std.specs.Prelude.{◌≡◌, ◌<◌, ◌^◌};
 ghost use Rattle.sdv_card.specs.CommandTable.{argument_or_none, expect_or_nothing};
-ghost use Rattle.sdv_table.specs.Row.{expect_code, data_code, sending_code};
-ghost use Rattle.sdv_table.specs.Sending.{data_or_nothing, sending_of};
+ghost use Rattle.sdv_table.specs.Row.{expect_code, data_code, source_code, sending_code};
+ghost use Rattle.sdv_table.specs.Sending.{data_or_nothing, source_or_own, sending_of};
 
 use sdv_card::state_table::order;
 use sdv_card::{Ask, Kind, Order};
@@ -22,17 +22,30 @@ pub enum Data {
     BlocksOut,
     /// The card sends its SCR, 8 bytes.
     Scr,
-    /// The card sends its SD status, 64 bytes, if it takes the command as ACMD13; as CMD13 it has no data.
+    /// The card sends its SD status, 64 bytes, if it takes the command as ACMD13, as only an SD card does. A CMD13 has no
+    /// data.
     SdStatus,
     /// The card sends its EXT_CSD, 512 bytes.
     ExtCsd,
 }
 
+/// Where the argument of a command comes from.
+#[derive(Clone, Copy, Debug, PartialEq, Eq)]
+pub enum Source {
+    /// The command has an argument of its own.
+    Own,
+    /// The relative card address that the host holds, in bits 31..16.
+    Rca,
+    /// The address of a block.
+    Address,
+}
+
 /// How a command is sent: what a host must know before it.
 #[derive(Clone, Copy, Debug, PartialEq, Eq)]
 pub struct Sending {
-    /// The argument, of a command that is sent with neither the relative card address nor the address of a block. Of
-    /// those commands it is 0.
+    /// Where the argument comes from.
+    pub source: Source,
+    /// The argument, of a command with one of its own; 0 of the others.
     pub argument: u32,
     /// The response to wait for.
     pub expect: Expect,
@@ -72,20 +85,44 @@ fn expect_of(order: Option<Order>, index: u8) -> Expect
     }
 }
 
-fn data_of(kind: Kind, order: Option<Order>) -> Data
-    ensures { result ≡ data_or_nothing kind order }
+fn data_of(order: Option<Order>) -> Data
+    ensures { result ≡ data_or_nothing order }
 {
-    match (kind, order) {
-        (
-            _,
-            Some(Order::SelectCard | Order::Switch { .. } | Order::StopTransmission | Order::Erase),
-        ) => Data::Busy,
-        (_, Some(Order::ReadSingleBlock | Order::ReadMultipleBlock { .. })) => Data::BlocksIn,
-        (_, Some(Order::WriteBlock | Order::WriteMultipleBlock { .. })) => Data::BlocksOut,
-        (_, Some(Order::SendScr)) => Data::Scr,
-        (_, Some(Order::SendExtCsd)) => Data::ExtCsd,
-        (Kind::Sd, Some(Order::SendStatus)) => Data::SdStatus,
+    match order {
+        Some(Order::SelectCard | Order::Switch { .. } | Order::StopTransmission | Order::Erase) => {
+            Data::Busy
+        }
+        Some(Order::ReadSingleBlock | Order::ReadMultipleBlock { .. }) => Data::BlocksIn,
+        Some(Order::WriteBlock | Order::WriteMultipleBlock { .. }) => Data::BlocksOut,
+        Some(Order::SendScr) => Data::Scr,
+        Some(Order::SendStatus) => Data::SdStatus,
+        Some(Order::SendExtCsd) => Data::ExtCsd,
         _ => Data::Nothing,
+    }
+}
+
+fn source_of(order: Option<Order>) -> Source
+    ensures { result ≡ source_or_own order }
+{
+    match order {
+        Some(
+            Order::SelectCard
+            | Order::SendCsd
+            | Order::SendCid
+            | Order::SendStatus
+            | Order::AppCommand,
+        ) => Source::Rca,
+        Some(
+            Order::ReadSingleBlock
+            | Order::ReadMultipleBlock { .. }
+            | Order::WriteBlock
+            | Order::WriteMultipleBlock { .. }
+            | Order::EraseBlockStart
+            | Order::EraseBlockEnd
+            | Order::EraseGroupStart
+            | Order::EraseGroupEnd,
+        ) => Source::Address,
+        _ => Source::Own,
     }
 }
 
@@ -95,9 +132,10 @@ pub(crate) fn sending_of(kind: Kind, ask: &Ask) -> Sending
 {
     let order = order(kind, ask);
     Sending {
+        source: source_of(order),
         argument: argument_at_zero(order, ask.argument),
         expect: expect_of(order, ask.index),
-        follows: data_of(kind, order),
+        follows: data_of(order),
     }
 }
 
@@ -130,10 +168,22 @@ fn data_code(follows: Data) -> u32
     }
 }
 
-/// The response and the data in six bits.
+fn source_code(source: Source) -> u32
+    ensures code { result ≡ source_code source }
+    ensures small { result < 4 }
+{
+    match source {
+        Source::Own => 0,
+        Source::Rca => 1,
+        Source::Address => 2,
+    }
+}
+
+/// The response, the data and the source of the argument in eight bits.
 pub(crate) fn sending_code(sending: Sending) -> u32
     ensures code { result ≡ sending_code sending }
-    ensures small { result < 64 }
+    ensures small { result < 256 }
 {
-    expect_code(sending.expect) + 8 * data_code(sending.follows)
+    let follows = data_code(sending.follows);
+    expect_code(sending.expect) + 8 * (follows + 8 * source_code(sending.source))
 }
