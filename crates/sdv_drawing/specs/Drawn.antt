@@ -1,8 +1,8 @@
 -- What is drawn of a script: its graph, marked where the script is refused.
 use Rattle.std.specs.Prelude.{◌≡◌, ℕ, List, IfNone, IfSome}
 use Rattle.sdv_graph.specs.Graph.{Graph}
-use Rattle.sdv_graph.specs.GraphOf.{IsGraphOf}
 use Rattle.sdv_facts.specs.Facts.{PointFacts}
+use Rattle.sdv_script.specs.OneGraph.{IsGraphOfScript}
 use Rattle.sdv_script.specs.declared.script.Script.{Script}
 use Rattle.sdv_script.specs.Script.{IsScript}
 use Rattle.sdv_script.specs.Shown.{shown}
@@ -15,7 +15,7 @@ use Rattle.sdv_drawing.specs.Drawing.{drawing}
 -- the drawing is that of the script's graph, and the script is refused so, or has a certificate
 pub record DrawsScript (s : Script) (d : Drawing) : Type 0 where
   pub graph : Graph
-  pub is_graph : IsGraphOf (shown s).names (shown s).body graph
+  pub is_graph : IsGraphOfScript (shown s) graph
   pub headings : List Heading
   pub are_headings : AreHeadings graph headings
   pub drawn : d.text.items ≡ drawing graph.points headings d.refusal

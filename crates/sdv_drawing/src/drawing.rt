@@ -37,7 +37,7 @@ pub fn draw(alloc: Global, text: &str) -> Result<Drawing, ScriptFault>
         (s : Parsed) → s.text ≡ text.entry.now → IsScript s → ⊥) }
 {
     let script = parse(alloc, text)?;
-    match draw_script(alloc, text, &script) {
+    match draw_script(alloc, &script) {
         Ok(drawing) => Ok(drawing),
         Err(_) => Err(ScriptFault {
             kind: FaultKind::Memory,
@@ -58,15 +58,15 @@ fn refusal_of(alloc: Global, script: &Script<'_>) -> Result<Option<CertifyFault>
     }
 }
 
-/// The drawing of a script that has this text.
-fn draw_script(alloc: Global, text: &str, script: &Script<'_>) -> Result<Drawing, AllocError>
+/// The drawing of a script.
+fn draw_script(alloc: Global, script: &Script<'_>) -> Result<Drawing, AllocError>
     ensures { IfOk result (DrawsScript script.now) }
 {
     let refusal = refusal_of(alloc, script)?;
     let Ok(graph) = script.graph(alloc) else {
         return Err(AllocError);
     };
-    let headings = headings(alloc, text, &graph)?;
+    let headings = headings(alloc, &graph)?;
     let text = draw_graph(alloc, &graph, headings.as_slice(), refusal)?;
     Ok(Drawing { text, refusal })
 }

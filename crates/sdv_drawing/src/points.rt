@@ -33,11 +33,11 @@ fn put_mark(text: &mut Text, clause: &str) -> Result<(), AllocError>
 }
 
 /// Begins the line of a point, up to its statement.
-fn put_front(text: &mut Text, point: usize, line: usize) -> Result<(), AllocError>
+fn put_front(text: &mut Text, point: usize, line: u32) -> Result<(), AllocError>
     ensures { OnOk result (text.new.items ≡ text.old.items ++ point_front point line) }
 {
     put_numbered(text, "    ", point)?;
-    put_numbered(text, " [label=\"line ", line)?;
+    put_numbered(text, " [label=\"line ", line as usize)?;
     put_numbered(text, ", point ", point)?;
     put(text, "\\n")
 }

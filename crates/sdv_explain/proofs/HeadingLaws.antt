@@ -17,3 +17,12 @@ one_added f xs i x old new all is so_far added =
     ∙ append_assoc old (f x ∷ []) (map f (drop (i + 1) xs))
     ∙ ap (λ ys. old ++ map f ys) (sym (drop_at xs i x is))
     ∙ so_far
+
+-- the same of what is kept as it is
+pub one_more : {X : Type 0} (xs : List X) (i : ℕ) (x : X) (old new all : List X) → slice_get xs i ≡ Some x → old ++ drop i xs ≡ all
+    → new ≡ old ++ x ∷ [] → new ++ drop (i + 1) xs ≡ all
+one_more xs i x old new all is so_far added =
+    ap (λ l. l ++ drop (i + 1) xs) added
+    ∙ append_assoc old (x ∷ []) (drop (i + 1) xs)
+    ∙ ap (λ ys. old ++ ys) (sym (drop_at xs i x is))
+    ∙ so_far

@@ -1,6 +1,7 @@
 -- What is explained of a text: whether it is the text of a script that is refused, and the way to the point that is.
 use Rattle.std.specs.Prelude.{◌≡◌, ◌⊎◌, ℕ, List, [], slice_get, Some, IfSome, None}
 use Rattle.sdv_card.specs.declared.shape.Shape.{Shape}
+use Rattle.sdv_script.specs.OneGraph.{IsGraphOfScript}
 use Rattle.sdv_script.specs.declared.fault.FaultKind.{FaultKind}
 use Rattle.sdv_script.specs.declared.fault.FaultKind.TheVariants as kinds
 use Rattle.sdv_script.specs.declared.fault.ScriptFault.{ScriptFault}
@@ -8,7 +9,6 @@ use Rattle.sdv_script.specs.declared.script.Script.{Script as Tree}
 use Rattle.sdv_script.specs.Script.{IsScript, Parsed}
 use Rattle.sdv_script.specs.Shown.{shown}
 use Rattle.sdv_graph.specs.Graph.{Graph}
-use Rattle.sdv_graph.specs.GraphOf.{IsGraphOf}
 use Rattle.sdv_graph.specs.Path.{Point}
 use Rattle.sdv_facts.specs.Facts.{PointFacts}
 use Rattle.sdv_certify.specs.declared.fault.CertifyFault.{CertifyFault}
@@ -74,7 +74,7 @@ HasWay g ps refusal = EndsThere g ps refusal.fault refusal.way.items
 pub record IsRefusal (s : Tree) (refusal : Refusal) : Type 0 where
   pub refused : RefusedFor s refusal.fault
   pub graph : Graph
-  pub is_graph : IsGraphOf (shown s).names (shown s).body graph
+  pub is_graph : IsGraphOfScript (shown s) graph
   pub points : List PointFacts
   pub survey : SurveyOf s points
   pub way : HasWay graph points refusal

@@ -1,21 +1,21 @@
--- The HEADINGS of a graph's points: for each point a line of the text, and the first words of its statement.
-use Rattle.std.specs.Prelude.{◌≡◌, List, map}
+-- The HEADINGS of a graph's points: for each point the line of its statement, and the first words of it.
+use Rattle.std.specs.Prelude.{◌≡◌, ℕ, List, map}
 use Rattle.sdv_graph.specs.Graph.{Graph}
 use Rattle.sdv_graph.specs.Path.{Point}
+use Rattle.sdv_graph.specs.Tree.{Declared}
 use Rattle.sdv_explain.specs.declared.heading.Heading.{Heading}
-use Rattle.sdv_telling.specs.declared.outline.Outline.{Outline}
 use Rattle.sdv_telling.specs.Statements.{Text, statement_words}
 
 abbrev pub words_of : Heading → Text
 words_of heading = heading.words.items
 
-abbrev pub words_at : Outline → Point → Text
+abbrev pub line_of : Heading → ℕ
+line_of heading = heading.line
+
+abbrev pub words_at : Declared → Point → Text
 words_at names place = statement_words names place.action
 
--- with these names, each point's statement has the words of its heading
-abbrev pub AreNamed : Graph → List Heading → Outline → Type 0
-AreNamed g headings names = map words_of headings ≡ map (words_at names) g.points
-
--- one for each point, with the words of its statement
-abbrev pub AreHeadings : Graph → List Heading → Type 0
-AreHeadings g headings = (names : Outline) × AreNamed g headings names
+-- one for each point, with the words of its statement, by the names of the script, and with the line on which it begins
+pub record AreHeadings (g : Graph) (headings : List Heading) : Type 0 where
+  pub words : map words_of headings ≡ map (words_at g.names) g.points
+  pub lines : map line_of headings ≡ g.lines

@@ -2,7 +2,6 @@
 
 ghost use Rattle.std.specs.Prelude.{◌≡◌, ◌≢◌, [], ◌⊎◌, IfErr, IfNone, IfOk, IfSome, None, ℕ, List};
 ghost use Rattle.sdv_graph.specs.Graph.{Graph};
-ghost use Rattle.sdv_graph.specs.GraphOf.{IsGraphOf};
 ghost use Rattle.sdv_facts.specs.Facts.{PointFacts};
 ghost use Rattle.sdv_script.specs.Shown.{shown};
 ghost use Rattle.sdv_certify.specs.Assembled.{CertificateOf, RefusedFor, SurveyOf};
@@ -19,7 +18,7 @@ use sdv_certify::{CertifyFault, certify, survey};
 use sdv_facts::Certificate;
 use sdv_graph::Graph;
 use sdv_script::{Script, parse};
-use sdv_telling::{Outline, Text, Visit, put_listing, put_way};
+use sdv_telling::{Text, Visit, put_listing, put_way};
 use std::alloc::{AllocError, Global};
 
 /// Why a script has no certificate, with a way to the point that is refused.
@@ -52,7 +51,7 @@ pub fn explain(alloc: Global, text: &str) -> Result<Explanation, ExplainFault>
 {
     let script = parse(alloc, text)?;
     let known = known_of(alloc, &script)?;
-    let explanation = explain_script(alloc, text, &script, &known)?;
+    let explanation = explain_script(alloc, &script, &known)?;
     Ok(explanation)
 }
 
@@ -73,7 +72,6 @@ fn known_of(alloc: Global, script: &Script<'_>) -> Result<Certificate, ExplainFa
 /// The same of a script of which this is known.
 fn explain_script(
     alloc: Global,
-    text: &str,
     script: &Script<'_>,
     known: &Certificate,
 ) -> Result<Explanation, ExplainFault>
@@ -83,9 +81,8 @@ fn explain_script(
     ensures refused { IfOk result (λ e. IfSome e.refusal (IsRefusal script.now)) }
 {
     let graph = script.graph(alloc)?;
-    let outline = Outline::read(alloc, text.as_bytes())?;
     let mut words = Vec::new(alloc);
-    put_listing(alloc, &mut words, &graph, known, &outline)?;
+    put_listing(alloc, &mut words, &graph, known)?;
     match certify(alloc, script) {
         Ok(_) => Ok(Explanation {
             text: words,
@@ -93,7 +90,7 @@ fn explain_script(
         }),
         Err(CertifyFault::Memory) => Err(ExplainFault::Memory),
         Err(fault) => {
-            let refusal = refuse(alloc, &mut words, &graph, known, &outline, fault)?;
+            let refusal = refuse(alloc, &mut words, &graph, known, fault)?;
             Ok(Explanation {
                 text: words,
                 refusal: Some(refusal),
@@ -121,7 +118,6 @@ fn refuse(
     words: &mut Text,
     graph: &Graph<'_>,
     known: &Certificate,
-    outline: &Outline<'_>,
     fault: CertifyFault,
 ) -> Result<Refusal, AllocError>
     ensures fault { IfOk result (λ refusal. refusal.fault ≡ fault) }
@@ -129,7 +125,7 @@ fn refuse(
 {
     let mut way = Vec::new(alloc);
     if let Some(number) = refused_point(fault) {
-        way = refuse_point(alloc, words, graph, known, outline, fault, number)?;
+        way = refuse_point(alloc, words, graph, known, fault, number)?;
     }
     Ok(Refusal { fault, way })
 }
@@ -140,7 +136,6 @@ fn refuse_point(
     words: &mut Text,
     graph: &Graph<'_>,
     known: &Certificate,
-    outline: &Outline<'_>,
     fault: CertifyFault,
     number: usize,
 ) -> Result<Vec<Visit>, AllocError>
@@ -156,9 +151,9 @@ fn refuse_point(
     let Some(shape) = refused_shape(fault, &graph.point(number).action, &here) else {
         return Ok(Vec::new(alloc));
     };
-    put_refusal(words, graph, outline, fault, number, here.numbers, shape)?;
+    put_refusal(words, graph, fault, number, here.numbers, shape)?;
     let way = way_or_none(alloc, graph, known, number, shape)?;
-    put_way(words, graph, outline, &way)?;
+    put_way(words, graph, &way)?;
     Ok(way)
 }
 

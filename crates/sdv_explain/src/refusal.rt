@@ -7,7 +7,7 @@ use sdv_emmc::EmmcTable;
 use sdv_facts::{Numbers, event_of_phase};
 use sdv_graph::{Action, Graph};
 use sdv_sd::SdTable;
-use sdv_telling::{Illegality, Outline, Text, Why, put_refused};
+use sdv_telling::{Illegality, Text, Why, put_refused};
 use std::alloc::AllocError;
 
 /// The event of a statement, if it makes one.
@@ -42,7 +42,6 @@ fn why_of(fault: CertifyFault, kind: Kind, action: &Action<'_>, shape: Shape) ->
 pub fn put_refusal(
     text: &mut Text,
     graph: &Graph<'_>,
-    outline: &Outline,
     fault: CertifyFault,
     number: usize,
     numbers: &Numbers,
@@ -53,7 +52,7 @@ pub fn put_refusal(
     }
     let action = &graph.point(number).action;
     match why_of(fault, graph.kind(), action, shape) {
-        Some(why) => put_refused(text, number, action, outline, why, numbers, shape),
+        Some(why) => put_refused(text, graph, number, why, numbers, shape),
         None => Ok(()),
     }
 }

@@ -1,7 +1,6 @@
 -- The FIRST WORDS of a statement: as scripts write it, with `CMD` before the index of a command, and without the
 -- arguments of CMD41 and CMD38.
 use Rattle.std.specs.Prelude.{ℕ, List, [], ◌++◌, Bool, true, false, ◌==◌, ◌||◌, slice_get, Option, Some, None, codes, decimal, if◌then◌else◌}
-use Rattle.std.specs.Borrow.{Bor}
 use Rattle.sdv_card.specs.Modes.{line_count}
 use Rattle.sdv_card.specs.declared.event.Aim.{Aim}
 use Rattle.sdv_card.specs.declared.event.Aim.TheVariants.{Rca, Plain}
@@ -22,20 +21,20 @@ use Rattle.sdv_graph.specs.declared.tree.Position.TheVariants.{Number, Variable}
 use Rattle.sdv_graph.specs.declared.tree.Unit.{Unit as AddressUnit}
 use Rattle.sdv_graph.specs.declared.tree.Unit.TheVariants.{Block, Byte, By}
 use Rattle.sdv_graph.specs.Path.{Action, sends, phases, lets, tests, flags, widths, heads, jumps, stops}
+use Rattle.sdv_graph.specs.Tree.{Declared}
 use Rattle.sdv_graph.specs.Walk.{Ending, Failed}
-use Rattle.sdv_telling.specs.declared.outline.Outline.{Outline}
 
 -- NAMES
 
 abbrev pub Text : Type 0
 Text = List ℕ
 
-abbrev pub name_or_mark : Option (Bor (List ℕ)) → Text
-name_or_mark (Some name) = name.now
+abbrev pub name_or_mark : Option Text → Text
+name_or_mark (Some name) = name
 name_or_mark None = codes "?"
 
 -- the name in a place; a question mark where there is none
-abbrev pub name_at : List (Bor (List ℕ)) → (place : ℕ) → Text
+abbrev pub name_at : List Text → (place : ℕ) → Text
 name_at names place = name_or_mark (slice_get names place)
 
 -- ADDRESSES
@@ -44,16 +43,16 @@ abbrev pub more_words : Option ℕ → Text
 more_words None = []
 more_words (Some more) = codes " + " ++ decimal more
 
-abbrev pub position_words : Outline → Position → Text
+abbrev pub position_words : Declared → Position → Text
 position_words names (Number number) = decimal number
-position_words names (Variable variable more) = name_at names.numbers.items variable ++ more_words more
+position_words names (Variable variable more) = name_at names.numbers variable ++ more_words more
 
-abbrev pub unit_words : Outline → AddressUnit → Text
+abbrev pub unit_words : Declared → AddressUnit → Text
 unit_words names Block = codes "at block "
 unit_words names Byte = codes "at byte "
-unit_words names (By flag) = codes "at by " ++ (name_at names.flags.items flag ++ codes " ")
+unit_words names (By flag) = codes "at by " ++ (name_at names.flags flag ++ codes " ")
 
-abbrev pub address_words : Outline → Address → Text
+abbrev pub address_words : Declared → Address → Text
 address_words names a = unit_words names a.unit ++ position_words names a.position
 
 -- COMMANDS
@@ -66,7 +65,7 @@ plain_words Rca = []
 abbrev pub aim_words : Ask → Text
 aim_words ask = if ask.index == 7 then plain_words ask.aim else []
 
-abbrev pub address_if_any : Outline → Option Address → Text
+abbrev pub address_if_any : Declared → Option Address → Text
 address_if_any names (Some a) = codes " " ++ address_words names a
 address_if_any names None = []
 
@@ -90,7 +89,7 @@ set_words argument =
 abbrev pub setting_words : Ask → Text
 setting_words ask = if ask.index == 6 then set_words ask.argument else []
 
-abbrev pub command_words : Outline → ScriptCommand → Text
+abbrev pub command_words : Declared → ScriptCommand → Text
 command_words names c =
     codes "CMD" ++ (decimal c.ask.index ++ (aim_words c.ask ++ (setting_words c.ask
     ++ (address_if_any names c.address ++ count_words c.ask))))
@@ -103,9 +102,9 @@ phase_words ReceiveRegister = codes "recv reg"
 phase_words GiveBlocks = codes "give"
 phase_words Wait = codes "wait"
 
-abbrev pub atom_words : Outline → Atom → Text
+abbrev pub atom_words : Declared → Atom → Text
 atom_words names (atoms.Number number) = decimal number
-atom_words names (atoms.Variable variable) = name_at names.numbers.items variable
+atom_words names (atoms.Variable variable) = name_at names.numbers variable
 atom_words names atoms.CsdBlocks = codes "csd.blocks"
 atom_words names atoms.ExtBlocks = codes "ext.blocks"
 atom_words names atoms.ExtBoot = codes "ext.boot"
@@ -115,16 +114,16 @@ change_words Same = []
 change_words (Plus number) = codes " + " ++ decimal number
 change_words (Minus number) = codes " - " ++ decimal number
 
-abbrev pub let_words : Outline → Let → Text
-let_words names l = codes "let " ++ (name_at names.numbers.items l.target
+abbrev pub let_words : Declared → Let → Text
+let_words names l = codes "let " ++ (name_at names.numbers l.target
     ++ (codes " = " ++ (atom_words names l.atom ++ change_words l.change)))
 
-abbrev pub condition_words : Outline → Condition → Text
-condition_words names (conditions.Flag flag) = name_at names.flags.items flag
+abbrev pub condition_words : Declared → Condition → Text
+condition_words names (conditions.Flag flag) = name_at names.flags flag
 condition_words names (conditions.AtLeast variable number) =
-    name_at names.numbers.items variable ++ (codes " >= " ++ decimal number)
+    name_at names.numbers variable ++ (codes " >= " ++ decimal number)
 condition_words names (conditions.Below variable number) =
-    name_at names.numbers.items variable ++ (codes " < " ++ decimal number)
+    name_at names.numbers variable ++ (codes " < " ++ decimal number)
 
 abbrev pub flag_word : (on : Bool) → Text
 flag_word true = codes "set "
@@ -136,12 +135,12 @@ ending_words (Failed name) = codes "fault " ++ name
 ending_words ending = codes "done"
 
 -- A STATEMENT
-abbrev pub statement_words : Outline → Action → Text
+abbrev pub statement_words : Declared → Action → Text
 statement_words names (sends c ways other) = command_words names c
 statement_words names (phases p well other) = phase_words p
 statement_words names (lets l t) = let_words names l
 statement_words names (tests c met unmet) = codes "if " ++ condition_words names c
-statement_words names (flags flag on t) = flag_word on ++ name_at names.flags.items flag
+statement_words names (flags flag on t) = flag_word on ++ name_at names.flags flag
 statement_words names (widths width t) = codes "bus.lines " ++ decimal (line_count width)
 statement_words names (heads count body other) = codes "loop " ++ decimal count
 statement_words names (jumps t) = codes "break"

@@ -1,11 +1,10 @@
 //! Why an event is not legal at a shape, in words.
 
-use crate::outline::Outline;
 use crate::shapes::{lines_words, state_word};
 use crate::statements::put_statement;
 use crate::text::{Text, put, put_all, put_numbered};
 use sdv_card::{State, Width};
-use sdv_graph::Action;
+use sdv_graph::{Action, Names};
 use std::alloc::AllocError;
 
 /// Why an event is not legal.
@@ -76,7 +75,7 @@ pub fn put_illegality(
     text: &mut Text,
     illegality: Illegality,
     action: &Action<'_>,
-    outline: &Outline,
+    names: &Names<'_>,
 ) -> Result<(), AllocError> {
     if let Some(state) = illegality.after_step {
         put_all(
@@ -90,7 +89,7 @@ pub fn put_illegality(
     }
     match illegality.reason {
         Reason::State(state) => {
-            put_statement(text, action, outline)?;
+            put_statement(text, action, names)?;
             put_all(text, &[" is not legal in ", state_word(state), " state"])
         }
         Reason::PresetCount(count) => put_numbered(

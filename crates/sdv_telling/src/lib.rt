@@ -6,7 +6,6 @@
 
 mod illegality;
 mod listing;
-mod outline;
 mod refused;
 mod shapes;
 mod statements;
@@ -16,7 +15,6 @@ mod way;
 
 pub use illegality::{Illegality, Reason};
 pub use listing::put_listing;
-pub use outline::Outline;
 pub use refused::{Why, put_refused};
 pub use statements::put_statement;
 pub use text::Text;

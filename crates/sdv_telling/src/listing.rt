@@ -1,24 +1,22 @@
 //! The listing: what is known at each point of a script.
 
-use crate::outline::Outline;
+ghost use Rattle.std.specs.Prelude.{◌<◌, length};
+
 use crate::shapes::put_shapes;
 use crate::statements::put_statement;
 use crate::text::{Text, put, put_count, put_number, put_numbered};
 use sdv_card::Shape;
 use sdv_facts::{Certificate, Numbers, PointFacts, VarFacts};
-use sdv_graph::{Action, Graph, MAX_NUMBER};
+use sdv_graph::{Graph, MAX_NUMBER, Names};
 use std::alloc::{AllocError, Global};
 
 /// Adds the place of a point: its line, its number, and its statement's first words.
-pub fn put_place(
-    text: &mut Text,
-    number: usize,
-    action: &Action<'_>,
-    outline: &Outline,
-) -> Result<(), AllocError> {
-    put_numbered(text, "line ", outline.line(number) as u64, ", point ")?;
+pub fn put_place(text: &mut Text, graph: &Graph<'_>, number: usize) -> Result<(), AllocError>
+    requires { number < length graph.now.points }
+{
+    put_numbered(text, "line ", u64::from(graph.line(number)), ", point ")?;
     put_numbered(text, "", number as u64, ": ")?;
-    put_statement(text, action, outline)
+    put_statement(text, &graph.point(number).action, graph.names())
 }
 
 /// Adds what each turn left of a loop adds to a bound: of the loop in this place from the outside, of so many.
@@ -104,9 +102,9 @@ fn put_capacities(text: &mut Text, numbers: &Numbers) -> Result<(), AllocError> 
 }
 
 /// Adds the name of a number variable, and what is known of its value.
-fn put_variable(text: &mut Text, name: &[u8], known: &VarFacts) -> Result<(), AllocError> {
+fn put_variable(text: &mut Text, name: &str, known: &VarFacts) -> Result<(), AllocError> {
     put(text, "; ")?;
-    text.extend_from_slice(name)?;
+    put(text, name)?;
     put_value(text, known)
 }
 
@@ -114,10 +112,10 @@ fn put_variable(text: &mut Text, name: &[u8], known: &VarFacts) -> Result<(), Al
 pub fn put_numbers(
     text: &mut Text,
     numbers: &Numbers,
-    outline: &Outline,
+    names: &Names<'_>,
 ) -> Result<(), AllocError> {
     put_capacities(text, numbers)?;
-    for (known, name) in numbers.vars.as_slice().iter().zip(outline.numbers.iter()) {
+    for (known, name) in numbers.vars.as_slice().iter().zip(names.numbers.iter()) {
         put_variable(text, name, known)?;
     }
     Ok(())
@@ -127,23 +125,25 @@ pub fn put_numbers(
 fn put_point(
     alloc: Global,
     text: &mut Text,
+    graph: &Graph<'_>,
     number: usize,
-    action: &Action<'_>,
     facts: &PointFacts,
     shapes: &[Shape],
-    outline: &Outline,
-) -> Result<(), AllocError> {
-    put_place(text, number, action, outline)?;
+) -> Result<(), AllocError>
+    requires { number < length graph.now.points }
+{
+    let names = graph.names();
+    put_place(text, graph, number)?;
     put_bound(text, facts)?;
     if shapes.is_empty() {
         return put(text, "    no run comes here\n");
     }
-    put_shapes(alloc, text, shapes, &outline.flags)?;
-    if outline.numbers.is_empty() {
+    put_shapes(alloc, text, shapes, &names.flags)?;
+    if names.numbers.is_empty() {
         return Ok(());
     }
     put(text, "    ")?;
-    put_numbers(text, facts.facts.numbers(), outline)?;
+    put_numbers(text, facts.facts.numbers(), names)?;
     put(text, "\n")
 }
 
@@ -153,14 +153,12 @@ pub fn put_listing(
     text: &mut Text,
     graph: &Graph<'_>,
     known: &Certificate,
-    outline: &Outline,
 ) -> Result<(), AllocError> {
     let (table, points) = known.shown();
     for number in 0..graph.len() {
         if let Some(facts) = points.get(number) {
-            let action = &graph.point(number).action;
             let shapes = table.members(facts.facts.set());
-            put_point(alloc, text, number, action, facts, shapes, outline)?;
+            put_point(alloc, text, graph, number, facts, shapes)?;
         }
     }
     Ok(())

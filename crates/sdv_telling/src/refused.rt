@@ -1,17 +1,16 @@
 //! A refusal in words: which statement is refused beside which card, and why.
 
-ghost use Rattle.std.specs.Prelude.{◌≡◌, [], ◌∷◌};
+ghost use Rattle.std.specs.Prelude.{◌≡◌, ◌<◌, [], ◌∷◌, length};
 ghost use Rattle.sdv_facts.specs.AddressFits.{unit_fits};
 
 use crate::illegality::{Illegality, put_illegality};
 use crate::listing::{put_numbers, put_place};
-use crate::outline::Outline;
 use crate::shapes::put_shape;
 use crate::statements::put_address;
 use crate::text::{Text, put, put_all, put_numbered};
 use sdv_card::{Partition, Shape};
 use sdv_facts::Numbers;
-use sdv_graph::{Action, Address, Unit};
+use sdv_graph::{Action, Address, Graph, Names, Unit};
 use std::alloc::AllocError;
 
 /// Why a point is refused at a shape.
@@ -46,8 +45,8 @@ fn fits_unit(unit: Unit, shape: Shape) -> bool
 }
 
 /// Adds what the unit of an address asks of the cards.
-fn put_unit_rule(text: &mut Text, address: &Address, outline: &Outline) -> Result<(), AllocError> {
-    put_address(text, address, outline)?;
+fn put_unit_rule(text: &mut Text, address: &Address, names: &Names<'_>) -> Result<(), AllocError> {
+    put_address(text, address, names)?;
     match address.unit {
         Unit::Block => put(text, " needs block addresses at every card that comes here"),
         Unit::Byte => put(text, " needs byte addresses at every card that comes here"),
@@ -64,7 +63,7 @@ fn put_beyond(
     address: &Address,
     partition: Partition,
     numbers: &Numbers,
-    outline: &Outline,
+    names: &Names<'_>,
 ) -> Result<(), AllocError> {
     match partition {
         Partition::User => put(text, "the card may not have all blocks ")?,
@@ -73,12 +72,12 @@ fn put_beyond(
             "the boot partition in access may not have all blocks ",
         )?,
     }
-    put_address(text, address, outline)?;
+    put_address(text, address, names)?;
     put(text, ", for this is known: ")?;
     if numbers.mb == 0 && partition != Partition::User {
         put(text, "a boot partition has 0 blocks or more; ")?;
     }
-    put_numbers(text, numbers, outline)
+    put_numbers(text, numbers, names)
 }
 
 /// Adds why an address does not fit at a shape.
@@ -87,11 +86,11 @@ fn put_misfit(
     action: &Action<'_>,
     numbers: &Numbers,
     shape: Shape,
-    outline: &Outline,
+    names: &Names<'_>,
 ) -> Result<(), AllocError> {
     match address_of(action) {
-        Some(address) if !fits_unit(address.unit, shape) => put_unit_rule(text, address, outline),
-        Some(address) => put_beyond(text, address, shape.partition(), numbers, outline),
+        Some(address) if !fits_unit(address.unit, shape) => put_unit_rule(text, address, names),
+        Some(address) => put_beyond(text, address, shape.partition(), numbers, names),
         None => put(text, "it has no address"),
     }
 }
@@ -103,13 +102,13 @@ fn put_reason(
     action: &Action<'_>,
     numbers: &Numbers,
     shape: Shape,
-    outline: &Outline,
+    names: &Names<'_>,
 ) -> Result<(), AllocError> {
     put(text, "why: ")?;
     match why {
-        Why::Illegal(Some(illegality)) => put_illegality(text, illegality, action, outline)?,
+        Why::Illegal(Some(illegality)) => put_illegality(text, illegality, action, names)?,
         Why::Illegal(None) => {}
-        Why::Address => put_misfit(text, action, numbers, shape, outline)?,
+        Why::Address => put_misfit(text, action, numbers, shape, names)?,
         Why::EndState => put(text, "at done the card has to be in tran state")?,
     }
     put(text, "\n")
@@ -145,17 +144,19 @@ fn put_fault(text: &mut Text, why: Why, number: usize, shape: Shape) -> Result<(
 /// Adds that the statement of a point is refused beside a card, and why.
 pub fn put_refused(
     text: &mut Text,
+    graph: &Graph<'_>,
     number: usize,
-    action: &Action<'_>,
-    outline: &Outline,
     why: Why,
     numbers: &Numbers,
     shape: Shape,
-) -> Result<(), AllocError> {
+) -> Result<(), AllocError>
+    requires { number < length graph.now.points }
+{
+    let (action, names) = (&graph.point(number).action, graph.names());
     put_fault(text, why, number, shape)?;
-    put_place(text, number, action, outline)?;
+    put_place(text, graph, number)?;
     put(text, ", beside a card that is\n    ")?;
-    put_shape(text, shape, &outline.flags)?;
+    put_shape(text, shape, &names.flags)?;
     put(text, "\n")?;
-    put_reason(text, why, action, numbers, shape, outline)
+    put_reason(text, why, action, numbers, shape, names)
 }

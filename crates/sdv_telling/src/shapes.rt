@@ -135,12 +135,12 @@ fn put_unit(text: &mut Text, fields: &Fields) -> Result<(), AllocError> {
 }
 
 /// Adds the names of the flags that are set.
-fn put_flags(text: &mut Text, shape: Shape, names: &[&[u8]]) -> Result<(), AllocError> {
+fn put_flags(text: &mut Text, shape: Shape, names: &[&str]) -> Result<(), AllocError> {
     let mut sign = " [";
     for (place, name) in names.iter().enumerate() {
         if shape.flag(place) {
             put(text, sign)?;
-            text.extend_from_slice(name)?;
+            put(text, name)?;
             sign = " ";
         }
     }
@@ -151,7 +151,7 @@ fn put_flags(text: &mut Text, shape: Shape, names: &[&[u8]]) -> Result<(), Alloc
 }
 
 /// Adds a shape, with the names of the script's flags.
-pub fn put_shape(text: &mut Text, shape: Shape, names: &[&[u8]]) -> Result<(), AllocError> {
+pub fn put_shape(text: &mut Text, shape: Shape, names: &[&str]) -> Result<(), AllocError> {
     let Some(fields) = shape.decode() else {
         return put(text, "no card");
     };
@@ -178,7 +178,7 @@ fn put_behind(
     text: &mut Text,
     last: Option<Shape>,
     shape: Shape,
-    names: &[&[u8]],
+    names: &[&str],
 ) -> Result<(), AllocError> {
     match (last, shape.decode()) {
         (Some(last), Some(fields)) if line_of(last) == line_of(shape) => {
@@ -202,7 +202,7 @@ pub fn put_shapes(
     alloc: Global,
     text: &mut Text,
     shapes: &[Shape],
-    names: &[&[u8]],
+    names: &[&str],
 ) -> Result<(), AllocError> {
     let mut sorted = Vec::from_slice(alloc, shapes)?;
     sorted.sort_by_key(|shape| line_of(*shape))?;

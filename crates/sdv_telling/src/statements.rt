@@ -1,26 +1,25 @@
 //! Statements of scripts, and what is seen of their events, in words.
 
 ghost use Rattle.std.specs.Prelude.{◌≡◌, ◌++◌, OnOk};
-ghost use Rattle.sdv_graph.specs.Graph.{seen_action};
+ghost use Rattle.sdv_graph.specs.Graph.{declared_names, seen_action, texts};
 ghost use Rattle.sdv_telling.specs.Statements.{address_if_any, address_words, aim_words, atom_words, change_words, command_words};
 ghost use Rattle.sdv_telling.specs.Statements.{condition_words, count_words, let_words, more_words, name_at, phase_words, position_words};
 ghost use Rattle.sdv_telling.specs.Statements.{set_words, setting_words, statement_words, unit_words};
 
-use crate::outline::Outline;
 use crate::shapes::numbered_state_word;
 use crate::text::{Text, put, put_all, put_number, put_numbered, words_if};
 use sdv_card::{Aim, Ask, Seen};
 use sdv_graph::{
-    Action, Address, Atom, Change, Condition, Let, Phase, Position, ScriptCommand, Unit,
+    Action, Address, Atom, Change, Condition, Let, Names, Phase, Position, ScriptCommand, Unit,
 };
 use std::alloc::AllocError;
 
 /// Adds the name in a place.
-fn put_name(text: &mut Text, names: &[&[u8]], place: usize) -> Result<(), AllocError>
-    ensures { OnOk result (text.new.items ≡ text.old.items ++ name_at names.now place) }
+fn put_name(text: &mut Text, names: &[&str], place: usize) -> Result<(), AllocError>
+    ensures { OnOk result (text.new.items ≡ text.old.items ++ name_at (texts names.now) place) }
 {
     match names.get(place) {
-        Some(name) => text.extend_from_slice(name),
+        Some(name) => put(text, name),
         None => put(text, "?"),
     }
 }
@@ -35,38 +34,38 @@ fn put_more(text: &mut Text, more: Option<u64>) -> Result<(), AllocError>
     }
 }
 
-fn put_position(text: &mut Text, position: Position, outline: &Outline) -> Result<(), AllocError>
-    ensures { OnOk result (text.new.items ≡ text.old.items ++ position_words outline.now position) }
+fn put_position(text: &mut Text, position: Position, names: &Names<'_>) -> Result<(), AllocError>
+    ensures { OnOk result (text.new.items ≡ text.old.items ++ position_words (declared_names names.now) position) }
 {
     match position {
         Position::Number(number) => put_number(text, number),
         Position::Variable(variable, more) => {
-            put_name(text, &outline.numbers, variable)?;
+            put_name(text, &names.numbers, variable)?;
             put_more(text, more)
         }
     }
 }
 
-fn put_unit(text: &mut Text, unit: Unit, outline: &Outline) -> Result<(), AllocError>
-    ensures { OnOk result (text.new.items ≡ text.old.items ++ unit_words outline.now unit) }
+fn put_unit(text: &mut Text, unit: Unit, names: &Names<'_>) -> Result<(), AllocError>
+    ensures { OnOk result (text.new.items ≡ text.old.items ++ unit_words (declared_names names.now) unit) }
 {
     match unit {
         Unit::Block => put(text, "at block "),
         Unit::Byte => put(text, "at byte "),
         Unit::By(flag) => {
             put(text, "at by ")?;
-            put_name(text, &outline.flags, flag)?;
+            put_name(text, &names.flags, flag)?;
             put(text, " ")
         }
     }
 }
 
 /// Adds an address.
-pub fn put_address(text: &mut Text, address: &Address, outline: &Outline) -> Result<(), AllocError>
-    ensures { OnOk result (text.new.items ≡ text.old.items ++ address_words outline.now address.now) }
+pub fn put_address(text: &mut Text, address: &Address, names: &Names<'_>) -> Result<(), AllocError>
+    ensures { OnOk result (text.new.items ≡ text.old.items ++ address_words (declared_names names.now) address.now) }
 {
-    put_unit(text, address.unit, outline)?;
-    put_position(text, address.position, outline)
+    put_unit(text, address.unit, names)?;
+    put_position(text, address.position, names)
 }
 
 /// What CMD7 is written with, where it has another argument than the card's address.
@@ -107,14 +106,14 @@ fn setting_words(ask: &Ask) -> &'static str
 fn put_address_if_any(
     text: &mut Text,
     address: &Option<Address>,
-    outline: &Outline,
+    names: &Names<'_>,
 ) -> Result<(), AllocError>
-    ensures { OnOk result (text.new.items ≡ text.old.items ++ address_if_any outline.now address.now) }
+    ensures { OnOk result (text.new.items ≡ text.old.items ++ address_if_any (declared_names names.now) address.now) }
 {
     match address {
         Some(address) => {
             put(text, " ")?;
-            put_address(text, address, outline)
+            put_address(text, address, names)
         }
         None => Ok(()),
     }
@@ -133,14 +132,14 @@ fn put_announced(text: &mut Text, ask: &Ask) -> Result<(), AllocError>
 fn put_command(
     text: &mut Text,
     command: &ScriptCommand,
-    outline: &Outline,
+    names: &Names<'_>,
 ) -> Result<(), AllocError>
-    ensures { OnOk result (text.new.items ≡ text.old.items ++ command_words outline.now command.now) }
+    ensures { OnOk result (text.new.items ≡ text.old.items ++ command_words (declared_names names.now) command.now) }
 {
     put_numbered(text, "CMD", u64::from(command.ask.index), "")?;
     put(text, aim_words(&command.ask))?;
     put(text, setting_words(&command.ask))?;
-    put_address_if_any(text, &command.address, outline)?;
+    put_address_if_any(text, &command.address, names)?;
     put_announced(text, &command.ask)
 }
 
@@ -155,12 +154,12 @@ fn phase_words(phase: Phase) -> &'static str
     }
 }
 
-fn put_atom(text: &mut Text, atom: Atom, outline: &Outline) -> Result<(), AllocError>
-    ensures { OnOk result (text.new.items ≡ text.old.items ++ atom_words outline.now atom) }
+fn put_atom(text: &mut Text, atom: Atom, names: &Names<'_>) -> Result<(), AllocError>
+    ensures { OnOk result (text.new.items ≡ text.old.items ++ atom_words (declared_names names.now) atom) }
 {
     match atom {
         Atom::Number(number) => put_number(text, number),
-        Atom::Variable(variable) => put_name(text, &outline.numbers, variable),
+        Atom::Variable(variable) => put_name(text, &names.numbers, variable),
         Atom::CsdBlocks => put(text, "csd.blocks"),
         Atom::ExtBlocks => put(text, "ext.blocks"),
         Atom::ExtBoot => put(text, "ext.boot"),
@@ -177,27 +176,27 @@ fn put_change(text: &mut Text, change: Change) -> Result<(), AllocError>
     }
 }
 
-fn put_let(text: &mut Text, set: &Let, outline: &Outline) -> Result<(), AllocError>
-    ensures { OnOk result (text.new.items ≡ text.old.items ++ let_words outline.now set.now) }
+fn put_let(text: &mut Text, set: &Let, names: &Names<'_>) -> Result<(), AllocError>
+    ensures { OnOk result (text.new.items ≡ text.old.items ++ let_words (declared_names names.now) set.now) }
 {
     put(text, "let ")?;
-    put_name(text, &outline.numbers, set.target)?;
+    put_name(text, &names.numbers, set.target)?;
     put(text, " = ")?;
-    put_atom(text, set.atom, outline)?;
+    put_atom(text, set.atom, names)?;
     put_change(text, set.change)
 }
 
-fn put_condition(text: &mut Text, condition: Condition, outline: &Outline) -> Result<(), AllocError>
-    ensures { OnOk result (text.new.items ≡ text.old.items ++ condition_words outline.now condition) }
+fn put_condition(text: &mut Text, condition: Condition, names: &Names<'_>) -> Result<(), AllocError>
+    ensures { OnOk result (text.new.items ≡ text.old.items ++ condition_words (declared_names names.now) condition) }
 {
     match condition {
-        Condition::Flag(flag) => put_name(text, &outline.flags, flag),
+        Condition::Flag(flag) => put_name(text, &names.flags, flag),
         Condition::AtLeast(variable, number) => {
-            put_name(text, &outline.numbers, variable)?;
+            put_name(text, &names.numbers, variable)?;
             put_numbered(text, " >= ", number, "")
         }
         Condition::Below(variable, number) => {
-            put_name(text, &outline.numbers, variable)?;
+            put_name(text, &names.numbers, variable)?;
             put_numbered(text, " < ", number, "")
         }
     }
@@ -207,21 +206,21 @@ fn put_condition(text: &mut Text, condition: Condition, outline: &Outline) -> Re
 pub fn put_statement(
     text: &mut Text,
     action: &Action<'_>,
-    outline: &Outline,
+    names: &Names<'_>,
 ) -> Result<(), AllocError>
-    ensures { OnOk result (text.new.items ≡ text.old.items ++ statement_words outline.now (seen_action action.now)) }
+    ensures { OnOk result (text.new.items ≡ text.old.items ++ statement_words (declared_names names.now) (seen_action action.now)) }
 {
     match action {
-        Action::Send(command, _, _) => put_command(text, command, outline),
+        Action::Send(command, _, _) => put_command(text, command, names),
         Action::Phase(phase, _, _) => put(text, phase_words(*phase)),
-        Action::Let(set, _) => put_let(text, set, outline),
+        Action::Let(set, _) => put_let(text, set, names),
         Action::If(condition, _, _) => {
             put(text, "if ")?;
-            put_condition(text, *condition, outline)
+            put_condition(text, *condition, names)
         }
         Action::Flag(flag, on, _) => {
             put(text, if *on { "set " } else { "clear " })?;
-            put_name(text, &outline.flags, *flag)
+            put_name(text, &names.flags, *flag)
         }
         Action::Lines(width, _) => put_numbered(text, "bus.lines ", u64::from(width.lines()), ""),
         Action::Loop(turns, _, _) => put_numbered(text, "loop ", u64::from(*turns), ""),

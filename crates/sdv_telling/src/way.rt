@@ -1,6 +1,7 @@
 //! A way in words: the events by which it leads, and the shapes after them.
 
-use crate::outline::Outline;
+ghost use Rattle.std.specs.Prelude.{◌<◌, length};
+
 use crate::shapes::put_shape;
 use crate::statements::{put_seen, put_statement};
 use crate::text::{Text, pad, put, put_numbered};
@@ -23,29 +24,27 @@ fn tests_at(graph: &Graph<'_>, visit: &Visit) -> bool {
 }
 
 /// Adds the line of a point and its statement, as a step of a way.
-fn put_step(
-    text: &mut Text,
-    action: &Action<'_>,
-    outline: &Outline,
-    point: usize,
-) -> Result<(), AllocError> {
+fn put_step(text: &mut Text, graph: &Graph<'_>, point: usize) -> Result<(), AllocError>
+    requires { point < length graph.now.points }
+{
     let start = text.len();
-    put_numbered(text, "    line ", outline.line(point) as u64, "")?;
+    put_numbered(text, "    line ", u64::from(graph.line(point)), "")?;
     pad(text, start, 13)?;
-    put_statement(text, action, outline)
+    put_statement(text, &graph.point(point).action, graph.names())
 }
 
 /// Adds that a loop has no turn left, where its else block comes next.
 fn put_last_turn(
     text: &mut Text,
-    action: &Action<'_>,
-    outline: &Outline,
+    graph: &Graph<'_>,
     before: &Visit,
     after: &Visit,
-) -> Result<(), AllocError> {
-    match action {
+) -> Result<(), AllocError>
+    requires { before.now.point < length graph.now.points }
+{
+    match &graph.point(before.point).action {
         Action::Loop(_, body, other) if after.point == other.to && after.point != body.to => {
-            put_step(text, action, outline, before.point)?;
+            put_step(text, graph, before.point)?;
             put(text, ", after its last turn\n")
         }
         _ => Ok(()),
@@ -56,34 +55,27 @@ fn put_last_turn(
 fn put_event(
     text: &mut Text,
     graph: &Graph<'_>,
-    outline: &Outline,
     before: &Visit,
     after: &Visit,
 ) -> Result<(), AllocError> {
     if graph.len() <= before.point {
         return Ok(());
     }
-    let action = &graph.point(before.point).action;
     let start = text.len();
     let Some(seen) = after.seen else {
-        return put_last_turn(text, action, outline, before, after);
+        return put_last_turn(text, graph, before, after);
     };
-    put_step(text, action, outline, before.point)?;
+    put_step(text, graph, before.point)?;
     pad(text, start, 37)?;
-    put_seen(text, action, seen)?;
+    put_seen(text, &graph.point(before.point).action, seen)?;
     pad(text, start, 74)?;
     put(text, "then ")?;
-    put_shape(text, after.shape, &outline.flags)?;
+    put_shape(text, after.shape, &graph.names().flags)?;
     put(text, "\n")
 }
 
 /// Adds the events of a way.
-pub fn put_way(
-    text: &mut Text,
-    graph: &Graph<'_>,
-    outline: &Outline,
-    way: &[Visit],
-) -> Result<(), AllocError> {
+pub fn put_way(text: &mut Text, graph: &Graph<'_>, way: &[Visit]) -> Result<(), AllocError> {
     let Some(first) = way.first() else {
         return Ok(());
     };
@@ -96,11 +88,11 @@ pub fn put_way(
         put(text, "a way there:\n")?;
     }
     put(text, "    before the first command    ")?;
-    put_shape(text, first.shape, &outline.flags)?;
+    put_shape(text, first.shape, &graph.names().flags)?;
     put(text, "\n")?;
     let mut before = first;
     for visit in way {
-        put_event(text, graph, outline, before, visit)?;
+        put_event(text, graph, before, visit)?;
         before = visit;
     }
     Ok(())

@@ -238,3 +238,47 @@ fn arguments_of_settings(rt: HostRuntime) {
         same(&rt, &first_argument(&graph), &Some(row.1), &row.0);
     }
 }
+
+// Scripts, with the names that they declare and the lines of their points.
+static LINES: [(&str, &str); 4] = [
+    ("card sd done", "| | 1"),
+    (
+        "# set, send and done\n\ncard sd\tflags hc\n#\nnums cap\n\nx set hc # done\n\n\ndone",
+        "hc | cap x | 7 10",
+    ),
+    (
+        "card emmc\nsend 6\nbus.lines 8 {\nelse {\nbus.lines 8\n} }\nbus.lines\n1 done\n",
+        "| | 2 5 7 8",
+    ),
+    (
+        "card sd nums x\nlet x\n= 6 bus.lines 1\nloop 2 {\nwait { ok { break }\nelse { fault a } } } else {\n}\ndone",
+        "| x | 2 3 4 5 5 6 8",
+    ),
+];
+
+// Adds what a graph has of the text: the names of flags and of number variables, and the line of each point.
+fn put_source(text: &mut String, graph: &Graph<'_>) -> Result<(), AllocError> {
+    for flag in &graph.names().flags {
+        write!(text, "{flag} ")?;
+    }
+    text.push_str("|")?;
+    for number in &graph.names().numbers {
+        write!(text, " {number}")?;
+    }
+    text.push_str(" |")?;
+    for point in 0..graph.len() {
+        write!(text, " {}", graph.line(point))?;
+    }
+    Ok(())
+}
+
+#[test]
+fn lines_of_points(rt: HostRuntime) {
+    let alloc = rt.alloc();
+    for row in LINES.iter() {
+        let graph = graph_of(alloc, row.0).expect(&rt, "a script");
+        let mut text = String::new(alloc);
+        put_source(&mut text, &graph).expect(&rt, "memory");
+        same(&rt, &text.as_str(), &row.1, &row.0);
+    }
+}

@@ -1,8 +1,0 @@
-use Rattle.std.proofs.Common.{◌≡◌, ◌++◌, drop, map}
-use Rattle.sdv_explain.specs.Headings.{words_at, words_of}
-use Rattle.sdv_explain.proofs.heading.headings_by.Given as goal
-
--- the headings so far, and those of the points that are left, are all
-abbrev pub invariant-loop-number : goal.invariant-loop-number
-invariant-loop-number l =
-    map words_of l.headings.items ++ map (words_at l.outline) (drop l.number l.graph.points) ≡ map (words_at l.outline) l.graph.points
