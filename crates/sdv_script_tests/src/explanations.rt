@@ -1,3 +1,3 @@
-//! Explanations: the way to a refusal; and headings of points.
+//! Explanations: the way to a refusal.
 
 mod explain_tests;

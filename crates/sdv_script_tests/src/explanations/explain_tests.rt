@@ -3,8 +3,8 @@
 use crate::common::same;
 use sdv_card::{Seen, Shape};
 use sdv_certify::CertifyFault;
-use sdv_explain::{ExplainFault, Visit, explain, headings};
-use sdv_script::{FaultKind, ScriptFault, parse};
+use sdv_explain::{ExplainFault, Visit, explain};
+use sdv_script::{FaultKind, ScriptFault};
 use std::alloc::Global;
 use std::process::Abort;
 
@@ -71,23 +71,4 @@ fn texts_that_are_not_explained(rt: HostRuntime) {
         &Some(ExplainFault::Script(fault)),
         &"a text that is no script",
     );
-}
-
-/// A script with a loop.
-const LOOPING: &str = "card sd flags f
-# until a card answers
-loop 2 { send 8 { echo { set f break } timeout { } else { } } } else { fault worn }
-if f { done } else { fault lost }
-";
-
-#[test]
-fn headings_of_points(rt: HostRuntime) {
-    let alloc = rt.alloc();
-    let script = parse(alloc, LOOPING).expect(&rt, "a script");
-    let graph = script.graph(alloc).expect(&rt, "memory");
-    let headings = headings(alloc, LOOPING, &graph).expect(&rt, "headings");
-    assert!(rt; headings.len() == 8);
-    let heading = headings.get(2).expect(&rt, "a heading");
-    assert!(rt; heading.line == 3);
-    assert!(rt; heading.words.as_slice() == b"set f".as_slice());
 }
