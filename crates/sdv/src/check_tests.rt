@@ -18,15 +18,11 @@ impl Store for Pair {
 
     type Image = NewImage;
 
-    ghost use Rattle.sdv_faults.specs.Files.{any_bytes, any_images, any_sink};
+    ghost use Rattle.sdv_faults.specs.Files.{any_files, any_sink};
 
-    ghost gives = { λ _. any_bytes };
+    ghost known = { λ _. any_files };
 
     ghost opened = { λ _. any_sink };
-
-    ghost received = { λ _. any_bytes };
-
-    ghost stored = { λ _. any_images };
 
     fn bytes_of(&self, alloc: Global, file: &str) -> Result<Option<Vec<u8>>, AllocError> {
         let text = if file == "script" {

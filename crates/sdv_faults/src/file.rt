@@ -1,8 +1,7 @@
 //! Files by their names: their texts and bytes, what is written to them, and images that they hold.
-ghost use Rattle.std.specs.Prelude.{◌≡◌, ◌^◌, ◌≤◌, ◌⊎◌, length, List, ℕ, Err, IfErr, IfOk, IfSome, string_bytes, true};
+ghost use Rattle.std.specs.Prelude.{◌≡◌, ◌^◌, ◌≤◌, ◌⊎◌, length, List, ℕ, Err, IfErr, IfOk, IfSome, None, string_bytes, false, true};
 ghost use Rattle.std.specs.Io.KnownBytes.{Appends};
-ghost use Rattle.sdv_image.specs.Images.{HasFailed};
-ghost use Rattle.sdv_faults.specs.Files.{ImageFiles, image_of};
+ghost use Rattle.sdv_faults.specs.Files.{Files as KnownFiles, GivesNoText, SomeCallFailed, image_of};
 
 use crate::fault::Fault;
 use crate::seek_file::SeekFile;
@@ -20,41 +19,42 @@ pub trait Store {
     /// A file that is read and written block by block.
     type Image: BlockFile + Drop;
 
-    /// The file of this name may give these bytes.
-    ghost gives: { Self → List ℕ → List ℕ → Type 0 };
+    /// What is known of its files, by their names.
+    ghost known: { Self → KnownFiles };
 
     /// The file of this name was made or emptied, and its bytes go here.
     ghost opened: { Self → List ℕ → Self.Sink → Type 0 };
 
-    /// The file of this name was made or emptied, and took these bytes then.
-    ghost received: { Self → List ℕ → List ℕ → Type 0 };
-
-    /// What files hold as images.
-    ghost stored: { Self → ImageFiles };
-
     /// The bytes of a file. None where the file cannot be opened or read, or does not end.
     fn bytes_of(&self, alloc: Global, file: &str) -> Result<Option<Vec<u8>>, AllocError>
-        ensures { IfOk result (λ found. IfSome found (λ bytes. gives self.now file.now bytes.items)) };
+        ensures given { IfOk result
+            (λ found. IfSome found (λ bytes. (known self.now).gives file.now bytes.items)) }
+        ensures unread { IfOk result (λ found. found ≡ None → (known self.now).unread file.now) };
 
     /// Opens a file whose blocks are read and written. None where that cannot be done.
     fn open_image(&self, file: &str) -> Option<Self::Image>
-        ensures opened { IfSome result (λ image. (stored self.now).opened file.now
+        ensures opened { IfSome result (λ image. (known self.now).images.opened file.now
             (image_of (Self.Image.byte_count image) (Self.Image.blocks image))) }
-        ensures failed { IfSome result (λ image. (after : Self.Image)
-            → HasFailed (Self.Image.failed image) (Self.Image.failed after) → (stored self.now).failed file.now) };
+        ensures unopened { result ≡ None → (known self.now).images.unopened file.now }
+        ensures failed { IfSome result
+            (λ _. SomeCallFailed Self.Image.failed → (known self.now).images.failed file.now) };
 
     /// Closes a file after its blocks were read and written. False where it did not take all that was written.
     fn close_image(&self, file: &str, image: Self::Image) -> bool
-        ensures { result ≡ true → (stored self.now).closed file.now (Self.Image.blocks image) };
+        ensures closed { result ≡ true → (known self.now).images.closed file.now (Self.Image.blocks image) }
+        ensures unclosed { result ≡ false → (known self.now).images.unclosed file.now };
 
     /// Makes a file, or empties it. None where that cannot be done.
     fn create(&self, file: &str) -> Option<Self::Sink>
-        ensures { IfSome result (opened self.now file.now) };
+        ensures made { IfSome result (opened self.now file.now) }
+        ensures uncreated { result ≡ None → (known self.now).uncreated file.now };
 
     /// Ends what was written to a file. False where not all of it was taken.
     fn finish(&self, file: &str, sink: Self::Sink) -> bool
-        ensures { result ≡ true → (made : Self.Sink) (bytes : List ℕ) → opened self.now file.now made
-            → Appends (Self.Sink.contents made) (Self.Sink.contents sink) bytes → received self.now file.now bytes };
+        ensures received { result ≡ true → (made : Self.Sink) (bytes : List ℕ) → opened self.now file.now made
+            → Appends (Self.Sink.contents made) (Self.Sink.contents sink) bytes
+            → (known self.now).received file.now bytes }
+        ensures unfinished { result ≡ false → (known self.now).unfinished file.now };
 }
 
 /// The bytes of a file.
@@ -63,9 +63,11 @@ pub trait Store {
 ///
 /// [`Fault::File`]: it cannot be used. [`Fault::Memory`]: memory was refused.
 pub fn bytes_in<'a, S: Store>(alloc: Global, files: &S, file: &'a str) -> Result<Vec<u8>, Fault<'a>>
-    ensures given { IfOk result (λ bytes. S.gives files.now file.entry.now bytes.items) }
+    ensures given { IfOk result (λ bytes. (S.known files.now).gives file.entry.now bytes.items) }
     ensures refused { IfErr result
         (λ fault. (fault ≡ Fault.File file.entry) ⊎ (fault ≡ Fault.Memory)) }
+    ensures unread { IfErr result
+        (λ fault. fault ≡ Fault.File file.entry → (S.known files.now).unread file.entry.now) }
 {
     files.bytes_of(alloc, file)?.ok_or(Fault::File(file))
 }
@@ -76,9 +78,11 @@ pub fn bytes_in<'a, S: Store>(alloc: Global, files: &S, file: &'a str) -> Result
 ///
 /// [`Fault::File`]: it cannot be used, or is not UTF-8. [`Fault::Memory`]: memory was refused.
 pub fn text_in<'a, S: Store>(alloc: Global, files: &S, file: &'a str) -> Result<String, Fault<'a>>
-    ensures given { IfOk result (λ text. S.gives files.now file.entry.now (string_bytes text)) }
+    ensures given { IfOk result (λ text. (S.known files.now).gives file.entry.now (string_bytes text)) }
     ensures refused { IfErr result
         (λ fault. (fault ≡ Fault.File file.entry) ⊎ (fault ≡ Fault.Memory)) }
+    ensures no_text { IfErr result
+        (λ fault. fault ≡ Fault.File file.entry → GivesNoText (S.known files.now) file.entry.now) }
 {
     let bytes = bytes_in(alloc, files, file)?;
     String::from_utf8(bytes).map_err(|_| Fault::File(file))
@@ -97,15 +101,11 @@ impl<'a, R: Files> Store for MachineFiles<'a, R> {
 
     type Image = SeekFile<R::File>;
 
-    ghost use Rattle.sdv_faults.specs.Files.{any_bytes, any_images, any_sink};
+    ghost use Rattle.sdv_faults.specs.Files.{any_files, any_sink};
 
-    ghost gives = { λ _. any_bytes };
+    ghost known = { λ _. any_files };
 
     ghost opened = { λ _. any_sink };
-
-    ghost received = { λ _. any_bytes };
-
-    ghost stored = { λ _. any_images };
 
     fn bytes_of(&self, alloc: Global, file: &str) -> Result<Option<Vec<u8>>, AllocError> {
         let file = if file == "-" { STANDARD_INPUT } else { file };

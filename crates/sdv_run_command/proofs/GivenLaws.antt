@@ -1,90 +1,100 @@
--- Files of a run that cannot be used, after those that gave their bytes.
+-- Files of a run that cannot be used, after those that were.
 use Rattle.std.proofs.Common.{◌≡◌, ◌⊎◌, refl, inl, inr, ℕ, List, [], ◌∷◌, ◌++◌, Option, Some, None, Result, Ok, Err, IfErr, IsErrAnd}
+use Rattle.std.proofs.lemmas.Str.{IsUtf8-string_bytes}
 use Rattle.std.specs.Prelude.{string_bytes}
+use Rattle.std.specs.declared.string.String.{String}
 use Rattle.std.specs.Borrow.{Bor}
 use Rattle.std.specs.List.{AllByRecursion}
 use Rattle.clap.specs.Words.{Text}
 use Rattle.sdv_line.specs.CommandLine.{RunNames}
 use Rattle.sdv_faults.specs.Files.{CardImage, Files}
-use Rattle.sdv_run_command.specs.Run.{AreGiven, GivesImage, GivesInput, GivesSchedule, IsUnread, IsUnusable, IsUsed, files_of, some_file}
+use Rattle.sdv_run_command.specs.Run.{AreGiven, CannotBeUsed, FileUse, GivesImage, GivesInput, GivesSchedule, IsOptional, IsUnread, IsUnusable, IsUsed}
+use Rattle.sdv_run_command.specs.Run.{as_image, as_input, as_output, as_schedule, as_text, name_of, some_use, uses_of}
 use Rattle.sdv_faults.specs.declared.fault.Fault.{Fault}
 use Rattle.sdv_faults.specs.declared.fault.Fault.TheVariants.{File, Memory}
 use Rattle.sdv_run_command.specs.declared.given.Given.{Given}
 
 module _ (files : Files) where
-  pub text_gave : (name bytes : Text) → files.gives name bytes → IsUsed files name
-  text_gave name bytes given = inl (bytes, given)
+  pub text_gave : {Z : Type 0} (name : Text) (text : String Z) → files.gives name (string_bytes text) → IsUsed files (as_text name)
+  text_gave name text given = (string_bytes text, given, IsUtf8-string_bytes text)
 
-  pub schedule_gave : (name : Option Text) (codes : List ℕ) → GivesSchedule files name codes → AllByRecursion (IsUsed files) (some_file name)
+  pub schedule_gave : (name : Option Text) (codes : List ℕ) → GivesSchedule files name codes → AllByRecursion (IsUsed files) (some_use as_schedule name)
   schedule_gave None codes given = tt
-  schedule_gave (Some file) codes given = (inl (given.0, given.1), tt)
+  schedule_gave (Some file) codes given = ((codes, given), tt)
 
-  input_gave : (name : Option Text) (bytes : List ℕ) → GivesInput files name bytes → AllByRecursion (IsUsed files) (some_file name)
+  input_gave : (name : Option Text) (bytes : List ℕ) → GivesInput files name bytes → AllByRecursion (IsUsed files) (some_use as_input name)
   input_gave None bytes given = tt
-  input_gave (Some file) bytes given = (inl (bytes, given.0), tt)
+  input_gave (Some file) bytes given = ((bytes, given), tt)
 
-  both_gave : (xs ys : List Text) → AllByRecursion (IsUsed files) xs → AllByRecursion (IsUsed files) ys → AllByRecursion (IsUsed files) (xs ++ ys)
-  both_gave [] ys front back = back
-  both_gave (x ∷ xs) ys front back = (front.0, both_gave xs ys front.1 back)
+  both_used : (xs ys : List FileUse) → AllByRecursion (IsUsed files) xs → AllByRecursion (IsUsed files) ys → AllByRecursion (IsUsed files) (xs ++ ys)
+  both_used [] ys front back = back
+  both_used (x ∷ xs) ys front back = (front.0, both_used xs ys front.1 back)
 
   module _ (names : RunNames) where
-    abbrev pub four : List Text → List Text
-    four more = names.script ∷ names.certificate ∷ names.card ∷ names.image ∷ more
+    abbrev pub four : List FileUse → List FileUse
+    four more = as_text names.script ∷ as_text names.certificate ∷ as_text names.card ∷ as_image names.image ∷ more
 
-    pub four_gave : (script certificate card : List ℕ) (image : CardImage) → files.gives names.script script → files.gives names.certificate certificate
-        → files.gives names.card card → GivesImage files names.image image
-        → (more : List Text) → AllByRecursion (IsUsed files) more → AllByRecursion (IsUsed files) (four more)
-    four_gave script certificate card image s c d i more gave = (
-      text_gave names.script script s,
-      (
-        text_gave names.certificate certificate c,
-        (
-          text_gave names.card card d,
-          (inr (image, i), gave),
-        ),
-      ),
-    )
+    pub four_used : IsUsed files (as_text names.script) → IsUsed files (as_text names.certificate) → IsUsed files (as_text names.card)
+        → (image : CardImage) → GivesImage files names.image image
+        → (more : List FileUse) → AllByRecursion (IsUsed files) more → AllByRecursion (IsUsed files) (four more)
+    four_used script certificate card image opened more used = (script, (certificate, (card, ((image, opened), used))))
 
-    pub input_place : (schedule input : Option Text) (file : Text) (more : List Text) → input ≡ Some file
-        → four [] ++ (some_file schedule ++ (some_file input ++ more)) ≡ four (some_file schedule) ++ file ∷ more
+    pub input_place : (schedule input : Option Text) (file : Text) (more : List FileUse) → input ≡ Some file
+        → four [] ++ (some_use as_schedule schedule ++ (some_use as_input input ++ more)) ≡ four (some_use as_schedule schedule) ++ as_input file ∷ more
     input_place None input file more is = rw is refl
     input_place (Some first) input file more is = rw is refl
 
     output_place : (schedule input output : Option Text) (file : Text) → output ≡ Some file
-        → four [] ++ (some_file schedule ++ (some_file input ++ some_file output)) ≡ four (some_file schedule ++ some_file input) ++ file ∷ []
+        → four [] ++ (some_use as_schedule schedule ++ (some_use as_input input ++ some_use as_output output))
+        ≡ four (some_use as_schedule schedule ++ some_use as_input input) ++ as_output file ∷ []
     output_place None None output file is = rw is refl
     output_place None (Some second) output file is = rw is refl
     output_place (Some first) None output file is = rw is refl
     output_place (Some first) (Some second) output file is = rw is refl
 
-    -- what a fault at this file says
-    pub unread : {T : Type 0} (earlier : List Text) (file : Bor Text) (later : List Text) → files_of names ≡ earlier ++ file.now ∷ later
-        → AllByRecursion (IsUsed files) earlier → (fault : Fault) → (fault ≡ File file) ⊎ (fault ≡ Memory) → (r : Result T Fault) → IsErrAnd r (λ f. f ≡ fault)
-        → IfErr r (IsUnread files names)
-    unread earlier file later place given fault why (Ok x) is = absurd is
-    unread earlier file later place given fault (inl unusable) (Err f) is =
-        rw (is, unusable) (record { earlier = earlier; later = later; place = place; given = given })
-    unread earlier file later place given fault (inr memory) (Err f) is = rw (is, memory) tt
+    -- what a fault at this use says
+    pub unread : {T : Type 0} (wanted : FileUse) (file : Bor Text) → name_of wanted ≡ file.now → (earlier later : List FileUse)
+        → uses_of names ≡ earlier ++ wanted ∷ later → AllByRecursion (IsUsed files) earlier
+        → (fault : Fault) → (fault ≡ File file) ⊎ (fault ≡ Memory) → (fault ≡ File file → CannotBeUsed files wanted)
+        → (r : Result T Fault) → IsErrAnd r (λ f. f ≡ fault) → IfErr r (IsUnread files names)
+    unread wanted file is_file earlier later place used fault why failed (Ok x) is = absurd is
+    unread wanted file is_file earlier later place used fault (inl unusable) failed (Err f) is =
+        rw (is, unusable)
+        (record { wanted = wanted; is_file = is_file; earlier = earlier; later = later; place = place; used = used; failed = failed unusable })
+    unread wanted file is_file earlier later place used fault (inr memory) failed (Err f) is = rw (is, memory) tt
 
-    pub optional_unread : {T : Type 0} (name : Option (Bor Text)) (earlier later : List Text)
-        → ((file : Bor Text) → name ≡ Some file → files_of names ≡ earlier ++ file.now ∷ later) → AllByRecursion (IsUsed files) earlier
-        → (fault : Fault) → ((file : Bor Text) × (name ≡ Some file) × (fault ≡ File file)) ⊎ (fault ≡ Memory) → (r : Result T Fault)
-        → IsErrAnd r (λ f. f ≡ fault) → IfErr r (IsUnread files names)
-    optional_unread name earlier later place given fault why (Ok x) is = absurd is
-    optional_unread name earlier later place given fault (inl unusable) (Err f) is =
-        rw (is, unusable.2) (record { earlier = earlier; later = later; place = place unusable.0 unusable.1; given = given })
-    optional_unread name earlier later place given fault (inr memory) (Err f) is = rw (is, memory) tt
+    module _ (to : Text → FileUse) (is_file : (file : Text) → name_of (to file) ≡ file) (unusable : Text → Type 0)
+        (failed : (file : Text) → unusable file → CannotBeUsed files (to file)) where
+      pub optional_unread : {T : Type 0} (name : Option (Bor Text)) (earlier later : List FileUse)
+          → ((file : Bor Text) → name ≡ Some file → uses_of names ≡ earlier ++ to file.now ∷ later) → AllByRecursion (IsUsed files) earlier
+          → (fault : Fault) → IsOptional unusable name fault → (r : Result T Fault) → IsErrAnd r (λ f. f ≡ fault) → IfErr r (IsUnread files names)
+      optional_unread name earlier later place used fault why (Ok x) is = absurd is
+      optional_unread name earlier later place used fault (inl at) (Err f) is =
+          rw (is, at.2) (record {
+            wanted = to at.0.now;
+            is_file = is_file at.0.now;
+            earlier = earlier;
+            later = later;
+            place = place at.0 at.1;
+            used = used;
+            failed = failed at.0.now at.3;
+          })
+      optional_unread name earlier later place used fault (inr memory) (Err f) is = rw (is, memory) tt
 
     -- a file of the output that cannot be made or emptied
     pub output_unusable : (given : Given) (image : CardImage) (file : Text) → AreGiven files names given image → names.output ≡ Some file
-        → IsUnusable files names file
-    output_unusable given image file are is = record {
-      earlier = four (some_file names.schedule ++ some_file names.input);
+        → files.uncreated file → IsUnusable files names file
+    output_unusable given image file are is uncreated = record {
+      wanted = as_output file;
+      is_file = refl;
+      earlier = four (some_use as_schedule names.schedule ++ some_use as_input names.input);
       later = [];
       place = output_place names.schedule names.input names.output file is;
-      given = four_gave (string_bytes given.script) (string_bytes given.certificate)
-          (string_bytes given.card) image are.script are.certificate are.card are.of_image
-          (some_file names.schedule ++ some_file names.input)
-          (both_gave (some_file names.schedule) (some_file names.input) (schedule_gave names.schedule given.codes.items are.schedule)
+      used = four_used (text_gave names.script given.script are.script)
+          (text_gave names.certificate given.certificate are.certificate)
+          (text_gave names.card given.card are.card) image are.of_image
+          (some_use as_schedule names.schedule ++ some_use as_input names.input)
+          (both_used (some_use as_schedule names.schedule) (some_use as_input names.input) (schedule_gave names.schedule given.codes.items are.schedule)
           (input_gave names.input given.input.items are.input));
+      failed = uncreated;
     }

@@ -1,10 +1,10 @@
 -- What a run is given and what it leaves.
-use Rattle.std.proofs.Common.{arith, ◌≡◌, refl, ap, subst, sym, inl, inr, Some, None, IfSome, OnOk, ℕ, zero, suc, List, ◌∷◌, take, drop, Option, Result, Ok, Err, IfErr, IsErrAnd, ◌/◌}
+use Rattle.std.proofs.Common.{arith, ◌≡◌, ◌⊎◌, refl, ap, subst, sym, inl, inr, Some, None, IfSome, OnOk, ℕ, zero, suc, List, ◌∷◌, take, drop, Option, Result, Ok, Err, IfErr, IsErrAnd, ◌/◌}
 use Rattle.std.specs.Prelude.{string_bytes}
 use Rattle.std.specs.Simd.{first_chunks}
 use Rattle.std.specs.Borrow.{Bor}
 use Rattle.std.specs.Option.{ok_or}
-use Rattle.std.specs.Io.KnownBytes.{Keeps}
+use Rattle.std.specs.Io.KnownBytes.{Appends, Keeps}
 use Rattle.clap.specs.Words.{Text}
 use Rattle.sdv_card.specs.Card.{Block}
 use Rattle.sdv_check.specs.Verified.{Acceptance, IsAccepted}
@@ -37,12 +37,13 @@ use Rattle.sdv_run.specs.OnCard.{RanBeside}
 use Rattle.sdv_faults.specs.Fault.{fault_of_card}
 use Rattle.sdv_line.specs.CommandLine.{RunNames}
 use Rattle.sdv_faults.specs.Files.{CardImage, Files}
-use Rattle.sdv_run_command.specs.Run.{AreGiven, EndsRun, FailsToKeep, HasNoCard, IsKept, IsUnreadable, Receives, RefusesRun, RunFails, StopsRun, answer_of}
+use Rattle.sdv_run_command.specs.Run.{AreGiven, EndsRun, FailsToKeep, HasNoCard, IsKept, IsLost, IsOfFile, IsUnreadable, LosesImage, Receives, RefusesRun, RunFails, StopsRun, answer_of}
 use Rattle.sdv_faults.specs.declared.fault.Fault.{Fault}
 use Rattle.sdv_faults.specs.declared.fault.Fault.TheVariants.{File, Script, Certificate, Refused, Card, Memory as NoMemory}
 use Rattle.sdv_run_command.specs.declared.given.Given.{Given}
 use Rattle.sdv_run_command.specs.RunImages.{MayHaveFailed}
 use Rattle.sdv_run_command.proofs.GivenLaws.{output_unusable}
+use Rattle.sdv_run_command.proofs.TakenLaws.{taken}
 use Rattle.sdv_run_command.proofs.RunMaps.{seen, seen_run, seen_step}
 use Rattle.sdv_faults.proofs.StartLaws.{keeps_same}
 
@@ -142,10 +143,26 @@ module _ (files : Files) (names : RunNames) (given : Given) (image : CardImage) 
   refusal_unkept U more fault refuses kept (Ok x) is = absurd is
   refusal_unkept U more fault refuses kept (Err f) is = rw is (unkept fault (refuses_so U (IsUnreadable files names.image) more given image fault refuses) kept)
 
+  -- the file of the image did not take the card's blocks
+  pub close_fails : {T : Type 0} (file : Bor Text) → file.now ≡ names.image → IsLost given image trace trace' → LosesImage files names.image
+      → (fault : Fault) → fault ≡ File file → (r : Result T Fault) → IsErrAnd r (λ f. f ≡ fault)
+      → IfErr r (λ f. FailsToKeep files names given image f trace trace')
+  close_fails file same lost loses fault of (Ok x) is = absurd is
+  close_fails file same lost loses fault of (Err f) is = rw (is, of) (lost, same, loses)
+
+pub loses_image : (files : Files) (name : Text) (failed : Type 0) → IsOfFile name → (failed → files.images.failed name)
+    → failed ⊎ files.images.unclosed name → LosesImage files name
+loses_image files name failed is says (inl once) = (is, inl (says once))
+loses_image files name failed is says (inr unclosed) = (is, inr unclosed)
+
 -- what comes of what was opened
 pub opened_of : {S : Type 0} (o : Option S) (fault : Fault) (s : S) (P : S → Type 0) → Ok s ≡ ok_or o fault → IfSome o P → P s
 opened_of None fault s P is opened = absurd (cc is)
 opened_of (Some x) fault s P is opened = let same : x ≡ s = cc in subst P same opened
+
+pub none_of : {S : Type 0} (o : Option S) (fault f : Fault) → Err f ≡ ok_or o fault → o ≡ None
+none_of None fault f is = refl
+none_of (Some x) fault f is = absurd (cc is)
 
 pub unopened : {S : Type 0} (o : Option S) (fault f : Fault) → Err f ≡ ok_or o fault → f ≡ fault
 unopened None fault f is = cc
@@ -154,7 +171,8 @@ unopened (Some x) fault f is = absurd (cc is)
 -- THE END of a run, for what the files gave
 module _ (files : Files) (names : RunNames) (given : Given) (image : CardImage) (are : AreGiven files names given image) (trace trace' : Option (List ℕ)) where
   fails_of : (fault : Fault) → FailsToKeep files names given image fault trace trace' → RunFails files names fault trace trace'
-  fails_of (File file) fails = inr (record { given = given; image = image; are_given = are; lost = fails.0; is_file = inl fails.1 })
+  fails_of (File file) fails =
+      inr (record { given = given; image = image; are_given = are; lost = fails.0; is_file = inl (fails.1, fails.2) })
   fails_of (Script fault) fails = record { given = given; image = image; are_given = are; refused = fails.0; kept = fails.1 }
   fails_of (Certificate fault) fails = record { given = given; image = image; are_given = are; refused = fails.0; kept = fails.1 }
   fails_of (Refused fault) fails = record { given = given; image = image; are_given = are; refused = fails.0; kept = fails.1 }
@@ -168,27 +186,35 @@ module _ (files : Files) (names : RunNames) (given : Given) (image : CardImage) 
   kept_fails fault (Err f) fails is = rw is (fails_of fault fails)
 
   -- the file of the output cannot be made or emptied
-  pub made_fails : {T : Type 0} (file : Bor Text) → names.output ≡ Some file.now → Keeps trace trace' → (fault : Fault) → fault ≡ File file
-      → (r : Result T Fault) → IsErrAnd r (λ f. f ≡ fault) → IfErr r (λ f. RunFails files names f trace trace')
-  made_fails file output kept fault unopened (Ok x) is = absurd is
-  made_fails file output kept fault unopened (Err f) is =
-      rw (is, unopened) (inl (output_unusable files names given image file.now are output, kept))
+  pub made_fails : {T : Type 0} (file : Bor Text) → names.output ≡ Some file.now → files.uncreated file.now → Keeps trace trace'
+      → (fault : Fault) → fault ≡ File file → (r : Result T Fault) → IsErrAnd r (λ f. f ≡ fault) → IfErr r (λ f. RunFails files names f trace trace')
+  made_fails file output uncreated kept fault unopened (Ok x) is = absurd is
+  made_fails file output uncreated kept fault unopened (Err f) is =
+      rw (is, unopened) (inl (output_unusable files names given image file.now are output uncreated, kept))
 
   -- or does not take all
-  pub finish_fails : (file : Bor Text) → Some file.now ≡ names.output → (end : Result End RunFault) (out out' : Option (List ℕ))
+  pub finish_fails : (file : Bor Text) → Some file.now ≡ names.output → files.unfinished file.now
+      → (end : Result End RunFault) (out out' : Option (List ℕ))
       → IsKept files names given image end out out' trace trace' → RunFails files names (File file) trace trace'
-  finish_fails file output end out out' kept = inr (record {
+  finish_fails file output unfinished end out out' kept = inr (record {
     given = given;
     image = image;
     are_given = are;
     lost = record { blocks' = kept.blocks'; result = end; out = out; out' = out'; run = kept.run };
-    is_file = inr output;
+    is_file = inr (output, unfinished);
   })
 
-  module _ (out out' : Option (List ℕ)) (takes : (e : End) (k : IsKept files names given image (Ok e) out out' trace trace')
-      → Receives files names.output (received k.run.ran.0.events)) where
+  module _ (out out' : Option (List ℕ)) (takes : (bytes : List ℕ) → Appends out out' bytes → Receives files names.output bytes) where
     ends : (e : End) → IsKept files names given image (Ok e) out out' trace trace' → EndsRun files names e trace trace'
-    ends e kept = record { given = given; image = image; are_given = are; out = out; out' = out'; kept = kept; output = takes e kept }
+    ends e kept = record {
+      given = given;
+      image = image;
+      are_given = are;
+      out = out;
+      out' = out';
+      kept = kept;
+      output = takes (received kept.run.ran.0.events) kept.run.ran.0.output;
+    }
 
     pub ended : (end : Result End RunFault) (r : Result (Unit {0}) Fault) → r ≡ answer_of end → IsKept files names given image end out out' trace trace'
         → OnOk r (EndsRun files names Done trace trace')
@@ -196,8 +222,17 @@ module _ (files : Files) (names : RunNames) (given : Given) (image : CardImage) 
     ended (Ok (Ended name)) r is kept = rw is tt
     ended (Err fault) r is kept = rw is tt
 
-    stops : (fault : RunFault) → IsKept files names given image (Err fault) out out' trace trace' → StopsRun files names fault trace trace'
-    stops fault kept = record { given = given; image = image; are_given = are; out = out; out' = out'; kept = kept }
+    stops : (fault : RunFault) → (fault ≡ runs.Memory → ⊥) → IsKept files names given image (Err fault) out out' trace trace'
+        → StopsRun files names fault trace trace'
+    stops fault other kept = record {
+      given = given;
+      image = image;
+      are_given = are;
+      out = out;
+      out' = out';
+      kept = kept;
+      output = taken files names.output _ _ takes fault kept.run.acceptance.graph kept.run.ran.0.events kept.run.ran.0.because other;
+    }
 
     unmoved : IsKept files names given image (Err runs.Memory) out out' trace trace' → Keeps trace trace'
     unmoved kept = let same : trace' ≡ trace = ap (λ w. w.trace) kept.run.ran.0.because.same in rw same (keeps_same trace)
@@ -206,8 +241,8 @@ module _ (files : Files) (names : RunNames) (given : Given) (image : CardImage) 
         → IsKept files names given image end out out' trace trace' → IfErr r (λ fault. RunFails files names fault trace trace')
     ended_fails (Ok Done) r is kept = rw is tt
     ended_fails (Ok (Ended name)) r is kept = rw is (Ended name, (λ same. absurd (cc same)), ends (Ended name) kept)
-    ended_fails (Err runs.Reply) r is kept = rw is (stops runs.Reply kept)
-    ended_fails (Err runs.Input) r is kept = rw is (stops runs.Input kept)
-    ended_fails (Err runs.Output) r is kept = rw is (stops runs.Output kept)
-    ended_fails (Err runs.Trace) r is kept = rw is (stops runs.Trace kept)
+    ended_fails (Err runs.Reply) r is kept = rw is (stops runs.Reply (λ same. absurd (cc same)) kept)
+    ended_fails (Err runs.Input) r is kept = rw is (stops runs.Input (λ same. absurd (cc same)) kept)
+    ended_fails (Err runs.Output) r is kept = rw is (stops runs.Output (λ same. absurd (cc same)) kept)
+    ended_fails (Err runs.Trace) r is kept = rw is (stops runs.Trace (λ same. absurd (cc same)) kept)
     ended_fails (Err runs.Memory) r is kept = rw is (unmoved kept)

@@ -1,5 +1,5 @@
 -- What the program does at `run`: beside which card it runs which script, what it prints, and what its files take.
-use Rattle.std.specs.Prelude.{◌≡◌, ◌≢◌, ◌<◌, ◌*◌, ◌-◌, ◌/◌, ◌%◌, ◌^◌, ◌⊎◌, ◌==◌, ◌&&◌, ◌||◌, Bool, ℕ, List, [], ◌∷◌, ◌++◌, Option, Some, None, Result, Ok, Err, codes, length, nat_le, string_bytes, if◌then◌else◌}
+use Rattle.std.specs.Prelude.{◌≡◌, ◌≢◌, ◌<◌, ◌*◌, ◌-◌, ◌/◌, ◌%◌, ◌^◌, ◌⊎◌, ◌==◌, ◌&&◌, ◌||◌, Bool, ℕ, List, [], ◌∷◌, ◌++◌, Option, Some, None, Result, Ok, Err, IsUtf8, codes, length, nat_le, string_bytes, if◌then◌else◌}
 use Rattle.std.specs.Io.KnownBytes.{Keeps}
 use Rattle.std.specs.Borrow.{Bor}
 use Rattle.std.specs.List.{AllByRecursion}
@@ -20,6 +20,7 @@ use Rattle.sdv_check.specs.Verified.{Acceptance, IsAccepted}
 use Rattle.sdv_run.specs.declared.end.End.{End}
 use Rattle.sdv_run.specs.declared.end.End.TheVariants as ends
 use Rattle.sdv_run.specs.declared.fault.RunFault.{RunFault}
+use Rattle.sdv_run.specs.declared.fault.RunFault.TheVariants as runs
 use Rattle.sdv_run.specs.Run.{received}
 use Rattle.sdv_run.specs.OnCard.{RanBeside}
 use Rattle.sdv_faults.specs.declared.fault.Fault.{Fault}
@@ -28,7 +29,7 @@ use Rattle.sdv_run_command.specs.declared.given.Given.{Given}
 use Rattle.sdv_faults.specs.Refused.{Refuses}
 use Rattle.sdv_line.specs.CommandLine.{RunNames}
 use Rattle.sdv_faults.specs.Fault.{fault_of_run}
-use Rattle.sdv_faults.specs.Files.{CardImage, Files, image_of}
+use Rattle.sdv_faults.specs.Files.{CardImage, Files, GivesNoText, image_of}
 use Rattle.sdv_text.specs.Number.{IsNumber, value_of}
 
 -- SCHEDULES: a digit from 0 to 7 for each event; spaces and ends of lines are nothing, and any other byte is no digit
@@ -56,13 +57,17 @@ pub record IsNew (name : Text) (blocks : ℕ) : Type 0 where
 abbrev pub new_image : (blocks : ℕ) → CardImage
 new_image blocks = image_of (blocks * 512) (Some (zeros blocks))
 
+-- the image is that of a file
+abbrev pub IsOfFile : (name : Text) → Type 0
+IsOfFile name = (blocks : ℕ) → ¬ IsNew name blocks
+
 -- THE FILES of a run
 
 -- the image is that of a file, or it is new
 abbrev pub GivesImage : Files → (name : Text) → CardImage → Type 0
 GivesImage files name image =
     ((blocks : ℕ) × IsNew name blocks × (image ≡ new_image blocks))
-    ⊎ (((blocks : ℕ) → ¬ IsNew name blocks) × files.images.opened name image)
+    ⊎ (IsOfFile name × files.images.opened name image)
 
 abbrev pub GivesSchedule : Files → Option Text → (codes : List ℕ) → Type 0
 GivesSchedule files None codes = codes ≡ []
@@ -131,7 +136,7 @@ RefusesRun given image unread fault = ⊥
 
 -- a call of an image failed: it is that of a file, and never a new one
 abbrev pub IsUnreadable : Files → (name : Text) → Type 0
-IsUnreadable files name = ((blocks : ℕ) → ¬ IsNew name blocks) × files.images.failed name
+IsUnreadable files name = IsOfFile name × files.images.failed name
 
 -- WHAT THE FILES TAKE
 
@@ -139,9 +144,25 @@ IsUnreadable files name = ((blocks : ℕ) → ¬ IsNew name blocks) × files.ima
 abbrev pub StoresImage : Files → (name : Text) → Option (List Block) → Type 0
 StoresImage files name blocks = ((count : ℕ) × IsNew name count) ⊎ files.images.closed name blocks
 
+-- the file of the image did not take the card's blocks: a call of it failed, or it was closed without them
+abbrev pub LosesImage : Files → (name : Text) → Type 0
+LosesImage files name = IsOfFile name × (files.images.failed name ⊎ files.images.unclosed name)
+
 abbrev pub Receives : Files → Option Text → (bytes : List ℕ) → Type 0
 Receives files None bytes = Unit {0}
 Receives files (Some file) bytes = files.received file bytes
+
+-- the file of the output took a front of these bytes
+pub record ReceivesFront (files : Files) (output : Option Text) (bytes : List ℕ) : Type 0 where
+  pub front : List ℕ
+  pub rest : List ℕ
+  pub is_front : bytes ≡ front ++ rest
+  pub received : Receives files output front
+
+-- what it took of a run that stopped: all of the bytes, or a front of them where the output failed
+abbrev pub ReceivesUntil : RunFault → Files → Option Text → (bytes : List ℕ) → Type 0
+ReceivesUntil runs.Output files output bytes = ReceivesFront files output bytes
+ReceivesUntil fault files output bytes = Receives files output bytes
 
 -- THE END
 
@@ -162,7 +183,8 @@ pub record EndsRun (files : Files) (names : RunNames) (end : End) (trace trace' 
   pub kept : IsKept files names given image (Ok end) out out' trace trace'
   pub output : Receives files names.output (received kept.run.ran.0.events)
 
--- The run stopped before its end.
+-- The run stopped before its end. The file of the output took the blocks of its phases that ended well, or, where the
+-- output failed, a front of them.
 pub record StopsRun (files : Files) (names : RunNames) (fault : RunFault)
     (trace trace' : Option (List ℕ)) : Type 0 where
   pub given : Given
@@ -171,6 +193,7 @@ pub record StopsRun (files : Files) (names : RunNames) (fault : RunFault)
   pub out : Option (List ℕ)
   pub out' : Option (List ℕ)
   pub kept : IsKept files names given image (Err fault) out out' trace trace'
+  pub output : ReceivesUntil fault files names.output (received kept.run.ran.0.events)
 
 -- The run took place, and then a file did not take all that it had to.
 pub record IsLost (given : Given) (image : CardImage) (trace trace' : Option (List ℕ)) : Type 0 where
@@ -180,13 +203,14 @@ pub record IsLost (given : Given) (image : CardImage) (trace trace' : Option (Li
   pub out' : Option (List ℕ)
   pub run : IsRun given image blocks' result out out' trace trace'
 
--- It was the file of the image or of the output.
+-- It was the file of the image, which did not take the card's blocks, or that of the output.
 pub record IsNotKept (files : Files) (names : RunNames) (file : Text) (trace trace' : Option (List ℕ)) : Type 0 where
   pub given : Given
   pub image : CardImage
   pub are_given : AreGiven files names given image
   pub lost : IsLost given image trace trace'
-  pub is_file : (file ≡ names.image) ⊎ (Some file ≡ names.output)
+  pub is_file : ((file ≡ names.image) × LosesImage files names.image)
+      ⊎ ((Some file ≡ names.output) × files.unfinished file)
 
 -- There was no run.
 pub record HasNoRun (files : Files) (names : RunNames) (fault : Fault) (trace trace' : Option (List ℕ)) : Type 0 where
@@ -205,31 +229,67 @@ answer_of (Err fault) = Err (fault_of_run fault)
 -- the file of the image did not take the card's blocks, or there was no run
 abbrev pub FailsToKeep : Files → RunNames → Given → CardImage → Fault → (trace trace' : Option (List ℕ)) → Type 0
 FailsToKeep files names given image (File file) trace trace' =
-    IsLost given image trace trace' × (file.now ≡ names.image)
+    IsLost given image trace trace' × (file.now ≡ names.image) × LosesImage files names.image
 FailsToKeep files names given image fault trace trace' =
     RefusesRun given image (IsUnreadable files names.image) fault × Keeps trace trace'
 
 -- THE FILES, in the order in which they are read; that of the output is made or emptied after them
 
-abbrev pub some_file : Option Text → List Text
-some_file None = []
-some_file (Some file) = file ∷ []
+-- what a run uses a file as
+pub data FileUse : Type 0 where
+  -- a script, a certificate or a description
+  as_text : (file : Text) → FileUse
+  as_image : (name : Text) → FileUse
+  as_schedule : (file : Text) → FileUse
+  as_input : (file : Text) → FileUse
+  as_output : (file : Text) → FileUse
 
-abbrev pub files_of : RunNames → List Text
-files_of names = (names.script ∷ names.certificate ∷ names.card ∷ names.image ∷ [])
-    ++ (some_file names.schedule ++ (some_file names.input ++ some_file names.output))
+abbrev pub name_of : FileUse → Text
+name_of (as_text file) = file
+name_of (as_image name) = name
+name_of (as_schedule file) = file
+name_of (as_input file) = file
+name_of (as_output file) = file
 
--- the file gave bytes, or was opened as an image, or it is none, but a new image
-abbrev pub IsUsed : Files → (name : Text) → Type 0
-IsUsed files name =
-    ((bytes : List ℕ) × files.gives name bytes) ⊎ ((image : CardImage) × GivesImage files name image)
+abbrev pub some_use : (Text → FileUse) → Option Text → List FileUse
+some_use to None = []
+some_use to (Some file) = to file ∷ []
 
--- The file cannot be used, and each that comes before it was.
+abbrev pub uses_of : RunNames → List FileUse
+uses_of names =
+    (as_text names.script ∷ as_text names.certificate ∷ as_text names.card ∷ as_image names.image ∷ [])
+    ++ (some_use as_schedule names.schedule ++ (some_use as_input names.input ++ some_use as_output names.output))
+
+-- the file was used so; nothing comes after the output
+abbrev pub IsUsed : Files → FileUse → Type 0
+IsUsed files (as_text file) = (text : List ℕ) × files.gives file text × IsUtf8 text
+IsUsed files (as_image name) = (image : CardImage) × GivesImage files name image
+IsUsed files (as_schedule file) = (codes : List ℕ) × GivesSchedule files (Some file) codes
+IsUsed files (as_input file) = (bytes : List ℕ) × GivesInput files (Some file) bytes
+IsUsed files (as_output file) = Unit {0}
+
+-- the file gave no whole blocks: it was not read, or its length is none of them
+abbrev pub GivesNoInput : Files → (file : Text) → Type 0
+GivesNoInput files file =
+    files.unread file ⊎ ((bytes : List ℕ) × files.gives file bytes × (length bytes % 512 ≢ 0))
+
+-- what was tried with the file, and failed
+abbrev pub CannotBeUsed : Files → FileUse → Type 0
+CannotBeUsed files (as_text file) = GivesNoText files file
+CannotBeUsed files (as_image name) = IsOfFile name × files.images.unopened name
+CannotBeUsed files (as_schedule file) = files.unread file
+CannotBeUsed files (as_input file) = GivesNoInput files file
+CannotBeUsed files (as_output file) = files.uncreated file
+
+-- The file cannot be used for this, and each use that comes before it was made.
 pub record IsUnusable (files : Files) (names : RunNames) (file : Text) : Type 0 where
-  pub earlier : List Text
-  pub later : List Text
-  pub place : files_of names ≡ earlier ++ file ∷ later
-  pub given : AllByRecursion (IsUsed files) earlier
+  pub wanted : FileUse
+  pub is_file : name_of wanted ≡ file
+  pub earlier : List FileUse
+  pub later : List FileUse
+  pub place : uses_of names ≡ earlier ++ wanted ∷ later
+  pub used : AllByRecursion (IsUsed files) earlier
+  pub failed : CannotBeUsed files wanted
 
 -- what a fault says of files that were not all used
 abbrev pub IsUnread : Files → RunNames → Fault → Type 0
@@ -237,9 +297,10 @@ IsUnread files names (File file) = IsUnusable files names file.now
 IsUnread files names Memory = Unit {0}
 IsUnread files names fault = ⊥
 
--- a file that need not be there is, and cannot be used; or memory is wanting
-abbrev pub IsOptional : Option (Bor Text) → Fault → Type 0
-IsOptional name fault = ((file : Bor Text) × (name ≡ Some file) × (fault ≡ File file)) ⊎ (fault ≡ Memory)
+-- a file that need not be there is named, and cannot be used for this reason; or memory ran out
+abbrev pub IsOptional : (unusable : Text → Type 0) → Option (Bor Text) → Fault → Type 0
+IsOptional unusable name fault =
+    ((file : Bor Text) × (name ≡ Some file) × (fault ≡ File file) × unusable file.now) ⊎ (fault ≡ Memory)
 
 -- FAULTS: what each says of a run, and of what was printed
 abbrev pub RunFails : Files → RunNames → Fault → (trace trace' : Option (List ℕ)) → Type 0

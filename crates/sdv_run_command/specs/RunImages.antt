@@ -3,9 +3,9 @@ use Rattle.std.specs.Prelude.{ℕ, List, Option}
 use Rattle.clap.specs.Words.{Text}
 use Rattle.sdv_card.specs.Card.{Block}
 use Rattle.sdv_image.specs.Images.{HasFailed}
-use Rattle.sdv_faults.specs.Files.{CardImage, Files, image_of}
+use Rattle.sdv_faults.specs.Files.{CardImage, Files, SomeCallFailed, image_of}
 use Rattle.sdv_run_command.specs.NewImages.{blocks_of_new, bytes_of_new}
-use Rattle.sdv_run_command.specs.Run.{IsNew}
+use Rattle.sdv_run_command.specs.Run.{IsNew, IsOfFile}
 use Rattle.sdv_run_command.specs.declared.given.GivenImage.{GivenImage}
 use Rattle.sdv_run_command.specs.declared.given.GivenImage.TheVariants.{New, File}
 
@@ -21,5 +21,4 @@ MayHaveFailed {I} failed file = (after : I) × HasFailed (failed file) (failed a
 -- it is new exactly where the name asks for that, and else a file whose calls fail only where the store says so
 abbrev pub IsOfName : {I : Type 0} → (failed : I → ℕ) → Files → (name : Text) → GivenImage I → Type 0
 IsOfName failed files name (New image) = (blocks : ℕ) × IsNew name blocks
-IsOfName failed files name (File image) = ((blocks : ℕ) → ¬ IsNew name blocks)
-    × (MayHaveFailed failed image → files.images.failed name)
+IsOfName failed files name (File image) = IsOfFile name × (SomeCallFailed failed → files.images.failed name)

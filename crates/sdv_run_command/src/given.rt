@@ -1,8 +1,8 @@
 //! What a run is given: the texts and bytes of its files.
 ghost use Rattle.std.specs.Prelude.{◌≡◌, ◌⊎◌, ℕ, IfErr, IfOk, MatchOption, option_map};
 ghost use Rattle.sdv_line.specs.CommandLine.{names_of};
-ghost use Rattle.sdv_faults.specs.Files.{store_of};
-ghost use Rattle.sdv_run_command.specs.Run.{AreGiven, GivesImage, GivesInput, GivesSchedule, IsNew, IsOptional, IsUnread};
+ghost use Rattle.sdv_run_command.specs.Run.{AreGiven, CannotBeUsed, GivesImage, GivesInput, GivesNoInput, GivesSchedule, as_image};
+ghost use Rattle.sdv_run_command.specs.Run.{IsNew, IsOptional, IsUnread};
 ghost use Rattle.sdv_run_command.specs.Run.{code_of, new_image, schedule_codes};
 ghost use Rattle.sdv_run_command.specs.RunImages.{IsOfName, image_given};
 
@@ -56,11 +56,11 @@ pub fn given_by<'a, S: Store>(
     files: &S,
     names: &RunFiles<'a>,
 ) -> Result<(Given, GivenImage<S::Image>), Fault<'a>>
-    ensures given { IfOk result (λ read. AreGiven (store_of S.gives S.stored S.received files.now) (names_of names.now)
+    ensures given { IfOk result (λ read. AreGiven (S.known files.now) (names_of names.now)
         read.0 (image_given S.Image.byte_count S.Image.blocks read.1)) }
-    ensures image { IfOk result (λ read. IsOfName S.Image.failed (store_of S.gives S.stored S.received files.now)
+    ensures image { IfOk result (λ read. IsOfName S.Image.failed (S.known files.now)
         names.now.image.now read.1) }
-    ensures refused { IfErr result (IsUnread (store_of S.gives S.stored S.received files.now) (names_of names.now)) }
+    ensures refused { IfErr result (IsUnread (S.known files.now) (names_of names.now)) }
 {
     let script = text_in(alloc, files, names.script)?;
     let certificate = text_in(alloc, files, names.certificate)?;
@@ -84,12 +84,14 @@ fn image_in<'a, S: Store>(
     files: &S,
     name: &'a str,
 ) -> Result<GivenImage<S::Image>, Fault<'a>>
-    ensures given { IfOk result (λ image. GivesImage (store_of S.gives S.stored S.received files.now) name.entry.now
+    ensures given { IfOk result (λ image. GivesImage (S.known files.now) name.entry.now
         (image_given S.Image.byte_count S.Image.blocks image)) }
     ensures image { IfOk result
-        (IsOfName S.Image.failed (store_of S.gives S.stored S.received files.now) name.entry.now) }
+        (IsOfName S.Image.failed (S.known files.now) name.entry.now) }
     ensures refused { IfErr result
         (λ fault. (fault ≡ Fault.File name.entry) ⊎ (fault ≡ Fault.Memory)) }
+    ensures unusable { IfErr result (λ fault. fault ≡ Fault.File name.entry
+        → CannotBeUsed (S.known files.now) (as_image name.entry.now)) }
 {
     match new_blocks(name) {
         Some(blocks) => Ok(GivenImage::New(NewImage::of_zeros(alloc, blocks)?)),
@@ -113,9 +115,9 @@ fn codes_in<'a, S: Store>(
     files: &S,
     name: Option<&'a str>,
 ) -> Result<Vec<u8>, Fault<'a>>
-    ensures given { IfOk result (λ codes. GivesSchedule (store_of S.gives S.stored S.received files.now)
+    ensures given { IfOk result (λ codes. GivesSchedule (S.known files.now)
         (option_map (λ file. file.now) name.entry) codes.items) }
-    ensures refused { IfErr result (IsOptional name.entry) }
+    ensures refused { IfErr result (IsOptional (S.known files.now).unread name.entry) }
 {
     match name {
         None => Ok(Vec::new(alloc)),
@@ -156,9 +158,9 @@ fn input_in<'a, S: Store>(
     files: &S,
     name: Option<&'a str>,
 ) -> Result<Vec<u8>, Fault<'a>>
-    ensures given { IfOk result (λ bytes. GivesInput (store_of S.gives S.stored S.received files.now)
+    ensures given { IfOk result (λ bytes. GivesInput (S.known files.now)
         (option_map (λ file. file.now) name.entry) bytes.items) }
-    ensures refused { IfErr result (IsOptional name.entry) }
+    ensures refused { IfErr result (IsOptional (GivesNoInput (S.known files.now)) name.entry) }
 {
     let Some(file) = name else {
         return Ok(Vec::new(alloc));

@@ -1,9 +1,9 @@
 //! `run SCRIPT CERT CARD IMAGE [SCHEDULE] [--in FILE] [--out FILE]`: a verified script beside a simulated card.
-ghost use Rattle.std.specs.Prelude.{◌≡◌, OnOk, IfErr, IfOk};
+ghost use Rattle.std.specs.Prelude.{◌≡◌, ◌⊎◌, OnOk, IfErr, IfOk};
 ghost use Rattle.std.specs.Io.KnownBytes.{Keeps};
 ghost use Rattle.sdv_line.specs.CommandLine.{names_of};
 ghost use Rattle.sdv_file_image.specs.FileImages.{shown_of};
-ghost use Rattle.sdv_faults.specs.Files.{image_of, store_of};
+ghost use Rattle.sdv_faults.specs.Files.{SomeCallFailed, image_of};
 ghost use Rattle.sdv_run_command.specs.Run.{EndsRun, FailsToKeep, IsKept, IsRun, RefusesRun, RunFails, answer_of};
 ghost use Rattle.sdv_run_command.specs.RunImages.{IsOfName, MayHaveFailed, image_given};
 ghost use Rattle.sdv_run.specs.declared.end.End.TheVariants.{Done};
@@ -35,20 +35,21 @@ pub struct Outcome<F: BlockFile> {
 ///
 /// # Errors
 ///
-/// - [`Fault::File`]: a file cannot be used; then nothing was run or printed. Or the file of the image or of the output
-///   did not take all that it had to; then the run had come to its end.
+/// - [`Fault::File`]: a file cannot be used, and each one before it was; then nothing was run or printed. Or the file of
+///   the image or of the output did not take all that it had to; then the run had come to its end.
 /// - The faults of [`run_given`].
 /// - [`Fault::Named`]: the script ended in a fault that it names, or in `number`. The trace is whole.
-/// - [`Fault::Run`]: the run stopped before its end.
+/// - [`Fault::Run`]: the run stopped before its end. The file of the output has the blocks that were received before, or a
+///   front of them where it failed.
 pub fn run_files<'a, S: Store, T: Write>(
     alloc: Global,
     files: &S,
     names: RunFiles<'a>,
     trace: &mut T,
 ) -> Result<(), Fault<'a>>
-    ensures done { OnOk result (EndsRun (store_of S.gives S.stored S.received files.now)
+    ensures done { OnOk result (EndsRun (S.known files.now)
         (names_of names.entry) Done (T.contents trace.old) (T.contents trace.new)) }
-    ensures fails { IfErr result (λ fault. RunFails (store_of S.gives S.stored S.received files.now)
+    ensures fails { IfErr result (λ fault. RunFails (S.known files.now)
         (names_of names.entry) fault (T.contents trace.old) (T.contents trace.new)) }
 {
     let (given, image) = given_by(alloc, files, &names)?;
@@ -75,11 +76,11 @@ fn run_kept<'a, S: Store, O: Write, T: Write>(
     out: &mut O,
     trace: &mut T,
 ) -> Result<Result<End, RunFault>, Fault<'a>>
-    requires { IsOfName S.Image.failed (store_of S.gives S.stored S.received files.now) names.now.image.now image }
-    ensures kept { IfOk result (λ end. IsKept (store_of S.gives S.stored S.received files.now)
+    requires { IsOfName S.Image.failed (S.known files.now) names.now.image.now image }
+    ensures kept { IfOk result (λ end. IsKept (S.known files.now)
         (names_of names.now) given.now (image_given S.Image.byte_count S.Image.blocks image) end
         (O.contents out.old) (O.contents out.new) (T.contents trace.old) (T.contents trace.new)) }
-    ensures fails { IfErr result (λ fault. FailsToKeep (store_of S.gives S.stored S.received files.now)
+    ensures fails { IfErr result (λ fault. FailsToKeep (S.known files.now)
         (names_of names.now) given.now (image_given S.Image.byte_count S.Image.blocks image) fault
         (T.contents trace.old) (T.contents trace.new)) }
 {
@@ -97,19 +98,24 @@ fn run_kept<'a, S: Store, O: Write, T: Write>(
 }
 
 /// Writes all blocks that changed back to the file of the image, and closes it.
+///
+/// # Errors
+///
+/// [`Fault::File`]: a block could not be written back, or the file did not take all that was written.
 fn close_image<'a, S: Store>(
     files: &S,
     name: &'a str,
     image: FileImage<S::Image>,
 ) -> Result<(), Fault<'a>>
-    ensures closed { OnOk result ((S.stored files.now).closed name.entry.now (shown_of image)) }
+    ensures closed { OnOk result ((S.known files.now).images.closed name.entry.now (shown_of image)) }
     ensures refused { IfErr result (λ fault. fault ≡ Fault.File name.entry) }
+    ensures lost { IfErr result (λ _. SomeCallFailed S.Image.failed
+        ⊎ (S.known files.now).images.unclosed name.entry.now) }
 {
-    let is_closed = match image.finish() {
-        Ok(file) => files.close_image(name, file),
-        Err(_) => false,
+    let Ok(file) = image.finish() else {
+        return Err(Fault::File(name));
     };
-    if is_closed {
+    if files.close_image(name, file) {
         Ok(())
     } else {
         Err(Fault::File(name))

@@ -150,7 +150,7 @@ module _ (files : Files) (words : List Text) where
   faults_of_frame index argument no_page meaning (Err fault) refused = frame_fault index argument no_page meaning fault refused
 
   -- the words of `certify`
-  certify_fault : (script : Text) → meaning_of words ≡ Some (certify script) → (fault : Fault) → UncertifiesFile files.gives script fault
+  certify_fault : (script : Text) → meaning_of words ≡ Some (certify script) → (fault : Fault) → UncertifiesFile files script fault
       → IsFaultOf files words fault
   certify_fault script meaning (File file) refuses = inl (inl (record { script_file = script; meaning = meaning; refuses = refuses }))
   certify_fault script meaning (Script fault) refuses = inl (inl (record { script_file = script; meaning = meaning; refuses = refuses }))
@@ -160,13 +160,13 @@ module _ (files : Files) (words : List Text) where
   certify_fault script meaning _ refuses = absurd refuses.refuses
 
   pub faults_of_certify : {T : Type 0} (script : Text) → meaning_of words ≡ Some (certify script) → (r : Result T Fault)
-      → IfErr r (UncertifiesFile files.gives script) → IfErr r (IsFaultOf files words)
+      → IfErr r (UncertifiesFile files script) → IfErr r (IsFaultOf files words)
   faults_of_certify script meaning (Ok x) refuses = tt
   faults_of_certify script meaning (Err fault) refuses = certify_fault script meaning fault refuses
 
   -- the words of `check`
   check_fault : (script certificate : Text) → meaning_of words ≡ Some (check script certificate) → (fault : Fault)
-      → RefusesFiles files.gives script certificate fault → IsFaultOf files words fault
+      → RefusesFiles files script certificate fault → IsFaultOf files words fault
   check_fault script certificate meaning (File file) refuses =
       inl (inr (inl (record { script_file = script; certificate_file = certificate; meaning = meaning; refuses = refuses })))
   check_fault script certificate meaning (Script fault) refuses =
@@ -181,7 +181,7 @@ module _ (files : Files) (words : List Text) where
   check_fault script certificate meaning _ refuses = absurd refuses.refuses
 
   pub faults_of_check : {T : Type 0} (script certificate : Text) → meaning_of words ≡ Some (check script certificate) → (r : Result T Fault)
-      → IfErr r (RefusesFiles files.gives script certificate) → IfErr r (IsFaultOf files words)
+      → IfErr r (RefusesFiles files script certificate) → IfErr r (IsFaultOf files words)
   faults_of_check script certificate meaning (Ok x) refuses = tt
   faults_of_check script certificate meaning (Err fault) refuses = check_fault script certificate meaning fault refuses
 
@@ -200,7 +200,7 @@ module _ (files : Files) (words : List Text) where
   faults_of_batch kind requests meaning (Err fault) refuses = batch_fault kind requests meaning fault refuses
 
   -- the words of `print`
-  print_fault : (script : Text) → meaning_of words ≡ Some (print script) → (fault : Fault) → UnprintsFile files.gives script fault → IsFaultOf files words fault
+  print_fault : (script : Text) → meaning_of words ≡ Some (print script) → (fault : Fault) → UnprintsFile files script fault → IsFaultOf files words fault
   print_fault script meaning (File file) refuses = inl (inr (inr (record { script_file = script; meaning = meaning; refuses = refuses })))
   print_fault script meaning (Script fault) refuses = inl (inr (inr (record { script_file = script; meaning = meaning; refuses = refuses })))
   print_fault script meaning Output refuses = inr (inl (inr (inr (record { script_file = script; meaning = meaning; refuses = refuses }))))
@@ -208,7 +208,7 @@ module _ (files : Files) (words : List Text) where
   print_fault script meaning _ refuses = absurd refuses.refuses
 
   pub faults_of_print : {T : Type 0} (script : Text) → meaning_of words ≡ Some (print script) → (r : Result T Fault)
-      → IfErr r (UnprintsFile files.gives script) → IfErr r (IsFaultOf files words)
+      → IfErr r (UnprintsFile files script) → IfErr r (IsFaultOf files words)
   faults_of_print script meaning (Ok x) refuses = tt
   faults_of_print script meaning (Err fault) refuses = print_fault script meaning fault refuses
 
@@ -344,7 +344,7 @@ module _ (files : Files) (words : List Text) where
 
   pub left_of_certify : {T : Type 0} (script : Text) → meaning_of words ≡ Some (certify script) → (r : Result T Fault) (before after : Option (List ℕ))
       → IfErr r (λ fault. fault ≢ Output → Keeps before after)
-      → IfErr r (λ fault. fault ≡ Output → CertifiesFileInPart files.gives script before after)
+      → IfErr r (λ fault. fault ≡ Output → CertifiesFileInPart files script before after)
       → IfErr r (λ fault. Leaves files words fault before after)
   left_of_certify script meaning r before after =
       if_left before after (certify_is_quiet words script meaning) r _
@@ -352,7 +352,7 @@ module _ (files : Files) (words : List Text) where
 
   pub left_of_check : {T : Type 0} (script certificate : Text) → meaning_of words ≡ Some (check script certificate) → (r : Result T Fault)
       (before after : Option (List ℕ)) → IfErr r (λ fault. fault ≢ Output → Keeps before after)
-      → IfErr r (λ fault. fault ≡ Output → AcceptsFilesInPart files.gives script certificate before after)
+      → IfErr r (λ fault. fault ≡ Output → AcceptsFilesInPart files script certificate before after)
       → IfErr r (λ fault. Leaves files words fault before after)
   left_of_check script certificate meaning r before after =
       if_left before after (check_is_quiet words script certificate meaning) r _
@@ -369,7 +369,7 @@ module _ (files : Files) (words : List Text) where
 
   pub left_of_print : {T : Type 0} (script : Text) → meaning_of words ≡ Some (print script) → (r : Result T Fault) (before after : Option (List ℕ))
       → IfErr r (λ fault. fault ≢ Output → Keeps before after)
-      → IfErr r (λ fault. fault ≡ Output → PrintsFileInPart files.gives script before after)
+      → IfErr r (λ fault. fault ≡ Output → PrintsFileInPart files script before after)
       → IfErr r (λ fault. Leaves files words fault before after)
   left_of_print script meaning r before after =
       if_left before after (print_is_quiet words script meaning) r _
@@ -441,7 +441,7 @@ module _ (files : Files) (words : List Text) where
     asks_explanation : AsksExplanation words
     asks_explanation = record { script_file = script; meaning = meaning }
 
-    explain_fault : (fault : Fault) → ExplainFileFails files.gives script fault before after → IsFaultOf files words fault
+    explain_fault : (fault : Fault) → ExplainFileFails files script fault before after → IsFaultOf files words fault
     explain_fault (File file) fails = inr (inr (inl asks_explanation))
     explain_fault (Script fault) fails = inr (inr (inl asks_explanation))
     explain_fault (Uncertified fault) fails = inr (inr (inl asks_explanation))
@@ -449,23 +449,23 @@ module _ (files : Files) (words : List Text) where
     explain_fault Memory fails = tt
     explain_fault _ fails = absurd fails.fails
 
-    pub faults_of_explain : {T : Type 0} (r : Result T Fault) → IfErr r (λ fault. ExplainFileFails files.gives script fault before after)
+    pub faults_of_explain : {T : Type 0} (r : Result T Fault) → IfErr r (λ fault. ExplainFileFails files script fault before after)
         → IfErr r (IsFaultOf files words)
     faults_of_explain (Ok x) fails = tt
     faults_of_explain (Err fault) fails = explain_fault fault fails
 
-    left_by_explain : (fault : Fault) → ExplainFileFails files.gives script fault before after → Left files words fault before after
+    left_by_explain : (fault : Fault) → ExplainFileFails files script fault before after → Left files words fault before after
     left_by_explain fault fails = record {
       kept = λ quiet. absurd (quiet.no_explanation script meaning);
       of_run = λ names other. absurd (explain_is_no_run words script meaning names other);
       of_explanation = λ others other.
           let same : Some (explain script) ≡ Some (explain others) = sym meaning ∙ other in
           let is : script ≡ others = cc in
-          subst (λ file. ExplainFileFails files.gives file fault before after) is fails;
+          subst (λ file. ExplainFileFails files file fault before after) is fails;
       of_drawing = λ drawn other. absurd (explain_is_no_drawing words script meaning drawn other);
     }
 
-    explain_left : (fault : Fault) → ExplainFileFails files.gives script fault before after → Leaves files words fault before after
+    explain_left : (fault : Fault) → ExplainFileFails files script fault before after → Leaves files words fault before after
     explain_left (File file) fails = left_by_explain (File file) fails
     explain_left (Script fault) fails = left_by_explain (Script fault) fails
     explain_left (Uncertified fault) fails = left_by_explain (Uncertified fault) fails
@@ -473,7 +473,7 @@ module _ (files : Files) (words : List Text) where
     explain_left Memory fails = left_by_explain Memory fails
     explain_left _ fails = absurd fails.fails
 
-    pub left_of_explain : {T : Type 0} (r : Result T Fault) → IfErr r (λ fault. ExplainFileFails files.gives script fault before after)
+    pub left_of_explain : {T : Type 0} (r : Result T Fault) → IfErr r (λ fault. ExplainFileFails files script fault before after)
         → IfErr r (λ fault. Leaves files words fault before after)
     left_of_explain (Ok x) fails = tt
     left_of_explain (Err fault) fails = explain_left fault fails
@@ -484,7 +484,7 @@ module _ (files : Files) (words : List Text) where
     asks_drawing : AsksDrawing words
     asks_drawing = record { script_file = script; meaning = meaning }
 
-    graph_fault : (fault : Fault) → GraphFileFails files.gives script fault before after → IsFaultOf files words fault
+    graph_fault : (fault : Fault) → GraphFileFails files script fault before after → IsFaultOf files words fault
     graph_fault (File file) fails = inr (inr (inr asks_drawing))
     graph_fault (Script fault) fails = inr (inr (inr asks_drawing))
     graph_fault (Uncertified fault) fails = inr (inr (inr asks_drawing))
@@ -492,12 +492,12 @@ module _ (files : Files) (words : List Text) where
     graph_fault Memory fails = tt
     graph_fault _ fails = absurd fails.fails
 
-    pub faults_of_graph : {T : Type 0} (r : Result T Fault) → IfErr r (λ fault. GraphFileFails files.gives script fault before after)
+    pub faults_of_graph : {T : Type 0} (r : Result T Fault) → IfErr r (λ fault. GraphFileFails files script fault before after)
         → IfErr r (IsFaultOf files words)
     faults_of_graph (Ok x) fails = tt
     faults_of_graph (Err fault) fails = graph_fault fault fails
 
-    left_by_graph : (fault : Fault) → GraphFileFails files.gives script fault before after → Left files words fault before after
+    left_by_graph : (fault : Fault) → GraphFileFails files script fault before after → Left files words fault before after
     left_by_graph fault fails = record {
       kept = λ quiet. absurd (quiet.no_drawing script meaning);
       of_run = λ names other. absurd (graph_is_no_run words script meaning names other);
@@ -505,10 +505,10 @@ module _ (files : Files) (words : List Text) where
       of_drawing = λ others other.
           let same : Some (graph script) ≡ Some (graph others) = sym meaning ∙ other in
           let is : script ≡ others = cc in
-          subst (λ file. GraphFileFails files.gives file fault before after) is fails;
+          subst (λ file. GraphFileFails files file fault before after) is fails;
     }
 
-    graph_left : (fault : Fault) → GraphFileFails files.gives script fault before after → Leaves files words fault before after
+    graph_left : (fault : Fault) → GraphFileFails files script fault before after → Leaves files words fault before after
     graph_left (File file) fails = left_by_graph (File file) fails
     graph_left (Script fault) fails = left_by_graph (Script fault) fails
     graph_left (Uncertified fault) fails = left_by_graph (Uncertified fault) fails
@@ -516,7 +516,7 @@ module _ (files : Files) (words : List Text) where
     graph_left Memory fails = left_by_graph Memory fails
     graph_left _ fails = absurd fails.fails
 
-    pub left_of_graph : {T : Type 0} (r : Result T Fault) → IfErr r (λ fault. GraphFileFails files.gives script fault before after)
+    pub left_of_graph : {T : Type 0} (r : Result T Fault) → IfErr r (λ fault. GraphFileFails files script fault before after)
         → IfErr r (λ fault. Leaves files words fault before after)
     left_of_graph (Ok x) fails = tt
     left_of_graph (Err fault) fails = graph_left fault fails

@@ -1,3 +1,4 @@
+mod FileLaws
 mod AnswerLaws
 mod BatchWordsLaws
 mod CertifyLaws

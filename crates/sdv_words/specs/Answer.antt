@@ -64,49 +64,49 @@ RefusesFrame index argument fault = ⊥
 -- CERTIFICATES
 
 -- the words ask for the certificate of a script, and that of what the file gave was printed
-pub record AnswersCertify (gives : (file text : Text) → Type 0) (words : List Text)
+pub record AnswersCertify (files : Files) (words : List Text)
     (before after : Option (List ℕ)) : Type 0 where
   pub script_file : Text
   pub meaning : meaning_of words ≡ Some (certify script_file)
-  pub certifies : CertifiesFile gives script_file before after
+  pub certifies : CertifiesFile files script_file before after
 
 -- the words ask for the certificate of a script, and a part of that of what the file gave was printed
-pub record AnswersCertifyInPart (gives : (file text : Text) → Type 0) (words : List Text)
+pub record AnswersCertifyInPart (files : Files) (words : List Text)
     (before after : Option (List ℕ)) : Type 0 where
   pub script_file : Text
   pub meaning : meaning_of words ≡ Some (certify script_file)
-  pub certifies : CertifiesFileInPart gives script_file before after
+  pub certifies : CertifiesFileInPart files script_file before after
 
 -- the words ask for the certificate of a script, and of the file is so what the fault says
-pub record RefusesCertify (gives : (file text : Text) → Type 0) (words : List Text) (fault : Fault) : Type 0 where
+pub record RefusesCertify (files : Files) (words : List Text) (fault : Fault) : Type 0 where
   pub script_file : Text
   pub meaning : meaning_of words ≡ Some (certify script_file)
-  pub refuses : UncertifiesFile gives script_file fault
+  pub refuses : UncertifiesFile files script_file fault
 
 -- CHECKS
 
 -- the words ask for a check, it accepts what the files give, and the bound was printed
-pub record AnswersCheck (gives : (file text : Text) → Type 0) (words : List Text)
+pub record AnswersCheck (files : Files) (words : List Text)
     (before after : Option (List ℕ)) : Type 0 where
   pub script_file : Text
   pub certificate_file : Text
   pub meaning : meaning_of words ≡ Some (check script_file certificate_file)
-  pub accepts : AcceptsFiles gives script_file certificate_file before after
+  pub accepts : AcceptsFiles files script_file certificate_file before after
 
 -- the words ask for a check, it accepts what the files give, and a part of the line was printed
-pub record AnswersCheckInPart (gives : (file text : Text) → Type 0) (words : List Text)
+pub record AnswersCheckInPart (files : Files) (words : List Text)
     (before after : Option (List ℕ)) : Type 0 where
   pub script_file : Text
   pub certificate_file : Text
   pub meaning : meaning_of words ≡ Some (check script_file certificate_file)
-  pub accepts : AcceptsFilesInPart gives script_file certificate_file before after
+  pub accepts : AcceptsFilesInPart files script_file certificate_file before after
 
 -- the words ask for a check, and of the files is so what the fault says
-pub record RefusesCheck (gives : (file text : Text) → Type 0) (words : List Text) (fault : Fault) : Type 0 where
+pub record RefusesCheck (files : Files) (words : List Text) (fault : Fault) : Type 0 where
   pub script_file : Text
   pub certificate_file : Text
   pub meaning : meaning_of words ≡ Some (check script_file certificate_file)
-  pub refuses : RefusesFiles gives script_file certificate_file fault
+  pub refuses : RefusesFiles files script_file certificate_file fault
 
 -- RUNS
 
@@ -135,18 +135,18 @@ abbrev pub AsksNoExplanation : List Text → Type 0
 AsksNoExplanation words = (script : Text) → meaning_of words ≢ Some (explain script)
 
 -- the words ask for it, the script has a certificate, and its explanation was printed
-pub record AnswersExplain (gives : (file text : Text) → Type 0) (words : List Text)
+pub record AnswersExplain (files : Files) (words : List Text)
     (before after : Option (List ℕ)) : Type 0 where
   pub script_file : Text
   pub meaning : meaning_of words ≡ Some (explain script_file)
-  pub explains : ExplainsFile gives script_file before after
+  pub explains : ExplainsFile files script_file before after
 
 -- the words ask for it, and the output failed
-pub record AnswersExplainInPart (gives : (file text : Text) → Type 0) (words : List Text)
+pub record AnswersExplainInPart (files : Files) (words : List Text)
     (before after : Option (List ℕ)) : Type 0 where
   pub script_file : Text
   pub meaning : meaning_of words ≡ Some (explain script_file)
-  pub fails : ExplainFileFails gives script_file Output before after
+  pub fails : ExplainFileFails files script_file Output before after
 
 -- DRAWINGS
 
@@ -159,40 +159,40 @@ abbrev pub AsksNoDrawing : List Text → Type 0
 AsksNoDrawing words = (script : Text) → meaning_of words ≢ Some (graph script)
 
 -- the words ask for it, the script has a certificate, and its drawing was printed
-pub record AnswersGraph (gives : (file text : Text) → Type 0) (words : List Text)
+pub record AnswersGraph (files : Files) (words : List Text)
     (before after : Option (List ℕ)) : Type 0 where
   pub script_file : Text
   pub meaning : meaning_of words ≡ Some (graph script_file)
-  pub draws : DrawsFile gives script_file before after
+  pub draws : DrawsFile files script_file before after
 
 -- the words ask for it, and the output failed
-pub record AnswersGraphInPart (gives : (file text : Text) → Type 0) (words : List Text)
+pub record AnswersGraphInPart (files : Files) (words : List Text)
     (before after : Option (List ℕ)) : Type 0 where
   pub script_file : Text
   pub meaning : meaning_of words ≡ Some (graph script_file)
-  pub fails : GraphFileFails gives script_file Output before after
+  pub fails : GraphFileFails files script_file Output before after
 
 -- PRINTED SCRIPTS
 
 -- the words ask for the tokens of a script, and those of what the file gave were printed
-pub record AnswersPrint (gives : (file text : Text) → Type 0) (words : List Text)
+pub record AnswersPrint (files : Files) (words : List Text)
     (before after : Option (List ℕ)) : Type 0 where
   pub script_file : Text
   pub meaning : meaning_of words ≡ Some (print script_file)
-  pub prints : PrintsFile gives script_file before after
+  pub prints : PrintsFile files script_file before after
 
 -- the words ask for them, and a part of those of what the file gave was printed
-pub record AnswersPrintInPart (gives : (file text : Text) → Type 0) (words : List Text)
+pub record AnswersPrintInPart (files : Files) (words : List Text)
     (before after : Option (List ℕ)) : Type 0 where
   pub script_file : Text
   pub meaning : meaning_of words ≡ Some (print script_file)
-  pub prints : PrintsFileInPart gives script_file before after
+  pub prints : PrintsFileInPart files script_file before after
 
 -- the words ask for them, and of the file is so what the fault says
-pub record RefusesPrint (gives : (file text : Text) → Type 0) (words : List Text) (fault : Fault) : Type 0 where
+pub record RefusesPrint (files : Files) (words : List Text) (fault : Fault) : Type 0 where
   pub script_file : Text
   pub meaning : meaning_of words ≡ Some (print script_file)
-  pub refuses : UnprintsFile gives script_file fault
+  pub refuses : UnprintsFile files script_file fault
 
 -- BATCHES
 
@@ -238,27 +238,27 @@ pub record AsksNothing (words : List Text) : Type 0 where
 
 abbrev pub Answers : Files → List Text → (before after : Option (List ℕ)) → Type 0
 Answers files words before after =
-    AnswersFrame words before after ⊎ (AnswersCertify files.gives words before after
-    ⊎ (AnswersCheck files.gives words before after
+    AnswersFrame words before after ⊎ (AnswersCertify files words before after
+    ⊎ (AnswersCheck files words before after
     ⊎ (AnswersRun files words before after
-    ⊎ (AnswersBatch words before after ⊎ (AnswersExplain files.gives words before after
-    ⊎ (AnswersGraph files.gives words before after
-    ⊎ (AnswersPrint files.gives words before after ⊎ PrintsPage words before after)))))))
+    ⊎ (AnswersBatch words before after ⊎ (AnswersExplain files words before after
+    ⊎ (AnswersGraph files words before after
+    ⊎ (AnswersPrint files words before after ⊎ PrintsPage words before after)))))))
 
 -- what was asked for was printed in part, and not all of it
 abbrev pub AnswersInPart : Files → List Text → (before after : Option (List ℕ)) → Type 0
 AnswersInPart files words before after =
-    AnswersFrameInPart words before after ⊎ (AnswersCertifyInPart files.gives words before after
-    ⊎ (AnswersCheckInPart files.gives words before after
-    ⊎ (AnswersBatchInPart words before after ⊎ (AnswersExplainInPart files.gives words before after
-    ⊎ (AnswersGraphInPart files.gives words before after ⊎ (AnswersPrintInPart files.gives words before after
+    AnswersFrameInPart words before after ⊎ (AnswersCertifyInPart files words before after
+    ⊎ (AnswersCheckInPart files words before after
+    ⊎ (AnswersBatchInPart words before after ⊎ (AnswersExplainInPart files words before after
+    ⊎ (AnswersGraphInPart files words before after ⊎ (AnswersPrintInPart files words before after
     ⊎ PrintsPageInPart words before after))))))
 
 -- the words ask for a certificate, a check or a script's tokens, and of the files is so what the fault says
 abbrev pub RefusesScript : Files → List Text → Fault → Type 0
 RefusesScript files words fault =
-    RefusesCertify files.gives words fault
-    ⊎ (RefusesCheck files.gives words fault ⊎ RefusesPrint files.gives words fault)
+    RefusesCertify files words fault
+    ⊎ (RefusesCheck files words fault ⊎ RefusesPrint files words fault)
 
 -- the words ask for an explanation or for a drawing
 abbrev pub AsksTold : List Text → Type 0
@@ -286,9 +286,9 @@ pub record Left (files : Files) (words : List Text) (fault : Fault) (before afte
   -- and of a run it is so what the fault says
   pub of_run : (names : RunNames) → meaning_of words ≡ Some (run names) → RunFails files names fault before after
   pub of_explanation : (script : Text) → meaning_of words ≡ Some (explain script)
-      → ExplainFileFails files.gives script fault before after
+      → ExplainFileFails files script fault before after
   pub of_drawing : (script : Text) → meaning_of words ≡ Some (graph script)
-      → GraphFileFails files.gives script fault before after
+      → GraphFileFails files script fault before after
 
 -- what is known of standard output after a fault
 abbrev pub Leaves : Files → List Text → Fault → (before after : Option (List ℕ)) → Type 0

@@ -14,6 +14,7 @@ use Rattle.sdv_check.specs.Verified.{IsGraphOfText, IsNoScript}
 use Rattle.sdv_certify.specs.declared.fault.CertifyFault.{CertifyFault}
 use Rattle.sdv_certify.specs.declared.fault.CertifyFault.TheVariants.{Memory as NoMemory}
 use Rattle.sdv_certify.specs.Assembled.{CertificateOf, VersionFor, RefusedFor}
+use Rattle.sdv_faults.specs.Files.{IsNoText, Files}
 use Rattle.sdv_faults.specs.declared.fault.Fault.{Fault}
 use Rattle.sdv_faults.specs.declared.fault.Fault.TheVariants.{File, Script, Uncertified, Output, Memory}
 
@@ -64,27 +65,27 @@ Uncertifies script fault = ⊥
 -- FILES, where a file of a name may give a text
 
 -- the file gave a text whose certificate was printed
-pub record CertifiesFile (gives : (file text : Text) → Type 0) (script_file : Text)
+pub record CertifiesFile (files : Files) (script_file : Text)
     (before after : Option (List ℕ)) : Type 0 where
   pub script : Text
-  pub given : gives script_file script
+  pub given : files.gives script_file script
   pub certifies : Certifies script before after
 
 -- the file gave a text, and of its certificate a part was printed
-pub record CertifiesFileInPart (gives : (file text : Text) → Type 0) (script_file : Text)
+pub record CertifiesFileInPart (files : Files) (script_file : Text)
     (before after : Option (List ℕ)) : Type 0 where
   pub script : Text
-  pub given : gives script_file script
+  pub given : files.gives script_file script
   pub certifies : CertifiesInPart script before after
 
 -- the file gave a text of which is so what the fault says
-pub record UncertifiesText (gives : (file text : Text) → Type 0) (script_file : Text) (fault : Fault) : Type 0 where
+pub record UncertifiesText (files : Files) (script_file : Text) (fault : Fault) : Type 0 where
   pub script : Text
-  pub given : gives script_file script
+  pub given : files.gives script_file script
   pub refuses : Uncertifies script fault
 
 -- what a fault says of the file
-abbrev pub UncertifiesFile : (gives : (file text : Text) → Type 0) → (script_file : Text) → Fault → Type 0
-UncertifiesFile gives script_file (File file) = file.now ≡ script_file
-UncertifiesFile gives script_file Memory = Unit {0}
-UncertifiesFile gives script_file fault = UncertifiesText gives script_file fault
+abbrev pub UncertifiesFile : Files → (script_file : Text) → Fault → Type 0
+UncertifiesFile files script_file (File file) = IsNoText files script_file file.now
+UncertifiesFile files script_file Memory = Unit {0}
+UncertifiesFile files script_file fault = UncertifiesText files script_file fault

@@ -9,6 +9,7 @@ use Rattle.sdv_explain.specs.declared.explaining.Explanation.{Explanation}
 use Rattle.sdv_explain.specs.declared.explaining.Refusal.{Refusal}
 use Rattle.sdv_explain.specs.declared.fault.ExplainFault.TheVariants as explains
 use Rattle.sdv_explain.specs.Explained.{Explains, Unexplained}
+use Rattle.sdv_faults.specs.Files.{IsNoText, Files}
 use Rattle.sdv_faults.specs.declared.fault.Fault.{Fault}
 use Rattle.sdv_faults.specs.declared.fault.Fault.TheVariants.{File, Script, Uncertified, Output, Memory}
 
@@ -50,22 +51,23 @@ ExplainFails script fault before after = ⊥
 -- FILES, where a file of a name may give a text
 
 -- the file gave the text of a script that has a certificate, and its explanation was printed
-pub record ExplainsFile (gives : (file text : Text) → Type 0) (script_file : Text)
+pub record ExplainsFile (files : Files) (script_file : Text)
     (before after : Option (List ℕ)) : Type 0 where
   pub script : Text
-  pub given : gives script_file script
+  pub given : files.gives script_file script
   pub prints : PrintsExplanation script None before after
 
 -- the file gave a text of which is so what the fault says
-pub record ExplainTextFails (gives : (file text : Text) → Type 0) (script_file : Text) (fault : Fault)
+pub record ExplainTextFails (files : Files) (script_file : Text) (fault : Fault)
     (before after : Option (List ℕ)) : Type 0 where
   pub script : Text
-  pub given : gives script_file script
+  pub given : files.gives script_file script
   pub fails : ExplainFails script fault before after
 
 -- what a fault says of the file, and of what was printed
-abbrev pub ExplainFileFails : (gives : (file text : Text) → Type 0) → (script_file : Text) → Fault
+abbrev pub ExplainFileFails : Files → (script_file : Text) → Fault
     → (before after : Option (List ℕ)) → Type 0
-ExplainFileFails gives script_file (File file) before after = (file.now ≡ script_file) × Keeps before after
-ExplainFileFails gives script_file Memory before after = Keeps before after
-ExplainFileFails gives script_file fault before after = ExplainTextFails gives script_file fault before after
+ExplainFileFails files script_file (File file) before after =
+    IsNoText files script_file file.now × Keeps before after
+ExplainFileFails files script_file Memory before after = Keeps before after
+ExplainFileFails files script_file fault before after = ExplainTextFails files script_file fault before after

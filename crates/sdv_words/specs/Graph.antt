@@ -7,6 +7,7 @@ use Rattle.sdv_certify.specs.declared.fault.CertifyFault.{CertifyFault}
 use Rattle.sdv_check.specs.Verified.{IsNoScript}
 use Rattle.sdv_drawing.specs.declared.drawing.Drawing.{Drawing}
 use Rattle.sdv_drawing.specs.Drawn.{Draws}
+use Rattle.sdv_faults.specs.Files.{IsNoText, Files}
 use Rattle.sdv_faults.specs.declared.fault.Fault.{Fault}
 use Rattle.sdv_faults.specs.declared.fault.Fault.TheVariants.{File, Script, Uncertified, Output, Memory}
 
@@ -36,22 +37,23 @@ GraphFails script fault before after = ⊥
 -- FILES, where a file of a name may give a text
 
 -- the file gave the text of a script that has a certificate, and its drawing was printed
-pub record DrawsFile (gives : (file text : Text) → Type 0) (script_file : Text)
+pub record DrawsFile (files : Files) (script_file : Text)
     (before after : Option (List ℕ)) : Type 0 where
   pub script : Text
-  pub given : gives script_file script
+  pub given : files.gives script_file script
   pub prints : PrintsDrawing script None before after
 
 -- the file gave a text of which is so what the fault says
-pub record GraphTextFails (gives : (file text : Text) → Type 0) (script_file : Text) (fault : Fault)
+pub record GraphTextFails (files : Files) (script_file : Text) (fault : Fault)
     (before after : Option (List ℕ)) : Type 0 where
   pub script : Text
-  pub given : gives script_file script
+  pub given : files.gives script_file script
   pub fails : GraphFails script fault before after
 
 -- what a fault says of the file, and of what was printed
-abbrev pub GraphFileFails : (gives : (file text : Text) → Type 0) → (script_file : Text) → Fault
+abbrev pub GraphFileFails : Files → (script_file : Text) → Fault
     → (before after : Option (List ℕ)) → Type 0
-GraphFileFails gives script_file (File file) before after = (file.now ≡ script_file) × Keeps before after
-GraphFileFails gives script_file Memory before after = Keeps before after
-GraphFileFails gives script_file fault before after = GraphTextFails gives script_file fault before after
+GraphFileFails files script_file (File file) before after =
+    IsNoText files script_file file.now × Keeps before after
+GraphFileFails files script_file Memory before after = Keeps before after
+GraphFileFails files script_file fault before after = GraphTextFails files script_file fault before after

@@ -6,6 +6,7 @@ use Rattle.sdv_text.specs.Written.{AppendsPart}
 use Rattle.sdv_script.specs.Printed.{printed}
 use Rattle.sdv_script.specs.Script.{IsScript, Parsed}
 use Rattle.sdv_check.specs.Verified.{IsNoScript}
+use Rattle.sdv_faults.specs.Files.{IsNoText, Files}
 use Rattle.sdv_faults.specs.declared.fault.Fault.{Fault}
 use Rattle.sdv_faults.specs.declared.fault.Fault.TheVariants.{File, Script, Output, Memory}
 
@@ -35,27 +36,27 @@ Unprints script fault = ⊥
 -- FILES, where a file of a name may give a text
 
 -- the file gave a script whose tokens were printed
-pub record PrintsFile (gives : (file text : Text) → Type 0) (script_file : Text)
+pub record PrintsFile (files : Files) (script_file : Text)
     (before after : Option (List ℕ)) : Type 0 where
   pub script : Text
-  pub given : gives script_file script
+  pub given : files.gives script_file script
   pub prints : PrintsScript script before after
 
 -- the file gave a script, and a part of its tokens was printed
-pub record PrintsFileInPart (gives : (file text : Text) → Type 0) (script_file : Text)
+pub record PrintsFileInPart (files : Files) (script_file : Text)
     (before after : Option (List ℕ)) : Type 0 where
   pub script : Text
-  pub given : gives script_file script
+  pub given : files.gives script_file script
   pub prints : PrintsScriptInPart script before after
 
 -- the file gave a text of which is so what the fault says
-pub record UnprintsText (gives : (file text : Text) → Type 0) (script_file : Text) (fault : Fault) : Type 0 where
+pub record UnprintsText (files : Files) (script_file : Text) (fault : Fault) : Type 0 where
   pub script : Text
-  pub given : gives script_file script
+  pub given : files.gives script_file script
   pub refuses : Unprints script fault
 
 -- what a fault says of the file
-abbrev pub UnprintsFile : (gives : (file text : Text) → Type 0) → (script_file : Text) → Fault → Type 0
-UnprintsFile gives script_file (File file) = file.now ≡ script_file
-UnprintsFile gives script_file Memory = Unit {0}
-UnprintsFile gives script_file fault = UnprintsText gives script_file fault
+abbrev pub UnprintsFile : Files → (script_file : Text) → Fault → Type 0
+UnprintsFile files script_file (File file) = IsNoText files script_file file.now
+UnprintsFile files script_file Memory = Unit {0}
+UnprintsFile files script_file fault = UnprintsText files script_file fault

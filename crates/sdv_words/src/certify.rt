@@ -24,12 +24,12 @@ pub fn certify_file<'a, S: Store, O: Write>(
     out: &mut O,
 ) -> Result<(), Fault<'a>>
     ensures certified { OnOk result
-        (CertifiesFile (S.gives files.now) script.entry.now (O.contents out.old) (O.contents out.new)) }
-    ensures refused { IfErr result (UncertifiesFile (S.gives files.now) script.entry.now) }
+        (CertifiesFile (S.known files.now) script.entry.now (O.contents out.old) (O.contents out.new)) }
+    ensures refused { IfErr result (UncertifiesFile (S.known files.now) script.entry.now) }
     ensures quiet { IfErr result (λ fault. fault ≢ Fault.Output
         → Keeps (O.contents out.old) (O.contents out.new)) }
     ensures part { IfErr result (λ fault. fault ≡ Fault.Output
-        → CertifiesFileInPart (S.gives files.now) script.entry.now (O.contents out.old) (O.contents out.new)) }
+        → CertifiesFileInPart (S.known files.now) script.entry.now (O.contents out.old) (O.contents out.new)) }
 {
     let script = text_in(alloc, files, script)?;
     certify_text(alloc, script.as_str(), out)

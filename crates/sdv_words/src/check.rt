@@ -29,13 +29,13 @@ pub fn check_files<'a, S: Store, O: Write>(
     certificate: &'a str,
     out: &mut O,
 ) -> Result<(), Fault<'a>>
-    ensures accepted { OnOk result (AcceptsFiles (S.gives files.now) script.entry.now certificate.entry.now
+    ensures accepted { OnOk result (AcceptsFiles (S.known files.now) script.entry.now certificate.entry.now
         (O.contents out.old) (O.contents out.new)) }
     ensures refused { IfErr result
-        (RefusesFiles (S.gives files.now) script.entry.now certificate.entry.now) }
+        (RefusesFiles (S.known files.now) script.entry.now certificate.entry.now) }
     ensures quiet { IfErr result (λ fault. fault ≢ Fault.Output
         → Keeps (O.contents out.old) (O.contents out.new)) }
-    ensures part { IfErr result (λ fault. fault ≡ Fault.Output → AcceptsFilesInPart (S.gives files.now)
+    ensures part { IfErr result (λ fault. fault ≡ Fault.Output → AcceptsFilesInPart (S.known files.now)
         script.entry.now certificate.entry.now (O.contents out.old) (O.contents out.new)) }
 {
     let script = text_in(alloc, files, script)?;

@@ -22,9 +22,9 @@ pub fn explain_file<'a, S: Store, O: Write>(
     out: &mut O,
 ) -> Result<(), Fault<'a>>
     ensures explained { OnOk result
-        (ExplainsFile (S.gives files.now) script.entry.now (O.contents out.old) (O.contents out.new)) }
+        (ExplainsFile (S.known files.now) script.entry.now (O.contents out.old) (O.contents out.new)) }
     ensures fails { IfErr result (λ fault.
-        ExplainFileFails (S.gives files.now) script.entry.now fault (O.contents out.old) (O.contents out.new)) }
+        ExplainFileFails (S.known files.now) script.entry.now fault (O.contents out.old) (O.contents out.new)) }
 {
     let script = text_in(alloc, files, script)?;
     explain_text(alloc, script.as_str(), out)

@@ -22,9 +22,9 @@ pub fn graph_file<'a, S: Store, O: Write>(
     out: &mut O,
 ) -> Result<(), Fault<'a>>
     ensures drawn { OnOk result
-        (DrawsFile (S.gives files.now) script.entry.now (O.contents out.old) (O.contents out.new)) }
+        (DrawsFile (S.known files.now) script.entry.now (O.contents out.old) (O.contents out.new)) }
     ensures fails { IfErr result (λ fault.
-        GraphFileFails (S.gives files.now) script.entry.now fault (O.contents out.old) (O.contents out.new)) }
+        GraphFileFails (S.known files.now) script.entry.now fault (O.contents out.old) (O.contents out.new)) }
 {
     let script = text_in(alloc, files, script)?;
     graph_text(alloc, script.as_str(), out)

@@ -22,12 +22,12 @@ pub fn print_file<'a, S: Store, O: Write>(
     out: &mut O,
 ) -> Result<(), Fault<'a>>
     ensures printed { OnOk result
-        (PrintsFile (S.gives files.now) script.entry.now (O.contents out.old) (O.contents out.new)) }
-    ensures refused { IfErr result (UnprintsFile (S.gives files.now) script.entry.now) }
+        (PrintsFile (S.known files.now) script.entry.now (O.contents out.old) (O.contents out.new)) }
+    ensures refused { IfErr result (UnprintsFile (S.known files.now) script.entry.now) }
     ensures quiet { IfErr result (λ fault. fault ≢ Fault.Output
         → Keeps (O.contents out.old) (O.contents out.new)) }
     ensures part { IfErr result (λ fault. fault ≡ Fault.Output
-        → PrintsFileInPart (S.gives files.now) script.entry.now (O.contents out.old) (O.contents out.new)) }
+        → PrintsFileInPart (S.known files.now) script.entry.now (O.contents out.old) (O.contents out.new)) }
 {
     let script = text_in(alloc, files, script)?;
     print_text(alloc, script.as_str(), out)

@@ -4,7 +4,7 @@ ghost use Rattle.std.specs.Io.KnownBytes.{Keeps};
 ghost use Rattle.clap.specs.Walk.{texts};
 ghost use Rattle.sdv_words.specs.Answer.{Answers, AsksFrame, AsksNothing, AsksQuiet, EndsBy, IsFaultOf, Leaves, PrintsFrame};
 ghost use Rattle.sdv_words.specs.Answer.{PrintsFrameInPart, RefusesFrame};
-ghost use Rattle.sdv_faults.specs.Files.{any_files, store_of};
+ghost use Rattle.sdv_faults.specs.Files.{any_files};
 ghost use Rattle.sdv_faults.specs.Fault.{status_of};
 ghost use Rattle.sdv_words.specs.CommandWords.{Writes};
 ghost use Rattle.sdv_words.specs.Page.{page_of};
@@ -28,6 +28,9 @@ use std::rt::Files;
 /// Runs the program on the words that it is called with, without its own name, and gives the exit status: 0 where the
 /// answer was printed or the run ended in `done`, 1 where what was asked for is refused or the run did not end so, 2 where
 /// the words are no line of the program, a file cannot be used or standard output failed, 3 where memory ran out.
+///
+/// Its clauses are those of [`answer`] over the files of the machine, of which nothing is claimed: they say that the answer
+/// is one to some texts that the named files may have given, and say nothing of what files took.
 pub fn program<R: Files + AllocGlobal, O: Write, E: Write>(
     rt: &R,
     words: &[&str],
@@ -58,7 +61,8 @@ pub fn program<R: Files + AllocGlobal, O: Write, E: Write>(
 }
 
 /// Answers a line of the program from these files. A line that is one word and asks for help or for the version is answered by
-/// that page.
+/// that page. The clauses say what the files gave and took, by their names, and of a file that cannot be used what was
+/// tried and failed.
 pub fn answer<'a, S: Store, O: Write>(
     alloc: Global,
     files: &S,
@@ -66,11 +70,11 @@ pub fn answer<'a, S: Store, O: Write>(
     out: &mut O,
 ) -> Result<(), Fault<'a>>
     ensures ok { OnOk result
-        (Answers (store_of S.gives S.stored S.received files.now) (texts words.now)
+        (Answers (S.known files.now) (texts words.now)
         (O.contents out.old) (O.contents out.new)) }
-    ensures faults { IfErr result (IsFaultOf (store_of S.gives S.stored S.received files.now) (texts words.now)) }
+    ensures faults { IfErr result (IsFaultOf (S.known files.now) (texts words.now)) }
     ensures left { IfErr result (λ fault.
-        Leaves (store_of S.gives S.stored S.received files.now) (texts words.now) fault
+        Leaves (S.known files.now) (texts words.now) fault
         (O.contents out.old) (O.contents out.new)) }
 {
     match page_of(words) {
@@ -88,11 +92,11 @@ fn answer_line<'a, S: Store, O: Write>(
 ) -> Result<(), Fault<'a>>
     requires { page_of (texts words.now) ≡ None }
     ensures ok { OnOk result
-        (Answers (store_of S.gives S.stored S.received files.now) (texts words.now)
+        (Answers (S.known files.now) (texts words.now)
         (O.contents out.old) (O.contents out.new)) }
-    ensures faults { IfErr result (IsFaultOf (store_of S.gives S.stored S.received files.now) (texts words.now)) }
+    ensures faults { IfErr result (IsFaultOf (S.known files.now) (texts words.now)) }
     ensures left { IfErr result (λ fault.
-        Leaves (store_of S.gives S.stored S.received files.now) (texts words.now) fault
+        Leaves (S.known files.now) (texts words.now) fault
         (O.contents out.old) (O.contents out.new)) }
 {
     match line_of(alloc, words)? {

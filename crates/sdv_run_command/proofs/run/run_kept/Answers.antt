@@ -1,15 +1,16 @@
-use Rattle.std.proofs.Common.{IfErr, subst, sym}
+use Rattle.std.proofs.Common.{IfErr, refl, subst, sym}
+use Rattle.sdv_file_image.specs.FileImages.{shown_of}
 use Rattle.sdv_line.specs.CommandLine.{names_of}
-use Rattle.sdv_faults.specs.Files.{Files, store_of}
+use Rattle.sdv_faults.specs.Files.{Files, SomeCallFailed}
 use Rattle.sdv_run_command.specs.Run.{FailsToKeep}
 use Rattle.sdv_run_command.specs.RunImages.{IsOfName, MayHaveFailed, image_given}
 use Rattle.sdv_run_command.specs.declared.given.GivenImage.TheVariants.{New, File}
-use Rattle.sdv_run_command.proofs.RunLaws.{never_unread, refusal_unkept}
+use Rattle.sdv_run_command.proofs.RunLaws.{close_fails, loses_image, never_unread, refusal_unkept}
 use Rattle.sdv_run_command.proofs.run.run_kept.Goals as goal
 
 pub returns-in_err-outcome-in-New-clause-fails : goal.returns-in_err-outcome-in-New-clause-fails
 returns-in_err-outcome-in-New-clause-fails g c =
-    let files : Files = store_of g.S.Store.gives g.S.Store.stored g.S.Store.received c.args.files.now in
+    let files : Files = g.S.Store.known c.args.files.now in
     subst (λ image. IfErr c.from_residual.result (λ fault. FailsToKeep files (names_of c.args.names.now) c.args.given.now
     (image_given g.S.Image.BlockFile.byte_count g.S.Image.BlockFile.blocks image) fault
     (g.T.Write.contents c.args.trace.now) (g.T.Write.contents c.run_given.new.trace))) (sym c.in-New.is)
@@ -20,7 +21,7 @@ returns-in_err-outcome-in-New-clause-fails g c =
 
 pub returns-in_err-end-in-File-clause-fails : goal.returns-in_err-end-in-File-clause-fails
 returns-in_err-end-in-File-clause-fails g c =
-    let files : Files = store_of g.S.Store.gives g.S.Store.stored g.S.Store.received c.args.files.now in
+    let files : Files = g.S.Store.known c.args.files.now in
     let of_name : IsOfName g.S.Image.BlockFile.failed files c.args.names.now.image.now (File c.in-File.file) =
     subst (λ image. IsOfName g.S.Image.BlockFile.failed files c.args.names.now.image.now image) c.in-File.is c.requires in
     subst (λ image. IfErr c.from_residual-in_err-end-in-File.result (λ fault. FailsToKeep files (names_of c.args.names.now) c.args.given.now
@@ -28,6 +29,28 @@ returns-in_err-end-in-File-clause-fails g c =
     (g.T.Write.contents c.args.trace.now) (g.T.Write.contents c.run_given-in-File.new.trace))) (sym c.in-File.is)
     (refusal_unkept files (names_of c.args.names.now) c.args.given.now
     (image_given g.S.Image.BlockFile.byte_count g.S.Image.BlockFile.blocks (File c.in-File.file)) _ _
-    (MayHaveFailed g.S.Image.BlockFile.failed c.in-File.file) (λ unread. (of_name.0, of_name.1 unread)) c.in_err-end-in-File.field-0.0
+    (MayHaveFailed g.S.Image.BlockFile.failed c.in-File.file) (λ unread. (of_name.0, of_name.1 (c.in-File.file, unread.0, unread.1))) c.in_err-end-in-File.field-0.0
     c.in_err-end-in-File.ensures.refused c.in_err-end-in-File.ensures.quiet c.from_residual-in_err-end-in-File.result
     c.from_residual-in_err-end-in-File.ensures.1)
+
+pub returns-in_err-close_image-in-File-clause-fails : goal.returns-in_err-close_image-in-File-clause-fails
+returns-in_err-close_image-in-File-clause-fails g c =
+    let files : Files = g.S.Store.known c.args.files.now in
+    let name = c.args.names.now.image in
+    let of_name : IsOfName g.S.Image.BlockFile.failed files name.now (File c.in-File.file) =
+    subst (λ image. IsOfName g.S.Image.BlockFile.failed files name.now image) c.in-File.is c.requires in
+    subst (λ image. IfErr c.from_residual-in_err-close_image-in-File.result (λ fault. FailsToKeep files (names_of c.args.names.now) c.args.given.now
+    (image_given g.S.Image.BlockFile.byte_count g.S.Image.BlockFile.blocks image) fault
+    (g.T.Write.contents c.args.trace.now) (g.T.Write.contents c.run_given-in-File.new.trace))) (sym c.in-File.is)
+    (close_fails files (names_of c.args.names.now) c.args.given.now
+    (image_given g.S.Image.BlockFile.byte_count g.S.Image.BlockFile.blocks (File c.in-File.file))
+    (g.T.Write.contents c.args.trace.now) (g.T.Write.contents c.run_given-in-File.new.trace) name refl (record {
+      blocks' = shown_of c.in_ok-end-in-File.field-0.image;
+      result = c.in_ok-end-in-File.field-0.end;
+      out = g.O.Write.contents c.args.out.now;
+      out' = g.O.Write.contents c.run_given-in-File.new.out;
+      run = c.in_ok-end-in-File.ensures.ran;
+    })
+    (loses_image files name.now (SomeCallFailed g.S.Image.BlockFile.failed) of_name.0 of_name.1 c.in_err-close_image-in-File.ensures.lost)
+    c.in_err-close_image-in-File.field-0.0 c.in_err-close_image-in-File.ensures.refused
+    c.from_residual-in_err-close_image-in-File.result c.from_residual-in_err-close_image-in-File.ensures.1)
