@@ -1,7 +1,9 @@
 -- The clauses of a point, from what is asked of its shapes in one pass.
-use Rattle.std.proofs.Common.{◌≡◌, ℕ, ◌+◌, ◌<◌, List, length, take, get_or, refl, sym, subst, Bool, true, false, IsTrue, ◌↔◌, Some, inl, inr}
+use Rattle.std.proofs.Common.{◌≡◌, ℕ, ◌+◌, ◌<◌, List, length, take, get_or, refl, sym, ap, ◌∙◌, subst, Bool, true, false, IsTrue, ◌↔◌, Option, Some, None, inl, inr}
 use Rattle.std.specs.Prelude.{slice_get, map}
 use Rattle.std.specs.Borrow.{Bor}
+use Rattle.std.specs.Slice.{IsItemAt}
+use Rattle.std.proofs.lemmas.Option.{slice_get_read}
 use Rattle.sdv_card.specs.declared.event.Seen.{Seen}
 use Rattle.sdv_graph.specs.declared.graph.Case.{Case as CodeCase}
 use Rattle.sdv_graph.specs.Graph.{seen_case}
@@ -41,6 +43,13 @@ each_more P xs i d h n e x m =
     elim (May-push_cases (take i xs) (get_or xs i d) x (subst (λ v. May v x) (take_more xs i d h) m)) [ inl k ↦ n x k | inr f ↦ subst P f e ]
 
 -- RULES
+
+-- the item that `get` lends
+pub item_there : {X : Type 0} (xs : List X) (i : ℕ) (r : Option (Bor X)) (b : Bor X) → IsItemAt xs i r → r ≡ Some b → slice_get xs i ≡ Some b.now
+item_there xs i None b h e = absurd (cc)
+item_there xs i (Some c) b h e =
+    let same : c ≡ b = cc in
+    slice_get_read xs (length xs) i c.now refl h.3.0 h.1 ∙ ap (λ (x : Bor _). Some x.now) same
 
 -- rules of an edge whose target has facts
 pub rules_there : (r : Rules) (ps : List PointFacts) (place : Point) (p q : PointFacts) (pass : Pass) (t : Target) (s : Shape) (ns : Numbers) (b : Bool)
