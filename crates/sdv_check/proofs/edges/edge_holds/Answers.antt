@@ -1,5 +1,3 @@
-use Rattle.std.proofs.Common.{◌≡◌, rules, Some}
-use Rattle.std.specs.Prelude.{slice_get}
 use Rattle.sdv_facts.proofs.SharedLaws.{seen_there}
 use Rattle.sdv_check.specs.Asked.{all_points, there_in, here, place_at, pass_of}
 use Rattle.sdv_check.proofs.PointLaws.{rules_there, item_there}
