@@ -811,6 +811,7 @@ CMD12   00000000 -> 00000b00  (sendingdata)
 CMD24   000003e9 -> 00000900  (transfer)
 CMD13   RCA<<16  -> 00000d00  (receivingdata)
 CMD7    00000000 -> (none)  (transfer)
+CMD7    00000000 -> 00000900  (transfer)
 CMD0    00000000 -> (none)  (transfer)
 =
 CMD0 00000000 -
@@ -854,6 +855,7 @@ CMD12 00000000 R1 00000b00
 CMD24 000003e9 R1 00000900
 CMD13 12340000 R1 00000d00
 CMD7 00000000 -
+CMD7 00000000 timeout
 LINES 1
 CMD0 00000000 -
 =
@@ -874,6 +876,7 @@ CMD12 was sent by the controller: its answer is not in the capture, and a status
 put in: IN 1 ok for any number of blocks, because a later command shows the phase (line 35)
 put in: OUT 1 ok, because a later command shows the phase (line 38)
 put in: OUT 1 ok for any number of blocks, because a later command shows the phase (line 40)
+CMD7 with address 0 stands as not answered (line 47)
 END
 
 # A CMD41 behind a CMD55 that does not show APP_CMD stays, and so does a plain CMD51. An echo that is no echo stays none.
