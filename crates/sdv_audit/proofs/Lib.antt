@@ -1,1 +1,4 @@
 pub mod Printed
+pub mod ShapeSets
+pub mod Sound
+pub mod Audits

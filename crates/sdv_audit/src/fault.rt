@@ -1,5 +1,9 @@
-//! Why a text is no line of a trace.
+//! Why a text is no line of a trace, and why an audit ends early.
 
+ghost use Rattle.std.specs.Prelude.{◌≡◌};
+ghost use Rattle.sdv_audit.specs.declared.fault.AuditFault.TheVariants.{Memory};
+
+use std::alloc::{AllocError, AllocFailed};
 use thiserror::Error;
 
 /// Why a text is no line of a trace: the first fault from the left.
@@ -26,4 +30,31 @@ pub enum LineFault {
     /// The data lines are not 1, 4 or 8.
     #[error("trace fault Lines")]
     Lines,
+}
+
+/// Why an audit ends before its trace does.
+#[derive(Clone, Copy, Debug, PartialEq, Eq, Error)]
+pub enum AuditFault {
+    /// Memory ran out.
+    #[error("out of memory")]
+    Memory,
+    /// A card could be in more shapes than an audit follows.
+    #[error("too many shapes")]
+    Room,
+}
+
+impl From<AllocError> for AuditFault {
+    ghost from_gives = { λ _ e. e ≡ Memory };
+
+    fn from(_e: AllocError) -> AuditFault {
+        AuditFault::Memory
+    }
+}
+
+impl<T: Drop> From<AllocFailed<T>> for AuditFault {
+    ghost from_gives = { λ _ e. e ≡ Memory };
+
+    fn from(_e: AllocFailed<T>) -> AuditFault {
+        AuditFault::Memory
+    }
 }

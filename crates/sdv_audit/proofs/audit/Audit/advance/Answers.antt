@@ -1,0 +1,19 @@
+use Rattle.std.proofs.Common.{◌≡◌, subst, sym, ◌∙◌, ◌∷◌, true}
+use Rattle.sdv_audit.specs.Audited.{is_empty}
+use Rattle.sdv_audit.proofs.Audits.{one_more, none_left, left_empty}
+use Rattle.sdv_audit.proofs.audit.Audit.advance.Goals as goal
+
+pub returns-clause-stands : goal.returns-clause-stands
+returns-clause-stands c past s =
+    let more = one_more c.args.self.now.kind c.args.self.now.known c.after_line-self.result c.args.self.now.shapes.items c.in_ok-shapes.shapes.items
+    c.turn-turn.result c.args.told.now past s.known s.covers c.turn-turn.ensures c.after_line-self.ensures c.in_ok-shapes.ensures in
+    record { known = more.known_is; covers = more.covers }
+
+pub returns-clause-unanswered : goal.returns-clause-unanswered
+returns-clause-unanswered c e past s =
+    let more = one_more c.args.self.now.kind c.args.self.now.known c.after_line-self.result c.args.self.now.shapes.items c.in_ok-shapes.shapes.items
+    c.turn-turn.result c.args.told.now past s.known s.covers c.turn-turn.ensures c.after_line-self.ensures c.in_ok-shapes.ensures in
+    none_left c.args.self.now.kind (c.args.told.now ∷ past) c.in_ok-shapes.shapes.items
+    (subst (λ v. is_empty v ≡ true) c.as_slice-2.ensures.value
+    (left_empty c.reckless-reckless.result c.as_slice.result.now c.as_slice-2.result.now (sym c.is_unanswered-unanswered.ensures ∙ e)))
+    more.covers

@@ -1,0 +1,55 @@
+-- What an audit knows after lines of a trace.
+use Rattle.std.specs.Prelude.{◌≡◌, ◌==◌, ◌&&◌, not, Bool, true, false, IsTrue, List, [], ◌∷◌, Option, None, is_none}
+use Rattle.sdv_card.specs.declared.state.Width.{Width}
+use Rattle.sdv_card.specs.declared.shape.Shape.{Shape}
+use Rattle.sdv_card.specs.declared.event.Event.TheVariants.{Send}
+use Rattle.sdv_card.specs.Lists.{May}
+use Rattle.sdv_card.specs.LegalShapes.{legal_code}
+use Rattle.sdv_audit.specs.declared.line.TraceLine.TheVariants.{Lines}
+use Rattle.sdv_audit.specs.declared.turn.Told.{Told}
+use Rattle.sdv_audit.specs.declared.turn.Turn.{Turn}
+use Rattle.sdv_audit.specs.declared.turn.Turn.TheVariants.{Does}
+use Rattle.sdv_audit.specs.declared.audit.Audit.{Audit}
+use Rattle.sdv_audit.specs.Turns.{turn_of}
+use Rattle.sdv_audit.specs.Standing.{known_of, Covers}
+
+abbrev pub is_empty : List Shape → Bool
+is_empty [] = true
+is_empty (s ∷ rest) = false
+
+-- what it knows of the host, and shapes that cover each card which may stand there; the last line first
+pub record Stands (audit : Audit) (past : List Told) : Type 0 where
+  pub known : audit.known ≡ known_of audit.kind past
+  pub covers : Covers audit.kind past audit.shapes.items
+
+-- the event that a turn makes is legal at each shape
+abbrev pub AllLegal : Audit → Turn → Type 0
+AllLegal audit (Does event) = (s : Shape) → May audit.shapes.items s → IsTrue (legal_code audit.kind s.0 event)
+AllLegal audit turn = Unit {0}
+
+-- the shape is one of the audit's, and the event is not legal there
+abbrev pub IsIllegalAt : Audit → Turn → Shape → Type 0
+IsIllegalAt audit (Does event) s = May audit.shapes.items s × (legal_code audit.kind s.0 event ≡ false)
+IsIllegalAt audit turn s = ⊥
+
+-- no shape is left, where there was one and the event was legal at each
+abbrev pub is_unanswered : Option Shape → (before after : List Shape) → Bool
+is_unanswered reckless before after = is_empty after && is_none reckless && not (is_empty before)
+
+-- WHERE AN AUDIT BEGINS ANEW: at a CMD0, where no shape is left
+
+abbrev pub is_reset : Turn → Bool
+is_reset (Does (Send ask)) = ask.index == 0
+is_reset turn = false
+
+abbrev pub restarts : Audit → Told → Bool
+restarts audit told = is_empty audit.shapes.items && is_reset (turn_of audit.kind audit.known told)
+
+-- the line by which a host says which data lines it uses
+abbrev pub lines_told : Width → Told
+lines_told width = record { line = Lines width; next = None }
+
+-- the lines by which the next one is judged: those so far, or where the audit begins anew, the host's data lines alone
+abbrev pub Behind : (restarted : Bool) → Audit → List Told → Type 0
+Behind false audit past = Stands audit past
+Behind true audit past = past ≡ lines_told audit.known.lines ∷ []

@@ -1,0 +1,132 @@
+-- How a line of a trace is understood, by what is known of the host and by the line behind it.
+use Rattle.std.specs.Prelude.{ℕ, ◌==◌, ◌||◌, ◌&&◌, nat_lt, Bool, true, false, Option, Some, None, if◌then◌else◌}
+use Rattle.sdv_registers.specs.declared.kind.Kind.{Kind}
+use Rattle.sdv_frames.specs.declared.command.Command.{Command}
+use Rattle.sdv_frames.specs.declared.reply.Expect.{Expect}
+use Rattle.sdv_frames.specs.declared.reply.Expect.TheVariants as expects
+use Rattle.sdv_frames.specs.declared.reply.Reply.TheVariants.{R1, R2, R3, R6, R7}
+use Rattle.sdv_card.specs.declared.command.Order.{Order}
+use Rattle.sdv_card.specs.declared.event.Aim.{Aim}
+use Rattle.sdv_card.specs.declared.event.Aim.TheVariants.{Rca, Plain}
+use Rattle.sdv_card.specs.declared.event.Ask.{Ask}
+use Rattle.sdv_card.specs.declared.event.Event.{Event}
+use Rattle.sdv_card.specs.declared.event.Event.TheVariants.{Send, RecvBlocks, RecvReg, Give, Wait as Waits}
+use Rattle.sdv_card.specs.declared.event.Seen.{Seen}
+use Rattle.sdv_card.specs.declared.event.Seen.TheVariants.{Sent as SeenSent}
+use Rattle.sdv_card.specs.declared.answer.Answer.{Answer}
+use Rattle.sdv_card.specs.declared.answer.Answer.TheVariants.{Sent, TimeOut, Reply}
+use Rattle.sdv_card.specs.CommandTable.{order_of, order_argument, expect_of}
+use Rattle.sdv_card.specs.Modes.{has_width}
+use Rattle.sdv_card.specs.Outcomes.{phase_seen, wait_seen}
+use Rattle.sdv_card.specs.Seen.{answer_seen}
+use Rattle.sdv_audit.specs.declared.line.TraceLine.{TraceLine}
+use Rattle.sdv_audit.specs.declared.line.TraceLine.TheVariants.{Exchange, BlocksIn, RegisterIn, BlocksOut, Wait, Lines, End}
+use Rattle.sdv_audit.specs.declared.known.HostKnown.{HostKnown}
+use Rattle.sdv_audit.specs.declared.turn.Told.{Told}
+use Rattle.sdv_audit.specs.declared.turn.Turn.{Turn}
+use Rattle.sdv_audit.specs.declared.turn.Turn.TheVariants.{Ends, Outside, Uses, OtherLength, Does}
+use Rattle.sdv_audit.specs.Known.{known_after_order}
+
+-- THE BLOCKS THAT A COMMAND ANNOUNCES. No frame of CMD18 and CMD25 carries them: they are those of the data phase behind
+-- it; where none follows, those that CMD23 announced, or one.
+
+abbrev pub blocks_behind : (preset : ℕ) → Option TraceLine → ℕ
+blocks_behind preset (Some (BlocksIn count end)) = count
+blocks_behind preset (Some (BlocksOut count end)) = count
+blocks_behind preset next = if preset == 0 then 1 else preset
+
+abbrev pub count_told : (index argument preset : ℕ) → Option TraceLine → ℕ
+count_told index argument preset next =
+    if (index == 17) || (index == 24) then 1
+    else (if (index == 18) || (index == 25) then blocks_behind preset next
+    else (if (index == 23) && nat_lt argument 65536 then argument else 0))
+
+-- THE ASK: the line of the command table that the host sends so
+
+-- the command table has the order, and the host sends this argument with it
+abbrev pub sends : Option Order → (own rca argument : ℕ) → Bool
+sends None own rca argument = false
+sends (Some order) own rca argument = order_argument order own rca argument == argument
+
+abbrev pub is_sent : Kind → (rca argument : ℕ) → Ask → Bool
+is_sent k rca argument ask = sends (order_of k ask) ask.argument rca argument
+
+abbrev pub ask_with : (index : ℕ) → Aim → (argument count : ℕ) → Ask
+ask_with index aim argument count = record { index = index; aim = aim; argument = argument; count = count }
+
+abbrev pub ask_if : Bool → Ask → Option Ask → Option Ask
+ask_if is ask other = if is then Some ask else other
+
+-- a command without an argument of its own; with one; or with the host's relative card address
+abbrev pub ask_told : Kind → (rca preset : ℕ) → Command → Option TraceLine → Option Ask
+ask_told k rca preset c next =
+    let counted : Ask = ask_with c.index Plain 0 (count_told c.index c.argument preset next) in
+    let own : Ask = ask_with c.index Plain c.argument 0 in
+    let addressed : Ask = ask_with c.index Rca 0 0 in
+    ask_if (is_sent k rca c.argument counted) counted (
+    ask_if (is_sent k rca c.argument own) own (
+    ask_if (is_sent k rca c.argument addressed) addressed None))
+
+-- THE TURN
+
+abbrev pub turn_of_ask : Option Ask → Turn
+turn_of_ask None = Outside
+turn_of_ask (Some ask) = Does (Send ask)
+
+-- a data phase is as long as was announced, or asked for, last
+abbrev pub turn_of_phase : Event → (count due : ℕ) → Turn
+turn_of_phase event count due = if count == due then Does event else OtherLength due
+
+abbrev pub turn_of_line : Kind → HostKnown → TraceLine → Option TraceLine → Turn
+turn_of_line k known (Exchange command answer) next = turn_of_ask (ask_told k known.rca known.preset command next)
+turn_of_line k known (BlocksIn count end) next = turn_of_phase RecvBlocks count known.announced
+turn_of_line k known (RegisterIn count end) next = turn_of_phase RecvReg count known.register_length
+turn_of_line k known (BlocksOut count end) next = turn_of_phase Give count known.announced
+turn_of_line k known (Wait end) next = Does Waits
+turn_of_line k known (Lines width) next = if has_width k width then Uses width else Outside
+turn_of_line k known End next = Ends
+
+abbrev pub turn_of : Kind → HostKnown → Told → Turn
+turn_of k known told = turn_of_line k known told.line told.next
+
+-- WHAT IS KNOWN OF THE HOST after a line
+
+abbrev pub known_after_send : Option Order → TraceLine → HostKnown → HostKnown
+known_after_send order (Exchange command answer) known = known_after_order order answer known
+known_after_send order line known = known
+
+abbrev pub known_after : Kind → Turn → TraceLine → HostKnown → HostKnown
+known_after k (Does (Send ask)) line known = known_after_send (order_of k ask) line known
+known_after k (Uses width) line known = record known { lines = width }
+known_after k turn line known = known
+
+-- WHAT THE TABLES SEE of a line, at a card with or without a pending switch error
+
+abbrev pub line_seen : Kind → (pending : Bool) → TraceLine → Seen
+line_seen k pending (Exchange command answer) = answer_seen k pending answer
+line_seen k pending (BlocksIn count end) = phase_seen end
+line_seen k pending (RegisterIn count end) = phase_seen end
+line_seen k pending (BlocksOut count end) = phase_seen end
+line_seen k pending (Wait end) = wait_seen end
+line_seen k pending line = SeenSent
+
+-- THE FORMAT of a response is the one that the host waits for
+
+abbrev pub is_of_kind : Expect → Answer → Bool
+is_of_kind expects.Nothing Sent = true
+is_of_kind expects.Nothing answer = false
+is_of_kind expect TimeOut = true
+is_of_kind (expects.R1 index) (Reply (R1 repeated status)) = repeated == index
+is_of_kind expects.R2 (Reply (R2 register)) = true
+is_of_kind expects.R3 (Reply (R3 ocr)) = true
+is_of_kind expects.R6 (Reply (R6 word)) = true
+is_of_kind expects.R7 (Reply (R7 word)) = true
+is_of_kind expect answer = false
+
+abbrev pub is_expected_answer : Expect → TraceLine → Bool
+is_expected_answer expect (Exchange command answer) = is_of_kind expect answer
+is_expected_answer expect line = true
+
+abbrev pub is_expected : Kind → Event → TraceLine → Bool
+is_expected k (Send ask) line = is_expected_answer (expect_of k ask) line
+is_expected k event line = true

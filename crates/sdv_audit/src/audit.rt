@@ -1,0 +1,203 @@
+//! Audits: line by line, the shapes at which a card may stand.
+
+ghost use Rattle.std.specs.Prelude.{◌≡◌, ◌↔◌, IsTrue, IfOk, OnOk, OnErr, MatchOption, List, [], ◌∷◌, true, false};
+ghost use Rattle.sdv_card.specs.declared.shape.Shape.{Shape as CardShape};
+ghost use Rattle.sdv_card.specs.Lists.{May};
+ghost use Rattle.sdv_audit.specs.declared.turn.Told.{Told as TraceTold};
+ghost use Rattle.sdv_audit.specs.Turns.{turn_of, known_after};
+ghost use Rattle.sdv_audit.specs.Carried.{has_address, Follows};
+ghost use Rattle.sdv_audit.specs.Standing.{start_set, NoneAnswers};
+ghost use Rattle.sdv_audit.specs.Audited.{is_empty, Stands, AllLegal, IsIllegalAt, is_unanswered, is_reset, restarts, lines_told, Behind};
+
+use crate::fault::AuditFault;
+use crate::known::HostKnown;
+use crate::line::TraceLine;
+use crate::shapes::{Evidence, carried, first_illegal, with_lines};
+use crate::turn::{Told, Turn, is_expected};
+use sdv_card::{Event, START_SHAPES, Shape};
+use sdv_registers::Kind;
+use std::alloc::Global;
+
+/// What an audit finds at a line.
+#[derive(Clone, Copy, Debug)]
+pub struct Findings {
+    /// How the line is understood.
+    pub turn: Turn,
+    /// The host was reckless: a card that answered so may be of this shape, at which the event is not legal.
+    pub reckless: Option<Shape>,
+    /// No card answers so.
+    pub unanswered: bool,
+    /// The audit waited for a CMD0, and began anew at this one.
+    pub restarted: bool,
+}
+
+/// An audit of a trace, as far as it has come.
+///
+/// It keeps the shapes at which a card may stand that answered so at legal events. Where there is none it waits for a
+/// CMD0, and begins anew there, as before the first command.
+#[derive(Drop)]
+pub struct Audit {
+    alloc: Global,
+    kind: Kind,
+    known: HostKnown,
+    shapes: Vec<Shape>,
+}
+
+impl Audit {
+    /// An audit of a trace of a host beside a card of this kind, before the first line.
+    ///
+    /// # Errors
+    ///
+    /// Where memory runs out.
+    pub fn new(alloc: Global, kind: Kind) -> Result<Audit, AuditFault>
+        ensures kind { IfOk result (λ audit. audit.kind ≡ kind) }
+        ensures stands { IfOk result (λ audit. Stands audit []) }
+    {
+        Ok(Audit {
+            alloc,
+            kind,
+            known: HostKnown::nothing(),
+            shapes: Vec::from_slice(alloc, &START_SHAPES)?,
+        })
+    }
+
+    /// The shapes after a line.
+    fn after(&self, turn: &Turn, line: &TraceLine) -> Result<Vec<Shape>, AuditFault>
+        ensures { IfOk result (λ all. (s : CardShape) → May all.items s ↔
+            Follows self.now.kind turn.now line.now (has_address self.now.known) self.now.shapes.items s) }
+    {
+        match turn {
+            Turn::Does(event) => {
+                if !is_expected(self.kind, event, line) {
+                    return Ok(Vec::new(self.alloc));
+                }
+                let at = Evidence {
+                    kind: self.kind,
+                    event,
+                    line,
+                    address: self.known.rca != 0,
+                };
+                carried(self.alloc, self.shapes.as_slice(), at)
+            }
+            Turn::Uses(width) => with_lines(self.alloc, self.shapes.as_slice(), *width),
+            Turn::OtherLength { .. } => Ok(Vec::new(self.alloc)),
+            Turn::Ends | Turn::Outside => Ok(Vec::from_slice(self.alloc, self.shapes.as_slice())?),
+        }
+    }
+
+    /// The first shape at which what the host does is not legal.
+    fn reckless(&self, turn: &Turn) -> Option<Shape>
+        ensures { MatchOption result (AllLegal self.now turn.now) (IsIllegalAt self.now turn.now) }
+    {
+        match turn {
+            Turn::Does(event) => first_illegal(self.kind, self.shapes.as_slice(), event),
+            _ => None,
+        }
+    }
+
+    /// What becomes of the audit, where it does not begin anew.
+    fn advance(&mut self, told: &Told) -> Result<Findings, AuditFault>
+        ensures turn { IfOk result (λ found. found.turn ≡ turn_of self.old.kind self.old.known told.now) }
+        ensures kind { self.new.kind ≡ self.old.kind }
+        ensures stands { OnOk result ((past : List TraceTold) → Stands self.old past → Stands self.new (told.now ∷ past)) }
+        ensures reckless { IfOk result (λ found.
+            MatchOption found.reckless (AllLegal self.old found.turn) (IsIllegalAt self.old found.turn)) }
+        ensures exactly { IfOk result (λ found.
+            found.unanswered ≡ is_unanswered found.reckless self.old.shapes.items self.new.shapes.items) }
+        ensures unanswered { IfOk result (λ found. found.unanswered ≡ true → (past : List TraceTold) → Stands self.old past
+            → NoneAnswers self.old.kind (told.now ∷ past)) }
+        ensures going_on { IfOk result (λ found. found.restarted ≡ false) }
+        ensures same { OnErr result (self.new ≡ self.old) }
+    {
+        let turn = told.turn(self.kind, &self.known);
+        let reckless = self.reckless(&turn);
+        let shapes = self.after(&turn, &told.line)?;
+        let unanswered = is_unanswered(reckless, self.shapes.as_slice(), shapes.as_slice());
+        self.known = self.known.after_line(self.kind, &turn, &told.line);
+        self.shapes = shapes;
+        Ok(Findings {
+            turn,
+            reckless,
+            unanswered,
+            restarted: false,
+        })
+    }
+
+    /// The line is a CMD0 for which the audit waits.
+    fn restarts(&self, told: &Told) -> bool
+        ensures { result ≡ restarts self.now told.now }
+    {
+        self.shapes.is_empty() && is_reset(&told.turn(self.kind, &self.known))
+    }
+
+    /// The audit from this CMD0 on, and what it finds there.
+    fn anew(&self, told: &Told) -> Result<(Audit, Findings), AuditFault>
+        ensures kind { IfOk result (λ x. x.0.kind ≡ self.now.kind) }
+        ensures stands { IfOk result (λ x. Stands x.0 (told.now ∷ lines_told self.now.known.lines ∷ [])) }
+        ensures unanswered { IfOk result (λ x. x.1.unanswered ≡ true → is_empty x.0.shapes.items ≡ true) }
+        ensures restarted { IfOk result (λ x. x.1.restarted ≡ true) }
+    {
+        let mut audit = Audit::new(self.alloc, self.kind)?;
+        let lines = Told {
+            line: TraceLine::Lines {
+                width: self.known.lines,
+            },
+            next: None,
+        };
+        audit.advance(&lines)?;
+        let found = audit.advance(told)?;
+        let findings = Findings {
+            restarted: true,
+            ..found
+        };
+        Ok((audit, findings))
+    }
+
+    /// Takes in a line.
+    ///
+    /// Where no shape is left, the audit waits for a CMD0. There it begins anew, as before the first command, with the
+    /// data lines that the host uses.
+    ///
+    /// # Errors
+    ///
+    /// Where memory runs out, or a card could be in more than [`MAX_SHAPES`](crate::MAX_SHAPES) shapes. Nothing changes.
+    pub fn next(&mut self, told: &Told) -> Result<Findings, AuditFault>
+        ensures kind { self.new.kind ≡ self.old.kind }
+        ensures restarted { IfOk result (λ found. found.restarted ≡ restarts self.old told.now) }
+        ensures stands { IfOk result (λ found. (past : List TraceTold) → Behind found.restarted self.old past →
+            Stands self.new (told.now ∷ past)) }
+        ensures turn { IfOk result (λ found. found.restarted ≡ false →
+            found.turn ≡ turn_of self.old.kind self.old.known told.now) }
+        ensures reckless { IfOk result (λ found. found.restarted ≡ false →
+            MatchOption found.reckless (AllLegal self.old found.turn) (IsIllegalAt self.old found.turn)) }
+        ensures exactly { IfOk result (λ found. found.restarted ≡ false →
+            found.unanswered ≡ is_unanswered found.reckless self.old.shapes.items self.new.shapes.items) }
+        ensures unanswered { IfOk result (λ found. found.unanswered ≡ true → (past : List TraceTold) →
+            Behind found.restarted self.old past → NoneAnswers self.old.kind (told.now ∷ past)) }
+        ensures same { OnErr result (self.new ≡ self.old) }
+    {
+        if !self.restarts(told) {
+            return self.advance(told);
+        }
+        let (audit, findings) = self.anew(told)?;
+        *self = audit;
+        Ok(findings)
+    }
+}
+
+/// No shape is left, where there was one and the event was legal at each.
+fn is_unanswered(reckless: Option<Shape>, before: &[Shape], after: &[Shape]) -> bool
+    ensures { result ≡ is_unanswered reckless before.now after.now }
+{
+    after.is_empty() && reckless.is_none() && !before.is_empty()
+}
+
+/// The turn is a CMD0.
+fn is_reset(turn: &Turn) -> bool
+    ensures { result ≡ is_reset turn.now }
+{
+    match turn {
+        Turn::Does(Event::Send(ask)) => ask.index == 0,
+        _ => false,
+    }
+}
