@@ -2,19 +2,11 @@
 #![tactic(auto)]
 
 #[cfg(test)]
-mod certify_tests;
-#[cfg(test)]
-mod check_tests;
-#[cfg(test)]
-mod graph_tests;
-#[cfg(test)]
-mod long_tests;
-#[cfg(test)]
 mod progress_tests;
 #[cfg(test)]
-mod run_tests;
-#[cfg(test)]
 mod start_tests;
+#[cfg(test)]
+mod stream_tests;
 #[cfg(test)]
 mod testing;
 #[cfg(test)]

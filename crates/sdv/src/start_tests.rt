@@ -1,11 +1,10 @@
 //! The program on the words of a process.
-use crate::testing::Piece::Text;
-use crate::testing::{USAGE, same, write};
+use crate::testing::{USAGE, same};
 use sdv_words::start::start;
 use std::io::{self, ErrorKind};
 use std::process::Abort;
 use std::rt::Files;
-use std::str;
+use std::{fs, str};
 
 fn expect_start<R: Files + AllocGlobal + Abort>(
     rt: &R,
@@ -46,7 +45,7 @@ static STARTS: [(&[&str], u8, &str, &str); 5] = [
 
 #[test]
 fn starts_on_words(rt: HostRuntime) {
-    write(&rt, "started.sdv", &[Text("card sd\ndone\n")]);
+    fs::write(&rt, "started.sdv", "card sd\ndone\n").expect(&rt, "a file");
     for row in STARTS.iter() {
         let words = owned(&rt, row.0);
         expect_start(&rt, Ok(words), row.1, row.2, row.3);
