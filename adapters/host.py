@@ -1,0 +1,94 @@
+#!/usr/bin/env python3
+"""A host over the lines of docs/PROTOCOL.md: brings an SD card up, writes block 3, reads it back, and meets a lost answer.
+
+    host.py PROGRAM WORD..      as in: host.py sdv card examples/sd_block.card new:1024 schedule
+
+PROGRAM answers requests on its standard streams: `sdv card`, adapters/qemu-sdhci, or a device behind a serial line. Each request
+is printed with its answer. The status is 0 where the block was read as it was written.
+"""
+import subprocess
+import sys
+
+
+class Card:
+    def __init__(self, words):
+        self.process = subprocess.Popen(words, stdin=subprocess.PIPE, stdout=subprocess.PIPE, text=True)
+
+    def ask(self, *lines):
+        """Sends the lines of a request; the first line of its answer."""
+        self.process.stdin.write("".join(line + "\n" for line in lines))
+        self.process.stdin.flush()
+        answer = self.process.stdout.readline().rstrip("\n")
+        print(lines[0], "->", answer)
+        return answer
+
+    def command(self, index, argument, response="R1"):
+        """The word of the response; None where none came in time."""
+        answer = self.ask(f"CMD{index} {argument:08x} {response}")
+        if answer == "-":
+            return 0
+        return None if answer in ("timeout", "damaged") else int(answer.split()[1], 16)
+
+    def receive(self, count):
+        if self.ask(f"IN {count} lines 1") != "ok":
+            return None
+        return b"".join(bytes.fromhex(self.process.stdout.readline()) for _ in range(count))
+
+    def give(self, blocks):
+        return self.ask(f"OUT {len(blocks)} lines 1", *(block.hex() for block in blocks)) == "ok"
+
+    def end(self, how):
+        self.process.stdin.write(how + "\n")
+        self.process.stdin.close()
+        return self.process.wait(10)
+
+
+def bring_up(card):
+    """The relative card address, in its place in an argument, and whether addresses count blocks."""
+    card.command(0, 0, "-")
+    card.command(8, 0x1AA, "R7")
+    for _ in range(1000):
+        status = card.command(55, 0)
+        ocr = card.command(41, 0x40FF8000, "R3") if status is not None and status >> 5 & 1 else None
+        if ocr is None:
+            card.command(0, 0, "-")  # the card may be in ready state: begin anew
+            card.command(8, 0x1AA, "R7")
+        elif ocr >> 31:
+            break
+    card.command(2, 0, "R2")
+    rca = card.command(3, 0, "R6") & 0xFFFF0000
+    card.command(7, rca)
+    card.command(16, 512)
+    return rca, bool(ocr >> 30 & 1)
+
+
+def until_transfer(card, rca):
+    """Asks for the status until the card is in transfer state, and ends a transfer whose command or answer was lost."""
+    for _ in range(1000):
+        status = card.command(13, rca)
+        state = None if status is None else status >> 9 & 15
+        if state == 4:
+            return
+        if state in (5, 6):
+            card.command(12, 0)
+
+
+def main():
+    card = Card(sys.argv[1:])
+    rca, by_blocks = bring_up(card)
+    address = 3 if by_blocks else 3 * 512
+    block = bytes(range(256)) * 2
+    read = None
+    for _ in range(5):
+        if card.command(24, address) is not None and card.give([block]):
+            card.ask("WAIT")
+        until_transfer(card, rca)
+        if card.command(17, address) is not None:
+            read = card.receive(1)
+        until_transfer(card, rca)
+        if read == block:
+            break
+    return card.end("done") or (0 if read == block else 1)
+
+
+sys.exit(main())
