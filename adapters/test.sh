@@ -404,7 +404,15 @@ left out: CMD23 (line 2, 4 times)
 CMD12 stands for the end of a transfer by the count of CMD23 (line 2, 2 times)
 END
 
-takes "linux: partitions of an e.MMC device" events 0 linux-mmc-trace --emmc << 'END'
+takes "linux: addresses and partitions of an e.MMC device" events 0 linux-mmc-trace --emmc << 'END'
+start 1 cmd_opcode=13 cmd_arg=0x10000 cmd_flags=0x195
+end 1 cmd_opcode=13 cmd_err=-110
+start 1 cmd_opcode=3 cmd_arg=0x20000 cmd_flags=0x15
+end 1 cmd_opcode=3 cmd_resp=0x500,0x0,0x0,0x0
+start 1 cmd_opcode=7 cmd_arg=0x20000 cmd_flags=0x15
+end 1 cmd_opcode=7 cmd_resp=0x700,0x0,0x0,0x0
+start 1 cmd_opcode=13 cmd_arg=0x10000 cmd_flags=0x195
+end 1 cmd_opcode=13 cmd_err=-110
 start 1 cmd_opcode=6 cmd_arg=0x3b34901 cmd_flags=0x49d
 end 1 cmd_opcode=6 cmd_resp=0x800,0x0,0x0,0x0
 start 1 cmd_opcode=6 cmd_arg=0x3b34801 cmd_flags=0x49d
@@ -414,13 +422,20 @@ end 1 cmd_opcode=6 cmd_resp=0x800,0x0,0x0,0x0
 start 1 cmd_opcode=6 cmd_arg=0x3b70601 cmd_flags=0x49d
 end 1 cmd_opcode=6 cmd_resp=0x800,0x0,0x0,0x0
 =
+CMD13 00010000 timeout
+CMD3 00010000 R1 00000500
+CMD7 00010000 R1 00000700
+CMD13 00020000 timeout
 CMD6 03b30100 R1 00000800
 CMD6 03b30000 R1 00000800
 =
-CMD6 03b34901 stands as CMD6 03b30100 (line 2)
-CMD6 03b34801 stands as CMD6 03b30000 (line 4)
-left out: CMD6 03b30301 (line 6)
-left out: CMD6 03b70601 (line 8)
+CMD3 00020000 stands as CMD3 00010000 (line 4)
+CMD7 00020000 stands as CMD7 00010000 (line 6)
+CMD13 00010000 stands as CMD13 00020000 (line 8)
+CMD6 03b34901 stands as CMD6 03b30100 (line 10)
+CMD6 03b34801 stands as CMD6 03b30000 (line 12)
+left out: CMD6 03b30301 (line 14)
+left out: CMD6 03b70601 (line 16)
 END
 
 takes "linux: a controller that sends CMD12, and waits" events 0 linux-mmc-trace --busy << 'END'
@@ -879,7 +894,7 @@ put in: OUT 1 ok for any number of blocks, because a later command shows the pha
 CMD7 with address 0 stands as not answered (line 47)
 END
 
-# A CMD41 behind a CMD55 that does not show APP_CMD stays, and so does a plain CMD51. An echo that is no echo stays none.
+# A CMD41 after a CMD55 that does not show APP_CMD stays, and so does a plain CMD51. An echo that is no echo stays none.
 takes "qemu: commands out of place" as_it_is 0 qemu-capture << 'END'
 CMD8    000001ff -> 000001aa  (idle)
 CMD8    000001ff -> 000001f0  (idle)
@@ -893,7 +908,9 @@ CMD23   00000008 -> 00000900  (transfer)
 CMD18   00000008 -> 00000900  (transfer)
 CMD23   00000008 -> 00000900  (transfer)
 CMD25   00000008 -> 00000900  (transfer)
-CMD12   00000000 -> 00000d00  (receivingdata)
+CMD12   12340000 -> 00000d00  (receivingdata)
+CMD13   12348000 -> 00000900  (transfer)
+CMD7    1234ffff -> 00000900  (transfer)
 =
 CMD8 000001aa R7 000001ff
 CMD8 000001aa R7 000001f0
@@ -908,6 +925,8 @@ CMD12 00000000 R1 00000b00
 CMD25 00000008 R1 00000900
 OUT 1 ok
 CMD12 00000000 R1 00000d00
+CMD13 12348000 R1 00000900
+CMD7 12340000 R1 00000900
 =
 CMD8 000001ff stands as CMD8 000001aa (line 1, 2 times)
 CMD41 40000000 stands as CMD41 40ff8000 (line 4)
@@ -917,6 +936,8 @@ left out: CMD23 (line 9, 2 times)
 CMD12 stands for the end of a transfer by the count of CMD23 (line 11)
 put in: IN 1 ok for any number of blocks, because a later command shows the phase (line 11)
 put in: OUT 1 ok for any number of blocks, because a later command shows the phase (line 13)
+CMD12 12340000 stands as CMD12 00000000 (line 13)
+CMD7 1234ffff stands as CMD7 12340000 (line 15)
 END
 
 malformed_line() {

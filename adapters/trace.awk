@@ -4,15 +4,15 @@
 # phase it knows. One that sees only the command line calls seen() instead, which works out the data phases itself. It calls
 # finish() at the end of its input. `emmc` is 1 for an e.MMC device and 0 for an SD card, and `name` is the converter's name.
 #
-# Commands that no script can name are left out, because a trace is read against the same tables. With an application command
-# goes the CMD55 in front of it. Arguments that a script cannot write, but that mean the same to the card, are replaced.
-# notes() then says on standard error what was left out or replaced, how often, and in which line first.
+# Commands that no script can name are left out, because a trace is read against the same tables. The CMD55 before such an
+# application command is left out too. Arguments that a script cannot write are replaced by one that means the same here. At the
+# end notes() reports on standard error what was left out or replaced, how often, and in which line first.
 #
 # POSIX awk. Arguments and answers are texts of eight hexadecimal digits, so no number exceeds 2^32.
 
 # MESSAGES
 
-# Of a text only 200 characters are shown, and a ? for each that cannot be printed.
+# Prints at most 200 characters of a text, and a ? for each that cannot be printed.
 function say(text) {
     text = substr(text, 1, 200)
     gsub(/[^ -~]/, "?", text)
@@ -68,7 +68,7 @@ function shown(answer) { return answer ~ /^R1 / ? state_of(substr(answer, 4)) : 
 
 # LINES OF THE TRACE
 
-# While it is open whether a data phase took place, the lines behind it wait in later[].
+# While it is open whether a data phase took place, the lines after it wait in later[].
 function out(line) {
     if (due == "") print line
     else later[++laters] = line
@@ -80,8 +80,9 @@ function let_go() {
     held = ""
 }
 
-# DATA LINES. No capture shows when a host changes its own. It is taken to do so with the answer to ACMD6; for an e.MMC device,
-# with the first CMD13 behind CMD6 that shows the transfer state without an error, or else before the next command; and with CMD0.
+# DATA LINES. No capture shows when a host changes its own. This assumes that it does so at the answer to ACMD6. For an e.MMC
+# device it is at the first CMD13 after CMD6 that shows the transfer state and no error, or else before the next command. CMD0
+# sets the host back to one line.
 
 function set_lines(count) {
     if (lines != count) out("LINES " count)
@@ -102,7 +103,7 @@ function change_lines(arg, answer) {
 
 # COMMANDS
 
-# An application command that no script can name. `app`: it comes behind CMD55.
+# An application command that no script can name. `app`: it comes after CMD55.
 function is_other_application(i, app) { return app && i ~ /^(22|23|4[2-9])$/ }
 
 # A script can name the command.
@@ -120,8 +121,19 @@ function in_tables(i, arg, app) {
 # It asks for the voltages that the card takes, and starts nothing.
 function is_inquiry(i, arg) { return i == (emmc ? 1 : 41) && substr(arg, 3) == "000000" }
 
+# The relative address of an e.MMC device as 1, and 1 as that address.
+function renamed(arg,    high) {
+    high = substr(arg, 1, 4)
+    if (high == device) return "0001" substr(arg, 5)
+    return (high == "0001" && device != "" ? device : high) substr(arg, 5)
+}
+
 # The argument that a script writes in place of this one.
 function argument_of(i, arg) {
+    if (emmc && i ~ /^(3|7|9|10|13)$/) arg = renamed(arg)
+    # the card does not look at these bits
+    if (i == 2 || (!emmc && i ~ /^(0|3|12|51)$/)) return "00000000"
+    if (i ~ /^(7|9|10|55)$/) return substr(arg, 1, 4) "0000"
     if (!emmc && i == 41) return bit(arg, 30) ? "40ff8000" : "00ff8000"
     if (!emmc && i == 8 && arg ~ /^000001/) return "000001aa"
     if (emmc && i == 1) return "40ff8080"
@@ -139,8 +151,8 @@ function echo_of(arg, answer,    back) {
     return answer
 }
 
-# A command, and what came of it: `-`, `timeout` or a response. It returns 1 if the trace has the command. `counted` is 1 behind
-# the CMD23 of an SD card, and behind the transfer that follows it.
+# A command, and what came of it: `-`, `timeout` or a response. It returns 1 if the trace has the command. `counted` is 1 after
+# the CMD23 of an SD card, and after the command of its transfer.
 function command(i, arg, answer,    app, taken, want, state) {
     app = after_55
     counted = counted && last_index == 23 && (i == 18 || i == 25)
@@ -169,6 +181,7 @@ function command(i, arg, answer,    app, taken, want, state) {
         return 0
     }
     let_go()
+    if (emmc && i == 3 && substr(arg, 1, 4) != "0000") device = substr(arg, 1, 4)
     want = argument_of(i, arg)
     if (want != arg) {
         note("CMD" i " " arg " stands as CMD" i " " want)
@@ -227,15 +240,14 @@ function settle(took_place,    i, line) {
 
 # A command on the command line alone. `state` is the state in which the card received it, or -1. The next command with a state
 # shows whether the data phase before it took place: if so, the card is in transfer state (4) again, or programming (7). A CMD12
-# behind an open transfer shows it too. A phase that 64 lines do not show is not put in.
+# after the command of an open transfer shows it too. A phase that 64 lines do not show is not put in.
 function seen(i, arg, answer, state,    app) {
     app = after_55
     if (due != "") {
         if (open_due && i == 12) {
             counted = 0
             settle(1)
-        }
-        else if (state >= 0) settle(state == 4 || (state == 7 && due ~ /^OUT/))
+        } else if (state >= 0) settle(state == 4 || (state == 7 && due ~ /^OUT/))
         else if (laters >= 64) settle(0)
     }
     if (command(i, arg, answer) && answer ~ /^R1 /) {
@@ -250,4 +262,7 @@ function finish() {
     notes()
 }
 
-BEGIN { lines = 1 }
+BEGIN {
+    lines = 1
+    device = ""
+}
