@@ -50,7 +50,8 @@ pub record LeadsThere (g : Graph) (ps : List PointFacts) (fault : CertifyFault) 
   pub fewest : HasFewest g ps way point shape
 
 -- a shape is refused at the point, and there is no way to it
-pub record IsOutOfReach (g : Graph) (ps : List PointFacts) (fault : CertifyFault) (point : ℕ) (place : Point) (facts : PointFacts) : Type 0 where
+pub record IsOutOfReach (g : Graph) (ps : List PointFacts) (fault : CertifyFault) (point : ℕ) (place : Point)
+    (facts : PointFacts) : Type 0 where
   pub shape : Shape
   pub refused : IsRefusedAt fault place.action facts.facts shape
   pub no_way : HasNoWay g ps point shape

@@ -1,7 +1,7 @@
 -- WHY an event is not legal at a shape: its rules stand in a table, in the order in which they are tried, and the first
 -- one that is not kept has the reason.
 -- The rules are those of cards (`Legal.antt` of sdv_card); their order is this project's own.
-use Rattle.std.specs.Prelude.{Bool, true, false, ℕ, List, [], ◌∷◌, Option, Some, None, if◌then◌else◌, option_map}
+use Rattle.std.specs.Prelude.{Bool, true, false, ℕ, List, [], ◌∷◌, Option, Some, None, if◌then◌else◌, option_map, option_and_then}
 use Rattle.sdv_registers.specs.declared.kind.Kind.{Kind}
 use Rattle.sdv_card.specs.declared.command.Order.{Order}
 use Rattle.sdv_card.specs.declared.command.Row.{Row}
@@ -10,6 +10,7 @@ use Rattle.sdv_card.specs.declared.command.TakenAs.TheVariants.{Forbidden, Ignor
 use Rattle.sdv_card.specs.declared.event.Event.{Event}
 use Rattle.sdv_card.specs.declared.event.Event.TheVariants.{Send, RecvBlocks, RecvReg, Give, Wait}
 use Rattle.sdv_card.specs.declared.fields.Fields.{Fields}
+use Rattle.sdv_card.specs.declared.shape.Shape.{Shape}
 use Rattle.sdv_card.specs.declared.state.State.{State}
 use Rattle.sdv_card.specs.declared.state.Transfer.TheVariants.{Nothing}
 use Rattle.sdv_card.specs.Code.{fields_of}
@@ -22,9 +23,15 @@ use Rattle.sdv_card.specs.Shapes.{is_shape}
 use Rattle.sdv_card.specs.States.{own_target}
 use Rattle.sdv_card.specs.StateTable.{rows, targets}
 use Rattle.sdv_card.specs.Takes.{taken_as_of}
+use Rattle.sdv_graph.specs.Path.{Action, sends, phases}
+use Rattle.sdv_facts.specs.Edges.{event_of_phase}
+use Rattle.sdv_certify.specs.declared.fault.CertifyFault.{CertifyFault}
+use Rattle.sdv_certify.specs.declared.fault.CertifyFault.TheVariants.{Illegal, Address, EndState}
 use Rattle.sdv_telling.specs.declared.illegality.Illegality.{Illegality}
 use Rattle.sdv_telling.specs.declared.illegality.Reason.{Reason}
 use Rattle.sdv_telling.specs.declared.illegality.Reason.TheVariants as told
+use Rattle.sdv_telling.specs.declared.refused.Why.{Why}
+use Rattle.sdv_telling.specs.declared.refused.Why.TheVariants as why
 
 -- whether a rule is kept, and the reason where it is not
 pub record Rule : Type 0 where
@@ -75,7 +82,8 @@ stepped f state = record f { state = state; transfer = Nothing }
 abbrev pub after_its_step : Kind → Order → Fields → Option State → Option Illegality
 after_its_step k order f None = None
 after_its_step k order f (Some state) =
-    option_map (λ r. record { reason = r; after_step = Some state }) (first_broken (order_rules k order (stepped f state)))
+    option_map (λ r. record { reason = r; after_step = Some state })
+    (first_broken (order_rules k order (stepped f state)))
 
 -- the first, or else the other
 abbrev pub or_else : Option Illegality → Option Illegality → Option Illegality
@@ -119,3 +127,22 @@ illegality_at k event (Some f) = if is_shape k f then event_illegality k event f
 -- why an event is not legal at a code, if it is not
 abbrev pub illegality_of : Kind → (code : ℕ) → Event → Option Illegality
 illegality_of k code event = illegality_at k event (fields_of code)
+
+-- THE STATEMENT that a refusal names
+
+-- the event that it makes, if it makes one
+abbrev pub event_of : Action → Option Event
+event_of (sends c ways other) = Some (Send c.ask)
+event_of (phases p well other) = Some (event_of_phase p)
+event_of action = None
+
+-- why the event is not legal at the shape
+abbrev pub illegality_there : Kind → Action → Shape → Option Illegality
+illegality_there k action s = option_and_then (illegality_of k s.0) (event_of action)
+
+-- why the statement is refused at the shape, by a refusal that names a point
+abbrev pub why_refused : CertifyFault → Kind → Action → Shape → Option Why
+why_refused (Illegal point shape) k action s = Some (why.Illegal (illegality_there k action s))
+why_refused (Address point) k action s = Some why.Address
+why_refused (EndState point) k action s = Some why.EndState
+why_refused fault k action s = None

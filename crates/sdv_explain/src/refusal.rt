@@ -1,5 +1,9 @@
 //! Why a statement is refused beside a card.
 
+ghost use Rattle.std.specs.Prelude.{◌≡◌};
+ghost use Rattle.sdv_graph.specs.Graph.{seen_action};
+ghost use Rattle.sdv_explain.specs.Reason.{event_of, illegality_there, why_refused};
+
 use crate::reason::reason_of;
 use sdv_card::{Event, Kind, Shape};
 use sdv_certify::CertifyFault;
@@ -11,7 +15,9 @@ use sdv_telling::{Illegality, Text, Why, put_refused};
 use std::alloc::AllocError;
 
 /// The event of a statement, if it makes one.
-fn event_of(action: &Action<'_>) -> Option<Event> {
+fn event_of(action: &Action<'_>) -> Option<Event>
+    ensures { result ≡ event_of (seen_action action.now) }
+{
     match action {
         Action::Send(command, _, _) => Some(Event::Send(command.ask)),
         Action::Phase(phase, _, _) => Some(event_of_phase(*phase)),
@@ -20,7 +26,9 @@ fn event_of(action: &Action<'_>) -> Option<Event> {
 }
 
 /// Why the event of a statement is not legal at a shape, by the table of the kind.
-fn illegality(kind: Kind, action: &Action<'_>, shape: Shape) -> Option<Illegality> {
+fn illegality(kind: Kind, action: &Action<'_>, shape: Shape) -> Option<Illegality>
+    ensures { result ≡ illegality_there kind (seen_action action.now) shape }
+{
     let event = event_of(action)?;
     match kind {
         Kind::Sd => reason_of::<SdTable>(&event, shape),
@@ -29,7 +37,9 @@ fn illegality(kind: Kind, action: &Action<'_>, shape: Shape) -> Option<Illegalit
 }
 
 /// Why a statement is refused at a shape by a fault, if the fault names a point.
-fn why_of(fault: CertifyFault, kind: Kind, action: &Action<'_>, shape: Shape) -> Option<Why> {
+fn why_of(fault: CertifyFault, kind: Kind, action: &Action<'_>, shape: Shape) -> Option<Why>
+    ensures { result ≡ why_refused fault kind (seen_action action.now) shape }
+{
     match fault {
         CertifyFault::Illegal { .. } => Some(Why::Illegal(illegality(kind, action, shape))),
         CertifyFault::Address { .. } => Some(Why::Address),

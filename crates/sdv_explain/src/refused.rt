@@ -21,7 +21,7 @@ fn takes_address(action: &Action<'_>, numbers: &Numbers, shape: Shape) -> bool
     addresses_on_card(&[shape], numbers, action)
 }
 
-/// The first shape at which they are not.
+/// A shape of these at which they are not, if there is one.
 fn untaken(action: &Action<'_>, numbers: &Numbers, shapes: &[Shape]) -> Option<Shape>
     ensures untaken { IfSome result (IsUntaken (seen_action action.now) numbers.now shapes.now) }
     ensures none { IfNone result (AllTake (seen_action action.now) numbers.now shapes.now) }
@@ -34,7 +34,7 @@ fn untaken(action: &Action<'_>, numbers: &Numbers, shapes: &[Shape]) -> Option<S
     None
 }
 
-/// The first shape that is not in the transfer state at `done`.
+/// A shape of these that is not in the transfer state at `done`, if there is one.
 fn other_end(action: &Action<'_>, shapes: &[Shape]) -> Option<Shape>
     ensures other { IfSome result (IsOtherEnd (seen_action action.now) shapes.now) }
     ensures none { IfNone result (AllEnd (seen_action action.now) shapes.now) }
