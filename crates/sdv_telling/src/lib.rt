@@ -1,7 +1,8 @@
 //! What is known at the points of a script, why one is refused, and a way there, in words.
 //!
 //! Begin at `put_listing`, `put_refused` and `put_way`. Of what they write no clause says anything: they are safe, and
-//! end. What the first words of a statement are is proved (`specs/Statements.antt`).
+//! end. What the first words of a statement are is proved (`specs/Statements.antt`), and that they come with the line on
+//! which the statement begins (`specs/Places.antt`).
 #![tactic(auto)]
 
 mod illegality;

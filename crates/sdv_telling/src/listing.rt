@@ -1,6 +1,7 @@
 //! The listing: what is known at each point of a script.
 
-ghost use Rattle.std.specs.Prelude.{◌<◌, length};
+ghost use Rattle.std.specs.Prelude.{◌≡◌, ◌<◌, ◌++◌, length, OnOk};
+ghost use Rattle.sdv_telling.specs.Places.{place_words};
 
 use crate::shapes::put_shapes;
 use crate::statements::put_statement;
@@ -13,6 +14,7 @@ use std::alloc::{AllocError, Global};
 /// Adds the place of a point: its line, its number, and its statement's first words.
 pub fn put_place(text: &mut Text, graph: &Graph<'_>, number: usize) -> Result<(), AllocError>
     requires { number < length graph.now.points }
+    ensures { OnOk result (text.new.items ≡ text.old.items ++ place_words graph.now number) }
 {
     put_numbered(text, "line ", u64::from(graph.line(number)), ", point ")?;
     put_numbered(text, "", number as u64, ": ")?;
