@@ -1,6 +1,6 @@
 -- What an audit knows after one line more.
-use Rattle.std.proofs.Common.{◌≡◌, ap, subst, sym, ◌∙◌, true, false, not, ◌&&◌, List, [], ◌∷◌, Option, ◌↔◌}
-use Rattle.std.specs.Prelude.{is_none, IfOk, Result, Ok, Err}
+use Rattle.std.proofs.Common.{◌≡◌, ap, subst, sym, ◌∙◌, true, false, not, ◌&&◌, List, [], ◌∷◌, Option, Some, None, ◌↔◌}
+use Rattle.std.specs.Prelude.{is_none, IfOk, IfSome, MatchOption, Result, Ok, Err}
 use Rattle.sdv_registers.specs.declared.kind.Kind.{Kind}
 use Rattle.sdv_card.specs.declared.shape.Shape.{Shape}
 use Rattle.sdv_card.specs.Lists.{May}
@@ -8,19 +8,50 @@ use Rattle.sdv_card.proofs.Members.{and_left}
 use Rattle.sdv_audit.specs.declared.known.HostKnown.{HostKnown}
 use Rattle.sdv_audit.specs.declared.turn.Told.{Told}
 use Rattle.sdv_audit.specs.declared.turn.Turn.{Turn}
+use Rattle.sdv_audit.specs.declared.turn.Turn.TheVariants.{Ends, Outside, Uses, OtherLength, Does}
 use Rattle.sdv_audit.specs.declared.audit.Audit.{Audit}
 use Rattle.sdv_audit.specs.declared.audit.Findings.{Findings}
 use Rattle.sdv_audit.specs.declared.fault.AuditFault.{AuditFault}
 use Rattle.sdv_audit.specs.Turns.{turn_of, known_after}
 use Rattle.sdv_audit.specs.Carried.{has_address, Follows}
 use Rattle.sdv_audit.specs.Standing.{known_of, turn_behind, Covers, NoneAnswers}
-use Rattle.sdv_audit.specs.Audited.{is_empty, Stands, is_unanswered, lines_told, Behind}
+use Rattle.sdv_audit.specs.Audited.{is_empty, Stands, AllLegal, IsIllegalAt, is_unanswered, lines_told, Behind}
+use Rattle.sdv_audit.specs.Lived.{turn_within, Lived, IsReckless}
 use Rattle.sdv_audit.proofs.Sound.{covers_more}
+use Rattle.sdv_audit.proofs.Living.{lives_on, reckless_is_real}
 
 -- what is known, and the shapes, fit one line more
 pub record FitsMore (k : Kind) (known : HostKnown) (shapes : List Shape) (past : List Told) : Type 0 where
   pub known_is : known ≡ known_of k past
   pub covers : Covers k past shapes
+
+-- shapes of real cards lead to those of real cards
+pub lived_more : (k : Kind) (known : HostKnown) (shapes after : List Shape) (turn : Turn) (told : Told) (past : List Told) →
+    known ≡ known_of k past → turn ≡ turn_of k known told → ((s : Shape) → May after s ↔ Follows k turn told.line (has_address known) shapes s) →
+    ((s : Shape) → May shapes s → Lived k past s) → ((s : Shape) → May shapes s → turn_within k turn told.line s.0 ≡ true) →
+    (s : Shape) → May after s → Lived k (told ∷ past) s
+lived_more k known shapes after turn told past is_known is_turn members lived in_bounds s m =
+    let same_turn : turn ≡ turn_behind k past told = is_turn ∙ ap (λ v. turn_of k v told) is_known in
+    lives_on k past told shapes s lived
+    (λ t n. subst (λ v. turn_within k v told.line t.0 ≡ true) same_turn (in_bounds t n))
+    (subst (λ t. Follows k t told.line (has_address (known_of k past)) shapes s) same_turn
+    (subst (λ v. Follows k turn told.line (has_address v) shapes s) is_known ((members s).0 m)))
+
+-- where the host is reckless
+pub real_reckless : (old : Audit) (turn : Turn) (s : Shape) (past : List Told) → IsIllegalAt old turn s → Stands old past → old.bounded ≡ true →
+    IsReckless old.kind past turn s
+real_reckless old (Does event) s past x stands bounded = λ position.
+    let l : Lived old.kind past s = stands.lived bounded s x.0 in
+    record { lived = l; run = reckless_is_real old.kind past s event position l x.1 }
+real_reckless old (Uses width) s past x stands bounded = absurd x
+real_reckless old (OtherLength due) s past x stands bounded = absurd x
+real_reckless old Ends s past x stands bounded = absurd x
+real_reckless old Outside s past x stands bounded = absurd x
+
+pub some_reckless : (old : Audit) (turn : Turn) (o : Option Shape) → MatchOption o (AllLegal old turn) (IsIllegalAt old turn) →
+    IfSome o (λ s. (past : List Told) → Stands old past → old.bounded ≡ true → IsReckless old.kind past turn s)
+some_reckless old turn None x = tt
+some_reckless old turn (Some s) x = λ past stands bounded. real_reckless old turn s past x stands bounded
 
 pub one_more : (k : Kind) (known after_known : HostKnown) (shapes after : List Shape) (turn : Turn) (told : Told) (past : List Told) →
     known ≡ known_of k past → Covers k past shapes → turn ≡ turn_of k known told → after_known ≡ known_after k turn told.line known →

@@ -2,3 +2,4 @@ pub mod Printed
 pub mod ShapeSets
 pub mod Sound
 pub mod Audits
+pub mod Living

@@ -11,6 +11,7 @@ use Rattle.sdv_audit.specs.declared.turn.Turn.{Turn}
 use Rattle.sdv_audit.specs.declared.turn.Turn.TheVariants.{Does}
 use Rattle.sdv_audit.specs.declared.audit.Audit.{Audit}
 use Rattle.sdv_audit.specs.Turns.{turn_of}
+use Rattle.sdv_audit.specs.Lived.{Lived}
 use Rattle.sdv_audit.specs.Standing.{known_of, Covers}
 
 abbrev pub is_empty : List Shape → Bool
@@ -21,6 +22,8 @@ is_empty (s ∷ rest) = false
 pub record Stands (audit : Audit) (past : List Told) : Type 0 where
   pub known : audit.known ≡ known_of audit.kind past
   pub covers : Covers audit.kind past audit.shapes.items
+  -- as long as each address lay on some card, each shape is that of a real card
+  pub lived : audit.bounded ≡ true → (s : Shape) → May audit.shapes.items s → Lived audit.kind past s
 
 -- the event that a turn makes is legal at each shape
 abbrev pub AllLegal : Audit → Turn → Type 0

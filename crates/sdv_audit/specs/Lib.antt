@@ -6,3 +6,4 @@ pub mod Turns
 pub mod Carried
 pub mod Standing
 pub mod Audited
+pub mod Lived

@@ -1,14 +1,16 @@
 //! Audits: line by line, the shapes at which a card may stand.
 
-ghost use Rattle.std.specs.Prelude.{◌≡◌, ◌↔◌, IsTrue, IfOk, OnOk, OnErr, MatchOption, List, [], ◌∷◌, true, false};
+ghost use Rattle.std.specs.Prelude.{◌≡◌, ◌↔◌, IsTrue, IfOk, OnOk, OnErr, IfSome, MatchOption, List, [], ◌∷◌, true, false};
 ghost use Rattle.sdv_card.specs.declared.shape.Shape.{Shape as CardShape};
 ghost use Rattle.sdv_card.specs.Lists.{May};
 ghost use Rattle.sdv_audit.specs.declared.turn.Told.{Told as TraceTold};
 ghost use Rattle.sdv_audit.specs.Turns.{turn_of, known_after};
 ghost use Rattle.sdv_audit.specs.Carried.{has_address, Follows};
+ghost use Rattle.sdv_audit.specs.Lived.{IsReckless};
 ghost use Rattle.sdv_audit.specs.Standing.{start_set, NoneAnswers};
 ghost use Rattle.sdv_audit.specs.Audited.{is_empty, Stands, AllLegal, IsIllegalAt, is_unanswered, is_reset, restarts, lines_told, Behind};
 
+use crate::bounds::all_within;
 use crate::fault::AuditFault;
 use crate::known::HostKnown;
 use crate::line::TraceLine;
@@ -41,6 +43,8 @@ pub struct Audit {
     kind: Kind,
     known: HostKnown,
     shapes: Vec<Shape>,
+    // Each address so far is that of blocks of some card of the profile, at each shape.
+    bounded: bool,
 }
 
 impl Audit {
@@ -58,6 +62,7 @@ impl Audit {
             kind,
             known: HostKnown::nothing(),
             shapes: Vec::from_slice(alloc, &START_SHAPES)?,
+            bounded: true,
         })
     }
 
@@ -102,6 +107,8 @@ impl Audit {
         ensures stands { OnOk result ((past : List TraceTold) → Stands self.old past → Stands self.new (told.now ∷ past)) }
         ensures reckless { IfOk result (λ found.
             MatchOption found.reckless (AllLegal self.old found.turn) (IsIllegalAt self.old found.turn)) }
+        ensures real { IfOk result (λ found. IfSome found.reckless (λ s. (past : List TraceTold) →
+            Stands self.old past → self.old.bounded ≡ true → IsReckless self.old.kind past found.turn s)) }
         ensures exactly { IfOk result (λ found.
             found.unanswered ≡ is_unanswered found.reckless self.old.shapes.items self.new.shapes.items) }
         ensures unanswered { IfOk result (λ found. found.unanswered ≡ true → (past : List TraceTold) → Stands self.old past
@@ -113,6 +120,8 @@ impl Audit {
         let reckless = self.reckless(&turn);
         let shapes = self.after(&turn, &told.line)?;
         let unanswered = is_unanswered(reckless, self.shapes.as_slice(), shapes.as_slice());
+        self.bounded = self.bounded
+            && all_within(self.kind, self.shapes.as_slice(), &turn, &told.line);
         self.known = self.known.after_line(self.kind, &turn, &told.line);
         self.shapes = shapes;
         Ok(Findings {
@@ -170,6 +179,8 @@ impl Audit {
             found.turn ≡ turn_of self.old.kind self.old.known told.now) }
         ensures reckless { IfOk result (λ found. found.restarted ≡ false →
             MatchOption found.reckless (AllLegal self.old found.turn) (IsIllegalAt self.old found.turn)) }
+        ensures real { IfOk result (λ found. found.restarted ≡ false → IfSome found.reckless (λ s.
+            (past : List TraceTold) → Stands self.old past → self.old.bounded ≡ true → IsReckless self.old.kind past found.turn s)) }
         ensures exactly { IfOk result (λ found. found.restarted ≡ false →
             found.unanswered ≡ is_unanswered found.reckless self.old.shapes.items self.new.shapes.items) }
         ensures unanswered { IfOk result (λ found. found.unanswered ≡ true → (past : List TraceTold) →

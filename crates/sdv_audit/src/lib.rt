@@ -6,6 +6,7 @@
 #![tactic(auto)]
 
 mod audit;
+mod bounds;
 mod fault;
 mod known;
 pub mod laws;

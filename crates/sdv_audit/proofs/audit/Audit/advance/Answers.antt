@@ -1,13 +1,28 @@
-use Rattle.std.proofs.Common.{◌≡◌, subst, sym, ◌∙◌, ◌∷◌, true}
+use Rattle.std.proofs.Common.{false, ◌≡◌, subst, sym, ◌∙◌, ◌∷◌, true}
+use Rattle.sdv_card.specs.Lists.{May}
 use Rattle.sdv_audit.specs.Audited.{is_empty}
-use Rattle.sdv_audit.proofs.Audits.{one_more, none_left, left_empty}
+use Rattle.sdv_audit.proofs.Audits.{some_reckless, lived_more, one_more, none_left, left_empty}
 use Rattle.sdv_audit.proofs.audit.Audit.advance.Goals as goal
+use Rattle.sdv_audit.proofs.audit.Audit.advance.Goals.{then-self, else-self}
 
 pub returns-clause-stands : goal.returns-clause-stands
 returns-clause-stands c past s =
     let more = one_more c.args.self.now.kind c.args.self.now.known c.after_line-self.result c.args.self.now.shapes.items c.in_ok-shapes.shapes.items
     c.turn-turn.result c.args.told.now past s.known s.covers c.turn-turn.ensures c.after_line-self.ensures c.in_ok-shapes.ensures in
-    record { known = more.known_is; covers = more.covers }
+    record {
+      known = more.known_is;
+      covers = more.covers;
+      lived = λ e t m.
+          elim c.if-self.branch [
+            | then-self w ↦ lived_more c.args.self.now.kind c.args.self.now.known c.args.self.now.shapes.items c.in_ok-shapes.shapes.items c.turn-turn.result
+                c.args.told.now past s.known c.turn-turn.ensures c.in_ok-shapes.ensures (s.lived w.if-self.true)
+                (λ v n. w.all_within-self.ensures.0 (sym w.self-is ∙ e) v (subst (λ xs. May xs v) (sym w.as_slice-then-self.ensures.value) n)) t m
+            | else-self w ↦ absurd (let f : false ≡ true = cc in cc)
+          ];
+    }
+
+pub returns-clause-real : goal.returns-clause-real
+returns-clause-real c = some_reckless c.args.self.now c.turn-turn.result c.reckless-reckless.result c.reckless-reckless.ensures
 
 pub returns-clause-unanswered : goal.returns-clause-unanswered
 returns-clause-unanswered c e past s =
