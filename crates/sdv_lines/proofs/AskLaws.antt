@@ -17,7 +17,7 @@ unheard : (call : Call) (a a' r r' : Option (List ℕ)) (fault : LineFault) → 
 unheard call a a' r r' faults.Write p u = absurd u
 unheard call a a' r r' faults.Read p u = (p, u)
 unheard call a a' r r' faults.Closed p u = (p, u)
-unheard call a a' r r' faults.Answer p u = (p, u)
+unheard call a a' r r' faults.Line p u = (p, u)
 
 pub then_heard : {A : Type 0} (call : Call) (returns : A → Return) (a a' r r' : Option (List ℕ)) (result : Result A LineFault)
     → Appends r r' (request_of call) → Hears call returns a a' result → Asks call returns a a' r r' result

@@ -55,7 +55,7 @@ register_if lines count (Some xs) (Some ys) text t ok c n = register_none lines 
 pub unheard_register : (lines count : ℕ) (old mid new : Option (List ℕ)) (text : List ℕ) (fault : LineFault) → IsText text → text ≡ codes "ok"
     → Consumes old mid (text ++ line_feed) → ReadsNoDigits fault count mid new → Unheard fault (DataInRegister lines count) old new
 unheard_register lines count old mid new text faults.Closed t ok c n = (register_if lines count old mid text t ok c n.0, n.1)
-unheard_register lines count old mid new text faults.Answer t ok c n = register_if lines count old mid text t ok c n
+unheard_register lines count old mid new text faults.Line t ok c n = register_if lines count old mid text t ok c n
 unheard_register lines count old mid new text faults.Read t ok c n = tt
 unheard_register lines count old mid new text faults.Write t ok c n = absurd n
 
@@ -92,6 +92,6 @@ blocks_if lines count (Some xs) (Some ys) text t ok c n = blocks_none lines coun
 pub unheard_blocks : (lines count : ℕ) (old mid new : Option (List ℕ)) (text : List ℕ) (fault : LineFault) → IsText text → text ≡ codes "ok"
     → Consumes old mid (text ++ line_feed) → ReadsNoBlocks fault count mid new → Unheard fault (DataIn lines count) old new
 unheard_blocks lines count old mid new text faults.Closed t ok c n = (blocks_if lines count old mid text t ok c n.0, n.1)
-unheard_blocks lines count old mid new text faults.Answer t ok c n = blocks_if lines count old mid text t ok c n
+unheard_blocks lines count old mid new text faults.Line t ok c n = blocks_if lines count old mid text t ok c n
 unheard_blocks lines count old mid new text faults.Read t ok c n = tt
 unheard_blocks lines count old mid new text faults.Write t ok c n = absurd n

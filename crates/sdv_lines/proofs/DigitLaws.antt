@@ -25,8 +25,8 @@ pub no_digits : (count : ℕ) (old new : Option (List ℕ)) (fault : LineFault) 
 no_digits count None new faults.Closed r = (tt, r.1)
 no_digits count (Some xs) new faults.Closed r =
     (λ text bytes rest small t a len e. not_text text rest (subst (λ (l : List ℕ). IsText l) e r.0), r.1)
-no_digits count None new faults.Answer r = tt
-no_digits count (Some xs) new faults.Answer (front, back, is, t, long) =
+no_digits count None new faults.Line r = tt
+no_digits count (Some xs) new faults.Line (front, back, is, t, long) =
     λ text bytes rest small u a len e.
     let less = no_longer text front rest back t (sym e ∙ is) in
     let twice = (decode_of-ok text bytes a).2 in
@@ -114,7 +114,7 @@ pub no_more : (count : ℕ) (old mid new : Option (List ℕ)) (blocks : List Blo
 no_more count old mid new blocks i faults.Closed lt len r n =
     let n_done : length (take i blocks) ≡ i = length-take-le i blocks (omega (arith, lt)) in
     (next_none count old mid (take i blocks) (omega (arith, n_done, lt, len)) r n.0, n.1)
-no_more count old mid new blocks i faults.Answer lt len r n =
+no_more count old mid new blocks i faults.Line lt len r n =
     let n_done : length (take i blocks) ≡ i = length-take-le i blocks (omega (arith, lt)) in
     next_none count old mid (take i blocks) (omega (arith, n_done, lt, len)) r n
 no_more count old mid new blocks i faults.Read lt len r n = tt

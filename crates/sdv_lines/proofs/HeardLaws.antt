@@ -155,8 +155,8 @@ heard_one call returned old new text t c a = record { texts = text ∷ []; answe
 pub unread : (call : Call) (old new : Option (List ℕ)) (fault : LineFault) → ReadsNoLine fault old new → Unheard fault call old new
 unread call None new faults.Closed r = (tt, r.1)
 unread call (Some xs) new faults.Closed r = (unended call xs r.0, r.1)
-unread call None new faults.Answer r = tt
-unread call (Some xs) new faults.Answer r = overlong call xs r
+unread call None new faults.Line r = tt
+unread call (Some xs) new faults.Line r = overlong call xs r
 unread call old new faults.Read r = tt
 unread call old new faults.Write r = absurd r
 

@@ -5,3 +5,4 @@ pub mod AskLaws
 pub mod SendLaws
 pub mod DigitLaws
 pub mod DataLaws
+pub mod ServeLaws

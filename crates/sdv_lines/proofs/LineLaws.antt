@@ -40,7 +40,7 @@ pub byte_failed : (old mid new : Option (List ℕ)) (text : List ℕ) (fault : L
 byte_failed old mid new text faults.Closed t c r = ended old mid new text t c r
 byte_failed old mid new text faults.Read t c r = tt
 byte_failed old mid new text faults.Write t c r = absurd r
-byte_failed old mid new text faults.Answer t c r = absurd r
+byte_failed old mid new text faults.Line t c r = absurd r
 
 -- a line that is longer than any of the protocol
 pub too_long : (old mid new : Option (List ℕ)) (text : List ℕ) (byte : ℕ) → IsText text → length text ≡ 1024 → (byte ≡ 10 → ⊥)

@@ -3,3 +3,5 @@ pub mod Requests
 pub mod Answers
 pub mod Reading
 pub mod Streams
+pub mod Hearing
+pub mod Serving

@@ -22,7 +22,7 @@ BeginsLong bytes = (front back : List ℕ) × (bytes ≡ front ++ back) × IsTex
 -- no line was read: the bytes end before a line feed, or a line is too long, or the reader failed
 abbrev pub ReadsNoLine : LineFault → Option (List ℕ) → Option (List ℕ) → Type 0
 ReadsNoLine faults.Closed old new = IfSome old IsText × IsAtEnd new
-ReadsNoLine faults.Answer old new = IfSome old BeginsLong
+ReadsNoLine faults.Line old new = IfSome old BeginsLong
 ReadsNoLine faults.Read old new = Unit {0}
 ReadsNoLine fault old new = ⊥
 
@@ -41,7 +41,7 @@ HasNoDigits count xs =
 
 abbrev pub ReadsNoDigits : LineFault → ℕ → Option (List ℕ) → Option (List ℕ) → Type 0
 ReadsNoDigits faults.Closed count old new = IfSome old (HasNoDigits count) × IsAtEnd new
-ReadsNoDigits faults.Answer count old new = IfSome old (HasNoDigits count)
+ReadsNoDigits faults.Line count old new = IfSome old (HasNoDigits count)
 ReadsNoDigits faults.Read count old new = Unit {0}
 ReadsNoDigits fault count old new = ⊥
 
@@ -67,7 +67,7 @@ HasNoBlocks count xs =
 
 abbrev pub ReadsNoBlocks : LineFault → ℕ → Option (List ℕ) → Option (List ℕ) → Type 0
 ReadsNoBlocks faults.Closed count old new = IfSome old (HasNoBlocks count) × IsAtEnd new
-ReadsNoBlocks faults.Answer count old new = IfSome old (HasNoBlocks count)
+ReadsNoBlocks faults.Line count old new = IfSome old (HasNoBlocks count)
 ReadsNoBlocks faults.Read count old new = Unit {0}
 ReadsNoBlocks fault count old new = ⊥
 

@@ -49,7 +49,7 @@ HasNoAnswer call bytes =
 
 -- no answer was read: what came is none, or it ended before there was one, or the reader failed
 abbrev pub Unheard : LineFault → Call → Option (List ℕ) → Option (List ℕ) → Type 0
-Unheard faults.Answer call old new = IfSome old (HasNoAnswer call)
+Unheard faults.Line call old new = IfSome old (HasNoAnswer call)
 Unheard faults.Closed call old new = IfSome old (HasNoAnswer call) × IsAtEnd new
 Unheard faults.Read call old new = Unit {0}
 Unheard fault call old new = ⊥

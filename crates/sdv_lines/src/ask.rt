@@ -9,9 +9,9 @@ ghost use Rattle.sdv_lines.specs.Requests.{request_of};
 ghost use Rattle.sdv_lines.specs.Streams.{Sends, Hears, Asks};
 
 use crate::answer::{answer_of, data_end_of, wait_end_of};
-use crate::digits::{put_blocks, read_blocks, read_digits};
+use crate::digits::{read_blocks, read_digits, send_blocks_behind};
 use crate::fault::LineFault;
-use crate::line::{Line, flush, put, read_line, send};
+use crate::line::{Line, read_line, send};
 use crate::request::{exchange_request, phase_request};
 use sdv_card::{Answer, DataEnd, WaitEnd};
 use sdv_frames::{Command, Expect};
@@ -26,7 +26,7 @@ fn hear_answer<R: Read>(reader: &mut R, expect: Expect) -> Result<Answer, LineFa
     read_line(reader, &mut line)?;
     match answer_of(expect, line.as_slice()) {
         Some(answer) => Ok(answer),
-        None => Err(LineFault::Answer),
+        None => Err(LineFault::Line),
     }
 }
 
@@ -38,7 +38,7 @@ fn hear_wait<R: Read>(reader: &mut R) -> Result<WaitEnd, LineFault>
     read_line(reader, &mut line)?;
     match wait_end_of(line.as_slice()) {
         Some(end) => Ok(end),
-        None => Err(LineFault::Answer),
+        None => Err(LineFault::Line),
     }
 }
 
@@ -55,7 +55,7 @@ fn hear_blocks<R: Read>(reader: &mut R, blocks: &mut [[u8; 512]]) -> Result<Data
             Err(fault) => Err(fault),
         },
         Some(DataEnd::Cut) => Ok(DataEnd::Cut),
-        None => Err(LineFault::Answer),
+        None => Err(LineFault::Line),
     }
 }
 
@@ -72,7 +72,7 @@ fn hear_register<R: Read>(reader: &mut R, bytes: &mut [u8]) -> Result<DataEnd, L
             Err(fault) => Err(fault),
         },
         Some(DataEnd::Cut) => Ok(DataEnd::Cut),
-        None => Err(LineFault::Answer),
+        None => Err(LineFault::Line),
     }
 }
 
@@ -85,7 +85,7 @@ fn hear_data_end<R: Read>(reader: &mut R) -> Result<DataEnd, LineFault>
     read_line(reader, &mut line)?;
     match data_end_of(line.as_slice()) {
         Some(end) => Ok(end),
-        None => Err(LineFault::Answer),
+        None => Err(LineFault::Line),
     }
 }
 
@@ -93,12 +93,8 @@ fn hear_data_end<R: Read>(reader: &mut R) -> Result<DataEnd, LineFault>
 fn send_blocks<W: Write>(writer: &mut W, lines: u8, blocks: &[[u8; 512]]) -> Result<(), LineFault>
     ensures { Sends (W.contents writer.old) (W.contents writer.new) result (request_of (DataOut lines blocks.now)) }
 {
-    put(
-        writer,
-        phase_request(b"OUT", blocks.len(), lines).as_slice(),
-    )?;
-    put_blocks(writer, blocks)?;
-    flush(writer)
+    let line = phase_request(b"OUT", blocks.len(), lines);
+    send_blocks_behind(writer, line.as_slice(), blocks)
 }
 
 /// Sends a command, and hears what came of it.

@@ -1,6 +1,6 @@
 //! Blocks and registers as lines of hexadecimal digits.
 
-ghost use Rattle.std.specs.Prelude.{◌≡◌, ◌++◌, length};
+ghost use Rattle.std.specs.Prelude.{◌≡◌, ◌≤◌, ◌*◌, ◌++◌, length};
 ghost use Rattle.hex.specs.Hex.{encode_lower};
 ghost use Rattle.sdv_run.specs.Trace.{line_feed};
 ghost use Rattle.sdv_lines.specs.Reading.{ReadsDigits, ReadsBlocks};
@@ -9,7 +9,7 @@ ghost use Rattle.sdv_lines.specs.Streams.{Sends};
 ghost use Rattle.sdv_lines.specs.Texts.{lines_of};
 
 use crate::fault::LineFault;
-use crate::line::{Line, put, read_line};
+use crate::line::{Line, flush, put, read_line, send};
 use std::io::{Read, Write};
 
 /// The digits of a block.
@@ -44,11 +44,65 @@ pub fn put_blocks<W: Write>(writer: &mut W, blocks: &[[u8; 512]]) -> Result<(), 
     Ok(())
 }
 
+/// Writes a line, with its line feed, and a line for each block behind it, and flushes them.
+///
+/// # Errors
+///
+/// [`LineFault::Write`].
+pub fn send_blocks_behind<W: Write>(
+    writer: &mut W,
+    line: &[u8],
+    blocks: &[[u8; 512]],
+) -> Result<(), LineFault>
+    ensures { Sends (W.contents writer.old) (W.contents writer.new) result (line.now ++ lines_of (block_texts blocks.now)) }
+{
+    put(writer, line)?;
+    put_blocks(writer, blocks)?;
+    flush(writer)
+}
+
+/// Writes a line, with its line feed, and a line of the digits of a register behind it, and flushes them.
+///
+/// # Errors
+///
+/// [`LineFault::Write`].
+pub fn send_digits_behind<W: Write>(
+    writer: &mut W,
+    line: &[u8],
+    bytes: &[u8],
+) -> Result<(), LineFault>
+    requires { length bytes.now ≤ 512 }
+    ensures { Sends (W.contents writer.old) (W.contents writer.new) result
+        (line.now ++ (encode_lower bytes.now ++ line_feed)) }
+{
+    let mut digits = [0; 1024];
+    let text = &mut digits[..2 * bytes.len()];
+    encode_digits(bytes, text);
+    put(writer, line)?;
+    put_digits(writer, text)
+}
+
+/// Fills in the digits of bytes.
+fn encode_digits(bytes: &[u8], digits: &mut [u8])
+    requires { length digits.old ≡ 2 * length bytes.now }
+    ensures { digits.new ≡ encode_lower bytes.now }
+{
+    hex::encode_to_slice(bytes, digits).unwrap();
+}
+
+/// Writes the line of these digits, and flushes it.
+fn put_digits<W: Write>(writer: &mut W, digits: &[u8]) -> Result<(), LineFault>
+    ensures { Sends (W.contents writer.old) (W.contents writer.new) result (digits.now ++ line_feed) }
+{
+    put(writer, digits)?;
+    send(writer, b"\n")
+}
+
 /// Reads a line of the digits of as many bytes as there is room for.
 ///
 /// # Errors
 ///
-/// [`LineFault::Closed`], [`LineFault::Read`], and [`LineFault::Answer`] for any other line.
+/// [`LineFault::Closed`], [`LineFault::Read`], and [`LineFault::Line`] for any other line.
 pub fn read_digits<R: Read>(
     reader: &mut R,
     line: &mut Line,
@@ -59,7 +113,7 @@ pub fn read_digits<R: Read>(
     read_line(reader, line)?;
     match hex::decode_to_slice(line.as_slice(), bytes) {
         Ok(()) => Ok(()),
-        Err(_) => Err(LineFault::Answer),
+        Err(_) => Err(LineFault::Line),
     }
 }
 

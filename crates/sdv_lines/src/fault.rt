@@ -1,20 +1,30 @@
-//! Why a port of lines gives up.
+//! Why a side of the lines stops.
 
 use thiserror::Error;
 
-/// Why a port of lines gave up. It neither reads nor writes after that.
+/// Why a side of the lines stopped. It neither reads nor writes after that.
 #[derive(Clone, Copy, Debug, PartialEq, Eq, Error)]
 pub enum LineFault {
-    /// The writer failed at a request.
-    #[error("a request could not be written")]
+    /// The writer failed.
+    #[error("a line could not be written")]
     Write,
     /// The reader failed.
-    #[error("an answer could not be read")]
+    #[error("a line could not be read")]
     Read,
-    /// The answers ended before the one to the last request.
-    #[error("the answers ended before the last request was answered")]
+    /// The other side ended before its lines were complete.
+    #[error("the other side ended before its lines were complete")]
     Closed,
-    /// The lines that came are no answer to the last request.
-    #[error("the last request was answered by something else")]
-    Answer,
+    /// The lines that came are not what the protocol has there.
+    #[error("the other side wrote what is no line of the protocol there")]
+    Line,
+}
+
+/// Why the side of a card stopped, and at which line that it read, counted from 1.
+#[derive(Clone, Copy, Debug, PartialEq, Eq, Error)]
+#[error("line {line}: {fault}")]
+pub struct ServeFault {
+    /// The first line of the request that was not served, or 2^64 - 1 where that is more.
+    pub line: u64,
+    /// Why it was not served.
+    pub fault: LineFault,
 }

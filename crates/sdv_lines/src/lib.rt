@@ -6,11 +6,15 @@
 
 mod answer;
 mod ask;
+mod card_side;
 mod digits;
 mod fault;
+mod hearing;
 mod line;
 mod port;
 mod request;
+mod serving;
 
-pub use fault::LineFault;
+pub use card_side::serve;
+pub use fault::{LineFault, ServeFault};
 pub use port::LinePort;

@@ -77,7 +77,7 @@ fn read_byte<R: Read>(reader: &mut R) -> Result<u8, LineFault>
 ///
 /// # Errors
 ///
-/// [`LineFault::Closed`] where the stream ends before a line feed, [`LineFault::Answer`] where a line is longer than
+/// [`LineFault::Closed`] where the stream ends before a line feed, [`LineFault::Line`] where a line is longer than
 /// any of the protocol, and [`LineFault::Read`].
 pub fn read_line<R: Read>(reader: &mut R, line: &mut Line) -> Result<(), LineFault>
     ensures { ReadsLine (R.remaining reader.old) (R.remaining reader.new) line.new.items result }
@@ -94,6 +94,6 @@ pub fn read_line<R: Read>(reader: &mut R, line: &mut Line) -> Result<(), LineFau
     if byte == b'\n' {
         Ok(())
     } else {
-        Err(LineFault::Answer)
+        Err(LineFault::Line)
     }
 }

@@ -1,0 +1,107 @@
+-- What the text of a request's first line says, read from left to right.
+use Rattle.std.specs.Prelude.{◌==◌, ◌&&◌, ◌||◌, ◌<◌, ◌≤◌, is_some, nat_le, nat_lt, ℕ, List, [], ◌∷◌, length, take, drop, Bool, true, false, codes, Option, Some, None, Result, Ok, Err, if◌then◌else◌}
+use Rattle.std.specs.Int.{w32, from_be_bytes}
+use Rattle.hex.specs.declared.error.FromHexError.{FromHexError}
+use Rattle.hex.specs.Hex.{decode_sized}
+use Rattle.sdv_text.specs.Fronts.{◌>>=◌, Read, after, is_digit, run, number_after}
+use Rattle.sdv_frames.specs.declared.reply.Expect.{Expect}
+use Rattle.sdv_frames.specs.declared.reply.Expect.TheVariants as expects
+use Rattle.sdv_lines.specs.declared.hearing.Request.{Request}
+use Rattle.sdv_lines.specs.declared.hearing.Request.TheVariants as requests
+
+abbrev pub is_end : List ℕ → Bool
+is_end [] = true
+is_end (b ∷ bs) = false
+
+-- a text is this word
+abbrev pub is_all_of : Option (List ℕ) → Bool
+is_all_of None = false
+is_all_of (Some rest) = is_end rest
+
+abbrev pub is_all : (word text : List ℕ) → Bool
+is_all word text = is_all_of (after word text)
+
+-- the second reading where the first finds none
+abbrev pub or_else : {A : Type 0} → Option (List ℕ) → (List ℕ → Option A) → Option A → Option A
+or_else None f other = other
+or_else (Some rest) f other = f rest
+
+-- a number in decimal digits below 2^32
+abbrev pub number_if : (digits rest : List ℕ) → Read ℕ
+number_if digits rest =
+    if nat_lt 0 (length digits) && nat_le (number_after 0 digits) 4294967295 then Some (number_after 0 digits, rest) else None
+
+unfoldable pub read_number : List ℕ → Read ℕ
+read_number bs = number_if (take (run is_digit bs) bs) (drop (run is_digit bs) bs)
+
+-- a word in eight hexadecimal digits
+abbrev pub word_if : Result (List ℕ) FromHexError → List ℕ → Read ℕ
+word_if (Ok bytes) rest = Some (from_be_bytes w32 bytes, rest)
+word_if (Err fault) rest = None
+
+unfoldable pub read_word : List ℕ → Read ℕ
+read_word bs = if nat_le 8 (length bs) then word_if (decode_sized (take 8 bs) 4) (drop 8 bs) else None
+
+-- the response that is waited for, to the command of this index
+unfoldable pub read_expect : (index : ℕ) → List ℕ → Option Expect
+read_expect index bs =
+    if is_all (codes "-") bs then Some expects.Nothing
+    else if is_all (codes "R1") bs then Some (expects.R1 index)
+    else if is_all (codes "R2") bs then Some expects.R2
+    else if is_all (codes "R3") bs then Some expects.R3
+    else if is_all (codes "R6") bs then Some expects.R6
+    else if is_all (codes "R7") bs then Some expects.R7
+    else None
+
+-- a command, behind its word
+abbrev pub command_if : (index argument : ℕ) → Option Expect → Option Request
+command_if index argument None = None
+command_if index argument (Some expect) =
+    if nat_lt index 64 then Some (requests.Exchange (record { index = index; argument = argument }) expect) else None
+
+unfoldable pub read_command : List ℕ → Option Request
+read_command bs =
+    read_number bs >>= λ index.
+    after (codes " ") index.1 >>= λ rest.
+    read_word rest >>= λ word.
+    after (codes " ") word.1 >>= λ expect.
+    command_if index.0 word.0 (read_expect index.0 expect)
+
+-- how many blocks or bytes a phase has, and over how many data lines, behind its word
+abbrev pub phase_if : (count lines : ℕ) → List ℕ → Option (ℕ × ℕ)
+phase_if count lines rest =
+    if ((lines == 1) || (lines == 4) || (lines == 8)) && is_end rest then Some (count, lines) else None
+
+unfoldable pub read_phase : List ℕ → Option (ℕ × ℕ)
+read_phase bs =
+    read_number bs >>= λ count.
+    after (codes " lines ") count.1 >>= λ rest.
+    read_number rest >>= λ lines.
+    phase_if count.0 lines.0 lines.1
+
+abbrev pub blocks_in : List ℕ → Option Request
+blocks_in bs = read_phase bs >>= λ p. Some (requests.DataIn p.0 p.1)
+
+abbrev pub blocks_out : List ℕ → Option Request
+blocks_out bs = read_phase bs >>= λ p. Some (requests.DataOut p.0 p.1)
+
+-- a register has 512 bytes at most
+abbrev pub register_in : List ℕ → Option Request
+register_in bs = read_phase bs >>= λ p. if nat_le p.0 512 then Some (requests.Register p.0 p.1) else None
+
+unfoldable pub read_request : List ℕ → Option Request
+read_request bs =
+    or_else (after (codes "CMD") bs) read_command
+    (or_else (after (codes "IN ") bs) blocks_in
+    (or_else (after (codes "OUT ") bs) blocks_out
+    (or_else (after (codes "REG ") bs) register_in (if is_all (codes "WAIT") bs then Some requests.Wait else None))))
+
+-- the last line of a host
+abbrev pub is_last : List ℕ → Bool
+is_last text = is_all (codes "done") text || is_some (after (codes "fault ") text)
+
+-- an index has 6 bits, and a register 512 bytes at most
+abbrev pub IsInRange : Request → Type 0
+IsInRange (requests.Exchange command expect) = command.index < 64
+IsInRange (requests.Register count lines) = count ≤ 512
+IsInRange request = Unit {0}

@@ -1,0 +1,199 @@
+//! Requests as the side of the card reads them.
+
+ghost use Rattle.std.specs.Prelude.{◌≡◌, ◌^◌, min, option_map, IfSome};
+ghost use Rattle.sdv_text.specs.Fronts.{after, is_digit, run, number_after};
+ghost use Rattle.sdv_lines.specs.Hearing.{is_all, read_number, read_word, read_expect, read_command, read_phase, register_in, read_request, is_last, IsInRange};
+
+use sdv_frames::{Command, Expect};
+
+/// What the first line of a request says.
+#[derive(Clone, Copy, Debug, PartialEq, Eq)]
+pub enum Request {
+    /// Send this command, and wait for this response.
+    Exchange(Command, Expect),
+    /// Receive so many blocks, over so many data lines.
+    DataIn(u32, u8),
+    /// Receive so many bytes of a register, over so many data lines.
+    Register(u32, u8),
+    /// Give so many blocks, over so many data lines.
+    DataOut(u32, u8),
+    /// Wait while the card is busy.
+    Wait,
+}
+
+/// The front of a text was read; what follows it.
+type Read<'a, T> = Option<(T, &'a [u8])>;
+
+/// What follows a word, if the text goes on with it.
+fn after<'a>(text: &'a [u8], word: &[u8]) -> Option<&'a [u8]>
+    ensures { option_map (λ rest. rest.now) result ≡ after word.now text.now }
+{
+    match text.strip_prefix(word) {
+        Some(rest) => Some(rest),
+        None => None,
+    }
+}
+
+/// Whether the text is this word.
+fn is_all(text: &[u8], word: &[u8]) -> bool
+    ensures { result ≡ is_all word.now text.now }
+{
+    match after(text, word) {
+        Some(rest) => rest.is_empty(),
+        None => false,
+    }
+}
+
+fn digits_len(text: &[u8]) -> usize
+    ensures { result ≡ run is_digit text.now }
+{
+    text.iter()
+        .take_while(|byte| matches!(**byte, b'0'..=b'9'))
+        .count()
+}
+
+// What digits spell, or 2^32 where that is more.
+fn capped_value(digits: &[u8]) -> u64
+    ensures { result ≡ min (number_after 0 digits.now) (2 ^ 32) }
+{
+    let mut value = 0;
+    for digit in digits {
+        value = (value * 10 + u64::from(digit.saturating_sub(b'0'))).min(1 << 32);
+    }
+    value
+}
+
+// One digit or more, and what follows.
+#[tactic(auto, unfolding(crate::specs::Hearing::read_number))]
+fn number(text: &[u8]) -> Read<'_, u32>
+    ensures { option_map (λ x. (x.0, x.1.now)) result ≡ read_number text.now }
+{
+    let (digits, rest) = text.split_at(digits_len(text));
+    let value = capped_value(digits);
+    if digits.is_empty() || value > 0xffff_ffff {
+        return None;
+    }
+    Some((value as u32, rest))
+}
+
+// Eight hexadecimal digits, and what follows.
+#[tactic(auto, unfolding(crate::specs::Hearing::read_word))]
+fn word(text: &[u8]) -> Read<'_, u32>
+    ensures { option_map (λ x. (x.0, x.1.now)) result ≡ read_word text.now }
+{
+    if text.len() < 8 {
+        return None;
+    }
+    let (digits, rest) = text.split_at(8);
+    let mut bytes = [0; 4];
+    match hex::decode_to_slice(digits, &mut bytes) {
+        Ok(()) => Some((u32::from_be_bytes(bytes), rest)),
+        Err(_) => None,
+    }
+}
+
+/// The response that is waited for, to the command of this index.
+#[tactic(auto, unfolding(crate::specs::Hearing::read_expect))]
+fn expect(index: u8, text: &[u8]) -> Option<Expect>
+    ensures { result ≡ read_expect index text.now }
+{
+    if is_all(text, b"-") {
+        Some(Expect::Nothing)
+    } else if is_all(text, b"R1") {
+        Some(Expect::R1(index))
+    } else if is_all(text, b"R2") {
+        Some(Expect::R2)
+    } else if is_all(text, b"R3") {
+        Some(Expect::R3)
+    } else if is_all(text, b"R6") {
+        Some(Expect::R6)
+    } else if is_all(text, b"R7") {
+        Some(Expect::R7)
+    } else {
+        None
+    }
+}
+
+/// A command, behind its word.
+#[tactic(auto, unfolding(crate::specs::Hearing::read_command))]
+fn command(text: &[u8]) -> Option<Request>
+    ensures said { result ≡ read_command text.now }
+    ensures range { IfSome result IsInRange }
+{
+    let (index, rest) = number(text)?;
+    let rest = after(rest, b" ")?;
+    let (argument, rest) = word(rest)?;
+    let rest = after(rest, b" ")?;
+    if index > 63 {
+        return None;
+    }
+    let index = index as u8;
+    match expect(index, rest) {
+        Some(expect) => Some(Request::Exchange(Command { index, argument }, expect)),
+        None => None,
+    }
+}
+
+/// How many blocks or bytes a phase has, and over how many data lines, behind its word.
+#[tactic(auto, unfolding(crate::specs::Hearing::read_phase))]
+fn phase(text: &[u8]) -> Option<(u32, u8)>
+    ensures { result ≡ read_phase text.now }
+{
+    let (count, rest) = number(text)?;
+    let rest = after(rest, b" lines ")?;
+    let (lines, rest) = number(rest)?;
+    if !rest.is_empty() {
+        return None;
+    }
+    match lines {
+        1 => Some((count, 1)),
+        4 => Some((count, 4)),
+        8 => Some((count, 8)),
+        _ => None,
+    }
+}
+
+/// A phase of a register, behind its word.
+fn register(text: &[u8]) -> Option<Request>
+    ensures said { result ≡ register_in text.now }
+    ensures range { IfSome result IsInRange }
+{
+    let (count, lines) = phase(text)?;
+    if count > 512 {
+        return None;
+    }
+    Some(Request::Register(count, lines))
+}
+
+/// Whether this is the last line of a host: `done`, or `fault` and a name.
+pub fn is_last(text: &[u8]) -> bool
+    ensures { result ≡ is_last text.now }
+{
+    is_all(text, b"done") || after(text, b"fault ").is_some()
+}
+
+/// What the first line of a request says, if it is one.
+#[tactic(auto, unfolding(crate::specs::Hearing::read_request))]
+pub fn request_in(text: &[u8]) -> Option<Request>
+    ensures said { result ≡ read_request text.now }
+    ensures range { IfSome result IsInRange }
+{
+    if let Some(rest) = after(text, b"CMD") {
+        return command(rest);
+    }
+    if let Some(rest) = after(text, b"IN ") {
+        let (count, lines) = phase(rest)?;
+        return Some(Request::DataIn(count, lines));
+    }
+    if let Some(rest) = after(text, b"OUT ") {
+        let (count, lines) = phase(rest)?;
+        return Some(Request::DataOut(count, lines));
+    }
+    if let Some(rest) = after(text, b"REG ") {
+        return register(rest);
+    }
+    if is_all(text, b"WAIT") {
+        return Some(Request::Wait);
+    }
+    None
+}
