@@ -15,8 +15,10 @@ use Rattle.sdv_audit.specs.declared.fault.AuditFault.{AuditFault}
 use Rattle.sdv_audit.specs.Turns.{turn_of, known_after}
 use Rattle.sdv_audit.specs.Carried.{has_address, Follows}
 use Rattle.sdv_audit.specs.Standing.{known_of, turn_behind, Covers, NoneAnswers}
-use Rattle.sdv_audit.specs.Audited.{is_empty, Stands, AllLegal, IsIllegalAt, is_unanswered, lines_told, Behind}
+use Rattle.sdv_audit.specs.Audited.{is_empty, Stands, AllBeyond, AllLegal, IsIllegalAt, is_unanswered, lines_told, Behind}
 use Rattle.sdv_audit.specs.Lived.{turn_within, Lived, IsReckless}
+use Rattle.sdv_audit.specs.Beyond.{is_beyond, NoneInBounds}
+use Rattle.sdv_audit.proofs.Bounded.{none_in_bounds}
 use Rattle.sdv_audit.proofs.Sound.{covers_more}
 use Rattle.sdv_audit.proofs.Living.{lives_on, reckless_is_real}
 
@@ -36,6 +38,15 @@ lived_more k known shapes after turn told past is_known is_turn members lived in
     (λ t n. subst (λ v. turn_within k v told.line t.0 ≡ true) same_turn (in_bounds t n))
     (subst (λ t. Follows k t told.line (has_address (known_of k past)) shapes s) same_turn
     (subst (λ v. Follows k turn told.line (has_address v) shapes s) is_known ((members s).0 m)))
+
+-- where the address is beyond the CSD's blocks
+pub no_bounds : (old : Audit) (turn : Turn) (told : Told) (past : List Told) → turn ≡ turn_of old.kind old.known told → AllBeyond old turn told.line →
+    Stands old past → NoneInBounds old.kind past told
+no_bounds old turn told past is_turn all stands =
+    let same_turn : turn ≡ turn_behind old.kind past told = is_turn ∙ ap (λ v. turn_of old.kind v told) stands.known in
+    none_in_bounds old.kind past told old.shapes.items stands.covers
+    (λ s m. subst (λ t. is_beyond old.kind (known_of old.kind past) t told.line s.0 ≡ true) same_turn
+    (subst (λ v. is_beyond old.kind v turn told.line s.0 ≡ true) stands.known (all s m)))
 
 -- where the host is reckless
 pub real_reckless : (old : Audit) (turn : Turn) (s : Shape) (past : List Told) → IsIllegalAt old turn s → Stands old past → old.bounded ≡ true →

@@ -3,3 +3,4 @@ pub mod ShapeSets
 pub mod Sound
 pub mod Audits
 pub mod Living
+pub mod Bounded

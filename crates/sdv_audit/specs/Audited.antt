@@ -5,6 +5,7 @@ use Rattle.sdv_card.specs.declared.shape.Shape.{Shape}
 use Rattle.sdv_card.specs.declared.event.Event.TheVariants.{Send}
 use Rattle.sdv_card.specs.Lists.{May}
 use Rattle.sdv_card.specs.LegalShapes.{legal_code}
+use Rattle.sdv_audit.specs.declared.line.TraceLine.{TraceLine}
 use Rattle.sdv_audit.specs.declared.line.TraceLine.TheVariants.{Lines}
 use Rattle.sdv_audit.specs.declared.turn.Told.{Told}
 use Rattle.sdv_audit.specs.declared.turn.Turn.{Turn}
@@ -12,6 +13,7 @@ use Rattle.sdv_audit.specs.declared.turn.Turn.TheVariants.{Does}
 use Rattle.sdv_audit.specs.declared.audit.Audit.{Audit}
 use Rattle.sdv_audit.specs.Turns.{turn_of}
 use Rattle.sdv_audit.specs.Lived.{Lived}
+use Rattle.sdv_audit.specs.Beyond.{is_beyond}
 use Rattle.sdv_audit.specs.Standing.{known_of, Covers}
 
 abbrev pub is_empty : List Shape → Bool
@@ -34,6 +36,11 @@ AllLegal audit turn = Unit {0}
 abbrev pub IsIllegalAt : Audit → Turn → Shape → Type 0
 IsIllegalAt audit (Does event) s = May audit.shapes.items s × (legal_code audit.kind s.0 event ≡ false)
 IsIllegalAt audit turn s = ⊥
+
+-- at each shape the address is beyond what the CSD tells
+abbrev pub AllBeyond : Audit → Turn → TraceLine → Type 0
+AllBeyond audit turn line =
+    (s : Shape) → May audit.shapes.items s → is_beyond audit.kind audit.known turn line s.0 ≡ true
 
 -- no shape is left, where there was one and the event was legal at each
 abbrev pub is_unanswered : Option Shape → (before after : List Shape) → Bool

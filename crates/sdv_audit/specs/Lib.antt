@@ -7,3 +7,4 @@ pub mod Carried
 pub mod Standing
 pub mod Audited
 pub mod Lived
+pub mod Beyond

@@ -7,10 +7,11 @@ ghost use Rattle.sdv_audit.specs.declared.turn.Told.{Told as TraceTold};
 ghost use Rattle.sdv_audit.specs.Turns.{turn_of, known_after};
 ghost use Rattle.sdv_audit.specs.Carried.{has_address, Follows};
 ghost use Rattle.sdv_audit.specs.Lived.{IsReckless};
+ghost use Rattle.sdv_audit.specs.Beyond.{NoneInBounds};
 ghost use Rattle.sdv_audit.specs.Standing.{start_set, NoneAnswers};
-ghost use Rattle.sdv_audit.specs.Audited.{is_empty, Stands, AllLegal, IsIllegalAt, is_unanswered, is_reset, restarts, lines_told, Behind};
+ghost use Rattle.sdv_audit.specs.Audited.{is_empty, Stands, AllBeyond, AllLegal, IsIllegalAt, is_unanswered, is_reset, restarts, lines_told, Behind};
 
-use crate::bounds::all_within;
+use crate::bounds::{all_beyond, all_within};
 use crate::fault::AuditFault;
 use crate::known::HostKnown;
 use crate::line::TraceLine;
@@ -29,6 +30,8 @@ pub struct Findings {
     pub reckless: Option<Shape>,
     /// No card answers so.
     pub unanswered: bool,
+    /// The address is beyond the blocks that the last CSD gives, at each card that may stand there.
+    pub beyond: bool,
     /// The audit waited for a CMD0, and began anew at this one.
     pub restarted: bool,
 }
@@ -100,6 +103,14 @@ impl Audit {
         }
     }
 
+    /// There are shapes, and at each of them the address is beyond what the CSD tells.
+    fn beyond(&self, turn: &Turn, line: &TraceLine) -> bool
+        ensures { IsTrue result ↔ ((is_empty self.now.shapes.items ≡ false) × AllBeyond self.now turn.now line.now) }
+    {
+        let shapes = self.shapes.as_slice();
+        !shapes.is_empty() && all_beyond(self.kind, &self.known, shapes, turn, line)
+    }
+
     /// What becomes of the audit, where it does not begin anew.
     fn advance(&mut self, told: &Told) -> Result<Findings, AuditFault>
         ensures turn { IfOk result (λ found. found.turn ≡ turn_of self.old.kind self.old.known told.now) }
@@ -113,6 +124,10 @@ impl Audit {
             found.unanswered ≡ is_unanswered found.reckless self.old.shapes.items self.new.shapes.items) }
         ensures unanswered { IfOk result (λ found. found.unanswered ≡ true → (past : List TraceTold) → Stands self.old past
             → NoneAnswers self.old.kind (told.now ∷ past)) }
+        ensures passed { IfOk result (λ found. IsTrue found.beyond ↔
+            ((is_empty self.old.shapes.items ≡ false) × AllBeyond self.old found.turn told.now.line)) }
+        ensures beyond { IfOk result (λ found. found.beyond ≡ true → (past : List TraceTold) → Stands self.old past →
+            NoneInBounds self.old.kind past told.now) }
         ensures going_on { IfOk result (λ found. found.restarted ≡ false) }
         ensures same { OnErr result (self.new ≡ self.old) }
     {
@@ -120,6 +135,7 @@ impl Audit {
         let reckless = self.reckless(&turn);
         let shapes = self.after(&turn, &told.line)?;
         let unanswered = is_unanswered(reckless, self.shapes.as_slice(), shapes.as_slice());
+        let beyond = self.beyond(&turn, &told.line);
         self.bounded = self.bounded
             && all_within(self.kind, self.shapes.as_slice(), &turn, &told.line);
         self.known = self.known.after_line(self.kind, &turn, &told.line);
@@ -128,6 +144,7 @@ impl Audit {
             turn,
             reckless,
             unanswered,
+            beyond,
             restarted: false,
         })
     }
@@ -185,6 +202,10 @@ impl Audit {
             found.unanswered ≡ is_unanswered found.reckless self.old.shapes.items self.new.shapes.items) }
         ensures unanswered { IfOk result (λ found. found.unanswered ≡ true → (past : List TraceTold) →
             Behind found.restarted self.old past → NoneAnswers self.old.kind (told.now ∷ past)) }
+        ensures passed { IfOk result (λ found. found.restarted ≡ false → IsTrue found.beyond ↔
+            ((is_empty self.old.shapes.items ≡ false) × AllBeyond self.old found.turn told.now.line)) }
+        ensures beyond { IfOk result (λ found. found.restarted ≡ false → found.beyond ≡ true → (past : List TraceTold) →
+            Stands self.old past → NoneInBounds self.old.kind past told.now) }
         ensures same { OnErr result (self.new ≡ self.old) }
     {
         if !self.restarts(told) {

@@ -1,7 +1,7 @@
 use Rattle.std.proofs.Common.{false, ◌≡◌, subst, sym, ◌∙◌, ◌∷◌, true}
 use Rattle.sdv_card.specs.Lists.{May}
 use Rattle.sdv_audit.specs.Audited.{is_empty}
-use Rattle.sdv_audit.proofs.Audits.{some_reckless, lived_more, one_more, none_left, left_empty}
+use Rattle.sdv_audit.proofs.Audits.{no_bounds, some_reckless, lived_more, one_more, none_left, left_empty}
 use Rattle.sdv_audit.proofs.audit.Audit.advance.Goals as goal
 use Rattle.sdv_audit.proofs.audit.Audit.advance.Goals.{then-self, else-self}
 
@@ -32,3 +32,7 @@ returns-clause-unanswered c e past s =
     (subst (λ v. is_empty v ≡ true) c.as_slice-2.ensures.value
     (left_empty c.reckless-reckless.result c.as_slice.result.now c.as_slice-2.result.now (sym c.is_unanswered-unanswered.ensures ∙ e)))
     more.covers
+
+pub returns-clause-beyond : goal.returns-clause-beyond
+returns-clause-beyond c e past s =
+    no_bounds c.args.self.now c.turn-turn.result c.args.told.now past c.turn-turn.ensures (c.beyond-beyond.ensures.0 e).1 s
