@@ -3,3 +3,4 @@
 mod facts_tests;
 mod graph_tests;
 mod set_tests;
+mod table_tests;
