@@ -15,9 +15,7 @@ cd "$work/here"
 
 cat > "$work/bash" <<'SCRIPT'
 source "$1/completions/sdv.bash"
-read -ra COMP_WORDS <<< "$2"
-case $2 in *' ') COMP_WORDS+=('') ;; esac
-COMP_CWORD=$((${#COMP_WORDS[@]} - 1))
+COMP_LINE=$2 COMP_POINT=${#2}
 _sdv
 printf '%s\n' "${COMPREPLY[@]}"
 SCRIPT
@@ -74,6 +72,7 @@ judge "sdv check a.sdv a" "a.cert" "a.blocks a.card a.cert a.img a.sdv"
 judge "sdv run a.sdv a.cert a" "a.card" "a.blocks a.card a.cert a.img a.sdv"
 judge "sdv run a.sdv a.cert a.card n" "new:"
 judge "sdv run a.sdv --in a.blocks a.cert a" "a.card" "a.blocks a.card a.cert a.img a.sdv"
+judge "sdv run a.sdv a.cert a.card new:16 a.b" "a.blocks"
 judge "sdv run a.sdv --out m" "more"
 
 echo "completions: $passed passed, $failed failed"

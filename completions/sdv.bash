@@ -21,20 +21,25 @@ _sdv_words() {
 
 _sdv() {
     COMPREPLY=()
-    local word=${COMP_WORDS[COMP_CWORD]} before=${COMP_WORDS[COMP_CWORD - 1]} place=0 at
-    if [ "$COMP_CWORD" -eq 1 ]; then
+    # the words up to the cursor; COMP_WORDS would split new:16 at its colon
+    local line=${COMP_LINE:0:COMP_POINT} words last place=0 at
+    read -ra words <<< "$line"
+    [[ $line != *[[:space:]] ]] || words+=('')
+    last=$((${#words[@]} - 1))
+    local word=${words[last]} before=${words[last - 1]}
+    if [ "$last" -eq 1 ]; then
         _sdv_words "$word" "frame certify check run batch explain graph print --help --version"
         return
     fi
     # which of the command's words this is, options and their files left out
-    for ((at = 2; at < COMP_CWORD; at++)); do
-        case ${COMP_WORDS[at]} in
+    for ((at = 2; at < last; at++)); do
+        case ${words[at]} in
         --in | --out) at=$((at + 1)) ;;
         -?*) ;;
         *) place=$((place + 1)) ;;
         esac
     done
-    case ${COMP_WORDS[1]}:$place in
+    case ${words[1]}:$place in
     run:*)
         case $before in
         --in | --out) _sdv_files "$word" '*' && return ;;
@@ -46,9 +51,11 @@ _sdv() {
         *:2) _sdv_files "$word" '*.card' ;;
         *:3)
             _sdv_files "$word" '*.img' '*.image' '*.bin'
-            if [[ new: == "$word"* ]]; then
+            if [[ new: == "$word"* && $word != new: ]]; then
                 COMPREPLY+=(new:)
                 compopt -o nospace 2> /dev/null
+                # as a file name the colon would get a backslash
+                [ "${#COMPREPLY[@]}" -gt 1 ] || compopt +o filenames 2> /dev/null
             fi ;;
         *:4) _sdv_files "$word" '*' ;;
         esac ;;

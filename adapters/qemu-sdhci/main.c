@@ -1,5 +1,5 @@
 /*
- * qemu-sdhci IMAGE: answers the requests of `sdv drive` by QEMU's SDHCI controller and the SD card behind it.
+ * qemu-sdhci IMAGE: answers the requests of docs/PROTOCOL.md by QEMU's SDHCI controller and the SD card behind it.
  *
  * It starts qemu-system-x86_64 with a card over IMAGE, stops its processor, and reaches the controller's registers by QEMU's
  * qtest protocol. Requests are read from standard input, and answers go to standard output; docs/PROTOCOL.md has both. The
