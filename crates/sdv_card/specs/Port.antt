@@ -51,7 +51,8 @@ pub record Shows {S : Type 0} (card : S → Option Card) (s : S) (c : Card) : Ty
   pub same : record shown { announced = c.announced } ≡ c
   pub count : IsTrue (count_known c.transfer) → shown.announced ≡ c.announced
 
--- a legal event in bounds of a host beside a card
+-- The host beside a card makes the event, which is legal at the card and in bounds. Where a phase of blocks is due, its
+-- blocks lie on the card.
 pub record IsFine (k : Kind) (event : ScriptEvent) (c : Card) (h : Host) : Type 0 where
   pub pair : IsPair k c h
   pub made : Makes k event h
@@ -66,8 +67,9 @@ pub record Kept {S : Type 0} (card : S → Option Card) (event : ScriptEvent) (c
   pub step : Step event c returned after
   pub shown : Shows card s' after
 
--- Where a port shows a card, the call of each legal event in bounds is a step of that card. Of other events nothing is
--- known.
+-- A port that shows a card keeps the tables: the call of each legal event in bounds is a step of that card, if some
+-- host beside the card makes the event, and the blocks of a phase that is due lie on the card. Of other calls nothing
+-- is known.
 abbrev pub KeepsTables : {S : Type 0} → (S → Call → Return → S → Type 0) → (S → Option Card) → Type 0
 KeepsTables steps card =
     (s s' : _) (k : Kind) (event : ScriptEvent) (c : Card) (h : Host) (returned : Return) →

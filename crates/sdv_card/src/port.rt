@@ -10,9 +10,9 @@ use sdv_frames::{Command, Expect};
 
 /// A way to a card.
 ///
-/// Each call is one step of a relation of the port's own. A port may also show, to contracts alone, the card that
-/// stands behind it; then each event that is legal at that card and in bounds is a step of the card, and of other
-/// events nothing is known.
+/// Each call is one step of a relation of the port's own. A port may also show the card behind it, in contracts only.
+/// Then each legal event in bounds is a step of that card, if some host beside the card makes the event, and the blocks
+/// of a phase that is due lie on the card. Of other calls nothing is known.
 pub trait CardPort {
     /// From a state of the port, a call may return this and leave that state.
     ghost steps: { Self → Call → Return → Self → Type 0 };

@@ -61,7 +61,8 @@ KeepsAt steps card s s' k event c =
     (returned : Return) → steps s (OtherCall (call_of k event)) (OtherReturn returned) s' →
     Kept card event c returned s'
 
--- Where a wire shows a card, each legal event in bounds is a step of that card. Of other events nothing is known.
+-- A wire that shows a card keeps the tables: each legal event in bounds is a step of that card, if some host beside the
+-- card makes the event, and the blocks of a phase that is due lie on the card. Of other calls nothing is known.
 abbrev pub WireKeepsTables : {S : Type 0} → (S → WireCall → WireReturn → S → Type 0) → (S → Option Card) → Type 0
 WireKeepsTables {S} steps card =
     (s s' : S) (k : Kind) (event : ScriptEvent) (c : Card) (h : Host) → Shows card s c → IsFine k event c h →

@@ -19,9 +19,10 @@ pub enum WireEnd {
 
 /// A way that carries frames as bytes.
 ///
-/// Each call is one step of a relation of the wire's own. A wire may also show, to contracts alone, the card behind it;
-/// then, to the frame of a command that is legal at that card and in bounds, it answers with the frame of a response of
-/// the card, or is silent where the card gives none, and its other calls are steps of the card.
+/// Each call is one step of a relation of the wire's own. A wire may also show the card behind it, in contracts only.
+/// Then each legal event in bounds is a step of that card, if some host beside the card makes the event, and the blocks
+/// of a phase that is due lie on the card. The wire answers the frame of such a command with the frame of the card's
+/// response, or is silent where the card gives none. Of other calls nothing is known.
 pub trait Wire {
     /// From a state of the wire, a call may return this and leave that state.
     ghost steps: { Self → WireCall → WireReturn → Self → Type 0 };
