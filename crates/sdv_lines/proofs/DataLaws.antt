@@ -43,7 +43,7 @@ register_none lines count text ys xs t ok c n (first ∷ digits ∷ []) rest (Re
     n digits bytes rest a.says.2 a.lines.1.0 a.says.3 a.says.1 (sym same.1 ∙ append_assoc digits line_feed rest)
 register_none lines count text ys xs t ok c n (first ∷ []) rest (RegisterIn ends.Cut bytes) a e =
     let same = split_one first text rest ys a.lines.0 t (sym (first_line first [] rest xs e) ∙ behind_line text ys xs c) in
-    not_both text ok (sym same.0 ∙ a.says)
+    not_both text ok (sym same.0 ∙ a.says.0)
 register_none lines count text ys xs t ok c n texts rest returned a e = absurd a.says
 
 register_if : (lines count : ℕ) (old mid : Option (List ℕ)) (text : List ℕ) → IsText text → text ≡ codes "ok" → Consumes old mid (text ++ line_feed)
@@ -80,7 +80,7 @@ blocks_none lines count text ys xs t ok c n (first ∷ texts) rest (BlocksIn end
     n texts blocks rest a.lines.1 a.says.2 a.says.1 (sym same.1)
 blocks_none lines count text ys xs t ok c n (first ∷ []) rest (BlocksIn ends.Cut blocks) a e =
     let same = split_one first text rest ys a.lines.0 t (sym (first_line first [] rest xs e) ∙ behind_line text ys xs c) in
-    not_both text ok (sym same.0 ∙ a.says)
+    not_both text ok (sym same.0 ∙ a.says.0)
 blocks_none lines count text ys xs t ok c n texts rest returned a e = absurd a.says
 
 blocks_if : (lines count : ℕ) (old mid : Option (List ℕ)) (text : List ℕ) → IsText text → text ≡ codes "ok" → Consumes old mid (text ++ line_feed)

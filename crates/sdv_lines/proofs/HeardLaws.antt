@@ -99,9 +99,9 @@ answer_short expect answer text t = absurd t
 first_short : (call : Call) (text : List ℕ) (texts : List (List ℕ)) (returned : Return) → IsAnswer call (text ∷ texts) returned → length text ≤ 1024
 first_short (Exchange command expect) text [] (Answered answer) a = answer_short expect answer text a
 first_short (DataIn lines count) text texts (BlocksIn ends.Ok blocks) a = short_word (codes "ok") text (omega arith) a.0
-first_short (DataIn lines count) text [] (BlocksIn ends.Cut blocks) a = short_word (codes "cut") text (omega arith) a
+first_short (DataIn lines count) text [] (BlocksIn ends.Cut blocks) a = short_word (codes "cut") text (omega arith) a.0
 first_short (DataInRegister lines count) text (digits ∷ []) (RegisterIn ends.Ok bytes) a = short_word (codes "ok") text (omega arith) a.0
-first_short (DataInRegister lines count) text [] (RegisterIn ends.Cut bytes) a = short_word (codes "cut") text (omega arith) a
+first_short (DataInRegister lines count) text [] (RegisterIn ends.Cut bytes) a = short_word (codes "cut") text (omega arith) a.0
 first_short (DataOut lines blocks) text [] (BlocksOut ends.Ok) a = short_word (codes "ok") text (omega arith) a
 first_short (DataOut lines blocks) text [] (BlocksOut ends.Cut) a = short_word (codes "cut") text (omega arith) a
 first_short WaitWhileBusy text [] (Waited waits.Ok) a = short_word (codes "ok") text (omega arith) a
@@ -187,11 +187,11 @@ no_end lines blocks text n texts returned a = a
 pub no_data : (lines count : ℕ) (text : List ℕ) → ((end : DataEnd) → text ≡ data_end_text end → ⊥) → (texts : List (List ℕ)) (returned : Return)
     → IsAnswer (DataIn lines count) (text ∷ texts) returned → ⊥
 no_data lines count text n texts (BlocksIn ends.Ok blocks) a = n ends.Ok a.0
-no_data lines count text n [] (BlocksIn ends.Cut blocks) a = n ends.Cut a
+no_data lines count text n [] (BlocksIn ends.Cut blocks) a = n ends.Cut a.0
 no_data lines count text n texts returned a = a
 
 pub no_register : (lines count : ℕ) (text : List ℕ) → ((end : DataEnd) → text ≡ data_end_text end → ⊥) → (texts : List (List ℕ))
     (returned : Return) → IsAnswer (DataInRegister lines count) (text ∷ texts) returned → ⊥
 no_register lines count text n (digits ∷ []) (RegisterIn ends.Ok bytes) a = n ends.Ok a.0
-no_register lines count text n [] (RegisterIn ends.Cut bytes) a = n ends.Cut a
+no_register lines count text n [] (RegisterIn ends.Cut bytes) a = n ends.Cut a.0
 no_register lines count text n texts returned a = a

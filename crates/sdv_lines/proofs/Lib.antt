@@ -6,3 +6,4 @@ pub mod SendLaws
 pub mod DigitLaws
 pub mod DataLaws
 pub mod ServeLaws
+pub mod PartnerLaws

@@ -5,3 +5,4 @@ pub mod Reading
 pub mod Streams
 pub mod Hearing
 pub mod Serving
+pub mod Partner

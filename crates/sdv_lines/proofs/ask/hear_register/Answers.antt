@@ -1,4 +1,4 @@
-use Rattle.std.proofs.Common.{◌≡◌, ◌∙◌, rules, ap, sym, length}
+use Rattle.std.proofs.Common.{◌≡◌, ◌∙◌, rules, ap, refl, sym, length}
 use Rattle.sdv_card.specs.declared.answer.DataEnd.TheVariants.{Cut}
 use Rattle.sdv_card.specs.Port.{DataInRegister}
 use Rattle.sdv_card.specs.ScriptEvent.{RegisterIn}
@@ -30,7 +30,7 @@ pub returns-in-Some-Cut : goal.returns-in-Some-Cut
 returns-in-Some-Cut g c = λ lines.
     let read = c.in_ok-read_line.ensures in
     heard_one (DataInRegister lines (length c.args.bytes.now)) (RegisterIn Cut c.args.bytes.now) _ _ c.read_line.new.line.items read.0 read.2
-    (sym c.as_slice.ensures.value ∙ c.in-Some-Cut.ensures ∙ ap data_end_text c.in-Some-Cut.field-0-is)
+    (sym c.as_slice.ensures.value ∙ c.in-Some-Cut.ensures ∙ ap data_end_text c.in-Some-Cut.field-0-is, refl)
 
 pub returns-in-None : goal.returns-in-None
 returns-in-None g c = λ lines.

@@ -1,0 +1,11 @@
+//! Laws of the lines.
+
+ghost use Rattle.sdv_lines.specs.Partner.{ShowsOtherCard};
+
+use sdv_card::CardPort;
+
+/// Where the other side of the lines makes each call of a request once, by a port that shows a card, and its answers
+/// tell what that gave, a port of lines shows that card: its calls are steps of the card.
+pub fn shows_the_card_of_the_other_side<P: CardPort>()
+    ensures { ShowsOtherCard P.steps P.card }
+{}
