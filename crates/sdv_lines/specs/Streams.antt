@@ -1,5 +1,5 @@
 -- What a call of a port of lines does to its two streams: the request that it writes, and the answer that it reads.
-use Rattle.std.specs.Prelude.{◌≡◌, ◌⊎◌, ℕ, List, ◌++◌, length, Option, Some, None, MatchOption, Result, MatchResult, IfSome}
+use Rattle.std.specs.Prelude.{◌≡◌, ◌⊎◌, ℕ, List, ◌++◌, length, Option, Some, None, MatchOption, Result, Err, MatchResult, IfSome}
 use Rattle.std.specs.Io.KnownBytes.{Appends, Consumes, IsAtEnd}
 use Rattle.sdv_frames.specs.declared.fault.FrameFault.TheVariants.{Length}
 use Rattle.sdv_card.specs.declared.answer.Answer.TheVariants.{Damaged}
@@ -100,6 +100,14 @@ abbrev pub LineSteps : Streams → Call → Return → Streams → Type 0
 LineSteps s call returned s' =
     MatchOption s.fault (Asked call returned s s' ⊎ GaveUp call returned s s')
     (λ why. (s' ≡ s) × IsSilent call returned)
+
+-- the last line was written, or not, and the port keeps why; a port that gave up writes nothing
+abbrev pub TellsEnd : Streams → List ℕ → Result (Unit {0}) LineFault → Streams → Type 0
+TellsEnd s line result s' =
+    MatchOption s.fault
+    (MatchResult result (λ _. Appends s.requests s'.requests line × (s'.fault ≡ None))
+    (λ why. (why ≡ faults.Write) × AppendsFront s.requests s'.requests line × (s'.fault ≡ Some why)) × (s'.answers ≡ s.answers))
+    (λ why. (result ≡ Err why) × (s' ≡ s))
 
 -- what is known of a port
 abbrev pub streams_of : {R W : Type 0} → (R → Option (List ℕ)) → (W → Option (List ℕ)) → LinePort R W → Streams

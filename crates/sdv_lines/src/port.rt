@@ -2,12 +2,16 @@
 
 ghost use Rattle.std.specs.Prelude.{◌≡◌, None};
 ghost use Rattle.sdv_card.proofs.PortLaws.{shows_none_keeps};
-ghost use Rattle.sdv_lines.specs.Streams.{IsNew, LineSteps, streams_of};
+ghost use Rattle.sdv_run.specs.Trace.{end_line};
+ghost use Rattle.sdv_lines.specs.Streams.{IsNew, LineSteps, TellsEnd, streams_of};
 
 use crate::ask;
 use crate::fault::LineFault;
+use crate::line::send;
+use crate::request::last_line;
 use sdv_card::{Answer, CardPort, DataEnd, WaitEnd};
 use sdv_frames::{Command, Expect, FrameFault};
+use sdv_run::End;
 use std::io::{Read, Write};
 
 /// A port that writes a request for each call, and reads its answer.
@@ -38,6 +42,27 @@ impl<R: Read, W: Write> LinePort<R, W> {
         ensures { result ≡ (streams_of R.remaining W.contents self.now).fault }
     {
         self.fault
+    }
+
+    /// Tells the other side how the run ended: the last line.
+    ///
+    /// # Errors
+    ///
+    /// [`LineFault::Write`], which the port then keeps; or why it gave up before, and nothing is written.
+    pub fn tell_end(&mut self, end: &End) -> Result<(), LineFault>
+        ensures { TellsEnd (streams_of R.remaining W.contents self.old) (end_line end.now) result
+            (streams_of R.remaining W.contents self.new) }
+    {
+        if let Some(fault) = self.fault {
+            return Err(fault);
+        }
+        match send(&mut self.writer, last_line(end).as_slice()) {
+            Ok(()) => Ok(()),
+            Err(fault) => {
+                self.fault = Some(fault);
+                Err(fault)
+            }
+        }
     }
 }
 

@@ -5,7 +5,7 @@ ghost use Rattle.arrayvec.specs.ArrayVec.{array_vec_len};
 ghost use Rattle.hex.specs.Hex.{encode_lower};
 ghost use Rattle.sdv_card.specs.Port.{Exchange};
 ghost use Rattle.sdv_card.specs.ScriptEvent.{Answered};
-ghost use Rattle.sdv_run.specs.Trace.{word_text, reply_text, command_text, line_feed};
+ghost use Rattle.sdv_run.specs.Trace.{word_text, reply_text, command_text, line_feed, end_line};
 ghost use Rattle.sdv_lines.specs.Requests.{expect_text, phase_text, request_of};
 ghost use Rattle.sdv_lines.specs.Serving.{answer_of};
 
@@ -13,6 +13,7 @@ use arrayvec::ArrayVec;
 use itoa::Buffer;
 use sdv_card::Answer;
 use sdv_frames::{Command, Expect, Reply};
+use sdv_run::End;
 
 /// A line before it is written: room for the words of a phase and two numbers of 20 digits.
 pub type LineBytes = ArrayVec<u8, 64>;
@@ -140,5 +141,21 @@ pub fn answer_line(answer: &Answer) -> LineBytes
         Answer::Damaged(_) => put(&mut line, b"damaged"),
     }
     put(&mut line, b"\n");
+    line
+}
+
+/// The last line of a run that ended.
+pub fn last_line(end: &End) -> LineBytes
+    ensures { result.items ≡ end_line end.now }
+{
+    let mut line = LineBytes::new();
+    match end {
+        End::Done => put(&mut line, b"done\n"),
+        End::Fault(name) => {
+            put(&mut line, b"fault ");
+            put(&mut line, name.as_str().as_bytes());
+            put(&mut line, b"\n");
+        }
+    }
     line
 }
