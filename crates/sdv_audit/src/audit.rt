@@ -1,6 +1,6 @@
 //! Audits: line by line, the shapes at which a card may stand.
 
-ghost use Rattle.std.specs.Prelude.{◌≡◌, ◌↔◌, IsTrue, IfOk, OnOk, OnErr, IfSome, MatchOption, List, [], ◌∷◌, true, false};
+ghost use Rattle.std.specs.Prelude.{◌≡◌, ◌↔◌, IsTrue, IfOk, OnOk, OnErr, IfSome, MatchOption, List, [], ◌∷◌, true, false, None};
 ghost use Rattle.sdv_card.specs.declared.shape.Shape.{Shape as CardShape};
 ghost use Rattle.sdv_card.specs.Lists.{May};
 ghost use Rattle.sdv_audit.specs.declared.turn.Told.{Told as TraceTold};
@@ -156,12 +156,15 @@ impl Audit {
         self.shapes.is_empty() && is_reset(&told.turn(self.kind, &self.known))
     }
 
-    /// The audit from this CMD0 on, and what it finds there.
+    /// The audit from this CMD0 on, and what it finds there: CMD0 is legal at each card, and has no address.
     fn anew(&self, told: &Told) -> Result<(Audit, Findings), AuditFault>
         ensures kind { IfOk result (λ x. x.0.kind ≡ self.now.kind) }
         ensures stands { IfOk result (λ x. Stands x.0 (told.now ∷ lines_told self.now.known.lines ∷ [])) }
-        ensures unanswered { IfOk result (λ x. x.1.unanswered ≡ true → is_empty x.0.shapes.items ≡ true) }
+        ensures turn { IfOk result (λ x. x.1.turn ≡ turn_of self.now.kind self.now.known told.now) }
+        ensures unanswered { IfOk result (λ x. x.1.unanswered ≡ is_empty x.0.shapes.items) }
         ensures restarted { IfOk result (λ x. x.1.restarted ≡ true) }
+        ensures legal { IfOk result (λ x. x.1.reckless ≡ None) }
+        ensures bounds { IfOk result (λ x. x.1.beyond ≡ false) }
     {
         let mut audit = Audit::new(self.alloc, self.kind)?;
         let lines = Told {
@@ -171,10 +174,13 @@ impl Audit {
             next: None,
         };
         audit.advance(&lines)?;
-        let found = audit.advance(told)?;
+        audit.advance(told)?;
         let findings = Findings {
+            turn: told.turn(self.kind, &self.known),
+            reckless: None,
+            unanswered: audit.shapes.is_empty(),
+            beyond: false,
             restarted: true,
-            ..found
         };
         Ok((audit, findings))
     }
@@ -192,8 +198,7 @@ impl Audit {
         ensures restarted { IfOk result (λ found. found.restarted ≡ restarts self.old told.now) }
         ensures stands { IfOk result (λ found. (past : List TraceTold) → Behind found.restarted self.old past →
             Stands self.new (told.now ∷ past)) }
-        ensures turn { IfOk result (λ found. found.restarted ≡ false →
-            found.turn ≡ turn_of self.old.kind self.old.known told.now) }
+        ensures turn { IfOk result (λ found. found.turn ≡ turn_of self.old.kind self.old.known told.now) }
         ensures reckless { IfOk result (λ found. found.restarted ≡ false →
             MatchOption found.reckless (AllLegal self.old found.turn) (IsIllegalAt self.old found.turn)) }
         ensures real { IfOk result (λ found. found.restarted ≡ false → IfSome found.reckless (λ s.
@@ -206,6 +211,8 @@ impl Audit {
             ((is_empty self.old.shapes.items ≡ false) × AllBeyond self.old found.turn told.now.line)) }
         ensures beyond { IfOk result (λ found. found.restarted ≡ false → found.beyond ≡ true → (past : List TraceTold) →
             Stands self.old past → NoneInBounds self.old.kind past told.now) }
+        ensures anew { IfOk result (λ found. found.restarted ≡ true → (found.reckless ≡ None) × (found.beyond ≡ false)
+            × (found.unanswered ≡ is_empty self.new.shapes.items)) }
         ensures same { OnErr result (self.new ≡ self.old) }
     {
         if !self.restarts(told) {

@@ -1,4 +1,4 @@
-use Rattle.std.proofs.Common.{subst}
+use Rattle.std.proofs.Common.{subst, sym, ◌∙◌}
 use Rattle.sdv_audit.specs.Audited.{Behind}
 use Rattle.sdv_audit.proofs.Audits.{unanswered_here, unanswered_anew}
 use Rattle.sdv_audit.proofs.audit.Audit.next.Goals as goal
@@ -10,4 +10,4 @@ returns-then-not-restarts-clause-unanswered c =
 pub returns-clause-unanswered : goal.returns-clause-unanswered
 returns-clause-unanswered c e past b =
     unanswered_anew c.args.self.now c.in_ok-audit.audit c.args.told.now past c.in_ok-audit.ensures.kind c.in_ok-audit.ensures.stands
-    (c.in_ok-audit.ensures.unanswered e) (subst (λ v. Behind v c.args.self.now past) c.in_ok-audit.ensures.restarted b)
+    (sym c.in_ok-audit.ensures.unanswered ∙ e) (subst (λ v. Behind v c.args.self.now past) c.in_ok-audit.ensures.restarted b)
