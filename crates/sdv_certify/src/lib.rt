@@ -6,7 +6,7 @@
 //! `specs/VersionOf.antt` which version a script's certificate has, and `specs/Refusal.antt` what script is refused.
 //! `specs/Forms.antt` defines the bounds of points, by the syntax alone, and `specs/FormsPay.antt` says that they fall along
 //! each edge as a certificate's should; `bound_forms` computes them.
-//! `survey` answers the same points of a script that may have no certificate. `write` writes the text of a certificate,
+//! `survey` answers the same points of a script that may have no certificate, and why it has none; `certify` stands on it. `write` writes the text of a certificate,
 //! which stands in `sdv_facts/specs/CertificateText.antt`.
 //! While passes go on each point has a list of its shapes, and in the certificate the name of a set (`assembling`).
 //! `facts_of_shapes` and `join_facts` compute the sets and joins of `sdv_facts/specs/Joins.antt`.
@@ -30,7 +30,7 @@ mod versions;
 mod ways;
 mod writing;
 
-pub use assembling::{certify, survey};
+pub use assembling::{ScriptSurvey, certify, survey};
 pub use fault::CertifyFault;
 pub use listed_facts::ListedFacts;
 pub use sets::{facts_of_shapes, join_facts};
