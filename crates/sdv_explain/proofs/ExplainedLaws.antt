@@ -1,13 +1,18 @@
--- What nothing is explained of.
-use Rattle.std.proofs.Common.{◌≡◌, ◌≢◌, ℕ, List, refl}
+-- What nothing is explained of, and the refusal that a survey tells.
+use Rattle.std.proofs.Common.{◌≡◌, ◌≢◌, ℕ, List, Option, Some, None, IfNone, IfSome, refl, subst}
 use Rattle.sdv_script.specs.declared.script.Script.{Script as Tree}
 use Rattle.sdv_script.specs.Script.{IsScript}
 use Rattle.sdv_script.specs.Shown.{shown}
+use Rattle.sdv_script.specs.OneGraph.{IsGraphOfScript}
+use Rattle.sdv_graph.specs.Graph.{Graph}
+use Rattle.sdv_facts.specs.Facts.{PointFacts}
+use Rattle.sdv_certify.specs.declared.fault.CertifyFault.{CertifyFault}
 use Rattle.sdv_certify.specs.declared.fault.CertifyFault.TheVariants as certifies
-use Rattle.sdv_certify.specs.Assembled.{RefusedFor}
+use Rattle.sdv_certify.specs.Assembled.{CertificateOf, RefusedFor, SurveyOf}
+use Rattle.sdv_explain.specs.declared.explaining.Refusal.{Refusal}
 use Rattle.sdv_explain.specs.declared.fault.ExplainFault.{ExplainFault}
 use Rattle.sdv_explain.specs.declared.fault.ExplainFault.TheVariants.{Script, TooMany, Memory}
-use Rattle.sdv_explain.specs.Explained.{Unexplained}
+use Rattle.sdv_explain.specs.Explained.{HasWay, IsRefusal, Unexplained}
 
 pub unexplained : (s : Tree) (text : List ℕ) (fault : ExplainFault) → (shown s).text ≡ text → IsScript (shown s)
     → (fault ≡ TooMany → RefusedFor s certifies.TooMany)
@@ -15,3 +20,24 @@ pub unexplained : (s : Tree) (text : List ℕ) (fault : ExplainFault) → (shown
 unexplained s text (Script f) same is h k = absurd (let e = k (λ p. cc) in cc)
 unexplained s text TooMany same is h k = (s, same, is, h refl)
 unexplained s text Memory same is h k = tt
+
+-- where the survey tells no refusal, the script has a certificate
+pub certified_by : (s : Tree) (ps : List PointFacts) (told : Option CertifyFault) (r : Option Refusal) → IfNone told (CertificateOf s ps)
+    → IfNone r (told ≡ None) → r ≡ None → (known : List PointFacts) × CertificateOf s known
+certified_by s ps None None h k e = (ps, h)
+certified_by s ps (Some fault) None h k e = absurd (cc)
+certified_by s ps told (Some r) h k e = absurd (cc)
+
+-- and the refusal that it tells is the script's
+pub refused_by : (s : Tree) (g : Graph) (ps : List PointFacts) (told : Option CertifyFault) (r : Option Refusal) → IsGraphOfScript (shown s) g
+    → SurveyOf s ps → IfSome told (RefusedFor s)
+    → IfSome r (λ r. told ≡ Some r.fault) → IfSome r (HasWay g ps) → IfSome r (IsRefusal s)
+refused_by s g ps told None is known h f w = tt
+refused_by s g ps told (Some r) is known h f w = record {
+  refused = subst (λ o. IfSome o (RefusedFor s)) f h;
+  graph = g;
+  is_graph = is;
+  points = ps;
+  survey = known;
+  way = w;
+}

@@ -1,8 +1,9 @@
 //! The explanation of a script.
 
-ghost use Rattle.std.specs.Prelude.{◌≡◌, ◌≢◌, [], ◌⊎◌, IfErr, IfNone, IfOk, IfSome, None, ℕ, List};
+ghost use Rattle.std.specs.Prelude.{◌≡◌, ◌≢◌, [], ◌⊎◌, IfErr, IfNone, IfOk, IfSome, None, Some, ℕ, List};
 ghost use Rattle.sdv_graph.specs.Graph.{Graph};
 ghost use Rattle.sdv_facts.specs.Facts.{PointFacts};
+ghost use Rattle.sdv_script.specs.OneGraph.{IsGraphOfScript};
 ghost use Rattle.sdv_script.specs.Shown.{shown};
 ghost use Rattle.sdv_certify.specs.Assembled.{CertificateOf, RefusedFor, SurveyOf};
 ghost use Rattle.sdv_explain.specs.Explained.{EndsThere, Explains, HasWay, IsRefusal, NamesPoint, Unexplained};
@@ -14,7 +15,7 @@ use crate::refusal::put_refusal;
 use crate::refused::refused_shape;
 use crate::way::find_way;
 use sdv_card::Shape;
-use sdv_certify::{CertifyFault, certify, survey};
+use sdv_certify::{CertifyFault, ScriptSurvey, survey};
 use sdv_facts::Certificate;
 use sdv_graph::Graph;
 use sdv_script::{Script, parse};
@@ -50,52 +51,67 @@ pub fn explain(alloc: Global, text: &str) -> Result<Explanation, ExplainFault>
     ensures refused { IfErr result (Unexplained text.entry.now) }
 {
     let script = parse(alloc, text)?;
-    let known = known_of(alloc, &script)?;
-    let explanation = explain_script(alloc, &script, &known)?;
+    let explanation = explain_script(alloc, &script)?;
     Ok(explanation)
 }
 
-/// What is known at each point of a script.
-fn known_of(alloc: Global, script: &Script<'_>) -> Result<Certificate, ExplainFault>
-    ensures known { IfOk result (λ known. SurveyOf script.now known.points) }
-    ensures refused { IfErr result (λ fault. fault ≡ ExplainFault.TooMany
+/// The same of a script.
+fn explain_script(alloc: Global, script: &Script<'_>) -> Result<Explanation, ExplainFault>
+    ensures certified { IfOk result (λ e. e.refusal ≡ None → (ps : List PointFacts) × CertificateOf script.now ps) }
+    ensures refused { IfOk result (λ e. IfSome e.refusal (IsRefusal script.now)) }
+    ensures too_many { IfErr result (λ fault. fault ≡ ExplainFault.TooMany
         → RefusedFor script.now CertifyFault.TooMany) }
     ensures others { IfErr result (λ fault. fault ≢ ExplainFault.TooMany → fault ≡ ExplainFault.Memory) }
 {
-    match survey(alloc, script) {
-        Ok(known) => Ok(known),
+    let graph = script.graph(alloc)?;
+    let survey = survey_of(alloc, script, &graph)?;
+    let mut words = Vec::new(alloc);
+    put_listing(alloc, &mut words, &graph, &survey.known)?;
+    let refusal = refusal_of(alloc, &mut words, &graph, &survey)?;
+    Ok(Explanation {
+        text: words,
+        refusal,
+    })
+}
+
+/// What is known at each point of a script, and why it is refused, if it is. The graph is the script's.
+fn survey_of(
+    alloc: Global,
+    script: &Script<'_>,
+    graph: &Graph<'_>,
+) -> Result<ScriptSurvey, ExplainFault>
+    requires graph { IsGraphOfScript (shown script.now) graph.now }
+    ensures survey { IfOk result (λ s. SurveyOf script.now s.known.points) }
+    ensures certified { IfOk result (λ s. IfNone s.refusal (CertificateOf script.now s.known.points)) }
+    ensures refusal { IfOk result (λ s. IfSome s.refusal (RefusedFor script.now)) }
+    ensures too_many { IfErr result (λ fault. fault ≡ ExplainFault.TooMany
+        → RefusedFor script.now CertifyFault.TooMany) }
+    ensures others { IfErr result (λ fault. fault ≢ ExplainFault.TooMany → fault ≡ ExplainFault.Memory) }
+{
+    match survey(alloc, script, graph) {
+        Ok(survey) => Ok(survey),
         Err(CertifyFault::Memory) => Err(ExplainFault::Memory),
         Err(_) => Err(ExplainFault::TooMany),
     }
 }
 
-/// The same of a script of which this is known.
-fn explain_script(
+/// The refusal that a survey tells, with a way; its words are added.
+fn refusal_of(
     alloc: Global,
-    script: &Script<'_>,
-    known: &Certificate,
-) -> Result<Explanation, ExplainFault>
-    requires { SurveyOf script.now known.now.points }
-    ensures memory { IfErr result (λ fault. fault ≡ ExplainFault.Memory) }
-    ensures certified { IfOk result (λ e. e.refusal ≡ None → (ps : List PointFacts) × CertificateOf script.now ps) }
-    ensures refused { IfOk result (λ e. IfSome e.refusal (IsRefusal script.now)) }
+    words: &mut Text,
+    graph: &Graph<'_>,
+    survey: &ScriptSurvey,
+) -> Result<Option<Refusal>, AllocError>
+    ensures none { IfOk result (λ refusal. IfNone refusal (survey.now.refusal ≡ None)) }
+    ensures fault { IfOk result (λ refusal. IfSome refusal (λ r. survey.now.refusal ≡ Some r.fault)) }
+    ensures way { IfOk result (λ refusal. IfSome refusal (HasWay graph.now survey.now.known.points)) }
 {
-    let graph = script.graph(alloc)?;
-    let mut words = Vec::new(alloc);
-    put_listing(alloc, &mut words, &graph, known)?;
-    match certify(alloc, script) {
-        Ok(_) => Ok(Explanation {
-            text: words,
-            refusal: None,
-        }),
-        Err(CertifyFault::Memory) => Err(ExplainFault::Memory),
-        Err(fault) => {
-            let refusal = refuse(alloc, &mut words, &graph, known, fault)?;
-            Ok(Explanation {
-                text: words,
-                refusal: Some(refusal),
-            })
+    match survey.refusal {
+        Some(fault) => {
+            let refusal = refuse(alloc, words, graph, &survey.known, fault)?;
+            Ok(Some(refusal))
         }
+        None => Ok(None),
     }
 }
 

@@ -11,9 +11,9 @@ returns-clause-explained c = record {
   refused = c.in_ok-explanation.ensures.refused;
 }
 
-pub returns-in_err-known-clause-refused : goal.returns-in_err-known-clause-refused
-returns-in_err-known-clause-refused c =
-    let known = c.in_err-known.ensures in
-    let h = unexplained c.in_ok-script.script c.args.text.now c.in_err-known.field-0.0 c.in_ok-script.ensures.text c.in_ok-script.ensures.script known.refused
-    known.others in
+pub returns-in_err-explanation-clause-refused : goal.returns-in_err-explanation-clause-refused
+returns-in_err-explanation-clause-refused c =
+    let why = c.in_err-explanation.ensures in
+    let h = unexplained c.in_ok-script.script c.args.text.now c.in_err-explanation.field-0.0 c.in_ok-script.ensures.text c.in_ok-script.ensures.script why.too_many
+    why.others in
     search rules
