@@ -63,7 +63,8 @@ IsAnswer (DataIn lines count) (text ∷ texts) (BlocksIn ends.Ok blocks) =
 IsAnswer (DataIn lines count) (text ∷ []) (BlocksIn ends.Cut blocks) = (text ≡ codes "cut") × (length blocks ≡ count)
 IsAnswer (DataInRegister lines count) (text ∷ digits ∷ []) (RegisterIn ends.Ok bytes) =
     (text ≡ codes "ok") × (length bytes ≡ count) × (count ≤ 512) × AreDigits digits bytes
-IsAnswer (DataInRegister lines count) (text ∷ []) (RegisterIn ends.Cut bytes) = (text ≡ codes "cut") × (length bytes ≡ count)
+IsAnswer (DataInRegister lines count) (text ∷ []) (RegisterIn ends.Cut bytes) =
+    (text ≡ codes "cut") × (length bytes ≡ count)
 IsAnswer (DataOut lines blocks) (text ∷ []) (BlocksOut end) = text ≡ data_end_text end
 IsAnswer WaitWhileBusy (text ∷ []) (Waited end) = text ≡ wait_end_text end
 IsAnswer call texts returned = ⊥

@@ -29,7 +29,8 @@ or_else (Some rest) f other = f rest
 -- a number in decimal digits below 2^32
 abbrev pub number_if : (digits rest : List ℕ) → Read ℕ
 number_if digits rest =
-    if nat_lt 0 (length digits) && nat_le (number_after 0 digits) 4294967295 then Some (number_after 0 digits, rest) else None
+    if nat_lt 0 (length digits) && nat_le (number_after 0 digits) 4294967295
+    then Some (number_after 0 digits, rest) else None
 
 unfoldable pub read_number : List ℕ → Read ℕ
 read_number bs = number_if (take (run is_digit bs) bs) (drop (run is_digit bs) bs)

@@ -16,7 +16,8 @@ pub record Both (S : Type 0) : Type 0 where
   pub other : S
 
 -- one call of each: the lines that the port read are an answer that tells what the other side's call gave
-pub record BothMade {S : Type 0} (steps : S → Call → Return → S → Type 0) (call : Call) (returned : Return) (b b' : Both S) : Type 0 where
+pub record BothMade {S : Type 0} (steps : S → Call → Return → S → Type 0) (call : Call) (returned : Return)
+    (b b' : Both S) : Type 0 where
   pub texts : List (List ℕ)
   pub gave : Return
   pub written : Appends b.streams.requests b'.streams.requests (request_of call)
@@ -37,4 +38,5 @@ other_card card b = card b.other
 abbrev pub ShowsOtherCard : {S : Type 0} → (S → Call → Return → S → Type 0) → (S → Option Card) → Type 0
 ShowsOtherCard {S} steps card =
     KeepsTables (BothSteps steps) (other_card card)
-    × ((call : Call) (returned : Return) (b b' : Both S) → BothMade steps call returned b b' → Asked call returned b.streams b'.streams)
+    × ((call : Call) (returned : Return) (b b' : Both S) → BothMade steps call returned b b' →
+    Asked call returned b.streams b'.streams)

@@ -27,9 +27,10 @@ ReadsNoLine faults.Read old new = Unit {0}
 ReadsNoLine fault old new = ⊥
 
 -- a line was read, without its line feed, or none was
-abbrev pub ReadsLine : {A : Type 0} → Option (List ℕ) → Option (List ℕ) → (text : List ℕ) → Result A LineFault → Type 0
+abbrev pub ReadsLine : {A : Type 0} → (old new : Option (List ℕ)) → (text : List ℕ) → Result A LineFault → Type 0
 ReadsLine old new text result =
-    MatchResult result (λ _. IsText text × (length text ≤ 1024) × Consumes old new (text ++ line_feed)) (λ fault. ReadsNoLine fault old new)
+    MatchResult result (λ _. IsText text × (length text ≤ 1024) × Consumes old new (text ++ line_feed))
+    (λ fault. ReadsNoLine fault old new)
 
 -- DIGITS: a line of digits of so many bytes, 512 at most
 
@@ -53,9 +54,11 @@ pub record DigitsRead (old new : Option (List ℕ)) (bytes : List ℕ) : Type 0 
   pub short : length bytes ≤ 512
   pub read : Consumes old new (text ++ line_feed)
 
-abbrev pub ReadsDigits : {A : Type 0} → Option (List ℕ) → Option (List ℕ) → (count : ℕ) (bytes : List ℕ) → Result A LineFault → Type 0
+abbrev pub ReadsDigits : {A : Type 0} → (old new : Option (List ℕ)) → (count : ℕ) → (bytes : List ℕ) →
+    Result A LineFault → Type 0
 ReadsDigits old new count bytes result =
-    MatchResult result (λ _. DigitsRead old new bytes × (length bytes ≡ count)) (λ fault. ReadsNoDigits fault count old new)
+    MatchResult result (λ _. DigitsRead old new bytes × (length bytes ≡ count))
+    (λ fault. ReadsNoDigits fault count old new)
 
 -- BLOCKS: a line of digits for each
 
@@ -78,6 +81,8 @@ pub record BlocksRead (old new : Option (List ℕ)) (blocks : List Block) : Type
   pub are : AreBlocks texts blocks
   pub read : Consumes old new (lines_of texts)
 
-abbrev pub ReadsBlocks : {A : Type 0} → Option (List ℕ) → Option (List ℕ) → (count : ℕ) (blocks : List Block) → Result A LineFault → Type 0
+abbrev pub ReadsBlocks : {A : Type 0} → (old new : Option (List ℕ)) → (count : ℕ) → (blocks : List Block) →
+    Result A LineFault → Type 0
 ReadsBlocks old new count blocks result =
-    MatchResult result (λ _. BlocksRead old new blocks × (length blocks ≡ count)) (λ fault. ReadsNoBlocks fault count old new)
+    MatchResult result (λ _. BlocksRead old new blocks × (length blocks ≡ count))
+    (λ fault. ReadsNoBlocks fault count old new)

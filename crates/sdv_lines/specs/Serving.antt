@@ -53,25 +53,29 @@ pub record Turn : Type 0 where
   pub returned : Return
 
 -- the request was read, and the call made
-pub record Made {S : Type 0} (steps : S → Call → Return → S → Type 0) (turn : Turn) (p p' : S) (a a' : Option (List ℕ)) : Type 0 where
+pub record Made {S : Type 0} (steps : S → Call → Return → S → Type 0) (turn : Turn) (p p' : S)
+    (a a' : Option (List ℕ)) : Type 0 where
   pub lines : AllByRecursion IsText turn.texts
   pub asks : IsRequest turn.call turn.texts
   pub read : Consumes a a' (lines_of turn.texts)
   pub step : steps p turn.call turn.returned p'
 
 -- and it was answered
-pub record Served {S : Type 0} (steps : S → Call → Return → S → Type 0) (turn : Turn) (p p' : S) (a a' r r' : Option (List ℕ)) : Type 0 where
+pub record Served {S : Type 0} (steps : S → Call → Return → S → Type 0) (turn : Turn) (p p' : S)
+    (a a' r r' : Option (List ℕ)) : Type 0 where
   pub made : Made steps turn p p' a a'
   pub answered : Appends r r' (answer_of turn.returned)
 
 -- or the answer was not written whole
-pub record ServedInPart {S : Type 0} (steps : S → Call → Return → S → Type 0) (p p' : S) (a a' r r' : Option (List ℕ)) : Type 0 where
+pub record ServedInPart {S : Type 0} (steps : S → Call → Return → S → Type 0) (p p' : S)
+    (a a' r r' : Option (List ℕ)) : Type 0 where
   pub turn : Turn
   pub made : Made steps turn p p' a a'
   pub front : AppendsFront r r' (answer_of turn.returned)
 
 -- a call was made once, and its answer written
-abbrev pub Does : {S A : Type 0} → (S → Call → Return → S → Type 0) → Call → (p p' : S) → (r r' : Option (List ℕ)) → Result A LineFault → Type 0
+abbrev pub Does : {S A : Type 0} → (S → Call → Return → S → Type 0) → Call → (p p' : S) → (r r' : Option (List ℕ)) →
+    Result A LineFault → Type 0
 Does steps call p p' r r' result =
     (returned : Return) × steps p call returned p' × Sends r r' result (answer_of returned)
 
@@ -83,7 +87,8 @@ pub data NoRequest (room : ℕ) (bytes : List ℕ) : Type 0 where
   -- a line of more than 1,024 bytes
   Overlong : BeginsLong bytes → NoRequest room bytes
   -- a line that says nothing
-  Unknown : (text rest : List ℕ) → IsText text → bytes ≡ text ++ 10 ∷ rest → read_request text ≡ None → NoRequest room bytes
+  Unknown : (text rest : List ℕ) → IsText text → bytes ≡ text ++ 10 ∷ rest → read_request text ≡ None →
+      NoRequest room bytes
   -- a phase of too many blocks
   TooMany : (text rest : List ℕ) (count lines : ℕ) → IsText text → bytes ≡ text ++ 10 ∷ rest
       → (read_request text ≡ Some (requests.DataIn count lines)) ⊎ (read_request text ≡ Some (requests.DataOut count lines))
@@ -100,7 +105,8 @@ NotHeard faults.Line room a a' = IfSome a (NoRequest room)
 NotHeard faults.Write room a a' = ⊥
 
 -- why a request was not served: its answer was not written, or it is none, and nothing was done
-abbrev pub Stops : {S : Type 0} → (S → Call → Return → S → Type 0) → LineFault → (room : ℕ) → (p p' : S) → (a a' r r' : Option (List ℕ)) → Type 0
+abbrev pub Stops : {S : Type 0} → (S → Call → Return → S → Type 0) → LineFault → (room : ℕ) → (p p' : S) →
+    (a a' r r' : Option (List ℕ)) → Type 0
 Stops steps faults.Write room p p' a a' r r' = ServedInPart steps p p' a a' r r'
 Stops steps fault room p p' a a' r r' = (p' ≡ p) × (r' ≡ r) × NotHeard fault room a a'
 
@@ -110,8 +116,8 @@ lines_in (requests.DataOut count lines) = 1 + count
 lines_in request = 1
 
 -- a request that was read was served, or not
-abbrev pub Serves : {S : Type 0} → (S → Call → Return → S → Type 0) → (room : ℕ) → (lines : ℕ) → (p p' : S) → (a a' r r' : Option (List ℕ)) →
-    Result (Unit {0}) LineFault → Type 0
+abbrev pub Serves : {S : Type 0} → (S → Call → Return → S → Type 0) → (room : ℕ) → (lines : ℕ) → (p p' : S) →
+    (a a' r r' : Option (List ℕ)) → Result (Unit {0}) LineFault → Type 0
 Serves steps room lines p p' a a' r r' result =
     MatchResult result (λ _. (turn : Turn) × Served steps turn p p' a a' r r' × (length turn.texts ≡ lines))
     (λ fault. Stops steps fault room p p' a a' r r')
@@ -131,7 +137,8 @@ ReadsRequest a a' (Err fault) = (room : ℕ) → NotHeard fault room a a'
 
 -- ALL REQUESTS, one after another
 
-abbrev pub ServedAll : {S : Type 0} → (S → Call → Return → S → Type 0) → List Turn → (p p' : S) → (a a' r r' : Option (List ℕ)) → Type 0
+abbrev pub ServedAll : {S : Type 0} → (S → Call → Return → S → Type 0) → List Turn → (p p' : S) →
+    (a a' r r' : Option (List ℕ)) → Type 0
 ServedAll steps [] p p' a a' r r' = (p' ≡ p) × (a' ≡ a) × (r' ≡ r)
 ServedAll {S} steps (turn ∷ turns) p p' a a' r r' =
     (q : S) × (b s : Option (List ℕ)) × Served steps turn p q a b r s × ServedAll steps turns q p' b a' s r'
@@ -142,7 +149,8 @@ lines_read [] = 0
 lines_read (turn ∷ turns) = length turn.texts + lines_read turns
 
 -- all requests were served, up to the end
-pub record ServedToEnd {S : Type 0} (steps : S → Call → Return → S → Type 0) (p p' : S) (a a' r r' : Option (List ℕ)) : Type 0 where
+pub record ServedToEnd {S : Type 0} (steps : S → Call → Return → S → Type 0) (p p' : S)
+    (a a' r r' : Option (List ℕ)) : Type 0 where
   pub turns : List Turn
   pub left : Option (List ℕ)
   pub served : ServedAll steps turns p p' a left r r'
@@ -159,7 +167,7 @@ pub record ServedUpTo {S : Type 0} (steps : S → Call → Return → S → Type
   pub line : stop.line ≡ min (1 + lines_read turns) (2 ^ 64 - 1)
   pub stops : Stops steps stop.fault room port p' left a' told r'
 
-abbrev pub ServesAll : {S : Type 0} → (S → Call → Return → S → Type 0) → (room : ℕ) → (p p' : S) → (a a' r r' : Option (List ℕ)) →
-    Result (Unit {0}) ServeFault → Type 0
+abbrev pub ServesAll : {S : Type 0} → (S → Call → Return → S → Type 0) → (room : ℕ) → (p p' : S) →
+    (a a' r r' : Option (List ℕ)) → Result (Unit {0}) ServeFault → Type 0
 ServesAll steps room p p' a a' r r' result =
     MatchResult result (λ _. ServedToEnd steps p p' a a' r r') (λ stop. ServedUpTo steps stop room p p' a a' r r')

@@ -69,7 +69,8 @@ Failed fault call a a' r r' = Appends r r' (request_of call) × Unheard fault ca
 -- its request was written and its answer read, or its streams failed
 abbrev pub Asks : {A : Type 0} → Call → (A → Return) → (a a' r r' : Option (List ℕ)) → Result A LineFault → Type 0
 Asks call returns a a' r r' result =
-    MatchResult result (λ x. Appends r r' (request_of call) × Heard call (returns x) a a') (λ fault. Failed fault call a a' r r')
+    MatchResult result (λ x. Appends r r' (request_of call) × Heard call (returns x) a a')
+    (λ fault. Failed fault call a a' r r')
 
 -- THE STEPS OF A PORT OF LINES
 
@@ -106,7 +107,8 @@ abbrev pub TellsEnd : Streams → List ℕ → Result (Unit {0}) LineFault → S
 TellsEnd s line result s' =
     MatchOption s.fault
     (MatchResult result (λ _. Appends s.requests s'.requests line × (s'.fault ≡ None))
-    (λ why. (why ≡ faults.Write) × AppendsFront s.requests s'.requests line × (s'.fault ≡ Some why)) × (s'.answers ≡ s.answers))
+    (λ why. (why ≡ faults.Write) × AppendsFront s.requests s'.requests line × (s'.fault ≡ Some why))
+    × (s'.answers ≡ s.answers))
     (λ why. (result ≡ Err why) × (s' ≡ s))
 
 -- what is known of a port

@@ -54,7 +54,8 @@ pub fn send_blocks_behind<W: Write>(
     line: &[u8],
     blocks: &[[u8; 512]],
 ) -> Result<(), LineFault>
-    ensures { Sends (W.contents writer.old) (W.contents writer.new) result (line.now ++ lines_of (block_texts blocks.now)) }
+    ensures { Sends (W.contents writer.old) (W.contents writer.new) result
+        (line.now ++ lines_of (block_texts blocks.now)) }
 {
     put(writer, line)?;
     put_blocks(writer, blocks)?;

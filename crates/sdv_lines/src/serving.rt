@@ -21,7 +21,8 @@ pub fn serve_exchange<P: CardPort, W: Write>(
     expect: Expect,
 ) -> Result<(), LineFault>
     requires { command.index < 64 }
-    ensures { Does P.steps (Exchange command expect) port.old port.new (W.contents writer.old) (W.contents writer.new) result }
+    ensures { Does P.steps (Exchange command expect) port.old port.new (W.contents writer.old)
+        (W.contents writer.new) result }
 {
     let answer = port.exchange(command, expect);
     send(writer, answer_line(&answer).as_slice())
@@ -34,7 +35,8 @@ pub fn serve_data_in<P: CardPort, W: Write>(
     lines: u8,
     blocks: &mut [[u8; 512]],
 ) -> Result<(), LineFault>
-    ensures { Does P.steps (DataIn lines (length blocks.old)) port.old port.new (W.contents writer.old) (W.contents writer.new) result }
+    ensures { Does P.steps (DataIn lines (length blocks.old)) port.old port.new (W.contents writer.old)
+        (W.contents writer.new) result }
 {
     match port.data_in(lines, blocks) {
         DataEnd::Ok => send_blocks_behind(writer, b"ok\n", blocks),
@@ -50,7 +52,8 @@ pub fn serve_register<P: CardPort, W: Write>(
     bytes: &mut [u8],
 ) -> Result<(), LineFault>
     requires { length bytes.old ≤ 512 }
-    ensures { Does P.steps (DataInRegister lines (length bytes.old)) port.old port.new (W.contents writer.old) (W.contents writer.new) result }
+    ensures { Does P.steps (DataInRegister lines (length bytes.old)) port.old port.new (W.contents writer.old)
+        (W.contents writer.new) result }
 {
     match port.data_in_reg(lines, bytes) {
         DataEnd::Ok => send_digits_behind(writer, b"ok\n", bytes),
@@ -65,7 +68,8 @@ pub fn serve_data_out<P: CardPort, W: Write>(
     lines: u8,
     blocks: &[[u8; 512]],
 ) -> Result<(), LineFault>
-    ensures { Does P.steps (DataOut lines blocks.now) port.old port.new (W.contents writer.old) (W.contents writer.new) result }
+    ensures { Does P.steps (DataOut lines blocks.now) port.old port.new (W.contents writer.old)
+        (W.contents writer.new) result }
 {
     match port.data_out(lines, blocks) {
         DataEnd::Ok => send(writer, b"ok\n"),
