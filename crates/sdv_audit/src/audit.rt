@@ -69,6 +69,27 @@ impl Audit {
         })
     }
 
+    /// The shapes at which a card may stand; where there is none, the audit waits for a CMD0.
+    pub fn shapes(&self) -> &[Shape]
+        ensures { result.now ≡ self.now.shapes.items }
+    {
+        self.shapes.as_slice()
+    }
+
+    /// What the trace tells of the host so far.
+    pub fn known(&self) -> &HostKnown
+        ensures { result.now ≡ self.now.known }
+    {
+        &self.known
+    }
+
+    /// Whether each address so far is that of blocks of some card of the profile. Then each shape is that of a real card.
+    pub fn is_bounded(&self) -> bool
+        ensures { result ≡ self.now.bounded }
+    {
+        self.bounded
+    }
+
     /// The shapes after a line.
     fn after(&self, turn: &Turn, line: &TraceLine) -> Result<Vec<Shape>, AuditFault>
         ensures { IfOk result (λ all. (s : CardShape) → May all.items s ↔
