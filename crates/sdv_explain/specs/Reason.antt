@@ -58,7 +58,7 @@ row_rules k row t =
     ∷ (preset_allows row t.preset otherwise told.PresetCount t.preset)
     ∷ []
 
--- a card takes an application command with its application flag alone, and with it few other commands
+-- without the application flag a card takes no application command, and with it few others
 abbrev pub forbidden : (app : Bool) → Reason
 forbidden true = told.NotForApplications
 forbidden false = told.OnlyForApplications

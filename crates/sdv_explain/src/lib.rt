@@ -1,8 +1,10 @@
 //! Why a script is refused, and what is known at each of its points, in words.
 //!
-//! Begin at `explain`. The way to a shape that it tells is proved: `find_way` finds it, and `specs/Way.antt` says what a
-//! way through the graph of a script is. The words are those of `sdv_telling`, and no clause says which stand in an
-//! explanation; a heading has the first words of its statement (`specs/Headings.antt`).
+//! Begin at `explain`. The way to a shape that it tells is proved: `find_way` finds one with the fewest visits, and none
+//! exactly where there is none; `specs/Way.antt` says what a way through the graph of a script is. So is the reason why
+//! an event is not legal: `specs/Reason.antt` has the rules in the order in which they are tried. The words are those of
+//! `sdv_telling`, and no clause says which stand in an explanation; a heading has the first words of its statement
+//! (`specs/Headings.antt`).
 #![tactic(auto)]
 
 mod edges;
