@@ -1,19 +1,18 @@
 -- What the row of a command says is enough.
-use Rattle.std.proofs.Common.{◌≡◌, ℕ, List, Option, Some, None, refl, ap, sym, ◌∙◌}
+use Rattle.std.proofs.Common.{◌≡◌, ℕ, List, Option, Some, refl, ap, sym, ◌∙◌}
 use Rattle.sdv_frames.specs.declared.reply.Reply.TheVariants.{R1, R2, R3, R6, R7}
-use Rattle.sdv_frames.specs.declared.reply.Expect.{Expect}
 use Rattle.sdv_registers.specs.declared.kind.Kind.{Kind}
 use Rattle.sdv_card.specs.declared.event.Ask.{Ask}
 use Rattle.sdv_card.specs.declared.answer.Answer.{Answer}
 use Rattle.sdv_card.specs.declared.answer.Answer.TheVariants.{Sent, TimeOut, Reply, Damaged}
 use Rattle.sdv_card.specs.declared.command.Order.{Order}
-use Rattle.sdv_card.specs.declared.command.Order.TheVariants.{GoIdleState, SendRelativeAddress, SetRelativeAddress, SendCsd, ReadSingleBlock, ReadMultipleBlock, WriteBlock, WriteMultipleBlock}
-use Rattle.sdv_card.specs.CommandTable.{order_of, order_argument, argument_or_none, argument_of, order_expect, expect_or_nothing}
+use Rattle.sdv_card.specs.declared.command.Order.TheVariants.{GoIdleState, SendRelativeAddress, SendCsd, ReadSingleBlock, ReadMultipleBlock, WriteBlock, WriteMultipleBlock}
+use Rattle.sdv_card.specs.CommandTable.{order_argument, argument_or_none, order_expect, expect_or_nothing}
 use Rattle.sdv_card.specs.Host.{Host, host_after_order, rca_known, csd_known, announced_by, register_length_by}
 use Rattle.sdv_card.proofs.RowsOfOrders.{order_index}
 use Rattle.sdv_card.proofs.OrdersOfAsks.{LineOf, WritesCount, line_of}
 use Rattle.sdv_table.specs.Fits.{HasOrder}
-use Rattle.sdv_table.specs.Sending.{sending_of, source_of, source_or_own, data_after, data_or_nothing, argument_from, argument_by, rca_from, rca_by, csd_from, csd_by, announced_from, length_from, host_by, IsEnough}
+use Rattle.sdv_table.specs.Sending.{source_of, source_or_own, data_after, data_or_nothing, argument_from, rca_from, rca_by, csd_from, csd_by, announced_from, length_from, IsEnough}
 
 argument_enough : (order : Order) (argument rca address : ℕ)
     → argument_from (source_of order) (order_argument order argument 0 0) rca address ≡ order_argument order argument rca address

@@ -1,13 +1,13 @@
 -- The words of one point more.
-use Rattle.std.proofs.Common.{◌≡◌, ℕ, ◌+◌, ◌*◌, ◌≤◌, List, [], ◌∷◌, ◌++◌, length, take, drop, Option, Some, slice_get, ap, sym, ◌∙◌, subst, append_assoc, length-append, arith, rules}
+use Rattle.std.proofs.Common.{◌≡◌, ℕ, ◌+◌, ◌*◌, ◌≤◌, List, [], ◌∷◌, ◌++◌, length, take, drop, Some, slice_get, ap, sym, ◌∙◌, subst, append_assoc, length-append, arith, rules}
 use Rattle.std.proofs.lemmas.List.{take_more, take-append-drop}
 use Rattle.std.proofs.lemmas.Option.{slice_get_within, get_or_from_slice_get}
 use Rattle.sdv_registers.specs.declared.kind.Kind.{Kind}
 use Rattle.sdv_graph.specs.Path.{Point}
 use Rattle.sdv_graph.specs.Graph.{Graph}
 use Rattle.sdv_table.specs.declared.counts.Counts.{Counts}
-use Rattle.sdv_table.specs.Row.{head_of_action, row_of_action, target_word, low, high}
-use Rattle.sdv_table.specs.Table.{heads, rows, magic, version, kind_code, first_row, size, header, table_of}
+use Rattle.sdv_table.specs.Row.{head_of_action, row_of_action}
+use Rattle.sdv_table.specs.Table.{heads, rows, first_row, header, table_of}
 use Rattle.sdv_table.specs.Fits.{ActionFits, PointsFit}
 
 pub take_next : (ps : List Point) (i : ℕ) (p : Point) → slice_get ps i ≡ Some p → take (i + 1) ps ≡ take i ps ++ p ∷ []
@@ -73,22 +73,7 @@ done_next k c ps i {k'} {c'} {start} {hs} {rs} {hs'} {rs'} {p} {head} {place} sa
     } in
     subst (λ ps. Done k c start ps hs' rs') (sym (take_next ps i p e)) all
 
--- the words of the header, one pushed after another
-pub header_is : (g : Graph) {w0 w1 w2 w3 w4 w5 : List ℕ} {a b c d n : ℕ}
-    → w0 ≡ [] → w1 ≡ w0 ++ a ∷ [] → w2 ≡ w1 ++ b ∷ [] → w3 ≡ w2 ++ c ∷ [] → w4 ≡ w3 ++ d ∷ [] → w5 ≡ w4 ++ low n ∷ high n ∷ []
-    → a ≡ magic → b ≡ version + 256 * (kind_code g.kind + 256 * (g.numbers + 256 * g.flags))
-    → c ≡ length g.points + 65536 * size g → d ≡ target_word g.first → n ≡ g.steps → w5 ≡ header g
-header_is g {w0} {w1} {w2} {w3} {w4} {w5} {a} {b} {c} {d} {n} e0 e1 e2 e3 e4 e5 ea eb ec ed en =
-    let two : w2 ≡ a ∷ b ∷ [] = e2 ∙ ap (λ w. w ++ b ∷ []) (e1 ∙ ap (λ w. w ++ a ∷ []) e0) in
-    let four : w4 ≡ a ∷ b ∷ c ∷ d ∷ [] = e4 ∙ ap (λ w. w ++ d ∷ []) (e3 ∙ ap (λ w. w ++ c ∷ []) two) in
-    let all : w5 ≡ a ∷ b ∷ c ∷ d ∷ low n ∷ high n ∷ [] = e5 ∙ ap (λ w. w ++ low n ∷ high n ∷ []) four in
-    let parts = version + 256 * (kind_code g.kind + 256 * (g.numbers + 256 * g.flags)) in
-    let counts = length g.points + 65536 * size g in
-    all ∙ ap (λ a. a ∷ b ∷ c ∷ d ∷ low n ∷ high n ∷ []) ea ∙ ap (λ b. magic ∷ b ∷ c ∷ d ∷ low n ∷ high n ∷ []) eb
-    ∙ ap (λ c. magic ∷ parts ∷ c ∷ d ∷ low n ∷ high n ∷ []) ec
-    ∙ ap (λ d. magic ∷ parts ∷ counts ∷ d ∷ low n ∷ high n ∷ []) ed
-    ∙ ap (λ n. magic ∷ parts ∷ counts ∷ target_word g.first ∷ low n ∷ high n ∷ []) en
-
+-- the words of the table, one part after another
 pub table_is : (g : Graph) {w5 w6 w7 hs rs : List ℕ} → w5 ≡ header g → w6 ≡ w5 ++ hs → w7 ≡ w6 ++ rs
     → hs ≡ heads g.kind (first_row g) g.points → rs ≡ rows g.kind g.points → w7 ≡ table_of g
 unfolding table_of

@@ -1,5 +1,5 @@
 -- What was put into words is read back.
-use Rattle.std.proofs.Common.{◌≡◌, ℕ, List, [], ◌∷◌, ◌++◌, ◌+◌, ◌*◌, ◌/◌, ◌%◌, ◌<◌, ◌≤◌, ◌==◌, length, drop, slice_index, Option, Some, None, suc, zero, true, false, refl, ap, sym, ◌∙◌, arith, lit<}
+use Rattle.std.proofs.Common.{◌≡◌, ℕ, List, [], ◌∷◌, ◌++◌, ◌+◌, ◌*◌, ◌/◌, ◌%◌, ◌<◌, ◌≤◌, ◌==◌, length, drop, Option, Some, None, suc, zero, false, refl, ap, sym, ◌∙◌, arith, lit<}
 use Rattle.std.proofs.lemmas.Bool.{ne_eqb}
 use Rattle.std.proofs.lemmas.Bool.Decides.{nat_tests}
 use Rattle.sdv_frames.specs.declared.reply.Expect.{Expect}
@@ -41,10 +41,10 @@ use Rattle.sdv_table.specs.declared.sending.Data.TheVariants as uses
 use Rattle.sdv_table.specs.declared.sending.Source.{Source}
 use Rattle.sdv_table.specs.declared.sending.Source.TheVariants as sources
 use Rattle.sdv_table.specs.declared.sending.Sending.{Sending}
-use Rattle.sdv_table.specs.Sending.{sending_of, data_or_nothing}
+use Rattle.sdv_table.specs.Sending.{sending_of}
 use Rattle.sdv_table.specs.Row.{turns_number, target_word, atom_code, atom_words, change_code, change_words, condition_code, condition_words, phase_code, width_code, aim_code, unit_code, position_code, position_number, address_words, has_address, low, high, guard_code, guards_word, cases_words, name_words, expect_code, data_code, source_code, counts_word}
-use Rattle.sdv_table.specs.Reading.{enter_of, target_of, number_at, atom_of, code_size, change_of, condition_of, phase_of, width_of, aim_of, unit_of, position_of, address_of, own_argument, command_of, cases_place, let_of, guard_of, guards_of, cases_of, expect_read, data_read, source_read, sending_read, byte_at, name_of}
-use Rattle.sdv_table.specs.Fits.{EnterFits, TargetFits, CasesFit, AtomFits, ChangeFits, ConditionFits, UnitFits, PositionFits, AddressFits, CommandFits, LetFits, AreBytes, HasOrder, greatest}
+use Rattle.sdv_table.specs.Reading.{enter_of, target_of, number_at, atom_of, code_size, change_of, condition_of, phase_of, width_of, aim_of, unit_of, position_of, address_of, own_argument, command_of, cases_place, let_of, guard_of, guards_of, cases_of, expect_read, data_read, source_read, sending_read, name_of}
+use Rattle.sdv_table.specs.Fits.{EnterFits, TargetFits, CasesFit, AtomFits, UnitFits, AddressFits, CommandFits, LetFits, AreBytes, HasOrder, greatest}
 use Rattle.sdv_table.proofs.Small.{guard_small}
 
 -- TARGETS AND NUMBERS

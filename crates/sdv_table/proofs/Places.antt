@@ -1,10 +1,9 @@
 -- Where the word and the row of a point stand in a table, and what is read there.
-use Rattle.std.proofs.Common.{◌≡◌, ℕ, ◌+◌, ◌*◌, ◌/◌, ◌%◌, ◌<◌, ◌≤◌, List, [], ◌∷◌, ◌++◌, suc, length, take, drop, get_or, slice_index, nat_lt, true, false, Option, Some, None, slice_get, option_map, refl, ap, sym, ◌∙◌, subst, append_assoc, length-append, arith, inl, inr, if◌then◌else◌}
+use Rattle.std.proofs.Common.{◌≡◌, ℕ, ◌+◌, ◌*◌, ◌%◌, ◌<◌, ◌≤◌, List, [], ◌∷◌, ◌++◌, suc, length, take, drop, slice_index, Some, None, slice_get, option_map, refl, ap, sym, ◌∙◌, subst, append_assoc, length-append, arith, inl, inr, if◌then◌else◌}
 use Rattle.std.proofs.lemmas.Bool.{lt-ltb, le-ltb}
 use Rattle.std.proofs.lemmas.List.{take-append-drop, get_or_at, drop_at, length-take-le}
-use Rattle.std.proofs.lemmas.Option.{slice_get_within, slice_get_past, slice_get_cases}
+use Rattle.std.proofs.lemmas.Option.{slice_get_within, slice_get_cases}
 use Rattle.sdv_registers.specs.declared.kind.Kind.{Kind}
-use Rattle.sdv_registers.specs.declared.kind.Kind.TheVariants.{Sd, Emmc}
 use Rattle.sdv_graph.specs.Path.{Point, Action}
 use Rattle.sdv_graph.specs.Graph.{Graph}
 use Rattle.sdv_table.specs.declared.counts.Counts.{Counts}
@@ -12,7 +11,7 @@ use Rattle.sdv_table.specs.Row.{head_of_action, kind_of_action, small_of_action,
 use Rattle.sdv_table.specs.Table.{heads, rows, first_row, size, header, table_of}
 use Rattle.sdv_table.specs.Reading.{counts_read, head_read, place_read, small_read, row_read, action_of, action_at, sending_at}
 use Rattle.sdv_table.specs.Loading.{IsSentRight}
-use Rattle.sdv_table.specs.Fits.{Fits, IsTable, PointsFit, ActionFits, PartsFit, IsOfKind, counts_of, greatest}
+use Rattle.sdv_table.specs.Fits.{IsTable, PointsFit, ActionFits, PartsFit, counts_of, greatest}
 use Rattle.sdv_table.proofs.Greatest.{parts_grown}
 use Rattle.sdv_table.proofs.Growing.{take_next, rows_append}
 use Rattle.sdv_table.proofs.Statements.{action_back, small_fits, sent_back}

@@ -1,7 +1,7 @@
 -- What is small enough for its bits.
 use Rattle.std.proofs.Common.{◌≡◌, ℕ, zero, suc, ◌-◌, ◌<◌, ◌≤◌, List, [], ◌∷◌, length, take, drop, slice_index, arith, lit<}
 use Rattle.sdv_card.specs.declared.guard.Guard.{Guard}
-use Rattle.sdv_card.specs.declared.guard.Guard.TheVariants.{Timeout, Answer, Clean, Ready, App, Echo, OcrReady, OcrBlock, State as InState, Ok as WentWell}
+use Rattle.sdv_card.specs.declared.guard.Guard.TheVariants.{State as InState}
 use Rattle.sdv_card.specs.declared.state.State.{State}
 use Rattle.sdv_card.specs.declared.state.State.TheVariants as states
 use Rattle.sdv_card.specs.States.{state_number}

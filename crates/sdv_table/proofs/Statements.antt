@@ -20,9 +20,9 @@ use Rattle.sdv_graph.specs.Walk.{Finished, Failed}
 use Rattle.sdv_graph.specs.Path.{Case, Action, sends, phases as phase_point, lets, tests, flags, widths, heads, jumps, stops}
 use Rattle.sdv_table.specs.Sending.{sending_of}
 use Rattle.sdv_table.specs.Row.{target_word, address_words, has_address, cases_words, counts_word, condition_words, condition_code, atom_code, change_code, phase_code, width_code, bool_code, aim_code, low, high, kind_of_action, small_of_action, row_of_action}
-use Rattle.sdv_table.specs.Reading.{target_of, command_of, cases_of, cases_count, cases_place, condition_of, number_at, phase_of, width_of, let_of, name_of, action_of, sending_read}
+use Rattle.sdv_table.specs.Reading.{target_of, cases_of, cases_count, cases_place, number_at, action_of, sending_read}
 use Rattle.sdv_table.specs.Loading.{IsSentRight}
-use Rattle.sdv_table.specs.Fits.{TargetFits, CasesFit, CommandFits, AtomFits, ConditionFits, PartsFit, IsOfKind, HasOrder, greatest}
+use Rattle.sdv_table.specs.Fits.{TargetFits, CommandFits, AtomFits, ConditionFits, PartsFit, IsOfKind, HasOrder, greatest}
 use Rattle.sdv_table.proofs.Inverse.{target_back, command_back, counts_back, sending_back, cases_back, dropped, let_back, condition_back, number_back, phase_back, width_back, name_back}
 
 aim_small : (a : Aim) → aim_code a < 2

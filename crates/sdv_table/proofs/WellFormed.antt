@@ -1,5 +1,5 @@
 -- The table of a graph is well formed.
-use Rattle.std.proofs.Common.{◌≡◌, ℕ, suc, ◌+◌, ◌*◌, ◌/◌, ◌%◌, ◌==◌, ◌<◌, ◌≤◌, List, [], ◌∷◌, ◌++◌, length, slice_index, Option, Some, None, slice_get, refl, ap, sym, ◌∙◌, subst, length-append, arith, inl, inr, lit<, if◌then◌else◌}
+use Rattle.std.proofs.Common.{◌≡◌, ℕ, ◌+◌, ◌*◌, ◌/◌, ◌%◌, ◌==◌, ◌<◌, ◌≤◌, List, [], ◌∷◌, ◌++◌, length, slice_index, Option, Some, None, slice_get, refl, ap, sym, ◌∙◌, subst, length-append, arith, inl, inr, lit<, if◌then◌else◌}
 use Rattle.std.proofs.lemmas.Option.{slice_get_cases}
 use Rattle.sdv_registers.specs.declared.kind.Kind.{Kind}
 use Rattle.sdv_registers.specs.declared.kind.Kind.TheVariants.{Sd, Emmc}
@@ -10,18 +10,18 @@ use Rattle.sdv_graph.specs.declared.tree.Change.{Change}
 use Rattle.sdv_graph.specs.declared.tree.Change.TheVariants as changes
 use Rattle.sdv_graph.specs.declared.tree.Condition.{Condition}
 use Rattle.sdv_graph.specs.declared.tree.Condition.TheVariants as conditions
-use Rattle.sdv_graph.specs.Walk.{Finished, Failed}
-use Rattle.sdv_graph.specs.Path.{Case, Action, Point, sends, phases, lets, tests, flags, widths, heads as heads_point, jumps, stops}
+use Rattle.sdv_graph.specs.Walk.{Failed}
+use Rattle.sdv_graph.specs.Path.{Case, Action, Point, sends, lets, tests, stops}
 use Rattle.sdv_graph.specs.Graph.{Graph}
 use Rattle.sdv_table.specs.declared.counts.Counts.{Counts}
-use Rattle.sdv_table.specs.Row.{address_words, address_size, atom_words, atom_size, change_words, change_size, condition_words, condition_size, cases_words, name_words, row_of_action, row_size, target_word}
+use Rattle.sdv_table.specs.Row.{address_words, address_size, atom_words, atom_size, change_words, change_size, condition_words, condition_size, cases_words, name_words, row_of_action, row_size}
 use Rattle.sdv_table.specs.Table.{heads, rows, kind_code, magic, version, first_row, header, size, table_of}
 use Rattle.sdv_table.specs.Reading.{target_of, kind_read, counts_read, sending_at}
 use Rattle.sdv_table.specs.Fits.{IsTable, CountsFit, ActionFits, TargetFits, counts_of}
-use Rattle.sdv_table.specs.Loading.{IsPoint, IsSentRight, HasSize, HasCounts, IsWellFormed}
+use Rattle.sdv_table.specs.Loading.{IsPoint, IsSentRight, IsWellFormed}
 use Rattle.sdv_table.proofs.Greatest.{target_grown}
 use Rattle.sdv_table.proofs.Inverse.{target_back}
-use Rattle.sdv_table.proofs.Places.{There, there, place, row_inside, length-heads, action_there, sending_there}
+use Rattle.sdv_table.proofs.Places.{There, there, row_inside, length-heads, action_there, sending_there}
 
 -- HOW LONG A ROW IS
 

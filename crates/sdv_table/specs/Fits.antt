@@ -8,7 +8,7 @@ use Rattle.sdv_graph.specs.declared.graph.Target.{Target}
 use Rattle.sdv_graph.specs.declared.tree.ScriptCommand.{ScriptCommand}
 use Rattle.sdv_graph.specs.declared.tree.Address.{Address}
 use Rattle.sdv_graph.specs.declared.tree.Unit.{Unit as AddressUnit}
-use Rattle.sdv_graph.specs.declared.tree.Unit.TheVariants.{Block, Byte, By}
+use Rattle.sdv_graph.specs.declared.tree.Unit.TheVariants.{By}
 use Rattle.sdv_graph.specs.declared.tree.Position.{Position}
 use Rattle.sdv_graph.specs.declared.tree.Position.TheVariants as positions
 use Rattle.sdv_graph.specs.declared.tree.Atom.{Atom}

@@ -1,4 +1,4 @@
-use Rattle.std.proofs.Common.{◌≡◌, ◌≤◌, length, take, ap, arith}
+use Rattle.std.proofs.Common.{◌≡◌, length, take, ap, arith}
 use Rattle.sdv_graph.specs.Graph.{seen_action}
 use Rattle.sdv_table.specs.Table.{rows}
 use Rattle.sdv_table.proofs.Greatest.{parts_grown}

@@ -1,5 +1,5 @@
-use Rattle.std.proofs.Common.{◌≡◌, ◌+◌, ◌<◌, ◌≤◌, ◌++◌, length, ap, arith, ◌∙◌, sym, subst}
-use Rattle.sdv_table.specs.Table.{heads, rows, first_row, size}
+use Rattle.std.proofs.Common.{◌≡◌, ◌+◌, ◌++◌, length, ap, arith, ◌∙◌, subst}
+use Rattle.sdv_table.specs.Table.{rows, size}
 use Rattle.sdv_table.specs.Fits.{CountsFit, TargetFits, counts_of}
 use Rattle.sdv_table.proofs.Growing.{table_is}
 use Rattle.sdv_table.proofs.encoding.table_of.Goals as goal

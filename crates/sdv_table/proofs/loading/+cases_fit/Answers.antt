@@ -1,6 +1,6 @@
-use Rattle.std.proofs.Common.{◌≡◌, ◌-◌, ◌∷◌, suc, drop, subst, arith}
+use Rattle.std.proofs.Common.{◌≡◌, ◌-◌, suc, subst, arith}
 use Rattle.sdv_table.specs.Fits.{CasesFit}
-use Rattle.sdv_table.specs.Reading.{cases_of, target_of}
+use Rattle.sdv_table.specs.Reading.{cases_of}
 use Rattle.sdv_table.proofs.Lengths.{cases_more}
 use Rattle.sdv_table.proofs.loading.+cases_fit.Goals as goal
 

@@ -1,4 +1,4 @@
-use Rattle.std.proofs.Common.{◌≡◌, ◌+◌, ◌/◌, ap, sym, ◌∙◌, arith}
+use Rattle.std.proofs.Common.{arith}
 use Rattle.sdv_table.proofs.Lengths.{length-name_of}
 use Rattle.sdv_table.proofs.loading.name_size.Goals as goal
 

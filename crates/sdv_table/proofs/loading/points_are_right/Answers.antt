@@ -1,4 +1,3 @@
-use Rattle.std.proofs.Common.{arith}
 use Rattle.sdv_table.proofs.Lengths.{points_more}
 use Rattle.sdv_table.proofs.loading.points_are_right.Goals as goal
 

@@ -1,4 +1,4 @@
-use Rattle.std.proofs.Common.{◌<◌, arith}
+use Rattle.std.proofs.Common.{arith}
 use Rattle.sdv_table.proofs.Small.{others_small}
 use Rattle.sdv_table.proofs.row.+guards_word.Goals as goal
 
