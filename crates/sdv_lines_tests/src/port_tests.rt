@@ -3,7 +3,41 @@
 use sdv_card::{Answer, CardPort, DataEnd, WaitEnd};
 use sdv_frames::{Command, Expect, FrameFault, Reply};
 use sdv_lines::{LineFault, LinePort};
+use sdv_run::End;
 use std::io;
+use std::io::Write;
+
+/// A writer that knows whether all was flushed that it took.
+#[derive(Drop)]
+struct FlushWriter {
+    is_flushed: bool,
+}
+
+impl Write for FlushWriter {
+    fn write(&mut self, buf: &[u8]) -> io::Result<usize> {
+        self.is_flushed = false;
+        Ok(buf.len())
+    }
+
+    fn flush(&mut self) -> io::Result<()> {
+        self.is_flushed = true;
+        Ok(())
+    }
+}
+
+/// A writer that takes no byte.
+#[derive(Drop)]
+struct FullWriter;
+
+impl Write for FullWriter {
+    fn write(&mut self, _buf: &[u8]) -> io::Result<usize> {
+        Ok(0)
+    }
+
+    fn flush(&mut self) -> io::Result<()> {
+        Ok(())
+    }
+}
 
 const STATUS: Command = Command {
     index: 13,
@@ -138,4 +172,39 @@ fn requests_are_the_table(rt: HostRuntime) {
     let table =
         "CMD0 00000000 -\nCMD13 00010000 R1\nWAIT\nIN 2 lines 4\nREG 64 lines 1\nOUT 0 lines 8\n";
     assert!(rt; requests.as_slice() == table.as_bytes());
+}
+
+#[test]
+fn each_request_is_flushed(rt: HostRuntime) {
+    let mut writer = FlushWriter { is_flushed: false };
+    {
+        let mut port = LinePort::new("ok\n".as_bytes(), &mut writer);
+        assert!(rt; port.wait() == WaitEnd::Ok);
+    }
+    assert!(rt; writer.is_flushed);
+    writer.is_flushed = false;
+    {
+        let mut port = LinePort::new("ok\n".as_bytes(), &mut writer);
+        assert!(rt; port.data_out(1, &[[7; 512]; 2]) == DataEnd::Ok);
+    }
+    assert!(rt; writer.is_flushed);
+}
+
+#[test]
+fn a_writer_that_fails_is_told(rt: HostRuntime) {
+    let mut port = LinePort::new("ok\n".as_bytes(), FullWriter);
+    assert!(rt; port.wait() == WaitEnd::Late);
+    assert!(rt; port.fault() == Some(LineFault::Write));
+    assert!(rt; port.tell_end(&End::Done) == Err(LineFault::Write));
+}
+
+#[test]
+fn the_last_line_is_told(rt: HostRuntime) {
+    let mut requests = Vec::new(rt.alloc());
+    {
+        let mut port = LinePort::new("".as_bytes(), &mut requests);
+        assert!(rt; port.tell_end(&End::Done).is_ok());
+        assert!(rt; port.fault().is_none());
+    }
+    assert!(rt; requests.as_slice() == b"done\n".as_slice());
 }
