@@ -2,7 +2,9 @@
 
 ghost use Rattle.std.specs.Prelude.{◌≡◌, ◌≢◌, IfErr, IfOk, IfNone, IfSome, List};
 ghost use Rattle.sdv_facts.specs.Facts.{PointFacts};
+ghost use Rattle.sdv_script.specs.OneGraph.{IsGraphOfScript};
 ghost use Rattle.sdv_script.specs.Script.{IsScript, Parsed};
+ghost use Rattle.sdv_script.specs.Shown.{shown};
 ghost use Rattle.sdv_certify.specs.Assembled.{CertificateOf, RefusedFor};
 ghost use Rattle.sdv_drawing.specs.Drawing.{drawing};
 ghost use Rattle.sdv_drawing.specs.Drawn.{Draws, DrawsScript};
@@ -10,7 +12,7 @@ ghost use Rattle.sdv_drawing.specs.Drawn.{Draws, DrawsScript};
 use crate::edges::put_edges;
 use crate::points::put_points;
 use crate::text::put;
-use sdv_certify::{CertifyFault, certify};
+use sdv_certify::{CertifyFault, survey};
 use sdv_explain::{Heading, headings};
 use sdv_graph::Graph;
 use sdv_script::{FaultKind, Script, ScriptFault, parse};
@@ -46,13 +48,18 @@ pub fn draw(alloc: Global, text: &str) -> Result<Drawing, ScriptFault>
     }
 }
 
-/// Why a script is refused, if it is.
-fn refusal_of(alloc: Global, script: &Script<'_>) -> Result<Option<CertifyFault>, AllocError>
+/// Why a script is refused, if it is. The graph is the script's.
+fn refusal_of(
+    alloc: Global,
+    script: &Script<'_>,
+    graph: &Graph<'_>,
+) -> Result<Option<CertifyFault>, AllocError>
+    requires graph { IsGraphOfScript (shown script.now) graph.now }
     ensures certified { IfOk result (λ refusal. IfNone refusal ((ps : List PointFacts) × CertificateOf script.now ps)) }
     ensures refused { IfOk result (λ refusal. IfSome refusal (RefusedFor script.now)) }
 {
-    match certify(alloc, script) {
-        Ok(_) => Ok(None),
+    match survey(alloc, script, graph) {
+        Ok(survey) => Ok(survey.refusal),
         Err(CertifyFault::Memory) => Err(AllocError),
         Err(fault) => Ok(Some(fault)),
     }
@@ -62,10 +69,10 @@ fn refusal_of(alloc: Global, script: &Script<'_>) -> Result<Option<CertifyFault>
 fn draw_script(alloc: Global, script: &Script<'_>) -> Result<Drawing, AllocError>
     ensures { IfOk result (DrawsScript script.now) }
 {
-    let refusal = refusal_of(alloc, script)?;
     let Ok(graph) = script.graph(alloc) else {
         return Err(AllocError);
     };
+    let refusal = refusal_of(alloc, script, &graph)?;
     let headings = headings(alloc, &graph)?;
     let text = draw_graph(alloc, &graph, headings.as_slice(), refusal)?;
     Ok(Drawing { text, refusal })
