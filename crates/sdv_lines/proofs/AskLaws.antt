@@ -1,5 +1,5 @@
 -- A call that was asked, by what became of its request and of its answer.
-use Rattle.std.proofs.Common.{◌≡◌, ℕ, List, Option, Some, None, Result, Ok, Err, refl, sym, subst}
+use Rattle.std.proofs.Common.{◌≡◌, ℕ, List, Option, Result, Ok, Err, refl, sym, subst}
 use Rattle.std.specs.Io.KnownBytes.{Appends}
 use Rattle.sdv_card.specs.Port.{Call}
 use Rattle.sdv_card.specs.ScriptEvent.{Return}

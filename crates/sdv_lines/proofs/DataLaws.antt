@@ -1,16 +1,15 @@
 -- Answers to phases from the card: a word, and lines of digits.
-use Rattle.std.proofs.Common.{◌≡◌, ℕ, ◌+◌, ◌≤◌, List, [], ◌∷◌, ◌++◌, length, Option, Some, None, refl, sym, ap, ◌∙◌, subst, append_assoc, arith}
+use Rattle.std.proofs.Common.{◌≡◌, ℕ, ◌≤◌, List, [], ◌∷◌, ◌++◌, length, Option, Some, None, sym, ap, ◌∙◌, subst, append_assoc, arith}
 use Rattle.std.specs.Prelude.{IfSome, codes}
-use Rattle.std.specs.Io.KnownBytes.{Consumes, IsAtEnd}
+use Rattle.std.specs.Io.KnownBytes.{Consumes}
 use Rattle.sdv_card.specs.declared.answer.DataEnd.TheVariants as ends
 use Rattle.sdv_card.specs.Card.{Block}
 use Rattle.sdv_card.specs.Port.{DataIn, DataInRegister}
-use Rattle.sdv_card.specs.ScriptEvent.{Return, Answered, BlocksIn, RegisterIn, BlocksOut, Waited}
+use Rattle.sdv_card.specs.ScriptEvent.{BlocksIn, RegisterIn}
 use Rattle.sdv_run.specs.Trace.{line_feed}
 use Rattle.sdv_lines.specs.declared.fault.LineFault.{LineFault}
 use Rattle.sdv_lines.specs.declared.fault.LineFault.TheVariants as faults
 use Rattle.sdv_lines.specs.Texts.{IsText, lines_of}
-use Rattle.sdv_lines.specs.Answers.{IsAnswer}
 use Rattle.sdv_lines.specs.Reading.{HasNoDigits, ReadsNoDigits, DigitsRead, HasNoBlocks, ReadsNoBlocks, BlocksRead}
 use Rattle.sdv_lines.specs.Streams.{Heard, HasNoAnswer, Unheard}
 use Rattle.sdv_lines.proofs.LineLaws.{consumes_more}

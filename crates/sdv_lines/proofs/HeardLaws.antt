@@ -1,9 +1,8 @@
 -- Answers of one line, and what is none.
-use Rattle.std.proofs.Common.{◌≡◌, ℕ, suc, ◌+◌, ◌*◌, ◌<◌, ◌≤◌, List, [], ◌∷◌, ◌++◌, length, Option, Some, None, Result, Ok, Err, refl, sym, ap, ◌∙◌, subst, append_assoc, arith, length-append}
+use Rattle.std.proofs.Common.{◌≡◌, ℕ, ◌≤◌, List, [], ◌∷◌, ◌++◌, length, Option, Some, None, refl, sym, ap, ◌∙◌, subst, append_assoc, arith, length-append}
 use Rattle.std.specs.Prelude.{IfSome, codes}
 use Rattle.std.specs.Int.{w32, to_be_bytes}
-use Rattle.std.specs.List.{AllByRecursion}
-use Rattle.std.specs.Io.KnownBytes.{Consumes, IsAtEnd}
+use Rattle.std.specs.Io.KnownBytes.{Consumes}
 use Rattle.hex.proofs.HexLemmas.{decode_of-ok}
 use Rattle.sdv_frames.specs.declared.command.Command.{Command}
 use Rattle.sdv_frames.specs.declared.reply.Expect.{Expect}
@@ -22,8 +21,8 @@ use Rattle.sdv_card.specs.ScriptEvent.{Return, Answered, BlocksIn, RegisterIn, B
 use Rattle.sdv_lines.specs.declared.fault.LineFault.{LineFault}
 use Rattle.sdv_lines.specs.declared.fault.LineFault.TheVariants as faults
 use Rattle.sdv_run.specs.Trace.{line_feed}
-use Rattle.sdv_lines.specs.Texts.{IsText, AreDigits, lines_of}
-use Rattle.sdv_lines.specs.Answers.{IsReplyOf, IsWordOf, TellsReply, TellsAnswer, data_end_text, wait_end_text, IsAnswer, Answers}
+use Rattle.sdv_lines.specs.Texts.{IsText, lines_of}
+use Rattle.sdv_lines.specs.Answers.{IsReplyOf, IsWordOf, TellsReply, TellsAnswer, data_end_text, wait_end_text, IsAnswer}
 use Rattle.sdv_lines.specs.Reading.{BeginsLong, ReadsNoLine}
 use Rattle.sdv_lines.specs.Streams.{Heard, HasNoAnswer, Unheard}
 

@@ -1,12 +1,10 @@
 -- Texts without a line feed, and lines at the front of what a reader has left.
-use Rattle.std.proofs.Common.{◌≡◌, ℕ, suc, ◌+◌, ◌<◌, ◌≤◌, List, [], ◌∷◌, ◌++◌, length, Option, Some, None, Result, Ok, Err, refl, sym, ap, ◌∙◌, subst, append_assoc, arith, length-append}
+use Rattle.std.proofs.Common.{◌≡◌, ℕ, ◌<◌, List, [], ◌∷◌, ◌++◌, length, Option, Some, None, Err, refl, sym, ap, ◌∙◌, subst, append_assoc, arith, length-append}
 use Rattle.std.proofs.lemmas.List.{append-nil}
 use Rattle.std.specs.Prelude.{IfSome}
-use Rattle.std.specs.List.{AllByRecursion}
 use Rattle.std.specs.Io.KnownBytes.{Consumes, IsAtEnd}
 use Rattle.sdv_lines.specs.declared.fault.LineFault.{LineFault}
 use Rattle.sdv_lines.specs.declared.fault.LineFault.TheVariants as faults
-use Rattle.sdv_run.specs.Trace.{line_feed}
 use Rattle.sdv_lines.specs.Texts.{IsText}
 use Rattle.sdv_lines.specs.Reading.{ReadsByte, BeginsLong, ReadsNoLine}
 

@@ -1,5 +1,5 @@
 -- An answer tells one return, but for the blocks or bytes of a phase that was cut.
-use Rattle.std.proofs.Common.{◌≡◌, ℕ, List, [], ◌∷◌, ◌++◌, length, Option, Some, None, refl, sym, ap, ◌∙◌, subst, arith}
+use Rattle.std.proofs.Common.{◌≡◌, ℕ, List, [], ◌∷◌, Option, refl, sym, ap, ◌∙◌, subst, arith}
 use Rattle.std.specs.Prelude.{◌≢◌, codes}
 use Rattle.std.specs.Int.{w32, to_be_bytes, from_be_bytes}
 use Rattle.std.proofs.lemmas.Nat.{from_be_bytes-to_be_bytes_4}
@@ -19,16 +19,14 @@ use Rattle.sdv_card.specs.declared.answer.DataEnd.TheVariants as ends
 use Rattle.sdv_card.specs.declared.answer.WaitEnd.{WaitEnd}
 use Rattle.sdv_card.specs.declared.answer.WaitEnd.TheVariants as waits
 use Rattle.sdv_card.specs.Card.{Card, Block}
-use Rattle.sdv_card.specs.Host.{Host}
-use Rattle.sdv_card.specs.Port.{Call, Exchange, DataIn, DataInRegister, DataOut, WaitWhileBusy, Shows, IsFine, Kept, KeepsTables, command_of, call_of}
+use Rattle.sdv_card.specs.Port.{Call, Exchange, DataIn, DataInRegister, DataOut, WaitWhileBusy, Shows, Kept, KeepsTables, command_of, call_of}
 use Rattle.sdv_card.specs.ScriptEvent.{ScriptEvent, SendCommand, ReceiveBlocks, ReceiveRegister, GiveBlocks, AwaitReady, Return, Answered, BlocksIn, RegisterIn, BlocksOut, Waited}
 use Rattle.sdv_card.specs.CommandTable.{expect_of}
 use Rattle.sdv_card.specs.Modes.{line_count}
 use Rattle.sdv_card.specs.Step.{Step}
 use Rattle.sdv_lines.specs.Texts.{AreDigits, AreBlocks}
 use Rattle.sdv_lines.specs.Answers.{IsReplyOf, IsWordOf, TellsReply, TellsAnswer, data_end_text, wait_end_text, IsAnswer}
-use Rattle.sdv_lines.specs.Streams.{Asked}
-use Rattle.sdv_lines.specs.Partner.{Both, BothMade, BothSteps, other_card, ShowsOtherCard}
+use Rattle.sdv_lines.specs.Partner.{BothSteps, other_card, ShowsOtherCard}
 
 -- ANSWERS TO COMMANDS
 

@@ -1,7 +1,7 @@
 -- Requests that were served, one and then the next.
-use Rattle.std.proofs.Common.{◌≡◌, ◌⊎◌, ℕ, ◌+◌, ◌<◌, inl, inr, List, [], ◌∷◌, ◌++◌, length, Option, Some, None, Result, Ok, Err, refl, sym, ap, ◌∙◌, subst, append_assoc, arith}
+use Rattle.std.proofs.Common.{◌≡◌, ◌⊎◌, ℕ, ◌+◌, ◌<◌, List, [], ◌∷◌, ◌++◌, length, Option, Some, None, Result, Ok, Err, refl, sym, ap, subst, append_assoc, arith}
 use Rattle.std.specs.Prelude.{IfSome}
-use Rattle.std.specs.Io.KnownBytes.{Consumes, IsAtEnd}
+use Rattle.std.specs.Io.KnownBytes.{Consumes}
 use Rattle.sdv_card.specs.Card.{Block}
 use Rattle.sdv_card.specs.Port.{Call, DataOut}
 use Rattle.sdv_card.specs.ScriptEvent.{Return}
@@ -13,7 +13,7 @@ use Rattle.sdv_lines.specs.declared.hearing.Request.TheVariants as requests
 use Rattle.sdv_lines.specs.Texts.{IsText, AreBlocks, lines_of}
 use Rattle.sdv_lines.specs.Reading.{ReadsNoLine, HasNoBlocks, ReadsNoBlocks, BlocksRead}
 use Rattle.sdv_lines.specs.Hearing.{read_request}
-use Rattle.sdv_lines.specs.Serving.{answer_of, IsRequest, Turn, Made, Served, ServedInPart, Does, NoRequest, Unended, Overlong, Unknown, TooMany, NoBlocks, NotHeard, Stops, lines_in, Serves, ServedAll, lines_read}
+use Rattle.sdv_lines.specs.Serving.{answer_of, IsRequest, Turn, Made, Served, Does, NoRequest, Unended, Overlong, Unknown, TooMany, NoBlocks, NotHeard, Stops, lines_in, Serves, ServedAll, lines_read}
 use Rattle.sdv_lines.specs.Streams.{Sends}
 use Rattle.sdv_lines.proofs.LineLaws.{consumes_more}
 use Rattle.sdv_lines.proofs.DigitLaws.{behind_line}

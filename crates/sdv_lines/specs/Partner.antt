@@ -8,7 +8,7 @@ use Rattle.sdv_card.specs.ScriptEvent.{Return}
 use Rattle.sdv_lines.specs.Texts.{lines_of}
 use Rattle.sdv_lines.specs.Requests.{request_of}
 use Rattle.sdv_lines.specs.Answers.{IsAnswer, Answers}
-use Rattle.sdv_lines.specs.Streams.{Streams, Heard, Asked}
+use Rattle.sdv_lines.specs.Streams.{Streams, Asked}
 
 -- the port of lines, and the port on the other side
 pub record Both (S : Type 0) : Type 0 where

@@ -1,4 +1,4 @@
-use Rattle.std.proofs.Common.{◌≡◌, ◌∙◌, rules, ap, refl, sym, length}
+use Rattle.std.proofs.Common.{◌∙◌, rules, ap, refl, sym, length}
 use Rattle.sdv_card.specs.declared.answer.DataEnd.TheVariants.{Cut}
 use Rattle.sdv_card.specs.Port.{DataIn}
 use Rattle.sdv_card.specs.ScriptEvent.{BlocksIn}

@@ -1,4 +1,4 @@
-use Rattle.std.proofs.Common.{◌≡◌, ◌∙◌, sym}
+use Rattle.std.proofs.Common.{◌∙◌, sym}
 use Rattle.sdv_card.specs.Port.{DataOut}
 use Rattle.sdv_card.specs.ScriptEvent.{BlocksOut}
 use Rattle.sdv_lines.proofs.HeardLaws.{heard_one, refused, no_end}

@@ -1,4 +1,4 @@
-use Rattle.std.proofs.Common.{◌≡◌, ◌∙◌, sym}
+use Rattle.std.proofs.Common.{◌∙◌, sym}
 use Rattle.sdv_card.specs.Port.{WaitWhileBusy}
 use Rattle.sdv_card.specs.ScriptEvent.{Waited}
 use Rattle.sdv_lines.proofs.HeardLaws.{heard_one, refused, no_wait}

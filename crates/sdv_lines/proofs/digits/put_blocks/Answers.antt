@@ -1,4 +1,4 @@
-use Rattle.std.proofs.Common.{rules, subst}
+use Rattle.std.proofs.Common.{rules}
 use Rattle.sdv_lines.proofs.SendLaws.{blocks_more, blocks_failed}
 use Rattle.sdv_lines.proofs.digits.put_blocks.Goals as goal
 

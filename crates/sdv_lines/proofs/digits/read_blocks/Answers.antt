@@ -1,5 +1,5 @@
-use Rattle.std.proofs.Common.{◌≡◌, rules, arith, length}
-use Rattle.sdv_lines.proofs.DigitLaws.{none_read, one_read, no_more}
+use Rattle.std.proofs.Common.{rules, arith, length}
+use Rattle.sdv_lines.proofs.DigitLaws.{one_read, no_more}
 use Rattle.sdv_lines.proofs.digits.read_blocks.Goals as goal
 
 pub loop-i-preserved : goal.loop-i-preserved

@@ -1,4 +1,4 @@
-use Rattle.std.proofs.Common.{◌≡◌, take, length}
+use Rattle.std.proofs.Common.{take}
 use Rattle.sdv_lines.specs.Reading.{BlocksRead}
 use Rattle.sdv_lines.proofs.digits.read_blocks.Given as goal
 
