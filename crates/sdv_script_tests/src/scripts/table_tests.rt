@@ -31,7 +31,12 @@ static SMALLEST_WORDS: [u32; 12] = [
 #[test]
 fn smallest_script_has_these_words(rt: HostRuntime) {
     let words = table_of(&rt, rt.alloc(), SMALLEST);
-    same(&rt, &words.as_slice(), &SMALLEST_WORDS.as_slice(), &"smallest");
+    same(
+        &rt,
+        &words.as_slice(),
+        &SMALLEST_WORDS.as_slice(),
+        &"smallest",
+    );
 }
 
 // Words of that table that are changed, and what is then wrong.
