@@ -1,6 +1,6 @@
 /*
  * A driver for a host controller of the SD Host Controller Simplified Specification, version 2.00 or later, by programmed I/O.
- * It is a sample, tested on QEMU's controller and covered by no proof. It needs no heap and no C library.
+ * It is a sample: it was tried on QEMU's controller, and no proof covers it. It needs no heap and no C library.
  *
  * The caller gives the two functions that reach the controller's registers, and has done the platform's part: the controller's
  * memory is mapped, and a card has power 74 clocks after sdhci_start at the latest.

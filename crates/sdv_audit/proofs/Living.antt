@@ -198,7 +198,8 @@ event_none k RecvReg line pending known address fits g = g
 event_none k Give line pending known address fits g = g
 event_none k Waits line pending known address fits g = g
 
-adds_none : (k : Kind) (turn : Turn) (line : TraceLine) (known : HostKnown) (code : ℕ) (before entries : List Entry) → FitsLine k turn line → Adds k turn line code before entries →
+adds_none : (k : Kind) (turn : Turn) (line : TraceLine) (known : HostKnown) (code : ℕ) (before entries : List Entry)
+    → FitsLine k turn line → Adds k turn line code before entries →
     NoneYet (addresses_after k before false) known → NoneYet (addresses_after k entries false) (known_after k turn line known)
 adds_none k (Does event) line known code before entries fits adds g =
     let a : AddsEvent k event line code before entries = adds in

@@ -69,7 +69,8 @@ word_decoded : (n : ℕ) → decode_sized (word_text n) 4 ≡ Ok (to_be_bytes w3
 word_decoded n = decode_sized-twice (word_text n) 4 (word_length n) ∙ decode_of-encode_lower (to_be_bytes w32 n) (four n)
 
 not_short : (n : ℕ) (rest : List ℕ) → nat_lt (length (word_text n ++ rest)) 8 ≡ false
-not_short n rest = let len : length (word_text n ++ rest) ≡ 8 + length rest = length-append (word_text n) rest ∙ ap (λ m. m + length rest) (word_length n) in rw len (grind (arith, nat_tests))
+not_short n rest = let len : length (word_text n ++ rest) ≡ 8 + length rest = length-append (word_text n) rest ∙ ap (λ m. m + length rest) (word_length n)
+    in rw len (grind (arith, nat_tests))
 
 word_again : (n : ℕ) (rest : List ℕ) → n < 2 ^ 32 → read_word (word_text n ++ rest) ≡ Some (n, rest)
 unfolding read_word

@@ -19,7 +19,7 @@ nothing_known = record {
   preset = 0;
 }
 
--- the host is one of whom this is known, and that of a script without flags
+-- what is known of the host, which has no flags
 pub record IsKnown (known : HostKnown) (h : Host) : Type 0 where
   pub rca : h.rca ≡ known.rca
   pub lines : h.lines ≡ known.lines

@@ -193,7 +193,7 @@ fn faults_are_named_from_the_left(rt: HostRuntime) {
     assert_eq!(rt; fault_of("CMD64 00000000 -"), Some(LineFault::Index));
     assert_eq!(rt; fault_of("CMD0 0000000 -"), Some(LineFault::Argument));
     assert_eq!(rt;
-        fault_of("CMD0 00000000 R4 00000000"),
+        fault_of("CMD0 00000000 X 00000000"),
         Some(LineFault::Answer)
     );
     assert_eq!(rt; fault_of("IN 65536 ok"), Some(LineFault::Count));

@@ -91,8 +91,8 @@ pub fn text_in<'a, S: Store>(alloc: Global, files: &S, file: &'a str) -> Result<
 /// The file of standard input.
 const STANDARD_INPUT: &str = "/dev/stdin";
 
-/// The files of a machine, of which nothing is claimed. The name `-` stands for standard input where a file is read, and for no
-/// file where one is written.
+/// The files of a machine. Nothing is claimed of them. The name `-` stands for standard input where a file is read, and
+/// for no file where one is written.
 #[derive(Clone, Copy)]
 pub struct MachineFiles<'a, R: Files>(pub &'a R);
 

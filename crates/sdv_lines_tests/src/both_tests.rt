@@ -133,7 +133,7 @@ fn each_other_request_stops_it(rt: HostRuntime) {
         "WAIT\nCMD64 00000000 R1\n",
         "WAIT\nCMD17 0000000 R1\n",
         "WAIT\nCMD17 000000000 R1\n",
-        "WAIT\nCMD17 00000000 R4\n",
+        "WAIT\nCMD17 00000000 X\n",
         "WAIT\nCMD17 00000000\n",
         "WAIT\nCMD 00000000 R1\n",
         "WAIT\nok\n",

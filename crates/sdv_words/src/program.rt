@@ -29,8 +29,8 @@ use std::rt::Files;
 /// answer was printed or the run ended in `done`, 1 where what was asked for is refused or the run did not end so, 2 where
 /// the words are no line of the program, a file cannot be used or standard output failed, 3 where memory ran out.
 ///
-/// Its clauses are those of [`answer`] over the files of the machine, of which nothing is claimed: they say that the answer
-/// is one to some texts that the named files may have given, and say nothing of what files took.
+/// Its clauses are those of [`answer`] over the files of the machine. Nothing is claimed of those files. So the clauses say
+/// that the answer is one to some texts that the named files may have given, and say nothing of what files took.
 pub fn program<R: Files + AllocGlobal, O: Write, E: Write>(
     rt: &R,
     words: &[&str],
