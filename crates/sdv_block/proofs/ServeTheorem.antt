@@ -22,7 +22,7 @@ use Rattle.sdv_check.specs.declared.fault.CheckFault.{CheckFault}
 use Rattle.sdv_check.specs.declared.fault.CheckFault.TheVariants.{Points, Start, Illegal, Address, Shape, Number, Bound, EndState}
 use Rattle.sdv_check.specs.Checked.{Fails}
 use Rattle.sdv_check.specs.Verified.{IsGraphOfText}
-use Rattle.sdv_run.specs.declared.end.End.{End}
+use Rattle.sdv_trace.specs.declared.end.End.{End}
 use Rattle.sdv_run.specs.declared.fault.RunFault.{RunFault}
 use Rattle.sdv_run.specs.OnCard.{ShowsStart, OnCard, RanBeside}
 use Rattle.sdv_run.specs.Ran.{IsWalk, Ended, Stopped}

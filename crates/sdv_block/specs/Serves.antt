@@ -16,7 +16,7 @@ use Rattle.sdv_certify.specs.declared.fault.CertifyFault.TheVariants.{Memory as 
 use Rattle.sdv_certify.specs.Assembled.{RefusedFor}
 use Rattle.sdv_check.specs.declared.fault.VerifyFault.TheVariants.{Script as NoScript}
 use Rattle.sdv_check.specs.Verified.{IsGraphOfText, IsNoScript}
-use Rattle.sdv_run.specs.declared.end.End.{End}
+use Rattle.sdv_trace.specs.declared.end.End.{End}
 use Rattle.sdv_run.specs.declared.fault.RunFault.{RunFault}
 use Rattle.sdv_run.specs.declared.fault.RunFault.TheVariants.{Reply}
 use Rattle.sdv_run.specs.OnCard.{ShowsStart}

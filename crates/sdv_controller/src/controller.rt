@@ -43,6 +43,13 @@ impl<W> Controller<W> {
         Controller { wire }
     }
 
+    /// The wire.
+    pub fn wire(&self) -> &W
+        ensures { result.now ≡ wire_of self.now }
+    {
+        &self.wire
+    }
+
     /// Gives the wire back.
     pub fn into_wire(self) -> W
         ensures { result ≡ wire_of self }

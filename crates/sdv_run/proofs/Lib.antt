@@ -1,9 +1,11 @@
 pub mod Known
 pub mod Flags
-pub mod Steps
-pub mod Given
+pub mod Performs
+pub mod Takes
 pub mod AtPoints
 pub mod Announced
 pub mod Made
+pub mod Steps
 pub mod Runs
+pub mod Machines
 pub mod OnCard

@@ -8,8 +8,8 @@ use Rattle.sdv_card.specs.ScriptEvent.{ScriptEvent, Return}
 use Rattle.sdv_graph.specs.Walk.{Pair, Ending, given_by, given}
 use Rattle.sdv_graph.specs.Path.{Point, Stand, Move, Goes, Does, Halts, Follows, Path}
 use Rattle.sdv_graph.specs.Graph.{WhereverTo}
-use Rattle.sdv_run.specs.Trace.{line_of}
-use Rattle.sdv_run.specs.Run.{Steps, RunMoved, lines, received_by, received}
+use Rattle.sdv_trace.specs.Trace.{line_of, lines}
+use Rattle.sdv_run.specs.Run.{Steps, RunMoved, received_by, received}
 use Rattle.sdv_run.specs.Ran.{Happened, Written}
 use Rattle.sdv_run.specs.Step.{World, Made, Leads}
 use Rattle.sdv_text.proofs.WrittenLaws.{appends_more, appends_none}

@@ -34,7 +34,7 @@ use Rattle.sdv_facts.specs.Stands.{IsMade, EachIsMade}
 use Rattle.sdv_facts.proofs.ArgumentLaws.{narrow}
 use Rattle.sdv_facts.proofs.Headline.{each_path, each_event}
 use Rattle.sdv_facts.proofs.StepLaws.{Laws, laws_of, honest_after}
-use Rattle.sdv_run.specs.declared.end.End.{End}
+use Rattle.sdv_trace.specs.declared.end.End.{End}
 use Rattle.sdv_run.specs.declared.fault.RunFault.{RunFault}
 use Rattle.sdv_run.specs.declared.fault.RunFault.TheVariants as faults
 use Rattle.sdv_run.specs.Answers.{is_of_kind, has_readable_csd, is_taken}

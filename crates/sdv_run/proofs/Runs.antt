@@ -19,14 +19,14 @@ use Rattle.sdv_graph.specs.Path.{Point, Stand, Move, Goes, Does, Halts, Follows,
 use Rattle.sdv_graph.specs.Graph.{Graph, Lasts, begin}
 use Rattle.sdv_graph.specs.GraphOf.{IsSound}
 use Rattle.sdv_graph.proofs.Paths.{roll}
-use Rattle.sdv_run.specs.declared.end.End.{End}
+use Rattle.sdv_trace.specs.declared.end.End.{End}
 use Rattle.sdv_run.specs.declared.fault.RunFault.{RunFault}
 use Rattle.sdv_run.specs.declared.fault.RunFault.TheVariants.{Reply, Input, Output, Trace, Memory}
 use Rattle.sdv_run.specs.Announced.{AnnounceAtMost}
 use Rattle.sdv_run.specs.Answers.{is_taken}
 use Rattle.sdv_text.specs.Written.{AppendsPart}
-use Rattle.sdv_run.specs.Trace.{line_of, end_line}
-use Rattle.sdv_run.specs.Run.{Steps, lines, received_by, received, ending_of}
+use Rattle.sdv_trace.specs.Trace.{line_of, lines, end_line}
+use Rattle.sdv_run.specs.Run.{Steps, received_by, received, ending_of}
 use Rattle.sdv_run.specs.Ran.{Happened, IsWalk, Written, Ended, Stopped}
 use Rattle.sdv_run.specs.Step.{World, Leads, CutDeed, CutShort}
 use Rattle.sdv_text.proofs.WrittenLaws.{appends_more}
@@ -35,7 +35,7 @@ use Rattle.sdv_run.proofs.AtPoints.{Sits, Ready, ready, begins_sitting}
 use Rattle.sdv_run.proofs.Announced.{announced_after}
 use Rattle.sdv_run.proofs.Made.{received_more, happened_more, written_more, none_happened, none_written, moves, led_to, led_onward}
 
-is_walk : (f : Graph) (e : Ending) (es : List Pair) → Path f.kind f.points e (begin f) es → IsWalk f e es
+pub is_walk : (f : Graph) (e : Ending) (es : List Pair) → Path f.kind f.points e (begin f) es → IsWalk f e es
 is_walk f e es path = record { path = path; walk = λ names script begin_lines is. subst (λ k. Walk k names script e es) is.kind_same ((is.walks e es).1 path) }
 
 -- a path may stop anywhere

@@ -1,10 +1,12 @@
-pub mod Trace
 pub mod Standing
+pub mod Announced
 pub mod Answers
 pub mod Run
-pub mod Deeds
+pub mod Asks
+pub mod Takes
+pub mod Performs
 pub mod Moves
 pub mod Step
 pub mod Ran
-pub mod Announced
+pub mod Machine
 pub mod OnCard

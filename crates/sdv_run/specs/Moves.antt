@@ -6,7 +6,7 @@ use Rattle.sdv_graph.specs.declared.graph.Action.{Action}
 use Rattle.sdv_graph.specs.declared.graph.Action.TheVariants as actions
 use Rattle.sdv_graph.specs.Walk.{Finished, Failed}
 use Rattle.sdv_graph.specs.Path.{Stand, Move, Goes, Does, Halts}
-use Rattle.sdv_run.specs.declared.end.End.{End}
+use Rattle.sdv_trace.specs.declared.end.End.{End}
 use Rattle.sdv_run.specs.Run.{ending_of}
 
 -- a move leads into at most four loops at once, or ends in `done` or in a fault with a name of at most 16 characters
@@ -16,12 +16,6 @@ IsNarrow (Does deed before next) = (returned : Return) (after : Host) → length
 IsNarrow (Halts Finished) = Unit {0}
 IsNarrow (Halts (Failed name)) = length name ≤ 16
 IsNarrow (Halts last) = ⊥
-
--- a statement that makes no event
-abbrev pub IsSilent : Action → Type 0
-IsSilent (actions.Send c ways other) = ⊥
-IsSilent (actions.Phase phase well other) = ⊥
-IsSilent action = Unit {0}
 
 -- it leads there, or ends so
 abbrev pub Passes : Move → Option End → Stand → Type 0

@@ -8,7 +8,7 @@ use Rattle.sdv_card.specs.Profile.{IsAtStart}
 use Rattle.sdv_graph.specs.Graph.{Graph}
 use Rattle.sdv_graph.specs.Walk.{Pair, Ending, Open}
 use Rattle.sdv_facts.specs.Beside.{StepsOf, commands, EndsWell, IsGood}
-use Rattle.sdv_run.specs.declared.end.End.{End}
+use Rattle.sdv_trace.specs.declared.end.End.{End}
 use Rattle.sdv_run.specs.declared.fault.RunFault.{RunFault}
 use Rattle.sdv_run.specs.declared.fault.RunFault.TheVariants.{Reply}
 use Rattle.sdv_run.specs.Run.{Steps, ending_of}

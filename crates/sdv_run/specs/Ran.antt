@@ -1,6 +1,6 @@
 -- A RUN of a graph over a port: which events there were, what was given, written and printed, and why the run stopped
 -- where it did.
-use Rattle.std.specs.Prelude.{◌≡◌, ◌<◌, ◌≤◌, ◌^◌, ◌⊎◌, ◌++◌, ◌∷◌, [], ℕ, List, length, Result, MatchResult, false}
+use Rattle.std.specs.Prelude.{◌≡◌, ◌<◌, ◌≤◌, ◌^◌, ◌⊎◌, ◌++◌, ◌∷◌, [], ℕ, List, length, Option, Result, MatchResult, false}
 use Rattle.std.specs.List.{concat}
 use Rattle.std.specs.Io.KnownBytes.{Appends}
 use Rattle.sdv_registers.specs.declared.kind.Kind.{Kind}
@@ -16,12 +16,12 @@ use Rattle.sdv_graph.specs.Walk.{Pair, Ending, Open, Walk, given}
 use Rattle.sdv_graph.specs.Path.{Path}
 use Rattle.sdv_graph.specs.Graph.{Graph, begin}
 use Rattle.sdv_graph.specs.GraphOf.{IsGraphOf}
-use Rattle.sdv_run.specs.declared.end.End.{End}
+use Rattle.sdv_trace.specs.declared.end.End.{End}
 use Rattle.sdv_run.specs.declared.fault.RunFault.{RunFault}
 use Rattle.sdv_run.specs.declared.fault.RunFault.TheVariants.{Reply, Input, Output, Trace, Memory}
-use Rattle.sdv_run.specs.Trace.{line_of, end_line, BreaksOff}
+use Rattle.sdv_trace.specs.Trace.{line_of, lines, end_line}
 use Rattle.sdv_run.specs.Answers.{is_taken}
-use Rattle.sdv_run.specs.Run.{Steps, RunMoved, lines, received, ending_of}
+use Rattle.sdv_run.specs.Run.{Steps, RunMoved, received, ending_of}
 use Rattle.sdv_run.specs.Step.{World}
 
 -- THE EVENTS OF A RUN, each with what it returned
@@ -51,6 +51,11 @@ pub record Ended {S : Type 0} (steps : Steps S) (g : Graph) (end : End) (w w' : 
   pub trace : Appends w.trace w'.trace (lines events ++ end_line end)
 
 -- WHY A RUN STOPPED BEFORE ITS END
+
+-- known bytes grow by a text and then by a front of another one, and not by all of it
+abbrev pub BreaksOff : Option (List ℕ) → Option (List ℕ) → (whole text : List ℕ) → Type 0
+BreaksOff old new whole text =
+    (front back : List ℕ) × (text ≡ front ++ back) × (0 < length back) × Appends old new (whole ++ front)
 
 -- REPLY: the answer to the last command is none that a run goes on with. All events before it were printed.
 pub record AnswerIsRefused {S : Type 0} (k : Kind) (es : List Pair) (w w' : World S) : Type 0 where

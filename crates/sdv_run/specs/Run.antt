@@ -1,4 +1,4 @@
--- What a run is on a port: which calls were made and what they returned, and what was printed and received.
+-- What a run is on a port: which calls were made and what they returned, and what was received.
 use Rattle.std.specs.Prelude.{◌≡◌, ℕ, List, [], ◌∷◌, ◌++◌}
 use Rattle.std.specs.List.{concat}
 use Rattle.sdv_registers.specs.declared.kind.Kind.{Kind}
@@ -6,9 +6,8 @@ use Rattle.sdv_card.specs.declared.answer.DataEnd.TheVariants as ends
 use Rattle.sdv_card.specs.Port.{Call, call_of}
 use Rattle.sdv_card.specs.ScriptEvent.{Return, BlocksIn}
 use Rattle.sdv_graph.specs.Walk.{Pair, Ending, Finished, Failed}
-use Rattle.sdv_run.specs.declared.end.End.{End}
-use Rattle.sdv_run.specs.declared.end.End.TheVariants.{Done, Fault}
-use Rattle.sdv_run.specs.Trace.{line_of}
+use Rattle.sdv_trace.specs.declared.end.End.{End}
+use Rattle.sdv_trace.specs.declared.end.End.TheVariants.{Done, Fault}
 
 -- what a port's calls may return, and leave
 abbrev pub Steps : Type 0 → Type 1
@@ -20,11 +19,6 @@ RunMoved k steps s [] t = t ≡ s
 RunMoved {S} k steps s (p ∷ ps) t = (u : S) × steps s (call_of k p.0) p.1 u × RunMoved k steps u ps t
 
 -- WHAT IS WRITTEN
-
--- the lines of events
-abbrev pub lines : List Pair → List ℕ
-lines [] = []
-lines (p ∷ ps) = line_of p.0 p.1 ++ lines ps
 
 -- the bytes of the blocks that phases gave which ended well
 abbrev pub received_by : Return → List ℕ

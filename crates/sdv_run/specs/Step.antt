@@ -12,11 +12,11 @@ use Rattle.sdv_card.specs.Port.{call_of}
 use Rattle.sdv_card.specs.ScriptEvent.{ScriptEvent, SendCommand, ReceiveBlocks, Return, Answered, BlocksIn, MayReturn}
 use Rattle.sdv_graph.specs.Walk.{Deed, exactly, giving, IsDeed, given_by}
 use Rattle.sdv_graph.specs.Path.{Stand, Move, Goes, Does, Halts}
-use Rattle.sdv_run.specs.declared.end.End.{End}
+use Rattle.sdv_trace.specs.declared.end.End.{End}
 use Rattle.sdv_run.specs.declared.fault.RunFault.{RunFault}
 use Rattle.sdv_run.specs.declared.fault.RunFault.TheVariants.{Reply, Input, Output, Trace}
 use Rattle.sdv_text.specs.Written.{AppendsPart}
-use Rattle.sdv_run.specs.Trace.{line_of}
+use Rattle.sdv_trace.specs.Trace.{line_of}
 use Rattle.sdv_run.specs.Run.{Steps, received_by, ending_of}
 use Rattle.sdv_run.specs.Answers.{is_taken}
 
@@ -55,7 +55,8 @@ CutDeed Reply k steps (exactly (SendCommand ask position argument)) w w' =
 CutDeed Input k steps (giving width count) w w' = (length w.input < count) × (w' ≡ w)
 -- the output failed at the blocks of a phase that ended well
 CutDeed Output k steps (exactly (ReceiveBlocks width count)) w w' =
-    (blocks : List Block) × (length blocks ≡ count) × steps w.port (call_of k (ReceiveBlocks width count)) (BlocksIn ends.Ok blocks) w'.port
+    (blocks : List Block) × (length blocks ≡ count)
+    × steps w.port (call_of k (ReceiveBlocks width count)) (BlocksIn ends.Ok blocks) w'.port
     × AppendsPart w.out w'.out (concat blocks) × (w' ≡ record w { port = w'.port; out = w'.out })
 -- the trace failed at the event's line
 CutDeed Trace k steps deed w w' =

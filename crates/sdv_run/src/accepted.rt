@@ -4,11 +4,11 @@ ghost use Rattle.std.specs.Prelude.{List};
 ghost use Rattle.sdv_card.specs.Card.{Block};
 ghost use Rattle.sdv_run.specs.OnCard.{RanBeside};
 
-use crate::end::End;
 use crate::fault::RunFault;
 use crate::graph_run::run_graph;
 use sdv_card::CardPort;
 use sdv_check::Accepted;
+use sdv_trace::End;
 use std::alloc::Global;
 use std::io::Write;
 

@@ -2,20 +2,15 @@
 
 ghost use Rattle.std.specs.Prelude.{◌≡◌, ◌≤◌, ℕ, List, IfOk, length};
 ghost use Rattle.sdv_card.specs.Card.{Block};
-ghost use Rattle.sdv_graph.specs.Graph.{begin};
-ghost use Rattle.sdv_run.specs.Standing.{stand_of};
 ghost use Rattle.sdv_run.specs.Announced.{AnnounceAtMost};
 ghost use Rattle.sdv_run.specs.Ran.{Ran};
 
-use crate::end::End;
 use crate::fault::RunFault;
-use crate::host::HostState;
 use crate::standing::Standing;
-use crate::step::step;
-use crate::trace::write_end;
-use arrayvec::ArrayVec;
-use sdv_card::{CardPort, Width};
+use crate::step::{World, step};
+use sdv_card::CardPort;
 use sdv_graph::{Action, Graph};
+use sdv_trace::{End, write_end};
 use std::alloc::{AllocError, Global};
 use std::io::Write;
 
@@ -45,57 +40,29 @@ pub fn run_graph<P: CardPort, O: Write, T: Write>(
         (record { port = port.old; input = input.now; out = O.contents out.old; trace = T.contents trace.old })
         (record { port = port.new; input = left; out = O.contents out.new; trace = T.contents trace.new }) result }
 {
-    let mut standing = match at_start(alloc, graph) {
-        Ok(standing) => standing,
-        Err(_) => return Err(RunFault::Memory),
-    };
-    let mut buffer = match buffer_of(alloc, graph) {
-        Ok(buffer) => buffer,
-        Err(_) => return Err(RunFault::Memory),
-    };
-    let blocks = buffer.as_mut_slice();
-    let mut left = input;
+    let mut standing = Standing::at_start(alloc, graph)?;
+    let mut buffer = buffer_of(alloc, graph)?;
+    let held = buffer.as_mut_slice();
+    let mut rest = input;
+    let left = &mut rest;
     for _ in 0..graph.steps() {
         let action = &graph.point(standing.point).action;
-        match step(action, &mut standing, blocks, &mut left, port, out, trace) {
-            Ok(None) => {}
-            Ok(Some(end)) => match write_end(trace, &end) {
-                Ok(()) => return Ok(end),
-                Err(_) => return Err(RunFault::Trace),
-            },
-            Err(fault) => return Err(fault),
+        let world = World {
+            port,
+            input: left,
+            out,
+            trace,
+        };
+        if let Some(end) = step(action, &mut standing, held, world)? {
+            write_end(trace, &end)?;
+            return Ok(end);
         }
     }
     unreachable!()
 }
 
-/// Where a run of the graph begins.
-fn at_start(alloc: Global, graph: &Graph<'_>) -> Result<Standing, AllocError>
-    ensures stand { IfOk result (λ standing. stand_of standing ≡ begin graph.now) }
-    ensures kind { IfOk result (λ standing. standing.host.kind ≡ graph.now.kind) }
-{
-    let host = HostState {
-        kind: graph.kind(),
-        numbers: vec![in alloc; 0; graph.nums()]?,
-        flags: 0,
-        rca: 0,
-        lines: Width::One,
-        csd: None,
-        ext_csd: None,
-        announced: 0,
-        register_length: 0,
-    };
-    let mut standing = Standing {
-        point: 0,
-        turns: ArrayVec::new(),
-        host,
-    };
-    standing.go_to(graph.first());
-    Ok(standing)
-}
-
 /// Room for the blocks of each phase.
-fn buffer_of(alloc: Global, graph: &Graph<'_>) -> Result<Vec<[u8; 512]>, AllocError>
+pub fn buffer_of(alloc: Global, graph: &Graph<'_>) -> Result<Vec<[u8; 512]>, AllocError>
     ensures { IfOk result (λ buffer. AnnounceAtMost graph.now.points (length buffer.items)) }
 {
     vec![in alloc; [0; 512]; most_announced(graph) as usize]

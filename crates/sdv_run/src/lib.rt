@@ -1,24 +1,36 @@
 //! The runner: scripts over a port, with their trace.
 //!
-//! Begin at `specs/Ran.antt`, which says what a run is, and at `specs/Trace.antt`, which says how it is printed.
+//! Begin at `specs/Ran.antt`, which says what a run is. `sdv_trace` says how it is printed.
 #![tactic(auto)]
 
 mod accepted;
 mod answers;
-mod deeds;
-mod end;
+mod asking;
 mod fault;
 mod graph_run;
 mod guards;
 mod host;
+pub mod laws;
 mod moves;
-mod points;
+mod next_event;
+mod performing;
+mod recording;
+mod returned;
+mod runner;
 mod standing;
-mod step;
-mod trace;
+pub mod step;
+mod taking;
 mod values;
 
 pub use accepted::run;
-pub use end::End;
+pub use answers::argument;
 pub use fault::RunFault;
-pub use graph_run::run_graph;
+pub use graph_run::{buffer_of, run_graph};
+pub use host::HostState;
+pub use next_event::{Next, NextEvent};
+pub use performing::perform;
+pub use recording::record;
+pub use returned::Returned;
+pub use runner::Runner;
+pub use sdv_trace::End;
+pub use standing::Standing;

@@ -107,7 +107,7 @@ pub enum Keyword {
 }
 
 /// Every reserved word, in the order of the type.
-const KEYWORDS: [Keyword; 49] = [
+pub const KEYWORDS: [Keyword; 49] = [
     Keyword::Card,
     Keyword::Sd,
     Keyword::Emmc,

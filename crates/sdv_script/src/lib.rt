@@ -29,12 +29,15 @@ mod token;
 pub mod tree;
 mod values;
 
+pub use cursor::Cursor;
 pub use fault::{FaultKind, ScriptFault};
 pub use graph::{Action, Case, Graph, Point, Target};
 pub use graphed::one_graph;
+pub use keyword::{KEYWORDS, Keyword};
 pub use printing::{print, printed_tree};
 pub use reading::{MAX_BYTES, asks_by_table, one_tree, parse};
 pub use script::Script;
+pub use token::{Sign, Token};
 pub use tree::{
     Address, Atom, Block, Cases, Change, Condition, Let, Names, Phase, Position, ScriptCommand,
     Stmt, Unit,

@@ -1,4 +1,4 @@
-use Rattle.std.proofs.Common.{◌≡◌, ℕ, ◌+◌, ◌-◌, length, subst, sym, ◌∙◌, arith}
+use Rattle.std.proofs.Common.{◌≡◌, ℕ, ◌+◌, ◌-◌, length, subst, sym, ◌∙◌, arith, rules}
 use Rattle.sdv_run.specs.Standing.{stand_of}
 use Rattle.sdv_graph.specs.Graph.{seen_point}
 use Rattle.sdv_run.proofs.AtPoints.{is_point, in_range}
@@ -7,19 +7,17 @@ use Rattle.sdv_run.specs.Step.{World}
 use Rattle.sdv_run.proofs.Runs.{SoFar, begins_at, may_move, moves_on, finishes, finishes_cut, cut_short, no_memory}
 use Rattle.sdv_run.proofs.graph_run.run_graph.Goals as goal
 
-pub returns-in-Err : goal.returns-in-Err
-returns-in-Err g c = (
-  c.args.input.now,
-  no_memory g.P.CardPort.steps c.args.graph.now
-      (record { port = c.args.port.now; input = c.args.input.now; out = g.O.Write.contents c.args.out.now; trace = g.T.Write.contents c.args.trace.now }),
-)
+pub returns-in_err-standing : goal.returns-in_err-standing
+returns-in_err-standing g c =
+    let none = no_memory g.P.CardPort.steps c.args.graph.now
+    (record { port = c.args.port.now; input = c.args.input.now; out = g.O.Write.contents c.args.out.now; trace = g.T.Write.contents c.args.trace.now }) in
+    (c.args.input.now, search (rules, none))
 
-pub returns-in-Err-buffer_of : goal.returns-in-Err-buffer_of
-returns-in-Err-buffer_of g c = (
-  c.args.input.now,
-  no_memory g.P.CardPort.steps c.args.graph.now
-      (record { port = c.args.port.now; input = c.args.input.now; out = g.O.Write.contents c.args.out.now; trace = g.T.Write.contents c.args.trace.now }),
-)
+pub returns-in_err-buffer : goal.returns-in_err-buffer
+returns-in_err-buffer g c =
+    let none = no_memory g.P.CardPort.steps c.args.graph.now
+    (record { port = c.args.port.now; input = c.args.input.now; out = g.O.Write.contents c.args.out.now; trace = g.T.Write.contents c.args.trace.now }) in
+    (c.args.input.now, search (rules, none))
 
 pub point-requires : goal.point-requires
 point-requires g c = is_point _ _ _ _ c.loop.invariant.so_far.lasts
@@ -34,68 +32,86 @@ step-requires-clause-narrow g c =
     let i = c.loop.invariant in
     (may_move _ _ _ _ _ _ _ i.so_far _ i.kind (seen_point c.point.result.now) c.point.ensures i.sound).narrow
 
+pub step-requires-clause-room : goal.step-requires-clause-room
+step-requires-clause-room g c = c.loop.invariant.so_far.in_room
+
 pub loop-init : goal.loop-init
 loop-init g c =
-    let room = c.in-Ok-buffer_of.ensures in
-    let blocks = c.as_mut_slice-blocks.ensures.value in
+    let room = c.in_ok-buffer.ensures in
+    let blocks = c.as_mut_slice-held.ensures.value in
     let all : c.steps-end.result - 0 ≡ c.args.graph.now.steps = omega (arith, c.steps-end.ensures.steps) in
     record {
       sound = c.steps-end.ensures.sound;
-      kind = c.in-Ok.ensures.kind;
+      kind = c.in_ok-standing.ensures.kind;
       room = rw blocks room;
-      so_far = begins_at _ _ _ _ _ _ c.steps-end.ensures.sound all c.in-Ok.ensures.stand;
+      so_far = begins_at _ _ _ _ _ _ c.steps-end.ensures.sound all c.in_ok-standing.ensures.stand;
     }
 
-pub returns-in-Ok-write_end : goal.returns-in-Ok-write_end
-returns-in-Ok-write_end g c =
+pub returns-in-Some : goal.returns-in-Some
+returns-in-Some g c =
     let i = c.loop.invariant in
-    let w : World g.row.P.Denot =
-    record { port = c.step.new.port; input = c.step.new.input.now; out = g.O.Write.contents c.step.new.out; trace = g.T.Write.contents c.step.new.trace } in
-    let halts = rw c.in-Ok-Some.field-0-is at c.in-Ok-Some.ensures.stepped in (
-      c.step.new.input.now,
-      finishes _ _ _ _ _ _ _ i.so_far _ i.kind (seen_point c.point.result.now) c.point.ensures w c.in-Ok-Some.end
-          (g.T.Write.contents c.write_end.new.trace) halts c.in-Ok-write_end.ensures,
+    let w : World g.row.P.Denot = record {
+      port = c.step.new.world.0;
+      input = c.step.new.world.1.0.now;
+      out = g.O.Write.contents c.step.new.world.1.1.0;
+      trace = g.T.Write.contents c.step.new.world.1.1.1.0;
+    } in
+    let halts = rw c.in-Some.is at c.in_ok-end.ensures.stepped in (
+      c.step.new.world.1.0.now,
+      finishes _ _ _ _ _ _ _ i.so_far _ i.kind (seen_point c.point.result.now) c.point.ensures w c.in-Some.end
+          (g.T.Write.contents c.write_end.new.trace) halts c.in_ok-write_end.ensures,
     )
 
-pub returns-in-Err-write_end : goal.returns-in-Err-write_end
-returns-in-Err-write_end g c =
+pub returns-in_err-write_end : goal.returns-in_err-write_end
+returns-in_err-write_end g c =
     let i = c.loop.invariant in
-    let w : World g.row.P.Denot =
-    record { port = c.step.new.port; input = c.step.new.input.now; out = g.O.Write.contents c.step.new.out; trace = g.T.Write.contents c.step.new.trace } in
-    let halts = rw c.in-Ok-Some.field-0-is at c.in-Ok-Some.ensures.stepped in (
-      c.step.new.input.now,
-      finishes_cut _ _ _ _ _ _ _ i.so_far _ i.kind (seen_point c.point.result.now) c.point.ensures w c.in-Ok-Some.end
-          (g.T.Write.contents c.write_end.new.trace) halts c.in-Err-write_end.ensures,
-    )
+    let w : World g.row.P.Denot = record {
+      port = c.step.new.world.0;
+      input = c.step.new.world.1.0.now;
+      out = g.O.Write.contents c.step.new.world.1.1.0;
+      trace = g.T.Write.contents c.step.new.world.1.1.1.0;
+    } in
+    let halts = rw c.in-Some.is at c.in_ok-end.ensures.stepped in
+    let cut = finishes_cut _ _ _ _ _ _ _ i.so_far _ i.kind (seen_point c.point.result.now) c.point.ensures w c.in-Some.end
+    (g.T.Write.contents c.write_end.new.trace) halts c.in_err-write_end.ensures in
+    (c.step.new.world.1.0.now, search (rules, cut))
 
-pub returns-in-Err-step : goal.returns-in-Err-step
-returns-in-Err-step g c =
+pub returns-in_err-end : goal.returns-in_err-end
+returns-in_err-end g c =
     let i = c.loop.invariant in
-    let w : World g.row.P.Denot =
-    record { port = c.step.new.port; input = c.step.new.input.now; out = g.O.Write.contents c.step.new.out; trace = g.T.Write.contents c.step.new.trace } in (
-      c.step.new.input.now,
-      cut_short _ _ _ _ _ _ _ i.so_far _ i.kind
-          (seen_point c.point.result.now) c.point.ensures w c.in-Err-step.fault c.in-Err-step.ensures.stepped,
-    )
+    let w : World g.row.P.Denot = record {
+      port = c.step.new.world.0;
+      input = c.step.new.world.1.0.now;
+      out = g.O.Write.contents c.step.new.world.1.1.0;
+      trace = g.T.Write.contents c.step.new.world.1.1.1.0;
+    } in
+    let cut = cut_short _ _ _ _ _ _ _ i.so_far _ i.kind
+    (seen_point c.point.result.now) c.point.ensures w c.in_err-end.field-0.0 c.in_err-end.ensures.stepped in
+    (c.step.new.world.1.0.now, search (rules, cut))
 
 pub loop-preserved : goal.loop-preserved
 loop-preserved g c =
     let i = c.loop.invariant in
     let start : World g.row.P.Denot =
     record { port = c.args.port.now; input = c.args.input.now; out = g.O.Write.contents c.args.out.now; trace = g.T.Write.contents c.args.trace.now } in
-    let w : World g.row.P.Denot =
-    record { port = c.step.new.port; input = c.step.new.input.now; out = g.O.Write.contents c.step.new.out; trace = g.T.Write.contents c.step.new.trace } in
+    let w : World g.row.P.Denot = record {
+      port = c.step.new.world.0;
+      input = c.step.new.world.1.0.now;
+      out = g.O.Write.contents c.step.new.world.1.1.0;
+      trace = g.T.Write.contents c.step.new.world.1.1.1.0;
+    } in
     let steps = g.P.CardPort.steps in
     let f = c.args.graph.now in
     let s = stand_of c.step.new.standing in
-    let leads = rw c.in-Ok-None.field-0-is at c.in-Ok-None.ensures.stepped in
-    let len : length c.loop.blocks ≡ length c.step.new.buffer = sym c.step.auto.buffer in
+    let leads = rw c.in_default.is at c.in_ok-end.ensures.stepped in
+    let len : length c.loop.held ≡ length c.step.new.held = sym c.step.auto.held in
     let less : c.steps-end.result - c.loop.counter - 1 ≡ c.steps-end.result - (c.loop.counter + 1) = omega arith in
     let on = moves_on steps f _ start _ _ _ i.so_far _ i.kind (seen_point c.point.result.now) c.point.ensures w s i.sound i.room leads in
+    let so_far = subst (λ (room : ℕ). SoFar steps f room start (c.steps-end.result - (c.loop.counter + 1)) s w) len
+    (subst (λ (n : ℕ). SoFar steps f (length c.loop.held) start n s w) less on) in
     record {
       sound = i.sound;
-      kind = c.in-Ok-None.ensures.kind ∙ i.kind;
+      kind = c.in_ok-end.ensures.kind ∙ i.kind;
       room = subst (AnnounceAtMost f.points) len i.room;
-      so_far = subst (λ (room : ℕ). SoFar steps f room start (c.steps-end.result - (c.loop.counter + 1)) s w) len
-          (subst (λ (n : ℕ). SoFar steps f (length c.loop.blocks) start n s w) less on);
+      so_far = so_far;
     }

@@ -10,8 +10,8 @@ abbrev pub invariant-loop : goal.invariant-loop
 invariant-loop g l = record {
   sound : IsSound l.graph;
   kind : l.standing.host.kind ≡ l.graph.kind;
-  room : AnnounceAtMost l.graph.points (length l.blocks);
-  so_far : SoFar g.P.CardPort.steps l.graph (length l.blocks)
+  room : AnnounceAtMost l.graph.points (length l.held);
+  so_far : SoFar g.P.CardPort.steps l.graph (length l.held)
       (record { port = l.fn.port; input = l.fn.input; out = g.O.Write.contents l.fn.out; trace = g.T.Write.contents l.fn.trace }) (l.end - l.counter)
-      (stand_of l.standing) (record { port = l.port; input = l.left; out = g.O.Write.contents l.out; trace = g.T.Write.contents l.trace });
+      (stand_of l.standing) (record { port = l.port; input = l.left.now; out = g.O.Write.contents l.out; trace = g.T.Write.contents l.trace });
 }

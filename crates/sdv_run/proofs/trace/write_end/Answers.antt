@@ -1,5 +1,0 @@
-use Rattle.std.proofs.Common.{rules}
-use Rattle.sdv_run.proofs.trace.write_end.Goals as goal
-
-pub returns : goal.returns
-returns g c = search rules

@@ -1,0 +1,13 @@
+//! The text of a trace: one line for each event of a run with what it returned, and one for the end of the run.
+//!
+//! Begin at `specs/Trace.antt`, which says what each line is.
+#![tactic(auto)]
+
+mod end;
+mod lines;
+
+pub use end::End;
+pub use lines::{
+    LineBytes, TraceFault, put, put_decimal, put_word, write_all, write_blocks_in,
+    write_blocks_out, write_command, write_end, write_register, write_wait,
+};
