@@ -6,7 +6,7 @@ use Rattle.sdv_card.specs.declared.answer.DataEnd.TheVariants as ends
 use Rattle.sdv_card.specs.Card.{Block}
 use Rattle.sdv_card.specs.Port.{DataIn, DataInRegister}
 use Rattle.sdv_card.specs.ScriptEvent.{BlocksIn, RegisterIn}
-use Rattle.sdv_run.specs.Trace.{line_feed}
+use Rattle.sdv_trace.specs.Trace.{line_feed}
 use Rattle.sdv_lines.specs.declared.fault.LineFault.{LineFault}
 use Rattle.sdv_lines.specs.declared.fault.LineFault.TheVariants as faults
 use Rattle.sdv_lines.specs.Texts.{IsText, lines_of}

@@ -6,7 +6,7 @@ use Rattle.std.specs.List.{AllByRecursion}
 use Rattle.std.specs.Io.KnownBytes.{Consumes}
 use Rattle.hex.proofs.HexLemmas.{decode_of-ok}
 use Rattle.sdv_card.specs.Card.{Block}
-use Rattle.sdv_run.specs.Trace.{line_feed}
+use Rattle.sdv_trace.specs.Trace.{line_feed}
 use Rattle.sdv_lines.specs.declared.fault.LineFault.{LineFault}
 use Rattle.sdv_lines.specs.declared.fault.LineFault.TheVariants as faults
 use Rattle.sdv_lines.specs.Texts.{IsText, AreDigits, AreBlocks, lines_of}

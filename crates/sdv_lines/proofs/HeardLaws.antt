@@ -20,7 +20,7 @@ use Rattle.sdv_card.specs.Port.{Call, Exchange, DataIn, DataInRegister, DataOut,
 use Rattle.sdv_card.specs.ScriptEvent.{Return, Answered, BlocksIn, RegisterIn, BlocksOut, Waited}
 use Rattle.sdv_lines.specs.declared.fault.LineFault.{LineFault}
 use Rattle.sdv_lines.specs.declared.fault.LineFault.TheVariants as faults
-use Rattle.sdv_run.specs.Trace.{line_feed}
+use Rattle.sdv_trace.specs.Trace.{line_feed}
 use Rattle.sdv_lines.specs.Texts.{IsText, lines_of}
 use Rattle.sdv_lines.specs.Answers.{IsReplyOf, IsWordOf, TellsReply, TellsAnswer, data_end_text, wait_end_text, IsAnswer}
 use Rattle.sdv_lines.specs.Reading.{BeginsLong, ReadsNoLine}

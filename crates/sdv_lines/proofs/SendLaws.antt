@@ -5,7 +5,7 @@ use Rattle.std.specs.Io.KnownBytes.{Appends, Keeps}
 use Rattle.std.proofs.lemmas.List.{append-nil, take-append-drop, take_more}
 use Rattle.hex.specs.Hex.{encode_lower}
 use Rattle.sdv_card.specs.Card.{Block}
-use Rattle.sdv_run.specs.Trace.{line_feed}
+use Rattle.sdv_trace.specs.Trace.{line_feed}
 use Rattle.sdv_text.proofs.WrittenLaws.{appends_more}
 use Rattle.sdv_lines.specs.declared.fault.LineFault.{LineFault}
 use Rattle.sdv_lines.specs.declared.fault.LineFault.TheVariants as faults

@@ -5,7 +5,7 @@ use Rattle.sdv_frames.specs.declared.reply.Expect.{Expect}
 use Rattle.sdv_frames.specs.declared.reply.Expect.TheVariants as expects
 use Rattle.sdv_card.specs.Card.{Block}
 use Rattle.sdv_card.specs.Port.{Call, Exchange, DataIn, DataInRegister, DataOut, WaitWhileBusy}
-use Rattle.sdv_run.specs.Trace.{command_text}
+use Rattle.sdv_trace.specs.Trace.{command_text}
 use Rattle.sdv_lines.specs.Texts.{lines_of}
 
 -- the response that is waited for

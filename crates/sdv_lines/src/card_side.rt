@@ -2,7 +2,7 @@
 
 ghost use Rattle.std.specs.Prelude.{◌≡◌, ◌++◌, ℕ, List, Option, length, Some};
 ghost use Rattle.std.specs.Io.KnownBytes.{Consumes};
-ghost use Rattle.sdv_run.specs.Trace.{line_feed};
+ghost use Rattle.sdv_trace.specs.Trace.{line_feed};
 ghost use Rattle.sdv_lines.specs.Texts.{IsText};
 ghost use Rattle.sdv_lines.specs.Hearing.{read_request, IsInRange};
 ghost use Rattle.sdv_lines.specs.Serving.{lines_in, Serves, ReadsRequest, ServesAll};

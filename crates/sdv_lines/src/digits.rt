@@ -2,7 +2,7 @@
 
 ghost use Rattle.std.specs.Prelude.{◌≡◌, ◌≤◌, ◌*◌, ◌++◌, length};
 ghost use Rattle.hex.specs.Hex.{encode_lower};
-ghost use Rattle.sdv_run.specs.Trace.{line_feed};
+ghost use Rattle.sdv_trace.specs.Trace.{line_feed};
 ghost use Rattle.sdv_lines.specs.Reading.{ReadsDigits, ReadsBlocks};
 ghost use Rattle.sdv_lines.specs.Requests.{block_texts};
 ghost use Rattle.sdv_lines.specs.Streams.{Sends};

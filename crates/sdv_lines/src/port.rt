@@ -2,7 +2,7 @@
 
 ghost use Rattle.std.specs.Prelude.{◌≡◌, None};
 ghost use Rattle.sdv_card.proofs.PortLaws.{shows_none_keeps};
-ghost use Rattle.sdv_run.specs.Trace.{end_line};
+ghost use Rattle.sdv_trace.specs.Trace.{end_line};
 ghost use Rattle.sdv_lines.specs.Streams.{IsNew, LineSteps, TellsEnd, streams_of};
 
 use crate::ask;
@@ -11,7 +11,7 @@ use crate::line::send;
 use crate::request::last_line;
 use sdv_card::{Answer, CardPort, DataEnd, WaitEnd};
 use sdv_frames::{Command, Expect, FrameFault};
-use sdv_run::End;
+use sdv_trace::End;
 use std::io::{Read, Write};
 
 /// A port that writes a request for each call, and reads its answer.

@@ -5,7 +5,7 @@ ghost use Rattle.arrayvec.specs.ArrayVec.{array_vec_len};
 ghost use Rattle.hex.specs.Hex.{encode_lower};
 ghost use Rattle.sdv_card.specs.Port.{Exchange};
 ghost use Rattle.sdv_card.specs.ScriptEvent.{Answered};
-ghost use Rattle.sdv_run.specs.Trace.{word_text, reply_text, command_text, line_feed, end_line};
+ghost use Rattle.sdv_trace.specs.Trace.{word_text, reply_text, command_text, line_feed, end_line};
 ghost use Rattle.sdv_lines.specs.Requests.{expect_text, phase_text, request_of};
 ghost use Rattle.sdv_lines.specs.Serving.{answer_of};
 
@@ -13,7 +13,7 @@ use arrayvec::ArrayVec;
 use itoa::Buffer;
 use sdv_card::Answer;
 use sdv_frames::{Command, Expect, Reply};
-use sdv_run::End;
+use sdv_trace::End;
 
 /// A line before it is written: room for the words of a phase and two numbers of 20 digits.
 pub type LineBytes = ArrayVec<u8, 64>;

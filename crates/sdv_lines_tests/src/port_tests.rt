@@ -3,7 +3,7 @@
 use sdv_card::{Answer, CardPort, DataEnd, WaitEnd};
 use sdv_frames::{Command, Expect, FrameFault, Reply};
 use sdv_lines::{LineFault, LinePort};
-use sdv_run::End;
+use sdv_trace::End;
 use std::io;
 use std::io::Write;
 

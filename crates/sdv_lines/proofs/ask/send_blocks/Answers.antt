@@ -1,6 +1,6 @@
 use Rattle.std.proofs.Common.{◌++◌, ◌∙◌, ap, List, ℕ, length, subst, append_assoc}
 use Rattle.std.specs.Prelude.{codes}
-use Rattle.sdv_run.specs.Trace.{line_feed}
+use Rattle.sdv_trace.specs.Trace.{line_feed}
 use Rattle.sdv_lines.specs.Texts.{lines_of}
 use Rattle.sdv_lines.specs.Requests.{phase_text, block_texts}
 use Rattle.sdv_lines.specs.Streams.{Sends}
