@@ -4,3 +4,5 @@ pub mod Sound
 pub mod Audits
 pub mod Living
 pub mod Bounded
+pub mod Courses
+pub mod FindingLaws

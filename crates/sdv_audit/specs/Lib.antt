@@ -8,3 +8,4 @@ pub mod Standing
 pub mod Audited
 pub mod Lived
 pub mod Beyond
+pub mod Course

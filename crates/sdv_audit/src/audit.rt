@@ -9,13 +9,14 @@ ghost use Rattle.sdv_audit.specs.Carried.{has_address, Follows};
 ghost use Rattle.sdv_audit.specs.Lived.{IsReckless};
 ghost use Rattle.sdv_audit.specs.Beyond.{NoneInBounds};
 ghost use Rattle.sdv_audit.specs.Standing.{start_set, NoneAnswers};
+ghost use Rattle.sdv_audit.specs.Course.{Course, IsAt, SameMembers, begun, least_illegal, goes_on, goes_anew, course_after, found_on, found_at};
 ghost use Rattle.sdv_audit.specs.Audited.{is_empty, Stands, AllBeyond, AllLegal, IsIllegalAt, is_unanswered, is_reset, restarts, lines_told, Behind};
 
 use crate::bounds::{all_beyond, all_within};
 use crate::fault::AuditFault;
 use crate::known::HostKnown;
 use crate::line::TraceLine;
-use crate::shapes::{Evidence, carried, first_illegal, with_lines};
+use crate::shapes::{Evidence, carried, least_illegal, with_lines};
 use crate::turn::{Told, Turn, is_expected};
 use sdv_card::{Event, START_SHAPES, Shape};
 use sdv_registers::Kind;
@@ -26,7 +27,8 @@ use std::alloc::Global;
 pub struct Findings {
     /// How the line is understood.
     pub turn: Turn,
-    /// The host was reckless: a card that answered so may be of this shape, at which the event is not legal.
+    /// The host was reckless: a card that answered so may be of this shape, at which the event is not legal. Of several it is
+    /// the one with the least number.
     pub reckless: Option<Shape>,
     /// No card answers so.
     pub unanswered: bool,
@@ -59,6 +61,7 @@ impl Audit {
     pub fn new(alloc: Global, kind: Kind) -> Result<Audit, AuditFault>
         ensures kind { IfOk result (λ audit. audit.kind ≡ kind) }
         ensures stands { IfOk result (λ audit. Stands audit []) }
+        ensures begun { IfOk result (λ audit. IsAt audit begun) }
     {
         Ok(Audit {
             alloc,
@@ -114,12 +117,14 @@ impl Audit {
         }
     }
 
-    /// The first shape at which what the host does is not legal.
+    /// The least shape at which what the host does is not legal.
     fn reckless(&self, turn: &Turn) -> Option<Shape>
-        ensures { MatchOption result (AllLegal self.now turn.now) (IsIllegalAt self.now turn.now) }
+        ensures found { MatchOption result (AllLegal self.now turn.now) (IsIllegalAt self.now turn.now) }
+        ensures least { (shapes : List CardShape) → SameMembers self.now.shapes.items shapes →
+            result ≡ least_illegal self.now.kind turn.now shapes }
     {
         match turn {
-            Turn::Does(event) => first_illegal(self.kind, self.shapes.as_slice(), event),
+            Turn::Does(event) => least_illegal(self.kind, self.shapes.as_slice(), event),
             _ => None,
         }
     }
@@ -150,6 +155,8 @@ impl Audit {
         ensures beyond { IfOk result (λ found. found.beyond ≡ true → (past : List TraceTold) → Stands self.old past →
             NoneInBounds self.old.kind past told.now) }
         ensures going_on { IfOk result (λ found. found.restarted ≡ false) }
+        ensures found { IfOk result (λ found. (c : Course) → IsAt self.old c → found ≡ found_on self.old.kind told.now c) }
+        ensures course { OnOk result ((c : Course) → IsAt self.old c → IsAt self.new (goes_on self.old.kind told.now c)) }
         ensures same { OnErr result (self.new ≡ self.old) }
     {
         let turn = told.turn(self.kind, &self.known);
@@ -186,6 +193,7 @@ impl Audit {
         ensures restarted { IfOk result (λ x. x.1.restarted ≡ true) }
         ensures legal { IfOk result (λ x. x.1.reckless ≡ None) }
         ensures bounds { IfOk result (λ x. x.1.beyond ≡ false) }
+        ensures course { IfOk result (λ x. (c : Course) → IsAt self.now c → IsAt x.0 (goes_anew self.now.kind told.now c)) }
     {
         let mut audit = Audit::new(self.alloc, self.kind)?;
         let lines = Told {
@@ -234,6 +242,9 @@ impl Audit {
             Stands self.old past → NoneInBounds self.old.kind past told.now) }
         ensures anew { IfOk result (λ found. found.restarted ≡ true → (found.reckless ≡ None) × (found.beyond ≡ false)
             × (found.unanswered ≡ is_empty self.new.shapes.items)) }
+        ensures found { IfOk result (λ found. (c : Course) → IsAt self.old c → found ≡ found_at self.old.kind told.now c) }
+        ensures course { OnOk result ((c : Course) → IsAt self.old c →
+            IsAt self.new (course_after self.old.kind told.now c)) }
         ensures same { OnErr result (self.new ≡ self.old) }
     {
         if !self.restarts(told) {

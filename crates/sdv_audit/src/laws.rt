@@ -3,6 +3,7 @@
 ghost use Rattle.sdv_registers.specs.declared.kind.Kind.{Kind};
 ghost use Rattle.sdv_audit.specs.Spelling.{LinesAreRead};
 ghost use Rattle.sdv_audit.specs.Lived.{RecklessIsReal};
+ghost use Rattle.sdv_audit.specs.Course.{FindingsHold};
 
 /// Each line that is printed is read as it was meant.
 pub fn lines_are_read()
@@ -13,4 +14,10 @@ pub fn lines_are_read()
 /// the answers of these lines, after which the event is not legal.
 pub fn reckless_is_real()
     ensures { (k : Kind) → RecklessIsReal k }
+{}
+
+/// What is found at a line holds, after any lines before it: no card answers so, the host was reckless beside a real card,
+/// or no card that may stand there has the blocks.
+pub fn findings_hold()
+    ensures { (k : Kind) → FindingsHold k }
 {}

@@ -9,7 +9,7 @@ use Rattle.sdv_card.specs.declared.answer.DataEnd.TheVariants.{Ok as Whole, Cut}
 use Rattle.sdv_card.specs.declared.answer.WaitEnd.TheVariants.{Ok as Over, Late}
 use Rattle.sdv_card.specs.Port.{command_of}
 use Rattle.sdv_card.specs.ScriptEvent.{SendCommand, ReceiveBlocks, ReceiveRegister, GiveBlocks, AwaitReady, Answered, BlocksIn, RegisterIn, BlocksOut, Waited}
-use Rattle.sdv_run.specs.Trace.{line_feed, command_text as run_command_text, answer_text as run_answer_text, end_text as run_end_text}
+use Rattle.sdv_trace.specs.Trace.{line_feed, command_text as run_command_text, answer_text as run_answer_text, end_text as run_end_text}
 use Rattle.sdv_audit.specs.declared.line.TraceLine.TheVariants.{Exchange, BlocksIn as InLine, RegisterIn as RegisterLine, BlocksOut as OutLine, Wait}
 use Rattle.sdv_audit.specs.Spelling.{answer_text, end_text}
 use Rattle.sdv_audit.proofs.Printed.{lines_are_read}

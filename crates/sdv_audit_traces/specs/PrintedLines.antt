@@ -1,7 +1,7 @@
 -- The lines that a run prints are lines that an audit reads, as the event and the answer that they were printed for.
 use Rattle.std.specs.Prelude.{◌≡◌, ◌≤◌, ◌++◌, length, Ok}
 use Rattle.sdv_card.specs.ScriptEvent.{ScriptEvent, SendCommand, ReceiveBlocks, ReceiveRegister, GiveBlocks, AwaitReady, Return, Answered, BlocksIn, RegisterIn, BlocksOut, Waited}
-use Rattle.sdv_run.specs.Trace.{line_feed, line_of}
+use Rattle.sdv_trace.specs.Trace.{line_feed, line_of}
 use Rattle.sdv_audit.specs.declared.line.TraceLine.{TraceLine}
 use Rattle.sdv_audit.specs.Reading.{read_line}
 use Rattle.sdv_audit.specs.Spelling.{IsWord, IsAnswerTo, line_text}

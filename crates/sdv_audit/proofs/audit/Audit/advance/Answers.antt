@@ -1,7 +1,10 @@
-use Rattle.std.proofs.Common.{false, ◌≡◌, subst, sym, ◌∙◌, ◌∷◌, true}
+use Rattle.std.proofs.Common.{false, ◌≡◌, ap, refl, subst, sym, ◌∙◌, ◌∷◌, true}
 use Rattle.sdv_card.specs.Lists.{May}
-use Rattle.sdv_audit.specs.Audited.{is_empty}
+use Rattle.sdv_audit.specs.declared.audit.Audit.{Audit}
+use Rattle.sdv_audit.specs.declared.audit.Findings.{Findings}
+use Rattle.sdv_audit.specs.Audited.{is_empty, is_unanswered}
 use Rattle.sdv_audit.proofs.Audits.{no_bounds, some_reckless, lived_more, one_more, none_left, left_empty}
+use Rattle.sdv_audit.proofs.Courses.{Advanced, found_so, is_at_next}
 use Rattle.sdv_audit.proofs.audit.Audit.advance.Goals as goal
 use Rattle.sdv_audit.proofs.audit.Audit.advance.Goals.{then-self, else-self}
 
@@ -22,7 +25,7 @@ returns-clause-stands c past s =
     }
 
 pub returns-clause-real : goal.returns-clause-real
-returns-clause-real c = some_reckless c.args.self.now c.turn-turn.result c.reckless-reckless.result c.reckless-reckless.ensures
+returns-clause-real c = some_reckless c.args.self.now c.turn-turn.result c.reckless-reckless.result c.reckless-reckless.ensures.found
 
 pub returns-clause-unanswered : goal.returns-clause-unanswered
 returns-clause-unanswered c e past s =
@@ -36,3 +39,42 @@ returns-clause-unanswered c e past s =
 pub returns-clause-beyond : goal.returns-clause-beyond
 returns-clause-beyond c e past s =
     no_bounds c.args.self.now c.turn-turn.result c.args.told.now past c.turn-turn.ensures (c.beyond-beyond.ensures.0 e).1 s
+
+after : goal.After-drop-self → Audit
+after c = record {
+  alloc = c.args.self.now.alloc;
+  kind = c.args.self.now.kind;
+  known = c.after_line-self.result;
+  shapes = c.in_ok-shapes.shapes;
+  bounded = c.if-self.self;
+}
+
+found : goal.After-drop-self → Findings
+found c = record {
+  turn = c.turn-turn.result;
+  reckless = c.reckless-reckless.result;
+  unanswered = c.is_unanswered-unanswered.result;
+  beyond = c.beyond-beyond.result;
+  restarted = false;
+}
+
+advanced : (c : goal.After-drop-self) → Advanced c.args.self.now (after c) c.args.told.now (found c)
+unfolding after found
+advanced c = record {
+  turn = c.turn-turn.ensures;
+  known = c.after_line-self.ensures;
+  shapes = c.in_ok-shapes.ensures;
+  reckless = c.reckless-reckless.ensures.least;
+  unanswered = c.is_unanswered-unanswered.ensures ∙ (ap (λ v. is_unanswered c.reckless-reckless.result v c.as_slice-2.result.now) c.as_slice.ensures.value
+      ∙ ap (λ v. is_unanswered c.reckless-reckless.result c.args.self.now.shapes.items v) c.as_slice-2.ensures.value);
+  beyond = c.beyond-beyond.ensures;
+  restarted = refl;
+}
+
+pub returns-clause-found : goal.returns-clause-found
+unfolding after found
+returns-clause-found c course at = found_so c.args.self.now (after c) c.args.told.now (found c) course (advanced c) at
+
+pub returns-clause-course : goal.returns-clause-course
+unfolding after found
+returns-clause-course c course at = is_at_next c.args.self.now (after c) c.args.told.now (found c) course (advanced c) at

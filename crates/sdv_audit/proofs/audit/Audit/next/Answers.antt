@@ -1,6 +1,7 @@
 use Rattle.std.proofs.Common.{subst, sym, ◌∙◌}
 use Rattle.sdv_audit.specs.Audited.{Behind}
 use Rattle.sdv_audit.proofs.Audits.{unanswered_here, unanswered_anew}
+use Rattle.sdv_audit.proofs.Courses.{found_there, course_there, found_anew_so, course_anew}
 use Rattle.sdv_audit.proofs.audit.Audit.next.Goals as goal
 
 pub returns-then-not-restarts-clause-unanswered : goal.returns-then-not-restarts-clause-unanswered
@@ -11,3 +12,22 @@ pub returns-clause-unanswered : goal.returns-clause-unanswered
 returns-clause-unanswered c e past b =
     unanswered_anew c.args.self.now c.in_ok-audit.audit c.args.told.now past c.in_ok-audit.ensures.kind c.in_ok-audit.ensures.stands
     (sym c.in_ok-audit.ensures.unanswered ∙ e) (subst (λ v. Behind v c.args.self.now past) c.in_ok-audit.ensures.restarted b)
+
+pub returns-then-not-restarts-clause-found : goal.returns-then-not-restarts-clause-found
+returns-then-not-restarts-clause-found c =
+    found_there c.args.self.now c.args.told.now c.advance.result (sym c.restarts.ensures ∙ c.if-not-restarts.true) c.advance.ensures.found
+
+pub returns-then-not-restarts-clause-course : goal.returns-then-not-restarts-clause-course
+returns-then-not-restarts-clause-course c =
+    course_there c.args.self.now c.advance.new.self c.args.told.now c.advance.result (sym c.restarts.ensures ∙ c.if-not-restarts.true) c.advance.ensures.course
+
+pub returns-clause-found : goal.returns-clause-found
+returns-clause-found c course at =
+    found_anew_so c.args.self.now c.in_ok-audit.audit c.args.told.now c.in_ok-audit.findings course (sym c.restarts.ensures ∙ c.if-not-restarts.false) at
+    (c.in_ok-audit.ensures.course course at) c.in_ok-audit.ensures.turn c.in_ok-audit.ensures.legal c.in_ok-audit.ensures.unanswered
+    c.in_ok-audit.ensures.bounds c.in_ok-audit.ensures.restarted
+
+pub returns-clause-course : goal.returns-clause-course
+returns-clause-course c course at =
+    course_anew c.args.self.now c.in_ok-audit.audit c.args.told.now course (sym c.restarts.ensures ∙ c.if-not-restarts.false) at
+    (c.in_ok-audit.ensures.course course at)

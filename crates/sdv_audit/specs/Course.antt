@@ -1,0 +1,207 @@
+-- The COURSE of an audit: where it stands after the lines so far, and what it finds at the next one, both computed.
+-- A list of shapes may have one twice, and in any order: only which ones there are counts.
+use Rattle.std.specs.Prelude.{◌≡◌, ◌≤◌, ◌==◌, ◌&&◌, ◌↔◌, not, nat_lt, Bool, true, false, ℕ, List, [], ◌∷◌, Option, Some, None, IfSome, map, if◌then◌else◌}
+use Rattle.sdv_registers.specs.declared.kind.Kind.{Kind}
+use Rattle.sdv_card.specs.declared.shape.Shape.{Shape}
+use Rattle.sdv_card.specs.declared.event.Event.{Event}
+use Rattle.sdv_card.specs.declared.event.Outcome.{Outcome}
+use Rattle.sdv_card.specs.declared.event.Seen.{Seen}
+use Rattle.sdv_card.specs.declared.event.Seen.TheVariants.{Sent, TimeOut, Bare, Ocr, Status, Ok, NotOk}
+use Rattle.sdv_card.specs.Lists.{May, all, each}
+use Rattle.sdv_card.specs.ShapeBits.{with_lines_shown}
+use Rattle.sdv_card.specs.LegalShapes.{legal_code}
+use Rattle.sdv_card.specs.Outcomes.{outcomes_code}
+use Rattle.sdv_outcomes.specs.Histories.{is_impossible_match}
+use Rattle.sdv_audit.specs.declared.line.TraceLine.{TraceLine}
+use Rattle.sdv_audit.specs.declared.known.HostKnown.{HostKnown}
+use Rattle.sdv_audit.specs.declared.turn.Told.{Told}
+use Rattle.sdv_audit.specs.declared.turn.Turn.{Turn}
+use Rattle.sdv_audit.specs.declared.turn.Turn.TheVariants.{Uses, OtherLength, Does}
+use Rattle.sdv_audit.specs.declared.audit.Audit.{Audit}
+use Rattle.sdv_audit.specs.declared.audit.Findings.{Findings}
+use Rattle.sdv_audit.specs.Known.{nothing_known}
+use Rattle.sdv_audit.specs.Turns.{turn_of, known_after, line_seen, is_expected}
+use Rattle.sdv_audit.specs.Carried.{has_address, pending_at}
+use Rattle.sdv_audit.specs.Standing.{start_set, NoneAnswers}
+use Rattle.sdv_audit.specs.Lived.{turn_within, IsReckless}
+use Rattle.sdv_audit.specs.Beyond.{is_beyond, NoneInBounds}
+use Rattle.sdv_audit.specs.Audited.{is_empty, is_unanswered, is_reset, lines_told}
+
+-- THE SAME IS SEEN of two answers
+
+-- the sort of an answer, as a number
+abbrev pub seen_sort : Seen → ℕ
+seen_sort Sent = 0
+seen_sort TimeOut = 1
+seen_sort Bare = 2
+seen_sort (Ocr ready block) = 3
+seen_sort (Status state doubt app switch) = 4
+seen_sort Ok = 5
+seen_sort NotOk = 6
+
+-- what else is seen of it: a state, a bit, and two bits that may not be known
+pub record SeenParts : Type 0 where
+  pub state : ℕ
+  pub bit : Bool
+  pub first : Option Bool
+  pub second : Option Bool
+
+abbrev pub seen_parts : Seen → SeenParts
+seen_parts (Ocr ready block) = record { state = 0; bit = ready; first = block; second = None }
+seen_parts (Status state doubt app switch) = record { state = state; bit = doubt; first = app; second = switch }
+seen_parts seen = record { state = 0; bit = false; first = None; second = None }
+
+abbrev pub same_bit : Bool → Bool → Bool
+same_bit true b = b
+same_bit false b = not b
+
+abbrev pub same_flag : Option Bool → Option Bool → Bool
+same_flag None None = true
+same_flag (Some a) (Some b) = same_bit a b
+same_flag a b = false
+
+abbrev pub same_parts : SeenParts → SeenParts → Bool
+same_parts a b = (a.state == b.state) && (same_bit a.bit b.bit && (same_flag a.first b.first && same_flag a.second b.second))
+
+abbrev pub same_seen : Seen → Seen → Bool
+same_seen a b = (seen_sort a == seen_sort b) && same_parts (seen_parts a) (seen_parts b)
+
+-- THE SHAPES after a line
+
+-- the line shows what is seen of the outcome, which is no impossible match
+abbrev pub outcome_fits : Kind → Event → TraceLine → (address : Bool) → (code : ℕ) → Outcome → Bool
+outcome_fits k event line address code o =
+    same_seen o.seen (line_seen k (pending_at code) line) && not (is_impossible_match k event o address)
+
+abbrev pub shape_if : Bool → Shape → List Shape
+shape_if fits s = if fits then s ∷ [] else []
+
+abbrev pub shapes_if : Bool → List Shape → List Shape
+shapes_if legal shapes = if legal then shapes else []
+
+-- from one shape, by the outcomes that fit
+abbrev pub led_to : Kind → Event → TraceLine → (address : Bool) → Shape → List Shape
+led_to k event line address s =
+    shapes_if (legal_code k s.0 event)
+    (each (outcomes_code k s.0 event) (λ o. shape_if (outcome_fits k event line address s.0 o) o.shape))
+
+abbrev pub shapes_after : Kind → Turn → TraceLine → (address : Bool) → List Shape → List Shape
+shapes_after k (Does event) line address shapes =
+    shapes_if (is_expected k event line) (each shapes (led_to k event line address))
+shapes_after k (Uses width) line address shapes = map (λ s. with_lines_shown s width) shapes
+shapes_after k (OtherLength due) line address shapes = []
+shapes_after k turn line address shapes = shapes
+
+-- THE SHAPE THAT A RECKLESS LINE NAMES: the least one at which the event is not legal
+
+abbrev pub lesser : Shape → Option Shape → Shape
+lesser s None = s
+lesser s (Some t) = if nat_lt t.0 s.0 then t else s
+
+abbrev pub lesser_if : Bool → Shape → Option Shape → Option Shape
+lesser_if here s found = if here then Some (lesser s found) else found
+
+abbrev pub least : (Shape → Bool) → List Shape → Option Shape
+least test [] = None
+least test (s ∷ rest) = lesser_if (test s) s (least test rest)
+
+-- of the shapes at which the test holds, it is the least; there is none where it holds at none
+abbrev pub IsLeast : (Shape → Bool) → List Shape → Option Shape → Type 0
+IsLeast test xs None = (s : Shape) → May xs s → test s ≡ false
+IsLeast test xs (Some t) = May xs t × (test t ≡ true) × ((s : Shape) → May xs s → test s ≡ true → t.0 ≤ s.0)
+
+abbrev pub least_illegal : Kind → Turn → List Shape → Option Shape
+least_illegal k (Does event) shapes = least (λ s. not (legal_code k s.0 event)) shapes
+least_illegal k turn shapes = None
+
+-- THE COURSE
+
+pub record Course : Type 0 where
+  -- what the lines tell of the host
+  pub known : HostKnown
+  -- where a card may stand
+  pub shapes : List Shape
+  -- each address so far is that of blocks of some card of the profile, at each shape
+  pub bounded : Bool
+  -- the lines by which the next one is judged, the last one first
+  pub past : List Told
+
+-- before the first line
+abbrev pub begun : Course
+begun = record { known = nothing_known; shapes = start_set; bounded = true; past = [] }
+
+abbrev pub turn_at : Kind → Told → Course → Turn
+turn_at k told c = turn_of k c.known told
+
+-- one line further
+abbrev pub goes_on : Kind → Told → Course → Course
+goes_on k told c = record {
+  known = known_after k (turn_at k told c) told.line c.known;
+  shapes = shapes_after k (turn_at k told c) told.line (has_address c.known) c.shapes;
+  bounded = c.bounded && all (λ s. turn_within k (turn_at k told c) told.line s.0) c.shapes;
+  past = told ∷ c.past;
+}
+
+-- from a CMD0 on, as before the first command, with the data lines that the host uses
+abbrev pub goes_anew : Kind → Told → Course → Course
+goes_anew k told c = goes_on k told (goes_on k (lines_told c.known.lines) begun)
+
+-- no shape is left, and the line is a CMD0
+abbrev pub restarts_at : Kind → Told → Course → Bool
+restarts_at k told c = is_empty c.shapes && is_reset (turn_at k told c)
+
+abbrev pub course_after : Kind → Told → Course → Course
+course_after k told c = if restarts_at k told c then goes_anew k told c else goes_on k told c
+
+-- WHAT IS FOUND
+
+abbrev pub found_on : Kind → Told → Course → Findings
+found_on k told c = record {
+  turn = turn_at k told c;
+  reckless = least_illegal k (turn_at k told c) c.shapes;
+  unanswered = is_unanswered (least_illegal k (turn_at k told c) c.shapes) c.shapes (goes_on k told c).shapes;
+  beyond = not (is_empty c.shapes) && all (λ s. is_beyond k c.known (turn_at k told c) told.line s.0) c.shapes;
+  restarted = false;
+}
+
+abbrev pub found_anew : Kind → Told → Course → Findings
+found_anew k told c = record {
+  turn = turn_at k told c;
+  reckless = None;
+  unanswered = is_empty (goes_anew k told c).shapes;
+  beyond = false;
+  restarted = true;
+}
+
+abbrev pub found_at : Kind → Told → Course → Findings
+found_at k told c = if restarts_at k told c then found_anew k told c else found_on k told c
+
+-- AN AUDIT stands where a course does
+
+abbrev pub SameMembers : List Shape → List Shape → Type 0
+SameMembers xs ys = (s : Shape) → May xs s ↔ May ys s
+
+pub record IsAt (audit : Audit) (c : Course) : Type 0 where
+  pub known : audit.known ≡ c.known
+  pub shapes : SameMembers audit.shapes.items c.shapes
+
+-- WHAT A FINDING MEANS, after any lines
+
+-- the course after lines, in order, from another one on
+abbrev pub course_from : Kind → Course → List Told → Course
+course_from k c [] = c
+course_from k c (told ∷ rest) = course_from k (course_after k told c) rest
+
+-- what is found at a line after a course, and the course after it
+pub record FindingHolds (k : Kind) (told : Told) (c : Course) (found : Findings) (after : Course) : Type 0 where
+  -- no card answers so
+  pub unanswered : found.unanswered ≡ true → NoneAnswers k after.past
+  -- the host was reckless beside a real card
+  pub reckless : IfSome found.reckless (λ s. c.bounded ≡ true → IsReckless k c.past (turn_at k told c) s)
+  -- no card that may stand there has the blocks
+  pub beyond : found.beyond ≡ true → NoneInBounds k c.past told
+
+abbrev pub FindingsHold : Kind → Type 0
+FindingsHold k = (before : List Told) (told : Told) →
+    FindingHolds k told (course_from k begun before) (found_at k told (course_from k begun before))
+    (course_after k told (course_from k begun before))

@@ -1,0 +1,4 @@
+pub mod WordLaws
+pub mod InputLaws
+pub mod ReportLaws
+pub mod TraceLaws

@@ -1,0 +1,95 @@
+//! A report, line by line.
+
+ghost use Rattle.std.specs.Prelude.{◌≡◌, ◌++◌, IfOk, OnOk};
+ghost use Rattle.std.specs.Io.KnownBytes.{Appends};
+ghost use Rattle.sdv_audit_report.specs.Notes.{csd_line_after};
+ghost use Rattle.sdv_audit_report.specs.Report.{Progress, at_start, ReportAt, line_notes, progress_after};
+
+use crate::fault::NoteFault;
+use crate::notes::{LastCsd, Place, put_notes_found, put_notes_taken, put_standing_note};
+use crate::style::{Style, Tally, counted};
+use sdv_audit::{Audit, Findings, Told, TraceLine, Turn};
+use sdv_card::{Answer, Event};
+use sdv_frames::Reply;
+use sdv_registers::Kind;
+use sdv_text::write_text;
+use std::alloc::Global;
+use std::io::Write;
+
+/// A report, as far as it has come.
+#[derive(Drop)]
+pub struct Report {
+    alloc: Global,
+    kind: Kind,
+    pub style: Style,
+    audit: Audit,
+    pub tally: Tally,
+    // the number of the line that has the CSD that the host read last
+    csd_line: u64,
+}
+
+impl Report {
+    /// Before the first line.
+    pub fn new(alloc: Global, kind: Kind, style: Style) -> Result<Report, NoteFault>
+        ensures kind { IfOk result (λ report. report.kind ≡ kind) }
+        ensures style { IfOk result (λ report. report.style ≡ style) }
+        ensures start { IfOk result (λ report. ReportAt report at_start) }
+    {
+        Ok(Report {
+            alloc,
+            kind,
+            style,
+            audit: Audit::new(alloc, kind)?,
+            tally: Tally::nothing(),
+            csd_line: 0,
+        })
+    }
+
+    /// Takes in a line, and writes the notes on it.
+    pub fn take<W: Write>(&mut self, told: &Told, out: &mut W) -> Result<(), NoteFault>
+        ensures kind { self.new.kind ≡ self.old.kind }
+        ensures style { self.new.style ≡ self.old.style }
+        ensures course { OnOk result ((p : Progress) → ReportAt self.old p →
+            ReportAt self.new (progress_after self.old.kind p told.now)) }
+        ensures written { OnOk result ((p : Progress) → ReportAt self.old p →
+            Appends (W.contents out.old) (W.contents out.new) (line_notes self.old.kind self.old.style p told.now)) }
+    {
+        let at = Place {
+            style: self.style,
+            number: counted(true, self.tally.lines),
+            line: &told.line,
+        };
+        let last = LastCsd {
+            kind: self.kind,
+            csd: self.audit.known().csd,
+            line: self.csd_line,
+        };
+        let mut text = Vec::new(self.alloc);
+        put_standing_note(&mut text, at, self.audit.shapes())?;
+        let found = self.audit.next(told)?;
+        put_notes_taken(&mut text, at, &found)?;
+        put_notes_found(&mut text, at, &found, last)?;
+        self.csd_line = csd_line_after(at.number, &found, &told.line, self.csd_line);
+        self.tally = self.tally.after(&found);
+        match write_text(out, text.as_slice()) {
+            Ok(()) => Ok(()),
+            Err(_) => Err(NoteFault::Write),
+        }
+    }
+}
+
+/// The number of the line that has the CSD that the host read last.
+fn csd_line_after(number: u64, found: &Findings, line: &TraceLine, before: u64) -> u64
+    ensures { result ≡ csd_line_after number found.now.turn line.now before }
+{
+    match (found.turn, line) {
+        (
+            Turn::Does(Event::Send(ask)),
+            TraceLine::Exchange {
+                answer: Answer::Reply(Reply::R2(_)),
+                ..
+            },
+        ) if ask.index == 9 => number,
+        _ => before,
+    }
+}
