@@ -1,6 +1,6 @@
 -- Lines of a list by their numbers: one more of them.
 use Rattle.std.proofs.Common.{◌≡◌, ℕ, zero, suc, ◌+◌, List, [], ◌∷◌, ◌++◌, length, ◌<◌, get_or, Some, drop, slice_get, append_assoc, sym, ap, ◌∙◌, arith}
-use Rattle.sdv_drawing.specs.Guards.{Text}
+use Rattle.sdv_telling.specs.Statements.{Text}
 use Rattle.sdv_drawing.specs.Drawing.{numbered}
 
 module _ {X : Type 0} where

@@ -1,6 +1,6 @@
 -- Four pieces of a text, one after another.
 use Rattle.std.proofs.Common.{◌≡◌, ◌++◌, append_assoc, ap, ◌∙◌, Result, Ok, Err, OnOk}
-use Rattle.sdv_drawing.specs.Guards.{Text}
+use Rattle.sdv_telling.specs.Statements.{Text}
 
 pub four_pieces : {E : Type 0} (r : Result (Unit {0}) E) (old one two three four a b c d : Text) → one ≡ old ++ a → two ≡ one ++ b → three ≡ two ++ c
     → OnOk r (four ≡ three ++ d) → OnOk r (four ≡ old ++ (a ++ (b ++ (c ++ d))))

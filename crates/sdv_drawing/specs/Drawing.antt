@@ -6,7 +6,8 @@ use Rattle.sdv_graph.specs.Path.{Case, Action, Point, sends, phases, lets, tests
 use Rattle.sdv_certify.specs.declared.fault.CertifyFault.{CertifyFault}
 use Rattle.sdv_certify.specs.declared.fault.CertifyFault.TheVariants.{Illegal, Address, EndState}
 use Rattle.sdv_explain.specs.declared.heading.Heading.{Heading}
-use Rattle.sdv_drawing.specs.Guards.{Text, guards_words}
+use Rattle.sdv_telling.specs.Guards.{guards_words}
+use Rattle.sdv_telling.specs.Statements.{Text}
 
 -- between quotes a quote and a backslash have a backslash before them
 abbrev pub escaped_byte : ℕ → Text

@@ -1,3 +1,2 @@
-pub mod Guards
 pub mod Drawing
 pub mod Drawn

@@ -4,9 +4,9 @@ ghost use Rattle.std.specs.Prelude.{◌≡◌, ◌++◌, OnOk, codes, flat_map, 
 ghost use Rattle.sdv_graph.specs.Graph.{seen_case, seen_action};
 ghost use Rattle.sdv_drawing.specs.Drawing.{arrow, case_line, dash, edge_line, edge_lines, edges_at, else_word, numbered};
 
-use crate::guards::put_guards;
 use crate::text::{Text, put, put_numbered};
 use sdv_graph::{Action, Case, Graph, Target};
+use sdv_telling::put_guards;
 use std::alloc::AllocError;
 
 /// Begins the line of an edge, up to its case.

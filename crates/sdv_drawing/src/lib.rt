@@ -5,7 +5,6 @@
 
 mod drawing;
 mod edges;
-mod guards;
 mod points;
 mod text;
 

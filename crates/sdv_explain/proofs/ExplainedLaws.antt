@@ -12,7 +12,7 @@ use Rattle.sdv_certify.specs.Assembled.{CertificateOf, RefusedFor, SurveyOf}
 use Rattle.sdv_explain.specs.declared.explaining.Refusal.{Refusal}
 use Rattle.sdv_explain.specs.declared.fault.ExplainFault.{ExplainFault}
 use Rattle.sdv_explain.specs.declared.fault.ExplainFault.TheVariants.{Script, TooMany, Memory}
-use Rattle.sdv_explain.specs.Explained.{HasWay, IsRefusal, Unexplained}
+use Rattle.sdv_explain.specs.Explained.{HasFailures, HasWay, IsRefusal, Unexplained}
 
 pub unexplained : (s : Tree) (text : List ℕ) (fault : ExplainFault) → (shown s).text ≡ text → IsScript (shown s)
     → (fault ≡ TooMany → RefusedFor s certifies.TooMany)
@@ -31,13 +31,14 @@ certified_by s ps told (Some r) h k e = absurd (cc)
 -- and the refusal that it tells is the script's
 pub refused_by : (s : Tree) (g : Graph) (ps : List PointFacts) (told : Option CertifyFault) (r : Option Refusal) → IsGraphOfScript (shown s) g
     → SurveyOf s ps → IfSome told (RefusedFor s)
-    → IfSome r (λ r. told ≡ Some r.fault) → IfSome r (HasWay g ps) → IfSome r (IsRefusal s)
-refused_by s g ps told None is known h f w = tt
-refused_by s g ps told (Some r) is known h f w = record {
+    → IfSome r (λ r. told ≡ Some r.fault) → IfSome r (HasWay g ps) → IfSome r (HasFailures g ps) → IfSome r (IsRefusal s)
+refused_by s g ps told None is known h f w o = tt
+refused_by s g ps told (Some r) is known h f w o = record {
   refused = subst (λ o. IfSome o (RefusedFor s)) f h;
   graph = g;
   is_graph = is;
   points = ps;
   survey = known;
   way = w;
+  failures = o;
 }

@@ -10,3 +10,4 @@ pub mod StandLaws
 mod RefusedLaws
 mod KnownLaws
 mod HeadingLaws
+mod FailingLaws

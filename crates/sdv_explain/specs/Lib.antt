@@ -7,3 +7,4 @@ pub mod Found
 pub mod Laws
 pub mod Explained
 pub mod Headings
+pub mod Failing

@@ -6,9 +6,11 @@ ghost use Rattle.sdv_facts.specs.Facts.{PointFacts};
 ghost use Rattle.sdv_script.specs.OneGraph.{IsGraphOfScript};
 ghost use Rattle.sdv_script.specs.Shown.{shown};
 ghost use Rattle.sdv_certify.specs.Assembled.{CertificateOf, RefusedFor, SurveyOf};
-ghost use Rattle.sdv_explain.specs.Explained.{EndsThere, Explains, HasWay, IsRefusal, NamesPoint, Unexplained};
+ghost use Rattle.sdv_explain.specs.Failing.{AreFailures};
+ghost use Rattle.sdv_explain.specs.Explained.{BeginsWith, EndsThere, Explains, HasFailures, HasWay, IsRefusal, NamesPoint, Unexplained};
 ghost use Rattle.sdv_explain.specs.Way.{HasNoWay, IsShortest};
 
+use crate::failing::{Failure, failures_of, put_further};
 use crate::fault::ExplainFault;
 use crate::known::known_at;
 use crate::refusal::put_refusal;
@@ -29,13 +31,18 @@ pub struct Refusal {
     pub fault: CertifyFault,
     /// A way with the fewest visits to a shape that is refused at the point; empty where no way leads there.
     pub way: Vec<Visit>,
+    /// How each point fails that does, in the order of the points.
+    pub failures: Vec<Failure>,
 }
 
 /// What is explained of a script.
 #[derive(Drop)]
 pub struct Explanation {
-    /// What is known at each point, and why the script is refused where it is, in words.
+    /// Why the script is refused where it is, and then what is known at each point, in words.
     pub text: Vec<u8>,
+    /// Why the script is refused, by itself: each point that fails, and a way to the first. It is empty where the script has
+    /// a certificate.
+    pub why: Vec<u8>,
     /// Why the script is refused, if it is.
     pub refusal: Option<Refusal>,
 }
@@ -57,6 +64,7 @@ pub fn explain(alloc: Global, text: &str) -> Result<Explanation, ExplainFault>
 
 /// The same of a script.
 fn explain_script(alloc: Global, script: &Script<'_>) -> Result<Explanation, ExplainFault>
+    ensures front { IfOk result (λ e. BeginsWith e.why.items e.text.items) }
     ensures certified { IfOk result (λ e. e.refusal ≡ None → (ps : List PointFacts) × CertificateOf script.now ps) }
     ensures refused { IfOk result (λ e. IfSome e.refusal (IsRefusal script.now)) }
     ensures too_many { IfErr result (λ fault. fault ≡ ExplainFault.TooMany
@@ -65,13 +73,29 @@ fn explain_script(alloc: Global, script: &Script<'_>) -> Result<Explanation, Exp
 {
     let graph = script.graph(alloc)?;
     let survey = survey_of(alloc, script, &graph)?;
-    let mut words = Vec::new(alloc);
-    put_listing(alloc, &mut words, &graph, &survey.known)?;
-    let refusal = refusal_of(alloc, &mut words, &graph, &survey)?;
-    Ok(Explanation {
-        text: words,
-        refusal,
-    })
+    let mut why = Vec::new(alloc);
+    let refusal = refusal_of(alloc, &mut why, &graph, &survey)?;
+    let text = page(alloc, &why, &graph, &survey.known)?;
+    Ok(Explanation { text, why, refusal })
+}
+
+/// Why a script is refused, and then, behind an empty line, what is known at each point.
+fn page(
+    alloc: Global,
+    why: &[u8],
+    graph: &Graph<'_>,
+    known: &Certificate,
+) -> Result<Vec<u8>, AllocError>
+    ensures { IfOk result (λ text. BeginsWith why.now text.items) }
+{
+    let mut listing = Vec::new(alloc);
+    if !why.is_empty() {
+        listing.push(b'\n')?;
+    }
+    put_listing(alloc, &mut listing, graph, known)?;
+    let mut text = Vec::from_slice(alloc, why)?;
+    text.extend_from_slice(&listing)?;
+    Ok(text)
 }
 
 /// What is known at each point of a script, and why it is refused, if it is. The graph is the script's.
@@ -105,6 +129,7 @@ fn refusal_of(
     ensures none { IfOk result (λ refusal. IfNone refusal (survey.now.refusal ≡ None)) }
     ensures fault { IfOk result (λ refusal. IfSome refusal (λ r. survey.now.refusal ≡ Some r.fault)) }
     ensures way { IfOk result (λ refusal. IfSome refusal (HasWay graph.now survey.now.known.points)) }
+    ensures failures { IfOk result (λ refusal. IfSome refusal (HasFailures graph.now survey.now.known.points)) }
 {
     match survey.refusal {
         Some(fault) => {
@@ -138,12 +163,19 @@ fn refuse(
 ) -> Result<Refusal, AllocError>
     ensures fault { IfOk result (λ refusal. refusal.fault ≡ fault) }
     ensures way { IfOk result (HasWay graph.now known.now.points) }
+    ensures failures { IfOk result (λ refusal. AreFailures graph.now known.now.points refusal.failures.items) }
 {
     let mut way = Vec::new(alloc);
     if let Some(number) = refused_point(fault) {
         way = refuse_point(alloc, words, graph, known, fault, number)?;
     }
-    Ok(Refusal { fault, way })
+    let failures = failures_of(alloc, graph, known)?;
+    put_further(words, graph, known, &failures)?;
+    Ok(Refusal {
+        fault,
+        way,
+        failures,
+    })
 }
 
 /// Adds the words of the refusal of a point, and answers a way to it.

@@ -26,7 +26,7 @@ fn event_of(action: &Action<'_>) -> Option<Event>
 }
 
 /// Why the event of a statement is not legal at a shape, by the table of the kind.
-fn illegality(kind: Kind, action: &Action<'_>, shape: Shape) -> Option<Illegality>
+pub fn illegality(kind: Kind, action: &Action<'_>, shape: Shape) -> Option<Illegality>
     ensures { result ≡ illegality_there kind (seen_action action.now) shape }
 {
     let event = event_of(action)?;

@@ -22,7 +22,7 @@ fn takes_address(action: &Action<'_>, numbers: &Numbers, shape: Shape) -> bool
 }
 
 /// A shape of these at which they are not, if there is one.
-fn untaken(action: &Action<'_>, numbers: &Numbers, shapes: &[Shape]) -> Option<Shape>
+pub fn untaken(action: &Action<'_>, numbers: &Numbers, shapes: &[Shape]) -> Option<Shape>
     ensures untaken { IfSome result (IsUntaken (seen_action action.now) numbers.now shapes.now) }
     ensures none { IfNone result (AllTake (seen_action action.now) numbers.now shapes.now) }
 {
@@ -35,7 +35,7 @@ fn untaken(action: &Action<'_>, numbers: &Numbers, shapes: &[Shape]) -> Option<S
 }
 
 /// A shape of these that is not in the transfer state at `done`, if there is one.
-fn other_end(action: &Action<'_>, shapes: &[Shape]) -> Option<Shape>
+pub fn other_end(action: &Action<'_>, shapes: &[Shape]) -> Option<Shape>
     ensures other { IfSome result (IsOtherEnd (seen_action action.now) shapes.now) }
     ensures none { IfNone result (AllEnd (seen_action action.now) shapes.now) }
 {

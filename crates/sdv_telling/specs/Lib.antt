@@ -1,2 +1,4 @@
+pub mod Cards
+pub mod Guards
 pub mod Places
 pub mod Statements

@@ -60,7 +60,7 @@ fn reason_words(reason: Reason) -> &'static str {
         Reason::OnlyForApplications => {
             "this is an application command, and the card may not take the next command as one"
         }
-        Reason::BlockLength => "the block length may be another than 512: CMD16 was not taken",
+        Reason::BlockLength => "the block length may not be 512: the card may not have taken CMD16",
         Reason::EraseSequence =>
             "the commands before it in an erase may not have been taken, one right after the other",
         Reason::NoReadDue => "no read of blocks is due",

@@ -48,11 +48,11 @@ fn fits_unit(unit: Unit, shape: Shape) -> bool
 fn put_unit_rule(text: &mut Text, address: &Address, names: &Names<'_>) -> Result<(), AllocError> {
     put_address(text, address, names)?;
     match address.unit {
-        Unit::Block => put(text, " needs block addresses at every card that comes here"),
-        Unit::Byte => put(text, " needs byte addresses at every card that comes here"),
+        Unit::Block => put(text, " needs a card with block addresses"),
+        Unit::Byte => put(text, " needs a card with byte addresses"),
         Unit::By(_) => put(
             text,
-            " needs the flag set exactly where the card has block addresses",
+            " needs the flag to be set if and only if the card has block addresses",
         ),
     }
 }
@@ -73,7 +73,7 @@ fn put_beyond(
         )?,
     }
     put_address(text, address, names)?;
-    put(text, ", for this is known: ")?;
+    put(text, "; what is known: ")?;
     if numbers.mb == 0 && partition != Partition::User {
         put(text, "a boot partition has 0 blocks or more; ")?;
     }
@@ -155,7 +155,7 @@ pub fn put_refused(
     let (action, names) = (&graph.point(number).action, graph.names());
     put_fault(text, why, number, shape)?;
     put_place(text, graph, number)?;
-    put(text, ", beside a card that is\n    ")?;
+    put(text, ", if the card is\n    ")?;
     put_shape(text, shape, &names.flags)?;
     put(text, "\n")?;
     put_reason(text, why, action, numbers, shape, names)

@@ -1,11 +1,17 @@
 //! The shapes of cards, in words.
 
-use crate::text::{Text, put, put_all, put_numbered, words_if};
+ghost use Rattle.std.specs.Prelude.{◌≡◌, ◌++◌, OnOk, codes};
+ghost use Rattle.sdv_card.specs.Modes.{same_width};
+ghost use Rattle.sdv_telling.specs.Cards.{state_word, numbered_state_word, transfer_words, erase_words, partition_words, lines_words, preset_words, both_lines_words, doing_words, left_words, mode_words, state_words, unit_of_addresses_words, card_words};
+
+use crate::text::{Text, put, put_with_number, words_if};
 use sdv_card::{EraseStage, Fields, Partition, Shape, State, Transfer, Width};
 use std::alloc::{AllocError, Global};
 
 /// The word of a state, as scripts write it.
-pub fn state_word(state: State) -> &'static str {
+pub fn state_word(state: State) -> &'static str
+    ensures { result.now ≡ state_word state }
+{
     match state {
         State::Idle => "idle",
         State::Ready => "ready",
@@ -20,7 +26,9 @@ pub fn state_word(state: State) -> &'static str {
 }
 
 /// The word of the state with a number.
-pub fn numbered_state_word(number: u8) -> &'static str {
+pub fn numbered_state_word(number: u8) -> &'static str
+    ensures { result.now ≡ numbered_state_word number }
+{
     match number {
         0 => "idle",
         1 => "ready",
@@ -34,7 +42,9 @@ pub fn numbered_state_word(number: u8) -> &'static str {
     }
 }
 
-fn transfer_words(transfer: Transfer) -> &'static str {
+fn transfer_words(transfer: Transfer) -> &'static str
+    ensures { result.now ≡ transfer_words transfer }
+{
     match transfer {
         Transfer::Nothing => "",
         Transfer::ReadDue => ", a read is due",
@@ -51,7 +61,9 @@ fn transfer_words(transfer: Transfer) -> &'static str {
     }
 }
 
-fn erase_words(erase: EraseStage) -> &'static str {
+fn erase_words(erase: EraseStage) -> &'static str
+    ensures { result.now ≡ erase_words erase }
+{
     match erase {
         EraseStage::Outside => "",
         EraseStage::Begun => ", the first block of an erase set",
@@ -59,7 +71,9 @@ fn erase_words(erase: EraseStage) -> &'static str {
     }
 }
 
-fn partition_words(partition: Partition) -> &'static str {
+fn partition_words(partition: Partition) -> &'static str
+    ensures { result.now ≡ partition_words partition }
+{
     match partition {
         Partition::User => "",
         Partition::Boot1 => ", boot partition 1 in access",
@@ -68,7 +82,9 @@ fn partition_words(partition: Partition) -> &'static str {
 }
 
 /// The words of data lines.
-pub fn lines_words(width: Width) -> &'static str {
+pub fn lines_words(width: Width) -> &'static str
+    ensures { result.now ≡ lines_words width }
+{
     match width {
         Width::One => "1 data line",
         Width::Four => "4 data lines",
@@ -77,61 +93,94 @@ pub fn lines_words(width: Width) -> &'static str {
 }
 
 /// Adds the data lines of a card and of its host, unless both use one.
-fn put_lines(text: &mut Text, card: Width, host: Width) -> Result<(), AllocError> {
+fn put_lines(text: &mut Text, card: Width, host: Width) -> Result<(), AllocError>
+    ensures { OnOk result (text.new.items ≡ text.old.items ++ both_lines_words card host) }
+{
     if card != host {
-        return put_all(
-            text,
-            &[
-                ", the card on ",
-                lines_words(card),
-                " and the host on ",
-                lines_words(host),
-            ],
-        );
+        put(text, ", the card on ")?;
+        put(text, lines_words(card))?;
+        put(text, " and the host on ")?;
+        return put(text, lines_words(host));
     }
     if card == Width::One {
         return Ok(());
     }
-    put_all(text, &[", on ", lines_words(card)])
+    put(text, ", on ")?;
+    put(text, lines_words(card))
 }
 
-/// Adds what CMD6 and ACMD6 leave of a card.
-fn put_mode(text: &mut Text, fields: &Fields) -> Result<(), AllocError> {
+/// Adds the preset count of a card, if there is one.
+fn put_preset(text: &mut Text, preset: u16) -> Result<(), AllocError>
+    ensures { OnOk result (text.new.items ≡ text.old.items ++ preset_words preset) }
+{
+    if preset == 0 {
+        return Ok(());
+    }
+    put_with_number(text, ", preset count ", u64::from(preset))
+}
+
+/// Adds the state of a card, its transfer, and whether it takes the next command as an application command.
+fn put_doing(text: &mut Text, fields: &Fields) -> Result<(), AllocError>
+    ensures { OnOk result (text.new.items ≡ text.old.items ++ doing_words fields.now) }
+{
+    put(text, state_word(fields.state))?;
+    put(text, transfer_words(fields.transfer))?;
+    put(text, words_if(fields.app, ", application command next"))
+}
+
+/// Adds what commands before left of a card.
+fn put_left(text: &mut Text, fields: &Fields) -> Result<(), AllocError>
+    ensures { OnOk result (text.new.items ≡ text.old.items ++ left_words fields.now) }
+{
+    put(text, erase_words(fields.erase))?;
+    put_preset(text, fields.preset)?;
+    let other = words_if(
+        !fields.matched,
+        ", at an address that the host does not hold",
+    );
+    put(text, other)
+}
+
+/// Adds what CMD6 and ACMD6 left of a card.
+fn put_mode(text: &mut Text, fields: &Fields) -> Result<(), AllocError>
+    ensures { OnOk result (text.new.items ≡ text.old.items ++ mode_words fields.now) }
+{
     put_lines(text, fields.mode.width, fields.lines)?;
-    let error = words_if(fields.mode.error, ", a switch error not yet shown");
-    put_all(text, &[partition_words(fields.mode.partition), error])
+    put(text, partition_words(fields.mode.partition))?;
+    put(
+        text,
+        words_if(fields.mode.error, ", a switch error not yet shown"),
+    )
 }
 
 /// Adds the state of a card and all else of it but what varies on a line.
-fn put_state(text: &mut Text, fields: &Fields) -> Result<(), AllocError> {
-    let app = words_if(fields.app, ", application command next");
-    let words = [
-        state_word(fields.state),
-        transfer_words(fields.transfer),
-        app,
-        erase_words(fields.erase),
-    ];
-    put_all(text, &words)?;
-    if fields.preset > 0 {
-        put_numbered(text, ", preset count ", u64::from(fields.preset), "")?;
-    }
-    put(
-        text,
-        words_if(
-            !fields.matched,
-            ", at an address that the host does not hold",
-        ),
-    )?;
+fn put_state(text: &mut Text, fields: &Fields) -> Result<(), AllocError>
+    ensures { OnOk result (text.new.items ≡ text.old.items ++ state_words fields.now) }
+{
+    put_doing(text, fields)?;
+    put_left(text, fields)?;
     put_mode(text, fields)
 }
 
 /// Adds the unit of addresses and the block length of a card.
-fn put_unit(text: &mut Text, fields: &Fields) -> Result<(), AllocError> {
+fn put_unit(text: &mut Text, fields: &Fields) -> Result<(), AllocError>
+    ensures { OnOk result
+        (text.new.items ≡ text.old.items ++ unit_of_addresses_words fields.now.block_unit fields.now.length_512) }
+{
     match (fields.block_unit, fields.length_512) {
         (true, _) => put(text, "block addresses"),
-        (false, true) => put(text, "byte addresses, length 512"),
-        (false, false) => put(text, "byte addresses, another length"),
+        (false, true) => put(text, "byte addresses, block length 512"),
+        (false, false) => put(text, "byte addresses, block length not 512"),
     }
+}
+
+/// Adds all of a card but the script's flags.
+pub fn put_card(text: &mut Text, fields: &Fields) -> Result<(), AllocError>
+    ensures { OnOk result (text.new.items ≡ text.old.items ++ card_words fields.now) }
+{
+    put_state(text, fields)?;
+    put(text, ": ")?;
+    put_unit(text, fields)
 }
 
 /// Adds the names of the flags that are set.
@@ -155,9 +204,7 @@ pub fn put_shape(text: &mut Text, shape: Shape, names: &[&str]) -> Result<(), Al
     let Some(fields) = shape.decode() else {
         return put(text, "no card");
     };
-    put_state(text, &fields)?;
-    put(text, ": ")?;
-    put_unit(text, &fields)?;
+    put_card(text, &fields)?;
     put_flags(text, shape, names)
 }
 

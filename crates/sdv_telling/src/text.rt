@@ -1,6 +1,7 @@
 //! Texts that are put together piece by piece.
 
 ghost use Rattle.std.specs.Prelude.{◌≡◌, ◌++◌, OnOk, decimal};
+ghost use Rattle.sdv_telling.specs.Cards.{words_if};
 
 use itoa::Buffer;
 use std::alloc::AllocError;
@@ -24,7 +25,9 @@ pub fn put_all(text: &mut Text, pieces: &[&str]) -> Result<(), AllocError> {
 }
 
 /// The words where that holds, and none otherwise.
-pub fn words_if(holds: bool, words: &str) -> &str {
+pub fn words_if(holds: bool, words: &str) -> &str
+    ensures { result.now ≡ words_if holds words.now }
+{
     if holds { words } else { "" }
 }
 
@@ -34,6 +37,14 @@ pub fn put_number(text: &mut Text, number: u64) -> Result<(), AllocError>
 {
     let mut buffer = Buffer::new();
     put(text, buffer.format(number))
+}
+
+/// Adds words and a number.
+pub fn put_with_number(text: &mut Text, words: &str, number: u64) -> Result<(), AllocError>
+    ensures { OnOk result (text.new.items ≡ text.old.items ++ (words.now ++ decimal number)) }
+{
+    put(text, words)?;
+    put_number(text, number)
 }
 
 /// Adds words, a number, and words.

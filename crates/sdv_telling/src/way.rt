@@ -2,6 +2,7 @@
 
 ghost use Rattle.std.specs.Prelude.{◌<◌, length};
 
+use crate::cases::put_taken;
 use crate::shapes::put_shape;
 use crate::statements::{put_seen, put_statement};
 use crate::text::{Text, pad, put, put_numbered};
@@ -71,7 +72,11 @@ fn put_event(
     pad(text, start, 74)?;
     put(text, "then ")?;
     put_shape(text, after.shape, &graph.names().flags)?;
-    put(text, "\n")
+    put(text, "\n")?;
+    match &graph.point(before.point).action {
+        Action::Send(_, cases, _) => put_taken(text, cases, seen, after.point),
+        _ => Ok(()),
+    }
 }
 
 /// Adds the events of a way.
@@ -82,10 +87,10 @@ pub fn put_way(text: &mut Text, graph: &Graph<'_>, way: &[Visit]) -> Result<(), 
     if way.iter().any(|visit| tests_at(graph, visit)) {
         put(
             text,
-            "a way there, if its tests of numbers may come out so:\n",
+            "a run that gets there, if its number tests come out this way:\n",
         )?;
     } else {
-        put(text, "a way there:\n")?;
+        put(text, "a run that gets there:\n")?;
     }
     put(text, "    before the first command    ")?;
     put_shape(text, first.shape, &graph.names().flags)?;

@@ -7,6 +7,7 @@ returns-clause-explained c = record {
   script = c.in_ok-script.script;
   same = c.in_ok-script.ensures.text;
   is_script = c.in_ok-script.ensures.script;
+  front = c.in_ok-explanation.ensures.front;
   certified = c.in_ok-explanation.ensures.certified;
   refused = c.in_ok-explanation.ensures.refused;
 }

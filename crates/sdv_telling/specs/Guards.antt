@@ -1,12 +1,10 @@
 -- The guards of a case, as scripts write them.
-use Rattle.std.specs.Prelude.{ℕ, List, [], ◌∷◌, ◌++◌, flat_map, codes}
+use Rattle.std.specs.Prelude.{List, [], ◌∷◌, ◌++◌, flat_map, codes}
+use Rattle.sdv_telling.specs.Statements.{Text}
 use Rattle.sdv_card.specs.declared.guard.Guard.{Guard}
 use Rattle.sdv_card.specs.declared.guard.Guard.TheVariants as guards
 use Rattle.sdv_card.specs.declared.state.State.{State}
 use Rattle.sdv_card.specs.declared.state.State.TheVariants as states
-
-abbrev pub Text : Type 0
-Text = List ℕ
 
 abbrev pub state_word : State → Text
 state_word states.Idle = codes "state=idle"

@@ -1,6 +1,6 @@
 use Rattle.std.proofs.Common.{◌≡◌, ◌++◌, drop, flat_map}
-use Rattle.sdv_drawing.specs.Guards.{further_words}
-use Rattle.sdv_drawing.proofs.guards.put_further.Given as goal
+use Rattle.sdv_telling.specs.Guards.{further_words}
+use Rattle.sdv_telling.proofs.guards.put_further.Given as goal
 
 -- what is written, and what is still to be, are all
 abbrev pub invariant-loop-guard : goal.invariant-loop-guard

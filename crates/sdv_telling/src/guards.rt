@@ -1,7 +1,7 @@
 //! Guards of cases, as scripts write them.
 
 ghost use Rattle.std.specs.Prelude.{◌≡◌, ◌++◌, OnOk, flat_map};
-ghost use Rattle.sdv_drawing.specs.Guards.{further_words, guard_words, guards_words, state_word};
+ghost use Rattle.sdv_telling.specs.Guards.{further_words, guard_words, guards_words, state_word};
 
 use crate::text::{Text, put};
 use sdv_card::{Guard, State};
