@@ -1,0 +1,4 @@
+pub mod LineWords
+pub mod CardWords
+pub mod MisfitWords
+pub mod Described

@@ -1,0 +1,118 @@
+//! The lines of a description, one after another.
+
+/// What a line is to say. Those of an e.MMC device with byte addresses are named for it, since other lines follow them.
+#[derive(Clone, Copy)]
+pub enum Field {
+    /// The kind of card.
+    Card,
+    /// The version of an SD card.
+    Version,
+    /// The unit of a card of version 1.
+    ByteUnit,
+    /// The unit of a card of version 2.
+    Unit,
+    /// The unit of a device.
+    DeviceUnit,
+    /// C_SIZE of a card with byte addresses.
+    Size,
+    /// C_SIZE of a device with byte addresses.
+    DeviceSize,
+    /// C_SIZE_MULT of a card.
+    Mult,
+    /// C_SIZE_MULT of a device.
+    DeviceMult,
+    /// READ_BL_LEN of a card.
+    Length,
+    /// READ_BL_LEN of a device.
+    DeviceLength,
+    /// C_SIZE of a card with block addresses.
+    BlockSize,
+    /// The relative card address.
+    Rca,
+    /// SEC_COUNT.
+    Sectors,
+    /// BOOT_SIZE_MULT, which may be left out.
+    Boot,
+    /// Nothing.
+    End,
+}
+
+/// What digits spell, or 2^32 where that is more.
+fn capped_value(digits: &[u8]) -> u64 {
+    let mut value = 0;
+    for digit in digits {
+        value = (value * 10 + u64::from(digit.saturating_sub(b'0'))).min(1 << 32);
+    }
+    value
+}
+
+/// The number behind a word and a space, if there is no more on the line and the number is within bounds.
+fn number_on(line: &[u8], word: &[u8], least: u64, most: u64) -> Option<u64> {
+    let digits = line.strip_prefix(word)?;
+    if digits.is_empty() || !digits.iter().all(|byte| byte.is_ascii_digit()) {
+        return None;
+    }
+    let value = capped_value(digits);
+    if least <= value && value <= most {
+        Some(value)
+    } else {
+        None
+    }
+}
+
+/// What follows a line with such a number.
+fn behind(line: &[u8], word: &[u8], least: u64, most: u64, next: Field) -> Option<Field> {
+    match number_on(line, word, least, most) {
+        Some(_) => Some(next),
+        None => None,
+    }
+}
+
+/// What follows a line with the unit, if the line has one of these.
+fn behind_unit(line: &[u8], bytes: Field, blocks: Option<Field>) -> Option<Field> {
+    match line {
+        b"unit byte" => Some(bytes),
+        b"unit block" => blocks,
+        _ => None,
+    }
+}
+
+fn behind_version(line: &[u8]) -> Option<Field> {
+    match number_on(line, b"version ", 1, 2) {
+        Some(1) => Some(Field::ByteUnit),
+        Some(_) => Some(Field::Unit),
+        None => None,
+    }
+}
+
+fn behind_card(line: &[u8]) -> Option<Field> {
+    match line {
+        b"card sd" => Some(Field::Version),
+        b"card emmc" => Some(Field::DeviceUnit),
+        _ => None,
+    }
+}
+
+impl Field {
+    /// What the next line is to say, if a line says what this is.
+    pub fn next(self, line: &[u8]) -> Option<Field> {
+        match self {
+            Field::Card => behind_card(line),
+            Field::Version => behind_version(line),
+            Field::ByteUnit => behind_unit(line, Field::Size, None),
+            Field::Unit => behind_unit(line, Field::Size, Some(Field::BlockSize)),
+            Field::DeviceUnit => behind_unit(line, Field::DeviceSize, Some(Field::Sectors)),
+            Field::Size => behind(line, b"csize ", 0, 4095, Field::Mult),
+            Field::DeviceSize => behind(line, b"csize ", 0, 4095, Field::DeviceMult),
+            Field::Mult => behind(line, b"cmult ", 0, 7, Field::Length),
+            Field::DeviceMult => behind(line, b"cmult ", 0, 7, Field::DeviceLength),
+            Field::Length => behind(line, b"rbl ", 9, 11, Field::Rca),
+            Field::DeviceLength => behind(line, b"rbl ", 9, 11, Field::Boot),
+            Field::BlockSize => behind(line, b"csize ", 0, 4_194_303, Field::Rca),
+            Field::Rca => behind(line, b"rca ", 1, 65_535, Field::End),
+            Field::Sectors => behind(line, b"sectors ", 1, 0xffff_ffff, Field::Boot),
+            Field::Boot => behind(line, b"boot ", 0, 255, Field::End),
+            Field::End => None,
+        }
+    }
+}

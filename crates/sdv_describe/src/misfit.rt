@@ -1,0 +1,71 @@
+//! The first line of a text that no description has there.
+
+ghost use Rattle.std.specs.Prelude.{◌≡◌, ◌++◌, OnOk};
+ghost use Rattle.sdv_describe.specs.MisfitWords.{misfit_words, wanted_line, wanted_words};
+
+use crate::field::Field;
+use crate::line::{Line, put_line};
+use std::alloc::AllocError;
+
+/// A line that is wrong.
+#[derive(Clone, Copy)]
+pub struct Misfit {
+    /// Its number, from 1.
+    pub line: u32,
+    /// What it is to say.
+    pub field: Field,
+}
+
+/// The first line that does not say what it is to. A description has eight lines at most.
+pub fn misfit_in(text: &[u8]) -> Misfit {
+    let mut rest = text;
+    let mut field = Field::Card;
+    for line in 1..10 {
+        let len = rest.iter().take_while(|byte| **byte != b'\n').count();
+        let (front, behind) = rest.split_at(len.min(rest.len()));
+        let Some((_, following)) = behind.split_first() else {
+            return Misfit { line, field };
+        };
+        let Some(next) = field.next(front) else {
+            return Misfit { line, field };
+        };
+        field = next;
+        rest = following;
+    }
+    Misfit { line: 10, field }
+}
+
+fn wanted_words(field: Field) -> &'static str
+    ensures { result.now ≡ wanted_words field }
+{
+    match field {
+        Field::Card => "`card sd` or `card emmc`",
+        Field::Version => "`version` and 1 or 2",
+        Field::ByteUnit => "`unit byte`: a card of version 1 has byte addresses",
+        Field::Unit | Field::DeviceUnit => "`unit byte` or `unit block`",
+        Field::Size | Field::DeviceSize => "`csize` and a number from 0 to 4095",
+        Field::Mult | Field::DeviceMult => "`cmult` and a number from 0 to 7",
+        Field::Length | Field::DeviceLength => "`rbl` and a number from 9 to 11",
+        Field::BlockSize => "`csize` and a number from 0 to 4194303",
+        Field::Rca => "`rca` and a number from 1 to 65535",
+        Field::Sectors => "`sectors` and a number from 1 to 4294967295",
+        Field::Boot => "`boot` and a number from 0 to 255, or the end of the text",
+        Field::End => "the end of the text",
+    }
+}
+
+/// Adds the line, and what is to stand there.
+pub fn put_misfit(words: &mut Vec<u8>, misfit: &Misfit) -> Result<(), AllocError>
+    ensures { OnOk result (words.new.items ≡ words.old.items ++ misfit_words misfit.now) }
+{
+    put_line(words, Line::Wrong, u64::from(misfit.line))?;
+    put_wanted(words, misfit.field)
+}
+
+#[tactic(auto, unfolding(crate::specs::MisfitWords::wanted_line))]
+fn put_wanted(words: &mut Vec<u8>, field: Field) -> Result<(), AllocError>
+    ensures { OnOk result (words.new.items ≡ words.old.items ++ wanted_line field) }
+{
+    words.extend_from_slice(wanted_words(field).as_bytes())?;
+    words.extend_from_slice(b"\n")
+}

@@ -1,0 +1,4 @@
+pub mod Lines
+pub mod Near
+pub mod Page
+pub mod Places
