@@ -1,9 +1,10 @@
 #include "sdv_step.h"
 
 #define MAX_NUMBER ((uint64_t)1 << 40)
+#define UNREAD ((uint64_t)1 << 62) /* of a register that was not read, above each number */
 enum { HEADER = 6, SEND = 0, PHASE, LET, IF, FLAG, LINES, LOOP, BREAK, DONE, FAULT };
 enum { FROM_RCA = 1, FROM_ADDRESS = 2 }; /* where an argument comes from; 0: it stands in the row */
-enum { NOWHERE = 0xFFFF, HAS_CSD = 1, HAS_EXT_CSD = 2 };
+enum { NOWHERE = 0xFFFF, CSD_BLOCKS = 8, EXT_BLOCKS, EXT_BOOT }; /* numbers of registers, behind the variables */
 
 /* the row of a point: the words from its place on */
 struct row { const uint32_t *words; size_t left; uint32_t kind, small; };
@@ -32,18 +33,18 @@ static void go(struct sdv_state *s, uint32_t target)
     uint32_t loops = target >> 13 & 7, turns = target >> 16;
     stop(s);
     s->depth = loops < s->depth ? s->depth - loops : 0;
-    if (s->moves == 0 || (turns && s->depth > 3))
+    if (turns && s->depth > 3)
         return;
-    s->moves--, s->point = target & 0x1FFF;
     if (turns)
         s->turns[s->depth++] = (uint16_t)turns;
+    if (s->moves)
+        s->moves--, s->point = target & 0x1FFF;
 }
 
 int sdv_start(const uint32_t *t, size_t n, struct sdv_state *s)
 {
-    static const struct sdv_state zero;
-    *s = zero, s->lines = 1;
-    stop(s);
+    *s = (struct sdv_state){.point = NOWHERE, .lines = 1};
+    s->numbers[CSD_BLOCKS] = s->numbers[EXT_BLOCKS] = s->numbers[EXT_BOOT] = UNREAD;
     if (n < HEADER || t[0] != 0x54564453u || (t[1] & 0xFF) != 1 || t[2] >> 16 != n)
         return 0;
     s->kind = (t[1] >> 8 & 0xFF) != 0;
@@ -62,23 +63,18 @@ static uint32_t fault(struct sdv_event *e, const struct row *name, uint32_t leng
 
 static uint32_t number_fault(struct sdv_event *e)
 {
-    static const uint32_t number[2] = {0x626D756E, 0x7265};
-    const struct row name = {number, 2, FAULT, 6};
-    return fault(e, &name, 6);
+    static const uint8_t name[6] = {'n', 'u', 'm', 'b', 'e', 'r'};
+    for (e->count = 0; e->count < 6; e->count++)
+        e->name[e->count] = name[e->count];
+    return e->what = SDV_FAULT;
 }
 
 /* 0 where the value leaves its range, or comes from a register that was not read */
 static int set_number(const struct row *r, struct sdv_state *s)
 {
-    uint32_t atom = r->small >> 4 & 63, change = r->small >> 10;
-    uint64_t v, by = row_number(r, (atom & 7) == 0 ? 3 : 1);
-    switch (atom & 7) {
-    case 0: v = row_number(r, 1); break;
-    case 1: v = s->numbers[atom >> 3 & 7]; break;
-    case 2: if (!(s->known & HAS_CSD)) return 0; v = s->csd_blocks; break;
-    case 3: if (!(s->known & HAS_EXT_CSD)) return 0; v = s->ext_blocks; break;
-    default: if (!(s->known & HAS_EXT_CSD)) return 0; v = s->ext_boot; break;
-    }
+    uint32_t atom = r->small >> 4 & 7, change = r->small >> 10;
+    uint32_t which = atom == 1 ? r->small >> 7 & 7 : atom < 4 ? atom + (CSD_BLOCKS - 2) : EXT_BOOT;
+    uint64_t v = atom == 0 ? row_number(r, 1) : s->numbers[which], by = row_number(r, atom == 0 ? 3 : 1);
     if (change > 1 && v < by)
         return 0;
     v = change == 0 ? v : change == 1 ? v + by : v - by;
@@ -96,6 +92,10 @@ static uint32_t holds(const struct row *r, const struct sdv_state *s)
     return (s->numbers[which & 7] >= row_number(r, 2)) == (what == 1);
 }
 
+/* the bytes of a register, by the data code of its command */
+static uint16_t register_length(uint32_t data) { return data == 4 ? 8 : data == 5 ? 64 : 512; }
+
+/* 0 where the position leaves the range of numbers */
 static uint32_t send(const struct row *r, const struct sdv_state *s, struct sdv_event *e)
 {
     uint32_t w = row_word(r, 2), source = w >> 22 & 3, data = w >> 19 & 7, how = row_word(r, 3);
@@ -107,7 +107,7 @@ static uint32_t send(const struct row *r, const struct sdv_state *s, struct sdv_
         if (how >> 4 & 3)
             block = ((how >> 4 & 3) == 1 ? 0 : block) + s->numbers[how >> 6 & 7];
         if (block > MAX_NUMBER)
-            return number_fault(e);
+            return 0;
         if (!((how & 3) == 0 || ((how & 3) > 1 && s->flags >> (how >> 2 & 3) & 1)))
             block *= 512;
     }
@@ -118,8 +118,10 @@ static uint32_t send(const struct row *r, const struct sdv_state *s, struct sdv_
             return e->what = SDV_STOPPED;
         e->argument = (uint32_t)block;
     }
-    e->data = data < 4 ? data : data == 5 && !s->app ? SDV_NO_DATA : SDV_REGISTER;
-    e->count = data < 2 ? 0 : data < 4 ? w & 0xFFFF : data == 4 ? 8 : data == 5 ? (s->app ? 64 : 0) : 512;
+    if (data == 5 && !s->app) /* CMD13, not ACMD13 */
+        data = SDV_NO_DATA;
+    e->data = data < 4 ? data : SDV_REGISTER;
+    e->count = data < 2 ? 0 : data < 4 ? w & 0xFFFF : register_length(data);
     return e->what = SDV_SEND;
 }
 
@@ -145,14 +147,13 @@ static size_t pass(const struct row *r, struct sdv_state *s)
 
 uint32_t sdv_next(const uint32_t *t, size_t n, struct sdv_state *s, struct sdv_event *e)
 {
-    static const struct sdv_event zero;
     struct row r;
-    *e = zero;
+    *e = (struct sdv_event){0};
     while (row_of(t, n, s->point, &r)) {
         size_t way;
         e->point = s->point, e->lines = s->lines;
         switch (r.kind) {
-        case SEND: s->asked = send(&r, s, e) == SDV_SEND; return e->what;
+        case SEND: if (send(&r, s, e)) return s->asked = e->what == SDV_SEND, e->what; way = 2; break;
         case PHASE: s->asked = 1; return phase(&r, s, e);
         case DONE: return e->what = SDV_DONE;
         case FAULT: return fault(e, &r, r.small);
@@ -180,12 +181,11 @@ static int take_csd(struct sdv_state *s, const uint8_t *r2)
 {
     uint32_t structure = bits(r2, 127, 126), length = bits(r2, 83, 80);
     if (!s->kind && structure == 1)
-        s->csd_blocks = ((uint64_t)bits(r2, 69, 48) + 1) * 1024;
+        s->numbers[CSD_BLOCKS] = ((uint64_t)bits(r2, 69, 48) + 1) * 1024;
     else if ((!s->kind && structure > 1) || length < 9 || length > 11)
         return 0;
     else
-        s->csd_blocks = (uint64_t)(bits(r2, 73, 62) + 1) << (bits(r2, 49, 47) + 2 + length - 9);
-    s->known |= HAS_CSD;
+        s->numbers[CSD_BLOCKS] = (bits(r2, 73, 62) + 1) << (bits(r2, 49, 47) + length - 7);
     return 1;
 }
 
@@ -196,7 +196,7 @@ static int passes(const struct sdv_state *s, uint32_t guard, uint32_t expect, ui
         return guard == (reply == SDV_SENT ? 2u : 1u);
     switch (guard) {
     case 2: return 1;
-    case 3: return status && !(word & (expect == 6 ? 0xE000u : s->kind ? 0xFDF90080u : 0xFDF90000u));
+    case 3: return status && !(word & (expect == 6 ? 0xE000u : 0xFDF90000u | s->kind << 7));
     case 4: return status && (word >> 8 & 1);
     case 5: return expect == 1 && (word >> 5 & 1);
     case 6: return expect == 7 && (word & 0xFFF) == 0x1AA;
@@ -224,7 +224,7 @@ int sdv_answer(const uint32_t *t, size_t n, struct sdv_state *s, uint32_t reply,
     if (data == 2 || data == 3)
         s->announced = (uint16_t)w;
     if (data > 3)
-        s->length = data == 4 ? 8 : data == 5 ? 64 : 512;
+        s->length = register_length(data);
     s->app = index == 55 && expect == 1 && reply == SDV_REPLY && (word >> 5 & 1);
     for (cases = w >> 24, i = r.small >> 7 ? 6 : 3; cases; cases--, i += 2) {
         for (g = row_word(&r, i); g && passes(s, g & 31, expect, reply, word); g >>= 5) {}
@@ -241,9 +241,8 @@ int sdv_ended(const uint32_t *t, size_t n, struct sdv_state *s, int well, const 
     if (!row_of(t, n, s->point, &r) || r.kind != PHASE || !s->asked)
         return 0;
     if (r.small == 1 && well && s->length == 512 && bytes) {
-        s->ext_blocks = bytes[212] | (uint32_t)bytes[213] << 8 | (uint32_t)bytes[214] << 16 | (uint32_t)bytes[215] << 24;
-        s->ext_boot = 256u * bytes[226];
-        s->known |= HAS_EXT_CSD;
+        s->numbers[EXT_BLOCKS] = bytes[212] | (uint32_t)bytes[213] << 8 | (uint32_t)bytes[214] << 16 | (uint32_t)bytes[215] << 24;
+        s->numbers[EXT_BOOT] = 256u * bytes[226];
     }
     go(s, row_word(&r, well ? 0 : 1));
     return 1;

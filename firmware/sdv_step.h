@@ -1,5 +1,5 @@
 /* A player of script tables (docs/TABLES.md) in C99: no heap, no libc, no recursion, no floating point.  It is not
- * proved, and no test plays it yet.  It reads no word outside the table, whatever the words are, and each run ends: a
+ * proved; .ci/firmware tests it.  It reads no word outside the table, whatever the words are, and each run ends: a
  * table bounds its moves, and a table that is not well formed may end a run early (SDV_STOPPED), or in a fault that no
  * script has. */
 #ifndef SDV_STEP_H
@@ -37,8 +37,8 @@ struct sdv_event {
 
 /* The caller owns it, and need not look into it. */
 struct sdv_state {
-    uint64_t numbers[8], csd_blocks, ext_blocks, ext_boot, moves;
-    uint32_t point, asked, known, flags, lines, depth, kind, app;
+    uint64_t numbers[11], moves;
+    uint32_t point, asked, flags, lines, depth, kind, app;
     uint16_t turns[4], rca, announced, length;
 };
 

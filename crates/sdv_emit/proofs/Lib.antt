@@ -1,0 +1,8 @@
+mod Arrays
+mod Bytes
+mod Comments
+mod Constants
+mod NumberedLaws
+mod Pieces
+mod Room
+mod Texts

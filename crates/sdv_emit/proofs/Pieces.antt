@@ -1,0 +1,20 @@
+-- Pieces of a text, one after another.
+use Rattle.std.proofs.Common.{◌≡◌, [], ◌++◌, append_assoc, ap, ◌∙◌, Result, Ok, Err, OnOk}
+use Rattle.sdv_emit.specs.CText.{Text}
+
+pub three_pieces : {E : Type 0} (r : Result (Unit {0}) E) (old one two three a b c : Text) → one ≡ old ++ a → two ≡ one ++ b
+    → OnOk r (three ≡ two ++ c) → OnOk r (three ≡ old ++ (a ++ (b ++ c)))
+three_pieces (Ok u) old one two three a b c p q r =
+    r ∙ (ap (λ (l : Text). l ++ c) (q ∙ ap (λ (l : Text). l ++ b) p) ∙ (append_assoc (old ++ a) b c ∙ append_assoc old a (b ++ c)))
+three_pieces (Err e) old one two three a b c p q r = tt
+
+-- from the beginning of a text on
+pub whole_of_three : (zero one two three a b c : Text) → zero ≡ [] → one ≡ zero ++ a → two ≡ one ++ b → three ≡ two ++ c → three ≡ a ++ (b ++ c)
+whole_of_three zero one two three a b c o p q r =
+    r ∙ (ap (λ (l : Text). l ++ c) (q ∙ ap (λ (l : Text). l ++ b) (p ∙ ap (λ (l : Text). l ++ a) o)) ∙ append_assoc a b c)
+
+pub whole_of_four : (zero one two three four a b c d : Text) → zero ≡ [] → one ≡ zero ++ a → two ≡ one ++ b → three ≡ two ++ c → four ≡ three ++ d
+    → four ≡ (a ++ b) ++ (c ++ d)
+whole_of_four zero one two three four a b c d o p q r s =
+    s ∙ (ap (λ (l : Text). l ++ d) (r ∙ ap (λ (l : Text). l ++ c) (q ∙ ap (λ (l : Text). l ++ b) (p ∙ ap (λ (l : Text). l ++ a) o)))
+    ∙ append_assoc (a ++ b) c d)

@@ -1,0 +1,85 @@
+-- The text of a table is read as its words.
+use Rattle.std.proofs.Common.{◌≡◌, ℕ, ◌+◌, ◌≤◌, true, false, List, [], ◌∷◌, ◌++◌, length, slice_index, ◌<◌, ◌^◌, refl, ap, ◌∙◌, append_assoc}
+use Rattle.std.specs.Prelude.{codes}
+use Rattle.std.specs.List.{list_all}
+use Rattle.std.proofs.lemmas.Bool.{and_parts}
+use Rattle.std.proofs.lemmas.Nat.{from_le_bytes-to_le_bytes_4}
+use Rattle.sdv_graph.specs.Graph.{Graph}
+use Rattle.sdv_table.specs.Table.{header_size}
+use Rattle.sdv_emit.specs.Identifier.{is_first, is_further, is_identifier}
+use Rattle.sdv_emit.specs.CText.{Text, comment, title, promise, top, declaration, array_text, c_text, little_endian}
+use Rattle.sdv_emit.specs.Reading.{Code, read, words_in, words_of_bytes}
+use Rattle.sdv_emit.proofs.Bytes.{differs}
+use Rattle.sdv_emit.proofs.Comments.{comment_skipped}
+use Rattle.sdv_emit.proofs.Constants.{AreWords, are_words}
+use Rattle.sdv_emit.proofs.Arrays.{array_read}
+
+-- NAMES
+
+name_byte : (b : ℕ) (rest : Text) → is_further b ≡ true → read false Code (b ∷ rest) ≡ read false Code rest
+unfolding read
+name_byte b rest is = rw (differs is_further b 47 is refl, differs is_further b 123 is refl) refl
+
+name_bytes : (name rest : Text) → list_all is_further name ≡ true → read false Code (name ++ rest) ≡ read false Code rest
+name_bytes [] rest all = refl
+name_bytes (b ∷ name) rest all =
+    let both = and_parts (is_further b) (list_all is_further name) all in
+    name_byte b (name ++ rest) both.0 ∙ name_bytes name rest both.1
+
+first_byte : (b : ℕ) (rest : Text) → is_first b ≡ true → read false Code (b ∷ rest) ≡ read false Code rest
+unfolding read
+first_byte b rest is = rw (differs is_first b 47 is refl, differs is_first b 123 is refl) refl
+
+name_skipped : (name rest : Text) → is_identifier name ≡ true → read false Code (name ++ rest) ≡ read false Code rest
+name_skipped [] rest is = refl
+name_skipped (b ∷ name) rest is =
+    let front = and_parts (is_first b) _ is in
+    let further = and_parts (list_all is_further name) _ front.1 in
+    first_byte b (name ++ rest) front.0 ∙ name_bytes name rest further.0
+
+-- THE TEXT BEFORE THE WORDS
+
+promise_skipped : (rest : Text) → read false Code (promise ++ rest) ≡ read false Code rest
+unfolding read
+promise_skipped rest = refl
+
+top_skipped : (file : Text) (bound : ℕ) (rest : Text) → read false Code (top file bound ++ rest) ≡ read false Code rest
+top_skipped file bound rest =
+    ap (read false Code) (append_assoc (comment (title file bound)) promise rest)
+    ∙ (comment_skipped false (title file bound) (promise ++ rest) ∙ promise_skipped rest)
+
+type_skipped : (rest : Text) → read false Code (codes "#include <stdint.h>\n\nconst uint32_t " ++ rest) ≡ read false Code rest
+unfolding read
+type_skipped rest = refl
+
+array_begun : (rest : Text) → read false Code (codes "[] = {\n    /* header */" ++ rest) ≡ read true Code rest
+unfolding read
+array_begun rest = refl
+
+declaration_read : (name rest : Text) → is_identifier name ≡ true → read false Code (declaration name ++ rest) ≡ read true Code rest
+declaration_read name rest is =
+    ap (read false Code) (append_assoc (codes "#include <stdint.h>\n\nconst uint32_t ") (name ++ codes "[] = {\n    /* header */") rest)
+    ∙ (type_skipped ((name ++ codes "[] = {\n    /* header */") ++ rest)
+    ∙ (ap (read false Code) (append_assoc name (codes "[] = {\n    /* header */") rest)
+    ∙ (name_skipped name (codes "[] = {\n    /* header */" ++ rest) is ∙ array_begun rest)))
+
+-- THE TEXT
+
+pub text_read : (file name : Text) (bound : ℕ) (g : Graph) (ws : List ℕ) → is_identifier name ≡ true → ((i : ℕ) → slice_index ws i < 2 ^ 32)
+    → header_size + length g.points ≤ length ws → words_in (c_text file name bound g ws) ≡ ws
+unfolding c_text
+text_read file name bound g ws is each room =
+    top_skipped file bound (declaration name ++ array_text g ws)
+    ∙ (declaration_read name (array_text g ws) is ∙ array_read g ws (are_words ws each) room)
+
+-- ITS BYTES
+
+bytes_each : (ws : List ℕ) → AreWords ws → words_of_bytes (little_endian ws) ≡ ws
+unfolding words_of_bytes
+bytes_each [] are = refl
+bytes_each (w ∷ ws) are =
+    ap (λ (v : ℕ). v ∷ words_of_bytes (little_endian ws)) (from_le_bytes-to_le_bytes_4 w are.0)
+    ∙ ap (λ (l : List ℕ). w ∷ l) (bytes_each ws are.1)
+
+pub bytes_read : (ws : List ℕ) → ((i : ℕ) → slice_index ws i < 2 ^ 32) → words_of_bytes (little_endian ws) ≡ ws
+bytes_read ws each = bytes_each ws (are_words ws each)

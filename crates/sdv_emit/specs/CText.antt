@@ -1,0 +1,111 @@
+-- The C TEXT of a table: comments that say what it is, and an array of its words, with a comment for each point.
+use Rattle.std.specs.Prelude.{ℕ, suc, ◌+◌, ◌%◌, List, [], ◌∷◌, ◌++◌, take, drop, length, slice_index, flat_map, Bool, false, ◌==◌, ◌||◌, ◌&&◌, nat_le, codes, decimal, if◌then◌else◌}
+use Rattle.std.specs.Int.{w32, to_be_bytes, to_le_bytes}
+use Rattle.hex.specs.Hex.{encode_lower}
+use Rattle.sdv_graph.specs.Graph.{Graph}
+use Rattle.sdv_graph.specs.Path.{Action, Point}
+use Rattle.sdv_graph.specs.Tree.{Declared}
+use Rattle.sdv_table.specs.Table.{header_size}
+use Rattle.sdv_telling.specs.Statements.{statement_words}
+
+abbrev pub Text : Type 0
+Text = List ℕ
+
+-- COMMENTS
+
+-- printed characters of ASCII, but for `*`, `?` and `\`
+abbrev pub is_plain : (byte : ℕ) → Bool
+is_plain byte =
+    if (byte == 42) || ((byte == 63) || (byte == 92)) then false else (nat_le 32 byte && nat_le byte 126)
+
+-- They stand for themselves. Any other byte is escaped, so no text ends a comment, breaks a line or is a trigraph.
+abbrev pub plain_byte : (byte : ℕ) → Text
+plain_byte byte = if is_plain byte then byte ∷ [] else codes "\\x" ++ encode_lower (byte ∷ [])
+
+abbrev pub plain : Text → Text
+plain text = flat_map plain_byte text
+
+abbrev pub comment : (body : Text) → Text
+comment body = codes "/* " ++ (plain body ++ codes " */")
+
+-- WORDS
+
+-- `0x54564453,`
+abbrev pub word_text : (word : ℕ) → Text
+word_text word = codes "0x" ++ (encode_lower (to_be_bytes w32 word) ++ codes ",")
+
+-- eight of them are on a line
+abbrev pub gap : (number : ℕ) → Text
+gap number = if number % 8 == 0 then codes "\n    " else codes " "
+
+abbrev pub spaced_word : (number word : ℕ) → Text
+spaced_word number word = gap number ++ word_text word
+
+abbrev pub word_lines : (first : ℕ) → List ℕ → Text
+word_lines n [] = []
+word_lines n (w ∷ ws) = spaced_word n w ++ word_lines (suc n) ws
+
+-- POINTS: the head word of each, and which statement it is
+
+abbrev pub place_words : (number line : ℕ) → Text
+place_words number line = (codes "point " ++ decimal number) ++ (codes ", line " ++ decimal line)
+
+-- `point 3, line 7: CMD55`
+abbrev pub point_words : Declared → (number line : ℕ) → Action → Text
+point_words names number line action = place_words number line ++ (codes ": " ++ statement_words names action)
+
+abbrev pub head_line : (word : ℕ) → (about : Text) → Text
+head_line word about = codes "\n    " ++ (word_text word ++ (codes " " ++ comment about))
+
+-- `    0x00260370, /* point 3, line 7: CMD55 */`
+abbrev pub point_line : Graph → (words : List ℕ) → (number : ℕ) → Point → Text
+point_line g words number place =
+    head_line (slice_index words (header_size + number))
+    (point_words g.names number (slice_index g.lines number) place.action)
+
+-- a line for each of a list, by its number
+abbrev pub numbered : {X : Type 0} → (line : ℕ → X → Text) → (first : ℕ) → List X → Text
+numbered line n [] = []
+numbered line n (x ∷ xs) = line n x ++ numbered line (suc n) xs
+
+-- THE TEXT
+
+abbrev pub title : (file : Text) → (bound : ℕ) → Text
+title file bound =
+    (codes "Table of the script " ++ file) ++ ((codes ", certified to send at most " ++ decimal bound)
+    ++ codes " commands a run.")
+
+-- what is proved of the runs of a script with a certificate, and its premises
+abbrev pub promise : Text
+promise =
+    codes "\n/* In each run beside a card of the script's kind and of the profile in Guzveldra's docs/CARDS.md, just powered\n"
+    ++ (codes " * on, at most that many commands are sent, each of them legal in the card's state, with addresses on the card.\n"
+    ++ (codes " * The run ends: in `done` with the card in the transfer state, in a fault that the script names, or in the fault\n"
+    ++ (codes " * `number`.\n"
+    ++ (codes " *\n"
+    ++ (codes " * This is proved for the script, and the table is proved to be the script's. The premises: a player steps through\n"
+    ++ codes " * the table as docs/TABLES.md says, and its driver does what firmware/README.md asks. No player in C is proved. */\n")))))
+
+abbrev pub top : (file : Text) → (bound : ℕ) → Text
+top file bound = comment (title file bound) ++ promise
+
+abbrev pub declaration : (name : Text) → Text
+declaration name =
+    codes "#include <stdint.h>\n\nconst uint32_t " ++ (name ++ codes "[] = {\n    /* header */")
+
+-- what follows the points
+abbrev pub rows_text : (rows : List ℕ) → Text
+rows_text rows = codes "\n    /* rows */" ++ (word_lines 0 rows ++ codes "\n};\n")
+
+abbrev pub array_text : Graph → (words : List ℕ) → Text
+array_text g words =
+    word_lines 0 (take header_size words) ++ (numbered (point_line g words) 0 g.points
+    ++ rows_text (drop (header_size + length g.points) words))
+
+-- the words of the table of a graph, in an array of this name
+unfoldable pub c_text : (file name : Text) → (bound : ℕ) → Graph → (words : List ℕ) → Text
+c_text file name bound g words = top file bound ++ (declaration name ++ array_text g words)
+
+-- BINARY: four bytes a word, the lowest first
+abbrev pub little_endian : List ℕ → List ℕ
+little_endian words = flat_map (to_le_bytes w32) words

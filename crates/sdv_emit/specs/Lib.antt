@@ -1,0 +1,4 @@
+pub mod CText
+pub mod Emitted
+pub mod Identifier
+pub mod Reading
