@@ -1,0 +1,87 @@
+-- A run over lines is a run of the other side, by what its answers tell.
+use Rattle.std.proofs.Common.{◌≡◌, refl, ℕ, List, [], ◌∷◌, Option, None, Result, Ok, Err}
+use Rattle.sdv_registers.specs.declared.kind.Kind.{Kind}
+use Rattle.sdv_card.specs.Card.{Card}
+use Rattle.sdv_card.specs.Port.{Call, Kept, KeepsTables, Shows}
+use Rattle.sdv_card.specs.ScriptEvent.{Return}
+use Rattle.sdv_graph.specs.Graph.{Graph}
+use Rattle.sdv_graph.specs.Walk.{Pair}
+use Rattle.sdv_trace.specs.declared.end.End.{End}
+use Rattle.sdv_run.specs.declared.fault.RunFault.{RunFault}
+use Rattle.sdv_run.specs.Run.{RunMoved}
+use Rattle.sdv_run.specs.Step.{World}
+use Rattle.sdv_run.specs.Ran.{Ran}
+use Rattle.sdv_run.proofs.OnCard.{HasCertificate, ran_beside}
+use Rattle.sdv_run_command.proofs.RunMaps.{moved_because}
+use Rattle.sdv_lines.specs.Streams.{Streams, LineSteps}
+use Rattle.sdv_lines.specs.Partner.{Both, other_card}
+use Rattle.sdv_lines.proofs.PartnerLaws.{shows_other}
+use Rattle.sdv_streams.specs.Talk.{AreAnswers, events_of}
+use Rattle.sdv_streams.specs.BesideCard.{AnswersAs, RunsBesideOther, ToldSteps, at_other}
+
+module _ {S : Type 0} (steps : S → Call → Return → S → Type 0) (card : S → Option Card) (keeps : KeepsTables steps card) where
+  -- nothing is known of the streams
+  abbrev beside_unknown : S → Both S
+  beside_unknown o = record { streams = record { answers = None; requests = None; fault = None }; other = o }
+
+  told_keeps : KeepsTables (ToldSteps steps) card
+  told_keeps o o' k event c h returned shown fine told =
+      let seen : Shows (other_card card) (beside_unknown o) c =
+      record { shown = shown.shown; shows = shown.shows; same = shown.same; count = shown.count } in
+      let kept : Kept (other_card card) event c returned (beside_unknown o') =
+      (shows_other steps card keeps).0 (beside_unknown o) (beside_unknown o') k event c h returned seen fine (record {
+        texts = told.texts;
+        gave = told.gave;
+        written = tt;
+        read = tt;
+        heard = told.heard;
+        told = told.tells;
+        step = told.step;
+        well = refl;
+      }) in
+      record {
+        after = kept.after;
+        step = kept.step;
+        shown = record { shown = kept.shown.shown; shows = kept.shown.shows; same = kept.shown.same; count = kept.shown.count };
+      }
+
+  told_moved : (k : Kind) (es : List Pair) (answers : List (List (List ℕ))) (o o' : S) → AreAnswers k es answers → AnswersAs steps k es answers o o'
+      → RunMoved k (ToldSteps steps) o es o'
+  told_moved k [] [] o o' are does = does
+  told_moved k [] (texts ∷ answers) o o' are does = absurd are
+  told_moved k (p ∷ es) [] o o' are does = absurd are
+  told_moved k (p ∷ es) (texts ∷ answers) o o' (heard, are) (gave, u, step, tells, does) = (
+    u,
+    record { texts = texts; heard = heard; gave = gave; tells = tells; step = step },
+    told_moved k es answers u o' are does,
+  )
+
+  -- no event leaves the other side as it was
+  same_other : (k : Kind) (es : List Pair) (answers : List (List (List ℕ))) (o o' : S) → es ≡ [] → AnswersAs steps k es answers o o' → o' ≡ o
+  same_other k [] [] o o' none does = does
+  same_other k [] (texts ∷ answers) o o' none does = absurd does
+  same_other k (p ∷ es) answers o o' none does = absurd (cc none)
+
+  module _ (g : Graph) (w w' : World Streams) (answers : List (List (List ℕ))) (o o' : S) where
+    told_ran : (result : Result End RunFault) (ran : Ran LineSteps g w w' result) → AreAnswers g.kind (events_of LineSteps g w w' result ran) answers
+        → AnswersAs steps g.kind (events_of LineSteps g w w' result ran) answers o o' → Ran (ToldSteps steps) g (at_other o w) (at_other o' w') result
+    told_ran (Ok end) ran are does = record {
+      events = ran.events;
+      happened = record { port = told_moved g.kind ran.events answers o o' are does; input = ran.happened.input };
+      walk = ran.walk;
+      output = ran.output;
+      trace = ran.trace;
+    }
+    told_ran (Err fault) ran are does = record {
+      events = ran.events;
+      happened = record { port = told_moved g.kind ran.events answers o o' are does; input = ran.happened.input };
+      walk = ran.walk;
+      because =
+          moved_because o o' fault g ran.events w w' (λ none same. same_other g.kind ran.events answers o o' none does) ran.because;
+    }
+
+  pub runs_beside : RunsBesideOther steps card
+  runs_beside script certificate a w w' result answers o o' accepted ran are does =
+      let has : HasCertificate a.graph a.bound = record { points = accepted.facts.points; closed = accepted.closed; bound = accepted.bound } in
+      ran_beside (ToldSteps steps) card told_keeps a.graph a.bound accepted.graph.graph.sound ∣ has ∣₁ (at_other o w) (at_other o' w') result
+      (told_ran a.graph w w' answers o o' result ran are does)

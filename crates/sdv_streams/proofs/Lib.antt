@@ -1,0 +1,5 @@
+pub mod TalkLaws
+pub mod BesideLaws
+pub mod DriveLaws
+pub mod ServedMaps
+pub mod CardLaws

@@ -1,0 +1,52 @@
+-- A run over lines beside the card of the other side.
+use Rattle.std.specs.Prelude.{◌≡◌, ℕ, List, [], ◌∷◌, Option, Result}
+use Rattle.sdv_registers.specs.declared.kind.Kind.{Kind}
+use Rattle.sdv_card.specs.Card.{Card}
+use Rattle.sdv_card.specs.Port.{Call, call_of}
+use Rattle.sdv_card.specs.ScriptEvent.{Return}
+use Rattle.sdv_graph.specs.Walk.{Pair}
+use Rattle.sdv_check.specs.Verified.{Acceptance, IsAccepted}
+use Rattle.sdv_trace.specs.declared.end.End.{End}
+use Rattle.sdv_run.specs.declared.fault.RunFault.{RunFault}
+use Rattle.sdv_run.specs.Step.{World}
+use Rattle.sdv_run.specs.Ran.{Ran}
+use Rattle.sdv_run.specs.OnCard.{RanBeside}
+use Rattle.sdv_lines.specs.Answers.{Answers, IsAnswer}
+use Rattle.sdv_lines.specs.Streams.{Streams, LineSteps}
+use Rattle.sdv_streams.specs.Talk.{AreAnswers, events_of}
+
+-- THE PREMISE: the other side made the call of each event once, in order, and the texts of its answer tell what that gave
+abbrev pub AnswersAs : {S : Type 0} → (S → Call → Return → S → Type 0) → Kind → List Pair → List (List (List ℕ)) →
+    (o o' : S) → Type 0
+AnswersAs steps k [] [] o o' = o' ≡ o
+AnswersAs {S} steps k (p ∷ es) (texts ∷ answers) o o' =
+    (gave : Return) × (u : S) × steps o (call_of k p.0) gave u × IsAnswer (call_of k p.0) texts gave
+    × AnswersAs steps k es answers u o'
+AnswersAs steps k es answers o o' = ⊥
+
+-- what the other side does at a call, by what the host is told of it
+pub record Told {S : Type 0} (steps : S → Call → Return → S → Type 0) (call : Call) (returned : Return)
+    (o o' : S) : Type 0 where
+  pub texts : List (List ℕ)
+  pub heard : Answers call texts returned
+  pub gave : Return
+  pub tells : IsAnswer call texts gave
+  pub step : steps o call gave o'
+
+abbrev pub ToldSteps : {S : Type 0} → (S → Call → Return → S → Type 0) → S → Call → Return → S → Type 0
+ToldSteps steps o call returned o' = Told steps call returned o o'
+
+-- the same run, seen from the other side
+abbrev pub at_other : {S : Type 0} → S → World Streams → World S
+at_other o w = record { port = o; input = w.input; out = w.out; trace = w.trace }
+
+-- A run over lines of an accepted script, whose answers tell what the other side did: it is a run beside the card that the
+-- other side shows.
+abbrev pub RunsBesideOther : {S : Type 0} → (S → Call → Return → S → Type 0) → (S → Option Card) → Type 0
+RunsBesideOther {S} steps card =
+    (script certificate : List ℕ) (a : Acceptance) (w w' : World Streams) (result : Result End RunFault)
+    (answers : List (List (List ℕ))) (o o' : S) →
+    IsAccepted script certificate a → (ran : Ran LineSteps a.graph w w' result)
+    → AreAnswers a.graph.kind (events_of LineSteps a.graph w w' result ran) answers
+    → AnswersAs steps a.graph.kind (events_of LineSteps a.graph w w' result ran) answers o o'
+    → RanBeside (ToldSteps steps) card a.graph a.bound (at_other o w) (at_other o' w') result

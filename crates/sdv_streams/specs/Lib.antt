@@ -1,0 +1,4 @@
+pub mod Talk
+pub mod Drive
+pub mod CardSide
+pub mod BesideCard

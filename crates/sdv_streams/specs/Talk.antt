@@ -1,0 +1,61 @@
+-- What a run over a port of lines asks and hears: the requests of its events, and answers to them, one after another.
+use Rattle.std.specs.Prelude.{◌≡◌, ℕ, List, [], ◌∷◌, ◌++◌, Some, None, Result, Ok, Err, MatchOption}
+use Rattle.std.specs.Io.KnownBytes.{Appends, Consumes}
+use Rattle.sdv_registers.specs.declared.kind.Kind.{Kind}
+use Rattle.sdv_card.specs.Port.{call_of}
+use Rattle.sdv_graph.specs.Graph.{Graph}
+use Rattle.sdv_graph.specs.Walk.{Pair}
+use Rattle.sdv_trace.specs.declared.end.End.{End}
+use Rattle.sdv_run.specs.declared.fault.RunFault.{RunFault}
+use Rattle.sdv_run.specs.Run.{Steps}
+use Rattle.sdv_run.specs.Step.{World}
+use Rattle.sdv_run.specs.Ran.{Ran}
+use Rattle.sdv_lines.specs.declared.fault.LineFault.{LineFault}
+use Rattle.sdv_lines.specs.Texts.{lines_of}
+use Rattle.sdv_lines.specs.Requests.{request_of}
+use Rattle.sdv_lines.specs.Answers.{Answers}
+use Rattle.sdv_lines.specs.Streams.{Streams, Failed}
+
+-- the events of a run
+abbrev pub events_of : {S : Type 0} (steps : Steps S) (g : Graph) (w w' : World S) (result : Result End RunFault) →
+    Ran steps g w w' result → List Pair
+events_of steps g w w' (Ok end) ran = ran.events
+events_of steps g w w' (Err fault) ran = ran.events
+
+-- the requests of events
+abbrev pub requests : Kind → List Pair → List ℕ
+requests k [] = []
+requests k (p ∷ es) = request_of (call_of k p.0) ++ requests k es
+
+-- the texts of an answer to each event, which say what it returned
+abbrev pub AreAnswers : Kind → List Pair → List (List (List ℕ)) → Type 0
+AreAnswers k [] [] = Unit {0}
+AreAnswers k (p ∷ es) (texts ∷ answers) = Answers (call_of k p.0) texts p.1 × AreAnswers k es answers
+AreAnswers k es answers = ⊥
+
+abbrev pub answer_lines : List (List (List ℕ)) → List ℕ
+answer_lines [] = []
+answer_lines (texts ∷ answers) = lines_of texts ++ answer_lines answers
+
+-- Each event was asked for, and answered.
+pub record Talked (k : Kind) (es : List Pair) (s s' : Streams) : Type 0 where
+  pub written : Appends s.requests s'.requests (requests k es)
+  pub answers : List (List (List ℕ))
+  pub are_answers : AreAnswers k es answers
+  pub read : Consumes s.answers s'.answers (answer_lines answers)
+  pub well : s'.fault ≡ None
+
+-- Events before one were asked for and answered. That one was not asked for whole, or not answered, and nothing was asked
+-- or read after it: what it and the events after it returned is the port's word alone.
+pub record BrokeOff (k : Kind) (es : List Pair) (why : LineFault) (s s' : Streams) : Type 0 where
+  pub earlier : List Pair
+  pub unanswered : Pair
+  pub later : List Pair
+  pub all : es ≡ earlier ++ unanswered ∷ later
+  pub before : Streams
+  pub talked : Talked k earlier s before
+  pub failed : Failed why (call_of k unanswered.0) before.answers s'.answers before.requests s'.requests
+  pub kept : s'.fault ≡ Some why
+
+abbrev pub Talks : Kind → List Pair → (s s' : Streams) → Type 0
+Talks k es s s' = MatchOption s'.fault (Talked k es s s') (λ why. BrokeOff k es why s s')

@@ -1,0 +1,12 @@
+//! The law of both sides.
+
+ghost use Rattle.sdv_streams.specs.BesideCard.{RunsBesideOther};
+
+use sdv_card::CardPort;
+
+/// Where the other side of the lines makes the call of each event once, by a port that shows a card of the profile, and the
+/// answers that a run heard tell what that gave, the run is beside that card: its events are steps of the card, each legal
+/// and in bounds, no more commands than were certified are sent, and no answer is refused.
+pub fn runs_beside_the_card_of_the_other_side<P: CardPort>()
+    ensures { RunsBesideOther P.steps P.card }
+{}
