@@ -30,7 +30,21 @@ impl<I: Image + Drop> Drop for Sim<I> {
 }
 
 impl<I: Image> Sim<I> {
-    ghost use Rattle.sdv_sim.specs.SimOf.{image_of};
+    ghost use Rattle.sdv_sim.specs.SimOf.{image_of, state_of};
+
+    /// The description of the card.
+    pub fn desc(&self) -> &CardDesc
+        ensures { result.now ≡ (state_of self.now).desc }
+    {
+        &self.desc
+    }
+
+    /// What the card keeps from one event to the next.
+    pub fn card(&self) -> &CardState
+        ensures { result.now ≡ (state_of self.now).card }
+    {
+        &self.card
+    }
 
     /// Gives the image back.
     pub fn into_image(self) -> I

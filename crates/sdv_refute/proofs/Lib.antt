@@ -1,0 +1,6 @@
+pub mod Refuted
+pub mod Judged
+pub mod Named
+pub mod WatchedRun
+pub mod SeenRun
+pub mod SimShown

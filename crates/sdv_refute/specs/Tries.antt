@@ -1,0 +1,64 @@
+-- A RUN THAT WAS TRIED: beside the simulated card of a description, over an image, with the values of a schedule.
+use Rattle.std.specs.Prelude.{◌≡◌, ℕ, List, Option, Some, Result, Ok}
+use Rattle.sdv_card.specs.Card.{Block, Card}
+use Rattle.sdv_description.specs.declared.card_desc.CardDesc.{CardDesc}
+use Rattle.sdv_description.specs.Gives.{Describes}
+use Rattle.sdv_behavior.specs.CardOf.{card_of, at_start}
+use Rattle.sdv_behavior.specs.SimSteps.{SimState, SimSteps, card_shown}
+use Rattle.sdv_sim.specs.Made.{IsMade}
+use Rattle.sdv_controller.specs.Controlled.{ControllerSteps}
+use Rattle.sdv_graph.specs.Graph.{Graph}
+use Rattle.sdv_graph.specs.Walk.{Pair}
+use Rattle.sdv_script.specs.Script.{Parsed, IsScript}
+use Rattle.sdv_check.specs.Verified.{Acceptance, IsAccepted, IsGraphOfText}
+use Rattle.sdv_run.specs.declared.fault.RunFault.{RunFault}
+use Rattle.sdv_refute.specs.declared.wrong.Watched.{Watched}
+use Rattle.sdv_refute.specs.declared.wrong.Watched.TheVariants as comes
+use Rattle.sdv_refute.specs.declared.wrong.Wrong.{Wrong}
+use Rattle.sdv_refute.specs.Refutes.{Coming, Refutes}
+use Rattle.sdv_refute.specs.Watched.{Names, Watches}
+
+-- The graph ran beside the card, which takes each event by the value of the schedule. `blocks` and `blocks'` are what is
+-- known of the image before and after.
+pub record Tries (g : Graph) (desc : CardDesc) (codes : List ℕ) (input : List Block) (blocks blocks' : Option (List Block))
+    (out out' trace trace' : Option (List ℕ)) (result : Result Watched RunFault) : Type 0 where
+  pub kind : g.kind ≡ desc.kind
+  pub card : SimState
+  pub made : IsMade desc codes blocks card
+  pub card' : SimState
+  pub shown : card'.blocks ≡ blocks'
+  pub left : List Block
+  pub watched : Watches (ControllerSteps SimSteps) card_shown g
+      (record { port = card; input = input; out = out; trace = trace })
+      (record { port = card'; input = left; out = out'; trace = trace' }) result
+
+-- no certificate is accepted with the text
+abbrev pub IsRefused : (text : List ℕ) → Type 0
+IsRefused text = (certificate : List ℕ) (a : Acceptance) → IsAccepted text certificate a → ⊥
+
+-- the text is a script, which a run beside the card refutes by what comes next
+pub record RefutesText (text : List ℕ) (c : Card) (wrong : Wrong) : Type 0 where
+  pub script : Parsed
+  pub same : script.text ≡ text
+  pub is_script : IsScript script
+  pub events : List Pair
+  pub coming : Coming
+  pub named : Names wrong.next coming
+  pub refutes : Refutes script c events coming
+  pub refused : IsRefused text
+
+-- where something was wrong beside an image that shows its blocks, the text is refuted
+abbrev pub RefutesIfWrong : (text : List ℕ) → CardDesc → (blocks : Option (List Block)) → Result Watched RunFault → Type 0
+RefutesIfWrong text desc blocks (Ok (comes.Stopped wrong)) =
+    (shown : List Block) → blocks ≡ Some shown → RefutesText text (card_of desc (at_start desc) shown) wrong
+RefutesIfWrong text desc blocks result = Unit {0}
+
+-- The script of a text ran beside the card of a description.
+pub record TriesText (text card : List ℕ) (codes : List ℕ) (input : List Block) (blocks blocks' : Option (List Block))
+    (out out' trace trace' : Option (List ℕ)) (result : Result Watched RunFault) : Type 0 where
+  pub graph : Graph
+  pub of_text : IsGraphOfText text graph
+  pub desc : CardDesc
+  pub described : Describes card desc
+  pub tries : Tries graph desc codes input blocks blocks' out out' trace trace' result
+  pub refutes : RefutesIfWrong text desc blocks result

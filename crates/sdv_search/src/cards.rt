@@ -1,0 +1,26 @@
+//! Descriptions of small cards, beside which scripts are tried.
+
+use sdv_card::Kind;
+
+const SD_CARDS: [&str; 4] = [
+    "card sd\nversion 2\nunit block\ncsize 0\nrca 4660\n",
+    "card sd\nversion 2\nunit byte\ncsize 63\ncmult 0\nrbl 9\nrca 4660\n",
+    "card sd\nversion 1\nunit byte\ncsize 63\ncmult 0\nrbl 9\nrca 1\n",
+    "card sd\nversion 2\nunit byte\ncsize 63\ncmult 0\nrbl 10\nrca 4660\n",
+];
+
+const EMMC_CARDS: [&str; 4] = [
+    "card emmc\nunit block\nsectors 1024\nboot 1\n",
+    "card emmc\nunit byte\ncsize 63\ncmult 0\nrbl 9\nboot 1\n",
+    "card emmc\nunit byte\ncsize 63\ncmult 0\nrbl 10\nboot 1\n",
+    "card emmc\nunit block\nsectors 1024\n",
+];
+
+/// The descriptions of small cards of a kind: with block and with byte addresses, of both versions, and with a block
+/// length other than 512.
+pub fn small_cards(kind: Kind) -> &'static [&'static str] {
+    match kind {
+        Kind::Sd => &SD_CARDS,
+        Kind::Emmc => &EMMC_CARDS,
+    }
+}

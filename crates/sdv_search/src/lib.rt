@@ -1,0 +1,22 @@
+//! The search for a run that refutes a script, and the table of all runs with one mishap.
+//!
+//! Begin at `refute` and `sweep`. Nothing is trusted of the search: what it finds is run again and watched, and the
+//! contract speaks of that run (`specs/Refuted.antt`).
+#![tactic(auto)]
+
+mod cards;
+mod exploring;
+mod mishaps;
+mod refuting;
+mod sentence;
+mod sweeping;
+mod table;
+#[cfg(test)]
+mod tests;
+
+pub use cards::small_cards;
+pub use mishaps::mishaps_in_words;
+pub use refuting::{Found, Refutation, RefuteFault, refute};
+pub use sentence::sentence_of;
+pub use sweeping::{Row, RunEnd, SweepTable, sweep};
+pub use table::{Tally, put_table, tally_of};

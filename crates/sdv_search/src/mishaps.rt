@@ -1,0 +1,187 @@
+//! The mishaps of a run in words, with the lines of the script.
+
+use crate::refuting::{Refutation, RefuteFault, image_blocks, input_of, zero_image};
+use sdv_controller::Controller;
+use sdv_description::CardDesc;
+use sdv_graph::Graph;
+use sdv_image::MemImage;
+use sdv_refute::{Beside, Next, Onlooker, graph_of_text, try_graph};
+use sdv_run::Standing;
+use sdv_sim::Sim;
+use sdv_telling::{Text, put, put_all, put_numbered};
+use std::alloc::{AllocError, Global};
+use std::io;
+
+/// A mishap of a run.
+#[derive(Clone, Copy)]
+pub struct Mishap {
+    /// The point of the graph at which it comes.
+    pub point: usize,
+    /// The event.
+    pub next: Next,
+    /// The value of the schedule.
+    pub code: u8,
+    /// How many times it comes there, one after another.
+    pub times: u64,
+}
+
+/// Somebody who keeps the mishaps of a run.
+#[derive(Drop)]
+struct Recorder<'s> {
+    schedule: &'s [u8],
+    event: usize,
+    mishaps: Vec<Mishap>,
+    failed: bool,
+}
+
+impl Recorder<'_> {
+    fn record(&mut self, point: usize, next: &Next, code: u8) -> Result<(), AllocError> {
+        if let Some(last) = self.mishaps.last_mut() {
+            if last.point == point && last.code == code {
+                last.times = last.times.saturating_add(1);
+                return Ok(());
+            }
+        }
+        self.mishaps.push(Mishap {
+            point,
+            next: *next,
+            code,
+            times: 1,
+        })?;
+        Ok(())
+    }
+}
+
+impl Onlooker<Controller<Sim<MemImage>>> for Recorder<'_> {
+    fn sees(&mut self, _: &Controller<Sim<MemImage>>, standing: &Standing, next: &Next) {
+        let code = self.schedule.get(self.event).copied().unwrap_or(0);
+        if code > 0 && !self.failed {
+            self.failed = self.record(standing.point, next, code).is_err();
+        }
+        self.event = self.event.saturating_add(1);
+    }
+}
+
+/// The mishaps of a run that refutes a script.
+fn mishaps_of(
+    alloc: Global,
+    graph: &Graph<'_>,
+    refutation: &Refutation,
+) -> Result<Vec<Mishap>, RefuteFault> {
+    let schedule = refutation.schedule.as_slice();
+    let mut recorder = Recorder {
+        schedule,
+        event: 0,
+        mishaps: Vec::new(alloc),
+        failed: false,
+    };
+    let Ok(desc) = CardDesc::parse(refutation.card) else {
+        return Err(RefuteFault::Memory);
+    };
+    let image = zero_image(alloc, image_blocks(&desc)?)?;
+    let input = input_of(alloc, graph)?;
+    let beside = Beside {
+        desc,
+        schedule,
+        input: &input,
+    };
+    let (mut out, mut trace) = (io::sink(), io::sink());
+    let tried = try_graph(
+        alloc,
+        graph,
+        beside,
+        image,
+        &mut out,
+        &mut trace,
+        &mut recorder,
+    );
+    if tried.is_err() || recorder.failed {
+        return Err(RefuteFault::Memory);
+    }
+    Ok(recorder.mishaps)
+}
+
+/// Adds the name of an event.
+pub fn put_name(text: &mut Text, next: &Next) -> Result<(), AllocError> {
+    match next {
+        Next::Send { ask, .. } => put_numbered(text, "CMD", u64::from(ask.index), ""),
+        Next::Receive(count) => put_numbered(
+            text,
+            "the phase of ",
+            u64::from(*count),
+            " blocks from the card",
+        ),
+        Next::ReceiveRegister(_) => put(text, "the phase of a register"),
+        Next::Give(count) => put_numbered(
+            text,
+            "the phase of ",
+            u64::from(*count),
+            " blocks to the card",
+        ),
+        Next::Wait => put(text, "the wait"),
+        Next::Done => put(text, "done"),
+    }
+}
+
+/// Adds an event as in a trace.
+pub fn put_event(text: &mut Text, next: &Next) -> Result<(), AllocError> {
+    match next {
+        Next::Send { ask, .. } => put_numbered(text, "CMD", u64::from(ask.index), ""),
+        Next::Receive(count) => put_numbered(text, "IN ", u64::from(*count), ""),
+        Next::ReceiveRegister(count) => put_numbered(text, "REG ", u64::from(*count), ""),
+        Next::Give(count) => put_numbered(text, "OUT ", u64::from(*count), ""),
+        Next::Wait => put(text, "WAIT"),
+        Next::Done => put(text, "done"),
+    }
+}
+
+/// The words before and after the name of the event of a mishap.
+fn mishap_words(code: u8) -> (&'static str, &'static str) {
+    match code {
+        1 => ("", " is lost"),
+        2 => ("the answer to ", " is lost"),
+        3 => ("the card is not ready at ", ""),
+        4 => ("the answer to ", " shows an error"),
+        5 => ("the card refuses ", " with an error"),
+        6 => ("", " is cut"),
+        7 => ("the switch by ", " fails"),
+        _ => ("", " is as it should be"),
+    }
+}
+
+/// Adds a mishap with its line.
+fn put_mishap(text: &mut Text, graph: &Graph<'_>, mishap: &Mishap) -> Result<(), AllocError> {
+    if mishap.point < graph.len() {
+        put_numbered(text, "line ", u64::from(graph.line(mishap.point)), ": ")?;
+    }
+    let (before, after) = mishap_words(mishap.code);
+    put(text, before)?;
+    put_name(text, &mishap.next)?;
+    put(text, after)?;
+    if mishap.times > 1 {
+        put_numbered(text, ", ", mishap.times, " times")?;
+    }
+    put(text, "\n")
+}
+
+/// The mishaps of a run that refutes a script, a line each, with the lines of the script.
+///
+/// # Errors
+///
+/// [`RefuteFault::Script`] and [`RefuteFault::Memory`].
+pub fn mishaps_in_words(
+    alloc: Global,
+    script: &str,
+    refutation: &Refutation,
+) -> Result<Vec<u8>, RefuteFault> {
+    let graph = match graph_of_text(alloc, script) {
+        Ok(graph) => graph,
+        Err(fault) => return Err(RefuteFault::Script(fault)),
+    };
+    let mishaps = mishaps_of(alloc, &graph, refutation)?;
+    let mut text = Vec::new(alloc);
+    for mishap in &mishaps {
+        put_mishap(&mut text, &graph, mishap)?;
+    }
+    Ok(text)
+}

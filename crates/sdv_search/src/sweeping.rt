@@ -1,0 +1,249 @@
+//! Every run with one mishap.
+
+ghost use Rattle.std.specs.Prelude.{All, IfOk};
+ghost use Rattle.sdv_search.specs.Swept.{EndsAs, HasEnd, IsRow, IsSweep, mishap_at};
+
+use crate::refuting::{RefuteFault, image_blocks, zero_image};
+use sdv_controller::Controller;
+use sdv_description::CardDesc;
+use sdv_graph::Graph;
+use sdv_image::MemImage;
+use sdv_refute::{Beside, Next, Nobody, Onlooker, Watched, graph_of_text, try_graph};
+use sdv_run::{End, RunFault, Standing};
+use sdv_sim::Sim;
+use std::alloc::Global;
+use std::io;
+
+/// What a run comes to.
+#[derive(Clone, Copy)]
+pub enum RunEnd {
+    /// It ends in `done`.
+    Done,
+    /// It ends in a fault that the script names, or in `number`.
+    Fault,
+    /// It stops at this point, before what is not allowed at the card.
+    Wrong(usize),
+    /// It stops before its end for another reason.
+    Stopped(RunFault),
+}
+
+/// What a run that was watched comes to.
+fn end_of(watched: Result<Watched, RunFault>) -> RunEnd
+    ensures { EndsAs result watched }
+{
+    match watched {
+        Ok(Watched::Ended(End::Done)) => RunEnd::Done,
+        Ok(Watched::Ended(End::Fault(_))) => RunEnd::Fault,
+        Ok(Watched::Stopped(wrong)) => RunEnd::Wrong(wrong.point),
+        Err(fault) => RunEnd::Stopped(fault),
+    }
+}
+
+/// What a run comes to with each mishap at one event.
+#[derive(Clone, Copy)]
+pub struct Row {
+    /// The number of the event, from 0.
+    pub event: usize,
+    /// The point of the graph.
+    pub point: usize,
+    /// The line of its statement in the script.
+    pub line: u32,
+    /// The event.
+    pub next: Next,
+    /// The command does not reach the card.
+    pub command_lost: RunEnd,
+    /// The answer does not reach the host.
+    pub answer_lost: RunEnd,
+    /// The card is not ready, and stays busy.
+    pub slow: RunEnd,
+    /// The card takes the command, and answers with an error.
+    pub error: RunEnd,
+    /// The card does not take the command, and answers with an error.
+    pub refused: RunEnd,
+    /// The data phase is cut.
+    pub cut: RunEnd,
+    /// The switch fails.
+    pub switch_fails: RunEnd,
+}
+
+impl Row {
+    /// What the runs come to, in the order of the values of a schedule from 1 on.
+    pub fn ends(&self) -> [RunEnd; 7] {
+        [
+            self.command_lost,
+            self.answer_lost,
+            self.slow,
+            self.error,
+            self.refused,
+            self.cut,
+            self.switch_fails,
+        ]
+    }
+}
+
+/// All runs with one mishap.
+#[derive(Drop)]
+pub struct SweepTable {
+    /// What the run without a mishap comes to.
+    pub plain: RunEnd,
+    /// A row for each event of the run without a mishap.
+    pub rows: Vec<Row>,
+}
+
+/// An event of a run.
+#[derive(Clone, Copy)]
+struct Event {
+    point: usize,
+    next: Next,
+}
+
+/// Somebody who keeps the events of a run.
+#[derive(Drop)]
+struct Events {
+    events: Vec<Event>,
+    failed: bool,
+}
+
+impl Onlooker<Controller<Sim<MemImage>>> for Events {
+    fn sees(&mut self, _: &Controller<Sim<MemImage>>, standing: &Standing, next: &Next) {
+        let event = Event {
+            point: standing.point,
+            next: *next,
+        };
+        if *next != Next::Done && self.events.push(event).is_err() {
+            self.failed = true;
+        }
+    }
+}
+
+/// What the runs of a sweep have in common.
+#[derive(Clone, Copy)]
+struct Common<'g, 's, 'i> {
+    graph: &'g Graph<'s>,
+    desc: CardDesc,
+    input: &'i [[u8; 512]],
+}
+
+impl Common<'_, '_, '_> {
+    /// What a run comes to with the values of a schedule.
+    fn end<L: Onlooker<Controller<Sim<MemImage>>>>(
+        &self,
+        alloc: Global,
+        image: &mut Option<MemImage>,
+        schedule: &[u8],
+        onlooker: &mut L,
+    ) -> Result<RunEnd, RefuteFault>
+        ensures { IfOk result (HasEnd self.now.graph.now self.now.desc self.now.input.now schedule.now) }
+    {
+        let Some(blocks) = image.take() else {
+            return Err(RefuteFault::Memory);
+        };
+        let beside = Beside {
+            desc: self.desc,
+            schedule,
+            input: self.input,
+        };
+        let (mut out, mut trace) = (io::sink(), io::sink());
+        let tried = try_graph(
+            alloc, self.graph, beside, blocks, &mut out, &mut trace, onlooker,
+        )?;
+        *image = Some(tried.image);
+        Ok(end_of(tried.result))
+    }
+
+    /// What a run comes to with one mishap.
+    fn end_with(
+        &self,
+        alloc: Global,
+        image: &mut Option<MemImage>,
+        event: usize,
+        code: u8,
+    ) -> Result<RunEnd, RefuteFault>
+        ensures { IfOk result (HasEnd self.now.graph.now self.now.desc self.now.input.now (mishap_at event code)) }
+    {
+        let mut schedule = vec![in alloc; 0; event]?;
+        schedule.push(code)?;
+        self.end(alloc, image, schedule.as_slice(), &mut Nobody)
+    }
+
+    /// The row of an event.
+    fn row(
+        &self,
+        alloc: Global,
+        image: &mut Option<MemImage>,
+        number: usize,
+        event: Event,
+    ) -> Result<Row, RefuteFault>
+        ensures { IfOk result (IsRow self.now.graph.now self.now.desc self.now.input.now) }
+    {
+        Ok(Row {
+            event: number,
+            point: event.point,
+            line: self.graph.lines().get(event.point).copied().unwrap_or(0),
+            next: event.next,
+            command_lost: self.end_with(alloc, image, number, 1)?,
+            answer_lost: self.end_with(alloc, image, number, 2)?,
+            slow: self.end_with(alloc, image, number, 3)?,
+            error: self.end_with(alloc, image, number, 4)?,
+            refused: self.end_with(alloc, image, number, 5)?,
+            cut: self.end_with(alloc, image, number, 6)?,
+            switch_fails: self.end_with(alloc, image, number, 7)?,
+        })
+    }
+
+    /// The rows of events.
+    fn rows(
+        &self,
+        alloc: Global,
+        image: &mut Option<MemImage>,
+        events: &[Event],
+    ) -> Result<Vec<Row>, RefuteFault>
+        ensures { IfOk result (λ rows. All (IsRow self.now.graph.now self.now.desc self.now.input.now) rows.items) }
+    {
+        let mut rows = Vec::new(alloc);
+        for number in 0..events.len() {
+            rows.push(self.row(alloc, image, number, events[number])?)?;
+        }
+        Ok(rows)
+    }
+}
+
+/// Runs a script beside the card of a description, over zeros, with each mishap at each event of the run without a
+/// mishap.
+///
+/// # Errors
+///
+/// The faults of `try_text`.
+pub fn sweep(
+    alloc: Global,
+    script: &str,
+    card: &str,
+    input: &[[u8; 512]],
+) -> Result<SweepTable, RefuteFault>
+    ensures { IfOk result (IsSweep script.now card.now input.now) }
+{
+    let graph = match graph_of_text(alloc, script) {
+        Ok(graph) => graph,
+        Err(fault) => return Err(RefuteFault::Script(fault)),
+    };
+    let desc = match CardDesc::parse(card) {
+        Ok(desc) => desc,
+        Err(fault) => return Err(RefuteFault::Card(fault)),
+    };
+    let common = Common {
+        graph: &graph,
+        desc,
+        input,
+    };
+    let mut image = Some(zero_image(alloc, image_blocks(&desc)?)?);
+    let mut seen = Events {
+        events: Vec::new(alloc),
+        failed: false,
+    };
+    let plain = common.end(alloc, &mut image, &[], &mut seen)?;
+    if seen.failed {
+        return Err(RefuteFault::Memory);
+    }
+    let rows = common.rows(alloc, &mut image, seen.events.as_slice())?;
+    Ok(SweepTable { plain, rows })
+}
