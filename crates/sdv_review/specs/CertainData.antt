@@ -1,0 +1,72 @@
+-- THAT THE DATA IS THERE where a run is done: of each write phase the blocks stand on the card as they were given, unless
+-- a later write phase or an erase of the run reaches one of them.
+use Rattle.std.specs.Prelude.{◌≡◌, ◌⊎◌, ◌+◌, ◌<◌, ℕ, Bool, List, [], ◌∷◌, length, take, drop}
+use Rattle.sdv_card.specs.declared.state.Partition.{Partition}
+use Rattle.sdv_card.specs.declared.command.Row.TheVariants.{Cmd38}
+use Rattle.sdv_card.specs.Card.{Card, Block, Partitions, blocks_of}
+use Rattle.sdv_card.specs.Profile.{IsAtStart}
+use Rattle.sdv_card.specs.ScriptEvent.{ScriptEvent, SendCommand, GiveBlocks}
+use Rattle.sdv_card.specs.Settled.{Settled}
+use Rattle.sdv_card.specs.Taken.{Taken}
+use Rattle.sdv_facts.specs.Beside.{StepsOf}
+use Rattle.sdv_graph.specs.Graph.{Graph, begin}
+use Rattle.sdv_graph.specs.Path.{Path}
+use Rattle.sdv_graph.specs.Walk.{Pair, Finished}
+
+-- blocks that were given, from a first block of a partition on
+pub record Given : Type 0 where
+  pub partition : Partition
+  pub first : ℕ
+  pub blocks : List Block
+
+-- these stand there
+abbrev pub StandIn : Partitions → Given → Type 0
+StandIn contents g = take (length g.blocks) (drop g.first (blocks_of g.partition contents)) ≡ g.blocks
+
+-- a transfer of so many blocks, which begins at another one, reaches one of them
+pub record Overlaps (g : Given) (partition : Partition) (first count : ℕ) : Type 0 where
+  pub same : g.partition ≡ partition
+  pub below : first < g.first + length g.blocks
+  pub above : g.first < first + count
+
+-- the card took an erase, which may leave anything in any block of the partition in access
+pub record Erases (g : Given) (c u : Card) : Type 0 where
+  pub settled_card : Card
+  pub settled : Settled c settled_card
+  pub argument : ℕ
+  pub heard : Bool
+  pub taken : Taken Cmd38 heard argument settled_card u
+  pub same : g.partition ≡ c.mode.partition
+
+-- what an event does to a card reaches one of the blocks
+abbrev pub Reaches : Given → ScriptEvent → (c u : Card) → Type 0
+Reaches g (GiveBlocks lines blocks) c u = Overlaps g c.mode.partition c.next_block c.announced
+Reaches g (SendCommand ask position argument) c u = Erases g c u
+Reaches g event c u = ⊥
+
+-- some event of a run does
+abbrev pub IsReached : Given → (c : Card) (es : List Pair) (last : Card) → StepsOf c es last → Type 0
+IsReached g c [] last steps = ⊥
+IsReached g c (p ∷ es) last steps = Reaches g p.0 c steps.0 ⊎ IsReached g steps.0 es last steps.2
+
+-- they stand on the last card, or were reached on the way there
+abbrev pub IsKept : Given → (c : Card) (es : List Pair) (last : Card) → StepsOf c es last → Type 0
+IsKept g c es last steps = StandIn last.contents g ⊎ IsReached g c es last steps
+
+-- what a phase of a card gives
+abbrev pub given_at : Card → List Block → Given
+given_at c blocks = record { partition = c.mode.partition; first = c.next_block; blocks = blocks }
+
+abbrev pub KeptAfter : ScriptEvent → (c u : Card) (es : List Pair) (last : Card) → StepsOf u es last → Type 0
+KeptAfter (GiveBlocks lines blocks) c u es last steps = IsKept (given_at c blocks) u es last steps
+KeptAfter event c u es last steps = Unit {0}
+
+-- so it is of each write phase of a run
+abbrev pub AreKept : (c : Card) (es : List Pair) (last : Card) → StepsOf c es last → Type 0
+AreKept c [] last steps = Unit {0}
+AreKept c (p ∷ es) last steps = KeptAfter p.0 c steps.0 es last steps.2 × AreKept steps.0 es last steps.2
+
+-- and of each run of a graph that ends in `done`, beside any card of the profile
+abbrev pub CertainData : Graph → Type 0
+CertainData g = (c : Card) (es : List Pair) (last : Card) (steps : StepsOf c es last) → g.kind ≡ c.kind → IsAtStart c
+    → Path g.kind g.points Finished (begin g) es → AreKept c es last steps

@@ -1,0 +1,11 @@
+pub mod Findings
+pub mod Names
+pub mod Comes
+pub mod Meaning
+pub mod Lines
+pub mod Reviewed
+pub mod Statuses
+pub mod Carried
+pub mod Writes
+pub mod CertainData
+pub mod Confirmed

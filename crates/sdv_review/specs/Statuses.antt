@@ -1,0 +1,121 @@
+-- THE STATUS OF WRITES at a point of a script: whether every write phase on the way there is known to have stored its
+-- blocks. An error of a write is shown by a later status, at the latest in transfer state.
+-- SD Physical Layer Simplified Specification, sections 4.3.4 (data write) and 4.10.1 (card status); JESD84-B51, sections
+-- 6.6.9 and 6.13. What a lost answer takes with it is this project's profile.
+use Rattle.std.specs.Prelude.{ℕ, List, Bool, true, false, ◌==◌, ◌||◌, ◌&&◌, not, Option, Some, None, slice_get, if◌then◌else◌}
+use Rattle.sdv_card.specs.declared.event.Ask.{Ask}
+use Rattle.sdv_card.specs.declared.event.Seen.{Seen}
+use Rattle.sdv_card.specs.declared.event.Seen.TheVariants as seens
+use Rattle.sdv_graph.specs.declared.tree.Phase.{Phase}
+use Rattle.sdv_graph.specs.declared.tree.Phase.TheVariants.{GiveBlocks}
+use Rattle.sdv_graph.specs.Path.{Action, Point, sends, phases}
+use Rattle.sdv_review.specs.declared.finding.Name.TheVariants.{Number}
+use Rattle.sdv_review.specs.declared.status.Status.{Status}
+use Rattle.sdv_review.specs.declared.status.Status.TheVariants.{Quiet, Begun, Open, Failed, Left, Unknown}
+use Rattle.sdv_review.specs.Findings.{writes_config}
+use Rattle.sdv_review.specs.Names.{address_reads}
+
+-- WHAT AN ANSWER TELLS OF AN EARLIER WRITE
+
+-- a status in transfer state, which has the number 4, without a doubt: no error is left to be shown
+abbrev pub confirms : Ask → Seen → Bool
+confirms ask (seens.Status state false app switch) = (state == 4) && not (ask.index == 3)
+confirms ask seen = false
+
+-- an answer without a doubt that was heard: an error that is still to be shown stays so; CMD0 ends it
+abbrev pub keeps : Ask → Seen → Bool
+keeps ask (seens.Status state false app switch) = not (ask.index == 0)
+keeps ask (seens.Ocr ready block) = not (ask.index == 0)
+keeps ask seens.Bare = not (ask.index == 0)
+keeps ask seens.Sent = not (ask.index == 0)
+keeps ask seen = false
+
+abbrev pub told : (point : ℕ) (confirmed kept : Bool) → Status
+told point true kept = Quiet
+told point false true = Open point
+told point false false = Failed point
+
+abbrev pub answered : Ask → Seen → Status → Status
+answered ask seen (Open point) = told point (confirms ask seen) (keeps ask seen)
+answered ask seen status = status
+
+-- WHAT A COMMAND BEGINS
+
+-- CMD24 and CMD25
+abbrev pub is_write : Ask → Bool
+is_write ask = (ask.index == 24) || (ask.index == 25)
+
+-- a write that may have failed, if it is the same one again; or it is left
+abbrev pub again : (same : Bool) → (write : ℕ) → (status : Status) → Status
+again true write status = status
+again false write status = Left write
+
+abbrev pub begun : (point : ℕ) → Status → Status
+begun point Quiet = Begun point
+begun point (Begun other) = Begun point
+begun point (Open other) = again (other == point) other (Open other)
+begun point (Failed other) = again (other == point) other (Failed other)
+begun point status = status
+
+-- the blocks that the command at the point names are others from here on
+abbrev pub moved : Status → Status
+moved (Begun point) = Quiet
+moved (Open point) = Left point
+moved (Failed point) = Left point
+moved status = status
+
+-- CMD0 and `part.access` change the partition in access
+abbrev pub moves : Ask → Bool
+moves ask = (ask.index == 0) || writes_config ask
+
+abbrev pub sent : (point : ℕ) → Ask → Seen → Status → Status
+sent point ask seen status =
+    if is_write ask then begun point (answered ask seen status)
+    else (if moves ask then moved (answered ask seen status) else answered ask seen status)
+
+-- A WRITE PHASE: it ended well, or it was cut
+
+abbrev pub after_write : (well : Bool) → (point : ℕ) → Status
+after_write true point = Open point
+after_write false point = Failed point
+
+abbrev pub ends_well : Seen → Bool
+ends_well seens.Ok = true
+ends_well seen = false
+
+abbrev pub given : Seen → Status → Status
+given seen (Begun point) = after_write (ends_well seen) point
+given seen (Open point) = after_write (ends_well seen) point
+given seen (Failed point) = after_write (ends_well seen) point
+given seen (Left point) = Left point
+given seen status = Unknown
+
+abbrev pub after_phase : Phase → Seen → Status → Status
+after_phase GiveBlocks seen status = given seen status
+after_phase phase seen status = status
+
+-- an event of the statement at a point
+abbrev pub after_event : (point : ℕ) → Action → Seen → Status → Status
+after_event point (sends c ways other) seen status = sent point c.ask seen status
+after_event point (phases p well other) seen status = after_phase p seen status
+after_event point action seen status = status
+
+-- A `let`
+
+-- the address of the command is by the variable, or there is no command
+abbrev pub action_reads : Action → (variable : ℕ) → Bool
+action_reads (sends c ways other) variable = address_reads (Number variable) c.address
+action_reads action variable = true
+
+abbrev pub place_reads : Option Point → (variable : ℕ) → Bool
+place_reads (Some place) variable = action_reads place.action variable
+place_reads None variable = true
+
+abbrev pub is_moved : List Point → (variable : ℕ) → Status → Bool
+is_moved points variable (Begun point) = place_reads (slice_get points point) variable
+is_moved points variable (Open point) = place_reads (slice_get points point) variable
+is_moved points variable (Failed point) = place_reads (slice_get points point) variable
+is_moved points variable status = false
+
+abbrev pub after_let : List Point → (variable : ℕ) → Status → Status
+after_let points variable status = if is_moved points variable status then moved status else status

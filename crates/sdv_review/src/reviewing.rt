@@ -1,0 +1,91 @@
+//! The review of a script.
+
+ghost use Rattle.std.specs.Prelude.{◌≡◌, List, IfErr, IfOk};
+ghost use Rattle.sdv_facts.specs.Facts.{PointFacts};
+ghost use Rattle.sdv_facts.specs.Closed.{Closed};
+ghost use Rattle.sdv_script.specs.OneGraph.{IsGraphOfScript};
+ghost use Rattle.sdv_script.specs.Shown.{shown};
+ghost use Rattle.sdv_certify.specs.Assembled.{CertificateOf, RefusedFor};
+ghost use Rattle.sdv_review.specs.Findings.{findings_of};
+ghost use Rattle.sdv_review.specs.Lines.{lines_of, objects_of};
+ghost use Rattle.sdv_review.specs.Reviewed.{Reviews, ReviewsScript, Unreviewed, UnreviewedScript};
+
+use crate::fault::ReviewFault;
+use crate::finding::Finding;
+use crate::finds::find;
+use crate::text::{put_lines, put_objects};
+use crate::writes::find_writes;
+use sdv_certify::{CertifyFault, ScriptSurvey, survey};
+use sdv_facts::Certificate;
+use sdv_graph::Graph;
+use sdv_script::{Script, parse};
+use std::alloc::Global;
+
+/// What a review of a script finds.
+#[derive(Drop)]
+pub struct Report {
+    /// The findings: of each point, in their order, and then of names.
+    pub found: Vec<Finding>,
+    /// What is found of writes where the script is done.
+    pub writes: Vec<Finding>,
+    /// A line for each, or `nothing found`.
+    pub lines: Vec<u8>,
+    /// An object of JSON for each, one a line.
+    pub objects: Vec<u8>,
+}
+
+/// What a certificate of the script leaves open, by its text.
+///
+/// # Errors
+///
+/// [`ReviewFault::Script`] where the text is no script, [`ReviewFault::Refused`] where it has no certificate, with what
+/// `certify` answers, and [`ReviewFault::Memory`].
+pub fn review(alloc: Global, text: &str) -> Result<Report, ReviewFault>
+    ensures reviewed { IfOk result (Reviews text.entry.now) }
+    ensures refused { IfErr result (Unreviewed text.entry.now) }
+{
+    let script = parse(alloc, text)?;
+    let report = review_script(alloc, &script)?;
+    Ok(report)
+}
+
+/// What is known of a script that has a certificate. The graph is the script's.
+fn certified(
+    alloc: Global,
+    script: &Script<'_>,
+    graph: &Graph<'_>,
+) -> Result<Certificate, CertifyFault>
+    requires graph { IsGraphOfScript (shown script.now) graph.now }
+    ensures certified { IfOk result (λ known. CertificateOf script.now known.points) }
+    ensures refused { IfErr result (RefusedFor script.now) }
+{
+    let survey = survey(alloc, script, graph)?;
+    let ScriptSurvey { known, refusal } = survey;
+    match refusal {
+        Some(fault) => Err(fault),
+        None => Ok(known),
+    }
+}
+
+/// The review of a script.
+fn review_script(alloc: Global, script: &Script<'_>) -> Result<Report, ReviewFault>
+    ensures reviewed { IfOk result (ReviewsScript script.now) }
+    ensures refused { IfErr result (UnreviewedScript script.now) }
+{
+    let Ok(graph) = script.graph(alloc) else {
+        return Err(ReviewFault::Memory);
+    };
+    let known = certified(alloc, script, &graph)?;
+    let found = find(alloc, &graph, &known)?;
+    let writes = find_writes(alloc, &graph, &known)?;
+    let mut lines = Vec::new(alloc);
+    put_lines(&mut lines, &graph, &found, &writes)?;
+    let mut objects = Vec::new(alloc);
+    put_objects(&mut objects, &graph, &found, &writes)?;
+    Ok(Report {
+        found,
+        writes,
+        lines,
+        objects,
+    })
+}
