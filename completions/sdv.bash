@@ -28,13 +28,13 @@ _sdv() {
     last=$((${#words[@]} - 1))
     local word=${words[last]} before=${words[last - 1]}
     if [ "$last" -eq 1 ]; then
-        _sdv_words "$word" "frame certify check run batch explain graph print --help --version"
+        _sdv_words "$word" "frame certify check run batch explain graph print emit audit describe --help --version"
         return
     fi
     # which of the command's words this is, options and their files left out
     for ((at = 2; at < last; at++)); do
         case ${words[at]} in
-        --in | --out) at=$((at + 1)) ;;
+        --in | --out | --binary) at=$((at + 1)) ;;
         -?*) ;;
         *) place=$((place + 1)) ;;
         esac
@@ -59,6 +59,20 @@ _sdv() {
             fi ;;
         *:4) _sdv_files "$word" '*' ;;
         esac ;;
+    emit:*)
+        case $before:$word:$place in
+        --binary:*) _sdv_files "$word" '*' ;;
+        *:-*:*) _sdv_words "$word" "--binary" ;;
+        *:0) _sdv_files "$word" '*.sdv' ;;
+        *:1) _sdv_files "$word" '*.cert' ;;
+        esac ;;
+    audit:*)
+        case $word:$place in
+        -*) _sdv_words "$word" "--json --annotate" ;;
+        *:0) _sdv_words "$word" "sd emmc" ;;
+        *:1) _sdv_files "$word" '*.trace' ;;
+        esac ;;
+    describe:0) _sdv_files "$word" '*.card' ;;
     batch:0) _sdv_words "$word" "sd emmc" ;;
     check:1) _sdv_files "$word" '*.cert' ;;
     certify:0 | check:0 | explain:0 | graph:0 | print:0) _sdv_files "$word" '*.sdv' ;;

@@ -2,20 +2,21 @@ Explanations of scripts in files.
 
   $ printf 'card sd\nsend 0 { else { } }\nfault stop\n' > a.sdv; sdv explain a.sdv
   line 2, point 0: CMD0   (at most 1 command)
-      idle: byte addresses, another length; byte addresses, length 512; block addresses
+      idle: byte addresses, block length not 512; byte addresses, block length 512; block addresses
   line 3, point 1: fault stop   (at most 0 commands)
-      idle: byte addresses, another length; byte addresses, length 512; block addresses
+      idle: byte addresses, block length not 512; byte addresses, block length 512; block addresses
   $ printf 'card sd send 7 { else { } } fault stop' | sdv explain -
+  refused Illegal point 0 shape 0000000000002000
+  line 1, point 0: CMD7, if the card is
+      idle: byte addresses, block length not 512
+  why: CMD7 is not legal in idle state
+  a run that gets there:
+      before the first command    idle: byte addresses, block length not 512
+  
   line 1, point 0: CMD7   (at most 1 command)
-      idle: byte addresses, another length; byte addresses, length 512; block addresses
+      idle: byte addresses, block length not 512; byte addresses, block length 512; block addresses
   line 1, point 1: fault stop   (at most 0 commands)
       no run comes here
-  refused Illegal point 0 shape 0000000000002000
-  line 1, point 0: CMD7, beside a card that is
-      idle: byte addresses, another length
-  why: CMD7 is not legal in idle state
-  a way there:
-      before the first command    idle: byte addresses, another length
   refused Illegal point 0 shape 0000000000002000
   [1]
   $ grep -v '^done' $EXAMPLES/emmc_bring_up.sdv > boot.sdv; cat >> boot.sdv << 'END'
@@ -27,7 +28,7 @@ Explanations of scripts in files.
   > END
   $ sdv explain boot.sdv | grep ^why
   refused Address point 33
-  why: the boot partition in access may not have all blocks at by hc 0, for this is known: a boot partition has 0 blocks or more; the card has 1 block or more; cap is from 1 to 4294967296, not beyond the card's end
+  why: the boot partition in access may not have all blocks at by hc 0; what is known: a boot partition has 0 blocks or more; the card has 1 block or more; cap is from 1 to 4294967296, not beyond the card's end
   $ sdv explain $EXAMPLES/refused_unlike_lines.sdv | grep ^why
   refused Illegal point 27 shape 0000000000102815
   why: the card uses 4 data lines, and the host 1 data line
@@ -41,7 +42,57 @@ A script that needs too many commands or shapes has no listing.
 What is no script.
 
   $ printf 'card sd\nsend 16 @\n' | sdv explain -
+  line 2
+      send 16 @
+              ^
+  found: `@`, no token of the language
+  can stand here: `{`
   script fault Token line 2
+  [1]
+  $ printf 'card sd flags hc\nnums timeout\nsend 0 { else { } }\ndone\n' | sdv explain -
+  line 2
+      nums timeout
+           ^
+  found: `timeout`, a reserved word
+  can stand here: a new name
+  hint: the word is reserved: a name has to be another one
+  script fault Name line 2
+  [1]
+  $ printf 'card sd\nsend 3 { clen { } else { fault rca } }\ndone\n' | sdv explain -
+  line 2
+      send 3 { clen { } else { fault rca } }
+               ^
+  found: `clen`, a name
+  can stand here: `else`, `timeout`, `answer`, `clean`, `ready`, `state`
+  hint: did you mean `clean`?
+  script fault Syntax line 2
+  [1]
+  $ printf 'card sd\nsend CMD17 at block 0 { else { fault stop } }\ndone\n' | sdv explain -
+  line 2
+      send CMD17 at block 0 { else { fault stop } }
+           ^
+  found: `CMD17`, no token of the language
+  can stand here: `0`, `2`, `3`, `6`, `7`, `8`, `9`, `10`, `12`, `13`, `16`, `17`, `18`, `24`, `25`, `32`, `33`, `38`, `41`, `51`, `55`
+  hint: commands are numbers: write 17
+  script fault Token line 2
+  [1]
+  $ printf 'card sd\nsend 17 at 100 { else { fault stop } }\ndone\n' | sdv explain -
+  line 2
+      send 17 at 100 { else { fault stop } }
+                 ^
+  found: `100`, a number
+  can stand here: `block`, `byte`, `by`
+  hint: an address is `at block`, `at byte` or `at by FLAG`, and then a position
+  script fault Argument line 2
+  [1]
+  $ printf 'card sd\nsend 0 { else { } }\nsend 3 { clean { } }\ndone\n' | sdv explain -
+  line 3
+      send 3 { clean { } }
+                         ^
+  found: `}`, a sign
+  can stand here: `else`, `timeout`, `answer`, `clean`, `ready`, `state`
+  hint: `else` is missing after line 3
+  script fault Syntax line 3
   [1]
   $ sdv explain missing.sdv
   cannot use missing.sdv

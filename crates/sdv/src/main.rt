@@ -1,4 +1,4 @@
-//! `sdv`, the program: `sdv_words` does its work, over the words, files and streams of the process.
+//! `sdv`, the program: `sdv_commands` does its work, over the words, files and streams of the process.
 #![tactic(auto)]
 
 #[cfg(test)]
@@ -12,8 +12,8 @@ mod testing;
 #[cfg(test)]
 mod tests;
 
-use sdv_words::progress::{Below, Counted, Progress};
-use sdv_words::start::start;
+use sdv_commands::progress::{Below, Counted, Progress};
+use sdv_commands::start::start;
 use std::fs;
 use std::io::{self, IsTerminal};
 use std::process::ExitCode;

@@ -1,5 +1,5 @@
 //! The line on a terminal that says how far a run is.
-use sdv_words::progress::{Below, Counted, Progress};
+use sdv_commands::progress::{Below, Counted, Progress};
 use std::cell::Cell;
 use std::io::{self, Write};
 use std::process::Abort;

@@ -1,6 +1,6 @@
 //! The program on the words of a process.
 use crate::testing::{USAGE, same};
-use sdv_words::start::start;
+use sdv_commands::start::start;
 use std::io::{self, ErrorKind};
 use std::process::Abort;
 use std::rt::Files;

@@ -1,8 +1,8 @@
 //! The program over writers, readers and texts in memory.
 use crate::testing::{CERTIFICATE, Full, SMALLEST};
-use sdv_faults::{Store, bytes_within};
+use sdv_commands::program::{answer, program};
+use sdv_files::{Store, bytes_within};
 use sdv_run_command::NewImage;
-use sdv_words::program::{answer, program};
 use std::alloc::{AllocError, Global};
 use std::fs;
 use std::io::{self, ErrorKind, Read};
@@ -44,7 +44,7 @@ impl Store for Pair {
 
     type Image = NewImage;
 
-    ghost use Rattle.sdv_faults.specs.Files.{any_files, any_sink};
+    ghost use Rattle.sdv_files.specs.Files.{any_files, any_sink};
 
     ghost known = { λ _. any_files };
 

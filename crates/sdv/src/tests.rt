@@ -1,29 +1,30 @@
-//! Lines of words, faults and pages, call by call.
+//! Requests, faults and pages, call by call.
 use crate::testing::{USAGE, same};
+use sdv_command_line::{HELP, Request, RequestFault, request_of};
+use sdv_commands::frame::{command_of, print_frame};
+use sdv_commands::page::{VERSION, page_of};
 use sdv_faults::Fault;
+use sdv_files::print_text;
 use sdv_frames::Command;
-use sdv_line::{Line, LineFault, line_of};
 use sdv_run::RunFault;
 use sdv_sim::SimFault;
 use sdv_text::number_of;
-use sdv_words::frame::{command_of, write_frame};
-use sdv_words::page::{HELP, VERSION, page_of, print_page};
 
 #[test]
-fn reads_a_line(rt: HostRuntime) {
+fn reads_a_request(rt: HostRuntime) {
     let words = ["frame", "63", "0xFFffFFff"];
-    let line = line_of(rt.alloc(), &words);
+    let request = request_of(rt.alloc(), &words);
     assert!(rt;
         matches!(
-            line,
-            Ok(Line::Frame {
+            request,
+            Ok(Request::Frame {
                 index: "63",
                 argument: "0xFFffFFff"
             })
         )
     );
-    let usage = line_of(rt.alloc(), &["frame", "63"]);
-    same(&rt, &usage.err(), &Some(LineFault::Usage));
+    let usage = request_of(rt.alloc(), &["frame", "63"]);
+    same(&rt, &usage.err(), &Some(RequestFault::Usage));
     same(&rt, &number_of("0xFFffFFff"), &Some(u32::MAX));
     same(&rt, &number_of("0007"), &Some(7));
     let command = Command {
@@ -32,7 +33,7 @@ fn reads_a_line(rt: HostRuntime) {
     };
     same(&rt, &command_of("63", "0xFFffFFff"), &Some(command));
     let mut out = Vec::new(rt.alloc());
-    assert!(rt; write_frame(command, &mut out).is_ok());
+    assert!(rt; print_frame("63", "0xFFffFFff", &mut out).is_ok());
     assert!(rt; out.as_slice() == b"7f ff ff ff ff 19\n".as_slice());
 }
 
@@ -55,9 +56,9 @@ static FAULTS: [(Fault<'static>, u8, &str); 8] = [
 #[test]
 fn names_faults(rt: HostRuntime) {
     let alloc = rt.alloc();
-    let usage = LineFault::Usage.to_string(alloc).expect(&rt, "memory");
+    let usage = RequestFault::Usage.to_string(alloc).expect(&rt, "memory");
     assert!(rt; usage.as_str() == USAGE.trim_end());
-    let memory = LineFault::Memory.to_string(alloc).expect(&rt, "memory");
+    let memory = RequestFault::Memory.to_string(alloc).expect(&rt, "memory");
     assert!(rt; memory.as_str() == "out of memory");
     for row in FAULTS.iter() {
         let mut err = Vec::new(alloc);
@@ -71,6 +72,6 @@ fn finds_pages(rt: HostRuntime) {
     same(&rt, &page_of(&["--help"]), &Some(HELP));
     same(&rt, &page_of(&["certify", "--help"]), &None);
     let mut out = Vec::new(rt.alloc());
-    assert!(rt; print_page(VERSION, &mut out).is_ok());
+    assert!(rt; print_text(VERSION.as_bytes(), &mut out).is_ok());
     assert!(rt; out.as_slice() == VERSION.as_bytes());
 }

@@ -1,2 +1,0 @@
-pub mod OutputLaws
-pub mod StartLaws

@@ -8,6 +8,10 @@ use Rattle.std.specs.declared.io.ErrorKind.TheVariants.{OutOfMemory}
 use Rattle.clap.specs.Words.{Text}
 use Rattle.hex.specs.Hex.{encode_lower}
 use Rattle.sdv_card.specs.declared.shape.Shape.{Shape}
+use Rattle.sdv_audit.specs.declared.fault.LineFault.{LineFault}
+use Rattle.sdv_audit.specs.declared.fault.LineFault.TheVariants as lines
+use Rattle.sdv_audit_report.specs.declared.fault.TraceFault.{TraceFault}
+use Rattle.sdv_audit_report.specs.declared.fault.TraceFault.TheVariants as traces
 use Rattle.sdv_certify.specs.declared.fault.CertifyFault.{CertifyFault}
 use Rattle.sdv_certify.specs.declared.fault.CertifyFault.TheVariants as certifies
 use Rattle.sdv_script.specs.declared.fault.FaultKind.{FaultKind}
@@ -21,16 +25,21 @@ use Rattle.sdv_check.specs.declared.fault.VerifyFault.{VerifyFault}
 use Rattle.sdv_check.specs.declared.fault.VerifyFault.TheVariants as verifies
 use Rattle.sdv_explain.specs.declared.fault.ExplainFault.{ExplainFault}
 use Rattle.sdv_explain.specs.declared.fault.ExplainFault.TheVariants as explains
+use Rattle.sdv_table.specs.declared.fault.Part.{Part}
+use Rattle.sdv_table.specs.declared.fault.Part.TheVariants as parts
+use Rattle.sdv_emit.specs.declared.fault.EmitFault.{EmitFault}
+use Rattle.sdv_emit.specs.declared.fault.EmitFault.TheVariants as emits
 use Rattle.sdv_block.specs.declared.fault.BlockFault.{BlockFault}
 use Rattle.sdv_block.specs.declared.fault.BlockFault.TheVariants as blocks
 use Rattle.sdv_image.specs.declared.fault.SimFault.{SimFault}
 use Rattle.sdv_image.specs.declared.fault.SimFault.TheVariants as cards
 use Rattle.sdv_run.specs.declared.fault.RunFault.{RunFault}
 use Rattle.sdv_run.specs.declared.fault.RunFault.TheVariants as runs
-use Rattle.sdv_line.specs.declared.line.LineFault.{LineFault}
-use Rattle.sdv_line.specs.declared.line.LineFault.TheVariants as lines
+use Rattle.sdv_command_line.specs.Commands.{usage}
+use Rattle.sdv_command_line.specs.declared.request.RequestFault.{RequestFault}
+use Rattle.sdv_command_line.specs.declared.request.RequestFault.TheVariants as requests
 use Rattle.sdv_faults.specs.declared.fault.Fault.{Fault}
-use Rattle.sdv_faults.specs.declared.fault.Fault.TheVariants.{Usage, File, Script, Certificate, Refused, Uncertified, Unserved, Card, Run, Named, Output, Memory}
+use Rattle.sdv_faults.specs.declared.fault.Fault.TheVariants.{Usage, File, Script, Certificate, Refused, Uncertified, Unserved, Wide, Card, Run, Named, Output, Memory, Trace, Found}
 
 -- WHAT IS SAID
 
@@ -80,6 +89,37 @@ uncertified_line (certifies.EndState point) = numbered_line (codes "refused EndS
 uncertified_line certifies.TooMany = plain_line (codes "refused TooMany")
 uncertified_line certifies.Memory = plain_line (codes "refused Memory")
 
+-- the part of a script that has no room in a table
+abbrev pub wide_line : Part → Text
+wide_line parts.Numbers = plain_line (codes "refused Wide numbers")
+wide_line parts.Flags = plain_line (codes "refused Wide flags")
+wide_line parts.Points = plain_line (codes "refused Wide points")
+wide_line parts.Moves = plain_line (codes "refused Wide moves")
+wide_line parts.First = plain_line (codes "refused Wide start")
+wide_line (parts.Point point) = numbered_line (codes "refused Wide point ") point
+wide_line parts.Words = plain_line (codes "refused Wide words")
+
+abbrev pub line_fault_name : LineFault → Text
+line_fault_name lines.Word = codes "Word"
+line_fault_name lines.Index = codes "Index"
+line_fault_name lines.Argument = codes "Argument"
+line_fault_name lines.Answer = codes "Answer"
+line_fault_name lines.Count = codes "Count"
+line_fault_name lines.End = codes "End"
+line_fault_name lines.Lines = codes "Lines"
+
+-- the line of a trace that is none
+abbrev pub trace_line : (name : Text) (line : ℕ) → Text
+trace_line name line = codes "trace fault " ++ (name ++ (codes " line " ++ (decimal line ++ 10 ∷ [])))
+
+abbrev pub trace_fault_line : TraceFault → Text
+trace_fault_line (traces.Line fault line) = trace_line (line_fault_name fault) line
+trace_fault_line (traces.Length line) = trace_line (codes "Length") line
+trace_fault_line traces.Read = plain_line (codes "the trace could not be read")
+trace_fault_line traces.Write = plain_line (codes "the report could not be written")
+trace_fault_line traces.Memory = plain_line (codes "out of memory")
+trace_fault_line traces.Room = plain_line (codes "too many shapes")
+
 abbrev pub block_fault_name : BlockFault → Text
 block_fault_name blocks.Empty = codes "Empty"
 block_fault_name blocks.Range = codes "Range"
@@ -103,13 +143,11 @@ run_fault_name runs.Output = codes "Output"
 run_fault_name runs.Trace = codes "Trace"
 run_fault_name runs.Memory = codes "Memory"
 
-abbrev pub usage : Text
-usage = codes "usage: sdv frame INDEX ARG | sdv certify SCRIPT | sdv check SCRIPT CERT | sdv run SCRIPT CERT CARD IMAGE [SCHEDULE] [--in FILE] [--out FILE] | sdv batch KIND REQUESTS | sdv explain SCRIPT | sdv graph SCRIPT | sdv print SCRIPT"
-
 abbrev pub named_line : (words name : Text) → Text
 named_line words name = words ++ (name ++ 10 ∷ [])
 
--- nothing of a failed output, nor of a run that ended in a fault of its script, whose trace says so
+-- nothing of a failed output, nor of a run that ended in a fault of its script, whose trace says so, nor of what an audit
+-- found, which its report says
 abbrev pub fault_line : Fault → Text
 fault_line Usage = plain_line usage
 fault_line (File file) = codes "cannot use " ++ (file.now ++ 10 ∷ [])
@@ -119,9 +157,12 @@ fault_line (Certificate fault) = certificate_line fault
 fault_line (Refused fault) = refusal_line fault
 fault_line (Uncertified fault) = uncertified_line fault
 fault_line (Unserved fault) = named_line (codes "refused ") (block_fault_name fault)
+fault_line (Wide part) = wide_line part
+fault_line (Trace fault) = trace_fault_line fault
 fault_line (Card fault) = named_line (codes "card fault ") (sim_fault_name fault)
 fault_line (Run fault) = named_line (codes "run fault ") (run_fault_name fault)
 fault_line Named = []
+fault_line Found = []
 fault_line Output = []
 fault_line Memory = plain_line (codes "out of memory")
 
@@ -129,7 +170,7 @@ fault_line Memory = plain_line (codes "out of memory")
 abbrev pub Says : Fault → (before after : Option (List ℕ)) → Type 0
 Says fault before after = Appends before after (fault_line fault) ⊎ AppendsPart before after (fault_line fault)
 
--- THE STATUS: 1 for a refusal and for a run that did not end in `done`, 2 for words, files and output that cannot be
+-- THE STATUS: 1 for a refusal, for a run that did not end in `done` and for what an audit found, 2 for words, files and output that cannot be
 -- used, 3 for want of memory
 
 abbrev pub status_of : Fault → ℕ
@@ -140,18 +181,21 @@ status_of (Certificate fault) = 1
 status_of (Refused fault) = 1
 status_of (Uncertified fault) = 1
 status_of (Unserved fault) = 1
+status_of (Wide part) = 1
+status_of (Trace fault) = 1
 status_of (Card fault) = 1
 status_of (Run fault) = 1
 status_of Named = 1
+status_of Found = 1
 status_of Output = 2
 status_of Memory = 3
 
 -- WHERE FAULTS COME FROM
 
--- words that are no line
-abbrev pub fault_of_line : LineFault → Fault
-fault_of_line lines.Usage = Usage
-fault_of_line lines.Memory = Memory
+-- words that are no request
+abbrev pub fault_of_request : RequestFault → Fault
+fault_of_request requests.Usage = Usage
+fault_of_request requests.Memory = Memory
 
 -- words that could not be read
 abbrev pub fault_of_words : ErrorKind → Fault
@@ -180,6 +224,19 @@ abbrev pub fault_of_explain : ExplainFault → Fault
 fault_of_explain (explains.Script fault) = Script fault
 fault_of_explain explains.TooMany = Uncertified certifies.TooMany
 fault_of_explain explains.Memory = Memory
+
+-- why no table of a script is printed
+abbrev pub fault_of_emit : EmitFault → Fault
+fault_of_emit emits.Name = Usage
+fault_of_emit (emits.Verify fault) = fault_of_verify fault
+fault_of_emit (emits.Wide part) = Wide part
+fault_of_emit emits.Memory = Memory
+
+-- traces that are not audited to their end
+abbrev pub fault_of_trace : TraceFault → Fault
+fault_of_trace traces.Write = Output
+fault_of_trace traces.Memory = Memory
+fault_of_trace fault = Trace fault
 
 -- requests that no script serves
 abbrev pub fault_of_block : BlockFault → Fault

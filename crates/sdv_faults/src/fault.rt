@@ -4,18 +4,23 @@ ghost use Rattle.std.specs.Int.{w64, to_be_bytes};
 ghost use Rattle.hex.specs.Hex.{encode_lower};
 ghost use Rattle.sdv_text.specs.Written.{Writes};
 ghost use Rattle.sdv_faults.specs.Fault.{Says, certificate_line, fault_line, illegal_line, kind_name, numbered_line, plain_line};
-ghost use Rattle.sdv_faults.specs.Fault.{block_fault_name, named_line, refusal_line, run_fault_name, sim_fault_name, status_of, uncertified_line};
+ghost use Rattle.sdv_faults.specs.Fault.{block_fault_name, named_line, refusal_line, run_fault_name, sim_fault_name, status_of};
+ghost use Rattle.sdv_faults.specs.Fault.{line_fault_name, trace_fault_line, trace_line, uncertified_line, wide_line};
 
 use itoa::Buffer;
+use sdv_audit::LineFault;
+use sdv_audit_report::TraceFault;
 use sdv_block::BlockFault;
 use sdv_card::Shape;
 use sdv_certify::CertifyFault;
 use sdv_check::{CertFault, CheckFault, VerifyFault};
+use sdv_command_line::{RequestFault, usage};
+use sdv_emit::EmitFault;
 use sdv_explain::ExplainFault;
-use sdv_line::{LineFault, USAGE};
 use sdv_run::RunFault;
 use sdv_script::{FaultKind, ScriptFault};
 use sdv_sim::SimFault;
+use sdv_table::Part;
 use sdv_text::write_texts;
 use std::alloc::AllocError;
 use std::io::{self, Write};
@@ -23,7 +28,7 @@ use std::io::{self, Write};
 /// Why the program ends without its answer.
 #[derive(Clone, Copy, Debug, PartialEq, Eq)]
 pub enum Fault<'a> {
-    /// The words are no line of the program, or one of them is no number in its range.
+    /// The words are no request of the program, or one of them is no number in its range.
     Usage,
     /// The file with this name cannot be opened or read, does not end, or is not UTF-8.
     File(&'a str),
@@ -37,27 +42,33 @@ pub enum Fault<'a> {
     Uncertified(CertifyFault),
     /// There is no script that serves the requests.
     Unserved(BlockFault),
+    /// This part of the script has no room in a table.
+    Wide(Part),
+    /// A text is no trace, or an audit does not reach its end.
+    Trace(TraceFault),
     /// There is no simulated card by the description, the schedule and the image.
     Card(SimFault),
     /// The run of a script stopped before its end.
     Run(RunFault),
     /// The run of a script ended in a fault that the script names; its trace says so.
     Named,
+    /// An audit found something; its report says what.
+    Found,
     /// Standard output took not all of the answer.
     Output,
     /// Memory ran out.
     Memory,
 }
 
-impl<'a> From<LineFault> for Fault<'a> {
-    ghost use Rattle.sdv_faults.specs.Fault.{fault_of_line};
+impl<'a> From<RequestFault> for Fault<'a> {
+    ghost use Rattle.sdv_faults.specs.Fault.{fault_of_request};
 
-    ghost from_gives = { λ fault f. f ≡ fault_of_line fault };
+    ghost from_gives = { λ fault f. f ≡ fault_of_request fault };
 
-    fn from(fault: LineFault) -> Fault<'a> {
+    fn from(fault: RequestFault) -> Fault<'a> {
         match fault {
-            LineFault::Usage => Fault::Usage,
-            LineFault::Memory => Fault::Memory,
+            RequestFault::Usage => Fault::Usage,
+            RequestFault::Memory => Fault::Memory,
         }
     }
 }
@@ -113,6 +124,35 @@ impl<'a> From<ExplainFault> for Fault<'a> {
             ExplainFault::Script(fault) => Fault::Script(fault),
             ExplainFault::TooMany => Fault::Uncertified(CertifyFault::TooMany),
             ExplainFault::Memory => Fault::Memory,
+        }
+    }
+}
+
+impl<'a> From<EmitFault> for Fault<'a> {
+    ghost use Rattle.sdv_faults.specs.Fault.{fault_of_emit};
+
+    ghost from_gives = { λ fault f. f ≡ fault_of_emit fault };
+
+    fn from(fault: EmitFault) -> Fault<'a> {
+        match fault {
+            EmitFault::Name => Fault::Usage,
+            EmitFault::Verify(fault) => Fault::from(fault),
+            EmitFault::Wide(part) => Fault::Wide(part),
+            EmitFault::Memory => Fault::Memory,
+        }
+    }
+}
+
+impl<'a> From<TraceFault> for Fault<'a> {
+    ghost use Rattle.sdv_faults.specs.Fault.{fault_of_trace};
+
+    ghost from_gives = { λ fault f. f ≡ fault_of_trace fault };
+
+    fn from(fault: TraceFault) -> Fault<'a> {
+        match fault {
+            TraceFault::Write => Fault::Output,
+            TraceFault::Memory => Fault::Memory,
+            _ => Fault::Trace(fault),
         }
     }
 }
@@ -174,13 +214,16 @@ impl<'a> Fault<'a> {
         match self {
             Fault::Script(_) | Fault::Certificate(_) | Fault::Refused(_) | Fault::Uncertified(_) =>
                 1,
-            Fault::Unserved(_) | Fault::Card(_) | Fault::Run(_) | Fault::Named => 1,
+            Fault::Unserved(_) | Fault::Wide(_) | Fault::Card(_) | Fault::Run(_) | Fault::Named =>
+                1,
+            Fault::Trace(_) | Fault::Found => 1,
             Fault::Usage | Fault::File(_) | Fault::Output => 2,
             Fault::Memory => 3,
         }
     }
 
-    /// Says on a line what is wrong, but nothing of a failed output, nor of a fault that the trace of a run says.
+    /// Says on a line what is wrong, but nothing of a failed output, nor of a fault that the trace of a run says, nor of what
+    /// an audit found.
     ///
     /// # Errors
     ///
@@ -189,16 +232,18 @@ impl<'a> Fault<'a> {
         ensures { Writes (E.contents err.old) (E.contents err.new) result (fault_line self.entry) }
     {
         match self {
-            Fault::Usage => say_plain(USAGE, err),
+            Fault::Usage => say_plain(usage(), err),
             Fault::File(file) => write_texts(err, &[b"cannot use ", file.as_bytes(), b"\n"]),
             Fault::Script(fault) => say_script(fault, err),
             Fault::Certificate(fault) => say_certificate(fault, err),
             Fault::Refused(fault) => say_refusal(fault, err),
             Fault::Uncertified(fault) => say_uncertified(fault, err),
             Fault::Unserved(fault) => say_named("refused ", block_fault_name(fault), err),
+            Fault::Wide(part) => say_wide(part, err),
+            Fault::Trace(fault) => say_trace(fault, err),
             Fault::Card(fault) => say_named("card fault ", sim_fault_name(fault), err),
             Fault::Run(fault) => say_named("run fault ", run_fault_name(fault), err),
-            Fault::Named | Fault::Output => Ok(()),
+            Fault::Named | Fault::Found | Fault::Output => Ok(()),
             Fault::Memory => say_plain("out of memory", err),
         }
     }
@@ -227,6 +272,20 @@ fn kind_name(kind: FaultKind) -> &'static str
         FaultKind::Limit => "Limit",
         FaultKind::NoEnd => "NoEnd",
         FaultKind::Memory => "Memory",
+    }
+}
+
+fn line_fault_name(fault: LineFault) -> &'static str
+    ensures { result.now ≡ line_fault_name fault }
+{
+    match fault {
+        LineFault::Word => "Word",
+        LineFault::Index => "Index",
+        LineFault::Argument => "Argument",
+        LineFault::Answer => "Answer",
+        LineFault::Count => "Count",
+        LineFault::End => "End",
+        LineFault::Lines => "Lines",
     }
 }
 
@@ -347,6 +406,42 @@ fn say_uncertified<E: Write>(fault: CertifyFault, err: &mut E) -> io::Result<()>
         ),
         CertifyFault::TooMany => say_plain("refused TooMany", err),
         CertifyFault::Memory => say_plain("refused Memory", err),
+    }
+}
+
+fn say_wide<E: Write>(part: Part, err: &mut E) -> io::Result<()>
+    ensures { Writes (E.contents err.old) (E.contents err.new) result (wide_line part) }
+{
+    match part {
+        Part::Numbers => say_plain("refused Wide numbers", err),
+        Part::Flags => say_plain("refused Wide flags", err),
+        Part::Points => say_plain("refused Wide points", err),
+        Part::Moves => say_plain("refused Wide moves", err),
+        Part::First => say_plain("refused Wide start", err),
+        Part::Point(point) => say_number("refused Wide point ", point as u64, err),
+        Part::Words => say_plain("refused Wide words", err),
+    }
+}
+
+fn say_trace_line<E: Write>(name: &str, line: u64, err: &mut E) -> io::Result<()>
+    ensures { Writes (E.contents err.old) (E.contents err.new) result (trace_line name.now line) }
+{
+    let mut digits = Buffer::new();
+    let name = name.as_bytes();
+    let line = digits.format(line).as_bytes();
+    write_texts(err, &[b"trace fault ", name, b" line ", line, b"\n"])
+}
+
+fn say_trace<E: Write>(fault: TraceFault, err: &mut E) -> io::Result<()>
+    ensures { Writes (E.contents err.old) (E.contents err.new) result (trace_fault_line fault) }
+{
+    match fault {
+        TraceFault::Line { fault, line } => say_trace_line(line_fault_name(fault), line, err),
+        TraceFault::Length { line } => say_trace_line("Length", line, err),
+        TraceFault::Read => say_plain("the trace could not be read", err),
+        TraceFault::Write => say_plain("the report could not be written", err),
+        TraceFault::Memory => say_plain("out of memory", err),
+        TraceFault::Room => say_plain("too many shapes", err),
     }
 }
 

@@ -6,8 +6,8 @@ use Rattle.std.specs.declared.string.String.{String}
 use Rattle.std.specs.Borrow.{Bor}
 use Rattle.std.specs.List.{AllByRecursion}
 use Rattle.clap.specs.Words.{Text}
-use Rattle.sdv_line.specs.CommandLine.{RunNames}
-use Rattle.sdv_faults.specs.Files.{CardImage, Files}
+use Rattle.sdv_command_line.specs.Requests.{RunNames}
+use Rattle.sdv_files.specs.Files.{CardImage, Files}
 use Rattle.sdv_run_command.specs.Run.{AreGiven, CannotBeUsed, FileUse, GivesImage, GivesInput, GivesSchedule, IsOptional, IsUnread, IsUnusable, IsUsed}
 use Rattle.sdv_run_command.specs.Run.{as_image, as_input, as_output, as_schedule, as_text, name_of, some_use, uses_of}
 use Rattle.sdv_faults.specs.declared.fault.Fault.{Fault}
@@ -22,13 +22,43 @@ module _ (files : Files) where
   schedule_gave None codes given = tt
   schedule_gave (Some file) codes given = ((codes, given), tt)
 
-  input_gave : (name : Option Text) (bytes : List ℕ) → GivesInput files name bytes → AllByRecursion (IsUsed files) (some_use as_input name)
+  pub input_gave : (name : Option Text) (bytes : List ℕ) → GivesInput files name bytes → AllByRecursion (IsUsed files) (some_use as_input name)
   input_gave None bytes given = tt
   input_gave (Some file) bytes given = ((bytes, given), tt)
 
-  both_used : (xs ys : List FileUse) → AllByRecursion (IsUsed files) xs → AllByRecursion (IsUsed files) ys → AllByRecursion (IsUsed files) (xs ++ ys)
+  pub both_used : (xs ys : List FileUse) → AllByRecursion (IsUsed files) xs → AllByRecursion (IsUsed files) ys → AllByRecursion (IsUsed files) (xs ++ ys)
   both_used [] ys front back = back
   both_used (x ∷ xs) ys front back = (front.0, both_used xs ys front.1 back)
+
+  module _ (uses : List FileUse) where
+    -- what a fault at this use says
+    pub unread : {T : Type 0} (wanted : FileUse) (file : Bor Text) → name_of wanted ≡ file.now → (earlier later : List FileUse)
+        → uses ≡ earlier ++ wanted ∷ later → AllByRecursion (IsUsed files) earlier
+        → (fault : Fault) → (fault ≡ File file) ⊎ (fault ≡ Memory) → (fault ≡ File file → CannotBeUsed files wanted)
+        → (r : Result T Fault) → IsErrAnd r (λ f. f ≡ fault) → IfErr r (IsUnread files uses)
+    unread wanted file is_file earlier later place used fault why failed (Ok x) is = absurd is
+    unread wanted file is_file earlier later place used fault (inl unusable) failed (Err f) is =
+        rw (is, unusable)
+        (record { wanted = wanted; is_file = is_file; earlier = earlier; later = later; place = place; used = used; failed = failed unusable })
+    unread wanted file is_file earlier later place used fault (inr memory) failed (Err f) is = rw (is, memory) tt
+
+    module _ (to : Text → FileUse) (is_file : (file : Text) → name_of (to file) ≡ file) (unusable : Text → Type 0)
+        (failed : (file : Text) → unusable file → CannotBeUsed files (to file)) where
+      pub optional_unread : {T : Type 0} (name : Option (Bor Text)) (earlier later : List FileUse)
+          → ((file : Bor Text) → name ≡ Some file → uses ≡ earlier ++ to file.now ∷ later) → AllByRecursion (IsUsed files) earlier
+          → (fault : Fault) → IsOptional unusable name fault → (r : Result T Fault) → IsErrAnd r (λ f. f ≡ fault) → IfErr r (IsUnread files uses)
+      optional_unread name earlier later place used fault why (Ok x) is = absurd is
+      optional_unread name earlier later place used fault (inl at) (Err f) is =
+          rw (is, at.2) (record {
+            wanted = to at.0.now;
+            is_file = is_file at.0.now;
+            earlier = earlier;
+            later = later;
+            place = place at.0 at.1;
+            used = used;
+            failed = failed at.0.now at.3;
+          })
+      optional_unread name earlier later place used fault (inr memory) (Err f) is = rw (is, memory) tt
 
   module _ (names : RunNames) where
     abbrev pub four : List FileUse → List FileUse
@@ -52,38 +82,9 @@ module _ (files : Files) where
     output_place (Some first) None output file is = rw is refl
     output_place (Some first) (Some second) output file is = rw is refl
 
-    -- what a fault at this use says
-    pub unread : {T : Type 0} (wanted : FileUse) (file : Bor Text) → name_of wanted ≡ file.now → (earlier later : List FileUse)
-        → uses_of names ≡ earlier ++ wanted ∷ later → AllByRecursion (IsUsed files) earlier
-        → (fault : Fault) → (fault ≡ File file) ⊎ (fault ≡ Memory) → (fault ≡ File file → CannotBeUsed files wanted)
-        → (r : Result T Fault) → IsErrAnd r (λ f. f ≡ fault) → IfErr r (IsUnread files names)
-    unread wanted file is_file earlier later place used fault why failed (Ok x) is = absurd is
-    unread wanted file is_file earlier later place used fault (inl unusable) failed (Err f) is =
-        rw (is, unusable)
-        (record { wanted = wanted; is_file = is_file; earlier = earlier; later = later; place = place; used = used; failed = failed unusable })
-    unread wanted file is_file earlier later place used fault (inr memory) failed (Err f) is = rw (is, memory) tt
-
-    module _ (to : Text → FileUse) (is_file : (file : Text) → name_of (to file) ≡ file) (unusable : Text → Type 0)
-        (failed : (file : Text) → unusable file → CannotBeUsed files (to file)) where
-      pub optional_unread : {T : Type 0} (name : Option (Bor Text)) (earlier later : List FileUse)
-          → ((file : Bor Text) → name ≡ Some file → uses_of names ≡ earlier ++ to file.now ∷ later) → AllByRecursion (IsUsed files) earlier
-          → (fault : Fault) → IsOptional unusable name fault → (r : Result T Fault) → IsErrAnd r (λ f. f ≡ fault) → IfErr r (IsUnread files names)
-      optional_unread name earlier later place used fault why (Ok x) is = absurd is
-      optional_unread name earlier later place used fault (inl at) (Err f) is =
-          rw (is, at.2) (record {
-            wanted = to at.0.now;
-            is_file = is_file at.0.now;
-            earlier = earlier;
-            later = later;
-            place = place at.0 at.1;
-            used = used;
-            failed = failed at.0.now at.3;
-          })
-      optional_unread name earlier later place used fault (inr memory) (Err f) is = rw (is, memory) tt
-
     -- a file of the output that cannot be made or emptied
     pub output_unusable : (given : Given) (image : CardImage) (file : Text) → AreGiven files names given image → names.output ≡ Some file
-        → files.uncreated file → IsUnusable files names file
+        → files.uncreated file → IsUnusable files (uses_of names) file
     output_unusable given image file are is uncreated = record {
       wanted = as_output file;
       is_file = refl;

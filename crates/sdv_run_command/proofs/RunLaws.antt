@@ -1,6 +1,6 @@
 -- What a run is given and what it leaves.
 use Rattle.std.proofs.Common.{arith, ◌≡◌, ◌⊎◌, refl, ap, subst, sym, inl, inr, Some, None, IfSome, OnOk, ℕ, zero, suc, List, ◌∷◌, take, drop, Option, Result, Ok, Err, IfErr, IsErrAnd, ◌/◌}
-use Rattle.std.specs.Prelude.{string_bytes}
+use Rattle.std.specs.Prelude.{◌≢◌, string_bytes}
 use Rattle.std.specs.Simd.{first_chunks}
 use Rattle.std.specs.Borrow.{Bor}
 use Rattle.std.specs.Option.{ok_or}
@@ -27,17 +27,18 @@ use Rattle.sdv_sim.specs.Made.{IsMade, IsRefused, IsUnread}
 use Rattle.sdv_controller.specs.declared.controller.Controller.{Controller}
 use Rattle.sdv_controller.specs.Controlled.{ControllerSteps, wire_of}
 use Rattle.sdv_graph.specs.Graph.{Graph}
-use Rattle.sdv_run.specs.declared.end.End.{End}
-use Rattle.sdv_run.specs.declared.end.End.TheVariants.{Done, Fault as Ended}
+use Rattle.sdv_trace.specs.declared.end.End.{End}
+use Rattle.sdv_trace.specs.declared.end.End.TheVariants.{Done, Fault as Ended}
 use Rattle.sdv_run.specs.declared.fault.RunFault.{RunFault}
 use Rattle.sdv_run.specs.declared.fault.RunFault.TheVariants as runs
 use Rattle.sdv_run.specs.Run.{received}
 use Rattle.sdv_run.specs.Step.{World}
 use Rattle.sdv_run.specs.OnCard.{RanBeside}
 use Rattle.sdv_faults.specs.Fault.{fault_of_card}
-use Rattle.sdv_line.specs.CommandLine.{RunNames}
-use Rattle.sdv_faults.specs.Files.{CardImage, Files}
-use Rattle.sdv_run_command.specs.Run.{AreGiven, EndsRun, FailsToKeep, HasNoCard, IsKept, IsLost, IsOfFile, IsUnreadable, LosesImage, Receives, RefusesRun, RunFails, StopsRun, answer_of}
+use Rattle.sdv_command_line.specs.Requests.{RunNames}
+use Rattle.sdv_files.specs.Files.{CardImage, Files}
+use Rattle.sdv_files.specs.Outcomes.{outcome_of}
+use Rattle.sdv_run_command.specs.Run.{AreGiven, EndsRun, FailsToKeep, HasNoCard, IsKept, IsLost, IsOfFile, IsUnreadable, LosesImage, Receives, RefusesRun, RunEnds, RunFails, StopsRun, answer_of}
 use Rattle.sdv_faults.specs.declared.fault.Fault.{Fault}
 use Rattle.sdv_faults.specs.declared.fault.Fault.TheVariants.{File, Script, Certificate, Refused, Card, Memory as NoMemory}
 use Rattle.sdv_run_command.specs.declared.given.Given.{Given}
@@ -45,32 +46,42 @@ use Rattle.sdv_run_command.specs.RunImages.{MayHaveFailed}
 use Rattle.sdv_run_command.proofs.GivenLaws.{output_unusable}
 use Rattle.sdv_run_command.proofs.TakenLaws.{taken}
 use Rattle.sdv_run_command.proofs.RunMaps.{seen, seen_run, seen_step}
-use Rattle.sdv_faults.proofs.StartLaws.{keeps_same}
+use Rattle.sdv_files.proofs.StartLaws.{keeps_same}
 
 -- chunks of 512 bytes are blocks
 pub chunks_are_blocks : (n : ℕ) (bytes : List ℕ) → first_chunks 512 n bytes ≡ blocks_in n bytes
 chunks_are_blocks zero bytes = refl
 chunks_are_blocks (suc n) bytes = ap (λ blocks. take 512 bytes ∷ blocks) (chunks_are_blocks n (drop 512 bytes))
 
+-- there is no card
+abbrev pub NoCard : (description : Text) → (codes : List ℕ) → CardImage → (unread : Type 0) → SimFault → Type 0
+NoCard description codes image unread fault = fault ≢ Memory → HasNoCard description codes image unread fault
+
+module _ {T : Type 0} (description : Text) (codes : List ℕ) (image : CardImage) (unread : Type 0) where
+  pub no_card : (fault : SimFault) (r : Result T SimFault) → NoCard description codes image unread fault → IsErrAnd r (λ f. f ≡ fault)
+      → IfErr r (NoCard description codes image unread)
+  no_card fault (Ok x) has is = absurd is
+  no_card fault (Err f) has is = rw is has
+
+  -- nor an image
+  pub no_image : (desc : CardDesc) → Describes description desc → (fault : SimFault) → IsNoImage image.bytes fault
+      → (r : Result T SimFault) → IsErrAnd r (λ f. f ≡ fault)
+      → IfErr r (NoCard description codes image unread)
+  no_image desc described ImageLength other r is = no_card ImageLength r (λ _. inr (inl (desc, described, other, refl))) is
+  no_image desc described Memory other r is = no_card Memory r (λ differs. absurd (differs refl)) is
+  no_image desc described fault other r is = absurd other
+
 -- a script is accepted, and there is no card
 module _ {T : Type 0} (given : Given) (image : CardImage) (unread : Type 0) (a : Acceptance)
     (accepted : IsAccepted (string_bytes given.script) (string_bytes given.certificate) a) where
-  pub refused_card : (fault : SimFault) (r : Result T Fault) → HasNoCard given image unread fault → IsErrAnd r (λ f. f ≡ fault_of_card fault)
-      → IfErr r (RefusesRun given image unread)
+  pub refused_card : (fault : SimFault) (r : Result T Fault) → NoCard (string_bytes given.card) given.codes.items image unread fault
+      → IsErrAnd r (λ f. f ≡ fault_of_card fault) → IfErr r (RefusesRun given image unread)
   refused_card fault (Ok x) has is = absurd is
   refused_card Memory (Err f) has is = rw is tt
-  refused_card Description (Err f) has is = rw is ((a, accepted), has)
-  refused_card Capacity (Err f) has is = rw is ((a, accepted), has)
-  refused_card ImageLength (Err f) has is = rw is ((a, accepted), has)
-  refused_card ImageRead (Err f) has is = rw is ((a, accepted), has)
-
-  -- or there is no image
-  pub no_image : (desc : CardDesc) → Describes (string_bytes given.card) desc → (fault : SimFault) → IsNoImage image.bytes fault
-      → (r : Result T Fault) → IsErrAnd r (λ f. f ≡ fault_of_card fault) → IfErr r (RefusesRun given image unread)
-  no_image desc described ImageLength other r is = refused_card ImageLength r (inr (inl (desc, described, other, refl))) is
-  no_image desc described Memory other (Ok x) is = absurd is
-  no_image desc described Memory other (Err f) is = rw is tt
-  no_image desc described fault other r is = absurd other
+  refused_card Description (Err f) has is = rw is ((a, accepted), has (λ same. absurd (cc same)))
+  refused_card Capacity (Err f) has is = rw is ((a, accepted), has (λ same. absurd (cc same)))
+  refused_card ImageLength (Err f) has is = rw is ((a, accepted), has (λ same. absurd (cc same)))
+  refused_card ImageRead (Err f) has is = rw is ((a, accepted), has (λ same. absurd (cc same)))
 
 -- the port of a run, as its steps see it
 module _ {I : Type 0} {images : Ghosts I} where
@@ -112,17 +123,18 @@ module _ (U V : Type 0) (more : U → V) where
   refused_so codes size capacity Memory refused = refused
   refused_so codes size capacity Capacity refused = refused
 
-  no_card_so : (given : Given) (image : CardImage) (fault : SimFault) → HasNoCard given image U fault → HasNoCard given image V fault
-  no_card_so given image fault (inl none) = inl none
-  no_card_so given image fault (inr (inl other)) = inr (inl other)
-  no_card_so given image fault (inr (inr refused)) =
-      inr (inr (refused.0, refused.1, refused.2, refused_so given.codes.items (image.bytes / 512) (image_size refused.0) fault refused.3))
+  pub no_card_so : (description : Text) (codes : List ℕ) (image : CardImage) (fault : SimFault) → HasNoCard description codes image U fault
+      → HasNoCard description codes image V fault
+  no_card_so description codes image fault (inl none) = inl none
+  no_card_so description codes image fault (inr (inl other)) = inr (inl other)
+  no_card_so description codes image fault (inr (inr refused)) =
+      inr (inr (refused.0, refused.1, refused.2, refused_so codes (image.bytes / 512) (image_size refused.0) fault refused.3))
 
   refuses_so : (given : Given) (image : CardImage) (fault : Fault) → RefusesRun given image U fault → RefusesRun given image V fault
   refuses_so given image (Script fault) refuses = refuses
   refuses_so given image (Certificate fault) refuses = refuses
   refuses_so given image (Refused fault) refuses = refuses
-  refuses_so given image (Card fault) refuses = (refuses.0, no_card_so given image fault refuses.1)
+  refuses_so given image (Card fault) refuses = (refuses.0, no_card_so (string_bytes given.card) given.codes.items image fault refuses.1)
   refuses_so given image NoMemory refuses = refuses
   refuses_so given image _ refuses = absurd refuses
 
@@ -246,3 +258,15 @@ module _ (files : Files) (names : RunNames) (given : Given) (image : CardImage) 
     ended_fails (Err runs.Output) r is kept = rw is (stops runs.Output (λ same. absurd (cc same)) kept)
     ended_fails (Err runs.Trace) r is kept = rw is (stops runs.Trace (λ same. absurd (cc same)) kept)
     ended_fails (Err runs.Memory) r is kept = rw is (unmoved kept)
+
+-- THE COMMAND, by the answer of its function
+module _ (files : Files) (names : RunNames) (trace trace' : Option (List ℕ)) where
+  pub run_ends : (r : Result (Unit {0}) Fault) → OnOk r (EndsRun files names Done trace trace') → IfErr r (λ fault. RunFails files names fault trace trace')
+      → RunEnds files names (outcome_of r) trace trace'
+  run_ends (Ok u) done fails = done
+  run_ends (Err fault) done fails = fails
+
+  pub run_fails : (fault : Fault) (r : Result (Unit {0}) Fault) → IsErrAnd r (λ f. f ≡ fault) → IfErr r (λ fault. RunFails files names fault trace trace')
+      → RunEnds files names (outcome_of r) trace trace'
+  run_fails fault (Ok u) is fails = absurd is
+  run_fails fault (Err f) is fails = fails

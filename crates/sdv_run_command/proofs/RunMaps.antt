@@ -9,7 +9,7 @@ use Rattle.sdv_graph.specs.Graph.{Graph}
 use Rattle.sdv_graph.specs.Walk.{Pair, Ending}
 use Rattle.sdv_controller.specs.Controlled.{ControllerSteps}
 use Rattle.sdv_controller.specs.Wire.{WireCall, WireReturn}
-use Rattle.sdv_run.specs.declared.end.End.{End}
+use Rattle.sdv_trace.specs.declared.end.End.{End}
 use Rattle.sdv_run.specs.declared.fault.RunFault.{RunFault}
 use Rattle.sdv_run.specs.declared.fault.RunFault.TheVariants.{Reply, Input, Output, Trace, Memory}
 use Rattle.sdv_run.specs.Run.{Steps, RunMoved}
@@ -17,12 +17,14 @@ use Rattle.sdv_run.specs.Ran.{Because, Ended, Happened, Stopped}
 use Rattle.sdv_run.specs.Step.{World}
 use Rattle.sdv_run.specs.OnCard.{OnCard, RanBeside, ShowsStart}
 
-module _ {S T : Type 0} (f : S → T) where
-  abbrev pub seen : World S → World T
-  seen w = record { port = f w.port; input = w.input; out = w.out; trace = w.trace }
+-- why a run stopped says nothing of its port, but that it is as it was where nothing happened
+module _ {S T : Type 0} (t t' : T) where
+  abbrev at_port : T → World S → World T
+  at_port port w = record { port = port; input = w.input; out = w.out; trace = w.trace }
 
-  seen_because : (fault : RunFault) (g : Graph) (es : List Pair) (w w' : World S) → Because fault g es w w' → Because fault g es (seen w) (seen w')
-  seen_because Reply g es w w' (inl refused) = inl (record {
+  pub moved_because : (fault : RunFault) (g : Graph) (es : List Pair) (w w' : World S) → (es ≡ [] → w' ≡ w → t' ≡ t) → Because fault g es w w'
+      → Because fault g es (at_port t w) (at_port t' w')
+  moved_because Reply g es w w' still (inl refused) = inl (record {
     earlier = refused.earlier;
     ask = refused.ask;
     position = refused.position;
@@ -32,7 +34,7 @@ module _ {S T : Type 0} (f : S → T) where
     refused = refused.refused;
     written = record { output = refused.written.output; trace = refused.written.trace };
   })
-  seen_because Reply g es w w' (inr wide) = inr (record {
+  moved_because Reply g es w w' still (inr wide) = inr (record {
     ask = wide.ask;
     position = wide.position;
     argument = wide.argument;
@@ -40,14 +42,14 @@ module _ {S T : Type 0} (f : S → T) where
     next = wide.next;
     written = record { output = wide.written.output; trace = wide.written.trace };
   })
-  seen_because Input g es w w' short = record {
+  moved_because Input g es w w' still short = record {
     width = short.width;
     count = short.count;
     short = short.short;
     next = short.next;
     written = record { output = short.written.output; trace = short.written.trace };
   }
-  seen_because Output g es w w' broken = record {
+  moved_because Output g es w w' still broken = record {
     earlier = broken.earlier;
     width = broken.width;
     blocks = broken.blocks;
@@ -55,7 +57,7 @@ module _ {S T : Type 0} (f : S → T) where
     output = broken.output;
     trace = broken.trace;
   }
-  seen_because Trace g es w w' (inl broken) = inl (record {
+  moved_because Trace g es w w' still (inl broken) = inl (record {
     earlier = broken.earlier;
     event = broken.event;
     returned = broken.returned;
@@ -63,8 +65,20 @@ module _ {S T : Type 0} (f : S → T) where
     output = broken.output;
     trace = broken.trace;
   })
-  seen_because Trace g es w w' (inr broken) = inr (record { end = broken.end; walk = broken.walk; output = broken.output; trace = broken.trace })
-  seen_because Memory g es w w' nothing = record { none = nothing.none; same = ap seen nothing.same }
+  moved_because Trace g es w w' still (inr broken) =
+      inr (record { end = broken.end; walk = broken.walk; output = broken.output; trace = broken.trace })
+  moved_because Memory g es w w' still nothing = record {
+    none = nothing.none;
+    same = ap (λ port. at_port port w') (still nothing.none nothing.same) ∙ ap (at_port t) nothing.same;
+  }
+
+module _ {S T : Type 0} (f : S → T) where
+  abbrev pub seen : World S → World T
+  seen w = record { port = f w.port; input = w.input; out = w.out; trace = w.trace }
+
+  seen_because : (fault : RunFault) (g : Graph) (es : List Pair) (w w' : World S) → Because fault g es w w' → Because fault g es (seen w) (seen w')
+  seen_because fault g es w w' because =
+      moved_because (f w.port) (f w'.port) fault g es w w' (λ none same. ap (λ v. f v.port) same) because
 
 module _ {S T : Type 0} (f : S → T) (steps : Steps S) (steps' : Steps T)
     (step : (s : S) (c : Call) (r : Return) (s' : S) → steps s c r s' → steps' (f s) c r (f s')) where

@@ -14,7 +14,7 @@ use Rattle.sdv_run.specs.Run.{received}
 use Rattle.sdv_run.specs.Ran.{AnswerIsRefused, Because, OutputBrokeOff}
 use Rattle.sdv_run.specs.Step.{World}
 use Rattle.sdv_run.proofs.Made.{received_more}
-use Rattle.sdv_faults.specs.Files.{Files}
+use Rattle.sdv_files.specs.Files.{Files}
 use Rattle.sdv_run_command.specs.Run.{Receives, ReceivesFront, ReceivesUntil}
 
 module _ {S : Type 0} (files : Files) (output : Option Text) (w w' : World S)

@@ -17,8 +17,8 @@ use Rattle.sdv_behavior.specs.SimSteps.{SimState, SimSteps, card_shown}
 use Rattle.sdv_sim.specs.Made.{IsMade, IsRefused}
 use Rattle.sdv_controller.specs.Controlled.{ControllerSteps}
 use Rattle.sdv_check.specs.Verified.{Acceptance, IsAccepted}
-use Rattle.sdv_run.specs.declared.end.End.{End}
-use Rattle.sdv_run.specs.declared.end.End.TheVariants as ends
+use Rattle.sdv_trace.specs.declared.end.End.{End}
+use Rattle.sdv_trace.specs.declared.end.End.TheVariants as ends
 use Rattle.sdv_run.specs.declared.fault.RunFault.{RunFault}
 use Rattle.sdv_run.specs.declared.fault.RunFault.TheVariants as runs
 use Rattle.sdv_run.specs.Run.{received}
@@ -27,9 +27,10 @@ use Rattle.sdv_faults.specs.declared.fault.Fault.{Fault}
 use Rattle.sdv_faults.specs.declared.fault.Fault.TheVariants.{File, Script, Certificate, Refused, Card, Run, Named, Memory}
 use Rattle.sdv_run_command.specs.declared.given.Given.{Given}
 use Rattle.sdv_faults.specs.Refused.{Refuses}
-use Rattle.sdv_line.specs.CommandLine.{RunNames}
+use Rattle.sdv_command_line.specs.Requests.{RunNames}
 use Rattle.sdv_faults.specs.Fault.{fault_of_run}
-use Rattle.sdv_faults.specs.Files.{CardImage, Files, GivesNoText, image_of}
+use Rattle.sdv_files.specs.Files.{CardImage, Files, GivesNoText, image_of}
+use Rattle.sdv_files.specs.Outcomes.{Ending}
 use Rattle.sdv_text.specs.Number.{IsNumber, value_of}
 
 -- SCHEDULES: a digit from 0 to 7 for each event; spaces and ends of lines are nothing, and any other byte is no digit
@@ -92,17 +93,21 @@ pub record AreGiven (files : Files) (names : RunNames) (given : Given) (image : 
 abbrev pub blocks_of : (bytes : List ℕ) → List Block
 blocks_of bytes = blocks_in (length bytes / 512) bytes
 
+-- the card of a description over an image, with the values of a schedule, before its first command
+pub record IsCardOver (description : Text) (codes : List ℕ) (image : CardImage) (card : SimState) : Type 0 where
+  pub desc : CardDesc
+  pub described : Describes description desc
+  pub whole : image.bytes % 512 ≡ 0
+  pub made : IsMade desc codes image.blocks card
+
 -- The script, which was verified with its certificate, ran beside the card of the description over the image, with the
 -- schedule and the input blocks. `blocks'` is what is known of the card's blocks after it.
 pub record IsRun (given : Given) (image : CardImage) (blocks' : Option (List Block)) (result : Result End RunFault)
     (out out' trace trace' : Option (List ℕ)) : Type 0 where
   pub acceptance : Acceptance
   pub accepted : IsAccepted (string_bytes given.script) (string_bytes given.certificate) acceptance
-  pub desc : CardDesc
-  pub described : Describes (string_bytes given.card) desc
-  pub whole : image.bytes % 512 ≡ 0
   pub card : SimState
-  pub made : IsMade desc given.codes.items image.blocks card
+  pub is_card : IsCardOver (string_bytes given.card) given.codes.items image card
   pub card' : SimState
   pub blocks : card'.blocks ≡ blocks'
   pub left : List Block
@@ -112,13 +117,12 @@ pub record IsRun (given : Given) (image : CardImage) (blocks' : Option (List Blo
 
 -- there is no simulated card, for this reason: that of the description, of the image, or of the schedule beside them,
 -- or that the image was not read
-abbrev pub HasNoCard : Given → CardImage → (unread : Type 0) → SimFault → Type 0
-HasNoCard given image unread fault =
-    IsNoCard (string_bytes given.card) fault
-    ⊎ (((desc : CardDesc) × Describes (string_bytes given.card) desc × (image.bytes % 512 ≢ 0)
-    × (fault ≡ cards.ImageLength))
-    ⊎ ((desc : CardDesc) × Describes (string_bytes given.card) desc × (image.bytes % 512 ≡ 0)
-    × IsRefused given.codes.items (image.bytes / 512) (image_size desc) unread fault))
+abbrev pub HasNoCard : (description : Text) → (codes : List ℕ) → CardImage → (unread : Type 0) → SimFault → Type 0
+HasNoCard description codes image unread fault =
+    IsNoCard description fault
+    ⊎ (((desc : CardDesc) × Describes description desc × (image.bytes % 512 ≢ 0) × (fault ≡ cards.ImageLength))
+    ⊎ ((desc : CardDesc) × Describes description desc × (image.bytes % 512 ≡ 0)
+    × IsRefused codes (image.bytes / 512) (image_size desc) unread fault))
 
 -- why nothing was run; want of memory says nothing
 abbrev pub RefusesRun : Given → CardImage → (unread : Type 0) → Fault → Type 0
@@ -130,7 +134,7 @@ RefusesRun given image unread (Refused fault) =
     Refuses (string_bytes given.script) (string_bytes given.certificate) (Refused fault)
 RefusesRun given image unread (Card fault) =
     ((a : Acceptance) × IsAccepted (string_bytes given.script) (string_bytes given.certificate) a)
-    × HasNoCard given image unread fault
+    × HasNoCard (string_bytes given.card) given.codes.items image unread fault
 RefusesRun given image unread Memory = Unit {0}
 RefusesRun given image unread fault = ⊥
 
@@ -282,20 +286,20 @@ CannotBeUsed files (as_input file) = GivesNoInput files file
 CannotBeUsed files (as_output file) = files.uncreated file
 
 -- The file cannot be used for this, and each use that comes before it was made.
-pub record IsUnusable (files : Files) (names : RunNames) (file : Text) : Type 0 where
+pub record IsUnusable (files : Files) (uses : List FileUse) (file : Text) : Type 0 where
   pub wanted : FileUse
   pub is_file : name_of wanted ≡ file
   pub earlier : List FileUse
   pub later : List FileUse
-  pub place : uses_of names ≡ earlier ++ wanted ∷ later
+  pub place : uses ≡ earlier ++ wanted ∷ later
   pub used : AllByRecursion (IsUsed files) earlier
   pub failed : CannotBeUsed files wanted
 
 -- what a fault says of files that were not all used
-abbrev pub IsUnread : Files → RunNames → Fault → Type 0
-IsUnread files names (File file) = IsUnusable files names file.now
-IsUnread files names Memory = Unit {0}
-IsUnread files names fault = ⊥
+abbrev pub IsUnread : Files → (uses : List FileUse) → Fault → Type 0
+IsUnread files uses (File file) = IsUnusable files uses file.now
+IsUnread files uses Memory = Unit {0}
+IsUnread files uses fault = ⊥
 
 -- a file that need not be there is named, and cannot be used for this reason; or memory ran out
 abbrev pub IsOptional : (unusable : Text → Type 0) → Option (Bor Text) → Fault → Type 0
@@ -305,8 +309,13 @@ IsOptional unusable name fault =
 -- FAULTS: what each says of a run, and of what was printed
 abbrev pub RunFails : Files → RunNames → Fault → (trace trace' : Option (List ℕ)) → Type 0
 RunFails files names (File file) trace trace' =
-    (IsUnusable files names file.now × Keeps trace trace') ⊎ IsNotKept files names file.now trace trace'
+    (IsUnusable files (uses_of names) file.now × Keeps trace trace') ⊎ IsNotKept files names file.now trace trace'
 RunFails files names (Run fault) trace trace' = StopsRun files names fault trace trace'
 RunFails files names Named trace trace' = (end : End) × (end ≢ ends.Done) × EndsRun files names end trace trace'
 RunFails files names Memory trace trace' = Keeps trace trace'
 RunFails files names fault trace trace' = HasNoRun files names fault trace trace'
+
+-- THE COMMAND
+abbrev pub RunEnds : Files → RunNames → Ending
+RunEnds files names None trace trace' = EndsRun files names ends.Done trace trace'
+RunEnds files names (Some fault) trace trace' = RunFails files names fault trace trace'

@@ -3,7 +3,7 @@ use Rattle.std.specs.Prelude.{ℕ, List, Option}
 use Rattle.clap.specs.Words.{Text}
 use Rattle.sdv_card.specs.Card.{Block}
 use Rattle.sdv_image.specs.Images.{HasFailed}
-use Rattle.sdv_faults.specs.Files.{CardImage, Files, SomeCallFailed, image_of}
+use Rattle.sdv_files.specs.Files.{CardImage, Files, SomeCallFailed, image_of}
 use Rattle.sdv_run_command.specs.NewImages.{blocks_of_new, bytes_of_new}
 use Rattle.sdv_run_command.specs.Run.{IsNew, IsOfFile}
 use Rattle.sdv_run_command.specs.declared.given.GivenImage.{GivenImage}

@@ -1,14 +1,15 @@
 //! What a run is given: the texts and bytes of its files.
 ghost use Rattle.std.specs.Prelude.{◌≡◌, ◌⊎◌, ℕ, IfErr, IfOk, MatchOption, option_map};
-ghost use Rattle.sdv_line.specs.CommandLine.{names_of};
+ghost use Rattle.sdv_command_line.specs.Requests.{names_of};
 ghost use Rattle.sdv_run_command.specs.Run.{AreGiven, CannotBeUsed, GivesImage, GivesInput, GivesNoInput, GivesSchedule, as_image};
 ghost use Rattle.sdv_run_command.specs.Run.{IsNew, IsOptional, IsUnread};
-ghost use Rattle.sdv_run_command.specs.Run.{code_of, new_image, schedule_codes};
+ghost use Rattle.sdv_run_command.specs.Run.{code_of, new_image, schedule_codes, uses_of};
 ghost use Rattle.sdv_run_command.specs.RunImages.{IsOfName, image_given};
 
 use crate::new_image::NewImage;
-use sdv_faults::{Fault, Store, bytes_in, text_in};
-use sdv_line::RunFiles;
+use sdv_command_line::RunFiles;
+use sdv_faults::Fault;
+use sdv_files::{Store, bytes_in, text_in};
 use sdv_text::number_of;
 use std::alloc::{AllocError, Global};
 
@@ -60,7 +61,7 @@ pub fn given_by<'a, S: Store>(
         read.0 (image_given S.Image.byte_count S.Image.blocks read.1)) }
     ensures image { IfOk result (λ read. IsOfName S.Image.failed (S.known files.now)
         names.now.image.now read.1) }
-    ensures refused { IfErr result (IsUnread (S.known files.now) (names_of names.now)) }
+    ensures refused { IfErr result (IsUnread (S.known files.now) (uses_of (names_of names.now))) }
 {
     let script = text_in(alloc, files, names.script)?;
     let certificate = text_in(alloc, files, names.certificate)?;
@@ -79,7 +80,7 @@ pub fn given_by<'a, S: Store>(
 }
 
 /// The image of a file, or zeros where the name asks for a new one.
-fn image_in<'a, S: Store>(
+pub fn image_in<'a, S: Store>(
     alloc: Global,
     files: &S,
     name: &'a str,
@@ -110,7 +111,7 @@ pub fn new_blocks(name: &str) -> Option<u32>
 }
 
 /// The values of a schedule; without one there are none.
-fn codes_in<'a, S: Store>(
+pub fn codes_in<'a, S: Store>(
     alloc: Global,
     files: &S,
     name: Option<&'a str>,
@@ -153,7 +154,7 @@ fn code_of(byte: u8) -> u8
 }
 
 /// The bytes of the blocks that the script gives; without a file there are none.
-fn input_in<'a, S: Store>(
+pub fn input_in<'a, S: Store>(
     alloc: Global,
     files: &S,
     name: Option<&'a str>,

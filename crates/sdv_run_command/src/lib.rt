@@ -8,6 +8,6 @@ mod given;
 mod new_image;
 mod run;
 
-pub use given::{Given, GivenImage, codes_of, given_by, new_blocks};
+pub use given::{Given, GivenImage, codes_in, codes_of, given_by, image_in, input_in, new_blocks};
 pub use new_image::NewImage;
-pub use run::{Outcome, run_files, run_given};
+pub use run::{Outcome, card_over, close_image, run_files, run_given};

@@ -1,22 +1,25 @@
 //! `run SCRIPT CERT CARD IMAGE [SCHEDULE] [--in FILE] [--out FILE]`: a verified script beside a simulated card.
-ghost use Rattle.std.specs.Prelude.{◌≡◌, ◌⊎◌, OnOk, IfErr, IfOk};
+ghost use Rattle.std.specs.Prelude.{◌≡◌, ◌≢◌, ◌⊎◌, OnOk, IfErr, IfOk};
 ghost use Rattle.std.specs.Io.KnownBytes.{Keeps};
-ghost use Rattle.sdv_line.specs.CommandLine.{names_of};
+ghost use Rattle.sdv_command_line.specs.Requests.{names_of};
 ghost use Rattle.sdv_file_image.specs.FileImages.{shown_of};
-ghost use Rattle.sdv_faults.specs.Files.{SomeCallFailed, image_of};
-ghost use Rattle.sdv_run_command.specs.Run.{EndsRun, FailsToKeep, IsKept, IsRun, RefusesRun, RunFails, answer_of};
+ghost use Rattle.sdv_files.specs.Files.{SomeCallFailed, image_of};
+ghost use Rattle.sdv_files.specs.Outcomes.{outcome_of};
+ghost use Rattle.sdv_run_command.specs.Run.{FailsToKeep, HasNoCard, IsCardOver, IsKept, IsRun, RefusesRun, RunEnds, answer_of};
 ghost use Rattle.sdv_run_command.specs.RunImages.{IsOfName, MayHaveFailed, image_given};
-ghost use Rattle.sdv_run.specs.declared.end.End.TheVariants.{Done};
+ghost use Rattle.sdv_controller.specs.Controlled.{wire_of};
+ghost use Rattle.sdv_sim.specs.SimOf.{state_of};
 ghost use Rattle.sdv_faults.specs.declared.fault.Fault.{Fault};
 
 use crate::given::{Given, GivenImage, given_by};
 use sdv_check::verify;
+use sdv_command_line::RunFiles;
 use sdv_controller::Controller;
-use sdv_faults::{Fault, Store};
+use sdv_faults::Fault;
 use sdv_file_image::{BlockFile, FileImage};
-use sdv_line::RunFiles;
+use sdv_files::Store;
 use sdv_run::{End, RunFault, run};
-use sdv_sim::{CardDesc, Sim};
+use sdv_sim::{CardDesc, Sim, SimFault};
 use std::alloc::Global;
 use std::io::{self, Write};
 
@@ -47,10 +50,8 @@ pub fn run_files<'a, S: Store, T: Write>(
     names: RunFiles<'a>,
     trace: &mut T,
 ) -> Result<(), Fault<'a>>
-    ensures done { OnOk result (EndsRun (S.known files.now)
-        (names_of names.entry) Done (T.contents trace.old) (T.contents trace.new)) }
-    ensures fails { IfErr result (λ fault. RunFails (S.known files.now)
-        (names_of names.entry) fault (T.contents trace.old) (T.contents trace.new)) }
+    ensures { RunEnds (S.known files.now) (names_of names.entry)
+        (outcome_of result) (T.contents trace.old) (T.contents trace.new) }
 {
     let (given, image) = given_by(alloc, files, &names)?;
     match names.output {
@@ -102,7 +103,7 @@ fn run_kept<'a, S: Store, O: Write, T: Write>(
 /// # Errors
 ///
 /// [`Fault::File`]: a block could not be written back, or the file did not take all that was written.
-fn close_image<'a, S: Store>(
+pub fn close_image<'a, S: Store>(
     files: &S,
     name: &'a str,
     image: FileImage<S::Image>,
@@ -147,14 +148,34 @@ pub fn run_given<F: BlockFile + Drop, O: Write, T: Write>(
     ensures quiet { IfErr result (λ _. Keeps (T.contents trace.old) (T.contents trace.new)) }
 {
     let accepted = verify(alloc, given.script.as_str(), given.certificate.as_str())?;
-    let desc = CardDesc::parse(given.card.as_str())?;
-    let image = FileImage::new(alloc, file)?;
-    let sim = Sim::new(alloc, desc, image, given.codes.as_slice())?;
-    let mut port = Controller::new(sim);
+    let mut port = card_over(alloc, given.card.as_str(), file, given.codes.as_slice())?;
     let (input, _) = given.input.as_slice().as_chunks::<512>();
     let end = run(alloc, &accepted, &mut port, input, out, trace);
     let image = port.into_wire().into_image();
     Ok(Outcome { end, image })
+}
+
+/// The simulated card of a description over the image of a file, with the values of a schedule, behind a controller.
+///
+/// # Errors
+///
+/// Those of [`CardDesc::parse`], [`FileImage::new`] and [`Sim::new`], in this order. The file is dropped then, its blocks
+/// unchanged.
+pub fn card_over<F: BlockFile + Drop>(
+    alloc: Global,
+    description: &str,
+    file: F,
+    codes: &[u8],
+) -> Result<Controller<Sim<FileImage<F>>>, SimFault>
+    ensures made { IfOk result (λ port. IsCardOver description.now codes.now
+        (image_of (F.byte_count file) (F.blocks file)) (state_of (wire_of port))) }
+    ensures refused { IfErr result (λ fault. fault ≢ SimFault.Memory → HasNoCard description.now codes.now
+        (image_of (F.byte_count file) (F.blocks file)) (MayHaveFailed F.failed file) fault) }
+{
+    let desc = CardDesc::parse(description)?;
+    let image = FileImage::new(alloc, file)?;
+    let sim = Sim::new(alloc, desc, image, codes)?;
+    Ok(Controller::new(sim))
 }
 
 /// What the program answers, by how a run came out.

@@ -1,7 +1,7 @@
 use Rattle.std.proofs.Common.{IfErr, refl, subst, sym}
 use Rattle.sdv_file_image.specs.FileImages.{shown_of}
-use Rattle.sdv_line.specs.CommandLine.{names_of}
-use Rattle.sdv_faults.specs.Files.{Files, SomeCallFailed}
+use Rattle.sdv_command_line.specs.Requests.{names_of}
+use Rattle.sdv_files.specs.Files.{Files, SomeCallFailed}
 use Rattle.sdv_run_command.specs.Run.{FailsToKeep}
 use Rattle.sdv_run_command.specs.RunImages.{IsOfName, MayHaveFailed, image_given}
 use Rattle.sdv_run_command.specs.declared.given.GivenImage.TheVariants.{New, File}

@@ -1,0 +1,113 @@
+-- The TABLE OF COMMANDS: the words behind the name of each command, and what the page of `--help` says of it.
+use Rattle.std.specs.Prelude.{List, [], ◌∷◌, ◌++◌, ◌-◌, codes, flat_map, if◌then◌else◌, length, map, nat_lt}
+use Rattle.std.specs.List.{repeat}
+use Rattle.clap.specs.Words.{Text}
+use Rattle.sdv_command_line.specs.declared.table.CommandEntry.{CommandEntry}
+use Rattle.sdv_command_line.specs.declared.table.Word.{Word as CodeWord}
+use Rattle.sdv_command_line.specs.declared.table.Word.TheVariants.{Required, Optional, WithValue, Flag}
+
+-- a word behind the name of a command
+pub data Word : Type 0 where
+  -- in its place, and may not be left out
+  required : (name : Text) → Word
+  -- in its place, and may be left out
+  optional : (name : Text) → Word
+  -- `--NAME VALUE`, and may be left out
+  with_value : (name value : Text) → Word
+  -- `--NAME`, and may be left out
+  flag : (name : Text) → Word
+
+pub record Command : Type 0 where
+  pub name : Text
+  pub words : List Word
+  pub help : Text
+
+abbrev pub command : (name : Text) (words : List Word) (help : Text) → Command
+command name words help = record { name = name; words = words; help = help }
+
+abbrev pub of_script : List Word
+of_script = required (codes "SCRIPT") ∷ []
+
+abbrev pub of_script_and_certificate : List Word
+of_script_and_certificate = required (codes "SCRIPT") ∷ required (codes "CERT") ∷ []
+
+abbrev pub of_run : List Word
+of_run =
+    required (codes "SCRIPT") ∷ required (codes "CERT") ∷ required (codes "CARD") ∷ required (codes "IMAGE")
+    ∷ optional (codes "SCHEDULE")
+    ∷ with_value (codes "in") (codes "FILE")
+    ∷ with_value (codes "out") (codes "FILE")
+    ∷ []
+
+abbrev pub of_emit : List Word
+of_emit =
+    required (codes "SCRIPT") ∷ required (codes "CERT") ∷ required (codes "NAME")
+    ∷ with_value (codes "binary") (codes "FILE")
+    ∷ []
+
+abbrev pub of_audit : List Word
+of_audit = required (codes "KIND") ∷ required (codes "TRACE") ∷ flag (codes "json") ∷ flag (codes "annotate") ∷ []
+
+abbrev pub of_card : List Word
+of_card = required (codes "CARD") ∷ []
+
+-- the commands, in the order of the usage line
+abbrev pub commands : List Command
+commands =
+    command (codes "frame") (required (codes "INDEX") ∷ required (codes "ARG") ∷ []) (codes "prints the frame of a command")
+    ∷ command (codes "certify") of_script (codes "prints the certificate of a script")
+    ∷ command (codes "check") of_script_and_certificate (codes "prints the most commands that a run of the script sends")
+    ∷ command (codes "run") of_run (codes "runs the script beside a simulated card")
+    ∷ command (codes "batch") (required (codes "KIND") ∷ required (codes "REQUESTS") ∷ []) (codes "prints a script that serves requests")
+    ∷ command (codes "explain") of_script (codes "prints what is known at each statement, and why the script is refused")
+    ∷ command (codes "graph") of_script (codes "prints the graph of a script in the language of Graphviz")
+    ∷ command (codes "print") of_script (codes "prints the tokens of a script")
+    ∷ command (codes "emit") of_emit (codes "prints the table of a script in C")
+    ∷ command (codes "audit") of_audit (codes "prints where the host or the card of a trace leaves the rules")
+    ∷ command (codes "describe") of_card (codes "prints a card description in words, or the line that is wrong")
+    ∷ []
+
+-- a word and a command of the code's table
+abbrev pub seen_word : CodeWord → Word
+seen_word (Required name) = required name.now
+seen_word (Optional name) = optional name.now
+seen_word (WithValue name value) = with_value name.now value.now
+seen_word (Flag name) = flag name.now
+
+abbrev pub seen_command : CommandEntry → Command
+seen_command entry = command entry.name.now (map seen_word entry.words.now) entry.help.now
+
+-- THE USAGE LINE
+
+abbrev pub word_form : Word → Text
+word_form (required name) = codes " " ++ name
+word_form (optional name) = codes " [" ++ (name ++ codes "]")
+word_form (with_value name value) = codes " [--" ++ (name ++ (codes " " ++ (value ++ codes "]")))
+word_form (flag name) = codes " [--" ++ (name ++ codes "]")
+
+-- how a command is called
+abbrev pub form : Command → Text
+form c = codes "sdv " ++ (c.name ++ flat_map word_form c.words)
+
+abbrev pub usage_of : List Command → Text
+usage_of [] = []
+usage_of (c ∷ cs) = codes "usage: " ++ (form c ++ flat_map (λ (c : Command). codes " | " ++ form c) cs)
+
+abbrev pub usage : Text
+usage = usage_of commands
+
+-- THE PAGE OF `--help`
+
+-- what a command does stands behind its form, from column 28 on, or on a line of its own
+abbrev pub aligned : (form help : Text) → Text
+aligned form help =
+    if nat_lt (length form) 28 then form ++ (repeat (28 - length form) (codes " ") ++ (help ++ 10 ∷ []))
+    else form ++ (codes "\n" ++ (repeat 28 (codes " ") ++ (help ++ 10 ∷ [])))
+
+abbrev pub help_line : Command → Text
+help_line c = aligned (codes "  " ++ form c) c.help
+
+abbrev pub help : Text
+help = codes "sdv certifies, checks, explains, draws and runs host scripts of SD and e.MMC cards.\n\n"
+    ++ (flat_map help_line commands
+    ++ codes "  sdv --help                prints this page\n  sdv --version             prints the version\n\nA text may come from standard input: SCRIPT, CERT, CARD, SCHEDULE, TRACE or the FILE of --in is - then.\nThe status is 0 after the answer, 1 for a refusal, 2 for words, files and output that cannot be used, 3 for want of memory.\n")

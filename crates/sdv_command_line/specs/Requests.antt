@@ -1,0 +1,156 @@
+-- What a line of the program asks for: the REQUEST that clap's matches hold, command by command.
+use Rattle.std.specs.Prelude.{Bool, false, List, Option, Some, None, codes, if◌then◌else◌, option_and_then, option_map}
+use Rattle.std.specs.Str.{bytes_eq}
+use Rattle.clap.specs.Words.{Row, Text, first_of}
+use Rattle.sdv_command_line.specs.declared.request.Request.{Request as CodeRequest}
+use Rattle.sdv_command_line.specs.declared.request.Request.TheVariants.{Frame, Certify, Check, Run, Batch, Explain, Graph, Print, Emit, Audit, Describe}
+use Rattle.sdv_command_line.specs.declared.request.RunFiles.{RunFiles}
+use Rattle.sdv_command_line.specs.declared.request.EmitWords.{EmitWords}
+use Rattle.sdv_command_line.specs.declared.request.AuditWords.{AuditWords}
+
+-- the files of a run, by their names
+pub record RunNames : Type 0 where
+  pub script : Text
+  pub certificate : Text
+  pub card : Text
+  pub image : Text
+  pub schedule : Option Text
+  pub input : Option Text
+  pub output : Option Text
+
+-- the files of a table, by their names, and the name of its array
+pub record EmitNames : Type 0 where
+  pub script : Text
+  pub certificate : Text
+  pub name : Text
+  pub binary : Option Text
+
+-- the kind of a card, the file of a trace, and how the report on it is printed
+pub record AuditNames : Type 0 where
+  pub kind : Text
+  pub trace : Text
+  pub json : Bool
+  pub annotate : Bool
+
+-- a command of the program, with the texts of its words
+pub data Request : Type 0 where
+  frame : (index argument : Text) → Request
+  certify : (script : Text) → Request
+  check : (script certificate : Text) → Request
+  run : RunNames → Request
+  batch : (kind requests : Text) → Request
+  explain : (script : Text) → Request
+  graph : (script : Text) → Request
+  print : (script : Text) → Request
+  emit : EmitNames → Request
+  audit : AuditNames → Request
+  describe : (card : Text) → Request
+
+-- THE ROWS that clap matched for the words of a command
+
+-- the request that a word of this name gives, where it was given
+abbrev pub by_word : (name : Text) → List Row → (Text → Option Request) → Option Request
+by_word name rows request = option_and_then request (first_of name rows)
+
+abbrev pub by_script : (Text → Request) → List Row → Option Request
+by_script request rows = by_word (codes "SCRIPT") rows (λ script. Some (request script))
+
+abbrev pub by_card : (Text → Request) → List Row → Option Request
+by_card request rows = by_word (codes "CARD") rows (λ card. Some (request card))
+
+abbrev pub by_two_words : (first second : Text) → (Text → Text → Request) → List Row → Option Request
+by_two_words first second request rows = by_word first rows (λ a. by_word second rows (λ b. Some (request a b)))
+
+abbrev pub by_run_words : List Row → Option Request
+by_run_words rows =
+    by_word (codes "SCRIPT") rows (λ script. by_word (codes "CERT") rows (λ certificate. by_word (codes "CARD") rows (λ card.
+    by_word (codes "IMAGE") rows (λ image. Some (run (record {
+      script = script;
+      certificate = certificate;
+      card = card;
+      image = image;
+      schedule = first_of (codes "SCHEDULE") rows;
+      input = first_of (codes "in") rows;
+      output = first_of (codes "out") rows;
+    }))))))
+
+abbrev pub by_emit_words : List Row → Option Request
+by_emit_words rows =
+    by_word (codes "SCRIPT") rows (λ script. by_word (codes "CERT") rows (λ certificate. by_word (codes "NAME") rows (λ name.
+    Some (emit (record {
+      script = script;
+      certificate = certificate;
+      name = name;
+      binary = first_of (codes "binary") rows;
+    })))))
+
+-- a flag that was given has the value `true`
+abbrev pub is_true : Option Text → Bool
+is_true None = false
+is_true (Some value) = bytes_eq value (codes "true")
+
+abbrev pub is_set : (name : Text) → List Row → Bool
+is_set name rows = is_true (first_of name rows)
+
+abbrev pub by_audit_words : List Row → Option Request
+by_audit_words rows =
+    by_word (codes "KIND") rows (λ kind. by_word (codes "TRACE") rows (λ trace. Some (audit (record {
+      kind = kind;
+      trace = trace;
+      json = is_set (codes "json") rows;
+      annotate = is_set (codes "annotate") rows;
+    }))))
+
+-- the request in a command's name and the rows of its words
+abbrev pub request_in : Text × List Row → Option Request
+request_in used =
+    if bytes_eq used.0 (codes "frame") then by_two_words (codes "INDEX") (codes "ARG") frame used.1
+    else if bytes_eq used.0 (codes "certify") then by_script certify used.1
+    else if bytes_eq used.0 (codes "check") then by_two_words (codes "SCRIPT") (codes "CERT") check used.1
+    else if bytes_eq used.0 (codes "run") then by_run_words used.1
+    else if bytes_eq used.0 (codes "batch") then by_two_words (codes "KIND") (codes "REQUESTS") batch used.1
+    else if bytes_eq used.0 (codes "explain") then by_script explain used.1
+    else if bytes_eq used.0 (codes "graph") then by_script graph used.1
+    else if bytes_eq used.0 (codes "print") then by_script print used.1
+    else if bytes_eq used.0 (codes "emit") then by_emit_words used.1
+    else if bytes_eq used.0 (codes "audit") then by_audit_words used.1
+    else if bytes_eq used.0 (codes "describe") then by_card describe used.1
+    else None
+
+-- THE CODE'S REQUEST, with references to the words
+
+abbrev pub names_of : RunFiles → RunNames
+names_of files = record {
+  script = files.script.now;
+  certificate = files.certificate.now;
+  card = files.card.now;
+  image = files.image.now;
+  schedule = option_map (λ file. file.now) files.schedule;
+  input = option_map (λ file. file.now) files.input;
+  output = option_map (λ file. file.now) files.output;
+}
+
+abbrev pub emit_names_of : EmitWords → EmitNames
+emit_names_of words = record {
+  script = words.script.now;
+  certificate = words.certificate.now;
+  name = words.name.now;
+  binary = option_map (λ file. file.now) words.binary;
+}
+
+abbrev pub audit_names_of : AuditWords → AuditNames
+audit_names_of words =
+    record { kind = words.kind.now; trace = words.trace.now; json = words.json; annotate = words.annotate }
+
+abbrev pub seen : CodeRequest → Request
+seen (Frame index argument) = frame index.now argument.now
+seen (Certify script) = certify script.now
+seen (Check script certificate) = check script.now certificate.now
+seen (Run files) = run (names_of files)
+seen (Batch kind requests) = batch kind.now requests.now
+seen (Explain script) = explain script.now
+seen (Graph script) = graph script.now
+seen (Print script) = print script.now
+seen (Emit words) = emit (emit_names_of words)
+seen (Audit words) = audit (audit_names_of words)
+seen (Describe card) = describe card.now

@@ -1,0 +1,25 @@
+//! How the program is called: the usage line and the page of `--help`, as the table of commands gives them.
+ghost use Rattle.std.specs.Prelude.{◌≡◌};
+ghost use Rattle.sdv_command_line.specs.Commands.{help, usage};
+
+/// The usage line.
+pub const USAGE: &str =
+    "usage: sdv frame INDEX ARG | sdv certify SCRIPT | sdv check SCRIPT CERT | sdv run SCRIPT CERT CARD IMAGE [SCHEDULE] [--in FILE] [--out FILE] | sdv batch KIND REQUESTS | sdv explain SCRIPT | sdv graph SCRIPT | sdv print SCRIPT | sdv emit SCRIPT CERT NAME [--binary FILE] | sdv audit KIND TRACE [--json] [--annotate] | sdv describe CARD";
+
+/// The page of `--help`.
+pub const HELP: &str =
+    "sdv certifies, checks, explains, draws and runs host scripts of SD and e.MMC cards.\n\n  sdv frame INDEX ARG       prints the frame of a command\n  sdv certify SCRIPT        prints the certificate of a script\n  sdv check SCRIPT CERT     prints the most commands that a run of the script sends\n  sdv run SCRIPT CERT CARD IMAGE [SCHEDULE] [--in FILE] [--out FILE]\n                            runs the script beside a simulated card\n  sdv batch KIND REQUESTS   prints a script that serves requests\n  sdv explain SCRIPT        prints what is known at each statement, and why the script is refused\n  sdv graph SCRIPT          prints the graph of a script in the language of Graphviz\n  sdv print SCRIPT          prints the tokens of a script\n  sdv emit SCRIPT CERT NAME [--binary FILE]\n                            prints the table of a script in C\n  sdv audit KIND TRACE [--json] [--annotate]\n                            prints where the host or the card of a trace leaves the rules\n  sdv describe CARD         prints a card description in words, or the line that is wrong\n  sdv --help                prints this page\n  sdv --version             prints the version\n\nA text may come from standard input: SCRIPT, CERT, CARD, SCHEDULE, TRACE or the FILE of --in is - then.\nThe status is 0 after the answer, 1 for a refusal, 2 for words, files and output that cannot be used, 3 for want of memory.\n";
+
+/// The usage line, which is that of the table of commands.
+pub fn usage() -> &'static str
+    ensures { result.now ≡ usage }
+{
+    USAGE
+}
+
+/// The page of `--help`, which is that of the table of commands.
+pub fn help() -> &'static str
+    ensures { result.now ≡ help }
+{
+    HELP
+}

@@ -1,0 +1,112 @@
+//! The table of the program's commands: the words behind the name of each, and what `--help` says of it.
+
+/// A word behind the name of a command.
+#[derive(Clone, Copy)]
+pub enum Word {
+    /// A word in its place, which may not be left out.
+    Required(&'static str),
+    /// A word in its place, which may be left out.
+    Optional(&'static str),
+    /// `--NAME VALUE`, which may be left out.
+    WithValue {
+        name: &'static str,
+        value: &'static str,
+    },
+    /// `--NAME`, which may be left out.
+    Flag(&'static str),
+}
+
+/// A command of the program.
+#[derive(Clone, Copy)]
+pub struct CommandEntry {
+    pub name: &'static str,
+    pub words: &'static [Word],
+    /// What it does, as `--help` says it.
+    pub help: &'static str,
+}
+
+/// The commands of the program, in the order in which `--help` and the usage line name them.
+pub static COMMANDS: [CommandEntry; 11] = [
+    CommandEntry {
+        name: "frame",
+        words: &[Word::Required("INDEX"), Word::Required("ARG")],
+        help: "prints the frame of a command",
+    },
+    CommandEntry {
+        name: "certify",
+        words: &[Word::Required("SCRIPT")],
+        help: "prints the certificate of a script",
+    },
+    CommandEntry {
+        name: "check",
+        words: &[Word::Required("SCRIPT"), Word::Required("CERT")],
+        help: "prints the most commands that a run of the script sends",
+    },
+    CommandEntry {
+        name: "run",
+        words: &[
+            Word::Required("SCRIPT"),
+            Word::Required("CERT"),
+            Word::Required("CARD"),
+            Word::Required("IMAGE"),
+            Word::Optional("SCHEDULE"),
+            Word::WithValue {
+                name: "in",
+                value: "FILE",
+            },
+            Word::WithValue {
+                name: "out",
+                value: "FILE",
+            },
+        ],
+        help: "runs the script beside a simulated card",
+    },
+    CommandEntry {
+        name: "batch",
+        words: &[Word::Required("KIND"), Word::Required("REQUESTS")],
+        help: "prints a script that serves requests",
+    },
+    CommandEntry {
+        name: "explain",
+        words: &[Word::Required("SCRIPT")],
+        help: "prints what is known at each statement, and why the script is refused",
+    },
+    CommandEntry {
+        name: "graph",
+        words: &[Word::Required("SCRIPT")],
+        help: "prints the graph of a script in the language of Graphviz",
+    },
+    CommandEntry {
+        name: "print",
+        words: &[Word::Required("SCRIPT")],
+        help: "prints the tokens of a script",
+    },
+    CommandEntry {
+        name: "emit",
+        words: &[
+            Word::Required("SCRIPT"),
+            Word::Required("CERT"),
+            Word::Required("NAME"),
+            Word::WithValue {
+                name: "binary",
+                value: "FILE",
+            },
+        ],
+        help: "prints the table of a script in C",
+    },
+    CommandEntry {
+        name: "audit",
+        words: &[
+            Word::Required("KIND"),
+            Word::Required("TRACE"),
+            Word::Flag("json"),
+            Word::Flag("annotate"),
+        ],
+        help: "prints where the host or the card of a trace leaves the rules",
+    },
+    CommandEntry {
+        name: "describe",
+        words: &[Word::Required("CARD")],
+        help: "prints a card description in words, or the line that is wrong",
+    },
+];

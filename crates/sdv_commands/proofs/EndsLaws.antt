@@ -1,0 +1,123 @@
+-- What the end of a request says of standard output.
+use Rattle.std.proofs.Common.{◌≡◌, ◌≢◌, ◌∙◌, refl, sym, ap, ℕ, Bor, IsErrAnd, List, Option, Result, Some, None, option_map}
+use Rattle.std.specs.Io.KnownBytes.{Keeps}
+use Rattle.clap.specs.Words.{Text}
+use Rattle.sdv_command_line.specs.Requests.{Request, frame, certify, check, run, batch, explain, graph, print, emit, audit, describe}
+use Rattle.sdv_command_line.specs.CommandLine.{meaning_of}
+use Rattle.sdv_command_line.specs.declared.request.RequestFault.{RequestFault}
+use Rattle.sdv_command_line.specs.declared.request.RequestFault.TheVariants as requests
+use Rattle.sdv_commands.specs.Page.{page_of}
+use Rattle.sdv_faults.specs.Fault.{fault_of_request, status_of}
+use Rattle.sdv_faults.specs.declared.fault.Fault.{Fault}
+use Rattle.sdv_faults.specs.declared.fault.Fault.TheVariants.{Memory, Output}
+use Rattle.sdv_files.specs.Files.{Files}
+use Rattle.sdv_files.specs.Outcomes.{OverText, Prints, PrintsText, Reports, outcome_of}
+use Rattle.sdv_files.proofs.OutcomeLaws.{failed, over-kept, prints-kept}
+use Rattle.sdv_files.proofs.StartLaws.{keeps_same}
+use Rattle.sdv_faults.specs.Refused.{Refuses}
+use Rattle.sdv_emit_command.specs.Emit.{IsTableText, TableEnds, Unemitted}
+use Rattle.sdv_commands.specs.Batch.{HasNoBatch, IsBatchText}
+use Rattle.sdv_commands.specs.Certify.{HasNone, IsCertificate}
+use Rattle.sdv_commands.specs.Check.{IsBoundLine}
+use Rattle.sdv_commands.specs.Describe.{HasNoPage, IsPageOf}
+use Rattle.sdv_commands.specs.Explain.{IsExplanation, IsUnexplained}
+use Rattle.sdv_commands.specs.Frame.{IsFrameText, WriteNone}
+use Rattle.sdv_commands.specs.Graph.{IsDrawing, IsUndrawn}
+use Rattle.sdv_commands.specs.Print.{HasNoTokens, IsPrinted}
+use Rattle.sdv_commands.specs.Ends.{AreQuiet, AreWhole, EndsRequest, EndsWords, IsQuiet, IsWhole, for_memory, for_nothing, for_page, for_request}
+
+module _ (files : Files) (before after : Option (List ℕ)) where
+  -- a request that is refused prints nothing, but a run, an explanation, a drawing, an audit and the page of a description
+  quiet-kept : (request : Request) → IsQuiet request → (fault : Fault) → fault ≢ Output → EndsRequest files request (Some fault) before after
+      → Keeps before after
+  quiet-kept (frame index argument) quiet fault other ends =
+      prints-kept before after (IsFrameText index argument) (WriteNone index argument) fault other ends
+  quiet-kept (certify script) quiet fault other ends =
+      over-kept before after files script (λ (text : Text). Prints (IsCertificate text) (HasNone text)) (Some fault)
+      (λ text. prints-kept before after (IsCertificate text) (HasNone text) fault other) ends
+  quiet-kept (check script certificate) quiet fault other ends =
+      over-kept before after files script
+      (λ (text : Text). OverText files certificate (λ (closed : Text). Prints (IsBoundLine text closed) (Refuses text closed))) (Some fault)
+      (λ text. over-kept before after files certificate (λ (closed : Text). Prints (IsBoundLine text closed) (Refuses text closed)) (Some fault)
+      (λ closed. prints-kept before after (IsBoundLine text closed) (Refuses text closed) fault other)) ends
+  quiet-kept (run names) quiet fault other ends = absurd quiet
+  quiet-kept (batch kind requests) quiet fault other ends =
+      prints-kept before after (IsBatchText kind requests) (HasNoBatch kind requests) fault other ends
+  quiet-kept (explain script) quiet fault other ends = absurd quiet
+  quiet-kept (graph script) quiet fault other ends = absurd quiet
+  quiet-kept (print script) quiet fault other ends =
+      over-kept before after files script (λ (text : Text). Prints (IsPrinted text) (HasNoTokens text)) (Some fault)
+      (λ text. prints-kept before after (IsPrinted text) (HasNoTokens text) fault other) ends
+  quiet-kept (emit names) quiet fault other ends =
+      over-kept before after files names.script (λ (script : Text). OverText files names.certificate (TableEnds files names script)) (Some fault)
+      (λ script. over-kept before after files names.certificate (TableEnds files names script) (Some fault)
+      (λ certificate. prints-kept before after (IsTableText files names script certificate) (Unemitted files names script certificate) fault other))
+      ends
+  quiet-kept (audit names) quiet fault other ends = absurd quiet
+  quiet-kept (describe card) quiet fault other ends = absurd quiet
+
+  -- nothing is printed for want of memory, but by an audit
+  memory-kept : (request : Request) → IsWhole request → EndsRequest files request (Some Memory) before after → Keeps before after
+  memory-kept (frame index argument) whole ends = ends
+  memory-kept (certify script) whole ends =
+      over-kept before after files script (λ (text : Text). Prints (IsCertificate text) (HasNone text)) (Some Memory) (λ text kept. kept) ends
+  memory-kept (check script certificate) whole ends =
+      over-kept before after files script
+      (λ (text : Text). OverText files certificate (λ (closed : Text). Prints (IsBoundLine text closed) (Refuses text closed))) (Some Memory)
+      (λ text. over-kept before after files certificate (λ (closed : Text). Prints (IsBoundLine text closed) (Refuses text closed)) (Some Memory)
+      (λ closed kept. kept)) ends
+  memory-kept (run names) whole ends = ends
+  memory-kept (batch kind requests) whole ends = ends
+  memory-kept (explain script) whole ends =
+      over-kept before after files script (λ (text : Text). Reports (IsExplanation text) (IsUnexplained text)) (Some Memory) (λ text kept. kept) ends
+  memory-kept (graph script) whole ends =
+      over-kept before after files script (λ (text : Text). Reports (IsDrawing text) (IsUndrawn text)) (Some Memory) (λ text kept. kept) ends
+  memory-kept (print script) whole ends =
+      over-kept before after files script (λ (text : Text). Prints (IsPrinted text) (HasNoTokens text)) (Some Memory) (λ text kept. kept) ends
+  memory-kept (emit names) whole ends =
+      over-kept before after files names.script (λ (script : Text). OverText files names.certificate (TableEnds files names script)) (Some Memory)
+      (λ script. over-kept before after files names.certificate (TableEnds files names script) (Some Memory) (λ certificate kept. kept)) ends
+  memory-kept (audit names) whole ends = absurd whole
+  memory-kept (describe card) whole ends =
+      over-kept before after files card (λ (text : Text). Reports (IsPageOf text) HasNoPage) (Some Memory) (λ text kept. kept) ends
+
+  page-fault : (page : Text) (fault : Fault) → PrintsText page (Some fault) before after → fault ≡ Output
+  page-fault page Output ends = refl
+  page-fault page _ ends = absurd ends
+
+  pub words-kept : (words : List Text) → AreQuiet words → (fault : Fault) → fault ≢ Output → EndsWords files words (Some fault) before after
+      → Keeps before after
+  words-kept words quiet fault other (for_page page asked ends) = absurd (other (page-fault page fault ends))
+  words-kept words quiet fault other (for_request request means ends) = quiet-kept request (quiet request means) fault other ends
+  words-kept words quiet fault other (for_nothing no_page none is kept) = kept
+  words-kept words quiet fault other (for_memory is kept) = kept
+
+  pub words-memory-kept : (words : List Text) → AreWhole words → EndsWords files words (Some Memory) before after → Keeps before after
+  words-memory-kept words whole (for_page page asked ends) = absurd ends
+  words-memory-kept words whole (for_request request means ends) = memory-kept request (whole request means) ends
+  words-memory-kept words whole (for_nothing no_page none is kept) = kept
+  words-memory-kept words whole (for_memory is kept) = kept
+
+-- STATUSES
+
+pub no_output : (fault : Fault) → status_of fault ≡ 1 → fault ≢ Output
+no_output fault one is = let two : 2 ≡ 1 = sym (ap status_of is) ∙ one in cc
+
+pub of_memory : (fault : Fault) → status_of fault ≡ 3 → fault ≡ Memory
+of_memory Memory three = refl
+of_memory _ three = cc
+
+-- WORDS that are no request
+
+pub no_page : (found : Option (Bor (List ℕ))) (page : Option Text) → option_map (λ (page : Bor (List ℕ)). page.now) found ≡ page → found ≡ None
+    → page ≡ None
+no_page found page same none = sym same ∙ ap (option_map (λ (page : Bor (List ℕ)). page.now)) none
+
+module _ (files : Files) (words : List Text) (known : Option (List ℕ)) (none_asked : page_of words ≡ None) where
+  unread : (fault : RequestFault) → (fault ≡ requests.Usage → meaning_of words ≡ None) → EndsWords files words (Some (fault_of_request fault)) known known
+  unread requests.Usage none = for_nothing none_asked (none refl) refl (keeps_same known)
+  unread requests.Memory none = for_memory refl (keeps_same known)
+
+  pub no_request : {T : Type 0} (fault : RequestFault) → (fault ≡ requests.Usage → meaning_of words ≡ None) → (r : Result T Fault)
+      → IsErrAnd r (λ f. f ≡ fault_of_request fault) → EndsWords files words (outcome_of r) known known
+  no_request fault none r is = failed (λ outcome. EndsWords files words outcome known known) _ r is (unread fault none)

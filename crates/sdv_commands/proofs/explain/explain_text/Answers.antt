@@ -1,0 +1,57 @@
+use Rattle.std.proofs.Common.{◌≡◌, inl, inr, refl, rules, subst, Result, Some, None}
+use Rattle.sdv_faults.specs.declared.fault.Fault.{Fault}
+use Rattle.sdv_faults.specs.declared.fault.Fault.TheVariants.{Uncertified}
+use Rattle.sdv_files.specs.Outcomes.{PrintsText, Reports, outcome_of}
+use Rattle.sdv_files.proofs.OutcomeLaws.{failed}
+use Rattle.sdv_files.proofs.StartLaws.{keeps_same}
+use Rattle.sdv_commands.proofs.ReportLaws.{in_part}
+use Rattle.sdv_explain.specs.Explained.{Explains, Unexplained}
+use Rattle.sdv_explain.specs.declared.fault.ExplainFault.TheVariants as explains
+use Rattle.sdv_commands.specs.Explain.{IsExplanation, IsUnexplained, refused_by}
+use Rattle.sdv_commands.proofs.explain.explain_text.Goals as goal
+
+pub returns-in-Err-TooMany : goal.returns-in-Err-TooMany
+returns-in-Err-TooMany g c =
+    let none : Unexplained c.args.script.now explains.TooMany = search rules in
+    inr ((refl, none), keeps_same _)
+
+pub returns-in-Err-Memory : goal.returns-in-Err-Memory
+returns-in-Err-Memory g c = keeps_same _
+
+pub returns-in_err-print_text : goal.returns-in_err-print_text
+returns-in_err-print_text g c =
+    let script = c.args.script.now in
+    let before = g.O.Write.contents c.args.out.now in
+    let after = g.O.Write.contents c.print_text.new.out in
+    let is_so : Explains script c.in-Ok.explanation = search rules in
+    let items : c.as_slice.result.now ≡ c.in-Ok.explanation.text.items = search rules in
+    let was : PrintsText c.as_slice.result.now (Some c.in_err-print_text.field-0.0) before after =
+    subst (λ (r : Result (Unit {0}) Fault). PrintsText c.as_slice.result.now (outcome_of r) before after) c.in_err-print_text.was c.print_text.ensures in
+    failed (λ outcome. Reports (IsExplanation script) (IsUnexplained script) outcome before after) _ c.from_residual.result
+    c.from_residual.ensures.1
+    (in_part before after (IsExplanation script) (IsUnexplained script) _ c.as_slice.result.now c.in_err-print_text.field-0.0
+    (inl (c.in-Ok.explanation, is_so, refl, items)) was)
+
+pub returns-in-None : goal.returns-in-None
+returns-in-None g c =
+    let script = c.args.script.now in
+    let before = g.O.Write.contents c.args.out.now in
+    let after = g.O.Write.contents c.print_text.new.out in
+    let is_so : Explains script c.in-Ok.explanation = search rules in
+    let items : c.as_slice.result.now ≡ c.in-Ok.explanation.text.items = search rules in
+    let none : None ≡ refused_by c.in-Ok.explanation = search rules in
+    let was : PrintsText c.as_slice.result.now None before after =
+    subst (λ (r : Result (Unit {0}) Fault). PrintsText c.as_slice.result.now (outcome_of r) before after) c.in_ok-print_text.was c.print_text.ensures in
+    (c.as_slice.result.now, inl (c.in-Ok.explanation, is_so, none, items), was)
+
+pub returns : goal.returns
+returns g c =
+    let script = c.args.script.now in
+    let before = g.O.Write.contents c.args.out.now in
+    let after = g.O.Write.contents c.print_text.new.out in
+    let is_so : Explains script c.in-Ok.explanation = search rules in
+    let items : c.as_slice.result.now ≡ c.in-Ok.explanation.text.items = search rules in
+    let told : Some (Uncertified c.in-Some.refusal.fault) ≡ refused_by c.in-Ok.explanation = search rules in
+    let was : PrintsText c.as_slice.result.now None before after =
+    subst (λ (r : Result (Unit {0}) Fault). PrintsText c.as_slice.result.now (outcome_of r) before after) c.in_ok-print_text.was c.print_text.ensures in
+    inl (c.as_slice.result.now, inl (c.in-Ok.explanation, is_so, told, items), was)

@@ -1,0 +1,25 @@
+use Rattle.std.proofs.Common.{◌≡◌, ◌∙◌, ℕ, List, None, Some, Err, Bor, ap, option_map, rules, sym}
+use Rattle.clap.specs.Walk.{texts}
+use Rattle.sdv_command_line.specs.Requests.{seen}
+use Rattle.sdv_command_line.proofs.CommandLineLaws.{meaning-fault}
+use Rattle.sdv_commands.specs.Ends.{for_page, for_request}
+use Rattle.sdv_commands.specs.Page.{page_of}
+use Rattle.sdv_commands.proofs.EndsLaws.{no_page, no_request}
+use Rattle.sdv_commands.proofs.program.answer.Goals as goal
+
+pub returns-in-Some : goal.returns-in-Some
+returns-in-Some g c =
+    let asked : page_of (texts c.args.words.now) ≡ Some c.in-Some.page.now =
+    sym c.page_of.ensures ∙ ap (option_map (λ (page : Bor (List ℕ)). page.now)) c.in-Some.is in
+    let bytes : c.as_bytes.result.now ≡ c.in-Some.page.now = search rules in
+    for_page c.in-Some.page.now asked (rw bytes at c.print_text.ensures)
+
+pub returns-in_err-request : goal.returns-in_err-request
+returns-in_err-request g c =
+    let words = texts c.args.words.now in
+    let none : page_of words ≡ None = no_page c.page_of.result (page_of words) c.page_of.ensures (search rules) in
+    no_request (g.S.Store.known c.args.files.now) words (g.O.Write.contents c.args.out.now) none c.in_err-request.field-0.0
+    (λ is. meaning-fault words (c.in_err-request.ensures.usage (ap Err is))) c.from_residual.result c.from_residual.ensures.1
+
+pub returns : goal.returns
+returns g c = for_request (seen c.in_ok-request.request) c.in_ok-request.ensures.ok c.answer_request.ensures

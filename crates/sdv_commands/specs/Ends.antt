@@ -1,0 +1,95 @@
+-- How the program ends, by the words that it was called with.
+use Rattle.std.specs.Prelude.{◌≡◌, ℕ, List, Option, Some, None}
+use Rattle.std.specs.Io.KnownBytes.{Keeps}
+use Rattle.clap.specs.Words.{Text}
+use Rattle.sdv_command_line.specs.CommandLine.{meaning_of}
+use Rattle.sdv_command_line.specs.Requests.{Request, frame, certify, check, run, batch, explain, graph, print, emit, audit, describe}
+use Rattle.sdv_faults.specs.Fault.{Says, status_of}
+use Rattle.sdv_faults.specs.declared.fault.Fault.{Fault}
+use Rattle.sdv_faults.specs.declared.fault.Fault.TheVariants.{Usage, Memory}
+use Rattle.sdv_files.specs.Files.{Files}
+use Rattle.sdv_files.specs.Outcomes.{Ending, PrintsText}
+use Rattle.sdv_run_command.specs.Run.{RunEnds}
+use Rattle.sdv_commands.specs.Audit.{AuditEnds}
+use Rattle.sdv_commands.specs.Batch.{BatchEnds}
+use Rattle.sdv_commands.specs.Certify.{CertifyEnds}
+use Rattle.sdv_commands.specs.Check.{CheckEnds}
+use Rattle.sdv_emit_command.specs.Emit.{EmitEnds}
+use Rattle.sdv_commands.specs.Describe.{DescribeEnds}
+use Rattle.sdv_commands.specs.Explain.{ExplainEnds}
+use Rattle.sdv_commands.specs.Frame.{FrameEnds}
+use Rattle.sdv_commands.specs.Graph.{GraphEnds}
+use Rattle.sdv_commands.specs.Page.{page_of}
+use Rattle.sdv_commands.specs.Print.{PrintEnds}
+
+-- REQUESTS, command by command
+
+abbrev pub EndsRequest : Files → Request → Ending
+EndsRequest files (frame index argument) = FrameEnds index argument
+EndsRequest files (certify script) = CertifyEnds files script
+EndsRequest files (check script certificate) = CheckEnds files script certificate
+EndsRequest files (run names) = RunEnds files names
+EndsRequest files (batch kind requests) = BatchEnds kind requests
+EndsRequest files (explain script) = ExplainEnds files script
+EndsRequest files (graph script) = GraphEnds files script
+EndsRequest files (print script) = PrintEnds files script
+EndsRequest files (emit names) = EmitEnds files names
+EndsRequest files (audit names) = AuditEnds files names
+EndsRequest files (describe card) = DescribeEnds files card
+
+-- Nothing is printed where the command is refused. A run, an explanation, a drawing, the report of an audit and the page of
+-- a card description are printed then too.
+abbrev pub IsQuiet : Request → Type 0
+IsQuiet (run names) = ⊥
+IsQuiet (explain script) = ⊥
+IsQuiet (graph script) = ⊥
+IsQuiet (audit names) = ⊥
+IsQuiet (describe card) = ⊥
+IsQuiet request = Unit {0}
+
+-- Nothing is printed before the answer is whole. An audit prints its report while it reads the trace.
+abbrev pub IsWhole : Request → Type 0
+IsWhole (audit names) = ⊥
+IsWhole request = Unit {0}
+
+-- WORDS
+
+pub data EndsWords (files : Files) (words : List Text) (outcome : Option Fault) (before after : Option (List ℕ)) : Type 0 where
+  -- they ask for a page
+  for_page : (page : Text) → page_of words ≡ Some page → PrintsText page outcome before after
+      → EndsWords files words outcome before after
+  -- they mean a request
+  for_request : (request : Request) → meaning_of words ≡ Some request → EndsRequest files request outcome before after
+      → EndsWords files words outcome before after
+  -- they mean nothing
+  for_nothing : page_of words ≡ None → meaning_of words ≡ None → outcome ≡ Some Usage → Keeps before after
+      → EndsWords files words outcome before after
+  -- memory was refused before they were read
+  for_memory : outcome ≡ Some Memory → Keeps before after → EndsWords files words outcome before after
+
+-- the words ask for no page, and mean no request but one that prints nothing where it is refused
+abbrev pub AreQuiet : List Text → Type 0
+AreQuiet words = (request : Request) → meaning_of words ≡ Some request → IsQuiet request
+
+-- they mean no request but one that prints nothing before its answer is whole
+abbrev pub AreWhole : List Text → Type 0
+AreWhole words = (request : Request) → meaning_of words ≡ Some request → IsWhole request
+
+-- THE PROGRAM
+
+-- the exit status: 0 after the answer, and else that of the fault
+abbrev pub exit_status : Option Fault → ℕ
+exit_status None = 0
+exit_status (Some fault) = status_of fault
+
+-- what is said on standard error
+abbrev pub SaysWhy : Ending
+SaysWhy None before after = Keeps before after
+SaysWhy (Some fault) before after = Says fault before after
+
+-- the program ended with this status, and this is what standard output and standard error hold
+pub record Ends (files : Files) (words : List Text) (status : ℕ) (out out' err err' : Option (List ℕ)) : Type 0 where
+  pub outcome : Option Fault
+  pub status_is : status ≡ exit_status outcome
+  pub ended : EndsWords files words outcome out out'
+  pub said : SaysWhy outcome err err'

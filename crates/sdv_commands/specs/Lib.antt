@@ -1,0 +1,11 @@
+pub mod Batch
+pub mod Audit
+pub mod Certify
+pub mod Check
+pub mod Describe
+pub mod Explain
+pub mod Frame
+pub mod Graph
+pub mod Page
+pub mod Print
+pub mod Ends

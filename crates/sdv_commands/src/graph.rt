@@ -1,0 +1,48 @@
+//! `graph SCRIPT`: the graph of a script, in the language of Graphviz.
+ghost use Rattle.sdv_files.specs.Outcomes.{Reports, outcome_of};
+ghost use Rattle.sdv_commands.specs.Graph.{GraphEnds, IsDrawing, IsUndrawn};
+
+use sdv_drawing::{Drawing, draw};
+use sdv_faults::Fault;
+use sdv_files::{Store, print_text, text_in};
+use std::alloc::Global;
+use std::io::Write;
+
+/// Prints the drawing of the script of a file.
+///
+/// # Errors
+///
+/// - [`Fault::File`]: the file cannot be used. Nothing was printed.
+/// - The faults of [`graph_text`].
+pub fn graph_file<'a, S: Store, O: Write>(
+    alloc: Global,
+    files: &S,
+    script: &'a str,
+    out: &mut O,
+) -> Result<(), Fault<'a>>
+    ensures { GraphEnds (S.known files.now) script.entry.now
+        (outcome_of result) (O.contents out.old) (O.contents out.new) }
+{
+    let script = text_in(alloc, files, script)?;
+    graph_text(alloc, script.as_str(), out)
+}
+
+/// Prints the drawing of a script, by its text.
+///
+/// # Errors
+///
+/// - [`Fault::Uncertified`]: the script has no certificate. The drawing was printed, with the point marked that is refused.
+/// - [`Fault::Script`]: the text is no script. Nothing was printed.
+/// - [`Fault::Output`]: the output failed. A part of the drawing was printed.
+/// - [`Fault::Memory`]: memory was refused. Nothing was printed.
+pub fn graph_text<'a, O: Write>(alloc: Global, script: &str, out: &mut O) -> Result<(), Fault<'a>>
+    ensures { Reports (IsDrawing script.now) (IsUndrawn script.now)
+        (outcome_of result) (O.contents out.old) (O.contents out.new) }
+{
+    let Drawing { text, refusal } = draw(alloc, script)?;
+    print_text(text.as_slice(), out)?;
+    match refusal {
+        None => Ok(()),
+        Some(fault) => Err(Fault::Uncertified(fault)),
+    }
+}

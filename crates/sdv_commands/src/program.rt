@@ -1,0 +1,100 @@
+//! The program over its words and its two output streams.
+ghost use Rattle.std.specs.Prelude.{◌≡◌, ◌⊎◌};
+ghost use Rattle.std.specs.Io.KnownBytes.{Keeps};
+ghost use Rattle.clap.specs.Walk.{texts};
+ghost use Rattle.sdv_command_line.specs.Requests.{seen};
+ghost use Rattle.sdv_files.specs.Files.{any_files};
+ghost use Rattle.sdv_files.specs.Outcomes.{outcome_of};
+ghost use Rattle.sdv_commands.specs.Ends.{AreQuiet, AreWhole, Ends, EndsRequest, EndsWords};
+
+use crate::audit::audit_file;
+use crate::batch::print_batch;
+use crate::certify::certify_file;
+use crate::check::check_files;
+use crate::describe::describe_file;
+use crate::explain::explain_file;
+use crate::frame::print_frame;
+use crate::graph::graph_file;
+use crate::page::page_of;
+use crate::print::print_file;
+use sdv_command_line::{Request, request_of};
+use sdv_emit_command::emit_files;
+use sdv_faults::Fault;
+use sdv_files::{MachineFiles, Store, print_text};
+use sdv_run_command::run_files;
+use std::alloc::Global;
+use std::io::Write;
+use std::rt::Files;
+
+/// Runs the program on the words that it is called with, without its own name, and gives the exit status: 0 where the
+/// answer was printed or the run ended in `done`, 1 where what was asked for is refused or the run did not end so, 2 where
+/// the words are no line of the program, a file cannot be used or standard output failed, 3 where memory ran out.
+///
+/// Nothing is claimed of the files of the machine. So the clauses say that the answer is one to some texts that the named
+/// files may have given, and say nothing of what files took; [`answer`] says it of any files.
+pub fn program<R: Files + AllocGlobal, O: Write, E: Write>(
+    rt: &R,
+    words: &[&str],
+    out: &mut O,
+    err: &mut E,
+) -> u8
+    ensures statuses { (result ≡ 0) ⊎ (result ≡ 1) ⊎ (result ≡ 2) ⊎ (result ≡ 3) }
+    ensures ended { Ends any_files (texts words.now) result
+        (O.contents out.old) (O.contents out.new) (E.contents err.old) (E.contents err.new) }
+    ensures refused { AreQuiet (texts words.now) → result ≡ 1
+        → Keeps (O.contents out.old) (O.contents out.new) }
+    ensures no_memory { AreWhole (texts words.now) → result ≡ 3
+        → Keeps (O.contents out.old) (O.contents out.new) }
+{
+    match answer(rt.alloc(), &MachineFiles(rt), words, out) {
+        Ok(()) => 0,
+        Err(fault) => fault.report(err),
+    }
+}
+
+/// Answers a line of the program from these files. A line that is one word and asks for help or for the version is answered by
+/// that page. The clause says what the files gave and took, by their names, and of a file that cannot be used what was
+/// tried and failed.
+pub fn answer<'a, S: Store, O: Write>(
+    alloc: Global,
+    files: &S,
+    words: &'a [&'a str],
+    out: &mut O,
+) -> Result<(), Fault<'a>>
+    ensures { EndsWords (S.known files.now) (texts words.now)
+        (outcome_of result) (O.contents out.old) (O.contents out.new) }
+{
+    if let Some(page) = page_of(words) {
+        return print_text(page.as_bytes(), out);
+    }
+    let request = request_of(alloc, words)?;
+    answer_request(alloc, files, request, out)
+}
+
+/// Answers a request from these files.
+pub fn answer_request<'a, S: Store, O: Write>(
+    alloc: Global,
+    files: &S,
+    request: Request<'a>,
+    out: &mut O,
+) -> Result<(), Fault<'a>>
+    ensures { EndsRequest (S.known files.now) (seen request.entry)
+        (outcome_of result) (O.contents out.old) (O.contents out.new) }
+{
+    match request {
+        Request::Frame { index, argument } => print_frame(index, argument, out),
+        Request::Certify { script } => certify_file(alloc, files, script, out),
+        Request::Check {
+            script,
+            certificate,
+        } => check_files(alloc, files, script, certificate, out),
+        Request::Run(names) => run_files(alloc, files, names, out),
+        Request::Batch { kind, requests } => print_batch(alloc, kind, requests, out),
+        Request::Explain { script } => explain_file(alloc, files, script, out),
+        Request::Graph { script } => graph_file(alloc, files, script, out),
+        Request::Print { script } => print_file(alloc, files, script, out),
+        Request::Emit(words) => emit_files(alloc, files, words, out),
+        Request::Audit(words) => audit_file(alloc, files, words, out),
+        Request::Describe { card } => describe_file(alloc, files, card, out),
+    }
+}

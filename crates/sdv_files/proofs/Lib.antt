@@ -1,0 +1,3 @@
+pub mod OutcomeLaws
+pub mod OutputLaws
+pub mod StartLaws

@@ -1,0 +1,169 @@
+//! Files by their names: their texts and bytes, what is written to them, and images that they hold.
+ghost use Rattle.std.specs.Prelude.{◌≡◌, ◌^◌, ◌≤◌, ◌⊎◌, length, List, ℕ, Err, IfErr, IfOk, IfSome, None, string_bytes, false, true};
+ghost use Rattle.std.specs.Io.KnownBytes.{Appends};
+ghost use Rattle.sdv_files.specs.Files.{Files as KnownFiles, GivesNoText, SomeCallFailed, image_of};
+
+use crate::seek_file::SeekFile;
+use sdv_faults::Fault;
+use sdv_file_image::BlockFile;
+use std::alloc::{AllocError, Global};
+use std::fs::{self, OpenOptions};
+use std::io::{ErrorKind, Read, Write};
+use std::rt::Files;
+
+/// Files that are known by their names.
+pub trait Store {
+    /// What takes the bytes of a file that was made or emptied.
+    type Sink: Write + Drop;
+
+    /// A file that is read and written block by block.
+    type Image: BlockFile + Drop;
+
+    /// What is known of its files, by their names.
+    ghost known: { Self → KnownFiles };
+
+    /// The file of this name was made or emptied, and its bytes go here.
+    ghost opened: { Self → List ℕ → Self.Sink → Type 0 };
+
+    /// The bytes of a file. None where the file cannot be opened or read, or does not end.
+    fn bytes_of(&self, alloc: Global, file: &str) -> Result<Option<Vec<u8>>, AllocError>
+        ensures given { IfOk result
+            (λ found. IfSome found (λ bytes. (known self.now).gives file.now bytes.items)) }
+        ensures unread { IfOk result (λ found. found ≡ None → (known self.now).unread file.now) };
+
+    /// Opens a file whose blocks are read and written. None where that cannot be done.
+    fn open_image(&self, file: &str) -> Option<Self::Image>
+        ensures opened { IfSome result (λ image. (known self.now).images.opened file.now
+            (image_of (Self.Image.byte_count image) (Self.Image.blocks image))) }
+        ensures unopened { result ≡ None → (known self.now).images.unopened file.now }
+        ensures failed { IfSome result
+            (λ _. SomeCallFailed Self.Image.failed → (known self.now).images.failed file.now) };
+
+    /// Closes a file after its blocks were read and written. False where it did not take all that was written.
+    fn close_image(&self, file: &str, image: Self::Image) -> bool
+        ensures closed { result ≡ true → (known self.now).images.closed file.now (Self.Image.blocks image) }
+        ensures unclosed { result ≡ false → (known self.now).images.unclosed file.now };
+
+    /// Makes a file, or empties it. None where that cannot be done.
+    fn create(&self, file: &str) -> Option<Self::Sink>
+        ensures made { IfSome result (opened self.now file.now) }
+        ensures uncreated { result ≡ None → (known self.now).uncreated file.now };
+
+    /// Ends what was written to a file. False where not all of it was taken.
+    fn finish(&self, file: &str, sink: Self::Sink) -> bool
+        ensures received { result ≡ true → (made : Self.Sink) (bytes : List ℕ) → opened self.now file.now made
+            → Appends (Self.Sink.contents made) (Self.Sink.contents sink) bytes
+            → (known self.now).received file.now bytes }
+        ensures unfinished { result ≡ false → (known self.now).unfinished file.now };
+}
+
+/// The bytes of a file.
+///
+/// # Errors
+///
+/// [`Fault::File`]: it cannot be used. [`Fault::Memory`]: memory was refused.
+pub fn bytes_in<'a, S: Store>(alloc: Global, files: &S, file: &'a str) -> Result<Vec<u8>, Fault<'a>>
+    ensures given { IfOk result (λ bytes. (S.known files.now).gives file.entry.now bytes.items) }
+    ensures refused { IfErr result
+        (λ fault. (fault ≡ Fault.File file.entry) ⊎ (fault ≡ Fault.Memory)) }
+    ensures unread { IfErr result
+        (λ fault. fault ≡ Fault.File file.entry → (S.known files.now).unread file.entry.now) }
+{
+    files.bytes_of(alloc, file)?.ok_or(Fault::File(file))
+}
+
+/// The text of a file.
+///
+/// # Errors
+///
+/// [`Fault::File`]: it cannot be used, or is not UTF-8. [`Fault::Memory`]: memory was refused.
+pub fn text_in<'a, S: Store>(alloc: Global, files: &S, file: &'a str) -> Result<String, Fault<'a>>
+    ensures given { IfOk result (λ text. (S.known files.now).gives file.entry.now (string_bytes text)) }
+    ensures refused { IfErr result
+        (λ fault. (fault ≡ Fault.File file.entry) ⊎ (fault ≡ Fault.Memory)) }
+    ensures no_text { IfErr result
+        (λ fault. fault ≡ Fault.File file.entry → GivesNoText (S.known files.now) file.entry.now) }
+{
+    let bytes = bytes_in(alloc, files, file)?;
+    String::from_utf8(bytes).map_err(|_| Fault::File(file))
+}
+
+/// The file of standard input.
+const STANDARD_INPUT: &str = "/dev/stdin";
+
+/// The files of a machine. Nothing is claimed of them. The name `-` stands for standard input where a file is read, and
+/// for no file where one is written.
+#[derive(Clone, Copy)]
+pub struct MachineFiles<'a, R: Files>(pub &'a R);
+
+impl<'a, R: Files> Store for MachineFiles<'a, R> {
+    type Sink = R::File;
+
+    type Image = SeekFile<R::File>;
+
+    ghost use Rattle.sdv_files.specs.Files.{any_files, any_sink};
+
+    ghost known = { λ _. any_files };
+
+    ghost opened = { λ _. any_sink };
+
+    fn bytes_of(&self, alloc: Global, file: &str) -> Result<Option<Vec<u8>>, AllocError> {
+        let file = if file == "-" { STANDARD_INPUT } else { file };
+        match fs::open(self.0, file) {
+            Ok(mut file) => bytes_within(alloc, LIMIT, &mut file),
+            Err(_) => Ok(None),
+        }
+    }
+
+    fn open_image(&self, file: &str) -> Option<SeekFile<R::File>> {
+        if file == "-" {
+            return None;
+        }
+        let file = OpenOptions::new().read(true).write(true).open(self.0, file);
+        SeekFile::new(file.ok()?).ok()
+    }
+
+    fn close_image(&self, _file: &str, image: SeekFile<R::File>) -> bool {
+        image.close().is_ok()
+    }
+
+    fn create(&self, file: &str) -> Option<R::File> {
+        if file == "-" {
+            return None;
+        }
+        fs::create(self.0, file).ok()
+    }
+
+    fn finish(&self, _file: &str, mut sink: R::File) -> bool {
+        sink.flush().is_ok()
+    }
+}
+
+/// As many bytes and as many reads are allowed of one file.
+const LIMIT: u64 = 1 << 32;
+
+/// All that a reader has left. None where a read fails, or where the end has not come after so many bytes or reads.
+pub fn bytes_within<F: Read>(
+    alloc: Global,
+    limit: u64,
+    file: &mut F,
+) -> Result<Option<Vec<u8>>, AllocError>
+    ensures whole { IfOk result (λ found. IfSome found
+        (λ bytes. IfSome (F.remaining file.old) (λ left. bytes.items ≡ left))) }
+    ensures within { IfOk result (λ found. IfSome found (λ bytes. length bytes.items ≤ limit)) }
+{
+    let mut bytes = Vec::new(alloc);
+    let mut buffer = [0; 4096];
+    for _ in 0..limit {
+        match file.read(&mut buffer) {
+            Ok(0) => return Ok(Some(bytes)),
+            Ok(count) => bytes.extend_from_slice(&buffer[..count])?,
+            Err(error) if error.kind() == ErrorKind::Interrupted => {}
+            Err(_) => return Ok(None),
+        }
+        if bytes.len() as u64 > limit {
+            return Ok(None);
+        }
+    }
+    Ok(None)
+}

@@ -1,6 +1,0 @@
-mod FileLaws
-mod AnswerLaws
-mod BatchWordsLaws
-mod CertifyLaws
-mod FrameTextLaws
-mod PrintLaws

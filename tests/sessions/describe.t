@@ -1,0 +1,38 @@
+Descriptions of cards.
+
+  $ sdv describe $EXAMPLES/sd_byte.card
+  SD card of version 1 with byte addresses
+  capacity: 16 blocks, 8192 bytes
+  image that `run` wants: 16 blocks, 8192 bytes
+  block length at the start: 512 bytes
+  relative card address: 1
+  CSD, bits 127 to 8: 0000000000090000c0000000000000
+      CSD_STRUCTURE 0
+      READ_BL_LEN 9
+      C_SIZE 3
+      C_SIZE_MULT 0
+  $ sdv describe - < $EXAMPLES/emmc_boot.card
+  e.MMC device with block addresses
+  capacity: 2048 blocks, 1048576 bytes
+  each boot partition: 256 blocks, 131072 bytes
+  image that `run` wants: 2560 blocks, 1310720 bytes
+  block length at the start: 512 bytes
+  relative card address: 1
+  CSD, bits 127 to 8: 00000000000903ffc0038000000000
+      CSD_STRUCTURE 0
+      READ_BL_LEN 9
+      C_SIZE 4095
+      C_SIZE_MULT 7
+  EXT_CSD:
+      SEC_COUNT 2048
+      BOOT_SIZE_MULT 1
+
+A text that is none.
+
+  $ printf 'card sd\nversion 3\n' | sdv describe -
+  line 2: here is to stand `version` and 1 or 2
+  card fault Description
+  [1]
+  $ sdv describe none.card
+  cannot use none.card
+  [2]

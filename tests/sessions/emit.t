@@ -1,0 +1,48 @@
+Tables of accepted scripts.
+
+  $ printf 'card sd\nsend 0 { else { } }\nfault stop\n' > a.sdv; sdv certify a.sdv > a.cert
+  $ sdv emit a.sdv a.cert table --binary a.bin
+  /* Table of the script a.sdv, certified to send at most 1 commands a run. */
+  /* In each run beside a card of the script's kind and of the profile in Guzveldra's docs/CARDS.md, just powered
+   * on, at most that many commands are sent, each of them legal in the card's state, with addresses on the card.
+   * The run ends: in `done` with the card in the transfer state, in a fault that the script names, or in the fault
+   * `number`.
+   *
+   * This is proved for the script, and the table is proved to be the script's. The premises: a player steps through
+   * the table as docs/TABLES.md says, and its driver does what firmware/README.md asks. No player in C is proved. */
+  #include <stdint.h>
+  
+  const uint32_t table[] = {
+      /* header */
+      0x54564453, 0x00000001, 0x000c0002, 0x00000000, 0x00000002, 0x00000000,
+      0x00080400, /* point 0, line 2: CMD0 */
+      0x000b0049, /* point 1, line 3: fault stop */
+      /* rows */
+      0x00000001, 0x00000000, 0x00000000, 0x706f7473,
+  };
+  $ od -A n -t x1 -v a.bin | head -n 2
+   53 44 56 54 01 00 00 00 02 00 0c 00 00 00 00 00
+   02 00 00 00 00 00 00 00 00 04 08 00 49 00 0b 00
+
+A name that could end the comment does not.
+
+  $ cp a.sdv 'b*?.sdv'; sdv emit 'b*?.sdv' a.cert table | head -n 1
+  /* Table of the script b\x2a\x3f.sdv, certified to send at most 1 commands a run. */
+
+Why there is none; nothing is printed, and no file is made, then.
+
+  $ sdv emit a.sdv a.cert while 2>&1 | cut -c 1-18
+  usage: sdv frame I
+  $ sdv emit a.sdv a.cert 2b --binary c.bin 2>&1 > c.c | cut -c 1-18
+  usage: sdv frame I
+  $ sdv emit a.sdv $EXAMPLES/sd_bring_up.cert table --binary c.bin > c.c
+  refused Points
+  [1]
+  $ wc -c < c.c; ls c.bin 2> c.said || echo none
+  0
+  none
+  $ sdv emit a.sdv a.cert table --binary . > c.c
+  cannot use .
+  [2]
+  $ wc -c < c.c
+  0
