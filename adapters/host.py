@@ -1,10 +1,10 @@
 #!/usr/bin/env python3
 """A host over the lines of docs/PROTOCOL.md: brings an SD card up, writes block 3, reads it back, and meets a lost answer.
 
-    host.py PROGRAM WORD..      as in: host.py adapters/qemu-sdhci/qemu-sdhci card.img
+    host.py PROGRAM WORD..      as in: host.py sdv card examples/sd_block.card new:1024
 
-PROGRAM answers requests on its standard streams, as adapters/qemu-sdhci does, or a program that talks to a device behind a serial
-line. Each request is printed with its answer. The status is 0 where the block was read as it was written.
+PROGRAM answers requests on its standard streams, as `sdv card` and adapters/qemu-sdhci do, or a program that talks to a device
+behind a serial line. Each request is printed with its answer. The status is 0 where the block was read as it was written.
 """
 import subprocess
 import sys

@@ -19,6 +19,17 @@ _sdv_words() {
     mapfile -t COMPREPLY < <(compgen -W "$2" -- "$1")
 }
 
+# _sdv_image WORD: images, and a new one
+_sdv_image() {
+    _sdv_files "$1" '*.img' '*.image' '*.bin'
+    if [[ new: == "$1"* && $1 != new: ]]; then
+        COMPREPLY+=(new:)
+        compopt -o nospace 2> /dev/null
+        # as a file name the colon would get a backslash
+        [ "${#COMPREPLY[@]}" -gt 1 ] || compopt +o filenames 2> /dev/null
+    fi
+}
+
 _sdv() {
     COMPREPLY=()
     # the words up to the cursor; COMP_WORDS would split new:16 at its colon
@@ -28,13 +39,13 @@ _sdv() {
     last=$((${#words[@]} - 1))
     local word=${words[last]} before=${words[last - 1]}
     if [ "$last" -eq 1 ]; then
-        _sdv_words "$word" "frame certify check run batch explain graph print emit audit describe --help --version"
+        _sdv_words "$word" "frame certify check run batch explain graph print emit audit describe drive card --help --version"
         return
     fi
     # which of the command's words this is, options and their files left out
     for ((at = 2; at < last; at++)); do
         case ${words[at]} in
-        --in | --out | --binary) at=$((at + 1)) ;;
+        --in | --out | --trace | --binary) at=$((at + 1)) ;;
         -?*) ;;
         *) place=$((place + 1)) ;;
         esac
@@ -49,16 +60,19 @@ _sdv() {
         *:0) _sdv_files "$word" '*.sdv' ;;
         *:1) _sdv_files "$word" '*.cert' ;;
         *:2) _sdv_files "$word" '*.card' ;;
-        *:3)
-            _sdv_files "$word" '*.img' '*.image' '*.bin'
-            if [[ new: == "$word"* && $word != new: ]]; then
-                COMPREPLY+=(new:)
-                compopt -o nospace 2> /dev/null
-                # as a file name the colon would get a backslash
-                [ "${#COMPREPLY[@]}" -gt 1 ] || compopt +o filenames 2> /dev/null
-            fi ;;
+        *:3) _sdv_image "$word" ;;
         *:4) _sdv_files "$word" '*' ;;
         esac ;;
+    drive:*)
+        case $before:$word:$place in
+        --in:* | --out:* | --trace:*) _sdv_files "$word" '*' ;;
+        *:-*:*) _sdv_words "$word" "--in --out --trace" ;;
+        *:0) _sdv_files "$word" '*.sdv' ;;
+        *:1) _sdv_files "$word" '*.cert' ;;
+        esac ;;
+    card:0) _sdv_files "$word" '*.card' ;;
+    card:1) _sdv_image "$word" ;;
+    card:2) _sdv_files "$word" '*' ;;
     emit:*)
         case $before:$word:$place in
         --binary:*) _sdv_files "$word" '*' ;;

@@ -14,8 +14,10 @@ mod tests;
 
 use sdv_commands::progress::{Below, Counted, Progress};
 use sdv_commands::start::start;
+use sdv_faults::Fault;
+use sdv_lines::LinePort;
 use std::fs;
-use std::io::{self, IsTerminal};
+use std::io::{self, BufReader, BufWriter, IsTerminal, Stdin, Stdout};
 use std::process::ExitCode;
 use std::rt::Env;
 
@@ -35,9 +37,25 @@ fn main(rt: HostRuntime) -> ExitCode {
         inner: rt.stderr(),
         progress: &progress,
     };
-    let status = start(&rt, words, &mut out, &mut err);
+    let status = match line_streams(&rt) {
+        Ok((reader, writer)) => {
+            let mut lines = LinePort::new(reader, writer);
+            start(&rt, words, &mut lines, &mut out, &mut err)
+        }
+        Err(_) => Fault::Memory.report(&mut err),
+    };
     progress.hide();
     ExitCode::from(status)
+}
+
+/// As many bytes of lines are read or written at a time: as many as a pipe holds.
+const LINE_BUFFER: usize = 65_536;
+
+// The standard streams in buffers, for the commands that speak in lines.
+fn line_streams(rt: &HostRuntime) -> io::Result<(BufReader<Stdin>, BufWriter<Stdout>)> {
+    let reader = BufReader::with_capacity(rt.alloc(), LINE_BUFFER, rt.stdin())?;
+    let writer = BufWriter::with_capacity(rt.alloc(), LINE_BUFFER, rt.stdout())?;
+    Ok((reader, writer))
 }
 
 // The words of the process, of which no clause of the standard library says anything.

@@ -1,6 +1,7 @@
 //! The program on the words of a process.
 use crate::testing::{USAGE, same};
 use sdv_commands::start::start;
+use sdv_lines::LinePort;
 use std::io::{self, ErrorKind};
 use std::process::Abort;
 use std::rt::Files;
@@ -15,7 +16,8 @@ fn expect_start<R: Files + AllocGlobal + Abort>(
 ) {
     let mut out = Vec::new(rt.alloc());
     let mut err = Vec::new(rt.alloc());
-    same(rt, &start(rt, words, &mut out, &mut err), &status);
+    let mut lines = LinePort::new(io::empty(), io::sink());
+    same(rt, &start(rt, words, &mut lines, &mut out, &mut err), &status);
     same(rt, &str::from_utf8(&out), &Ok(printed));
     same(rt, &str::from_utf8(&err), &Ok(said));
 }

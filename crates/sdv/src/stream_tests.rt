@@ -2,6 +2,7 @@
 use crate::testing::{CERTIFICATE, Full, SMALLEST};
 use sdv_commands::program::{answer, program};
 use sdv_files::{Store, bytes_within};
+use sdv_lines::LinePort;
 use sdv_run_command::NewImage;
 use std::alloc::{AllocError, Global};
 use std::fs;
@@ -110,7 +111,8 @@ fn certify_into<R: Files + AllocGlobal + Abort>(rt: &R, room: usize) {
         room,
     };
     let status = if room == CERTIFICATE.len() { 0 } else { 2 };
-    let found = program(rt, &["certify", "printed.sdv"], &mut out, &mut err);
+    let mut lines = LinePort::new(io::empty(), io::sink());
+    let found = program(rt, &["certify", "printed.sdv"], &mut lines, &mut out, &mut err);
     assert!(rt; found == status, "at {room}");
     let is_front = CERTIFICATE.as_bytes().starts_with(&out.taken);
     assert!(rt; out.taken.len() == room && is_front, "at {room}");
@@ -135,7 +137,8 @@ static ANSWERED: [(&[&str], &str); 2] = [
 fn answers_from_texts_in_memory(rt: HostRuntime) {
     for row in ANSWERED.iter() {
         let mut out = Vec::new(rt.alloc());
-        answer(rt.alloc(), &Pair, row.0, &mut out).expect(&rt, row.1);
+        let mut lines = LinePort::new(io::empty(), io::sink());
+        answer(rt.alloc(), &Pair, row.0, &mut lines, &mut out).expect(&rt, row.1);
         assert!(rt; out.as_slice() == row.1.as_bytes(), "{}", row.1);
     }
 }

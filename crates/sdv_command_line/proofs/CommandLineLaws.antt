@@ -11,8 +11,8 @@ use Rattle.clap.specs.Faults.{entered_fault, level_fault}
 use Rattle.clap.specs.Words.{App, app_of, HasKind, Kinds, Row, Shape, Text, built, fault_of, first_of, is_simple, is_simple_and_free, kind_of, matches_of, subcommand_of, takes}
 use Rattle.clap.specs.declared.error.Error.{Error}
 use Rattle.clap.specs.declared.error.kind.ErrorKind.TheVariants.{OutOfMemory}
-use Rattle.sdv_command_line.specs.Commands.{Command, Word, of_emit, of_run, of_script, of_script_and_certificate, required, optional, with_value, flag, of_audit, of_card}
-use Rattle.sdv_command_line.specs.Requests.{Request, by_emit_words, by_run_words, by_script, by_two_words, run, frame, certify, check, batch, emit, explain, graph, print, request_in, seen, by_audit_words, by_card, is_set, audit, describe}
+use Rattle.sdv_command_line.specs.Commands.{Command, Word, of_emit, of_run, of_script, of_script_and_certificate, required, optional, with_value, flag, of_audit, of_card, of_drive, of_served_card}
+use Rattle.sdv_command_line.specs.Requests.{Request, by_emit_words, by_run_words, by_script, by_two_words, run, frame, certify, check, batch, emit, explain, graph, print, request_in, seen, by_audit_words, by_card, by_card_words, by_drive_words, is_set, audit, describe, drive, serve}
 use Rattle.sdv_command_line.specs.CommandLine.{app_for, command_line, meaning_of, request_without, rule_for, with_word}
 use Rattle.sdv_command_line.specs.declared.request.Request.{Request as CodeRequest}
 use Rattle.sdv_command_line.specs.declared.request.RequestFault.{RequestFault}
@@ -180,6 +180,23 @@ card_given request rows given = go (first_of (codes "CARD") rows) given
     go None given = cc
     go (Some card) given = refl
 
+drive_given : (rows : List Row) → is_some (first_of (codes "SCRIPT") rows) ≡ true → is_some (first_of (codes "CERT") rows) ≡ true
+    → is_some (by_drive_words rows) ≡ true
+drive_given rows script certificate =
+    two_given (codes "SCRIPT") (codes "CERT") (λ script certificate. drive (record {
+      script = script;
+      certificate = certificate;
+      input = first_of (codes "in") rows;
+      output = first_of (codes "out") rows;
+      trace = first_of (codes "trace") rows;
+    })) rows script certificate
+
+served_given : (rows : List Row) → is_some (first_of (codes "CARD") rows) ≡ true → is_some (first_of (codes "IMAGE") rows) ≡ true
+    → is_some (by_card_words rows) ≡ true
+served_given rows card image =
+    two_given (codes "CARD") (codes "IMAGE")
+    (λ card image. serve (record { card = card; image = image; schedule = first_of (codes "SCHEDULE") rows })) rows card image
+
 frame_means : Means (shape 0)
 frame_means words none =
     let given = leaf_required (shape 0) words (one_word 1 (required (codes "INDEX") ∷ required (codes "ARG") ∷ [])) none in
@@ -230,8 +247,18 @@ describe_means : Means (shape 10)
 describe_means words none =
     card_given describe (rows_at (shape 10) words).1 ((leaf_required (shape 10) words (one_word 1 of_card) none).0 refl)
 
+drive_means : Means (shape 11)
+drive_means words none =
+    let given = leaf_required (shape 11) words (one_word 1 of_drive) none in
+    drive_given (rows_at (shape 11) words).1 (given.0 refl) (given.1.0 refl)
+
+served_means : Means (shape 12)
+served_means words none =
+    let given = leaf_required (shape 12) words (one_word 1 of_served_card) none in
+    served_given (rows_at (shape 12) words).1 (given.0 refl) (given.1.0 refl)
+
 each_means : AllByRecursion Means (built command_line).subs
-each_means = (frame_means, (certify_means, (check_means, (run_means, (batch_means, (explain_means, (graph_means, (print_means, (emit_means, (audit_means, (describe_means, tt)))))))))))
+each_means = (frame_means, (certify_means, (check_means, (run_means, (batch_means, (explain_means, (graph_means, (print_means, (emit_means, (audit_means, (describe_means, (drive_means, (served_means, tt)))))))))))))
 
 found_means : (p : Shape → Bool) (shapes : List Shape) → AllByRecursion Means shapes → IfSome (find p shapes) Means
 found_means p [] each = tt

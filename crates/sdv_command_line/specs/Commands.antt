@@ -51,6 +51,17 @@ of_audit = required (codes "KIND") ∷ required (codes "TRACE") ∷ flag (codes 
 abbrev pub of_card : List Word
 of_card = required (codes "CARD") ∷ []
 
+abbrev pub of_drive : List Word
+of_drive =
+    required (codes "SCRIPT") ∷ required (codes "CERT")
+    ∷ with_value (codes "in") (codes "FILE")
+    ∷ with_value (codes "out") (codes "FILE")
+    ∷ with_value (codes "trace") (codes "FILE")
+    ∷ []
+
+abbrev pub of_served_card : List Word
+of_served_card = required (codes "CARD") ∷ required (codes "IMAGE") ∷ optional (codes "SCHEDULE") ∷ []
+
 -- the commands, in the order of the usage line
 abbrev pub commands : List Command
 commands =
@@ -65,6 +76,8 @@ commands =
     ∷ command (codes "emit") of_emit (codes "prints the table of a script in C")
     ∷ command (codes "audit") of_audit (codes "prints where the host or the card of a trace leaves the rules")
     ∷ command (codes "describe") of_card (codes "prints a card description in words, or the line that is wrong")
+    ∷ command (codes "drive") of_drive (codes "runs the script over lines: requests are printed, and answers read")
+    ∷ command (codes "card") of_served_card (codes "answers such requests by a simulated card")
     ∷ []
 
 -- a word and a command of the code's table

@@ -3,10 +3,12 @@ use Rattle.std.specs.Prelude.{Bool, false, List, Option, Some, None, codes, if�
 use Rattle.std.specs.Str.{bytes_eq}
 use Rattle.clap.specs.Words.{Row, Text, first_of}
 use Rattle.sdv_command_line.specs.declared.request.Request.{Request as CodeRequest}
-use Rattle.sdv_command_line.specs.declared.request.Request.TheVariants.{Frame, Certify, Check, Run, Batch, Explain, Graph, Print, Emit, Audit, Describe}
+use Rattle.sdv_command_line.specs.declared.request.Request.TheVariants.{Frame, Certify, Check, Run, Batch, Explain, Graph, Print, Emit, Audit, Describe, Drive, Card}
 use Rattle.sdv_command_line.specs.declared.request.RunFiles.{RunFiles}
 use Rattle.sdv_command_line.specs.declared.request.EmitWords.{EmitWords}
 use Rattle.sdv_command_line.specs.declared.request.AuditWords.{AuditWords}
+use Rattle.sdv_command_line.specs.declared.request.DriveFiles.{DriveFiles}
+use Rattle.sdv_command_line.specs.declared.request.CardFiles.{CardFiles}
 
 -- the files of a run, by their names
 pub record RunNames : Type 0 where
@@ -32,6 +34,20 @@ pub record AuditNames : Type 0 where
   pub json : Bool
   pub annotate : Bool
 
+-- the files of a run over lines, by their names
+pub record DriveNames : Type 0 where
+  pub script : Text
+  pub certificate : Text
+  pub input : Option Text
+  pub output : Option Text
+  pub trace : Option Text
+
+-- the files of a card that answers lines, by their names
+pub record CardNames : Type 0 where
+  pub card : Text
+  pub image : Text
+  pub schedule : Option Text
+
 -- a command of the program, with the texts of its words
 pub data Request : Type 0 where
   frame : (index argument : Text) → Request
@@ -45,6 +61,9 @@ pub data Request : Type 0 where
   emit : EmitNames → Request
   audit : AuditNames → Request
   describe : (card : Text) → Request
+  drive : DriveNames → Request
+  -- `card`
+  serve : CardNames → Request
 
 -- THE ROWS that clap matched for the words of a command
 
@@ -101,6 +120,24 @@ by_audit_words rows =
       annotate = is_set (codes "annotate") rows;
     }))))
 
+abbrev pub by_drive_words : List Row → Option Request
+by_drive_words rows =
+    by_word (codes "SCRIPT") rows (λ script. by_word (codes "CERT") rows (λ certificate. Some (drive (record {
+      script = script;
+      certificate = certificate;
+      input = first_of (codes "in") rows;
+      output = first_of (codes "out") rows;
+      trace = first_of (codes "trace") rows;
+    }))))
+
+abbrev pub by_card_words : List Row → Option Request
+by_card_words rows =
+    by_word (codes "CARD") rows (λ card. by_word (codes "IMAGE") rows (λ image. Some (serve (record {
+      card = card;
+      image = image;
+      schedule = first_of (codes "SCHEDULE") rows;
+    }))))
+
 -- the request in a command's name and the rows of its words
 abbrev pub request_in : Text × List Row → Option Request
 request_in used =
@@ -115,6 +152,8 @@ request_in used =
     else if bytes_eq used.0 (codes "emit") then by_emit_words used.1
     else if bytes_eq used.0 (codes "audit") then by_audit_words used.1
     else if bytes_eq used.0 (codes "describe") then by_card describe used.1
+    else if bytes_eq used.0 (codes "drive") then by_drive_words used.1
+    else if bytes_eq used.0 (codes "card") then by_card_words used.1
     else None
 
 -- THE CODE'S REQUEST, with references to the words
@@ -142,6 +181,22 @@ abbrev pub audit_names_of : AuditWords → AuditNames
 audit_names_of words =
     record { kind = words.kind.now; trace = words.trace.now; json = words.json; annotate = words.annotate }
 
+abbrev pub drive_names_of : DriveFiles → DriveNames
+drive_names_of files = record {
+  script = files.script.now;
+  certificate = files.certificate.now;
+  input = option_map (λ file. file.now) files.input;
+  output = option_map (λ file. file.now) files.output;
+  trace = option_map (λ file. file.now) files.trace;
+}
+
+abbrev pub card_names_of : CardFiles → CardNames
+card_names_of files = record {
+  card = files.card.now;
+  image = files.image.now;
+  schedule = option_map (λ file. file.now) files.schedule;
+}
+
 abbrev pub seen : CodeRequest → Request
 seen (Frame index argument) = frame index.now argument.now
 seen (Certify script) = certify script.now
@@ -154,3 +209,5 @@ seen (Print script) = print script.now
 seen (Emit words) = emit (emit_names_of words)
 seen (Audit words) = audit (audit_names_of words)
 seen (Describe card) = describe card.now
+seen (Drive files) = drive (drive_names_of files)
+seen (Card files) = serve (card_names_of files)

@@ -9,5 +9,7 @@ mod request;
 mod table;
 
 pub use pages::{HELP, USAGE, help, usage};
-pub use request::{AuditWords, EmitWords, Request, RequestFault, RunFiles, request_of};
+pub use request::{
+    AuditWords, CardFiles, DriveFiles, EmitWords, Request, RequestFault, RunFiles, request_of,
+};
 pub use table::{COMMANDS, CommandEntry, Word};

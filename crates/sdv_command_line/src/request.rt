@@ -7,6 +7,7 @@ ghost use Rattle.clap.specs.declared.error.kind.ErrorKind.TheVariants.{OutOfMemo
 ghost use Rattle.sdv_command_line.specs.CommandLine.{command_line, meaning_of};
 ghost use Rattle.sdv_command_line.specs.Requests.{by_emit_words, by_run_words, by_script, by_two_words, request_in, seen, by_audit_words, by_card, is_set};
 ghost use Rattle.sdv_command_line.specs.Requests.{batch, certify, check, explain, frame, graph, print, describe};
+ghost use Rattle.sdv_command_line.specs.Requests.{by_card_words, by_drive_words};
 
 use crate::clap_command::program_command;
 use crate::pages::USAGE;
@@ -59,6 +60,34 @@ pub enum Request<'a> {
     },
     /// The table of the script in these files, in C.
     Emit(EmitWords<'a>),
+    /// The run of the script in these files over lines.
+    Drive(DriveFiles<'a>),
+    /// The simulated card of these files, which answers requests in lines.
+    Card(CardFiles<'a>),
+}
+
+/// The names of the files of a run over lines.
+#[derive(Clone, Copy)]
+pub struct DriveFiles<'a> {
+    pub script: &'a str,
+    pub certificate: &'a str,
+    /// The blocks that the script gives. Without it there are none.
+    pub input: Option<&'a str>,
+    /// Where the blocks go that the script receives. Without it they are dropped.
+    pub output: Option<&'a str>,
+    /// Where the trace goes. Without it there is none.
+    pub trace: Option<&'a str>,
+}
+
+/// The names of the files of a card that answers lines.
+#[derive(Clone, Copy)]
+pub struct CardFiles<'a> {
+    /// The description of the card.
+    pub card: &'a str,
+    /// The image of the card, or `new:` and how many blocks of zeros it has.
+    pub image: &'a str,
+    /// The schedule of the card. Without one the card is prompt at each event.
+    pub schedule: Option<&'a str>,
 }
 
 /// The names of a table's files, and of its array.
@@ -166,6 +195,8 @@ fn request_in<'a>(matches: &ArgMatches<'a>) -> Option<Request<'a>>
         ("emit", matches) => emit_in(matches),
         ("audit", matches) => audit_in(matches),
         ("describe", matches) => describe_in(matches),
+        ("drive", matches) => drive_in(matches),
+        ("card", matches) => card_in(matches),
         _ => None,
     }
 }
@@ -294,5 +325,31 @@ fn emit_in<'a>(matches: &ArgMatches<'a>) -> Option<Request<'a>>
         certificate,
         name,
         binary: word_in(matches, "binary"),
+    }))
+}
+
+fn drive_in<'a>(matches: &ArgMatches<'a>) -> Option<Request<'a>>
+    ensures { option_map seen result ≡ by_drive_words (rows_of (found_of matches.now)) }
+{
+    let script = word_in(matches, "SCRIPT")?;
+    let certificate = word_in(matches, "CERT")?;
+    Some(Request::Drive(DriveFiles {
+        script,
+        certificate,
+        input: word_in(matches, "in"),
+        output: word_in(matches, "out"),
+        trace: word_in(matches, "trace"),
+    }))
+}
+
+fn card_in<'a>(matches: &ArgMatches<'a>) -> Option<Request<'a>>
+    ensures { option_map seen result ≡ by_card_words (rows_of (found_of matches.now)) }
+{
+    let card = word_in(matches, "CARD")?;
+    let image = word_in(matches, "IMAGE")?;
+    Some(Request::Card(CardFiles {
+        card,
+        image,
+        schedule: word_in(matches, "SCHEDULE"),
     }))
 }

@@ -26,7 +26,7 @@ pub struct CommandEntry {
 }
 
 /// The commands of the program, in the order in which `--help` and the usage line name them.
-pub static COMMANDS: [CommandEntry; 11] = [
+pub static COMMANDS: [CommandEntry; 13] = [
     CommandEntry {
         name: "frame",
         words: &[Word::Required("INDEX"), Word::Required("ARG")],
@@ -108,5 +108,34 @@ pub static COMMANDS: [CommandEntry; 11] = [
         name: "describe",
         words: &[Word::Required("CARD")],
         help: "prints a card description in words, or the line that is wrong",
+    },
+    CommandEntry {
+        name: "drive",
+        words: &[
+            Word::Required("SCRIPT"),
+            Word::Required("CERT"),
+            Word::WithValue {
+                name: "in",
+                value: "FILE",
+            },
+            Word::WithValue {
+                name: "out",
+                value: "FILE",
+            },
+            Word::WithValue {
+                name: "trace",
+                value: "FILE",
+            },
+        ],
+        help: "runs the script over lines: requests are printed, and answers read",
+    },
+    CommandEntry {
+        name: "card",
+        words: &[
+            Word::Required("CARD"),
+            Word::Required("IMAGE"),
+            Word::Optional("SCHEDULE"),
+        ],
+        help: "answers such requests by a simulated card",
     },
 ];

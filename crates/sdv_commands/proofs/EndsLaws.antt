@@ -1,8 +1,8 @@
 -- What the end of a request says of standard output.
-use Rattle.std.proofs.Common.{◌≡◌, ◌≢◌, ◌∙◌, refl, sym, ap, ℕ, Bor, IsErrAnd, List, Option, Result, Some, None, option_map}
+use Rattle.std.proofs.Common.{◌≡◌, ◌≢◌, ◌∙◌, refl, sym, ap, ℕ, Bor, IfErr, IsErrAnd, List, OnOk, Option, Result, Ok, Err, Some, None, option_map}
 use Rattle.std.specs.Io.KnownBytes.{Keeps}
 use Rattle.clap.specs.Words.{Text}
-use Rattle.sdv_command_line.specs.Requests.{Request, frame, certify, check, run, batch, explain, graph, print, emit, audit, describe}
+use Rattle.sdv_command_line.specs.Requests.{CardNames, DriveNames, Request, frame, certify, check, run, batch, explain, graph, print, emit, audit, describe, drive, serve}
 use Rattle.sdv_command_line.specs.CommandLine.{meaning_of}
 use Rattle.sdv_command_line.specs.declared.request.RequestFault.{RequestFault}
 use Rattle.sdv_command_line.specs.declared.request.RequestFault.TheVariants as requests
@@ -15,7 +15,11 @@ use Rattle.sdv_files.specs.Outcomes.{OverText, Prints, PrintsText, Reports, outc
 use Rattle.sdv_files.proofs.OutcomeLaws.{failed, over-kept, prints-kept}
 use Rattle.sdv_files.proofs.StartLaws.{keeps_same}
 use Rattle.sdv_faults.specs.Refused.{Refuses}
+use Rattle.sdv_lines.specs.Streams.{Streams}
 use Rattle.sdv_emit_command.specs.Emit.{IsTableText, TableEnds, Unemitted}
+use Rattle.sdv_streams.specs.CardSide.{CardEnds, CardFails, EndsCard}
+use Rattle.sdv_streams.specs.Drive.{DriveEnds, DriveFails, EndsDrive}
+use Rattle.sdv_trace.specs.declared.end.End.TheVariants.{Done}
 use Rattle.sdv_commands.specs.Batch.{HasNoBatch, IsBatchText}
 use Rattle.sdv_commands.specs.Certify.{HasNone, IsCertificate}
 use Rattle.sdv_commands.specs.Check.{IsBoundLine}
@@ -26,9 +30,9 @@ use Rattle.sdv_commands.specs.Graph.{IsDrawing, IsUndrawn}
 use Rattle.sdv_commands.specs.Print.{HasNoTokens, IsPrinted}
 use Rattle.sdv_commands.specs.Ends.{AreQuiet, AreWhole, EndsRequest, EndsWords, IsQuiet, IsWhole, for_memory, for_nothing, for_page, for_request}
 
-module _ (files : Files) (before after : Option (List ℕ)) where
+module _ (files : Files) (s s' : Streams) (before after : Option (List ℕ)) where
   -- a request that is refused prints nothing, but a run, an explanation, a drawing, an audit and the page of a description
-  quiet-kept : (request : Request) → IsQuiet request → (fault : Fault) → fault ≢ Output → EndsRequest files request (Some fault) before after
+  quiet-kept : (request : Request) → IsQuiet request → (fault : Fault) → fault ≢ Output → EndsRequest files s s' request (Some fault) before after
       → Keeps before after
   quiet-kept (frame index argument) quiet fault other ends =
       prints-kept before after (IsFrameText index argument) (WriteNone index argument) fault other ends
@@ -55,9 +59,11 @@ module _ (files : Files) (before after : Option (List ℕ)) where
       ends
   quiet-kept (audit names) quiet fault other ends = absurd quiet
   quiet-kept (describe card) quiet fault other ends = absurd quiet
+  quiet-kept (drive names) quiet fault other ends = ends.1
+  quiet-kept (serve names) quiet fault other ends = ends.1
 
   -- nothing is printed for want of memory, but by an audit
-  memory-kept : (request : Request) → IsWhole request → EndsRequest files request (Some Memory) before after → Keeps before after
+  memory-kept : (request : Request) → IsWhole request → EndsRequest files s s' request (Some Memory) before after → Keeps before after
   memory-kept (frame index argument) whole ends = ends
   memory-kept (certify script) whole ends =
       over-kept before after files script (λ (text : Text). Prints (IsCertificate text) (HasNone text)) (Some Memory) (λ text kept. kept) ends
@@ -80,19 +86,21 @@ module _ (files : Files) (before after : Option (List ℕ)) where
   memory-kept (audit names) whole ends = absurd whole
   memory-kept (describe card) whole ends =
       over-kept before after files card (λ (text : Text). Reports (IsPageOf text) HasNoPage) (Some Memory) (λ text kept. kept) ends
+  memory-kept (drive names) whole ends = ends.1
+  memory-kept (serve names) whole ends = ends.1
 
   page-fault : (page : Text) (fault : Fault) → PrintsText page (Some fault) before after → fault ≡ Output
   page-fault page Output ends = refl
   page-fault page _ ends = absurd ends
 
-  pub words-kept : (words : List Text) → AreQuiet words → (fault : Fault) → fault ≢ Output → EndsWords files words (Some fault) before after
+  pub words-kept : (words : List Text) → AreQuiet words → (fault : Fault) → fault ≢ Output → EndsWords files s s' words (Some fault) before after
       → Keeps before after
   words-kept words quiet fault other (for_page page asked ends) = absurd (other (page-fault page fault ends))
   words-kept words quiet fault other (for_request request means ends) = quiet-kept request (quiet request means) fault other ends
   words-kept words quiet fault other (for_nothing no_page none is kept) = kept
   words-kept words quiet fault other (for_memory is kept) = kept
 
-  pub words-memory-kept : (words : List Text) → AreWhole words → EndsWords files words (Some Memory) before after → Keeps before after
+  pub words-memory-kept : (words : List Text) → AreWhole words → EndsWords files s s' words (Some Memory) before after → Keeps before after
   words-memory-kept words whole (for_page page asked ends) = absurd ends
   words-memory-kept words whole (for_request request means ends) = memory-kept request (whole request means) ends
   words-memory-kept words whole (for_nothing no_page none is kept) = kept
@@ -113,11 +121,22 @@ pub no_page : (found : Option (Bor (List ℕ))) (page : Option Text) → option_
     → page ≡ None
 no_page found page same none = sym same ∙ ap (option_map (λ (page : Bor (List ℕ)). page.now)) none
 
-module _ (files : Files) (words : List Text) (known : Option (List ℕ)) (none_asked : page_of words ≡ None) where
-  unread : (fault : RequestFault) → (fault ≡ requests.Usage → meaning_of words ≡ None) → EndsWords files words (Some (fault_of_request fault)) known known
+module _ (files : Files) (s s' : Streams) (words : List Text) (known : Option (List ℕ)) (none_asked : page_of words ≡ None) where
+  unread : (fault : RequestFault) → (fault ≡ requests.Usage → meaning_of words ≡ None) → EndsWords files s s' words (Some (fault_of_request fault)) known known
   unread requests.Usage none = for_nothing none_asked (none refl) refl (keeps_same known)
   unread requests.Memory none = for_memory refl (keeps_same known)
 
   pub no_request : {T : Type 0} (fault : RequestFault) → (fault ≡ requests.Usage → meaning_of words ≡ None) → (r : Result T Fault)
-      → IsErrAnd r (λ f. f ≡ fault_of_request fault) → EndsWords files words (outcome_of r) known known
-  no_request fault none r is = failed (λ outcome. EndsWords files words outcome known known) _ r is (unread fault none)
+      → IsErrAnd r (λ f. f ≡ fault_of_request fault) → EndsWords files s s' words (outcome_of r) known known
+  no_request fault none r is = failed (λ outcome. EndsWords files s s' words outcome known known) _ r is (unread fault none)
+
+-- THE COMMANDS that speak in lines, by the answers of their functions
+pub drive_ends : (files : Files) (names : DriveNames) (s s' : Streams) (r : Result (Unit {0}) Fault) → OnOk r (EndsDrive files names Done s s')
+    → IfErr r (λ fault. DriveFails files names fault s s') → DriveEnds files names s s' (outcome_of r)
+drive_ends files names s s' (Ok done) ends fails = ends
+drive_ends files names s s' (Err fault) ends fails = fails
+
+pub card_ends : (files : Files) (names : CardNames) (a a' q q' : Option (List ℕ)) (r : Result (Unit {0}) Fault) → OnOk r (EndsCard files names a a' q q')
+    → IfErr r (λ fault. CardFails files names fault a a' q q') → CardEnds files names a a' q q' (outcome_of r)
+card_ends files names a a' q q' (Ok done) ends fails = ends
+card_ends files names a a' q q' (Err fault) ends fails = fails

@@ -1,15 +1,19 @@
--- How the program ends, by the words that it was called with.
+-- How the program ends, by the words that it was called with. It has two streams of lines beside its output: requests and
+-- answers pass there, and nothing is claimed of them where the words ask for neither.
 use Rattle.std.specs.Prelude.{◌≡◌, ℕ, List, Option, Some, None}
 use Rattle.std.specs.Io.KnownBytes.{Keeps}
 use Rattle.clap.specs.Words.{Text}
 use Rattle.sdv_command_line.specs.CommandLine.{meaning_of}
-use Rattle.sdv_command_line.specs.Requests.{Request, frame, certify, check, run, batch, explain, graph, print, emit, audit, describe}
+use Rattle.sdv_command_line.specs.Requests.{Request, frame, certify, check, run, batch, explain, graph, print, emit, audit, describe, drive, serve}
 use Rattle.sdv_faults.specs.Fault.{Says, status_of}
 use Rattle.sdv_faults.specs.declared.fault.Fault.{Fault}
 use Rattle.sdv_faults.specs.declared.fault.Fault.TheVariants.{Usage, Memory}
 use Rattle.sdv_files.specs.Files.{Files}
 use Rattle.sdv_files.specs.Outcomes.{Ending, PrintsText}
+use Rattle.sdv_lines.specs.Streams.{Streams}
 use Rattle.sdv_run_command.specs.Run.{RunEnds}
+use Rattle.sdv_streams.specs.CardSide.{CardEnds}
+use Rattle.sdv_streams.specs.Drive.{DriveEnds}
 use Rattle.sdv_commands.specs.Audit.{AuditEnds}
 use Rattle.sdv_commands.specs.Batch.{BatchEnds}
 use Rattle.sdv_commands.specs.Certify.{CertifyEnds}
@@ -24,18 +28,24 @@ use Rattle.sdv_commands.specs.Print.{PrintEnds}
 
 -- REQUESTS, command by command
 
-abbrev pub EndsRequest : Files → Request → Ending
-EndsRequest files (frame index argument) = FrameEnds index argument
-EndsRequest files (certify script) = CertifyEnds files script
-EndsRequest files (check script certificate) = CheckEnds files script certificate
-EndsRequest files (run names) = RunEnds files names
-EndsRequest files (batch kind requests) = BatchEnds kind requests
-EndsRequest files (explain script) = ExplainEnds files script
-EndsRequest files (graph script) = GraphEnds files script
-EndsRequest files (print script) = PrintEnds files script
-EndsRequest files (emit names) = EmitEnds files names
-EndsRequest files (audit names) = AuditEnds files names
-EndsRequest files (describe card) = DescribeEnds files card
+-- nothing is printed but the lines
+abbrev pub Speaks : (Ends : Option Fault → Type 0) → Ending
+Speaks Ends outcome before after = Ends outcome × Keeps before after
+
+abbrev pub EndsRequest : Files → (s s' : Streams) → Request → Ending
+EndsRequest files s s' (frame index argument) = FrameEnds index argument
+EndsRequest files s s' (certify script) = CertifyEnds files script
+EndsRequest files s s' (check script certificate) = CheckEnds files script certificate
+EndsRequest files s s' (run names) = RunEnds files names
+EndsRequest files s s' (batch kind requests) = BatchEnds kind requests
+EndsRequest files s s' (explain script) = ExplainEnds files script
+EndsRequest files s s' (graph script) = GraphEnds files script
+EndsRequest files s s' (print script) = PrintEnds files script
+EndsRequest files s s' (emit names) = EmitEnds files names
+EndsRequest files s s' (audit names) = AuditEnds files names
+EndsRequest files s s' (describe card) = DescribeEnds files card
+EndsRequest files s s' (drive names) = Speaks (DriveEnds files names s s')
+EndsRequest files s s' (serve names) = Speaks (CardEnds files names s.answers s'.answers s.requests s'.requests)
 
 -- Nothing is printed where the command is refused. A run, an explanation, a drawing, the report of an audit and the page of
 -- a card description are printed then too.
@@ -54,18 +64,19 @@ IsWhole request = Unit {0}
 
 -- WORDS
 
-pub data EndsWords (files : Files) (words : List Text) (outcome : Option Fault) (before after : Option (List ℕ)) : Type 0 where
+pub data EndsWords (files : Files) (s s' : Streams) (words : List Text) (outcome : Option Fault)
+    (before after : Option (List ℕ)) : Type 0 where
   -- they ask for a page
   for_page : (page : Text) → page_of words ≡ Some page → PrintsText page outcome before after
-      → EndsWords files words outcome before after
+      → EndsWords files s s' words outcome before after
   -- they mean a request
-  for_request : (request : Request) → meaning_of words ≡ Some request → EndsRequest files request outcome before after
-      → EndsWords files words outcome before after
+  for_request : (request : Request) → meaning_of words ≡ Some request → EndsRequest files s s' request outcome before after
+      → EndsWords files s s' words outcome before after
   -- they mean nothing
   for_nothing : page_of words ≡ None → meaning_of words ≡ None → outcome ≡ Some Usage → Keeps before after
-      → EndsWords files words outcome before after
+      → EndsWords files s s' words outcome before after
   -- memory was refused before they were read
-  for_memory : outcome ≡ Some Memory → Keeps before after → EndsWords files words outcome before after
+  for_memory : outcome ≡ Some Memory → Keeps before after → EndsWords files s s' words outcome before after
 
 -- the words ask for no page, and mean no request but one that prints nothing where it is refused
 abbrev pub AreQuiet : List Text → Type 0
@@ -87,9 +98,10 @@ abbrev pub SaysWhy : Ending
 SaysWhy None before after = Keeps before after
 SaysWhy (Some fault) before after = Says fault before after
 
--- the program ended with this status, and this is what standard output and standard error hold
-pub record Ends (files : Files) (words : List Text) (status : ℕ) (out out' err err' : Option (List ℕ)) : Type 0 where
+-- the program ended with this status, and this is what the streams of lines, standard output and standard error hold
+pub record Ends (files : Files) (s s' : Streams) (words : List Text) (status : ℕ)
+    (out out' err err' : Option (List ℕ)) : Type 0 where
   pub outcome : Option Fault
   pub status_is : status ≡ exit_status outcome
-  pub ended : EndsWords files words outcome out out'
+  pub ended : EndsWords files s s' words outcome out out'
   pub said : SaysWhy outcome err err'

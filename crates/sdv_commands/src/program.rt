@@ -1,9 +1,10 @@
 //! The program over its words and its two output streams.
-ghost use Rattle.std.specs.Prelude.{◌≡◌, ◌⊎◌};
+ghost use Rattle.std.specs.Prelude.{◌≡◌, ◌⊎◌, None};
 ghost use Rattle.std.specs.Io.KnownBytes.{Keeps};
 ghost use Rattle.clap.specs.Walk.{texts};
 ghost use Rattle.sdv_command_line.specs.Requests.{seen};
 ghost use Rattle.sdv_files.specs.Files.{any_files};
+ghost use Rattle.sdv_lines.specs.Streams.{streams_of};
 ghost use Rattle.sdv_files.specs.Outcomes.{outcome_of};
 ghost use Rattle.sdv_commands.specs.Ends.{AreQuiet, AreWhole, Ends, EndsRequest, EndsWords};
 
@@ -21,32 +22,39 @@ use sdv_command_line::{Request, request_of};
 use sdv_emit_command::emit_files;
 use sdv_faults::Fault;
 use sdv_files::{MachineFiles, Store, print_text};
+use sdv_lines::LinePort;
 use sdv_run_command::run_files;
+use sdv_streams::{drive_files, serve_card};
 use std::alloc::Global;
-use std::io::Write;
+use std::io::{Read, Write};
 use std::rt::Files;
 
 /// Runs the program on the words that it is called with, without its own name, and gives the exit status: 0 where the
 /// answer was printed or the run ended in `done`, 1 where what was asked for is refused or the run did not end so, 2 where
 /// the words are no line of the program, a file cannot be used or standard output failed, 3 where memory ran out.
 ///
+/// The commands that speak in lines read and write them by `lines`, which is new.
+///
 /// Nothing is claimed of the files of the machine. So the clauses say that the answer is one to some texts that the named
 /// files may have given, and say nothing of what files took; [`answer`] says it of any files.
-pub fn program<R: Files + AllocGlobal, O: Write, E: Write>(
+pub fn program<R: Files + AllocGlobal, I: Read, L: Write, O: Write, E: Write>(
     rt: &R,
     words: &[&str],
+    lines: &mut LinePort<I, L>,
     out: &mut O,
     err: &mut E,
 ) -> u8
+    requires { (streams_of I.remaining L.contents lines.old).fault ≡ None }
     ensures statuses { (result ≡ 0) ⊎ (result ≡ 1) ⊎ (result ≡ 2) ⊎ (result ≡ 3) }
-    ensures ended { Ends any_files (texts words.now) result
+    ensures ended { Ends any_files (streams_of I.remaining L.contents lines.old)
+        (streams_of I.remaining L.contents lines.new) (texts words.now) result
         (O.contents out.old) (O.contents out.new) (E.contents err.old) (E.contents err.new) }
     ensures refused { AreQuiet (texts words.now) → result ≡ 1
         → Keeps (O.contents out.old) (O.contents out.new) }
     ensures no_memory { AreWhole (texts words.now) → result ≡ 3
         → Keeps (O.contents out.old) (O.contents out.new) }
 {
-    match answer(rt.alloc(), &MachineFiles(rt), words, out) {
+    match answer(rt.alloc(), &MachineFiles(rt), words, lines, out) {
         Ok(()) => 0,
         Err(fault) => fault.report(err),
     }
@@ -55,30 +63,36 @@ pub fn program<R: Files + AllocGlobal, O: Write, E: Write>(
 /// Answers a line of the program from these files. A line that is one word and asks for help or for the version is answered by
 /// that page. The clause says what the files gave and took, by their names, and of a file that cannot be used what was
 /// tried and failed.
-pub fn answer<'a, S: Store, O: Write>(
+pub fn answer<'a, S: Store, I: Read, L: Write, O: Write>(
     alloc: Global,
     files: &S,
     words: &'a [&'a str],
+    lines: &mut LinePort<I, L>,
     out: &mut O,
 ) -> Result<(), Fault<'a>>
-    ensures { EndsWords (S.known files.now) (texts words.now)
+    requires { (streams_of I.remaining L.contents lines.old).fault ≡ None }
+    ensures { EndsWords (S.known files.now) (streams_of I.remaining L.contents lines.old)
+        (streams_of I.remaining L.contents lines.new) (texts words.now)
         (outcome_of result) (O.contents out.old) (O.contents out.new) }
 {
     if let Some(page) = page_of(words) {
         return print_text(page.as_bytes(), out);
     }
     let request = request_of(alloc, words)?;
-    answer_request(alloc, files, request, out)
+    answer_request(alloc, files, request, lines, out)
 }
 
 /// Answers a request from these files.
-pub fn answer_request<'a, S: Store, O: Write>(
+pub fn answer_request<'a, S: Store, I: Read, L: Write, O: Write>(
     alloc: Global,
     files: &S,
     request: Request<'a>,
+    lines: &mut LinePort<I, L>,
     out: &mut O,
 ) -> Result<(), Fault<'a>>
-    ensures { EndsRequest (S.known files.now) (seen request.entry)
+    requires { (streams_of I.remaining L.contents lines.old).fault ≡ None }
+    ensures { EndsRequest (S.known files.now) (streams_of I.remaining L.contents lines.old)
+        (streams_of I.remaining L.contents lines.new) (seen request.entry)
         (outcome_of result) (O.contents out.old) (O.contents out.new) }
 {
     match request {
@@ -96,5 +110,9 @@ pub fn answer_request<'a, S: Store, O: Write>(
         Request::Emit(words) => emit_files(alloc, files, words, out),
         Request::Audit(words) => audit_file(alloc, files, words, out),
         Request::Describe { card } => describe_file(alloc, files, card, out),
+        Request::Drive(names) => drive_files(alloc, files, names, lines),
+        Request::Card(names) => {
+            serve_card(alloc, files, names, &mut lines.reader, &mut lines.writer)
+        }
     }
 }

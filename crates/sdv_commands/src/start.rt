@@ -1,50 +1,58 @@
 //! The program over the words of a process.
-ghost use Rattle.std.specs.Prelude.{◌≡◌, IfErr, IfOk, drop, map, string_bytes};
+ghost use Rattle.std.specs.Prelude.{◌≡◌, IfErr, IfOk, None, drop, map, string_bytes};
 ghost use Rattle.std.specs.IoError.{error_kind};
 ghost use Rattle.std.specs.Io.KnownBytes.{Keeps};
 ghost use Rattle.clap.specs.Walk.{texts};
 ghost use Rattle.sdv_commands.specs.Ends.{Ends};
 ghost use Rattle.sdv_files.specs.Files.{any_files};
+ghost use Rattle.sdv_lines.specs.Streams.{streams_of};
 ghost use Rattle.sdv_faults.specs.Fault.{Says, fault_of_words, status_of};
 
 use crate::program::program;
 use sdv_faults::Fault;
+use sdv_lines::LinePort;
 use std::alloc::{AllocError, Global};
-use std::io::{self, ErrorKind, Write};
+use std::io::{self, ErrorKind, Read, Write};
 use std::rt::Files;
 
 /// Runs the program on the words of a process, the first of which is its own name, and gives the exit status.
 ///
 /// Words that could not be read are no words of the program; where memory was wanting, that is the fault.
-pub fn start<R: Files + AllocGlobal, O: Write, E: Write>(
+pub fn start<R: Files + AllocGlobal, I: Read, L: Write, O: Write, E: Write>(
     rt: &R,
     words: io::Result<Vec<String>>,
+    lines: &mut LinePort<I, L>,
     out: &mut O,
     err: &mut E,
 ) -> u8
-    ensures ended { IfOk words (λ given. Ends any_files (drop 1 (map string_bytes given.items)) result
+    requires { (streams_of I.remaining L.contents lines.old).fault ≡ None }
+    ensures ended { IfOk words (λ given. Ends any_files (streams_of I.remaining L.contents lines.old)
+        (streams_of I.remaining L.contents lines.new) (drop 1 (map string_bytes given.items)) result
         (O.contents out.old) (O.contents out.new) (E.contents err.old) (E.contents err.new)) }
     ensures unread { IfErr words (λ error. (result ≡ status_of (fault_of_words (error_kind error)))
         × Keeps (O.contents out.old) (O.contents out.new)
         × Says (fault_of_words (error_kind error)) (E.contents err.old) (E.contents err.new)) }
 {
     match words {
-        Ok(words) => start_on(rt, words.as_slice(), out, err),
+        Ok(words) => start_on(rt, words.as_slice(), lines, out, err),
         Err(error) => fault_of(&error).report(err),
     }
 }
 
-fn start_on<R: Files + AllocGlobal, O: Write, E: Write>(
+fn start_on<R: Files + AllocGlobal, I: Read, L: Write, O: Write, E: Write>(
     rt: &R,
     words: &[String],
+    lines: &mut LinePort<I, L>,
     out: &mut O,
     err: &mut E,
 ) -> u8
-    ensures { Ends any_files (drop 1 (map string_bytes words.now)) result
+    requires { (streams_of I.remaining L.contents lines.old).fault ≡ None }
+    ensures { Ends any_files (streams_of I.remaining L.contents lines.old)
+        (streams_of I.remaining L.contents lines.new) (drop 1 (map string_bytes words.now)) result
         (O.contents out.old) (O.contents out.new) (E.contents err.old) (E.contents err.new) }
 {
     match texts_of(rt.alloc(), but_the_first(words)) {
-        Ok(texts) => program(rt, texts.as_slice(), out, err),
+        Ok(texts) => program(rt, texts.as_slice(), lines, out, err),
         Err(_) => Fault::Memory.report(err),
     }
 }

@@ -35,11 +35,14 @@ use Rattle.sdv_image.specs.declared.fault.SimFault.{SimFault}
 use Rattle.sdv_image.specs.declared.fault.SimFault.TheVariants as cards
 use Rattle.sdv_run.specs.declared.fault.RunFault.{RunFault}
 use Rattle.sdv_run.specs.declared.fault.RunFault.TheVariants as runs
+use Rattle.sdv_lines.specs.declared.fault.LineFault.{LineFault as RequestLineFault}
+use Rattle.sdv_lines.specs.declared.fault.LineFault.TheVariants as lines_asked
+use Rattle.sdv_lines.specs.declared.fault.ServeFault.{ServeFault}
 use Rattle.sdv_command_line.specs.Commands.{usage}
 use Rattle.sdv_command_line.specs.declared.request.RequestFault.{RequestFault}
 use Rattle.sdv_command_line.specs.declared.request.RequestFault.TheVariants as requests
 use Rattle.sdv_faults.specs.declared.fault.Fault.{Fault}
-use Rattle.sdv_faults.specs.declared.fault.Fault.TheVariants.{Usage, File, Script, Certificate, Refused, Uncertified, Unserved, Wide, Card, Run, Named, Output, Memory, Trace, Found}
+use Rattle.sdv_faults.specs.declared.fault.Fault.TheVariants.{Usage, File, Script, Certificate, Refused, Uncertified, Unserved, Wide, Card, Run, Request, Named, Output, Memory, Trace, Found}
 
 -- WHAT IS SAID
 
@@ -143,6 +146,17 @@ run_fault_name runs.Output = codes "Output"
 run_fault_name runs.Trace = codes "Trace"
 run_fault_name runs.Memory = codes "Memory"
 
+abbrev pub request_fault_name : RequestLineFault → Text
+request_fault_name lines_asked.Write = codes "Write"
+request_fault_name lines_asked.Read = codes "Read"
+request_fault_name lines_asked.Closed = codes "Closed"
+request_fault_name lines_asked.Line = codes "Line"
+
+-- why a request in lines was not answered, by the number of its first line
+abbrev pub request_line : ServeFault → Text
+request_line fault = codes "request fault "
+    ++ (request_fault_name fault.fault ++ (codes " line " ++ (decimal fault.line ++ 10 ∷ [])))
+
 abbrev pub named_line : (words name : Text) → Text
 named_line words name = words ++ (name ++ 10 ∷ [])
 
@@ -161,6 +175,7 @@ fault_line (Wide part) = wide_line part
 fault_line (Trace fault) = trace_fault_line fault
 fault_line (Card fault) = named_line (codes "card fault ") (sim_fault_name fault)
 fault_line (Run fault) = named_line (codes "run fault ") (run_fault_name fault)
+fault_line (Request fault) = request_line fault
 fault_line Named = []
 fault_line Found = []
 fault_line Output = []
@@ -170,8 +185,8 @@ fault_line Memory = plain_line (codes "out of memory")
 abbrev pub Says : Fault → (before after : Option (List ℕ)) → Type 0
 Says fault before after = Appends before after (fault_line fault) ⊎ AppendsPart before after (fault_line fault)
 
--- THE STATUS: 1 for a refusal, for a run that did not end in `done` and for what an audit found, 2 for words, files and output that cannot be
--- used, 3 for want of memory
+-- THE STATUS: 1 for a refusal, for a run that did not end in `done` and for what an audit found, 2 for words, files,
+-- requests and output that cannot be used, 3 for want of memory
 
 abbrev pub status_of : Fault → ℕ
 status_of Usage = 2
@@ -185,6 +200,7 @@ status_of (Wide part) = 1
 status_of (Trace fault) = 1
 status_of (Card fault) = 1
 status_of (Run fault) = 1
+status_of (Request fault) = 2
 status_of Named = 1
 status_of Found = 1
 status_of Output = 2

@@ -6,6 +6,7 @@ ghost use Rattle.sdv_text.specs.Written.{Writes};
 ghost use Rattle.sdv_faults.specs.Fault.{Says, certificate_line, fault_line, illegal_line, kind_name, numbered_line, plain_line};
 ghost use Rattle.sdv_faults.specs.Fault.{block_fault_name, named_line, refusal_line, run_fault_name, sim_fault_name, status_of};
 ghost use Rattle.sdv_faults.specs.Fault.{line_fault_name, trace_fault_line, trace_line, uncertified_line, wide_line};
+ghost use Rattle.sdv_faults.specs.Fault.{request_fault_name, request_line};
 
 use itoa::Buffer;
 use sdv_audit::LineFault;
@@ -17,6 +18,7 @@ use sdv_check::{CertFault, CheckFault, VerifyFault};
 use sdv_command_line::{RequestFault, usage};
 use sdv_emit::EmitFault;
 use sdv_explain::ExplainFault;
+use sdv_lines::{LineFault as RequestLineFault, ServeFault};
 use sdv_run::RunFault;
 use sdv_script::{FaultKind, ScriptFault};
 use sdv_sim::SimFault;
@@ -50,6 +52,8 @@ pub enum Fault<'a> {
     Card(SimFault),
     /// The run of a script stopped before its end.
     Run(RunFault),
+    /// A request in lines was not answered.
+    Request(ServeFault),
     /// The run of a script ended in a fault that the script names; its trace says so.
     Named,
     /// An audit found something; its report says what.
@@ -217,7 +221,7 @@ impl<'a> Fault<'a> {
             Fault::Unserved(_) | Fault::Wide(_) | Fault::Card(_) | Fault::Run(_) | Fault::Named =>
                 1,
             Fault::Trace(_) | Fault::Found => 1,
-            Fault::Usage | Fault::File(_) | Fault::Output => 2,
+            Fault::Usage | Fault::File(_) | Fault::Request(_) | Fault::Output => 2,
             Fault::Memory => 3,
         }
     }
@@ -243,6 +247,7 @@ impl<'a> Fault<'a> {
             Fault::Trace(fault) => say_trace(fault, err),
             Fault::Card(fault) => say_named("card fault ", sim_fault_name(fault), err),
             Fault::Run(fault) => say_named("run fault ", run_fault_name(fault), err),
+            Fault::Request(fault) => say_request(fault, err),
             Fault::Named | Fault::Found | Fault::Output => Ok(()),
             Fault::Memory => say_plain("out of memory", err),
         }
@@ -324,6 +329,17 @@ fn run_fault_name(fault: RunFault) -> &'static str
         RunFault::Output => "Output",
         RunFault::Trace => "Trace",
         RunFault::Memory => "Memory",
+    }
+}
+
+fn request_fault_name(fault: RequestLineFault) -> &'static str
+    ensures { result.now ≡ request_fault_name fault }
+{
+    match fault {
+        RequestLineFault::Write => "Write",
+        RequestLineFault::Read => "Read",
+        RequestLineFault::Closed => "Closed",
+        RequestLineFault::Line => "Line",
     }
 }
 
@@ -430,6 +446,15 @@ fn say_trace_line<E: Write>(name: &str, line: u64, err: &mut E) -> io::Result<()
     let name = name.as_bytes();
     let line = digits.format(line).as_bytes();
     write_texts(err, &[b"trace fault ", name, b" line ", line, b"\n"])
+}
+
+fn say_request<E: Write>(fault: ServeFault, err: &mut E) -> io::Result<()>
+    ensures { Writes (E.contents err.old) (E.contents err.new) result (request_line fault) }
+{
+    let mut digits = Buffer::new();
+    let name = request_fault_name(fault.fault).as_bytes();
+    let line = digits.format(fault.line).as_bytes();
+    write_texts(err, &[b"request fault ", name, b" line ", line, b"\n"])
 }
 
 fn say_trace<E: Write>(fault: TraceFault, err: &mut E) -> io::Result<()>

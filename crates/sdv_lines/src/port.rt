@@ -20,8 +20,10 @@ use std::io::{Read, Write};
 /// each command as damaged, each phase as cut, and each wait as late. No call takes memory.
 #[derive(Drop)]
 pub struct LinePort<R, W> {
-    reader: R,
-    writer: W,
+    /// Where answers are read.
+    pub reader: R,
+    /// Where requests are written.
+    pub writer: W,
     fault: Option<LineFault>,
 }
 

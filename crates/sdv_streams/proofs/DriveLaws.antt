@@ -24,6 +24,7 @@ use Rattle.sdv_lines.specs.declared.fault.LineFault.{LineFault}
 use Rattle.sdv_lines.specs.declared.fault.LineFault.TheVariants as faults
 use Rattle.sdv_lines.specs.declared.port.LinePort.{LinePort}
 use Rattle.sdv_lines.specs.Streams.{AppendsFront, LineSteps, Streams, TellsEnd, streams_of}
+use Rattle.sdv_command_line.specs.Requests.{DriveNames}
 use Rattle.sdv_faults.specs.declared.fault.Fault.{Fault}
 use Rattle.sdv_faults.specs.declared.fault.Fault.TheVariants.{File, Script, Certificate, Refused, Memory}
 use Rattle.sdv_files.specs.Files.{Files}
@@ -35,7 +36,7 @@ use Rattle.sdv_streams.specs.declared.drive.Outcome.{Outcome}
 use Rattle.sdv_streams.specs.declared.drive.Outcome.TheVariants.{Lost, Ended, Stopped}
 use Rattle.sdv_streams.proofs.TalkLaws.{said, talks}
 use Rattle.sdv_streams.specs.Talk.{Talked, Talks, answer_lines, events_of, requests}
-use Rattle.sdv_streams.specs.Drive.{AnswersOutcome, AreGiven, ComesOut, DriveFails, DriveNames, EndsDrive, FailsToTrace, IsDrive, IsTraced, Takes, TellsIfEnded, outcome_of, uses_of}
+use Rattle.sdv_streams.specs.Drive.{AnswersOutcome, AreGiven, ComesOut, DriveFails, EndsDrive, FailsToTrace, IsDrive, IsTraced, Takes, TellsIfEnded, outcome_of, uses_of}
 
 -- THE RUN over the streams of a port
 

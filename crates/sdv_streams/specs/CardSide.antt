@@ -1,35 +1,20 @@
 -- What the program does at `card`: which card answers, and that its image is kept.
-use Rattle.std.specs.Prelude.{◌≡◌, ◌⊎◌, ℕ, List, ◌∷◌, Option, Result, Ok, Err, option_map, string_bytes}
+use Rattle.std.specs.Prelude.{◌≡◌, ◌⊎◌, ℕ, List, ◌∷◌, Option, Some, None, Result, Ok, Err, string_bytes}
 use Rattle.clap.specs.Words.{Text}
 use Rattle.sdv_card.specs.Card.{Block}
 use Rattle.sdv_behavior.specs.SimSteps.{SimState, SimSteps}
 use Rattle.sdv_controller.specs.Controlled.{ControllerSteps}
 use Rattle.sdv_lines.specs.declared.fault.ServeFault.{ServeFault}
 use Rattle.sdv_lines.specs.Serving.{ServesAll}
-use Rattle.sdv_faults.specs.declared.fault.Fault.{Fault as ProgramFault}
-use Rattle.sdv_faults.specs.declared.fault.Fault.TheVariants.{File, Card, Memory}
+use Rattle.sdv_command_line.specs.Requests.{CardNames}
+use Rattle.sdv_faults.specs.declared.fault.Fault.{Fault}
+use Rattle.sdv_faults.specs.declared.fault.Fault.TheVariants.{File, Card, Request, Memory}
 use Rattle.sdv_files.specs.Files.{CardImage, Files}
 use Rattle.sdv_run_command.specs.Run.{FileUse, GivesImage, GivesSchedule, HasNoCard, IsCardOver, IsUnreadable, IsUnusable, LosesImage, StoresImage}
 use Rattle.sdv_run_command.specs.Run.{as_image, as_schedule, as_text, some_use}
-use Rattle.sdv_streams.specs.declared.card.CardFault.{CardFault}
-use Rattle.sdv_streams.specs.declared.card.CardFault.TheVariants.{Fault, Request}
-use Rattle.sdv_streams.specs.declared.card.CardFiles.{CardFiles}
 use Rattle.sdv_streams.specs.declared.card.Given.{Given}
 
 -- THE FILES
-
--- the files of a card that answers lines, by their names
-pub record CardNames : Type 0 where
-  pub card : Text
-  pub image : Text
-  pub schedule : Option Text
-
-abbrev pub names_of : CardFiles → CardNames
-names_of files = record {
-  card = files.card.now;
-  image = files.image.now;
-  schedule = option_map (λ file. file.now) files.schedule;
-}
 
 -- in the order in which they are used
 abbrev pub uses_of : CardNames → List FileUse
@@ -58,7 +43,7 @@ pub record IsServed (given : Given) (image : CardImage) (blocks' : Option (List 
   pub served : ServesAll (ControllerSteps SimSteps) room card card' a a' r r' end
 
 -- why there is no card; want of memory says nothing
-abbrev pub RefusesCard : Given → CardImage → (unread : Type 0) → ProgramFault → Type 0
+abbrev pub RefusesCard : Given → CardImage → (unread : Type 0) → Fault → Type 0
 RefusesCard given image unread (Card fault) =
     HasNoCard (string_bytes given.card) given.codes.items image unread fault
 RefusesCard given image unread Memory = Unit {0}
@@ -84,7 +69,7 @@ pub record IsLost (given : Given) (image : CardImage) (a a' r r' : Option (List 
   pub served : IsServed given image blocks' end a a' r r'
 
 -- the file of the image did not take the card's blocks, or there was no card
-abbrev pub FailsToKeep : Files → CardNames → Given → CardImage → ProgramFault → (a a' r r' : Option (List ℕ)) → Type 0
+abbrev pub FailsToKeep : Files → CardNames → Given → CardImage → Fault → (a a' r r' : Option (List ℕ)) → Type 0
 FailsToKeep files names given image (File file) a a' r r' =
     IsLost given image a a' r r' × (file.now ≡ names.image) × LosesImage files names.image
 FailsToKeep files names given image fault a a' r r' =
@@ -102,16 +87,21 @@ abbrev pub EndsCard : Files → CardNames → (a a' r r' : Option (List ℕ)) �
 EndsCard files names a a' r r' = ComesToEnd files names (Ok tt) a a' r r'
 
 -- There was no card, or the file of its image did not take its blocks.
-pub record IsNotKept (files : Files) (names : CardNames) (fault : ProgramFault)
+pub record IsNotKept (files : Files) (names : CardNames) (fault : Fault)
     (a a' r r' : Option (List ℕ)) : Type 0 where
   pub given : Given
   pub image : CardImage
   pub are_given : AreGiven files names given image
   pub fails : FailsToKeep files names given image fault a a' r r'
 
-abbrev pub CardFails : Files → CardNames → CardFault → (a a' r r' : Option (List ℕ)) → Type 0
+abbrev pub CardFails : Files → CardNames → Fault → (a a' r r' : Option (List ℕ)) → Type 0
 CardFails files names (Request stop) a a' r r' = ComesToEnd files names (Err stop) a a' r r'
-CardFails files names (Fault (File file)) a a' r r' =
+CardFails files names (File file) a a' r r' =
     (IsUnusable files (uses_of names) file.now × IsQuiet a a' r r') ⊎ IsNotKept files names (File file) a a' r r'
-CardFails files names (Fault Memory) a a' r r' = IsQuiet a a' r r'
-CardFails files names (Fault fault) a a' r r' = IsNotKept files names fault a a' r r'
+CardFails files names Memory a a' r r' = IsQuiet a a' r r'
+CardFails files names fault a a' r r' = IsNotKept files names fault a a' r r'
+
+-- THE COMMAND, by what was read and written
+abbrev pub CardEnds : Files → CardNames → (a a' r r' : Option (List ℕ)) → Option Fault → Type 0
+CardEnds files names a a' r r' None = EndsCard files names a a' r r'
+CardEnds files names a a' r r' (Some fault) = CardFails files names fault a a' r r'

@@ -18,33 +18,16 @@ use Rattle.sdv_lines.specs.Streams.{Streams, LineSteps, TellsEnd}
 use Rattle.sdv_faults.specs.declared.fault.Fault.{Fault}
 use Rattle.sdv_faults.specs.declared.fault.Fault.TheVariants.{File, Script, Certificate, Refused, Run, Named, Memory}
 use Rattle.sdv_faults.specs.Fault.{fault_of_run}
+use Rattle.sdv_command_line.specs.Requests.{DriveNames}
 use Rattle.sdv_files.specs.Files.{Files}
 use Rattle.sdv_faults.specs.Refused.{Refuses}
 use Rattle.sdv_run_command.specs.Run.{FileUse, GivesInput, IsUnusable, Receives, as_input, as_output, as_text, blocks_of, some_use}
-use Rattle.sdv_streams.specs.declared.drive.DriveFiles.{DriveFiles}
 use Rattle.sdv_streams.specs.declared.drive.Given.{Given}
 use Rattle.sdv_streams.specs.declared.drive.Outcome.{Outcome}
 use Rattle.sdv_streams.specs.declared.drive.Outcome.TheVariants.{Lost, Ended, Stopped}
 use Rattle.sdv_streams.specs.Talk.{AreAnswers, Talks, answer_lines, events_of, requests}
 
 -- THE FILES
-
--- the files of a run over lines, by their names
-pub record DriveNames : Type 0 where
-  pub script : Text
-  pub certificate : Text
-  pub input : Option Text
-  pub output : Option Text
-  pub trace : Option Text
-
-abbrev pub names_of : DriveFiles → DriveNames
-names_of files = record {
-  script = files.script.now;
-  certificate = files.certificate.now;
-  input = option_map (λ file. file.now) files.input;
-  output = option_map (λ file. file.now) files.output;
-  trace = option_map (λ file. file.now) files.trace;
-}
 
 -- in the order in which they are used
 abbrev pub uses_of : DriveNames → List FileUse
@@ -188,3 +171,8 @@ DriveFails files names (Run fault) s s' = ComesOut files names (Stopped fault) s
 DriveFails files names Named s s' = (end : End) × (end ≢ ends.Done) × EndsDrive files names end s s'
 DriveFails files names Memory s s' = s' ≡ s
 DriveFails files names fault s s' = HasNoDrive files names fault s s'
+
+-- THE COMMAND
+abbrev pub DriveEnds : Files → DriveNames → (s s' : Streams) → Option Fault → Type 0
+DriveEnds files names s s' None = EndsDrive files names ends.Done s s'
+DriveEnds files names s s' (Some fault) = DriveFails files names fault s s'

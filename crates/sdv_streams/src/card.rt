@@ -1,12 +1,14 @@
 //! `card CARD IMAGE [SCHEDULE]`: a simulated card that answers lines.
 
 ghost use Rattle.std.specs.Prelude.{◌≡◌, ◌⊎◌, OnOk, IfErr, IfOk, option_map};
+ghost use Rattle.sdv_command_line.specs.Requests.{card_names_of};
 ghost use Rattle.sdv_file_image.specs.FileImages.{shown_of};
 ghost use Rattle.sdv_files.specs.Files.{image_of};
 ghost use Rattle.sdv_run_command.specs.Run.{IsUnread};
 ghost use Rattle.sdv_run_command.specs.RunImages.{IsOfName, MayHaveFailed, image_given};
-ghost use Rattle.sdv_streams.specs.CardSide.{AreGiven, CardFails, EndsCard, FailsToKeep, IsKept, IsServed, RefusesCard, names_of, uses_of};
+ghost use Rattle.sdv_streams.specs.CardSide.{AreGiven, CardFails, EndsCard, FailsToKeep, IsKept, IsServed, RefusesCard, uses_of};
 
+use sdv_command_line::CardFiles;
 use sdv_faults::Fault;
 use sdv_file_image::{BlockFile, FileImage};
 use sdv_files::{Store, text_in};
@@ -18,17 +20,6 @@ use std::io::{Read, Write};
 /// As many blocks as a command of a script announces at most. A request for more is none.
 const ROOM: usize = 65_535;
 
-/// The names of the files of a card that answers lines.
-#[derive(Clone, Copy)]
-pub struct CardFiles<'a> {
-    /// The description of the card.
-    pub card: &'a str,
-    /// The image of the card, or `new:` and how many blocks of zeros it has.
-    pub image: &'a str,
-    /// The schedule of the card. Without one the card is prompt at each event.
-    pub schedule: Option<&'a str>,
-}
-
 /// What a card that answers lines is given, but for the image.
 #[derive(Drop)]
 pub struct Given {
@@ -36,25 +27,6 @@ pub struct Given {
     pub card: String,
     /// The values of the schedule, one for each event.
     pub codes: Vec<u8>,
-}
-
-/// Why a card did not answer all requests up to the host's last line.
-#[derive(Clone, Copy)]
-pub enum CardFault<'a> {
-    /// There is no card, or a file cannot be used.
-    Fault(Fault<'a>),
-    /// A request was not answered. The image has what was done before.
-    Request(ServeFault),
-}
-
-impl<'a> From<Fault<'a>> for CardFault<'a> {
-    ghost use Rattle.sdv_streams.specs.declared.card.CardFault.TheVariants as faults;
-
-    ghost from_gives = { λ fault f. f ≡ faults.Fault fault };
-
-    fn from(fault: Fault<'a>) -> CardFault<'a> {
-        CardFault::Fault(fault)
-    }
 }
 
 /// How a card came out.
@@ -75,23 +47,23 @@ pub struct Outcome<F: BlockFile> {
 ///   did not take all that it had to.
 /// - [`Fault::Card`]: there is no card by the description, over the image, with the schedule. No request was read.
 /// - [`Fault::Memory`]: memory was refused. No request was read.
-/// - [`CardFault::Request`]: a request was not answered, by the number of its first line. All before it were.
+/// - [`Fault::Request`]: a request was not answered, by the number of its first line. All before it were.
 pub fn serve_card<'a, S: Store, R: Read, W: Write>(
     alloc: Global,
     files: &S,
     names: CardFiles<'a>,
     reader: &mut R,
     writer: &mut W,
-) -> Result<(), CardFault<'a>>
-    ensures done { OnOk result (EndsCard (S.known files.now) (names_of names.entry)
+) -> Result<(), Fault<'a>>
+    ensures done { OnOk result (EndsCard (S.known files.now) (card_names_of names.entry)
         (R.remaining reader.old) (R.remaining reader.new) (W.contents writer.old) (W.contents writer.new)) }
-    ensures fails { IfErr result (λ fault. CardFails (S.known files.now) (names_of names.entry) fault
+    ensures fails { IfErr result (λ fault. CardFails (S.known files.now) (card_names_of names.entry) fault
         (R.remaining reader.old) (R.remaining reader.new) (W.contents writer.old) (W.contents writer.new)) }
 {
     let (given, image) = given_by(alloc, files, &names)?;
     match serve_kept(alloc, files, &names, &given, image, reader, writer)? {
         Ok(()) => Ok(()),
-        Err(fault) => Err(CardFault::Request(fault)),
+        Err(fault) => Err(Fault::Request(fault)),
     }
 }
 
@@ -101,11 +73,11 @@ fn given_by<'a, S: Store>(
     files: &S,
     names: &CardFiles<'a>,
 ) -> Result<(Given, GivenImage<S::Image>), Fault<'a>>
-    ensures given { IfOk result (λ read. AreGiven (S.known files.now) (names_of names.now)
+    ensures given { IfOk result (λ read. AreGiven (S.known files.now) (card_names_of names.now)
         read.0 (image_given S.Image.byte_count S.Image.blocks read.1)) }
     ensures image { IfOk result (λ read. IsOfName S.Image.failed (S.known files.now)
         names.now.image.now read.1) }
-    ensures refused { IfErr result (IsUnread (S.known files.now) (uses_of (names_of names.now))) }
+    ensures refused { IfErr result (IsUnread (S.known files.now) (uses_of (card_names_of names.now))) }
 {
     let card = text_in(alloc, files, names.card)?;
     let image = image_in(alloc, files, names.image)?;
@@ -125,10 +97,10 @@ fn serve_kept<'a, S: Store, R: Read, W: Write>(
 ) -> Result<Result<(), ServeFault>, Fault<'a>>
     requires { IsOfName S.Image.failed (S.known files.now) names.now.image.now image }
     ensures kept { IfOk result (λ end. IsKept (S.known files.now)
-        (names_of names.now) given.now (image_given S.Image.byte_count S.Image.blocks image) end
+        (card_names_of names.now) given.now (image_given S.Image.byte_count S.Image.blocks image) end
         (R.remaining reader.old) (R.remaining reader.new) (W.contents writer.old) (W.contents writer.new)) }
     ensures fails { IfErr result (λ fault. FailsToKeep (S.known files.now)
-        (names_of names.now) given.now (image_given S.Image.byte_count S.Image.blocks image) fault
+        (card_names_of names.now) given.now (image_given S.Image.byte_count S.Image.blocks image) fault
         (R.remaining reader.old) (R.remaining reader.new) (W.contents writer.old) (W.contents writer.new)) }
 {
     match image {

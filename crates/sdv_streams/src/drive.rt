@@ -3,11 +3,13 @@
 ghost use Rattle.std.specs.Prelude.{◌≡◌, ◌⊎◌, None, OnOk, IfErr, IfOk};
 ghost use Rattle.sdv_trace.specs.declared.end.End.TheVariants.{Done};
 ghost use Rattle.sdv_faults.specs.declared.fault.Fault.{Fault};
+ghost use Rattle.sdv_command_line.specs.Requests.{drive_names_of};
 ghost use Rattle.sdv_lines.specs.Streams.{streams_of};
 ghost use Rattle.sdv_run_command.specs.Run.{IsUnread};
-ghost use Rattle.sdv_streams.specs.Drive.{AreGiven, DriveFails, EndsDrive, FailsToTrace, IsDrive, IsTraced, RefusesTexts, TellsIfEnded, AnswersOutcome, names_of, outcome_of, uses_of};
+ghost use Rattle.sdv_streams.specs.Drive.{AreGiven, DriveFails, EndsDrive, FailsToTrace, IsDrive, IsTraced, RefusesTexts, TellsIfEnded, AnswersOutcome, outcome_of, uses_of};
 
 use sdv_check::verify;
+use sdv_command_line::DriveFiles;
 use sdv_faults::Fault;
 use sdv_files::{Store, text_in};
 use sdv_lines::{LineFault, LinePort};
@@ -15,19 +17,6 @@ use sdv_run::{End, RunFault, run};
 use sdv_run_command::input_in;
 use std::alloc::Global;
 use std::io::{self, Read, Write};
-
-/// The names of the files of a run over lines.
-#[derive(Clone, Copy)]
-pub struct DriveFiles<'a> {
-    pub script: &'a str,
-    pub certificate: &'a str,
-    /// The blocks that the script gives. Without it there are none.
-    pub input: Option<&'a str>,
-    /// Where the blocks go that the script receives. Without it they are dropped.
-    pub output: Option<&'a str>,
-    /// Where the trace goes. Without it there is none.
-    pub trace: Option<&'a str>,
-}
 
 /// The texts and bytes that a run over lines is given.
 #[derive(Drop)]
@@ -69,9 +58,9 @@ pub fn drive_files<'a, S: Store, R: Read, W: Write>(
     port: &mut LinePort<R, W>,
 ) -> Result<(), Fault<'a>>
     requires { (streams_of R.remaining W.contents port.old).fault ≡ None }
-    ensures done { OnOk result (EndsDrive (S.known files.now) (names_of names.entry) Done
+    ensures done { OnOk result (EndsDrive (S.known files.now) (drive_names_of names.entry) Done
         (streams_of R.remaining W.contents port.old) (streams_of R.remaining W.contents port.new)) }
-    ensures fails { IfErr result (λ fault. DriveFails (S.known files.now) (names_of names.entry) fault
+    ensures fails { IfErr result (λ fault. DriveFails (S.known files.now) (drive_names_of names.entry) fault
         (streams_of R.remaining W.contents port.old) (streams_of R.remaining W.contents port.new)) }
 {
     let given = given_by(alloc, files, &names)?;
@@ -94,8 +83,8 @@ fn given_by<'a, S: Store>(
     files: &S,
     names: &DriveFiles<'a>,
 ) -> Result<Given, Fault<'a>>
-    ensures given { IfOk result (AreGiven (S.known files.now) (names_of names.now)) }
-    ensures refused { IfErr result (IsUnread (S.known files.now) (uses_of (names_of names.now))) }
+    ensures given { IfOk result (AreGiven (S.known files.now) (drive_names_of names.now)) }
+    ensures refused { IfErr result (IsUnread (S.known files.now) (uses_of (drive_names_of names.now))) }
 {
     let script = text_in(alloc, files, names.script)?;
     let certificate = text_in(alloc, files, names.certificate)?;
@@ -117,10 +106,10 @@ fn drive_traced<'a, S: Store, R: Read, W: Write, O: Write>(
     out: &mut O,
 ) -> Result<Outcome, Fault<'a>>
     requires { (streams_of R.remaining W.contents port.old).fault ≡ None }
-    ensures traced { IfOk result (λ outcome. IsTraced (S.known files.now) (names_of names.now) given.now outcome
+    ensures traced { IfOk result (λ outcome. IsTraced (S.known files.now) (drive_names_of names.now) given.now outcome
         (O.contents out.old) (O.contents out.new)
         (streams_of R.remaining W.contents port.old) (streams_of R.remaining W.contents port.new)) }
-    ensures fails { IfErr result (λ fault. FailsToTrace (S.known files.now) (names_of names.now) given.now fault
+    ensures fails { IfErr result (λ fault. FailsToTrace (S.known files.now) (drive_names_of names.now) given.now fault
         (streams_of R.remaining W.contents port.old) (streams_of R.remaining W.contents port.new)) }
 {
     match names.trace {

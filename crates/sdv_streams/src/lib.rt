@@ -9,5 +9,5 @@ mod card;
 mod drive;
 pub mod laws;
 
-pub use card::{CardFault, CardFiles, serve_card};
-pub use drive::{DriveFiles, drive_files};
+pub use card::serve_card;
+pub use drive::drive_files;

@@ -18,7 +18,7 @@ pub returns-in_err-request : goal.returns-in_err-request
 returns-in_err-request g c =
     let words = texts c.args.words.now in
     let none : page_of words ≡ None = no_page c.page_of.result (page_of words) c.page_of.ensures (search rules) in
-    no_request (g.S.Store.known c.args.files.now) words (g.O.Write.contents c.args.out.now) none c.in_err-request.field-0.0
+    no_request (g.S.Store.known c.args.files.now) _ _ words (g.O.Write.contents c.args.out.now) none c.in_err-request.field-0.0
     (λ is. meaning-fault words (c.in_err-request.ensures.usage (ap Err is))) c.from_residual.result c.from_residual.ensures.1
 
 pub returns : goal.returns

@@ -3,13 +3,14 @@ use Rattle.sdv_files.specs.Files.{Files}
 use Rattle.sdv_run_command.specs.Run.{as_image, as_schedule, as_text, some_use}
 use Rattle.sdv_run_command.specs.RunImages.{image_given}
 use Rattle.sdv_run_command.proofs.GivenLaws.{optional_unread, text_gave, unread}
-use Rattle.sdv_streams.specs.CardSide.{names_of, uses_of}
+use Rattle.sdv_command_line.specs.Requests.{card_names_of}
+use Rattle.sdv_streams.specs.CardSide.{uses_of}
 use Rattle.sdv_streams.proofs.card.given_by.Goals as goal
 
 pub returns-in_err-card-clause-refused : goal.returns-in_err-card-clause-refused
 returns-in_err-card-clause-refused g c =
     let files : Files = g.S.Store.known c.args.files.now in
-    let names = names_of c.args.names.now in
+    let names = card_names_of c.args.names.now in
     unread files (uses_of names) (as_text names.card) c.args.names.now.card refl [] _ refl tt
     c.in_err-card.field-0.0 c.in_err-card.ensures.refused c.in_err-card.ensures.no_text
     c.from_residual.result c.from_residual.ensures.1
@@ -17,7 +18,7 @@ returns-in_err-card-clause-refused g c =
 pub returns-in_err-image-clause-refused : goal.returns-in_err-image-clause-refused
 returns-in_err-image-clause-refused g c =
     let files : Files = g.S.Store.known c.args.files.now in
-    let names = names_of c.args.names.now in
+    let names = card_names_of c.args.names.now in
     let card = text_gave files names.card c.in_ok-card.card c.in_ok-card.ensures.given in
     unread files (uses_of names) (as_image names.image) c.args.names.now.image refl (as_text names.card ∷ []) _ refl (card, tt)
     c.in_err-image.field-0.0 c.in_err-image.ensures.refused c.in_err-image.ensures.unusable
@@ -26,7 +27,7 @@ returns-in_err-image-clause-refused g c =
 pub returns-in_err-codes-clause-refused : goal.returns-in_err-codes-clause-refused
 returns-in_err-codes-clause-refused g c =
     let files : Files = g.S.Store.known c.args.files.now in
-    let names = names_of c.args.names.now in
+    let names = card_names_of c.args.names.now in
     let card = text_gave files names.card c.in_ok-card.card c.in_ok-card.ensures.given in
     let image = image_given g.S.Image.BlockFile.byte_count g.S.Image.BlockFile.blocks c.in_ok-image.image in
     optional_unread files (uses_of names) as_schedule (λ file. refl) files.unread (λ file unread. unread) c.args.names.now.schedule
