@@ -51,6 +51,9 @@ of_audit = required (codes "KIND") ∷ required (codes "TRACE") ∷ flag (codes 
 abbrev pub of_card : List Word
 of_card = required (codes "CARD") ∷ []
 
+abbrev pub of_review : List Word
+of_review = required (codes "SCRIPT") ∷ flag (codes "json") ∷ []
+
 -- the commands, in the order of the usage line
 abbrev pub commands : List Command
 commands =
@@ -65,6 +68,7 @@ commands =
     ∷ command (codes "emit") of_emit (codes "prints the table of a script in C")
     ∷ command (codes "audit") of_audit (codes "prints where the host or the card of a trace leaves the rules")
     ∷ command (codes "describe") of_card (codes "prints a card description in words, or the line that is wrong")
+    ∷ command (codes "review") of_review (codes "prints what an accepted script leaves open for the data")
     ∷ []
 
 -- a word and a command of the code's table

@@ -3,7 +3,7 @@ use Rattle.std.specs.Prelude.{Bool, false, List, Option, Some, None, codes, if�
 use Rattle.std.specs.Str.{bytes_eq}
 use Rattle.clap.specs.Words.{Row, Text, first_of}
 use Rattle.sdv_command_line.specs.declared.request.Request.{Request as CodeRequest}
-use Rattle.sdv_command_line.specs.declared.request.Request.TheVariants.{Frame, Certify, Check, Run, Batch, Explain, Graph, Print, Emit, Audit, Describe}
+use Rattle.sdv_command_line.specs.declared.request.Request.TheVariants.{Frame, Certify, Check, Run, Batch, Explain, Graph, Print, Emit, Audit, Describe, Review}
 use Rattle.sdv_command_line.specs.declared.request.RunFiles.{RunFiles}
 use Rattle.sdv_command_line.specs.declared.request.EmitWords.{EmitWords}
 use Rattle.sdv_command_line.specs.declared.request.AuditWords.{AuditWords}
@@ -45,6 +45,7 @@ pub data Request : Type 0 where
   emit : EmitNames → Request
   audit : AuditNames → Request
   describe : (card : Text) → Request
+  review : (script : Text) (json : Bool) → Request
 
 -- THE ROWS that clap matched for the words of a command
 
@@ -101,6 +102,9 @@ by_audit_words rows =
       annotate = is_set (codes "annotate") rows;
     }))))
 
+abbrev pub by_review_words : List Row → Option Request
+by_review_words rows = by_script (λ script. review script (is_set (codes "json") rows)) rows
+
 -- the request in a command's name and the rows of its words
 abbrev pub request_in : Text × List Row → Option Request
 request_in used =
@@ -115,6 +119,7 @@ request_in used =
     else if bytes_eq used.0 (codes "emit") then by_emit_words used.1
     else if bytes_eq used.0 (codes "audit") then by_audit_words used.1
     else if bytes_eq used.0 (codes "describe") then by_card describe used.1
+    else if bytes_eq used.0 (codes "review") then by_review_words used.1
     else None
 
 -- THE CODE'S REQUEST, with references to the words
@@ -154,3 +159,4 @@ seen (Print script) = print script.now
 seen (Emit words) = emit (emit_names_of words)
 seen (Audit words) = audit (audit_names_of words)
 seen (Describe card) = describe card.now
+seen (Review script json) = review script.now json

@@ -26,7 +26,7 @@ pub struct CommandEntry {
 }
 
 /// The commands of the program, in the order in which `--help` and the usage line name them.
-pub static COMMANDS: [CommandEntry; 11] = [
+pub static COMMANDS: [CommandEntry; 12] = [
     CommandEntry {
         name: "frame",
         words: &[Word::Required("INDEX"), Word::Required("ARG")],
@@ -108,5 +108,10 @@ pub static COMMANDS: [CommandEntry; 11] = [
         name: "describe",
         words: &[Word::Required("CARD")],
         help: "prints a card description in words, or the line that is wrong",
+    },
+    CommandEntry {
+        name: "review",
+        words: &[Word::Required("SCRIPT"), Word::Flag("json")],
+        help: "prints what an accepted script leaves open for the data",
     },
 ];

@@ -17,6 +17,7 @@ use crate::frame::print_frame;
 use crate::graph::graph_file;
 use crate::page::page_of;
 use crate::print::print_file;
+use crate::review::review_file;
 use sdv_command_line::{Request, request_of};
 use sdv_emit_command::emit_files;
 use sdv_faults::Fault;
@@ -96,5 +97,6 @@ pub fn answer_request<'a, S: Store, O: Write>(
         Request::Emit(words) => emit_files(alloc, files, words, out),
         Request::Audit(words) => audit_file(alloc, files, words, out),
         Request::Describe { card } => describe_file(alloc, files, card, out),
+        Request::Review { script, json } => review_file(alloc, files, script, json, out),
     }
 }
