@@ -39,7 +39,7 @@ _sdv() {
     last=$((${#words[@]} - 1))
     local word=${words[last]} before=${words[last - 1]}
     if [ "$last" -eq 1 ]; then
-        _sdv_words "$word" "frame certify check run batch explain graph print emit audit describe drive card --help --version"
+        _sdv_words "$word" "frame certify check run batch explain graph print emit audit describe drive card review --help --version"
         return
     fi
     # which of the command's words this is, options and their files left out
@@ -85,6 +85,11 @@ _sdv() {
         -*) _sdv_words "$word" "--json --annotate" ;;
         *:0) _sdv_words "$word" "sd emmc" ;;
         *:1) _sdv_files "$word" '*.trace' ;;
+        esac ;;
+    review:*)
+        case $word:$place in
+        -*) _sdv_words "$word" "--json" ;;
+        *:0) _sdv_files "$word" '*.sdv' ;;
         esac ;;
     describe:0) _sdv_files "$word" '*.card' ;;
     batch:0) _sdv_words "$word" "sd emmc" ;;

@@ -22,7 +22,7 @@ function __sdv_at
     __fish_seen_subcommand_from $argv[2..]; and test (__sdv_place) -eq $argv[1]
 end
 
-set -l commands frame certify check run batch explain graph print emit audit describe drive card
+set -l commands frame certify check run batch explain graph print emit audit describe drive card review
 
 complete -c sdv -f
 complete -c sdv -n "not __fish_seen_subcommand_from $commands" -s h -l help -d "How the program is called"
@@ -40,8 +40,9 @@ complete -c sdv -n "not __fish_seen_subcommand_from $commands" -a audit -d "Wher
 complete -c sdv -n "not __fish_seen_subcommand_from $commands" -a describe -d "A card description in words"
 complete -c sdv -n "not __fish_seen_subcommand_from $commands" -a drive -d "Run a script over lines"
 complete -c sdv -n "not __fish_seen_subcommand_from $commands" -a card -d "Answer requests by a simulated card"
+complete -c sdv -n "not __fish_seen_subcommand_from $commands" -a review -d "What an accepted script leaves open for the data"
 
-complete -c sdv -n "__sdv_at 0 certify check run explain graph print emit drive" -k -a "(__fish_complete_suffix .sdv)"
+complete -c sdv -n "__sdv_at 0 certify check run explain graph print emit drive review" -k -a "(__fish_complete_suffix .sdv)"
 complete -c sdv -n "__sdv_at 1 check run emit drive" -k -a "(__fish_complete_suffix .cert)"
 complete -c sdv -n "__sdv_at 2 run" -k -a "(__fish_complete_suffix .card)"
 complete -c sdv -n "__sdv_at 3 run" -F -a "new:" -d "An image of zeros: new:BLOCKS"
@@ -54,6 +55,7 @@ complete -c sdv -n "__fish_seen_subcommand_from drive" -l trace -r -F -d "The fi
 complete -c sdv -n "__fish_seen_subcommand_from emit" -l binary -r -F -d "The file for the words of the table as bytes"
 complete -c sdv -n "__fish_seen_subcommand_from audit" -l json -d "Print JSON"
 complete -c sdv -n "__fish_seen_subcommand_from audit" -l annotate -d "Print each line of the trace too"
+complete -c sdv -n "__fish_seen_subcommand_from review" -l json -d "Print JSON"
 complete -c sdv -n "__sdv_at 1 audit" -k -a "(__fish_complete_suffix .trace)"
 complete -c sdv -n "__sdv_at 0 describe card" -k -a "(__fish_complete_suffix .card)"
 complete -c sdv -n "__sdv_at 0 batch audit" -a "sd emmc"

@@ -11,8 +11,8 @@ use Rattle.clap.specs.Faults.{entered_fault, level_fault}
 use Rattle.clap.specs.Words.{App, app_of, HasKind, Kinds, Row, Shape, Text, built, fault_of, first_of, is_simple, is_simple_and_free, kind_of, matches_of, subcommand_of, takes}
 use Rattle.clap.specs.declared.error.Error.{Error}
 use Rattle.clap.specs.declared.error.kind.ErrorKind.TheVariants.{OutOfMemory}
-use Rattle.sdv_command_line.specs.Commands.{Command, Word, of_emit, of_run, of_script, of_script_and_certificate, required, optional, with_value, flag, of_audit, of_card, of_drive, of_served_card}
-use Rattle.sdv_command_line.specs.Requests.{Request, by_emit_words, by_run_words, by_script, by_two_words, run, frame, certify, check, batch, emit, explain, graph, print, request_in, seen, by_audit_words, by_card, by_card_words, by_drive_words, is_set, audit, describe, drive, serve}
+use Rattle.sdv_command_line.specs.Commands.{Command, Word, of_emit, of_run, of_script, of_script_and_certificate, required, optional, with_value, flag, of_audit, of_card, of_drive, of_served_card, of_review}
+use Rattle.sdv_command_line.specs.Requests.{Request, by_emit_words, by_run_words, by_script, by_two_words, run, frame, certify, check, batch, emit, explain, graph, print, request_in, seen, by_audit_words, by_card, by_card_words, by_drive_words, is_set, audit, describe, drive, serve, review}
 use Rattle.sdv_command_line.specs.CommandLine.{app_for, command_line, meaning_of, request_without, rule_for, with_word}
 use Rattle.sdv_command_line.specs.declared.request.Request.{Request as CodeRequest}
 use Rattle.sdv_command_line.specs.declared.request.RequestFault.{RequestFault}
@@ -257,8 +257,13 @@ served_means words none =
     let given = leaf_required (shape 12) words (one_word 1 of_served_card) none in
     served_given (rows_at (shape 12) words).1 (given.0 refl) (given.1.0 refl)
 
+review_means : Means (shape 13)
+review_means words none =
+    let rows = (rows_at (shape 13) words).1 in
+    script_given (λ script. review script (is_set (codes "json") rows)) rows ((leaf_required (shape 13) words (one_word 1 of_review) none).0 refl)
+
 each_means : AllByRecursion Means (built command_line).subs
-each_means = (frame_means, (certify_means, (check_means, (run_means, (batch_means, (explain_means, (graph_means, (print_means, (emit_means, (audit_means, (describe_means, (drive_means, (served_means, tt)))))))))))))
+each_means = (frame_means, (certify_means, (check_means, (run_means, (batch_means, (explain_means, (graph_means, (print_means, (emit_means, (audit_means, (describe_means, (drive_means, (served_means, (review_means, tt))))))))))))))
 
 found_means : (p : Shape → Bool) (shapes : List Shape) → AllByRecursion Means shapes → IfSome (find p shapes) Means
 found_means p [] each = tt

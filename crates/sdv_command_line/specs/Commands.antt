@@ -62,6 +62,9 @@ of_drive =
 abbrev pub of_served_card : List Word
 of_served_card = required (codes "CARD") ∷ required (codes "IMAGE") ∷ optional (codes "SCHEDULE") ∷ []
 
+abbrev pub of_review : List Word
+of_review = required (codes "SCRIPT") ∷ flag (codes "json") ∷ []
+
 -- the commands, in the order of the usage line
 abbrev pub commands : List Command
 commands =
@@ -78,6 +81,7 @@ commands =
     ∷ command (codes "describe") of_card (codes "prints a card description in words, or the line that is wrong")
     ∷ command (codes "drive") of_drive (codes "runs the script over lines: requests are printed, and answers read")
     ∷ command (codes "card") of_served_card (codes "answers such requests by a simulated card")
+    ∷ command (codes "review") of_review (codes "prints what an accepted script leaves open for the data")
     ∷ []
 
 -- a word and a command of the code's table

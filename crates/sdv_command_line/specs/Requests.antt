@@ -3,7 +3,7 @@ use Rattle.std.specs.Prelude.{Bool, false, List, Option, Some, None, codes, if�
 use Rattle.std.specs.Str.{bytes_eq}
 use Rattle.clap.specs.Words.{Row, Text, first_of}
 use Rattle.sdv_command_line.specs.declared.request.Request.{Request as CodeRequest}
-use Rattle.sdv_command_line.specs.declared.request.Request.TheVariants.{Frame, Certify, Check, Run, Batch, Explain, Graph, Print, Emit, Audit, Describe, Drive, Card}
+use Rattle.sdv_command_line.specs.declared.request.Request.TheVariants.{Frame, Certify, Check, Run, Batch, Explain, Graph, Print, Emit, Audit, Describe, Drive, Card, Review}
 use Rattle.sdv_command_line.specs.declared.request.RunFiles.{RunFiles}
 use Rattle.sdv_command_line.specs.declared.request.EmitWords.{EmitWords}
 use Rattle.sdv_command_line.specs.declared.request.AuditWords.{AuditWords}
@@ -64,6 +64,7 @@ pub data Request : Type 0 where
   drive : DriveNames → Request
   -- `card`
   serve : CardNames → Request
+  review : (script : Text) (json : Bool) → Request
 
 -- THE ROWS that clap matched for the words of a command
 
@@ -138,6 +139,9 @@ by_card_words rows =
       schedule = first_of (codes "SCHEDULE") rows;
     }))))
 
+abbrev pub by_review_words : List Row → Option Request
+by_review_words rows = by_script (λ script. review script (is_set (codes "json") rows)) rows
+
 -- the request in a command's name and the rows of its words
 abbrev pub request_in : Text × List Row → Option Request
 request_in used =
@@ -154,6 +158,7 @@ request_in used =
     else if bytes_eq used.0 (codes "describe") then by_card describe used.1
     else if bytes_eq used.0 (codes "drive") then by_drive_words used.1
     else if bytes_eq used.0 (codes "card") then by_card_words used.1
+    else if bytes_eq used.0 (codes "review") then by_review_words used.1
     else None
 
 -- THE CODE'S REQUEST, with references to the words
@@ -211,3 +216,4 @@ seen (Audit words) = audit (audit_names_of words)
 seen (Describe card) = describe card.now
 seen (Drive files) = drive (drive_names_of files)
 seen (Card files) = serve (card_names_of files)
+seen (Review script json) = review script.now json

@@ -5,7 +5,7 @@ ghost use Rattle.clap.specs.Words.{fault_of, first_of, found_of, kind_of, rows_o
 ghost use Rattle.clap.specs.Walk.{texts};
 ghost use Rattle.clap.specs.declared.error.kind.ErrorKind.TheVariants.{OutOfMemory};
 ghost use Rattle.sdv_command_line.specs.CommandLine.{command_line, meaning_of};
-ghost use Rattle.sdv_command_line.specs.Requests.{by_emit_words, by_run_words, by_script, by_two_words, request_in, seen, by_audit_words, by_card, is_set};
+ghost use Rattle.sdv_command_line.specs.Requests.{by_emit_words, by_run_words, by_script, by_two_words, request_in, seen, by_audit_words, by_card, by_review_words, is_set};
 ghost use Rattle.sdv_command_line.specs.Requests.{batch, certify, check, explain, frame, graph, print, describe};
 ghost use Rattle.sdv_command_line.specs.Requests.{by_card_words, by_drive_words};
 
@@ -57,6 +57,11 @@ pub enum Request<'a> {
     /// What the card description in this file says.
     Describe {
         card: &'a str,
+    },
+    /// What the script in this file leaves open for the data, as JSON or in words.
+    Review {
+        script: &'a str,
+        json: bool,
     },
     /// The table of the script in these files, in C.
     Emit(EmitWords<'a>),
@@ -197,6 +202,7 @@ fn request_in<'a>(matches: &ArgMatches<'a>) -> Option<Request<'a>>
         ("describe", matches) => describe_in(matches),
         ("drive", matches) => drive_in(matches),
         ("card", matches) => card_in(matches),
+        ("review", matches) => review_in(matches),
         _ => None,
     }
 }
@@ -312,6 +318,14 @@ fn describe_in<'a>(matches: &ArgMatches<'a>) -> Option<Request<'a>>
 {
     let card = word_in(matches, "CARD")?;
     Some(Request::Describe { card })
+}
+
+fn review_in<'a>(matches: &ArgMatches<'a>) -> Option<Request<'a>>
+    ensures { option_map seen result ≡ by_review_words (rows_of (found_of matches.now)) }
+{
+    let script = word_in(matches, "SCRIPT")?;
+    let json = is_set(matches, "json");
+    Some(Request::Review { script, json })
 }
 
 fn emit_in<'a>(matches: &ArgMatches<'a>) -> Option<Request<'a>>

@@ -26,7 +26,7 @@ pub struct CommandEntry {
 }
 
 /// The commands of the program, in the order in which `--help` and the usage line name them.
-pub static COMMANDS: [CommandEntry; 13] = [
+pub static COMMANDS: [CommandEntry; 14] = [
     CommandEntry {
         name: "frame",
         words: &[Word::Required("INDEX"), Word::Required("ARG")],
@@ -137,5 +137,10 @@ pub static COMMANDS: [CommandEntry; 13] = [
             Word::Optional("SCHEDULE"),
         ],
         help: "answers such requests by a simulated card",
+    },
+    CommandEntry {
+        name: "review",
+        words: &[Word::Required("SCRIPT"), Word::Flag("json")],
+        help: "prints what an accepted script leaves open for the data",
     },
 ];

@@ -9,7 +9,7 @@ use Rattle.sdv_script.specs.Tree.{Statements, Declared}
 use Rattle.sdv_script.specs.Shown.{shown}
 use Rattle.sdv_script.proofs.ScriptLaws.{one_tree_lem}
 use Rattle.sdv_facts.specs.Facts.{Certificate}
-use Rattle.sdv_facts.specs.CertificateText.{text_of, WithinLimits}
+use Rattle.sdv_facts.specs.CertificateText.{WithinLimits}
 use Rattle.sdv_check.specs.Verified.{IsGraphOfText}
 use Rattle.sdv_certify.specs.Assembled.{CertificateOf, VersionFor, ClosedFor, RefusedFor}
 use Rattle.sdv_certify.specs.declared.fault.CertifyFault.{CertifyFault}
@@ -51,7 +51,7 @@ certificate_of_text text s c same is_script certificate version closed limits =
 
 module _ (text : Text) (s : Tree) (same : (shown s).text ≡ text) (is_script : IsScript (shown s)) (known : Option (List ℕ)) where
   -- a refusal is so of the text
-  no_certificate : (fault : CertifyFault) → fault ≢ certifies.Memory → RefusedFor s fault → HasNoCertificate text fault
+  pub no_certificate : (fault : CertifyFault) → fault ≢ certifies.Memory → RefusedFor s fault → HasNoCertificate text fault
   no_certificate fault other because =
       record { script = s; is = record { same = same; is_script = is_script }; reason = other; refused = because }
 

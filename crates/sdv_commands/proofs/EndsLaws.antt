@@ -2,7 +2,7 @@
 use Rattle.std.proofs.Common.{◌≡◌, ◌≢◌, ◌∙◌, refl, sym, ap, ℕ, Bor, IfErr, IsErrAnd, List, OnOk, Option, Result, Ok, Err, Some, None, option_map}
 use Rattle.std.specs.Io.KnownBytes.{Keeps}
 use Rattle.clap.specs.Words.{Text}
-use Rattle.sdv_command_line.specs.Requests.{CardNames, DriveNames, Request, frame, certify, check, run, batch, explain, graph, print, emit, audit, describe, drive, serve}
+use Rattle.sdv_command_line.specs.Requests.{CardNames, DriveNames, Request, frame, certify, check, run, batch, explain, graph, print, emit, audit, describe, drive, serve, review}
 use Rattle.sdv_command_line.specs.CommandLine.{meaning_of}
 use Rattle.sdv_command_line.specs.declared.request.RequestFault.{RequestFault}
 use Rattle.sdv_command_line.specs.declared.request.RequestFault.TheVariants as requests
@@ -28,10 +28,12 @@ use Rattle.sdv_commands.specs.Explain.{IsExplanation, IsUnexplained}
 use Rattle.sdv_commands.specs.Frame.{IsFrameText, WriteNone}
 use Rattle.sdv_commands.specs.Graph.{IsDrawing, IsUndrawn}
 use Rattle.sdv_commands.specs.Print.{HasNoTokens, IsPrinted}
+use Rattle.sdv_commands.specs.Review.{IsReview}
 use Rattle.sdv_commands.specs.Ends.{AreQuiet, AreWhole, EndsRequest, EndsWords, IsQuiet, IsWhole, for_memory, for_nothing, for_page, for_request}
 
 module _ (files : Files) (s s' : Streams) (before after : Option (List ℕ)) where
-  -- a request that is refused prints nothing, but a run, an explanation, a drawing, an audit and the page of a description
+  -- a request that is refused prints nothing, but a run, an explanation, a drawing, an audit, the page of a description and a
+  -- review
   quiet-kept : (request : Request) → IsQuiet request → (fault : Fault) → fault ≢ Output → EndsRequest files s s' request (Some fault) before after
       → Keeps before after
   quiet-kept (frame index argument) quiet fault other ends =
@@ -61,6 +63,7 @@ module _ (files : Files) (s s' : Streams) (before after : Option (List ℕ)) whe
   quiet-kept (describe card) quiet fault other ends = absurd quiet
   quiet-kept (drive names) quiet fault other ends = ends.1
   quiet-kept (serve names) quiet fault other ends = ends.1
+  quiet-kept (review script json) quiet fault other ends = absurd quiet
 
   -- nothing is printed for want of memory, but by an audit
   memory-kept : (request : Request) → IsWhole request → EndsRequest files s s' request (Some Memory) before after → Keeps before after
@@ -88,6 +91,8 @@ module _ (files : Files) (s s' : Streams) (before after : Option (List ℕ)) whe
       over-kept before after files card (λ (text : Text). Reports (IsPageOf text) HasNoPage) (Some Memory) (λ text kept. kept) ends
   memory-kept (drive names) whole ends = ends.1
   memory-kept (serve names) whole ends = ends.1
+  memory-kept (review script json) whole ends =
+      over-kept before after files script (λ (text : Text). Reports (IsReview text json) (HasNone text)) (Some Memory) (λ text kept. kept) ends
 
   page-fault : (page : Text) (fault : Fault) → PrintsText page (Some fault) before after → fault ≡ Output
   page-fault page Output ends = refl

@@ -5,4 +5,5 @@ mod CheckLaws
 mod EndsLaws
 mod FrameTextLaws
 mod ReportLaws
+mod ReviewLaws
 mod ScriptFaultLaws

@@ -4,7 +4,7 @@ use Rattle.std.specs.Prelude.{◌≡◌, ℕ, List, Option, Some, None}
 use Rattle.std.specs.Io.KnownBytes.{Keeps}
 use Rattle.clap.specs.Words.{Text}
 use Rattle.sdv_command_line.specs.CommandLine.{meaning_of}
-use Rattle.sdv_command_line.specs.Requests.{Request, frame, certify, check, run, batch, explain, graph, print, emit, audit, describe, drive, serve}
+use Rattle.sdv_command_line.specs.Requests.{Request, frame, certify, check, run, batch, explain, graph, print, emit, audit, describe, drive, serve, review}
 use Rattle.sdv_faults.specs.Fault.{Says, status_of}
 use Rattle.sdv_faults.specs.declared.fault.Fault.{Fault}
 use Rattle.sdv_faults.specs.declared.fault.Fault.TheVariants.{Usage, Memory}
@@ -25,6 +25,7 @@ use Rattle.sdv_commands.specs.Frame.{FrameEnds}
 use Rattle.sdv_commands.specs.Graph.{GraphEnds}
 use Rattle.sdv_commands.specs.Page.{page_of}
 use Rattle.sdv_commands.specs.Print.{PrintEnds}
+use Rattle.sdv_commands.specs.Review.{ReviewEnds}
 
 -- REQUESTS, command by command
 
@@ -46,15 +47,17 @@ EndsRequest files s s' (audit names) = AuditEnds files names
 EndsRequest files s s' (describe card) = DescribeEnds files card
 EndsRequest files s s' (drive names) = Speaks (DriveEnds files names s s')
 EndsRequest files s s' (serve names) = Speaks (CardEnds files names s.answers s'.answers s.requests s'.requests)
+EndsRequest files s s' (review script json) = ReviewEnds files script json
 
--- Nothing is printed where the command is refused. A run, an explanation, a drawing, the report of an audit and the page of
--- a card description are printed then too.
+-- Nothing is printed where the command is refused. A run, an explanation, a drawing, the report of an audit, the page of a
+-- card description and a review are printed then too.
 abbrev pub IsQuiet : Request → Type 0
 IsQuiet (run names) = ⊥
 IsQuiet (explain script) = ⊥
 IsQuiet (graph script) = ⊥
 IsQuiet (audit names) = ⊥
 IsQuiet (describe card) = ⊥
+IsQuiet (review script json) = ⊥
 IsQuiet request = Unit {0}
 
 -- Nothing is printed before the answer is whole. An audit prints its report while it reads the trace.

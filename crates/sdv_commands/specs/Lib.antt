@@ -8,4 +8,5 @@ pub mod Frame
 pub mod Graph
 pub mod Page
 pub mod Print
+pub mod Review
 pub mod Ends

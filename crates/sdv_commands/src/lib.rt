@@ -15,4 +15,5 @@ pub mod page;
 pub mod print;
 pub mod program;
 pub mod progress;
+pub mod review;
 pub mod start;

@@ -18,6 +18,7 @@ use crate::frame::print_frame;
 use crate::graph::graph_file;
 use crate::page::page_of;
 use crate::print::print_file;
+use crate::review::review_file;
 use sdv_command_line::{Request, request_of};
 use sdv_emit_command::emit_files;
 use sdv_faults::Fault;
@@ -114,5 +115,6 @@ pub fn answer_request<'a, S: Store, I: Read, L: Write, O: Write>(
         Request::Card(names) => {
             serve_card(alloc, files, names, &mut lines.reader, &mut lines.writer)
         }
+        Request::Review { script, json } => review_file(alloc, files, script, json, out),
     }
 }

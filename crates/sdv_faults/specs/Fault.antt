@@ -25,6 +25,8 @@ use Rattle.sdv_check.specs.declared.fault.VerifyFault.{VerifyFault}
 use Rattle.sdv_check.specs.declared.fault.VerifyFault.TheVariants as verifies
 use Rattle.sdv_explain.specs.declared.fault.ExplainFault.{ExplainFault}
 use Rattle.sdv_explain.specs.declared.fault.ExplainFault.TheVariants as explains
+use Rattle.sdv_review.specs.declared.fault.ReviewFault.{ReviewFault}
+use Rattle.sdv_review.specs.declared.fault.ReviewFault.TheVariants as reviews
 use Rattle.sdv_table.specs.declared.fault.Part.{Part}
 use Rattle.sdv_table.specs.declared.fault.Part.TheVariants as parts
 use Rattle.sdv_emit.specs.declared.fault.EmitFault.{EmitFault}
@@ -161,7 +163,7 @@ abbrev pub named_line : (words name : Text) → Text
 named_line words name = words ++ (name ++ 10 ∷ [])
 
 -- nothing of a failed output, nor of a run that ended in a fault of its script, whose trace says so, nor of what an audit
--- found, which its report says
+-- or a review found, which its report says
 abbrev pub fault_line : Fault → Text
 fault_line Usage = plain_line usage
 fault_line (File file) = codes "cannot use " ++ (file.now ++ 10 ∷ [])
@@ -185,8 +187,8 @@ fault_line Memory = plain_line (codes "out of memory")
 abbrev pub Says : Fault → (before after : Option (List ℕ)) → Type 0
 Says fault before after = Appends before after (fault_line fault) ⊎ AppendsPart before after (fault_line fault)
 
--- THE STATUS: 1 for a refusal, for a run that did not end in `done` and for what an audit found, 2 for words, files,
--- requests and output that cannot be used, 3 for want of memory
+-- THE STATUS: 1 for a refusal, for a run that did not end in `done` and for what an audit or a review found, 2 for words,
+-- files, requests and output that cannot be used, 3 for want of memory
 
 abbrev pub status_of : Fault → ℕ
 status_of Usage = 2
@@ -240,6 +242,12 @@ abbrev pub fault_of_explain : ExplainFault → Fault
 fault_of_explain (explains.Script fault) = Script fault
 fault_of_explain explains.TooMany = Uncertified certifies.TooMany
 fault_of_explain explains.Memory = Memory
+
+-- scripts that are not reviewed
+abbrev pub fault_of_review : ReviewFault → Fault
+fault_of_review (reviews.Script fault) = Script fault
+fault_of_review (reviews.Refused fault) = fault_of_certify fault
+fault_of_review reviews.Memory = Memory
 
 -- why no table of a script is printed
 abbrev pub fault_of_emit : EmitFault → Fault

@@ -19,6 +19,7 @@ use sdv_command_line::{RequestFault, usage};
 use sdv_emit::EmitFault;
 use sdv_explain::ExplainFault;
 use sdv_lines::{LineFault as RequestLineFault, ServeFault};
+use sdv_review::ReviewFault;
 use sdv_run::RunFault;
 use sdv_script::{FaultKind, ScriptFault};
 use sdv_sim::SimFault;
@@ -56,7 +57,7 @@ pub enum Fault<'a> {
     Request(ServeFault),
     /// The run of a script ended in a fault that the script names; its trace says so.
     Named,
-    /// An audit found something; its report says what.
+    /// An audit or a review found something; its report says what.
     Found,
     /// Standard output took not all of the answer.
     Output,
@@ -128,6 +129,20 @@ impl<'a> From<ExplainFault> for Fault<'a> {
             ExplainFault::Script(fault) => Fault::Script(fault),
             ExplainFault::TooMany => Fault::Uncertified(CertifyFault::TooMany),
             ExplainFault::Memory => Fault::Memory,
+        }
+    }
+}
+
+impl<'a> From<ReviewFault> for Fault<'a> {
+    ghost use Rattle.sdv_faults.specs.Fault.{fault_of_review};
+
+    ghost from_gives = { λ fault f. f ≡ fault_of_review fault };
+
+    fn from(fault: ReviewFault) -> Fault<'a> {
+        match fault {
+            ReviewFault::Script(fault) => Fault::Script(fault),
+            ReviewFault::Refused(fault) => Fault::from(fault),
+            ReviewFault::Memory => Fault::Memory,
         }
     }
 }
@@ -227,7 +242,7 @@ impl<'a> Fault<'a> {
     }
 
     /// Says on a line what is wrong, but nothing of a failed output, nor of a fault that the trace of a run says, nor of what
-    /// an audit found.
+    /// an audit or a review found.
     ///
     /// # Errors
     ///

@@ -33,7 +33,7 @@ first_of : (g : Graph) (ps : List PointFacts) (o : Option PointFacts) → slice_
 first_of g ps None e m = absurd m
 first_of g ps (Some p) e m = record { facts = p; known = e; starts = m }
 
-begins : (g : Graph) (ps : List PointFacts) → Laws g.kind → IsSound g → Closed g ps → (c : Card) → g.kind ≡ c.kind → IsAtStart c → Stands g ps (begin g) c
+pub begins : (g : Graph) (ps : List PointFacts) → Laws g.kind → IsSound g → Closed g ps → (c : Card) → g.kind ≡ c.kind → IsAtStart c → Stands g ps (begin g) c
 begins g ps laws sound closed c kind start =
     let f : First g ps = first_of g ps (slice_get ps 0) refl closed.start in
     let there = has_point g.points 0 (subst (λ n. 0 < n) closed.points.count (slice_get_within ps 0 f.facts f.known)) in

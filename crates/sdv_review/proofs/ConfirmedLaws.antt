@@ -34,7 +34,7 @@ use Rattle.sdv_card.proofs.Members.{same_state}
 use Rattle.sdv_review.specs.Confirmed.{StoredUnlessError, ConfirmedByAnswer, KeptByAnswer, StoredOnceConfirmed}
 use Rattle.sdv_review.specs.Statuses.{confirms, keeps}
 
-settled_error : (c t : Card) → Settled c t → c.unshown_error ≡ t.unshown_error
+pub settled_error : (c t : Card) → Settled c t → c.unshown_error ≡ t.unshown_error
 settled_error c t (inl e) = ap (λ (v : Card). v.unshown_error) e
 settled_error c t (inr x) = ap (λ (v : Card). v.unshown_error) x.2
 

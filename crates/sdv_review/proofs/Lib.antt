@@ -5,3 +5,9 @@ pub mod MeaningLaws
 pub mod SpreadLaws
 pub mod WriteLaws
 pub mod ConfirmedLaws
+pub mod ContentsLaws
+pub mod AimLaws
+pub mod KeptLaws
+pub mod AskedLaws
+pub mod PlaceLaws
+pub mod DataLaws

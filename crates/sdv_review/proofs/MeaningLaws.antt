@@ -87,7 +87,7 @@ reached (x ∷ xs) m s one = refl
 -- PARTITIONS
 
 -- the partition is among these
-is_in : (user boot_1 boot_2 : Bool) → Partition → Bool
+abbrev pub is_in : (user boot_1 boot_2 : Bool) → Partition → Bool
 is_in user boot_1 boot_2 User = user
 is_in user boot_1 boot_2 Boot1 = boot_1
 is_in user boot_1 boot_2 Boot2 = boot_2
@@ -110,8 +110,7 @@ both_boots false true true e f o = cc
 both_boots u true false e f o = cc
 both_boots u false b e f o = cc
 
-one_alone : (u a b : Bool) (p q : Partition) → is_in u a b p ≡ true → is_in u a b q ≡ true → (u && (a || b)) || (a && b) ≡ false → p ≡ q
-unfolding is_in
+pub one_alone : (u a b : Bool) (p q : Partition) → is_in u a b p ≡ true → is_in u a b q ≡ true → (u && (a || b)) || (a && b) ≡ false → p ≡ q
 one_alone u a b User User e f o = refl
 one_alone u a b User Boot1 e f o = absurd (user_boot_1 u a b e f o)
 one_alone u a b User Boot2 e f o = absurd (user_boot_2 u a b e f o)
@@ -124,7 +123,6 @@ one_alone u a b Boot2 Boot2 e f o = refl
 
 shown_in : (shapes : List Shape) (p : Partition) → list_any (shows p) shapes ≡ true
     → is_in (list_any (shows User) shapes) (list_any (shows Boot1) shapes) (list_any (shows Boot2) shapes) p ≡ true
-unfolding is_in
 shown_in shapes User e = e
 shown_in shapes Boot1 e = e
 shown_in shapes Boot2 e = e
@@ -132,7 +130,7 @@ shown_in shapes Boot2 e = e
 itself : (n : ℕ) → (n == n) ≡ true
 itself n = eq-eqb n n refl
 
-of_shape : (shapes : List Shape) (s : Shape) → IsOneOf shapes s
+pub of_shape : (shapes : List Shape) (s : Shape) → IsOneOf shapes s
     → is_in (list_any (shows User) shapes) (list_any (shows Boot1) shapes) (list_any (shows Boot2) shapes) (partition_shown s) ≡ true
 of_shape shapes s one =
     shown_in shapes (partition_shown s) (one_passes (shows (partition_shown s)) shapes s one (itself (partition_number (partition_shown s))))
@@ -195,7 +193,7 @@ flag_out g ps s u at flag on e =
     ∙ not_so (has_flag (record { 0 = pair_code u s.host }) flag) on
     (none_passes (λ s. beq (has_flag s flag) on) at.facts.facts.shapes (record { 0 = pair_code u s.host }) at.holds.shape.one e)
 
-comes_out : (g : Graph) (ps : List PointFacts) (s : Stand) (u : Card) (at : Stands g ps s u) (c : Condition) (holds : Bool)
+pub comes_out : (g : Graph) (ps : List PointFacts) (s : Stand) (u : Card) (at : Stands g ps s u) (c : Condition) (holds : Bool)
     → (if holds then may_come_out c false at.facts.facts else may_come_out c true at.facts.facts) ≡ false → condition_holds s.host c ≡ holds
 comes_out g ps s u at (conditions.Flag flag) true e = flag_out g ps s u at flag false e
 comes_out g ps s u at (conditions.Flag flag) false e = flag_out g ps s u at flag true e
@@ -256,7 +254,7 @@ module _ (g : Graph) (ps : List PointFacts) (listed : List Finding) (is : listed
       (closed_way holds (may_come_out condition true f.stands.facts.facts) (may_come_out condition false f.stands.facts.facts)
       (of_test f.stands.facts.facts.shapes (condition_matter condition f.stands.facts.facts) holds matter))
 
-  certain_there : (s : Stand) (u : Card) (at : Stands g ps s u) (command : ScriptCommand) (cases : List Case) (other : Target) (most : List ℕ)
+  pub certain_there : (s : Stand) (u : Card) (at : Stands g ps s u) (command : ScriptCommand) (cases : List Case) (other : Target) (most : List ℕ)
       → slice_get g.points s.point ≡ Some (record { action = sends command cases other; most = most }) → has_address command.ask ≡ true
       → IsCertain listed s.point → is_open (reach_of at.facts.facts.shapes) ≡ false
   certain_there s u at command cases other most there addressed certain =

@@ -1,7 +1,8 @@
--- THAT THE DATA IS THERE where a run is done: of each write phase the blocks stand on the card as they were given, unless
--- a later write phase or an erase of the run reaches one of them.
-use Rattle.std.specs.Prelude.{◌≡◌, ◌⊎◌, ◌+◌, ◌<◌, ℕ, Bool, List, [], ◌∷◌, length, take, drop}
+-- THAT THE DATA IS THERE where a run is done: of each write phase the blocks stand on the card as they were given, in
+-- the place that the script asked for, unless a later write phase or an erase of the run reaches one of them.
+use Rattle.std.specs.Prelude.{◌≡◌, ◌⊎◌, ◌+◌, ◌<◌, ℕ, Bool, List, [], ◌∷◌, length, take, drop, if◌then◌else◌}
 use Rattle.sdv_card.specs.declared.state.Partition.{Partition}
+use Rattle.sdv_card.specs.declared.state.Partition.TheVariants.{User}
 use Rattle.sdv_card.specs.declared.command.Row.TheVariants.{Cmd38}
 use Rattle.sdv_card.specs.Card.{Card, Block, Partitions, blocks_of}
 use Rattle.sdv_card.specs.Profile.{IsAtStart}
@@ -12,6 +13,8 @@ use Rattle.sdv_facts.specs.Beside.{StepsOf}
 use Rattle.sdv_graph.specs.Graph.{Graph, begin}
 use Rattle.sdv_graph.specs.Path.{Path}
 use Rattle.sdv_graph.specs.Walk.{Pair, Finished}
+use Rattle.sdv_review.specs.Moves.{asked_by}
+use Rattle.sdv_review.specs.Statuses.{is_write}
 
 -- blocks that were given, from a first block of a partition on
 pub record Given : Type 0 where
@@ -57,16 +60,37 @@ IsKept g c es last steps = StandIn last.contents g ⊎ IsReached g c es last ste
 abbrev pub given_at : Card → List Block → Given
 given_at c blocks = record { partition = c.mode.partition; first = c.next_block; blocks = blocks }
 
-abbrev pub KeptAfter : ScriptEvent → (c u : Card) (es : List Pair) (last : Card) → StepsOf u es last → Type 0
-KeptAfter (GiveBlocks lines blocks) c u es last steps = IsKept (given_at c blocks) u es last steps
-KeptAfter event c u es last steps = Unit {0}
+-- where a script means its writes to go
+pub record Aim : Type 0 where
+  pub partition : Partition
+  pub first : ℕ
+
+-- into the partition that it asked for last, from the block on that its last CMD24 or CMD25 names
+abbrev pub aim_after : ScriptEvent → Aim → Aim
+aim_after (SendCommand ask position argument) a = record {
+  partition = asked_by ask a.partition;
+  first = if is_write ask then position else a.first;
+}
+aim_after event a = a
+
+-- before the first command
+abbrev pub no_aim : Aim
+no_aim = record { partition = User; first = 0 }
+
+abbrev pub given_to : Aim → List Block → Given
+given_to a blocks = record { partition = a.partition; first = a.first; blocks = blocks }
+
+abbrev pub KeptAfter : Aim → ScriptEvent → (u : Card) (es : List Pair) (last : Card) → StepsOf u es last → Type 0
+KeptAfter a (GiveBlocks lines blocks) u es last steps = IsKept (given_to a blocks) u es last steps
+KeptAfter a event u es last steps = Unit {0}
 
 -- so it is of each write phase of a run
-abbrev pub AreKept : (c : Card) (es : List Pair) (last : Card) → StepsOf c es last → Type 0
-AreKept c [] last steps = Unit {0}
-AreKept c (p ∷ es) last steps = KeptAfter p.0 c steps.0 es last steps.2 × AreKept steps.0 es last steps.2
+abbrev pub AreKept : Aim → (c : Card) (es : List Pair) (last : Card) → StepsOf c es last → Type 0
+AreKept a c [] last steps = Unit {0}
+AreKept a c (p ∷ es) last steps =
+    KeptAfter a p.0 steps.0 es last steps.2 × AreKept (aim_after p.0 a) steps.0 es last steps.2
 
 -- and of each run of a graph that ends in `done`, beside any card of the profile
 abbrev pub CertainData : Graph → Type 0
 CertainData g = (c : Card) (es : List Pair) (last : Card) (steps : StepsOf c es last) → g.kind ≡ c.kind → IsAtStart c
-    → Path g.kind g.points Finished (begin g) es → AreKept c es last steps
+    → Path g.kind g.points Finished (begin g) es → AreKept no_aim c es last steps

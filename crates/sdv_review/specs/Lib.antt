@@ -4,6 +4,8 @@ pub mod Comes
 pub mod Meaning
 pub mod Lines
 pub mod Reviewed
+pub mod Moves
+pub mod Asked
 pub mod Statuses
 pub mod Carried
 pub mod Writes

@@ -7,10 +7,10 @@ use Rattle.sdv_review.specs.declared.finding.Reach.{Reach}
 use Rattle.sdv_review.specs.declared.finding.Name.{Name}
 use Rattle.sdv_review.specs.declared.finding.Name.TheVariants.{Number, Flag}
 use Rattle.sdv_review.specs.declared.finding.Matter.{Matter}
-use Rattle.sdv_review.specs.declared.finding.Matter.TheVariants.{Unreached, Partition, BootEnable, OneWay, Unread, Unstored}
+use Rattle.sdv_review.specs.declared.finding.Matter.TheVariants.{Unreached, Partition, BootEnable, OneWay, Unread, Misplaced, Unstored}
 use Rattle.sdv_review.specs.declared.finding.Finding.{Finding}
 use Rattle.sdv_review.specs.declared.status.Status.{Status}
-use Rattle.sdv_review.specs.declared.status.Status.TheVariants.{Open, Failed, Left}
+use Rattle.sdv_review.specs.declared.status.Status.TheVariants.{Open, Failed, Left, EraseOpen, EraseFailed, EraseLeft}
 
 -- the partitions of a reach that has more than one
 abbrev pub partition_words : (user boot_1 boot_2 : Bool) → Text
@@ -41,23 +41,32 @@ unreached_words g point = codes "no run comes to " ++ statement_there g point
 abbrev pub command_words : (index : ℕ) → Reach → Text
 command_words index reach = codes "CMD" ++ (decimal index ++ (codes " may reach " ++ reach_words reach))
 
--- how a write may not be stored
+-- how a write may not be stored, or an erase not be done
 abbrev pub status_front : Status → Text
 status_front (Open point) = codes "done may come before the write of line "
 status_front (Failed point) = codes "done may come where the write of line "
 status_front (Left point) = codes "done may come after the write of line "
+status_front (EraseOpen point) = codes "done may come before the erase of line "
+status_front (EraseFailed point) = codes "done may come where the erase of line "
+status_front (EraseLeft point) = codes "done may come after the erase of line "
 status_front status = codes "it is not known whether each write is stored"
 
 abbrev pub status_back : Status → Text
 status_back (Open point) = codes " is confirmed"
 status_back (Failed point) = codes " was cut, or its error passed over"
 status_back (Left point) = codes ", which may have failed, was left for another"
+status_back (EraseOpen point) = codes " is confirmed"
+status_back (EraseFailed point) = codes " was lost, or its error passed over"
+status_back (EraseLeft point) = codes ", which may have failed, was left for another"
 status_back status = []
 
 abbrev pub write_of : Status → Option ℕ
 write_of (Open point) = Some point
 write_of (Failed point) = Some point
 write_of (Left point) = Some point
+write_of (EraseOpen point) = Some point
+write_of (EraseFailed point) = Some point
+write_of (EraseLeft point) = Some point
 write_of status = None
 
 abbrev pub write_line : Graph → Option ℕ → Text
@@ -67,6 +76,10 @@ write_line g None = []
 abbrev pub status_words : Graph → Status → Text
 status_words g status = status_front status ++ (write_line g (write_of status) ++ status_back status)
 
+abbrev pub misplaced_words : (index : ℕ) → Text
+misplaced_words index =
+    codes "CMD" ++ (decimal index ++ codes " may not reach the partition that was asked for last")
+
 abbrev pub matter_words : Graph → Option ℕ → Matter → Text
 matter_words g point Unreached = unreached_words g point
 matter_words g point (Partition index reach) = command_words index reach
@@ -74,6 +87,7 @@ matter_words g point BootEnable =
     codes "part.access writes all of PARTITION_CONFIG, which clears the boot enable bits"
 matter_words g point (OneWay holds) = way_words holds
 matter_words g point (Unread name) = name_words g name ++ codes " is never read"
+matter_words g point (Misplaced index) = misplaced_words index
 matter_words g point (Unstored status) = status_words g status
 
 -- `line 32: CMD24 may reach the user area or boot partition 1`; a name that no statement sets has no line
@@ -91,13 +105,20 @@ lines_of g found writes = flat_map (line_of g) found ++ flat_map (line_of g) wri
 
 -- THE SAME AS OBJECTS of JSON, one a line
 
+abbrev pub status_kind : Status → Text
+status_kind (EraseOpen point) = codes "erase"
+status_kind (EraseFailed point) = codes "erase"
+status_kind (EraseLeft point) = codes "erase"
+status_kind status = codes "write"
+
 abbrev pub kind_word : Matter → Text
 kind_word Unreached = codes "unreached"
 kind_word (Partition index reach) = codes "partition"
 kind_word BootEnable = codes "boot-enable"
 kind_word (OneWay holds) = codes "one-way"
 kind_word (Unread name) = codes "unread"
-kind_word (Unstored status) = codes "write"
+kind_word (Misplaced index) = codes "partition"
+kind_word (Unstored status) = status_kind status
 
 abbrev pub line_field : Graph → Option ℕ → Text
 line_field g None = []

@@ -28,6 +28,9 @@ abbrev pub IsCertain : List Finding → (point : ℕ) → Type 0
 IsCertain found point = (index : ℕ) (reach : Reach)
     → May found (record { point = Some point; matter = Partition index reach }) → ⊥
 
+abbrev pub AreCertain : List Finding → Type 0
+AreCertain found = (point : ℕ) → IsCertain found point
+
 -- Where there is no such finding, each run that comes to a command with an address has the same partition in access
 -- there: that of each shape that is known at the point.
 abbrev pub PartitionsAreTold : Graph → List PointFacts → List Finding → Type 0

@@ -1,5 +1,5 @@
 -- What is REVIEWED of a text: what is found in its script, in words and as objects, and what that means.
-use Rattle.std.specs.Prelude.{◌≡◌, ℕ, List}
+use Rattle.std.specs.Prelude.{◌≡◌, ℕ, List, [], Bool, true, false}
 use Rattle.sdv_script.specs.OneGraph.{IsGraphOfScript}
 use Rattle.sdv_script.specs.declared.fault.FaultKind.{FaultKind}
 use Rattle.sdv_script.specs.declared.fault.FaultKind.TheVariants as kinds
@@ -14,10 +14,12 @@ use Rattle.sdv_certify.specs.declared.fault.CertifyFault.TheVariants as certifie
 use Rattle.sdv_certify.specs.Assembled.{CertificateOf, RefusedFor}
 use Rattle.sdv_review.specs.declared.fault.ReviewFault.{ReviewFault}
 use Rattle.sdv_review.specs.declared.fault.ReviewFault.TheVariants.{Script, Refused, Memory}
+use Rattle.sdv_review.specs.declared.finding.Finding.{Finding}
 use Rattle.sdv_review.specs.declared.reviewing.Report.{Report}
+use Rattle.sdv_review.specs.CertainData.{CertainData}
 use Rattle.sdv_review.specs.Findings.{findings_of}
 use Rattle.sdv_review.specs.Lines.{lines_of, objects_of}
-use Rattle.sdv_review.specs.Meaning.{NoneComes, PartitionsAreTold, TestsComeOut}
+use Rattle.sdv_review.specs.Meaning.{AreCertain, NoneComes, PartitionsAreTold, TestsComeOut}
 use Rattle.sdv_review.specs.Writes.{WritesFound}
 
 -- of a script
@@ -29,8 +31,10 @@ pub record ReviewsScript (s : Tree) (r : Report) : Type 0 where
   pub found : r.found.items ≡ findings_of graph points
   pub lines : r.lines.items ≡ lines_of graph r.found.items r.writes.items
   pub objects : r.objects.items ≡ objects_of graph r.found.items r.writes.items
-  -- what is found of writes, by statuses that are carried along the edges
+  -- what is found of writes, erases and places, by sets that are carried along the edges
   pub writes : WritesFound graph points r.writes.items
+  -- where nothing is, and each partition is certain, the data is there in each run that is done
+  pub certain : AreCertain (findings_of graph points) → r.writes.items ≡ [] → CertainData graph
   -- what the findings mean for every run beside any card of the profile
   pub unreached : NoneComes graph r.found.items
   pub partitions : PartitionsAreTold graph points r.found.items
@@ -42,6 +46,19 @@ pub record Reviews (text : List ℕ) (r : Report) : Type 0 where
   pub same : (shown script).text ≡ text
   pub is_script : IsScript (shown script)
   pub reviewed : ReviewsScript script r
+
+-- something was found, of points and names or of writes
+abbrev pub is_something : (found writes : List Finding) → Bool
+is_something [] [] = false
+is_something found writes = true
+
+abbrev pub has_findings : Report → Bool
+has_findings r = is_something r.found.items r.writes.items
+
+-- what is printed of it
+abbrev pub text_of : (json : Bool) → Report → List ℕ
+text_of true r = r.objects.items
+text_of false r = r.lines.items
 
 -- want of memory says nothing of the text
 abbrev pub fault_of_script : FaultKind → ScriptFault → ReviewFault

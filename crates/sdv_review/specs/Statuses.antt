@@ -1,5 +1,6 @@
--- THE STATUS OF WRITES at a point of a script: whether every write phase on the way there is known to have stored its
--- blocks. An error of a write is shown by a later status, at the latest in transfer state.
+-- THE STATUS OF WRITES AND ERASES at a point of a script: whether every write phase on the way there is known to have
+-- stored its blocks, and every erase to be done. An error of a write is shown by a later status, at the latest in transfer
+-- state.
 -- SD Physical Layer Simplified Specification, sections 4.3.4 (data write) and 4.10.1 (card status); JESD84-B51, sections
 -- 6.6.9 and 6.13. What a lost answer takes with it is this project's profile.
 use Rattle.std.specs.Prelude.{ℕ, List, Bool, true, false, ◌==◌, ◌||◌, ◌&&◌, not, Option, Some, None, slice_get, if◌then◌else◌}
@@ -11,8 +12,8 @@ use Rattle.sdv_graph.specs.declared.tree.Phase.TheVariants.{GiveBlocks}
 use Rattle.sdv_graph.specs.Path.{Action, Point, sends, phases}
 use Rattle.sdv_review.specs.declared.finding.Name.TheVariants.{Number}
 use Rattle.sdv_review.specs.declared.status.Status.{Status}
-use Rattle.sdv_review.specs.declared.status.Status.TheVariants.{Quiet, Begun, Open, Failed, Left, Unknown}
-use Rattle.sdv_review.specs.Findings.{writes_config}
+use Rattle.sdv_review.specs.declared.status.Status.TheVariants.{Quiet, Begun, Open, Failed, Left, EraseOpen, EraseFailed, EraseLeft, Unknown}
+use Rattle.sdv_review.specs.Moves.{moves}
 use Rattle.sdv_review.specs.Names.{address_reads}
 
 -- WHAT AN ANSWER TELLS OF AN EARLIER WRITE
@@ -35,8 +36,14 @@ told point true kept = Quiet
 told point false true = Open point
 told point false false = Failed point
 
+abbrev pub erase_told : (point : ℕ) (confirmed kept : Bool) → Status
+erase_told point true kept = Quiet
+erase_told point false true = EraseOpen point
+erase_told point false false = EraseFailed point
+
 abbrev pub answered : Ask → Seen → Status → Status
 answered ask seen (Open point) = told point (confirms ask seen) (keeps ask seen)
+answered ask seen (EraseOpen point) = erase_told point (confirms ask seen) (keeps ask seen)
 answered ask seen status = status
 
 -- WHAT A COMMAND BEGINS
@@ -55,23 +62,47 @@ begun point Quiet = Begun point
 begun point (Begun other) = Begun point
 begun point (Open other) = again (other == point) other (Open other)
 begun point (Failed other) = again (other == point) other (Failed other)
+begun point (EraseOpen other) = EraseLeft other
+begun point (EraseFailed other) = EraseLeft other
 begun point status = status
 
--- the blocks that the command at the point names are others from here on
+-- CMD38
+abbrev pub is_erase : Ask → Bool
+is_erase ask = ask.index == 38
+
+-- with a response without a doubt, or not
+abbrev pub erase_sent : (point : ℕ) (kept : Bool) → Status
+erase_sent point true = EraseOpen point
+erase_sent point false = EraseFailed point
+
+-- the same erase again, or it is left
+abbrev pub erase_again : (same : Bool) (erase point : ℕ) (kept : Bool) → Status
+erase_again true erase point kept = erase_sent point kept
+erase_again false erase point kept = EraseLeft erase
+
+abbrev pub erased : (point : ℕ) (kept : Bool) → Status → Status
+erased point kept Quiet = erase_sent point kept
+erased point kept (Begun other) = erase_sent point kept
+erased point kept (Open other) = Left other
+erased point kept (Failed other) = Left other
+erased point kept (EraseOpen other) = erase_again (other == point) other point kept
+erased point kept (EraseFailed other) = erase_again (other == point) other point kept
+erased point kept status = status
+
+-- the blocks that the command at the point names may be others from here on
 abbrev pub moved : Status → Status
 moved (Begun point) = Quiet
 moved (Open point) = Left point
 moved (Failed point) = Left point
+moved (EraseOpen point) = EraseLeft point
+moved (EraseFailed point) = EraseLeft point
 moved status = status
-
--- CMD0 and `part.access` change the partition in access
-abbrev pub moves : Ask → Bool
-moves ask = (ask.index == 0) || writes_config ask
 
 abbrev pub sent : (point : ℕ) → Ask → Seen → Status → Status
 sent point ask seen status =
     if is_write ask then begun point (answered ask seen status)
-    else (if moves ask then moved (answered ask seen status) else answered ask seen status)
+    else (if is_erase ask then erased point (keeps ask seen) (answered ask seen status)
+    else (if moves ask then moved (answered ask seen status) else answered ask seen status))
 
 -- A WRITE PHASE: it ended well, or it was cut
 
@@ -88,6 +119,7 @@ given seen (Begun point) = after_write (ends_well seen) point
 given seen (Open point) = after_write (ends_well seen) point
 given seen (Failed point) = after_write (ends_well seen) point
 given seen (Left point) = Left point
+given seen (EraseLeft point) = EraseLeft point
 given seen status = Unknown
 
 abbrev pub after_phase : Phase → Seen → Status → Status
@@ -100,7 +132,7 @@ after_event point (sends c ways other) seen status = sent point c.ask seen statu
 after_event point (phases p well other) seen status = after_phase p seen status
 after_event point action seen status = status
 
--- A `let`
+-- A `let`. The blocks of an erase are named by two commands before it, and may be by any variable.
 
 -- the address of the command is by the variable, or there is no command
 abbrev pub action_reads : Action → (variable : ℕ) → Bool
@@ -115,6 +147,8 @@ abbrev pub is_moved : List Point → (variable : ℕ) → Status → Bool
 is_moved points variable (Begun point) = place_reads (slice_get points point) variable
 is_moved points variable (Open point) = place_reads (slice_get points point) variable
 is_moved points variable (Failed point) = place_reads (slice_get points point) variable
+is_moved points variable (EraseOpen point) = true
+is_moved points variable (EraseFailed point) = true
 is_moved points variable status = false
 
 abbrev pub after_let : List Point → (variable : ℕ) → Status → Status

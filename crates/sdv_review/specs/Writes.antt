@@ -1,4 +1,5 @@
--- What a review finds of WRITES: each status at a reached `done` that leaves open whether a write is stored.
+-- What a review finds of WRITES AND ERASES: each status at a reached `done` that leaves open whether a write is stored or
+-- an erase done.
 use Rattle.std.specs.Prelude.{◌≡◌, ◌⊎◌, ℕ, zero, suc, List, [], ◌∷◌, ◌++◌, length, Bool, true, false, Option, Some, slice_get, if◌then◌else◌}
 use Rattle.sdv_card.specs.declared.shape.Shape.{Shape}
 use Rattle.sdv_graph.specs.Graph.{Graph}
@@ -9,9 +10,10 @@ use Rattle.sdv_review.specs.declared.finding.Finding.{Finding}
 use Rattle.sdv_review.specs.declared.finding.Matter.TheVariants.{Unstored}
 use Rattle.sdv_review.specs.declared.status.Status.{Status}
 use Rattle.sdv_review.specs.declared.status.Status.TheVariants.{Quiet, Begun, Unknown}
+use Rattle.sdv_review.specs.Asked.{PlacesFound}
 use Rattle.sdv_review.specs.Carried.{Table, IsCarried}
 
--- each write phase is known to have stored its blocks
+-- each write phase is known to have stored its blocks, and each erase to be done
 abbrev pub is_stored : Status → Bool
 is_stored Quiet = true
 is_stored (Begun point) = true
@@ -50,5 +52,13 @@ pub record ByStatuses (g : Graph) (ps : List PointFacts) (found : List Finding) 
 abbrev pub not_worked_out : List Finding
 not_worked_out = unstored 0 Unknown ∷ []
 
-abbrev pub WritesFound : Graph → List PointFacts → List Finding → Type 0
-WritesFound g ps found = ByStatuses g ps found ⊎ (found ≡ not_worked_out)
+abbrev pub StoredFound : Graph → List PointFacts → List Finding → Type 0
+StoredFound g ps found = ByStatuses g ps found ⊎ (found ≡ not_worked_out)
+
+-- what is found of statuses, and behind it what is found of places
+pub record WritesFound (g : Graph) (ps : List PointFacts) (found : List Finding) : Type 0 where
+  pub stored : List Finding
+  pub places : List Finding
+  pub all : found ≡ stored ++ places
+  pub of_statuses : StoredFound g ps stored
+  pub of_places : PlacesFound g ps places

@@ -35,6 +35,8 @@ pub enum Matter {
     OneWay(bool),
     /// The name is never read.
     Unread(Name),
+    /// The command with this index meets one partition, and another one may have been asked for last.
+    Misplaced(u8),
     /// At this `done` a write has this status, by which it may not be stored.
     Unstored(Status),
 }

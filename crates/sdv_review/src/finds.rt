@@ -13,7 +13,7 @@ use sdv_graph::Graph;
 use std::alloc::{AllocError, Global};
 
 /// Adds what is found at a point, if anything is.
-fn put_matter(
+pub fn put_matter(
     found: &mut Vec<Finding>,
     point: usize,
     matter: Option<Matter>,

@@ -5,11 +5,14 @@
 //! when a run comes to a point.
 //!
 //! `specs/Statuses.antt` says what each statement makes of the status of writes, `specs/Carried.antt` when the statuses of
-//! points are carried along the edges, and `specs/Writes.antt` what is found by them. `specs/Confirmed.antt` says when an
-//! answer confirms a write of a card. `specs/CertainData.antt` says what it means that the data is there where a run is
-//! done; no contract claims it yet.
+//! points are carried along the edges, and `specs/Writes.antt` what is found by them. `specs/Asked.antt` says which partition
+//! a script asked for last. `specs/Confirmed.antt` says when an answer confirms a write of a card.
+//! `specs/CertainData.antt` says what it means that the data is there where a run is done: so it is where `find_writes`
+//! finds nothing. `proofs/KeptLaws.antt` says what a status means for a run, and `proofs/DataLaws.antt` follows it along a
+//! path.
 #![tactic(auto)]
 
+mod asked;
 mod conditions;
 mod fault;
 mod finding;

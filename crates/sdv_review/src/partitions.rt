@@ -20,7 +20,7 @@ fn one_shows(shapes: &[Shape], partition: Partition) -> bool
 }
 
 /// The partitions that are in access at the shapes.
-fn reach_of(shapes: &[Shape]) -> Reach
+pub fn reach_of(shapes: &[Shape]) -> Reach
     ensures { result ≡ reach_of shapes.now }
 {
     Reach {
@@ -31,14 +31,14 @@ fn reach_of(shapes: &[Shape]) -> Reach
 }
 
 /// There is more than one.
-fn is_open(reach: Reach) -> bool
+pub fn is_open(reach: Reach) -> bool
     ensures { result ≡ is_open reach }
 {
     (reach.user && (reach.boot_1 || reach.boot_2)) || (reach.boot_1 && reach.boot_2)
 }
 
 /// The command has the address of a block.
-fn has_address(ask: &Ask) -> bool
+pub fn has_address(ask: &Ask) -> bool
     ensures { result ≡ has_address ask.now }
 {
     matches!(ask.index, 17 | 18 | 24 | 25 | 32 | 33 | 35 | 36)

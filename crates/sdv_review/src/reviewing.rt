@@ -8,7 +8,7 @@ ghost use Rattle.sdv_script.specs.Shown.{shown};
 ghost use Rattle.sdv_certify.specs.Assembled.{CertificateOf, RefusedFor};
 ghost use Rattle.sdv_review.specs.Findings.{findings_of};
 ghost use Rattle.sdv_review.specs.Lines.{lines_of, objects_of};
-ghost use Rattle.sdv_review.specs.Reviewed.{Reviews, ReviewsScript, Unreviewed, UnreviewedScript};
+ghost use Rattle.sdv_review.specs.Reviewed.{Reviews, ReviewsScript, Unreviewed, UnreviewedScript, has_findings, text_of};
 
 use crate::fault::ReviewFault;
 use crate::finding::Finding;
@@ -26,12 +26,33 @@ use std::alloc::Global;
 pub struct Report {
     /// The findings: of each point, in their order, and then of names.
     pub found: Vec<Finding>,
-    /// What is found of writes where the script is done.
+    /// What is found of writes and erases where the script is done, and of commands that may miss the partition that was
+    /// asked for last.
     pub writes: Vec<Finding>,
     /// A line for each, or `nothing found`.
     pub lines: Vec<u8>,
     /// An object of JSON for each, one a line.
     pub objects: Vec<u8>,
+}
+
+impl Report {
+    /// Something was found.
+    pub fn has_findings(&self) -> bool
+        ensures { result ≡ has_findings self.now }
+    {
+        !self.found.is_empty() || !self.writes.is_empty()
+    }
+
+    /// The objects of JSON, or the lines.
+    pub fn text(&self, json: bool) -> &[u8]
+        ensures { result.now ≡ text_of json self.now }
+    {
+        if json {
+            self.objects.as_slice()
+        } else {
+            self.lines.as_slice()
+        }
+    }
 }
 
 /// What a certificate of the script leaves open, by its text.

@@ -2,15 +2,16 @@
 
 ghost use Rattle.std.specs.Prelude.{◌≡◌, slice_get};
 ghost use Rattle.sdv_graph.specs.Graph.{seen_action};
-ghost use Rattle.sdv_review.specs.Statuses.{action_reads, after_event, after_let, after_phase, answered, begun, confirms, ends_well, given, is_moved, is_write, keeps, moved, moves, place_reads, sent};
+ghost use Rattle.sdv_review.specs.Statuses.{action_reads, after_event, after_let, after_phase, answered, begun, confirms, ends_well, erase_sent, erased, given, is_erase, is_moved, is_write, keeps, moved, place_reads, sent};
 
+use crate::asked::moves;
 use crate::finding::Name;
 use crate::names::address_reads;
-use crate::partitions::writes_config;
 use sdv_card::{Ask, Seen};
 use sdv_graph::{Action, Graph, Phase};
 
-/// Whether the write phases so far are known to have stored their blocks. A write is named by the point of its command.
+/// Whether the write phases so far are known to have stored their blocks, and the erases to be done. A write is named by the
+/// point of its command, an erase by that of CMD38.
 #[derive(Clone, Copy, Debug, Default, PartialEq, Eq)]
 pub enum Status {
     /// Each did, or there was none.
@@ -24,6 +25,12 @@ pub enum Status {
     Failed(usize),
     /// This write may have failed, and was left for another one or for another place.
     Left(usize),
+    /// This erase was sent, and no status has shown yet that it is done.
+    EraseOpen(usize),
+    /// This erase was lost, or an error may have gone unseen.
+    EraseFailed(usize),
+    /// This erase may have failed, and was left for another one, for a write or for another place.
+    EraseLeft(usize),
     /// Nothing is known.
     Unknown,
 }
@@ -60,6 +67,9 @@ fn answered(ask: &Ask, seen: Seen, status: Status) -> Status
         Status::Open(_) if confirms(ask, seen) => Status::Quiet,
         Status::Open(_) if keeps(ask, seen) => status,
         Status::Open(point) => Status::Failed(point),
+        Status::EraseOpen(_) if confirms(ask, seen) => Status::Quiet,
+        Status::EraseOpen(_) if keeps(ask, seen) => status,
+        Status::EraseOpen(point) => Status::EraseFailed(point),
         _ => status,
     }
 }
@@ -77,6 +87,42 @@ fn begun(point: usize, status: Status) -> Status
     match status {
         Status::Quiet | Status::Begun(_) => Status::Begun(point),
         Status::Open(other) | Status::Failed(other) if other != point => Status::Left(other),
+        Status::EraseOpen(other) | Status::EraseFailed(other) => Status::EraseLeft(other),
+        _ => status,
+    }
+}
+
+fn is_erase(ask: &Ask) -> bool
+    ensures { result ≡ is_erase ask.now }
+{
+    ask.index == 38
+}
+
+/// After an erase was sent from a point, with a response without a doubt or not.
+fn erase_sent(point: usize, kept: bool) -> Status
+    ensures { result ≡ erase_sent point kept }
+{
+    if kept {
+        Status::EraseOpen(point)
+    } else {
+        Status::EraseFailed(point)
+    }
+}
+
+/// After CMD38 at a point.
+fn erased(point: usize, kept: bool, status: Status) -> Status
+    ensures { result ≡ erased point kept status }
+{
+    match status {
+        Status::Quiet | Status::Begun(_) => erase_sent(point, kept),
+        Status::Open(other) | Status::Failed(other) => Status::Left(other),
+        Status::EraseOpen(other) | Status::EraseFailed(other) => {
+            if other == point {
+                erase_sent(point, kept)
+            } else {
+                Status::EraseLeft(other)
+            }
+        }
         _ => status,
     }
 }
@@ -88,14 +134,9 @@ fn moved(status: Status) -> Status
     match status {
         Status::Begun(_) => Status::Quiet,
         Status::Open(point) | Status::Failed(point) => Status::Left(point),
+        Status::EraseOpen(point) | Status::EraseFailed(point) => Status::EraseLeft(point),
         _ => status,
     }
-}
-
-fn moves(ask: &Ask) -> bool
-    ensures { result ≡ moves ask.now }
-{
-    ask.index == 0 || writes_config(ask)
 }
 
 /// After a command at a point, and its answer.
@@ -105,6 +146,9 @@ fn sent(point: usize, ask: &Ask, seen: Seen, status: Status) -> Status
     let status = answered(ask, seen, status);
     if is_write(ask) {
         return begun(point, status);
+    }
+    if is_erase(ask) {
+        return erased(point, keeps(ask, seen), status);
     }
     if moves(ask) { moved(status) } else { status }
 }
@@ -127,8 +171,8 @@ fn given(seen: Seen, status: Status) -> Status
                 Status::Failed(point)
             }
         }
-        Status::Left(_) => status,
-        Status::Quiet | Status::Unknown => Status::Unknown,
+        Status::Left(_) | Status::EraseLeft(_) => status,
+        _ => Status::Unknown,
     }
 }
 
@@ -179,6 +223,7 @@ fn is_moved(graph: &Graph<'_>, variable: usize, status: Status) -> bool
         Status::Begun(point) | Status::Open(point) | Status::Failed(point) => {
             place_reads(graph, point, variable)
         }
+        Status::EraseOpen(_) | Status::EraseFailed(_) => true,
         _ => false,
     }
 }

@@ -4,7 +4,7 @@ ghost use Rattle.std.specs.Prelude.{◌≡◌, ◌++◌, ◌∷◌, OnOk, decima
 ghost use Rattle.sdv_graph.specs.Graph.{texts};
 ghost use Rattle.sdv_telling.specs.Places.{line_at};
 ghost use Rattle.sdv_telling.specs.Statements.{name_at};
-ghost use Rattle.sdv_review.specs.Lines.{command_words, kind_word, line_field, line_of, lines_of, matter_words, members_of, name_words, object_of, objects_of, partition_words, place_words, reach_words, statement_there, status_back, status_front, status_words, unreached_words, way_words, write_line, write_of};
+ghost use Rattle.sdv_review.specs.Lines.{command_words, kind_word, line_field, line_of, lines_of, matter_words, members_of, misplaced_words, name_words, object_of, objects_of, partition_words, place_words, reach_words, statement_there, status_back, status_front, status_kind, status_words, unreached_words, way_words, write_line, write_of};
 
 use crate::finding::{Finding, Matter, Name, Reach};
 use crate::status::Status;
@@ -97,6 +97,17 @@ fn put_reach(text: &mut Text, index: u8, reach: Reach) -> Result<(), AllocError>
     put(text, reach_words(reach))
 }
 
+fn put_misplaced(text: &mut Text, index: u8) -> Result<(), AllocError>
+    ensures { OnOk result (text.new.items ≡ text.old.items ++ misplaced_words index) }
+{
+    put_numbered(
+        text,
+        "CMD",
+        u32::from(index),
+        " may not reach the partition that was asked for last",
+    )
+}
+
 /// How the words of a status by which a write may not be stored begin.
 fn status_front(status: Status) -> &'static str
     ensures { result.now ≡ status_front status }
@@ -105,6 +116,9 @@ fn status_front(status: Status) -> &'static str
         Status::Open(_) => "done may come before the write of line ",
         Status::Failed(_) => "done may come where the write of line ",
         Status::Left(_) => "done may come after the write of line ",
+        Status::EraseOpen(_) => "done may come before the erase of line ",
+        Status::EraseFailed(_) => "done may come where the erase of line ",
+        Status::EraseLeft(_) => "done may come after the erase of line ",
         _ => "it is not known whether each write is stored",
     }
 }
@@ -116,7 +130,9 @@ fn status_back(status: Status) -> &'static str
     match status {
         Status::Open(_) => " is confirmed",
         Status::Failed(_) => " was cut, or its error passed over",
-        Status::Left(_) => ", which may have failed, was left for another",
+        Status::Left(_) | Status::EraseLeft(_) => ", which may have failed, was left for another",
+        Status::EraseOpen(_) => " is confirmed",
+        Status::EraseFailed(_) => " was lost, or its error passed over",
         _ => "",
     }
 }
@@ -127,6 +143,9 @@ fn write_of(status: Status) -> Option<usize>
 {
     match status {
         Status::Open(point) | Status::Failed(point) | Status::Left(point) => Some(point),
+        Status::EraseOpen(point) | Status::EraseFailed(point) | Status::EraseLeft(point) => {
+            Some(point)
+        }
         _ => None,
     }
 }
@@ -178,6 +197,7 @@ fn put_matter(
             put_name(text, graph, name)?;
             put(text, " is never read")
         }
+        Matter::Misplaced(index) => put_misplaced(text, index),
         Matter::Unstored(status) => put_status(text, graph, status),
     }
 }
@@ -236,6 +256,15 @@ fn put_each_line(text: &mut Text, graph: &Graph<'_>, found: &[Finding]) -> Resul
     Ok(())
 }
 
+fn status_kind(status: Status) -> &'static str
+    ensures { result.now ≡ status_kind status }
+{
+    match status {
+        Status::EraseOpen(_) | Status::EraseFailed(_) | Status::EraseLeft(_) => "erase",
+        _ => "write",
+    }
+}
+
 fn kind_word(matter: Matter) -> &'static str
     ensures { result.now ≡ kind_word matter }
 {
@@ -245,7 +274,8 @@ fn kind_word(matter: Matter) -> &'static str
         Matter::BootEnable => "boot-enable",
         Matter::OneWay(_) => "one-way",
         Matter::Unread(_) => "unread",
-        Matter::Unstored(_) => "write",
+        Matter::Misplaced(_) => "partition",
+        Matter::Unstored(status) => status_kind(status),
     }
 }
 

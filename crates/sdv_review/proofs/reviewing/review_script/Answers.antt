@@ -8,5 +8,5 @@ find-requires c = record {
 
 pub find_writes-requires : goal.find_writes-requires
 find_writes-requires c = record {
-  known = (closed_for c.args.script.now c.in_ok-known.known.points c.in_ok-known.ensures.certified c.in-Ok.graph c.in-Ok.ensures).points.count;
+  closed = closed_for c.args.script.now c.in_ok-known.known.points c.in_ok-known.ensures.certified c.in-Ok.graph c.in-Ok.ensures;
 }

@@ -1,0 +1,148 @@
+Reviews of scripts in files. Each of these begins with a bring-up of an example.
+
+  $ sdv review $EXAMPLES/production/sd_write_many.sdv
+  nothing found
+  $ sdv review --json $EXAMPLES/production/sd_write_many.sdv
+  $ sdv batch sd "write 3 2 read 3 2" | sdv review -
+  nothing found
+  $ sdv batch emmc "write 3 2 read 3 2 write 9 1" | sdv review -
+  nothing found
+
+A write that a clean status in transfer state confirms, one that nothing confirms, and one whose error is passed over.
+
+  $ for kind in sd emmc; do up() { grep -v '^done' $EXAMPLES/${kind}_bring_up.sdv; echo 'if cap >= 16 { } else { fault small }'; cat; }
+  >   up << 'END' > confirmed.sdv
+  > send 24 at by hc 8 { clean { give { ok { loop 1000 { wait { ok { break } else { } } } else { fault busy }
+  >   send 13 { clean & state=tran { done } else { fault write } } } else { fault cut } } } else { fault lost } }
+  > fault write
+  > END
+  >   up << 'END' > open.sdv
+  > send 24 at by hc 8 { clean { give { ok { loop 1000 { wait { ok { break } else { } } } else { fault busy }
+  >   done } else { fault cut } } } else { fault lost } }
+  > fault write
+  > END
+  >   up << 'END' > doubt.sdv
+  > send 24 at by hc 8 { clean { give { ok { loop 1000 { wait { ok { break } else { } } } else { fault busy }
+  >   send 13 { state=tran { done } else { fault write } } } else { fault cut } } } else { fault lost } }
+  > fault write
+  > END
+  >   up << 'END' > ready.sdv
+  > send 24 at by hc 8 { clean { give { ok { loop 1000 { send 13 { clean & ready { break } else { } } } else { fault busy }
+  >   send 13 { state=tran { done } else { fault write } } } else { fault cut } } } else { fault lost } }
+  > fault write
+  > END
+  >   for name in confirmed open doubt ready; do echo $kind $name; sdv review $name.sdv | grep -v 'no run comes to fault write'; done
+  > done
+  sd confirmed
+  sd open
+  line 16: done may come before the write of line 15 is confirmed
+  sd doubt
+  line 16: done may come where the write of line 15 was cut, or its error passed over
+  sd ready
+  line 16: done may come where the write of line 15 was cut, or its error passed over
+  emmc confirmed
+  emmc open
+  line 15: done may come before the write of line 14 is confirmed
+  emmc doubt
+  line 15: done may come where the write of line 14 was cut, or its error passed over
+  emmc ready
+  line 15: done may come where the write of line 14 was cut, or its error passed over
+  [1]
+
+A write that was cut, and given up for a done; and one that was left for another place.
+
+  $ up() { grep -v '^done' $EXAMPLES/sd_bring_up.sdv; echo 'if cap >= 16 { } else { fault small }'; cat; }
+  > up << 'END' > cut.sdv
+  > send 24 at by hc 8 { clean { give { ok { } else { } }
+  >   loop 1000 { send 13 { state=rcv { send 12 { else { } } } clean & state=tran { done } else { } } } else { fault stuck }
+  > } else { fault lost } }
+  > END
+  > up << 'END' > other.sdv
+  > send 24 at by hc 8 { clean { give { ok { } else { } }
+  >   loop 1000 { send 13 { state=rcv { send 12 { else { } } } state=tran { break } else { } } } else { fault stuck }
+  > } else { fault lost } }
+  > send 24 at by hc 9 { clean { give { ok { loop 1000 { wait { ok { break } else { } } } else { fault busy }
+  >   send 13 { clean & state=tran { done } else { fault write } } } else { fault cut } } } else { fault lost } }
+  > fault write
+  > END
+  > sdv review cut.sdv; sdv review --json other.sdv
+  line 16: done may come where the write of line 15 was cut, or its error passed over
+  {"line":20,"kind":"unreached","text":"no run comes to fault write"}
+  {"line":19,"kind":"write","text":"done may come after the write of line 15, which may have failed, was left for another"}
+  [1]
+
+An erase, confirmed and not.
+
+  $ up() { grep -v '^done' $EXAMPLES/sd_bring_up.sdv; echo 'if cap >= 16 { } else { fault small }'; cat; }
+  > for end in 'send 13 { clean & state=tran { done } else { fault erase } }' done; do
+  > up << END > erase.sdv
+  > send 32 at by hc 8 { clean { send 33 at by hc 9 { clean { send 38 { clean {
+  >   loop 1000 { wait { ok { break } else { } } } else { fault busy } $end
+  > } else { fault erase } } } else { fault erase } } } else { fault erase } }
+  > fault erase
+  > END
+  > sdv review erase.sdv; done
+  line 18: no run comes to fault erase
+  line 18: no run comes to fault erase
+  line 16: done may come before the erase of line 15 is confirmed
+  [1]
+
+A CMD6 that was lost leaves open which partition a write reaches.
+
+  $ { sed '/^send 6 part.access/,$d' $EXAMPLES/emmc_boot_read.sdv; cat << 'END'; } > boot.sdv; sdv review boot.sdv
+  > loop 3 {
+  >   send 6 part.access 1 { else { } }
+  >   loop 1000 { wait { ok { break } else { } } } else { fault busy }
+  >   send 13 { clean & state=tran { break } else { } }
+  > } else { fault sw }
+  > send 24 at by hc 0 { clean { give { ok { loop 1000 { wait { ok { break } else { } } } else { fault busy }
+  >   send 13 { clean & state=tran { done } else { fault write } } } else { fault cut } } } else { fault lost } }
+  > fault write
+  > END
+  line 19: part.access writes all of PARTITION_CONFIG, which clears the boot enable bits
+  line 23: CMD24 may reach the user area or boot partition 1
+  line 25: no run comes to fault write
+  line 15: cap is never read
+  [1]
+
+A write into another partition than the script may have asked for, as it seems by its statements alone.
+
+  $ { sed '/^done/d; s/^flags hc/flags hc a/' $EXAMPLES/emmc_bring_up.sdv; cat << 'END'; } > asked.sdv; sdv review asked.sdv | grep CMD24
+  > if cap >= 16 { } else { fault small }
+  > if a { send 6 part.access 1 { else { } } } else { }
+  > send 24 at by hc 8 { clean { give { ok { loop 1000 { wait { ok { break } else { } } } else { fault busy }
+  >   send 13 { clean & state=tran { done } else { fault write } } } else { fault cut } } } else { fault lost } }
+  > fault write
+  > END
+  line 15: CMD24 may not reach the partition that was asked for last
+
+Statements that no run reaches, tests that come out one way, and names that are never read.
+
+  $ printf 'card sd\nflags a\nnums n\nsend 0 { else { } }\nif n < 1 { fault end } else { }\nset a\nfault end\n' | sdv review -
+  line 5: this test always holds
+  line 6: no run comes to set a
+  line 7: no run comes to fault end
+  line 6: a is never read
+  [1]
+  $ printf 'card sd\nsend 0 { else { } }\nfault end\n' | sdv review -
+  nothing found
+
+A script of 4,000 commands is reviewed in some seconds at the most.
+
+  $ awk 'BEGIN { print "card sd"; for (i = 0; i < 4000; i++) print "send 0{else{}}"; print "fault stop" }' > many.sdv
+  $ (ulimit -t 10; sdv review many.sdv)
+  nothing found
+
+What certify refuses.
+
+  $ sdv review $EXAMPLES/refused_block_address.sdv
+  refused Address point 24
+  [1]
+  $ printf 'card sd\nsend 16 @\n' | sdv review --json -
+  script fault Token line 2
+  [1]
+  $ sdv review none.sdv
+  cannot use none.sdv
+  [2]
+  $ sdv review $EXAMPLES/smallest.sdv > /dev/full; echo $?
+  2
