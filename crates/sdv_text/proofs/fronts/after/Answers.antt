@@ -1,6 +1,6 @@
 use Rattle.std.proofs.Common.{sym}
 use Rattle.sdv_text.proofs.FrontLaws.{after_some, after_none}
-use Rattle.sdv_lines.proofs.hearing.after.Goals as goal
+use Rattle.sdv_text.proofs.fronts.after.Goals as goal
 
 pub returns-in-Some : goal.returns-in-Some
 returns-in-Some c = rw c.in-Some.ensures.cases.1 (sym (after_some c.args.word.now c.args.text.now c.in-Some.ensures.cases.0))
