@@ -1,7 +1,7 @@
 -- Lines of a list by their numbers: one more of them.
 use Rattle.std.proofs.Common.{◌≡◌, ℕ, zero, suc, ◌+◌, List, [], ◌∷◌, ◌++◌, length, ◌<◌, get_or, Some, drop, slice_get, append_assoc, sym, ap, ◌∙◌, arith}
 use Rattle.sdv_telling.specs.Statements.{Text}
-use Rattle.sdv_drawing.specs.Drawing.{numbered}
+use Rattle.sdv_telling.specs.Numbered.{numbered}
 
 module _ {X : Type 0} where
   drop_from : (xs : List X) (i : ℕ) (x : X) → slice_get xs i ≡ Some x → drop i xs ≡ x ∷ drop (suc i) xs
