@@ -1,1 +1,2 @@
+mod NumberedLaws
 mod PieceLaws

@@ -7,7 +7,6 @@ use Rattle.sdv_certify.specs.declared.fault.CertifyFault.{CertifyFault}
 use Rattle.sdv_certify.specs.declared.fault.CertifyFault.TheVariants.{Illegal, Address, EndState}
 use Rattle.sdv_explain.specs.declared.heading.Heading.{Heading}
 use Rattle.sdv_telling.specs.Guards.{guards_words}
-use Rattle.sdv_telling.specs.Numbered.{numbered}
 use Rattle.sdv_telling.specs.Statements.{Text}
 
 -- between quotes a quote and a backslash have a backslash before them
@@ -16,6 +15,11 @@ escaped_byte byte = if (byte == 34) || (byte == 92) then 92 ∷ byte ∷ [] else
 
 abbrev pub escaped : Text → Text
 escaped text = flat_map escaped_byte text
+
+-- a line for each of a list, by its number
+abbrev pub numbered : {X : Type 0} → (line : ℕ → X → Text) → (first : ℕ) → List X → Text
+numbered line n [] = []
+numbered line n (x ∷ xs) = line n x ++ numbered line (suc n) xs
 
 -- POINTS: a box with the line of the text, the number of the point and the words of the statement; the point for which
 -- the script is refused is red, and says the clause that fails there

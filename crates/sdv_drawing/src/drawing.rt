@@ -11,11 +11,11 @@ ghost use Rattle.sdv_drawing.specs.Drawn.{Draws, DrawsScript};
 
 use crate::edges::put_edges;
 use crate::points::put_points;
+use crate::text::put;
 use sdv_certify::{CertifyFault, survey};
 use sdv_explain::{Heading, headings};
 use sdv_graph::Graph;
 use sdv_script::{FaultKind, Script, ScriptFault, parse};
-use sdv_telling::put;
 use std::alloc::{AllocError, Global};
 
 /// The drawing of a script's graph.

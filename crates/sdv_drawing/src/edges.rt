@@ -2,19 +2,19 @@
 
 ghost use Rattle.std.specs.Prelude.{◌≡◌, ◌++◌, OnOk, codes, flat_map, length, map};
 ghost use Rattle.sdv_graph.specs.Graph.{seen_case, seen_action};
-ghost use Rattle.sdv_drawing.specs.Drawing.{arrow, case_line, dash, edge_line, edge_lines, edges_at, else_word};
-ghost use Rattle.sdv_telling.specs.Numbered.{numbered};
+ghost use Rattle.sdv_drawing.specs.Drawing.{arrow, case_line, dash, edge_line, edge_lines, edges_at, else_word, numbered};
 
+use crate::text::{Text, put, put_numbered};
 use sdv_graph::{Action, Case, Graph, Target};
-use sdv_telling::{Text, put, put_guards, put_with_number};
+use sdv_telling::put_guards;
 use std::alloc::AllocError;
 
 /// Begins the line of an edge, up to its case.
 fn put_arrow(text: &mut Text, from: usize, to: usize) -> Result<(), AllocError>
     ensures { OnOk result (text.new.items ≡ text.old.items ++ arrow from to) }
 {
-    put_with_number(text, "    ", from as u64)?;
-    put_with_number(text, " -> ", to as u64)?;
+    put_numbered(text, "    ", from)?;
+    put_numbered(text, " -> ", to)?;
     put(text, " [label=\"")
 }
 
