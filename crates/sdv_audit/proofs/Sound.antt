@@ -2,7 +2,6 @@
 use Rattle.std.proofs.Common.{◌≡◌, ℕ, ◌==◌, refl, ap, subst, sym, ◌∙◌, Bool, true, false, not, List, [], ◌∷◌, Option, Some, None, eqb-true, eq-eqb}
 use Rattle.sdv_registers.specs.declared.kind.Kind.{Kind}
 use Rattle.sdv_frames.specs.declared.reply.Expect.{Expect}
-use Rattle.sdv_frames.specs.declared.reply.Expect.TheVariants as expects
 use Rattle.sdv_frames.specs.declared.reply.Reply.TheVariants.{R1, R2, R3, R6, R7}
 use Rattle.sdv_card.specs.declared.state.Width.{Width}
 use Rattle.sdv_card.specs.declared.state.State.TheVariants.{Stby}
@@ -31,12 +30,14 @@ use Rattle.sdv_card.specs.Seen.{seen_of, answer_seen}
 use Rattle.sdv_card.specs.Expected.{Expected, AnswerExpected}
 use Rattle.sdv_card.specs.Profile.{host_at_start}
 use Rattle.sdv_card.specs.Laws.{StartHolds}
+use Rattle.sdv_card.proofs.AnswerKinds.{of_kind}
 use Rattle.sdv_card.proofs.Digits.{digits_law}
 use Rattle.sdv_card.proofs.Members.{May-map, and_left, and_right, same_state}
 use Rattle.sdv_card.proofs.ShapeLines.{pair_with_lines}
 use Rattle.sdv_card.proofs.TableLaws.{legal_is_exact, steps_are_outcomes, steps_are_expected, steps_keep_pairs, starts_hold}
 use Rattle.sdv_outcomes.specs.OutcomeSteps.{IsImpossibleMatch, step_outcome}
-use Rattle.sdv_outcomes.specs.Histories.{is_matched_standby, is_impossible_by, is_impossible_match}
+use Rattle.sdv_outcomes.specs.Histories.{is_impossible_match}
+use Rattle.sdv_outcomes.proofs.RunHistories.{match_is}
 use Rattle.sdv_outcomes.proofs.ImpossibleMatches.{impossible_matches_are_no_steps}
 use Rattle.sdv_audit.specs.declared.line.TraceLine.{TraceLine}
 use Rattle.sdv_audit.specs.declared.line.TraceLine.TheVariants.{Exchange, BlocksIn, RegisterIn, BlocksOut, Wait}
@@ -45,7 +46,7 @@ use Rattle.sdv_audit.specs.declared.turn.Told.{Told}
 use Rattle.sdv_audit.specs.declared.turn.Turn.{Turn}
 use Rattle.sdv_audit.specs.declared.turn.Turn.TheVariants.{Ends, Outside, Uses, OtherLength, Does}
 use Rattle.sdv_audit.specs.Known.{IsKnown, nothing_known, known_after_order}
-use Rattle.sdv_audit.specs.Turns.{known_after, line_seen, is_of_kind, is_expected}
+use Rattle.sdv_audit.specs.Turns.{known_after, line_seen, is_expected}
 use Rattle.sdv_audit.specs.Carried.{has_address, pending_at, Carried, CarriedBy, Follows}
 use Rattle.sdv_audit.specs.Standing.{IsToldBy, StepTold, Goes, known_of, turn_behind, StartPair, Stood, shape_of, shape_with, start_set, Covers}
 use Rattle.sdv_audit.proofs.ShapeSets.{not_true}
@@ -141,52 +142,6 @@ told_seen k pending line x returned told = absurd told
 
 -- THE FORMAT
 
-of_kind : (expect : Expect) (answer : Answer) → AnswerExpected expect answer → is_of_kind expect answer ≡ true
-of_kind expects.Nothing Sent x = refl
-of_kind expects.Nothing TimeOut x = absurd x
-of_kind expects.Nothing (Replied reply) x = absurd x
-of_kind expects.Nothing (Damaged fault) x = absurd x
-of_kind (expects.R1 index) Sent x = absurd x
-of_kind (expects.R1 index) TimeOut x = refl
-of_kind (expects.R1 index) (Replied (R1 repeated status)) x = eq-eqb repeated index x
-of_kind (expects.R1 index) (Replied (R2 register)) x = absurd x
-of_kind (expects.R1 index) (Replied (R3 ocr)) x = absurd x
-of_kind (expects.R1 index) (Replied (R6 word)) x = absurd x
-of_kind (expects.R1 index) (Replied (R7 word)) x = absurd x
-of_kind (expects.R1 index) (Damaged fault) x = absurd x
-of_kind expects.R2 Sent x = absurd x
-of_kind expects.R2 TimeOut x = refl
-of_kind expects.R2 (Replied (R1 repeated status)) x = absurd x
-of_kind expects.R2 (Replied (R2 register)) x = refl
-of_kind expects.R2 (Replied (R3 ocr)) x = absurd x
-of_kind expects.R2 (Replied (R6 word)) x = absurd x
-of_kind expects.R2 (Replied (R7 word)) x = absurd x
-of_kind expects.R2 (Damaged fault) x = absurd x
-of_kind expects.R3 Sent x = absurd x
-of_kind expects.R3 TimeOut x = refl
-of_kind expects.R3 (Replied (R1 repeated status)) x = absurd x
-of_kind expects.R3 (Replied (R2 register)) x = absurd x
-of_kind expects.R3 (Replied (R3 ocr)) x = refl
-of_kind expects.R3 (Replied (R6 word)) x = absurd x
-of_kind expects.R3 (Replied (R7 word)) x = absurd x
-of_kind expects.R3 (Damaged fault) x = absurd x
-of_kind expects.R6 Sent x = absurd x
-of_kind expects.R6 TimeOut x = refl
-of_kind expects.R6 (Replied (R1 repeated status)) x = absurd x
-of_kind expects.R6 (Replied (R2 register)) x = absurd x
-of_kind expects.R6 (Replied (R3 ocr)) x = absurd x
-of_kind expects.R6 (Replied (R6 word)) x = refl
-of_kind expects.R6 (Replied (R7 word)) x = absurd x
-of_kind expects.R6 (Damaged fault) x = absurd x
-of_kind expects.R7 Sent x = absurd x
-of_kind expects.R7 TimeOut x = refl
-of_kind expects.R7 (Replied (R1 repeated status)) x = absurd x
-of_kind expects.R7 (Replied (R2 register)) x = absurd x
-of_kind expects.R7 (Replied (R3 ocr)) x = absurd x
-of_kind expects.R7 (Replied (R6 word)) x = absurd x
-of_kind expects.R7 (Replied (R7 word)) x = refl
-of_kind expects.R7 (Damaged fault) x = absurd x
-
 told_expected : (k : Kind) (line : TraceLine) (x : ScriptEvent) (returned : Return) → IsToldBy line x returned → Expected k x returned →
     is_expected k (event_of x) line ≡ true
 told_expected k (Exchange command answer) (SendCommand ask position argument) (Answered heard) told e =
@@ -197,37 +152,7 @@ told_expected k (BlocksOut count end) (GiveBlocks lines blocks) (OutBlocks ended
 told_expected k (Wait end) AwaitReady (Waited ended) told e = refl
 told_expected k line x returned told e = absurd told
 
--- AN IMPOSSIBLE MATCH, as an outcome shows it
-
-record ShownMatch (o : Option Order) (seen : Seen) (address : Bool) (code : ℕ) : Type 0 where
-  asks : o ≡ Some SendRelativeAddress
-  is_seen : seen ≡ SeenTimeOut
-  none : address ≡ false
-  fields : Fields
-  shown : fields_of code ≡ Some fields
-  state : fields.state ≡ Stby
-  matched : fields.matched ≡ true
-
-matched_fields : (o : Option Fields) → is_matched_standby o ≡ true → (f : Fields) × (o ≡ Some f) × (f.state ≡ Stby) × (f.matched ≡ true)
-matched_fields None e = absurd (let f : false ≡ true = e in cc)
-matched_fields (Some f) e =
-    (f, refl, same_state f.state Stby (eqb-true _ _ (and_left _ _ e)), and_right (state_number f.state == 3) _ e)
-
-shown_match : (o : Option Order) (seen : Seen) (address : Bool) (code : ℕ) → is_impossible_by o seen address code ≡ true → ShownMatch o seen address code
-shown_match (Some SendRelativeAddress) SeenTimeOut false code e =
-    let f = matched_fields (fields_of code) e in
-    record { asks = refl; is_seen = refl; none = refl; fields = f.0; shown = f.1; state = f.2; matched = f.3 }
-shown_match o seen address code e = absurd (let f : false ≡ true = e in cc)
-
-match_is : (k : Kind) (x : ScriptEvent) (h : Host) (o : Outcome) (address : Bool) → (address ≡ false → h.rca ≡ 0) →
-    is_impossible_match k (event_of x) o address ≡ true → IsImpossibleMatch k x h o
-match_is k (SendCommand ask position argument) h o address g e =
-    let y : ShownMatch (order_of k ask) o.seen address o.shape.0 = shown_match (order_of k ask) o.seen address o.shape.0 e in
-    record { asks = y.asks; none = g y.none; seen = y.is_seen; fields = y.fields; shown = y.shown; state = y.state; matched = y.matched }
-match_is k (ReceiveBlocks lines count) h o address g e = absurd (let f : false ≡ true = e in cc)
-match_is k (ReceiveRegister lines count) h o address g e = absurd (let f : false ≡ true = e in cc)
-match_is k (GiveBlocks lines blocks) h o address g e = absurd (let f : false ≡ true = e in cc)
-match_is k AwaitReady h o address g e = absurd (let f : false ≡ true = e in cc)
+-- THE ADDRESS
 
 not_false : (b : Bool) → not b ≡ false → b ≡ true
 not_false true e = refl

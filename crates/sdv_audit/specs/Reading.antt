@@ -3,7 +3,7 @@ use Rattle.std.specs.Prelude.{ℕ, List, [], ◌∷◌, length, take, drop, Bool
 use Rattle.std.specs.Int.{w32, from_be_bytes}
 use Rattle.hex.specs.Hex.{decode_sized}
 use Rattle.hex.specs.declared.error.FromHexError.{FromHexError}
-use Rattle.sdv_text.specs.Fronts.{Read, after, is_digit, run, number_after}
+use Rattle.sdv_text.specs.Fronts.{Read, after, is_end, is_word, is_digit, run, number_after}
 use Rattle.sdv_frames.specs.declared.reply.Reply.{Reply}
 use Rattle.sdv_frames.specs.declared.reply.Reply.TheVariants.{R1, R2, R3, R6, R7}
 use Rattle.sdv_card.specs.declared.state.Width.TheVariants.{One, Four, Eight}
@@ -38,21 +38,6 @@ or_else (Some rest) f other = f rest
 abbrev pub map_some : {A B : Type 0} → (A → B) → Option A → Option B
 map_some f None = None
 map_some f (Some x) = Some (f x)
-
--- WORDS
-
-abbrev pub is_end : List ℕ → Bool
-is_end [] = true
-is_end (b ∷ bs) = false
-
--- nothing follows
-abbrev pub ends : Option (List ℕ) → Bool
-ends None = false
-ends (Some rest) = is_end rest
-
--- the text is this word
-abbrev pub is_word : List ℕ → List ℕ → Bool
-is_word word bs = ends (after word bs)
 
 -- NUMBERS of one decimal digit or more, up to 65,535
 

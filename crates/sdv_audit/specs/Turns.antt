@@ -3,8 +3,6 @@ use Rattle.std.specs.Prelude.{ℕ, ◌==◌, ◌||◌, ◌&&◌, nat_lt, Bool, t
 use Rattle.sdv_registers.specs.declared.kind.Kind.{Kind}
 use Rattle.sdv_frames.specs.declared.command.Command.{Command}
 use Rattle.sdv_frames.specs.declared.reply.Expect.{Expect}
-use Rattle.sdv_frames.specs.declared.reply.Expect.TheVariants as expects
-use Rattle.sdv_frames.specs.declared.reply.Reply.TheVariants.{R1, R2, R3, R6, R7}
 use Rattle.sdv_card.specs.declared.command.Order.{Order}
 use Rattle.sdv_card.specs.declared.event.Aim.{Aim}
 use Rattle.sdv_card.specs.declared.event.Aim.TheVariants.{Rca, Plain}
@@ -13,9 +11,8 @@ use Rattle.sdv_card.specs.declared.event.Event.{Event}
 use Rattle.sdv_card.specs.declared.event.Event.TheVariants.{Send, RecvBlocks, RecvReg, Give, Wait as Waits}
 use Rattle.sdv_card.specs.declared.event.Seen.{Seen}
 use Rattle.sdv_card.specs.declared.event.Seen.TheVariants.{Sent as SeenSent}
-use Rattle.sdv_card.specs.declared.answer.Answer.{Answer}
-use Rattle.sdv_card.specs.declared.answer.Answer.TheVariants.{Sent, TimeOut, Reply}
 use Rattle.sdv_card.specs.CommandTable.{order_of, order_argument, expect_of}
+use Rattle.sdv_card.specs.Expected.{is_of_kind}
 use Rattle.sdv_card.specs.Modes.{has_width}
 use Rattle.sdv_card.specs.Outcomes.{phase_seen, wait_seen}
 use Rattle.sdv_card.specs.Seen.{answer_seen}
@@ -111,17 +108,6 @@ line_seen k pending (Wait end) = wait_seen end
 line_seen k pending line = SeenSent
 
 -- THE FORMAT of a response is the one that the host waits for
-
-abbrev pub is_of_kind : Expect → Answer → Bool
-is_of_kind expects.Nothing Sent = true
-is_of_kind expects.Nothing answer = false
-is_of_kind expect TimeOut = true
-is_of_kind (expects.R1 index) (Reply (R1 repeated status)) = repeated == index
-is_of_kind expects.R2 (Reply (R2 register)) = true
-is_of_kind expects.R3 (Reply (R3 ocr)) = true
-is_of_kind expects.R6 (Reply (R6 word)) = true
-is_of_kind expects.R7 (Reply (R7 word)) = true
-is_of_kind expect answer = false
 
 abbrev pub is_expected_answer : Expect → TraceLine → Bool
 is_expected_answer expect (Exchange command answer) = is_of_kind expect answer

@@ -1,8 +1,8 @@
 //! Reading a line of a trace from left to right.
 
 ghost use Rattle.std.specs.Prelude.{◌≡◌, min, option_map};
-ghost use Rattle.sdv_text.specs.Fronts.{after, is_digit, run, number_after};
-ghost use Rattle.sdv_audit.specs.Reading.{is_word, read_number, read_word, last_word, last_register, read_reply, read_answer, read_index, read_argument, read_exchange, read_data_end, read_phase, read_wait, read_lines, read_end, read_other, read_data, read_line};
+ghost use Rattle.sdv_text.specs.Fronts.{after, is_word, is_digit, run, number_after};
+ghost use Rattle.sdv_audit.specs.Reading.{read_number, read_word, last_word, last_register, read_reply, read_answer, read_index, read_argument, read_exchange, read_data_end, read_phase, read_wait, read_lines, read_end, read_other, read_data, read_line};
 ghost use Rattle.sdv_audit.specs.ReadParts.{read_part};
 
 use crate::fault::LineFault;
@@ -10,45 +10,7 @@ use crate::line::TraceLine;
 use hex::FromHex;
 use sdv_card::{Answer, DataEnd, WaitEnd, Width};
 use sdv_frames::{Command, Reply};
-
-/// What follows a word, if the text goes on with it.
-fn after<'a>(text: &'a [u8], word: &[u8]) -> Option<&'a [u8]>
-    ensures { option_map (λ rest. rest.now) result ≡ after word.now text.now }
-{
-    match text.strip_prefix(word) {
-        Some(rest) => Some(rest),
-        None => None,
-    }
-}
-
-/// The text is this word.
-fn is_word(text: &[u8], word: &[u8]) -> bool
-    ensures { result ≡ is_word word.now text.now }
-{
-    match after(text, word) {
-        Some(rest) => rest.is_empty(),
-        None => false,
-    }
-}
-
-fn digits_len(text: &[u8]) -> usize
-    ensures { result ≡ run is_digit text.now }
-{
-    text.iter()
-        .take_while(|byte| matches!(**byte, b'0'..=b'9'))
-        .count()
-}
-
-/// What digits spell, or 2^16 where that is more.
-fn capped_value(digits: &[u8]) -> u32
-    ensures { result ≡ min (number_after 0 digits.now) 65536 }
-{
-    let mut value = 0;
-    for digit in digits {
-        value = (value * 10 + u32::from(digit.saturating_sub(b'0'))).min(1 << 16);
-    }
-    value
-}
+use sdv_text::{after, capped_value, digits_len, is_word};
 
 /// A number up to 65,535 in decimal digits, one or more, and what follows.
 #[tactic(auto, unfolding(crate::specs::Reading::read_number))]
@@ -56,7 +18,7 @@ fn number(text: &[u8]) -> Option<(u16, &[u8])>
     ensures { option_map (λ x. (x.0, x.1.now)) result ≡ read_number text.now }
 {
     let (digits, rest) = text.split_at(digits_len(text));
-    let value = capped_value(digits);
+    let value = capped_value(digits, 1 << 16);
     if digits.is_empty() || value > 65_535 {
         return None;
     }

@@ -1,15 +1,14 @@
 //! How a line of a trace is understood.
 
 ghost use Rattle.std.specs.Prelude.{◌≡◌};
-ghost use Rattle.sdv_card.specs.CommandTable.{order_argument, expect_or_nothing, order_expect};
-ghost use Rattle.sdv_card.specs.Modes.{has_width};
-ghost use Rattle.sdv_audit.specs.Turns.{blocks_behind, count_told, is_sent, ask_told, turn_of_ask, turn_of_phase, turn_of, known_after, is_of_kind, is_expected};
+ghost use Rattle.sdv_card.specs.CommandTable.{order_argument, argument_or_none};
+ghost use Rattle.sdv_audit.specs.Turns.{blocks_behind, count_told, is_sent, ask_told, turn_of_ask, turn_of_phase, turn_of, known_after, is_expected};
 
 use crate::known::HostKnown;
 use crate::line::TraceLine;
-use sdv_card::laws::order;
-use sdv_card::{Aim, Answer, Ask, Event, Order, Width};
-use sdv_frames::{Command, Expect, Reply};
+use sdv_card::state_table::{has_width, order};
+use sdv_card::{Aim, Ask, Event, Width, argument as sent_argument, expect};
+use sdv_frames::Command;
 use sdv_registers::Kind;
 
 /// A line of a trace, with the one behind it if there is one.
@@ -65,44 +64,15 @@ fn count_told(command: Command, preset: u16, next: Option<TraceLine>) -> u16
     }
 }
 
-/// What is sent as the argument of an order, by the ask's own argument, the host's relative card address and the address
-/// of a block.
-fn sent_argument(order: Order, argument: u32, rca: u16, address: u32) -> u32
-    ensures { result ≡ order_argument order argument rca address }
-{
-    match order {
-        Order::SelectCard
-        | Order::SendCsd
-        | Order::SendCid
-        | Order::SendStatus
-        | Order::AppCommand => 65_536 * u32::from(rca),
-        Order::SendOpCond => 0x40ff_8080,
-        Order::SetRelativeAddress => 0x0001_0000,
-        Order::SendIfCond => 0x0000_01aa,
-        Order::SetBlockLength => 512,
-        Order::SetBlockCount { count } => u32::from(count),
-        Order::Erase
-        | Order::SdSendOpCond { .. }
-        | Order::SetBusWidth { .. }
-        | Order::Switch { .. } => argument,
-        Order::ReadSingleBlock
-        | Order::ReadMultipleBlock { .. }
-        | Order::WriteBlock
-        | Order::WriteMultipleBlock { .. }
-        | Order::EraseBlockStart
-        | Order::EraseBlockEnd
-        | Order::EraseGroupStart
-        | Order::EraseGroupEnd => address,
-        _ => 0,
-    }
-}
-
 /// The command table has the ask, and the host sends this argument with it.
 fn is_sent(kind: Kind, rca: u16, argument: u32, ask: &Ask) -> bool
     ensures { result ≡ is_sent kind rca argument ask.now }
 {
     match order(kind, ask) {
-        Some(order) => sent_argument(order, ask.argument, rca, argument) == argument,
+        Some(order) => {
+            let sent = sent_argument(Some(order), ask.argument, rca, u64::from(argument));
+            sent == u64::from(argument)
+        }
         None => false,
     }
 }
@@ -148,15 +118,6 @@ fn turn_of_phase(event: Event, count: u16, due: u16) -> Turn
         Turn::Does(event)
     } else {
         Turn::OtherLength { due }
-    }
-}
-
-fn has_width(kind: Kind, width: Width) -> bool
-    ensures { result ≡ has_width kind width }
-{
-    match (kind, width) {
-        (Kind::Sd, Width::Eight) => false,
-        _ => true,
     }
 }
 
@@ -212,52 +173,13 @@ impl HostKnown {
     }
 }
 
-/// The response that is waited for after an order, whose index it repeats.
-fn expect(order: Option<Order>, index: u8) -> Expect
-    ensures { result ≡ expect_or_nothing order index }
-{
-    match order {
-        None | Some(Order::GoIdleState | Order::DeselectCards) => Expect::Nothing,
-        Some(Order::AllSendCid | Order::SendCsd | Order::SendCid) => Expect::R2,
-        Some(Order::SendOpCond | Order::SdSendOpCond { .. }) => Expect::R3,
-        Some(Order::SendRelativeAddress) => Expect::R6,
-        Some(Order::SendIfCond) => Expect::R7,
-        Some(_) => Expect::R1(index),
-    }
-}
-
-/// The answer is of the kind that was asked for.
-fn is_of_kind(expect: Expect, answer: &Answer) -> bool
-    ensures { result ≡ is_of_kind expect answer.now }
-{
-    match (expect, answer) {
-        (Expect::Nothing, Answer::Sent) => true,
-        (Expect::Nothing, _) => false,
-        (_, Answer::TimeOut) => true,
-        (
-            Expect::R1(index),
-            Answer::Reply(
-                Reply::R1 {
-                    index: repeated,
-                    ..
-                },
-            ),
-        ) => *repeated == index,
-        (Expect::R2, Answer::Reply(Reply::R2(_))) => true,
-        (Expect::R3, Answer::Reply(Reply::R3(_))) => true,
-        (Expect::R6, Answer::Reply(Reply::R6(_))) => true,
-        (Expect::R7, Answer::Reply(Reply::R7(_))) => true,
-        _ => false,
-    }
-}
-
 /// What came of the event is of the format that the host waits for.
 pub(crate) fn is_expected(kind: Kind, event: &Event, line: &TraceLine) -> bool
     ensures { result ≡ is_expected kind event.now line.now }
 {
     match (event, line) {
         (Event::Send(ask), TraceLine::Exchange { answer, .. }) => {
-            is_of_kind(expect(order(kind, ask), ask.index), answer)
+            answer.is_of_kind(expect(order(kind, ask), ask.index))
         }
         _ => true,
     }

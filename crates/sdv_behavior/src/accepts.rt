@@ -1,14 +1,12 @@
 //! Which commands a simulated card accepts.
 
 ghost use Rattle.std.specs.Prelude.{◌≡◌};
-ghost use Rattle.sdv_card.specs.Laws.{order_blocks};
 ghost use Rattle.sdv_card.specs.LegalShapes.{order_legal};
 ghost use Rattle.sdv_behavior.specs.Accepts.{fields_at, has_blocks, accepts};
 
 use crate::card_state::CardState;
-use crate::heard::matches;
 use crate::rows::block_of;
-use sdv_card::state_table::order_legal;
+use sdv_card::state_table::{matches, order_legal};
 use sdv_card::{Fields, Kind, Order, Partition, Width};
 use sdv_description::CardDesc;
 use sdv_emmc::EmmcTable;
@@ -25,7 +23,7 @@ fn fields_at(desc: &CardDesc, argument: u32, s: &CardState) -> Fields
         block_unit: desc.block_unit,
         length_512: s.block_length == 512,
         app: s.app,
-        matched: matches(s.rca, argument),
+        matched: matches(s.rca, (argument / 65_536) as u16),
         mode: s.mode,
         lines: Width::One,
         flags: 0,
@@ -40,22 +38,6 @@ fn is_legal(kind: Kind, order: Order, fields: &Fields) -> bool
     match kind {
         Kind::Sd => order_legal::<SdTable>(order, fields),
         Kind::Emmc => order_legal::<EmmcTable>(order, fields),
-    }
-}
-
-/// The blocks that a command addresses.
-fn order_blocks(order: Order) -> Option<u16>
-    ensures { result ≡ order_blocks order }
-{
-    match order {
-        Order::ReadMultipleBlock { count } | Order::WriteMultipleBlock { count } => Some(count),
-        Order::ReadSingleBlock
-        | Order::WriteBlock
-        | Order::EraseBlockStart
-        | Order::EraseBlockEnd
-        | Order::EraseGroupStart
-        | Order::EraseGroupEnd => Some(1),
-        _ => None,
     }
 }
 
@@ -78,5 +60,5 @@ pub fn accepts(desc: &CardDesc, order: Order, argument: u32, s: &CardState) -> b
     ensures { result ≡ accepts desc.now order argument s.now }
 {
     is_legal(desc.kind, order, &fields_at(desc, argument, s))
-        && has_blocks(desc, s.mode.partition, argument, order_blocks(order))
+        && has_blocks(desc, s.mode.partition, argument, order.blocks())
 }

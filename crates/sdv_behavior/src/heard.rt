@@ -1,9 +1,8 @@
 //! What a simulated card makes of a command, by its behavior.
 
-ghost use Rattle.std.specs.Prelude.{◌≡◌, ◌/◌, IfSome};
+ghost use Rattle.std.specs.Prelude.{◌≡◌, IfSome};
 ghost use Rattle.sdv_frames.specs.Frame.{HasIndex};
 ghost use Rattle.sdv_behavior.specs.Heard.{settled_by, reports, deed_of, row_deed, is_erase, unheard, does, done_as, hear_at, hear};
-ghost use Rattle.sdv_card.specs.Takes.{matches};
 ghost use Rattle.sdv_behavior.specs.Commands.{order_read};
 ghost use Rattle.sdv_behavior.specs.SimSteps.{heard_order};
 
@@ -14,7 +13,7 @@ use crate::choice::{Choice, choice_of};
 use crate::commands::order_read;
 use crate::replies::reply_of;
 use crate::rows::{stays, taken_by};
-use sdv_card::state_table::{own_target, response, taken_as};
+use sdv_card::state_table::{matches, own_target, response, taken_as};
 use sdv_card::{Order, Response, Row, TakenAs, Transfer};
 use sdv_description::CardDesc;
 use sdv_frames::{Command, Reply};
@@ -141,22 +140,12 @@ fn does(
     }
 }
 
-/// The card has no relative address, or the one in an argument.
-pub fn matches(rca: Option<u16>, argument: u32) -> bool
-    ensures { result ≡ matches rca (argument / 65536) }
-{
-    match rca {
-        None => true,
-        Some(rca) => u32::from(rca) == argument / 65536,
-    }
-}
-
 /// What comes of an order at a settled state.
 fn hear_at(desc: &CardDesc, behavior: Behavior, order: Order, argument: u32, t: &CardState) -> Heard
     ensures heard { result ≡ hear_at desc.now behavior order argument t.now }
     ensures index { IfSome result.reply HasIndex }
 {
-    match taken_as(order, t.app, matches(t.rca, argument)) {
+    match taken_as(order, t.app, matches(t.rca, (argument / 65_536) as u16)) {
         TakenAs::Forbidden | TakenAs::Ignored => Heard::unheard(*t),
         TakenAs::By(row) => {
             let choice = choice_of(desc, behavior, row, t.checked);

@@ -2,12 +2,12 @@
 
 ghost use Rattle.std.specs.Prelude.{◌≡◌, ◌<◌, ◌^◌, IfSome};
 ghost use Rattle.sdv_frames.specs.Frame.{HasIndex};
-ghost use Rattle.sdv_card.specs.Responses.{row_index};
 ghost use Rattle.sdv_description.specs.Registers.{cid_of};
 ghost use Rattle.sdv_behavior.specs.Replies.{shows_app, shows_switch, reply_of};
 
 use crate::card_state::CardState;
 use crate::words::{address_word, conditions_word, status_word};
+use sdv_card::state_table::row_index;
 use sdv_card::{Kind, Row};
 use sdv_description::CardDesc;
 use sdv_frames::Reply;
@@ -25,40 +25,6 @@ fn cid_of(kind: Kind) -> [u8; 15]
             0x00, 0x01, 0x58, 0x53, 0x44, 0x56, 0x45, 0x52, 0x49, 0x10, 0x00, 0x00, 0x00, 0x01,
             0x17,
         ],
-    }
-}
-
-/// The index of the command in a row that is answered with an R1, and of others.
-fn row_index(row: Row) -> u8
-    ensures index { result ≡ row_index row }
-    ensures small { result < 64 }
-{
-    match row {
-        Row::Cmd0 => 0,
-        Row::Cmd1 => 1,
-        Row::Cmd2 => 2,
-        Row::Cmd3Sd | Row::Cmd3Emmc => 3,
-        Row::Cmd6 { .. } | Row::Acmd6 { .. } => 6,
-        Row::Cmd7Addressed | Row::Cmd7NotAddressed => 7,
-        Row::Cmd8Sd | Row::Cmd8Emmc => 8,
-        Row::Cmd9 => 9,
-        Row::Cmd10 => 10,
-        Row::Cmd12 => 12,
-        Row::Cmd13 | Row::Acmd13 => 13,
-        Row::Cmd16 => 16,
-        Row::Cmd17 => 17,
-        Row::Cmd18 { .. } => 18,
-        Row::Cmd23 { .. } => 23,
-        Row::Cmd24 => 24,
-        Row::Cmd25 { .. } => 25,
-        Row::Cmd32 => 32,
-        Row::Cmd33 => 33,
-        Row::Cmd35 => 35,
-        Row::Cmd36 => 36,
-        Row::Cmd38 => 38,
-        Row::Acmd41 { .. } => 41,
-        Row::Acmd51 => 51,
-        Row::Cmd55 => 55,
     }
 }
 

@@ -20,6 +20,9 @@ pub use commands::order;
 pub use modes::{may_stay_pending, same_width};
 pub use phases::{after_phase, after_wait, give_legal, recv_legal, recv_reg_legal, wait_legal};
 pub use rows::Rows;
-pub use rules::{erase_after, own_target, response, transfer_after};
-pub use shapes::is_shape;
-pub use takes::taken_as;
+pub use rules::{
+    erase_after, erase_allows, length_allows, own_step, own_target, preset_allows, response,
+    row_index, transfer_after,
+};
+pub use shapes::{has_width, is_shape};
+pub use takes::{matches, taken_as};

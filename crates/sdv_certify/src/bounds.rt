@@ -208,6 +208,7 @@ fn in_limits(form: &Form) -> bool
     form.base <= u128::from(MAX_NUMBER) && are_few(&form.each)
 }
 
+// The same form. The definitions keep its coefficients as a list; the copy shows that they are four.
 #[tactic(auto, using(crate::proofs::FormLaws::first_four))]
 fn whole(form: &Form) -> Form
     ensures { result ≡ full_form form.now }

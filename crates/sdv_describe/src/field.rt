@@ -1,5 +1,7 @@
 //! The lines of a description, one after another.
 
+use sdv_text::capped_value;
+
 /// What a line is to say. Those of an e.MMC device with byte addresses are named for it, since other lines follow them.
 #[derive(Clone, Copy)]
 pub enum Field {
@@ -37,22 +39,13 @@ pub enum Field {
     End,
 }
 
-/// What digits spell, or 2^32 where that is more.
-fn capped_value(digits: &[u8]) -> u64 {
-    let mut value = 0;
-    for digit in digits {
-        value = (value * 10 + u64::from(digit.saturating_sub(b'0'))).min(1 << 32);
-    }
-    value
-}
-
 /// The number behind a word and a space, if there is no more on the line and the number is within bounds.
 fn number_on(line: &[u8], word: &[u8], least: u64, most: u64) -> Option<u64> {
     let digits = line.strip_prefix(word)?;
     if digits.is_empty() || !digits.iter().all(|byte| byte.is_ascii_digit()) {
         return None;
     }
-    let value = capped_value(digits);
+    let value = capped_value(digits, 1 << 32);
     if least <= value && value <= most {
         Some(value)
     } else {

@@ -1,8 +1,8 @@
 -- Lines of a description, and its end.
 use Rattle.std.proofs.Common.{◌≡◌, ℕ, true, false, List, [], ◌∷◌, ◌++◌, Option, Some, refl, sym, ap, ◌∙◌}
-use Rattle.sdv_text.specs.Fronts.{◌>>=◌, after}
+use Rattle.sdv_text.specs.Fronts.{◌>>=◌, after, is_end}
 use Rattle.sdv_text.proofs.FrontLaws.{bind_some, after_takes, after_again}
-use Rattle.sdv_description.specs.Reading.{read_line, is_end}
+use Rattle.sdv_description.specs.Reading.{read_line}
 
 pub ends : (rest : List ℕ) → is_end rest ≡ true → [] ≡ rest
 ends [] e = refl

@@ -4,12 +4,12 @@ use Rattle.std.specs.Prelude.{codes}
 use Rattle.std.proofs.lemmas.Bool.{and_parts, le-leb, leb-true, eqb-true}
 use Rattle.std.proofs.lemmas.Bool.Decides.{nat_tests}
 use Rattle.sdv_text.proofs.FrontLaws.{bind_some, some_is, tested, both}
-use Rattle.sdv_text.specs.Fronts.{◌>>=◌}
+use Rattle.sdv_text.specs.Fronts.{◌>>=◌, is_end}
 use Rattle.sdv_description.specs.declared.description.Size.{Size}
 use Rattle.sdv_description.specs.declared.description.Description.{Description}
 use Rattle.sdv_description.specs.declared.description.Description.TheVariants.{SdBytes, SdBlocks, EmmcBytes, EmmcBlocks}
 use Rattle.sdv_description.specs.Grammar.{Line, Number, Optional, NumberLine, HasLines, size_lines, lines_of, size_fits, rca_fits, boot_fits, IsTextOf}
-use Rattle.sdv_description.specs.Reading.{or_else, read_line, read_number, read_size, read_rca, read_sd_bytes, read_sd_blocks, read_sd, read_boot, read_emmc_bytes, read_emmc_blocks, read_emmc, read_description, is_end}
+use Rattle.sdv_description.specs.Reading.{or_else, read_line, read_number, read_size, read_rca, read_sd_bytes, read_sd_blocks, read_sd, read_boot, read_emmc_bytes, read_emmc_blocks, read_emmc, read_description}
 use Rattle.sdv_description.proofs.Lines.{ends, line_takes, line_again}
 use Rattle.sdv_description.proofs.Numbers.{number_takes, number_small, number_again}
 

@@ -1,7 +1,7 @@
 -- Reading the text of a description from left to right: what its front says, and what follows; none where it is no such
 -- front. The laws of reading say that what is read is what the text says by its grammar.
 use Rattle.std.specs.Prelude.{ℕ, List, [], ◌∷◌, length, take, drop, Bool, true, false, ◌&&◌, ◌||◌, ◌==◌, nat_lt, nat_le, codes, Option, Some, None, if◌then◌else◌}
-use Rattle.sdv_text.specs.Fronts.{◌>>=◌, Read, after, is_digit, run, number_after}
+use Rattle.sdv_text.specs.Fronts.{◌>>=◌, Read, after, is_end, is_digit, run, number_after}
 use Rattle.sdv_description.specs.declared.description.Size.{Size}
 use Rattle.sdv_description.specs.declared.description.Description.{Description}
 use Rattle.sdv_description.specs.declared.description.Description.TheVariants.{SdBytes, SdBlocks, EmmcBytes, EmmcBlocks}
@@ -37,10 +37,6 @@ read_size bs =
     read_number (codes "cmult ") a.1 >>= λ b.
     read_number (codes "rbl ") b.1 >>= λ c.
     size_if a.0 b.0 c.0 c.1
-
-abbrev pub is_end : List ℕ → Bool
-is_end [] = true
-is_end (b ∷ bs) = false
 
 abbrev pub rca_if : ℕ → List ℕ → Option ℕ
 rca_if rca rest = if nat_le 1 rca && nat_le rca 65535 && is_end rest then Some rca else None

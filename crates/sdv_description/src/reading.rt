@@ -6,19 +6,10 @@ ghost use Rattle.sdv_description.specs.Grammar.{size_fits};
 ghost use Rattle.sdv_description.specs.Reading.{read_line, read_figure, read_number, read_size, read_rca, read_sd, read_sd_bytes, read_sd_blocks, read_emmc, read_boot, read_emmc_bytes, read_emmc_blocks, read_description};
 
 use crate::description::{Description, Size};
+use sdv_text::{after, capped_value, digits_len};
 
 /// The front of a text was read; what follows it.
 type Read<'a, T> = Option<(T, &'a [u8])>;
-
-/// What follows a word, if the text goes on with it.
-fn after<'a>(text: &'a [u8], word: &[u8]) -> Option<&'a [u8]>
-    ensures { option_map (λ rest. rest.now) result ≡ after word.now text.now }
-{
-    match text.strip_prefix(word) {
-        Some(rest) => Some(rest),
-        None => None,
-    }
-}
 
 /// What follows a line, if the text goes on with it.
 fn line<'a>(text: &'a [u8], words: &[u8]) -> Option<&'a [u8]>
@@ -30,32 +21,13 @@ fn line<'a>(text: &'a [u8], words: &[u8]) -> Option<&'a [u8]>
     }
 }
 
-fn digits_len(text: &[u8]) -> usize
-    ensures { result ≡ run is_digit text.now }
-{
-    text.iter()
-        .take_while(|byte| matches!(**byte, b'0'..=b'9'))
-        .count()
-}
-
-// What digits spell, or 2^32 where that is more.
-fn capped_value(digits: &[u8]) -> u64
-    ensures { result ≡ min (number_after 0 digits.now) (2 ^ 32) }
-{
-    let mut value = 0;
-    for digit in digits {
-        value = (value * 10 + u64::from(digit.saturating_sub(b'0'))).min(1 << 32);
-    }
-    value
-}
-
 // One digit or more with their line's end behind them, and what follows.
 #[tactic(auto, unfolding(crate::specs::Reading::read_figure))]
 fn figure(text: &[u8]) -> Read<'_, u32>
     ensures { option_map (λ x. (x.0, x.1.now)) result ≡ read_figure text.now }
 {
     let (digits, rest) = text.split_at(digits_len(text));
-    let value = capped_value(digits);
+    let value = capped_value(digits, 1 << 32);
     if digits.is_empty() || value > 0xffff_ffff {
         return None;
     }

@@ -6,7 +6,8 @@ use Rattle.std.specs.Prelude.{codes}
 use Rattle.sdv_graph.specs.Graph.{Graph}
 use Rattle.sdv_graph.specs.Path.{Point}
 use Rattle.sdv_table.specs.Table.{header_size}
-use Rattle.sdv_emit.specs.CText.{Text, word_lines, point_line, point_words, numbered, rows_text, array_text}
+use Rattle.sdv_emit.specs.CText.{Text, word_lines, point_line, point_words, rows_text, array_text}
+use Rattle.sdv_telling.specs.Numbered.{numbered}
 use Rattle.sdv_emit.specs.Reading.{Code, read}
 use Rattle.sdv_emit.proofs.Constants.{AreWords, lines_read, head_read}
 

@@ -6,6 +6,7 @@ use Rattle.sdv_graph.specs.Graph.{Graph}
 use Rattle.sdv_graph.specs.Path.{Action, Point}
 use Rattle.sdv_graph.specs.Tree.{Declared}
 use Rattle.sdv_table.specs.Table.{header_size}
+use Rattle.sdv_telling.specs.Numbered.{numbered}
 use Rattle.sdv_telling.specs.Statements.{statement_words}
 
 abbrev pub Text : Type 0
@@ -62,11 +63,6 @@ abbrev pub point_line : Graph → (words : List ℕ) → (number : ℕ) → Poin
 point_line g words number place =
     head_line (slice_index words (header_size + number))
     (point_words g.names number (slice_index g.lines number) place.action)
-
--- a line for each of a list, by its number
-abbrev pub numbered : {X : Type 0} → (line : ℕ → X → Text) → (first : ℕ) → List X → Text
-numbered line n [] = []
-numbered line n (x ∷ xs) = line n x ++ numbered line (suc n) xs
 
 -- THE TEXT
 

@@ -7,9 +7,10 @@ ghost use Rattle.sdv_emit.specs.Reading.{words_in, words_of_bytes};
 ghost use Rattle.sdv_emit.specs.CText.{array_text, c_text, declaration, little_endian, rows_text, title, top};
 
 use crate::points::put_points;
-use crate::text::{Text, put, put_comment, put_numbered};
+use crate::text::put_comment;
 use crate::words::put_words;
 use sdv_graph::Graph;
+use sdv_telling::{Text, put, put_with_number};
 use std::alloc::{AllocError, Global};
 
 /// What the array of a table is called, and where it comes from.
@@ -39,7 +40,7 @@ fn title(alloc: Global, file: &str, bound: u64) -> Result<Text, AllocError>
     let mut words = Vec::new(alloc);
     put(&mut words, "Table of the script ")?;
     put(&mut words, file)?;
-    put_numbered(&mut words, ", certified to send at most ", bound)?;
+    put_with_number(&mut words, ", certified to send at most ", bound)?;
     put(&mut words, " commands a run.")?;
     Ok(words)
 }

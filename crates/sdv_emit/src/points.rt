@@ -3,12 +3,13 @@
 ghost use Rattle.std.specs.Prelude.{◌≡◌, ◌++◌, ◌+◌, ◌≤◌, IfOk, OnOk, length};
 ghost use Rattle.sdv_graph.specs.Graph.{declared_names, seen_action};
 ghost use Rattle.sdv_table.specs.Table.{header_size};
-ghost use Rattle.sdv_emit.specs.CText.{head_line, numbered, place_words, point_line, point_words};
+ghost use Rattle.sdv_emit.specs.CText.{head_line, place_words, point_line, point_words};
+ghost use Rattle.sdv_telling.specs.Numbered.{numbered};
 
-use crate::text::{Text, put, put_comment, put_numbered};
+use crate::text::put_comment;
 use crate::words::put_word;
 use sdv_graph::{Action, Graph, Names};
-use sdv_telling::put_statement;
+use sdv_telling::{Text, put, put_statement, put_with_number};
 use std::alloc::{AllocError, Global};
 
 /// Where a statement is: `point 3, line 7`.
@@ -16,8 +17,8 @@ fn place_words(alloc: Global, number: usize, line: u32) -> Result<Text, AllocErr
     ensures { IfOk result (λ words. words.items ≡ place_words number line) }
 {
     let mut words = Vec::new(alloc);
-    put_numbered(&mut words, "point ", number as u64)?;
-    put_numbered(&mut words, ", line ", u64::from(line))?;
+    put_with_number(&mut words, "point ", number as u64)?;
+    put_with_number(&mut words, ", line ", u64::from(line))?;
     Ok(words)
 }
 

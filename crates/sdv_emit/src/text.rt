@@ -1,36 +1,10 @@
-//! Texts that are put together piece by piece, and comments.
+//! Comments.
 
-ghost use Rattle.std.specs.Prelude.{◌≡◌, ◌++◌, ◌∷◌, [], OnOk, codes, decimal};
+ghost use Rattle.std.specs.Prelude.{◌≡◌, ◌++◌, ◌∷◌, [], OnOk, codes};
 ghost use Rattle.sdv_emit.specs.CText.{comment, is_plain, plain, plain_byte};
 
-use itoa::Buffer;
+use sdv_telling::{Text, put};
 use std::alloc::AllocError;
-
-/// A text so far.
-pub type Text = Vec<u8>;
-
-/// Adds words.
-pub fn put(text: &mut Text, words: &str) -> Result<(), AllocError>
-    ensures { OnOk result (text.new.items ≡ text.old.items ++ words.now) }
-{
-    text.extend_from_slice(words.as_bytes())
-}
-
-/// Adds a number, in decimal digits.
-pub fn put_number(text: &mut Text, number: u64) -> Result<(), AllocError>
-    ensures { OnOk result (text.new.items ≡ text.old.items ++ decimal number) }
-{
-    let mut buffer = Buffer::new();
-    put(text, buffer.format(number))
-}
-
-/// Adds words, and a number.
-pub fn put_numbered(text: &mut Text, before: &str, number: u64) -> Result<(), AllocError>
-    ensures { OnOk result (text.new.items ≡ text.old.items ++ (before.now ++ decimal number)) }
-{
-    put(text, before)?;
-    put_number(text, number)
-}
 
 /// Whether a byte of a comment stands for itself.
 fn is_plain(byte: u8) -> bool

@@ -3,7 +3,7 @@
 ghost use Rattle.std.specs.Prelude.{◌≡◌, ◌++◌, OnOk};
 ghost use Rattle.sdv_emit.specs.CText.{gap, spaced_word, word_lines, word_text};
 
-use crate::text::{Text, put};
+use sdv_telling::{Text, put};
 use std::alloc::AllocError;
 
 /// Adds a word, and the comma behind it.

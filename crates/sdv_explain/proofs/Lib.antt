@@ -1,5 +1,6 @@
 pub mod EdgeLaws
 pub mod EachLaws
+pub mod TargetLaws
 pub mod MemberLaws
 pub mod FoundLaws
 pub mod MetLaws

@@ -2,45 +2,16 @@
 
 ghost use Rattle.std.specs.Prelude.{◌≡◌, ◌&&◌, is_none};
 ghost use Rattle.sdv_card.specs.LegalShapes.{row_legal, settled_legal, order_legal, event_legal, legal_code};
-ghost use Rattle.sdv_card.specs.RowRules.{length_allows, erase_allows, preset_allows};
 ghost use Rattle.sdv_card.specs.Modes.{same_width};
 ghost use Rattle.sdv_card.specs.Takes.{taken_as_of};
 ghost use Rattle.sdv_explain.specs.Reason.{event_illegality, first_broken, illegality_of, order_illegality, order_rules, phase_rules, row_rules};
 
 use sdv_card::state_table::{
-    Rows, give_legal, is_shape, order, own_target, recv_legal, recv_reg_legal, same_width,
-    taken_as, wait_legal,
+    Rows, erase_allows, give_legal, is_shape, length_allows, order, own_step, own_target,
+    preset_allows, recv_legal, recv_reg_legal, same_width, taken_as, wait_legal,
 };
-use sdv_card::{EraseStage, Event, Fields, Order, Row, Shape, TakenAs, Transfer};
+use sdv_card::{Event, Fields, Order, Row, Shape, TakenAs};
 use sdv_telling::{Illegality, Reason};
-
-fn length_allows(row: Row, length_512: bool) -> bool
-    ensures { result ≡ length_allows row length_512 }
-{
-    match row {
-        Row::Cmd17 | Row::Cmd18 { .. } | Row::Cmd24 | Row::Cmd25 { .. } => length_512,
-        _ => true,
-    }
-}
-
-fn erase_allows(row: Row, erase: EraseStage) -> bool
-    ensures { result ≡ erase_allows row erase }
-{
-    match (row, erase) {
-        (Row::Cmd33 | Row::Cmd36, EraseStage::Begun) | (Row::Cmd38, EraseStage::Both) => true,
-        (Row::Cmd33 | Row::Cmd36 | Row::Cmd38, _) => false,
-        _ => true,
-    }
-}
-
-fn preset_allows(row: Row, preset: u16) -> bool
-    ensures { result ≡ preset_allows row preset }
-{
-    match row {
-        Row::Cmd18 { count } | Row::Cmd25 { count } => preset == 0 || preset == count,
-        _ => true,
-    }
-}
 
 /// Why a settled card does not take a row.
 fn row_reason<T: Rows>(row: Row, t: &Fields) -> Option<Reason>
@@ -89,12 +60,7 @@ fn order_reason<T: Rows>(order: Order, fields: &Fields) -> Option<Illegality>
     let Some(state) = own_target(fields.state, fields.transfer) else {
         return None;
     };
-    let after = Fields {
-        state,
-        transfer: Transfer::Nothing,
-        ..*fields
-    };
-    match settled_reason::<T>(order, &after) {
+    match settled_reason::<T>(order, &own_step(fields, state)) {
         Some(reason) => Some(Illegality {
             reason,
             after_step: Some(state),

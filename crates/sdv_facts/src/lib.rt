@@ -35,6 +35,8 @@ pub use numbers::{Numbers, VarFacts};
 pub use search::holds_shape;
 pub use set_table::{SetId, SetTable};
 pub use setting::{after_let, numbers_after_let};
-pub use statement::{address_holds, addresses_on_card, ends_at, event_of_phase, legal_at};
+pub use statement::{
+    address_holds, addresses_on_card, cases_of_phase, ends_at, event_of_phase, legal_at,
+};
 pub use steps::Steps;
-pub use test::Test;
+pub use test::{Decision, Test};

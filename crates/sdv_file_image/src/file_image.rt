@@ -243,7 +243,8 @@ impl<F: BlockFile> Image for FileImage<F> {
         ensures written { OnOk result (Shown place (block.now ∷ []) (shown_of self.new)) }
         ensures kept { OnErr result (shown_of self.new ≡ shown_of self.old) }
         ensures others { OnlyAt place 1 (shown_of self.old) (shown_of self.new) }
-        ensures fit { AreSized (size_of self.old) (shown_of self.old) → AreSized (size_of self.new) (shown_of self.new) }
+        ensures fit { AreSized (size_of self.old) (shown_of self.old)
+            → AreSized (size_of self.new) (shown_of self.new) }
         ensures unwritten { OneMoreUnwritten place self.old self.new }
         ensures fault { OnErr result (HasFailed (failed_of self.old) (failed_of self.new)) }
         ensures no_fault { OnOk result (failed_of self.new ≡ failed_of self.old) }

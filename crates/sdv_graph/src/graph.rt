@@ -118,7 +118,8 @@ impl<'a> Model for Graph<'a> {
 
     ghost view = { λ g. graph_with (declared_names g.names) g.points.items g.lines.items g.first g.steps };
 
-    ghost invariant = { λ g. IsSound (graph_with (declared_names g.names) g.points.items g.lines.items g.first g.steps) };
+    ghost invariant = { λ g.
+        IsSound (graph_with (declared_names g.names) g.points.items g.lines.items g.first g.steps) };
 }
 
 impl<'a> Graph<'a> {

@@ -1,11 +1,13 @@
 //! An image in memory.
 
-ghost use Rattle.std.specs.Prelude.{◌≡◌, ◌%◌, ◌/◌, ◌+◌, ◌≤◌, length, take, drop, All, ◌++◌, Some, MatchResult};
+ghost use Rattle.std.specs.Prelude.{◌≡◌, ◌%◌, ◌/◌, ◌+◌, ◌≤◌, length, take, drop, All, ◌++◌, IfOk, Some, MatchResult};
 ghost use Rattle.sdv_card.specs.Card.{IsByte};
+ghost use Rattle.sdv_image.specs.Images.{zeros};
 ghost use Rattle.sdv_image.specs.MemBlocks.{bytes_of};
 
 use crate::fault::SimFault;
 use crate::image::{Image, ImageFault};
+use std::alloc::{AllocError, Global};
 
 /// An image in memory, block after block. None of its calls fails.
 #[derive(Drop)]
@@ -14,6 +16,8 @@ pub struct MemImage {
 }
 
 impl MemImage {
+    ghost use Rattle.sdv_image.specs.MemBlocks.{size_of, shown_of};
+
     /// An image of these bytes. It takes no memory.
     ///
     /// # Errors
@@ -27,6 +31,19 @@ impl MemImage {
         if bytes.len() % 512 != 0 {
             return Err(SimFault::ImageLength);
         }
+        Ok(MemImage { bytes })
+    }
+
+    /// An image of so many blocks of zeros.
+    ///
+    /// # Errors
+    ///
+    /// Memory was refused.
+    pub fn of_zeros(alloc: Global, blocks: u32) -> Result<MemImage, AllocError>
+        ensures size { IfOk result (λ image. size_of image ≡ blocks) }
+        ensures zeros { IfOk result (λ image. shown_of image ≡ zeros blocks) }
+    {
+        let bytes = vec![in alloc; 0; blocks as usize * 512]?;
         Ok(MemImage { bytes })
     }
 

@@ -3,23 +3,11 @@ use Rattle.std.specs.Prelude.{◌==◌, ◌&&◌, ◌||◌, ◌<◌, ◌≤◌, 
 use Rattle.std.specs.Int.{w32, from_be_bytes}
 use Rattle.hex.specs.declared.error.FromHexError.{FromHexError}
 use Rattle.hex.specs.Hex.{decode_sized}
-use Rattle.sdv_text.specs.Fronts.{◌>>=◌, Read, after, is_digit, run, number_after}
+use Rattle.sdv_text.specs.Fronts.{◌>>=◌, Read, after, is_end, is_word, is_digit, run, number_after}
 use Rattle.sdv_frames.specs.declared.reply.Expect.{Expect}
 use Rattle.sdv_frames.specs.declared.reply.Expect.TheVariants as expects
 use Rattle.sdv_lines.specs.declared.hearing.Request.{Request}
 use Rattle.sdv_lines.specs.declared.hearing.Request.TheVariants as requests
-
-abbrev pub is_end : List ℕ → Bool
-is_end [] = true
-is_end (b ∷ bs) = false
-
--- a text is this word
-abbrev pub is_all_of : Option (List ℕ) → Bool
-is_all_of None = false
-is_all_of (Some rest) = is_end rest
-
-abbrev pub is_all : (word text : List ℕ) → Bool
-is_all word text = is_all_of (after word text)
 
 -- the second reading where the first finds none
 abbrev pub or_else : {A : Type 0} → Option (List ℕ) → (List ℕ → Option A) → Option A → Option A
@@ -46,12 +34,12 @@ read_word bs = if nat_le 8 (length bs) then word_if (decode_sized (take 8 bs) 4)
 -- the response that is waited for, to the command of this index
 unfoldable pub read_expect : (index : ℕ) → List ℕ → Option Expect
 read_expect index bs =
-    if is_all (codes "-") bs then Some expects.Nothing
-    else if is_all (codes "R1") bs then Some (expects.R1 index)
-    else if is_all (codes "R2") bs then Some expects.R2
-    else if is_all (codes "R3") bs then Some expects.R3
-    else if is_all (codes "R6") bs then Some expects.R6
-    else if is_all (codes "R7") bs then Some expects.R7
+    if is_word (codes "-") bs then Some expects.Nothing
+    else if is_word (codes "R1") bs then Some (expects.R1 index)
+    else if is_word (codes "R2") bs then Some expects.R2
+    else if is_word (codes "R3") bs then Some expects.R3
+    else if is_word (codes "R6") bs then Some expects.R6
+    else if is_word (codes "R7") bs then Some expects.R7
     else None
 
 -- a command, behind its word
@@ -95,11 +83,11 @@ read_request bs =
     or_else (after (codes "CMD") bs) read_command
     (or_else (after (codes "IN ") bs) blocks_in
     (or_else (after (codes "OUT ") bs) blocks_out
-    (or_else (after (codes "REG ") bs) register_in (if is_all (codes "WAIT") bs then Some requests.Wait else None))))
+    (or_else (after (codes "REG ") bs) register_in (if is_word (codes "WAIT") bs then Some requests.Wait else None))))
 
 -- the last line of a host
 abbrev pub is_last : List ℕ → Bool
-is_last text = is_all (codes "done") text || is_some (after (codes "fault ") text)
+is_last text = is_word (codes "done") text || is_some (after (codes "fault ") text)
 
 -- an index has 6 bits, and a register 512 bytes at most
 abbrev pub IsInRange : Request → Type 0

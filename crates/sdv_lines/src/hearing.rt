@@ -1,10 +1,11 @@
 //! Requests as the side of the card reads them.
 
 ghost use Rattle.std.specs.Prelude.{◌≡◌, ◌^◌, min, option_map, IfSome};
-ghost use Rattle.sdv_text.specs.Fronts.{after, is_digit, run, number_after};
-ghost use Rattle.sdv_lines.specs.Hearing.{is_all, read_number, read_word, read_expect, read_command, read_phase, register_in, read_request, is_last, IsInRange};
+ghost use Rattle.sdv_text.specs.Fronts.{after, is_word, is_digit, run, number_after};
+ghost use Rattle.sdv_lines.specs.Hearing.{read_number, read_word, read_expect, read_command, read_phase, register_in, read_request, is_last, IsInRange};
 
 use sdv_frames::{Command, Expect};
+use sdv_text::{after, capped_value, digits_len, is_word};
 
 /// What the first line of a request says.
 #[derive(Clone, Copy, Debug, PartialEq, Eq)]
@@ -24,52 +25,13 @@ pub enum Request {
 /// The front of a text was read; what follows it.
 type Read<'a, T> = Option<(T, &'a [u8])>;
 
-/// What follows a word, if the text goes on with it.
-fn after<'a>(text: &'a [u8], word: &[u8]) -> Option<&'a [u8]>
-    ensures { option_map (λ rest. rest.now) result ≡ after word.now text.now }
-{
-    match text.strip_prefix(word) {
-        Some(rest) => Some(rest),
-        None => None,
-    }
-}
-
-/// Whether the text is this word.
-fn is_all(text: &[u8], word: &[u8]) -> bool
-    ensures { result ≡ is_all word.now text.now }
-{
-    match after(text, word) {
-        Some(rest) => rest.is_empty(),
-        None => false,
-    }
-}
-
-fn digits_len(text: &[u8]) -> usize
-    ensures { result ≡ run is_digit text.now }
-{
-    text.iter()
-        .take_while(|byte| matches!(**byte, b'0'..=b'9'))
-        .count()
-}
-
-// What digits spell, or 2^32 where that is more.
-fn capped_value(digits: &[u8]) -> u64
-    ensures { result ≡ min (number_after 0 digits.now) (2 ^ 32) }
-{
-    let mut value = 0;
-    for digit in digits {
-        value = (value * 10 + u64::from(digit.saturating_sub(b'0'))).min(1 << 32);
-    }
-    value
-}
-
 // One digit or more, and what follows.
 #[tactic(auto, unfolding(crate::specs::Hearing::read_number))]
 fn number(text: &[u8]) -> Read<'_, u32>
     ensures { option_map (λ x. (x.0, x.1.now)) result ≡ read_number text.now }
 {
     let (digits, rest) = text.split_at(digits_len(text));
-    let value = capped_value(digits);
+    let value = capped_value(digits, 1 << 32);
     if digits.is_empty() || value > 0xffff_ffff {
         return None;
     }
@@ -97,17 +59,17 @@ fn word(text: &[u8]) -> Read<'_, u32>
 fn expect(index: u8, text: &[u8]) -> Option<Expect>
     ensures { result ≡ read_expect index text.now }
 {
-    if is_all(text, b"-") {
+    if is_word(text, b"-") {
         Some(Expect::Nothing)
-    } else if is_all(text, b"R1") {
+    } else if is_word(text, b"R1") {
         Some(Expect::R1(index))
-    } else if is_all(text, b"R2") {
+    } else if is_word(text, b"R2") {
         Some(Expect::R2)
-    } else if is_all(text, b"R3") {
+    } else if is_word(text, b"R3") {
         Some(Expect::R3)
-    } else if is_all(text, b"R6") {
+    } else if is_word(text, b"R6") {
         Some(Expect::R6)
-    } else if is_all(text, b"R7") {
+    } else if is_word(text, b"R7") {
         Some(Expect::R7)
     } else {
         None
@@ -169,7 +131,7 @@ fn register(text: &[u8]) -> Option<Request>
 pub fn is_last(text: &[u8]) -> bool
     ensures { result ≡ is_last text.now }
 {
-    is_all(text, b"done") || after(text, b"fault ").is_some()
+    is_word(text, b"done") || after(text, b"fault ").is_some()
 }
 
 /// What the first line of a request says, if it is one.
@@ -192,7 +154,7 @@ pub fn request_in(text: &[u8]) -> Option<Request>
     if let Some(rest) = after(text, b"REG ") {
         return register(rest);
     }
-    if is_all(text, b"WAIT") {
+    if is_word(text, b"WAIT") {
         return Some(Request::Wait);
     }
     None

@@ -8,10 +8,9 @@ ghost use Rattle.sdv_lines.specs.Streams.{IsNew, LineSteps, TellsEnd, streams_of
 use crate::ask;
 use crate::fault::LineFault;
 use crate::line::send;
-use crate::request::last_line;
 use sdv_card::{Answer, CardPort, DataEnd, WaitEnd};
 use sdv_frames::{Command, Expect, FrameFault};
-use sdv_trace::End;
+use sdv_trace::{End, end_line};
 use std::io::{Read, Write};
 
 /// A port that writes a request for each call, and reads its answer.
@@ -58,7 +57,7 @@ impl<R: Read, W: Write> LinePort<R, W> {
         if let Some(fault) = self.fault {
             return Err(fault);
         }
-        match send(&mut self.writer, last_line(end).as_slice()) {
+        match send(&mut self.writer, end_line(end).as_slice()) {
             Ok(()) => Ok(()),
             Err(fault) => {
                 self.fault = Some(fault);

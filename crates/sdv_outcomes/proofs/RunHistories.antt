@@ -64,7 +64,7 @@ shown_match (Some SendRelativeAddress) SeenTimeOut false code e =
     record { asks = refl; is_seen = refl; none = refl; fields = f.0; shown = f.1; state = f.2; matched = f.3 }
 shown_match o seen has_address code e = absurd (let f : false ≡ true = e in cc)
 
-match_is : (k : Kind) (event : ScriptEvent) (h : Host) (o : Outcome) (has_address : Bool) → (has_address ≡ false → h.rca ≡ 0) →
+pub match_is : (k : Kind) (event : ScriptEvent) (h : Host) (o : Outcome) (has_address : Bool) → (has_address ≡ false → h.rca ≡ 0) →
     is_impossible_match k (event_of event) o has_address ≡ true → IsImpossibleMatch k event h o
 match_is k (SendCommand ask position argument) h o has_address g e =
     let y : ShownMatch (order_of k ask) o.seen has_address o.shape.0 = shown_match (order_of k ask) o.seen has_address o.shape.0 e in

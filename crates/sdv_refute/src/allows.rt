@@ -1,7 +1,6 @@
 //! Whether what comes next is allowed at a card.
 
 ghost use Rattle.std.specs.Prelude.{◌≡◌};
-ghost use Rattle.sdv_card.specs.CommandTable.{addressed_blocks};
 ghost use Rattle.sdv_card.specs.LegalShapes.{legal_code};
 ghost use Rattle.sdv_run.specs.Standing.{host_of};
 ghost use Rattle.sdv_refute.specs.Allows.{in_bounds, is_tran, allows};
@@ -9,7 +8,7 @@ ghost use Rattle.sdv_refute.specs.Allows.{in_bounds, is_tran, allows};
 use crate::next::Next;
 use crate::sight::{Sight, fields_seen};
 use sdv_card::state_table::legal_by_rows;
-use sdv_card::{Ask, Event, Kind, Shape, State};
+use sdv_card::{Event, Kind, Shape, State};
 use sdv_emmc::EmmcTable;
 use sdv_run::HostState;
 use sdv_sd::SdTable;
@@ -24,19 +23,8 @@ fn is_legal(kind: Kind, shape: Shape, event: &Event) -> bool
     }
 }
 
-/// How many blocks a command addresses, from the address that is sent with it.
-fn addressed_blocks(ask: &Ask) -> Option<u64>
-    ensures { result ≡ addressed_blocks ask.now }
-{
-    match ask.index {
-        17 | 18 | 24 | 25 => Some(u64::from(ask.count)),
-        32 | 33 | 35 | 36 => Some(1),
-        _ => None,
-    }
-}
-
 /// The blocks are addressed in the card's unit, and the card has them.
-fn in_bounds(count: Option<u64>, position: u64, argument: u64, sight: &Sight) -> bool
+fn in_bounds(count: Option<u16>, position: u64, argument: u64, sight: &Sight) -> bool
     ensures { result ≡ in_bounds count position argument sight.now }
 {
     match count {
@@ -76,7 +64,7 @@ pub fn allows(next: &Next, host: &HostState, sight: &Sight) -> bool
             argument,
         } => {
             is_legal(host.kind, shape, &Event::Send(*ask))
-                && in_bounds(addressed_blocks(ask), *position, *argument, sight)
+                && in_bounds(ask.addressed_blocks(), *position, *argument, sight)
         }
         Next::Receive(_) => is_legal(host.kind, shape, &Event::RecvBlocks),
         Next::ReceiveRegister(_) => is_legal(host.kind, shape, &Event::RecvReg),

@@ -6,10 +6,10 @@ ghost use Rattle.sdv_graph.specs.Graph.{seen_action};
 ghost use Rattle.sdv_run.specs.Standing.{host_of};
 ghost use Rattle.sdv_refute.specs.Next.{next_of, send_at, phase_next};
 
-use sdv_card::Ask;
 use sdv_card::state_table::order;
+use sdv_card::{Ask, argument};
 use sdv_graph::{Action, Phase, ScriptCommand};
-use sdv_run::{HostState, argument};
+use sdv_run::HostState;
 
 /// What a script does next: an event, or `done`.
 #[derive(Clone, Copy, Debug, PartialEq, Eq)]

@@ -3,11 +3,7 @@ use Rattle.std.proofs.Common.{◌≡◌, ℕ, ◌<◌, ◌^◌, inl, inr, refl, 
 use Rattle.std.specs.Prelude.{◌&&◌, is_none, Result, Ok, Err}
 use Rattle.std.proofs.Math.Logic.{∥∥₁_map, ∥∥₁_elim}
 use Rattle.sdv_frames.specs.Bits.{bits_of}
-use Rattle.sdv_frames.specs.declared.reply.Expect.{Expect}
-use Rattle.sdv_frames.specs.declared.reply.Expect.TheVariants as expects
-use Rattle.sdv_frames.specs.declared.reply.Reply.{Reply}
 use Rattle.sdv_frames.specs.declared.reply.Reply.TheVariants.{R1, R2, R3, R6, R7}
-use Rattle.sdv_frames.specs.Frame.{Answers}
 use Rattle.sdv_registers.specs.declared.kind.Kind.{Kind}
 use Rattle.sdv_registers.specs.Csd.{fault}
 use Rattle.sdv_card.specs.declared.answer.Answer.{Answer}
@@ -17,8 +13,9 @@ use Rattle.sdv_card.specs.declared.command.Order.TheVariants.{SendCsd}
 use Rattle.sdv_card.specs.declared.event.Ask.{Ask}
 use Rattle.sdv_card.specs.Card.{Card}
 use Rattle.sdv_card.specs.CommandTable.{order_of, expect_of}
-use Rattle.sdv_card.specs.Expected.{AnswerExpected}
+use Rattle.sdv_card.specs.Expected.{is_of_kind}
 use Rattle.sdv_card.specs.Host.{Host, host_after_order}
+use Rattle.sdv_card.proofs.AnswerKinds.{of_kind}
 use Rattle.sdv_card.specs.Port.{Shows, Kept, KeepsTables}
 use Rattle.sdv_card.specs.ScriptEvent.{SendCommand, Answered}
 use Rattle.sdv_card.specs.Step.{Step}
@@ -37,35 +34,13 @@ use Rattle.sdv_facts.proofs.StepLaws.{Laws, laws_of, honest_after}
 use Rattle.sdv_trace.specs.declared.end.End.{End}
 use Rattle.sdv_run.specs.declared.fault.RunFault.{RunFault}
 use Rattle.sdv_run.specs.declared.fault.RunFault.TheVariants as faults
-use Rattle.sdv_run.specs.Answers.{is_of_kind, has_readable_csd, is_taken}
+use Rattle.sdv_run.specs.Answers.{has_readable_csd, is_taken}
 use Rattle.sdv_run.specs.Run.{Steps, RunMoved, ending_of}
 use Rattle.sdv_run.specs.Step.{World}
 use Rattle.sdv_run.specs.Ran.{Because, Ran}
 use Rattle.sdv_run.specs.OnCard.{ShowsStart, OnCard, RanBeside}
 
 -- ANSWERS OF A CARD are taken
-
-reply_of_kind : (expect : Expect) (reply : Reply) → Answers expect reply → is_of_kind expect (answers.Reply reply) ≡ true
-reply_of_kind (expects.R1 wanted) (R1 index status) e = eq-eqb index wanted e
-reply_of_kind expects.R2 (R2 register) e = refl
-reply_of_kind expects.R3 (R3 ocr) e = refl
-reply_of_kind expects.R6 (R6 word) e = refl
-reply_of_kind expects.R7 (R7 word) e = refl
-reply_of_kind expect reply e = absurd e
-
-of_kind : (expect : Expect) (answer : Answer) → AnswerExpected expect answer → is_of_kind expect answer ≡ true
-of_kind expects.Nothing answers.Sent e = refl
-of_kind (expects.R1 i) answers.TimeOut e = refl
-of_kind expects.R2 answers.TimeOut e = refl
-of_kind expects.R3 answers.TimeOut e = refl
-of_kind expects.R6 answers.TimeOut e = refl
-of_kind expects.R7 answers.TimeOut e = refl
-of_kind (expects.R1 i) (answers.Reply reply) e = reply_of_kind (expects.R1 i) reply e
-of_kind expects.R2 (answers.Reply reply) e = reply_of_kind expects.R2 reply e
-of_kind expects.R3 (answers.Reply reply) e = reply_of_kind expects.R3 reply e
-of_kind expects.R6 (answers.Reply reply) e = reply_of_kind expects.R6 reply e
-of_kind expects.R7 (answers.Reply reply) e = reply_of_kind expects.R7 reply e
-of_kind expect answer e = absurd e
 
 -- a CSD that the host holds can be read
 readable : (k : Kind) (o : Option Order) (answer : Answer) (h : Host) →

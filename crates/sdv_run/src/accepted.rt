@@ -35,6 +35,7 @@ pub fn run<P: CardPort, O: Write, T: Write>(
         (record { port = port.new; input = left; out = O.contents out.new; trace = T.contents trace.new }) result }
 {
     let graph = accepted.graph();
+    // Called for what it ensures of every graph: each run ends, and the loops are nested.
     let _ = graph.first();
     run_graph(alloc, graph, port, input, out, trace)
 }

@@ -7,11 +7,11 @@ ghost use Rattle.sdv_run.specs.Standing.{host_of};
 ghost use Rattle.sdv_run.specs.Asks.{AsksToSend, AsksFor, FitsRoom};
 ghost use Rattle.sdv_run.specs.Moves.{IsInRange};
 
-use crate::answers::argument;
 use crate::fault::RunFault;
 use crate::host::HostState;
 use crate::next_event::NextEvent;
 use crate::standing::Standing;
+use sdv_card::argument;
 use sdv_card::state_table::order;
 use sdv_graph::{Action, Phase, ScriptCommand};
 

@@ -23,7 +23,6 @@ mod taking;
 mod values;
 
 pub use accepted::run;
-pub use answers::argument;
 pub use fault::RunFault;
 pub use graph_run::{buffer_of, run_graph};
 pub use host::HostState;

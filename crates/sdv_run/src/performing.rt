@@ -9,12 +9,11 @@ ghost use Rattle.sdv_card.specs.ScriptEvent.{Answered, BlocksIn, RegisterIn};
 ghost use Rattle.sdv_run.specs.Asks.{CanPerform};
 ghost use Rattle.sdv_run.specs.Performs.{Gives, Performs};
 
-use crate::answers::expect;
 use crate::fault::RunFault;
 use crate::next_event::NextEvent;
 use crate::returned::Returned;
 use sdv_card::state_table::order;
-use sdv_card::{Answer, Ask, CardPort, DataEnd, Kind, Width};
+use sdv_card::{Answer, Ask, CardPort, DataEnd, Kind, Width, expect};
 use sdv_frames::Command;
 
 /// Sends a command, and waits for its response if it has one.

@@ -7,14 +7,13 @@ ghost use Rattle.sdv_run.specs.Standing.{host_of, stand_of};
 ghost use Rattle.sdv_run.specs.Moves.{IsNarrow};
 ghost use Rattle.sdv_run.specs.Takes.{Hears, TakesPhase, Took, IsLedTo, IsEvent};
 
-use crate::answers::{expect, is_of_kind};
 use crate::fault::RunFault;
 use crate::guards::way;
 use crate::host::HostState;
 use crate::returned::Returned;
 use crate::standing::Standing;
 use sdv_card::state_table::order;
-use sdv_card::{Answer, Ask, DataEnd, WaitEnd};
+use sdv_card::{Answer, Ask, DataEnd, WaitEnd, expect};
 use sdv_graph::{Action, Phase};
 
 /// Takes in what came of a command.
@@ -27,7 +26,7 @@ fn take_answer(host: &mut HostState, ask: &Ask, answer: &Answer) -> Result<(), R
     ensures kind { host.new.kind ≡ host.old.kind }
 {
     let order = order(host.kind, ask);
-    if !is_of_kind(expect(order, ask.index), answer) {
+    if !answer.is_of_kind(expect(order, ask.index)) {
         return Err(RunFault::Reply);
     }
     host.hear(order, answer).map_err(|_| RunFault::Reply)

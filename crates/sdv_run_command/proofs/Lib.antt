@@ -2,4 +2,3 @@ pub mod RunMaps
 pub mod TakenLaws
 pub mod RunLaws
 pub mod GivenLaws
-pub mod NewImageLaws

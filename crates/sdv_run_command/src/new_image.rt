@@ -28,10 +28,8 @@ impl NewImage {
         ensures zeros { IfOk result (λ image. blocks_of_new image ≡ Some (zeros blocks)) }
         ensures refused { IfErr result (λ fault. fault ≡ SimFault.Memory) }
     {
-        match vec![in alloc; 0; blocks as usize * 512] {
-            Ok(zeros) => Ok(NewImage {
-                blocks: MemImage::from_bytes(zeros)?,
-            }),
+        match MemImage::of_zeros(alloc, blocks) {
+            Ok(blocks) => Ok(NewImage { blocks }),
             Err(_) => Err(SimFault::Memory),
         }
     }

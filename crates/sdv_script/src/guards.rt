@@ -1,7 +1,6 @@
 //! Guards of the cases of a command.
 
 ghost use Rattle.std.specs.Prelude.{◌≡◌, []};
-ghost use Rattle.sdv_card.specs.Guards.{guard_fits, has_status, has_ocr};
 ghost use Rattle.sdv_script.specs.Commands.{fits_order};
 ghost use Rattle.sdv_script.specs.Place.{Takes, tokens_at};
 ghost use Rattle.sdv_script.specs.Tokens.{tokens};
@@ -136,44 +135,7 @@ fn suits(guard: Guard, order: Option<Order>) -> bool
     ensures { result ≡ fits_order guard order }
 {
     match order {
-        Some(order) => fits(guard, order),
+        Some(order) => guard.fits(order),
         None => false,
     }
-}
-
-fn fits(guard: Guard, order: Order) -> bool
-    ensures { result ≡ guard_fits guard order }
-{
-    match guard {
-        Guard::Timeout | Guard::Answer => true,
-        Guard::Clean | Guard::Ready | Guard::State(_) => is_status(order),
-        Guard::App => matches!(order, Order::AppCommand),
-        Guard::Echo => matches!(order, Order::SendIfCond),
-        Guard::OcrReady | Guard::OcrBlock => is_conditions(order),
-        Guard::Ok => false,
-    }
-}
-
-// The response is an R1 or an R6.
-fn is_status(order: Order) -> bool
-    ensures { result ≡ has_status order }
-{
-    !matches!(
-        order,
-        Order::GoIdleState
-            | Order::SendOpCond
-            | Order::AllSendCid
-            | Order::DeselectCards
-            | Order::SendIfCond
-            | Order::SendCsd
-            | Order::SendCid
-            | Order::SdSendOpCond { .. }
-    )
-}
-
-// The response is an R3.
-fn is_conditions(order: Order) -> bool
-    ensures { result ≡ has_ocr order }
-{
-    matches!(order, Order::SendOpCond | Order::SdSendOpCond { .. })
 }

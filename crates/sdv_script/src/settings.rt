@@ -1,7 +1,6 @@
 //! Data lines, and what commands with index 6 set.
 
 ghost use Rattle.std.specs.Prelude.{◌≡◌};
-ghost use Rattle.sdv_card.specs.Modes.{has_width};
 ghost use Rattle.sdv_script.specs.Place.{tokens_at};
 ghost use Rattle.sdv_script.specs.Commands.{width_with, partition_with, has_partitions, sd_argument, emmc_argument, setting_argument};
 ghost use Rattle.sdv_script.specs.Reading.{Gives, read_width, read_partition, read_setting};
@@ -10,6 +9,7 @@ use crate::cursor::Cursor;
 use crate::fault::{FaultKind, Stop};
 use crate::keyword::Keyword;
 use crate::token::Token;
+use sdv_card::state_table::has_width;
 use sdv_card::{Kind, Partition, Setting, Width};
 
 /// A number of data lines. What is wrong with a token that is no number is given.
@@ -116,16 +116,6 @@ fn partition_with(number: u64) -> Option<Partition>
         1 => Some(Partition::Boot1),
         2 => Some(Partition::Boot2),
         _ => None,
-    }
-}
-
-// Eight data lines are those of e.MMC alone.
-fn has_width(kind: Kind, width: Width) -> bool
-    ensures { result ≡ has_width kind width }
-{
-    match (kind, width) {
-        (Kind::Sd, Width::Eight) => false,
-        _ => true,
     }
 }
 

@@ -21,7 +21,8 @@ fn are_codes(codes: &[u8]) -> bool
     codes.iter().all(|code| Behavior::of_code(*code).is_some())
 }
 
-// The elements of a slice of bytes are bytes.
+// The elements of a slice of bytes are bytes. A contract knows the range of what is behind a reference once it is read:
+// called for this clause alone, as `registers_fit` is for its own.
 fn are_bytes(bytes: &[u8]) -> usize
     ensures count { result ≡ length bytes.now }
     ensures fit { All IsByte bytes.now }

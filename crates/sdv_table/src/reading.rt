@@ -278,7 +278,8 @@ fn cases_place(has_address: u32) -> usize
 
 fn send_row(small: u32, row: &[u32]) -> Row<'_>
     ensures { seen_row result ≡ sends (command_of small row.now)
-        (cases_of (cases_count row.now) (drop (cases_place (small / 128)) row.now)) (target_of (slice_index row.now 0)) }
+        (cases_of (cases_count row.now) (drop (cases_place (small / 128)) row.now))
+        (target_of (slice_index row.now 0)) }
 {
     let cases = CaseRows {
         count: (word(row, 2) / 16_777_216) as u16,

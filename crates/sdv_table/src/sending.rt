@@ -6,7 +6,7 @@ ghost use Rattle.sdv_table.specs.Row.{expect_code, data_code, source_code, sendi
 ghost use Rattle.sdv_table.specs.Sending.{data_or_nothing, source_or_own, sending_of};
 
 use sdv_card::state_table::order;
-use sdv_card::{Ask, Kind, Order};
+use sdv_card::{Ask, Kind, Order, argument, expect};
 use sdv_frames::Expect;
 
 /// What follows a command on the data lines, where the card takes the command.
@@ -51,38 +51,6 @@ pub struct Sending {
     pub expect: Expect,
     /// What follows on the data lines.
     pub follows: Data,
-}
-
-fn argument_at_zero(order: Option<Order>, argument: u32) -> u32
-    ensures { result ≡ argument_or_none order argument 0 0 }
-{
-    match order {
-        Some(Order::SendOpCond) => 0x40ff_8080,
-        Some(Order::SetRelativeAddress) => 0x0001_0000,
-        Some(Order::SendIfCond) => 0x0000_01aa,
-        Some(Order::SetBlockLength) => 512,
-        Some(Order::SetBlockCount { count }) => u32::from(count),
-        Some(
-            Order::Erase
-            | Order::SetBusWidth { .. }
-            | Order::Switch { .. }
-            | Order::SdSendOpCond { .. },
-        ) => argument,
-        _ => 0,
-    }
-}
-
-fn expect_of(order: Option<Order>, index: u8) -> Expect
-    ensures { result ≡ expect_or_nothing order index }
-{
-    match order {
-        None | Some(Order::GoIdleState | Order::DeselectCards) => Expect::Nothing,
-        Some(Order::AllSendCid | Order::SendCsd | Order::SendCid) => Expect::R2,
-        Some(Order::SendOpCond | Order::SdSendOpCond { .. }) => Expect::R3,
-        Some(Order::SendRelativeAddress) => Expect::R6,
-        Some(Order::SendIfCond) => Expect::R7,
-        Some(_) => Expect::R1(index),
-    }
 }
 
 fn data_of(order: Option<Order>) -> Data
@@ -133,8 +101,8 @@ pub(crate) fn sending_of(kind: Kind, ask: &Ask) -> Sending
     let order = order(kind, ask);
     Sending {
         source: source_of(order),
-        argument: argument_at_zero(order, ask.argument),
-        expect: expect_of(order, ask.index),
+        argument: argument(order, ask.argument, 0, 0) as u32,
+        expect: expect(order, ask.index),
         follows: data_of(order),
     }
 }

@@ -1,4 +1,5 @@
 pub mod Cards
 pub mod Guards
+pub mod Numbered
 pub mod Places
 pub mod Statements

@@ -15,7 +15,7 @@ use sdv_graph::{
 use std::alloc::AllocError;
 
 /// Adds the name in a place.
-fn put_name(text: &mut Text, names: &[&str], place: usize) -> Result<(), AllocError>
+pub fn put_name(text: &mut Text, names: &[&str], place: usize) -> Result<(), AllocError>
     ensures { OnOk result (text.new.items ≡ text.old.items ++ name_at (texts names.now) place) }
 {
     match names.get(place) {
@@ -208,7 +208,8 @@ pub fn put_statement(
     action: &Action<'_>,
     names: &Names<'_>,
 ) -> Result<(), AllocError>
-    ensures { OnOk result (text.new.items ≡ text.old.items ++ statement_words (declared_names names.now) (seen_action action.now)) }
+    ensures { OnOk result (text.new.items
+        ≡ text.old.items ++ statement_words (declared_names names.now) (seen_action action.now)) }
 {
     match action {
         Action::Send(command, _, _) => put_command(text, command, names),

@@ -1,5 +1,5 @@
 -- What a text begins with, and what follows: the parts of a text that is read from left to right.
-use Rattle.std.specs.Prelude.{ℕ, ◌+◌, ◌-◌, ◌*◌, List, [], ◌∷◌, length, Bool, ◌&&◌, ◌==◌, nat_le, take_while, Option, Some, None, if◌then◌else◌}
+use Rattle.std.specs.Prelude.{ℕ, ◌+◌, ◌-◌, ◌*◌, List, [], ◌∷◌, length, Bool, true, false, ◌&&◌, ◌==◌, nat_le, take_while, Option, Some, None, if◌then◌else◌}
 
 -- STEPS
 
@@ -20,6 +20,19 @@ abbrev pub after : List ℕ → List ℕ → Option (List ℕ)
 after [] bs = Some bs
 after (w ∷ ws) [] = None
 after (w ∷ ws) (b ∷ bs) = if b == w then after ws bs else None
+
+-- nothing follows
+abbrev pub is_end : List ℕ → Bool
+is_end [] = true
+is_end (b ∷ bs) = false
+
+abbrev pub ends : Option (List ℕ) → Bool
+ends None = false
+ends (Some rest) = is_end rest
+
+-- the text is this word
+abbrev pub is_word : (word text : List ℕ) → Bool
+is_word word text = ends (after word text)
 
 -- DIGITS
 

@@ -1,15 +1,17 @@
-//! Texts that go out whole, or in part where the writer fails, and numbers in words.
+//! Texts that go out whole, or in part where the writer fails, the fronts of texts, and numbers in words.
 //!
 //! `specs/Written.antt` says what a writer then holds. Whatever prints here, scripts, certificates, traces and the
 //! lines of the program, is said in its words. `specs/Fronts.antt` says what a text begins with, for the readers above,
 //! and `specs/Number.antt` what a number in words is.
 #![tactic(auto)]
 
+mod fronts;
 mod number;
 
 ghost use Rattle.std.specs.Prelude.{flat_map};
 ghost use Rattle.sdv_text.specs.Written.{Writes};
 
+pub use fronts::{after, capped_value, digits_len, is_word};
 pub use number::number_of;
 use std::io::{Error, ErrorKind, Write};
 

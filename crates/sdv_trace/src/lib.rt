@@ -8,6 +8,7 @@ mod lines;
 
 pub use end::End;
 pub use lines::{
-    LineBytes, TraceFault, put, put_decimal, put_word, write_all, write_blocks_in,
-    write_blocks_out, write_command, write_end, write_register, write_wait,
+    LineBytes, TraceFault, end_line, put, put_answer, put_command, put_decimal, put_word,
+    write_all, write_blocks_in, write_blocks_out, write_command, write_end, write_register,
+    write_wait,
 };

@@ -80,7 +80,8 @@ fn put_reply(line: &mut LineBytes, reply: &Reply)
     put_word(line, word);
 }
 
-fn put_answer(line: &mut LineBytes, answer: &Answer)
+/// Puts what came of a command.
+pub fn put_answer(line: &mut LineBytes, answer: &Answer)
     requires { array_vec_len line.old + 33 ≤ 96 }
     ensures items { line.new.items ≡ line.old.items ++ answer_text answer.now }
     ensures len { array_vec_len line.new ≤ array_vec_len line.old + 33 }
@@ -101,7 +102,7 @@ pub fn write_all<T: Write>(trace: &mut T, bytes: &[u8]) -> Result<(), TraceFault
 }
 
 /// Puts the command of an exchange, with its argument.
-fn put_command(line: &mut LineBytes, command: Command)
+pub fn put_command(line: &mut LineBytes, command: Command)
     requires { array_vec_len line.old + 33 ≤ 96 }
     ensures items { line.new.items ≡ line.old.items ++ command_text command }
     ensures len { array_vec_len line.new ≤ array_vec_len line.old + 33 }
@@ -183,7 +184,7 @@ pub fn write_wait<T: Write>(trace: &mut T, end: WaitEnd) -> Result<(), TraceFaul
 }
 
 /// The last line of a run that ended.
-fn end_line(end: &End) -> LineBytes
+pub fn end_line(end: &End) -> LineBytes
     ensures { result.items ≡ end_line end.now }
 {
     let mut line = LineBytes::new();

@@ -71,7 +71,8 @@ fn with_switch(
     presets: &[u16],
 )
     requires { array_vec_len all.old + 2 * length presets.now ≤ 4 }
-    ensures { all.new.items ≡ all.old.items ++ (with_presets (record card { mode = calm (set setting mode) }) presets.now ++
+    ensures { all.new.items ≡ all.old.items ++
+        (with_presets (record card { mode = calm (set setting mode) }) presets.now ++
         with_presets (record card { mode = failed mode }) presets.now) }
 {
     let set = Fields {

@@ -1,9 +1,9 @@
 //! What a row asks of each part of a card, and what it leaves there.
 
-ghost use Rattle.std.specs.Prelude.{◌≡◌, ◌≤◌, length};
+ghost use Rattle.std.specs.Prelude.{◌≡◌, ◌<◌, ◌≤◌, length};
 ghost use Rattle.sdv_card.specs.States.{is_open, own_target};
 ghost use Rattle.sdv_card.specs.RowRules.{erase_after, matched_stayed, counted, transfer_after, length_allows, erase_allows, preset_allows};
-ghost use Rattle.sdv_card.specs.Responses.{response_of};
+ghost use Rattle.sdv_card.specs.Responses.{response_of, row_index};
 
 use crate::command::{Response, Row};
 use crate::fields::Fields;
@@ -58,6 +58,40 @@ pub fn response(row: Row) -> Response
         Row::Cmd2 | Row::Cmd8Sd | Row::Cmd9 | Row::Cmd10 => Response::Contents,
         Row::Cmd1 | Row::Acmd41 { .. } => Response::Conditions,
         _ => Response::CardStatus,
+    }
+}
+
+/// The index of the command in a row that is answered with an R1, and of others.
+pub fn row_index(row: Row) -> u8
+    ensures index { result ≡ row_index row }
+    ensures small { result < 64 }
+{
+    match row {
+        Row::Cmd0 => 0,
+        Row::Cmd1 => 1,
+        Row::Cmd2 => 2,
+        Row::Cmd3Sd | Row::Cmd3Emmc => 3,
+        Row::Cmd6 { .. } | Row::Acmd6 { .. } => 6,
+        Row::Cmd7Addressed | Row::Cmd7NotAddressed => 7,
+        Row::Cmd8Sd | Row::Cmd8Emmc => 8,
+        Row::Cmd9 => 9,
+        Row::Cmd10 => 10,
+        Row::Cmd12 => 12,
+        Row::Cmd13 | Row::Acmd13 => 13,
+        Row::Cmd16 => 16,
+        Row::Cmd17 => 17,
+        Row::Cmd18 { .. } => 18,
+        Row::Cmd23 { .. } => 23,
+        Row::Cmd24 => 24,
+        Row::Cmd25 { .. } => 25,
+        Row::Cmd32 => 32,
+        Row::Cmd33 => 33,
+        Row::Cmd35 => 35,
+        Row::Cmd36 => 36,
+        Row::Cmd38 => 38,
+        Row::Acmd41 { .. } => 41,
+        Row::Acmd51 => 51,
+        Row::Cmd55 => 55,
     }
 }
 

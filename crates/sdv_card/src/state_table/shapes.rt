@@ -96,8 +96,8 @@ fn mode_fits(kind: Kind, mode: Mode) -> bool
     }
 }
 
-/// The kind has so many data lines.
-fn has_width(kind: Kind, width: Width) -> bool
+/// The kind has so many data lines: eight are those of e.MMC alone.
+pub fn has_width(kind: Kind, width: Width) -> bool
     ensures { result ≡ has_width kind width }
 {
     match (kind, width) {

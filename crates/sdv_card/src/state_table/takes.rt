@@ -1,9 +1,19 @@
 //! How a card takes an order, by its application flag and the address that it is sent to.
 
 ghost use Rattle.std.specs.Prelude.{◌≡◌};
-ghost use Rattle.sdv_card.specs.Takes.{taken_as_of};
+ghost use Rattle.sdv_card.specs.Takes.{matches, taken_as_of};
 
 use crate::command::{Order, Row, TakenAs};
+
+/// The card has no relative address, or this one.
+pub fn matches(rca: Option<u16>, address: u16) -> bool
+    ensures { result ≡ matches rca address }
+{
+    match rca {
+        None => true,
+        Some(rca) => rca == address,
+    }
+}
 
 /// How a card with this application flag takes an order that has its relative card address or not.
 pub fn taken_as(order: Order, app: bool, matched: bool) -> TakenAs

@@ -10,31 +10,13 @@ use hex::FromHex;
 use sdv_card::Shape;
 use sdv_facts::{VarFacts, Version};
 use sdv_graph::MAX_NUMBER;
-
-fn digits_len(text: &[u8]) -> usize
-    ensures { result ≡ run is_digit text.now }
-{
-    text.iter()
-        .take_while(|byte| matches!(**byte, b'0'..=b'9'))
-        .count()
-}
+use sdv_text::{capped_value, digits_len};
 
 // Digits without leading zeros.
 fn is_plain(digits: &[u8]) -> bool
     ensures { result ≡ is_plain digits.now }
 {
     !digits.is_empty() && (digits[0] != b'0' || digits.len() == 1)
-}
-
-// What digits spell, or 2^40 + 1 where that is more.
-fn capped_value(digits: &[u8]) -> u64
-    ensures { result ≡ min (number_after 0 digits.now) (2 ^ 40 + 1) }
-{
-    let mut value = 0;
-    for digit in digits {
-        value = (value * 10 + u64::from(digit.saturating_sub(b'0'))).min(MAX_NUMBER + 1);
-    }
-    value
 }
 
 /// A number behind a space.
@@ -47,7 +29,7 @@ pub fn number(at: &mut TextCursor<'_>) -> Result<u64, CertFault>
     if !is_plain(digits) || !ends_item(rest) {
         return Err(CertFault::Syntax { line: at.line });
     }
-    let value = capped_value(digits);
+    let value = capped_value(digits, MAX_NUMBER + 1);
     if value > MAX_NUMBER {
         return Err(CertFault::Limit);
     }

@@ -1,6 +1,7 @@
 use Rattle.std.proofs.Common.{◌≡◌, ℕ, ◌+◌, ◌-◌, ◌++◌, length, take, drop, OnOk, ap, ◌∙◌, subst}
 use Rattle.std.proofs.lemmas.List.{take_rest}
-use Rattle.sdv_emit.specs.CText.{Text, word_lines, numbered, point_line, rows_text}
+use Rattle.sdv_emit.specs.CText.{Text, word_lines, point_line, rows_text}
+use Rattle.sdv_telling.specs.Numbered.{numbered}
 use Rattle.sdv_emit.proofs.Pieces.{three_pieces}
 use Rattle.sdv_emit.proofs.array.put_array.Goals as goal
 

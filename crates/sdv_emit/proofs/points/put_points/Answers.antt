@@ -2,7 +2,7 @@ use Rattle.std.proofs.Common.{◌≡◌, ℕ, ◌+◌, List, ◌++◌, slice_ind
 use Rattle.sdv_graph.specs.Graph.{seen_action, seen_point}
 use Rattle.sdv_graph.specs.Tree.{Declared}
 use Rattle.sdv_emit.specs.CText.{Text, point_line, point_words, head_line}
-use Rattle.sdv_emit.proofs.NumberedLaws.{line_added}
+use Rattle.sdv_telling.proofs.NumberedLaws.{line_added}
 use Rattle.sdv_emit.proofs.points.put_points.Goals as goal
 
 pub loop-number-preserved : goal.loop-number-preserved

@@ -1,5 +1,6 @@
 use Rattle.std.proofs.Common.{◌≡◌, ◌++◌, drop}
-use Rattle.sdv_emit.specs.CText.{numbered, point_line}
+use Rattle.sdv_emit.specs.CText.{point_line}
+use Rattle.sdv_telling.specs.Numbered.{numbered}
 use Rattle.sdv_emit.proofs.points.put_points.Given as goal
 
 -- what is written, and what is still to be, are all

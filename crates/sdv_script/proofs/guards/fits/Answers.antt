@@ -1,5 +1,0 @@
-use Rattle.std.proofs.Common.{rules}
-use Rattle.sdv_script.proofs.guards.fits.Goals as goal
-
-pub returns-in-SendIfCond : goal.returns-in-SendIfCond
-returns-in-SendIfCond c = search rules
