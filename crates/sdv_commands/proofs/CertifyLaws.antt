@@ -9,7 +9,7 @@ use Rattle.sdv_script.specs.Tree.{Statements, Declared}
 use Rattle.sdv_script.specs.Shown.{shown}
 use Rattle.sdv_script.proofs.ScriptLaws.{one_tree_lem}
 use Rattle.sdv_facts.specs.Facts.{Certificate}
-use Rattle.sdv_facts.specs.CertificateText.{text_of, WithinLimits}
+use Rattle.sdv_facts.specs.CertificateText.{WithinLimits}
 use Rattle.sdv_check.specs.Verified.{IsGraphOfText}
 use Rattle.sdv_certify.specs.Assembled.{CertificateOf, VersionFor, ClosedFor, RefusedFor}
 use Rattle.sdv_certify.specs.declared.fault.CertifyFault.{CertifyFault}

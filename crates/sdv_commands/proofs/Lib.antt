@@ -6,3 +6,4 @@ mod EndsLaws
 mod FrameTextLaws
 mod ReportLaws
 mod ScriptFaultLaws
+mod VerdictLaws
