@@ -91,10 +91,21 @@ _sdv() {
         -*) _sdv_words "$word" "--json" ;;
         *:0) _sdv_files "$word" '*.sdv' ;;
         esac ;;
+    explain:*)
+        case $word:$place in
+        -*) _sdv_words "$word" "--why" ;;
+        *:0) _sdv_files "$word" '*.sdv' ;;
+        *:1) _sdv_files "$word" '*.cert' ;;
+        esac ;;
+    graph:*)
+        case $word:$place in
+        -*) _sdv_words "$word" "--no-faults" ;;
+        *:0) _sdv_files "$word" '*.sdv' ;;
+        esac ;;
     describe:0) _sdv_files "$word" '*.card' ;;
     batch:0) _sdv_words "$word" "sd emmc" ;;
     check:1) _sdv_files "$word" '*.cert' ;;
-    certify:0 | check:0 | explain:0 | graph:0 | print:0) _sdv_files "$word" '*.sdv' ;;
+    certify:0 | check:0 | print:0) _sdv_files "$word" '*.sdv' ;;
     esac
 }
 complete -F _sdv sdv

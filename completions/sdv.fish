@@ -43,7 +43,7 @@ complete -c sdv -n "not __fish_seen_subcommand_from $commands" -a card -d "Answe
 complete -c sdv -n "not __fish_seen_subcommand_from $commands" -a review -d "What an accepted script leaves open for the data"
 
 complete -c sdv -n "__sdv_at 0 certify check run explain graph print emit drive review" -k -a "(__fish_complete_suffix .sdv)"
-complete -c sdv -n "__sdv_at 1 check run emit drive" -k -a "(__fish_complete_suffix .cert)"
+complete -c sdv -n "__sdv_at 1 check run emit drive explain" -k -a "(__fish_complete_suffix .cert)"
 complete -c sdv -n "__sdv_at 2 run" -k -a "(__fish_complete_suffix .card)"
 complete -c sdv -n "__sdv_at 3 run" -F -a "new:" -d "An image of zeros: new:BLOCKS"
 complete -c sdv -n "__sdv_at 4 run" -F -d "Schedule"
@@ -56,6 +56,8 @@ complete -c sdv -n "__fish_seen_subcommand_from emit" -l binary -r -F -d "The fi
 complete -c sdv -n "__fish_seen_subcommand_from audit" -l json -d "Print JSON"
 complete -c sdv -n "__fish_seen_subcommand_from audit" -l annotate -d "Print each line of the trace too"
 complete -c sdv -n "__fish_seen_subcommand_from review" -l json -d "Print JSON"
+complete -c sdv -n "__fish_seen_subcommand_from explain" -l why -d "Print only why it is refused"
+complete -c sdv -n "__fish_seen_subcommand_from graph" -l no-faults -d "Leave out the statements that end in a fault"
 complete -c sdv -n "__sdv_at 1 audit" -k -a "(__fish_complete_suffix .trace)"
 complete -c sdv -n "__sdv_at 0 describe card" -k -a "(__fish_complete_suffix .card)"
 complete -c sdv -n "__sdv_at 0 batch audit" -a "sd emmc"

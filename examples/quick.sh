@@ -17,7 +17,7 @@ words() {
     : > "$cases/$1"
     printf '%s\n' "$2" $3 > "$cases/$1.args"
 }
-words 1 explain "refused_block_address.sdv"
+words 1 explain "--why refused_block_address.sdv"
 words 2 check "sd_bring_up.sdv sd_bring_up.cert"
 words 3 run "sd_bring_up.sdv sd_bring_up.cert sd_block.card new:1024"
 
@@ -38,7 +38,7 @@ part 3 | grep -q '^done$' || { cat "$cases/said"; exit 1; }
 
 echo
 echo "A read of block 8 by its number, whatever unit the card's addresses have, is refused:"
-echo "  sdv explain examples/refused_block_address.sdv"
+echo "  sdv explain --why examples/refused_block_address.sdv"
 part 1 | sed -n '/^refused/,$p' | sed '$d; s/^/    /'
 echo
 echo "The bring-up of an SD card is accepted: no run of it sends more than 2,007 commands."

@@ -34,7 +34,7 @@ A text that is no trace, a kind that is none, a file that cannot be used, and an
   trace fault Index line 2
   [1]
   $ sdv audit mmc a.trace 2> said; echo $? $(cut -c 1-26 said)
-  2 usage: sdv frame INDEX ARG
+  2 usage: mmc is no KIND: sdv
   $ sdv audit sd none.trace
   cannot use none.trace
   [2]

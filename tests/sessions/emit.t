@@ -32,9 +32,9 @@ A name that could end the comment does not.
 Why there is none; nothing is printed, and no file is made, then.
 
   $ sdv emit a.sdv a.cert while 2>&1 | cut -c 1-18
-  usage: sdv frame I
+  usage: a word does
   $ sdv emit a.sdv a.cert 2b --binary c.bin 2>&1 > c.c | cut -c 1-18
-  usage: sdv frame I
+  usage: a word does
   $ sdv emit a.sdv $EXAMPLES/sd_bring_up.cert table --binary c.bin > c.c
   refused Points
   [1]

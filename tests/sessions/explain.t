@@ -97,3 +97,49 @@ What is no script.
   $ sdv explain missing.sdv
   cannot use missing.sdv
   [2]
+
+Why the checker refuses a certificate, or that it does not.
+
+  $ up=$EXAMPLES/sd_bring_up.sdv cert=$EXAMPLES/sd_bring_up.cert
+  $ sdv explain $up $cert
+  accepted 2007
+  $ sdv explain a.sdv $cert
+  this certificate has 23 points and the script 2: it is of another script
+  refused Points
+  [1]
+  $ sed 's/^p 0 b 2007/p 0 b 2006/' $cert | sdv explain $up -
+  line 5, point 0: CMD0: the certificate does not count a command that may be sent from here on
+  refused Bound point 0
+  [1]
+  $ sed 's/^p 22/p 21/' $cert | sdv explain $up -
+  line 25 is not of the form of a certificate
+  certificate fault Syntax line 25
+  [1]
+  $ sed 's/sdv-cert 1/sdv-cert 3/' $cert > other.cert; sdv explain $up other.cert; sdv check $up other.cert
+  line 1 is not that of a certificate, `sdv-cert 1` or `sdv-cert 2`
+  certificate fault Header
+  certificate fault Header
+  [1]
+  $ sdv explain $cert $cert
+  line 1
+      sdv-cert 1
+      ^
+  found: `sdv`, a name
+  can stand here: `card`
+  script fault Syntax line 1
+  [1]
+  $ sdv explain $up missing.cert
+  cannot use missing.cert
+  [2]
+  $ sdv explain $up $cert > /dev/full
+  [2]
+
+The reason alone.
+
+  $ sdv explain $EXAMPLES/refused_unlike_lines.sdv --why > why; sdv explain $EXAMPLES/refused_unlike_lines.sdv 2> said | head -n $(wc -l < why) | cmp - why; head -n 4 why
+  refused Illegal point 27 shape 0000000000102815
+  refused Illegal point 27 shape 0000000000102815
+  line 16, point 27: recv, if the card is
+      data, a read is due, the card on 4 data lines and the host on 1 data line: byte addresses, block length 512
+  why: the card uses 4 data lines, and the host 1 data line
+  $ sdv explain --why $up

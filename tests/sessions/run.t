@@ -100,3 +100,39 @@ The longest script.
   CMD0 00000000 -
   fault stop
   [1]
+
+An output that is one of the other files, by its name or by links, loses nothing.
+
+  $ cp $up up.sdv; cp $cert up.cert; cp $card up.card; head -c 524288 /dev/zero > up.img; echo 000 > up.schedule; head -c 512 /dev/zero > up.in
+  $ ln -s up.sdv link; ln up.cert hard
+  $ for out in up.sdv ./up.cert up.card up.img up.schedule up.in link hard; do
+  >     sdv run up.sdv up.cert up.card up.img up.schedule --in up.in --out $out; echo $?
+  > done
+  cannot use up.sdv
+  2
+  cannot use ./up.cert
+  2
+  cannot use up.card
+  2
+  cannot use up.img
+  2
+  cannot use up.schedule
+  2
+  cannot use up.in
+  2
+  cannot use link
+  2
+  cannot use hard
+  2
+  $ cmp up.sdv $up && cmp up.cert $cert && cmp up.card $card && wc -c < up.img && cat up.schedule && wc -c < up.in
+  524288
+  000
+  512
+  $ sdv run missing.sdv up.cert up.card up.img --out up.cert
+  cannot use up.cert
+  [2]
+  $ sdv run up.sdv up.cert up.card new:1024 --out new:1024 | tail -n 1; wc -c < new:1024
+  done
+  0
+  $ sdv run up.sdv up.cert up.card new:1024 --in /dev/null --out /dev/null | tail -n 1
+  done

@@ -1,11 +1,11 @@
 Words that are no line of the program.
 
   $ sdv 2>&1 | cut -c 1-26
-  usage: sdv frame INDEX ARG
+  usage: a command is missin
   $ for words in "" frame "frame 0" "frame 0 0 0" "frames 0 0" "0 0" "-- frame 0 0" "frame 64 0" "frame 0 4294967296" \
   >     "frame 0 0x100000000" "frame 0x 0" "frame 0X1 0" "frame +1 0" "frame 1f 0" certify "certify a b" "certifies a" \
   >     "run a b c" "run a b c d e f" "run a b c d --out" "run a b c d --out e --out f" "run a b c d --in e --in f" "batch sd" \
-  >     "batch mmc read" help "--help frame" "frame -h" graph "--help --help" "frame --help" --versions; do
+  >     "batch mmc read" help "--help frame" "frame 0 -h" graph "--help --help" "frame 0 --help" --versions; do
   >     sdv $words > out 2> said; echo "$? $(cut -c 1-6 said) $(wc -c < out) ($words)"
   > done
   2 usage: 0 ()
@@ -34,15 +34,57 @@ Words that are no line of the program.
   2 usage: 0 (batch mmc read)
   2 usage: 0 (help)
   2 usage: 0 (--help frame)
-  2 usage: 0 (frame -h)
+  2 usage: 0 (frame 0 -h)
   2 usage: 0 (graph)
   2 usage: 0 (--help --help)
-  2 usage: 0 (frame --help)
+  2 usage: 0 (frame 0 --help)
   2 usage: 0 (--versions)
   $ sdv frame "" 0 2>&1 | cut -c 1-6; sdv batch sd "read 0" 2>&1 | cut -c 1-6; sdv batch sd "erase 0 1" 2>&1 | cut -c 1-6
   usage:
   usage:
   usage:
+
+Which word is wrong.
+
+  $ for words in "" frames "frame 0" "frame 0 0 0" "run a b c" "run a b c d --out" "run a b c d --ot e" "graph --no-fault a" \
+  >     "batch mmc read" "frame 64 0"; do
+  >     sdv $words
+  > done
+  usage: a command is missing; sdv --help lists them
+  usage: frames is no command; sdv --help lists them
+  usage: ARG is missing: sdv frame INDEX ARG
+  usage: 0 is one word too many: sdv frame INDEX ARG
+  usage: IMAGE is missing: sdv run SCRIPT CERT CARD IMAGE [SCHEDULE] [--in FILE] [--out FILE]
+  usage: --out needs FILE: sdv run SCRIPT CERT CARD IMAGE [SCHEDULE] [--in FILE] [--out FILE]
+  usage: --ot is no option: sdv run SCRIPT CERT CARD IMAGE [SCHEDULE] [--in FILE] [--out FILE]
+  usage: --no-fault is no option: sdv graph SCRIPT [--no-faults]
+  usage: mmc is no KIND: sdv batch KIND REQUESTS
+  usage: a word does not fit: sdv frame INDEX ARG
+  [2]
+
+The page of a command.
+
+  $ sdv run --help
+  sdv run SCRIPT CERT CARD IMAGE [SCHEDULE] [--in FILE] [--out FILE]
+      runs the script beside a simulated card
+      SCRIPT: a file with a script
+      CERT: a file with a certificate
+      CARD: a file with the description of a card
+      IMAGE: a file with the blocks of the card, or new: and a number of blocks of zeros
+      SCHEDULE: a file with a digit from 0 to 7 for each event: what the card does there
+      --in FILE: the blocks that the script gives, a whole number of them
+      --out FILE: the file that takes the blocks that the script receives
+  $ sdv explain -h
+  sdv explain SCRIPT [CERT] [--why]
+      prints what is known at each statement, and why the script or the certificate is refused
+      SCRIPT: a file with a script
+      CERT: a file with a certificate
+      --why: prints only why the script is refused
+  $ sdv rum --help
+  usage: rum is no command; sdv --help lists them
+  [2]
+  $ sdv run --help > /dev/full
+  [2]
 
 A line of one word.
 

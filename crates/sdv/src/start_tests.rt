@@ -31,12 +31,19 @@ fn owned<R: AllocGlobal + Abort>(rt: &R, words: &[&str]) -> Vec<String> {
     all
 }
 
+const MISSING: &str = "usage: a command is missing; sdv --help lists them\n";
+
 // Words of a process, and the status, what is printed, and what is said.
 static STARTS: [(&[&str], u8, &str, &str); 5] = [
     (&["sdv", "frame", "0", "0"], 0, "40 00 00 00 00 95\n", ""),
-    (&["frame", "0", "0"], 2, "", USAGE),
-    (&["sdv"], 2, "", USAGE),
-    (&[], 2, "", USAGE),
+    (
+        &["frame", "0", "0"],
+        2,
+        "",
+        "usage: 0 is no command; sdv --help lists them\n",
+    ),
+    (&["sdv"], 2, "", MISSING),
+    (&[], 2, "", MISSING),
     (
         &["sdv", "certify", "started.sdv"],
         1,

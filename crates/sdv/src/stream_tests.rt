@@ -51,6 +51,10 @@ impl Store for Pair {
 
     ghost opened = { λ _. any_sink };
 
+    fn is_same(&self, a: &str, b: &str) -> bool {
+        a == b
+    }
+
     fn bytes_of(&self, alloc: Global, file: &str) -> Result<Option<Vec<u8>>, AllocError> {
         let text = if file == "script" {
             SMALLEST

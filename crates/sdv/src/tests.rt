@@ -2,7 +2,7 @@
 use crate::testing::{USAGE, same};
 use sdv_command_line::{HELP, Request, RequestFault, request_of};
 use sdv_commands::frame::{command_of, print_frame};
-use sdv_commands::page::{VERSION, page_of};
+use sdv_commands::page::{Page, VERSION, page_of, print_page};
 use sdv_faults::Fault;
 use sdv_files::print_text;
 use sdv_frames::Command;
@@ -67,10 +67,17 @@ fn names_faults(rt: HostRuntime) {
     }
 }
 
+const PRINT_PAGE: &str =
+    "sdv print SCRIPT\n    prints the tokens of a script\n    SCRIPT: a file with a script\n";
+
 #[test]
 fn finds_pages(rt: HostRuntime) {
-    same(&rt, &page_of(&["--help"]), &Some(HELP));
-    same(&rt, &page_of(&["certify", "--help"]), &None);
+    assert!(rt; matches!(page_of(&["--help"]), Some(Page::Text(page)) if page == HELP));
+    assert!(rt; page_of(&["certify", "a", "--help"]).is_none());
+    let page = page_of(&["print", "--help"]).expect(&rt, "a page");
+    let mut out = Vec::new(rt.alloc());
+    assert!(rt; print_page(rt.alloc(), page, &mut out).is_ok());
+    assert!(rt; out.as_slice() == PRINT_PAGE.as_bytes());
     let mut out = Vec::new(rt.alloc());
     assert!(rt; print_text(VERSION.as_bytes(), &mut out).is_ok());
     assert!(rt; out.as_slice() == VERSION.as_bytes());

@@ -11,8 +11,8 @@ use Rattle.clap.specs.Faults.{entered_fault, level_fault}
 use Rattle.clap.specs.Words.{App, app_of, HasKind, Kinds, Row, Shape, Text, built, fault_of, first_of, is_simple, is_simple_and_free, kind_of, matches_of, subcommand_of, takes}
 use Rattle.clap.specs.declared.error.Error.{Error}
 use Rattle.clap.specs.declared.error.kind.ErrorKind.TheVariants.{OutOfMemory}
-use Rattle.sdv_command_line.specs.Commands.{Command, Word, of_emit, of_run, of_script, of_script_and_certificate, required, optional, with_value, flag, of_audit, of_card, of_drive, of_served_card, of_review}
-use Rattle.sdv_command_line.specs.Requests.{Request, by_emit_words, by_run_words, by_script, by_two_words, run, frame, certify, check, batch, emit, explain, graph, print, request_in, seen, by_audit_words, by_card, by_card_words, by_drive_words, is_set, audit, describe, drive, serve, review}
+use Rattle.sdv_command_line.specs.Commands.{Command, Word, of_emit, of_run, of_script, of_script_and_certificate, of_explain, of_graph, required, optional, with_value, flag, of_audit, of_card, of_drive, of_served_card, of_review}
+use Rattle.sdv_command_line.specs.Requests.{Request, by_emit_words, by_run_words, by_script, by_two_words, run, frame, certify, check, batch, emit, explain, graph, print, request_in, seen, by_audit_words, by_card, by_card_words, by_drive_words, by_explain_words, by_graph_words, is_set, audit, describe, drive, serve, review}
 use Rattle.sdv_command_line.specs.CommandLine.{app_for, command_line, meaning_of, request_without, rule_for, with_word}
 use Rattle.sdv_command_line.specs.declared.request.Request.{Request as CodeRequest}
 use Rattle.sdv_command_line.specs.declared.request.RequestFault.{RequestFault}
@@ -173,6 +173,13 @@ audit_given rows kind trace =
     (λ kind trace. audit (record { kind = kind; trace = trace; json = is_set (codes "json") rows; annotate = is_set (codes "annotate") rows }))
     rows kind trace
 
+explain_given : (rows : List Row) → is_some (first_of (codes "SCRIPT") rows) ≡ true → is_some (by_explain_words rows) ≡ true
+explain_given rows =
+    script_given (λ script. explain (record { script = script; certificate = first_of (codes "CERT") rows; why = is_set (codes "why") rows })) rows
+
+graph_given : (rows : List Row) → is_some (first_of (codes "SCRIPT") rows) ≡ true → is_some (by_graph_words rows) ≡ true
+graph_given rows = script_given (λ script. graph (record { script = script; no_faults = is_set (codes "no-faults") rows })) rows
+
 card_given : (request : Text → Request) (rows : List Row) → is_some (first_of (codes "CARD") rows) ≡ true → is_some (by_card request rows) ≡ true
 card_given request rows given = go (first_of (codes "CARD") rows) given
   where
@@ -223,11 +230,11 @@ batch_means words none =
 
 explain_means : Means (shape 5)
 explain_means words none =
-    script_given explain (rows_at (shape 5) words).1 ((leaf_required (shape 5) words (one_word 1 of_script) none).0 refl)
+    explain_given (rows_at (shape 5) words).1 ((leaf_required (shape 5) words (one_word 1 of_explain) none).0 refl)
 
 graph_means : Means (shape 6)
 graph_means words none =
-    script_given graph (rows_at (shape 6) words).1 ((leaf_required (shape 6) words (one_word 1 of_script) none).0 refl)
+    graph_given (rows_at (shape 6) words).1 ((leaf_required (shape 6) words (one_word 1 of_graph) none).0 refl)
 
 print_means : Means (shape 7)
 print_means words none =

@@ -39,6 +39,12 @@ of_run =
     ∷ with_value (codes "out") (codes "FILE")
     ∷ []
 
+abbrev pub of_explain : List Word
+of_explain = required (codes "SCRIPT") ∷ optional (codes "CERT") ∷ flag (codes "why") ∷ []
+
+abbrev pub of_graph : List Word
+of_graph = required (codes "SCRIPT") ∷ flag (codes "no-faults") ∷ []
+
 abbrev pub of_emit : List Word
 of_emit =
     required (codes "SCRIPT") ∷ required (codes "CERT") ∷ required (codes "NAME")
@@ -73,8 +79,8 @@ commands =
     ∷ command (codes "check") of_script_and_certificate (codes "prints the most commands that a run of the script sends")
     ∷ command (codes "run") of_run (codes "runs the script beside a simulated card")
     ∷ command (codes "batch") (required (codes "KIND") ∷ required (codes "REQUESTS") ∷ []) (codes "prints a script that serves requests")
-    ∷ command (codes "explain") of_script (codes "prints what is known at each statement, and why the script is refused")
-    ∷ command (codes "graph") of_script (codes "prints the graph of a script in the language of Graphviz")
+    ∷ command (codes "explain") of_explain (codes "prints what is known at each statement, and why the script or the certificate is refused")
+    ∷ command (codes "graph") of_graph (codes "prints the graph of a script in the language of Graphviz")
     ∷ command (codes "print") of_script (codes "prints the tokens of a script")
     ∷ command (codes "emit") of_emit (codes "prints the table of a script in C")
     ∷ command (codes "audit") of_audit (codes "prints where the host or the card of a trace leaves the rules")

@@ -9,6 +9,8 @@ use Rattle.sdv_command_line.specs.declared.request.EmitWords.{EmitWords}
 use Rattle.sdv_command_line.specs.declared.request.AuditWords.{AuditWords}
 use Rattle.sdv_command_line.specs.declared.request.DriveFiles.{DriveFiles}
 use Rattle.sdv_command_line.specs.declared.request.CardFiles.{CardFiles}
+use Rattle.sdv_command_line.specs.declared.request.ExplainWords.{ExplainWords}
+use Rattle.sdv_command_line.specs.declared.request.GraphWords.{GraphWords}
 
 -- the files of a run, by their names
 pub record RunNames : Type 0 where
@@ -48,6 +50,17 @@ pub record CardNames : Type 0 where
   pub image : Text
   pub schedule : Option Text
 
+-- the files of a script and of a certificate, if it is asked about one, and whether the reason alone is wanted
+pub record ExplainNames : Type 0 where
+  pub script : Text
+  pub certificate : Option Text
+  pub why : Bool
+
+-- the file of a script, and whether its faults are left out
+pub record GraphNames : Type 0 where
+  pub script : Text
+  pub no_faults : Bool
+
 -- a command of the program, with the texts of its words
 pub data Request : Type 0 where
   frame : (index argument : Text) → Request
@@ -55,8 +68,8 @@ pub data Request : Type 0 where
   check : (script certificate : Text) → Request
   run : RunNames → Request
   batch : (kind requests : Text) → Request
-  explain : (script : Text) → Request
-  graph : (script : Text) → Request
+  explain : ExplainNames → Request
+  graph : GraphNames → Request
   print : (script : Text) → Request
   emit : EmitNames → Request
   audit : AuditNames → Request
@@ -142,6 +155,17 @@ by_card_words rows =
 abbrev pub by_review_words : List Row → Option Request
 by_review_words rows = by_script (λ script. review script (is_set (codes "json") rows)) rows
 
+abbrev pub by_explain_words : List Row → Option Request
+by_explain_words rows = by_script (λ script. explain (record {
+  script = script;
+  certificate = first_of (codes "CERT") rows;
+  why = is_set (codes "why") rows;
+})) rows
+
+abbrev pub by_graph_words : List Row → Option Request
+by_graph_words rows =
+    by_script (λ script. graph (record { script = script; no_faults = is_set (codes "no-faults") rows })) rows
+
 -- the request in a command's name and the rows of its words
 abbrev pub request_in : Text × List Row → Option Request
 request_in used =
@@ -150,8 +174,8 @@ request_in used =
     else if bytes_eq used.0 (codes "check") then by_two_words (codes "SCRIPT") (codes "CERT") check used.1
     else if bytes_eq used.0 (codes "run") then by_run_words used.1
     else if bytes_eq used.0 (codes "batch") then by_two_words (codes "KIND") (codes "REQUESTS") batch used.1
-    else if bytes_eq used.0 (codes "explain") then by_script explain used.1
-    else if bytes_eq used.0 (codes "graph") then by_script graph used.1
+    else if bytes_eq used.0 (codes "explain") then by_explain_words used.1
+    else if bytes_eq used.0 (codes "graph") then by_graph_words used.1
     else if bytes_eq used.0 (codes "print") then by_script print used.1
     else if bytes_eq used.0 (codes "emit") then by_emit_words used.1
     else if bytes_eq used.0 (codes "audit") then by_audit_words used.1
@@ -202,14 +226,24 @@ card_names_of files = record {
   schedule = option_map (λ file. file.now) files.schedule;
 }
 
+abbrev pub explain_names_of : ExplainWords → ExplainNames
+explain_names_of words = record {
+  script = words.script.now;
+  certificate = option_map (λ file. file.now) words.certificate;
+  why = words.why;
+}
+
+abbrev pub graph_names_of : GraphWords → GraphNames
+graph_names_of words = record { script = words.script.now; no_faults = words.no_faults }
+
 abbrev pub seen : CodeRequest → Request
 seen (Frame index argument) = frame index.now argument.now
 seen (Certify script) = certify script.now
 seen (Check script certificate) = check script.now certificate.now
 seen (Run files) = run (names_of files)
 seen (Batch kind requests) = batch kind.now requests.now
-seen (Explain script) = explain script.now
-seen (Graph script) = graph script.now
+seen (Explain words) = explain (explain_names_of words)
+seen (Graph words) = graph (graph_names_of words)
 seen (Print script) = print script.now
 seen (Emit words) = emit (emit_names_of words)
 seen (Audit words) = audit (audit_names_of words)

@@ -4,12 +4,16 @@
 #![tactic(auto)]
 
 mod clap_command;
+mod help_page;
+mod mistake;
 mod pages;
 mod request;
 mod table;
 
+pub use help_page::{command_named, command_page};
+pub use mistake::usage_line;
 pub use pages::{HELP, USAGE, help, usage};
 pub use request::{
-    AuditWords, CardFiles, DriveFiles, EmitWords, Request, RequestFault, RunFiles, request_of,
+    AuditWords, CardFiles, DriveFiles, EmitWords, ExplainWords, GraphWords, Request, RequestFault, RunFiles, request_of,
 };
 pub use table::{COMMANDS, CommandEntry, Word};

@@ -6,7 +6,7 @@ ghost use Rattle.clap.specs.Walk.{texts};
 ghost use Rattle.clap.specs.declared.error.kind.ErrorKind.TheVariants.{OutOfMemory};
 ghost use Rattle.sdv_command_line.specs.CommandLine.{command_line, meaning_of};
 ghost use Rattle.sdv_command_line.specs.Requests.{by_emit_words, by_run_words, by_script, by_two_words, request_in, seen, by_audit_words, by_card, by_review_words, is_set};
-ghost use Rattle.sdv_command_line.specs.Requests.{batch, certify, check, explain, frame, graph, print, describe};
+ghost use Rattle.sdv_command_line.specs.Requests.{batch, by_explain_words, by_graph_words, certify, check, frame, print, describe};
 ghost use Rattle.sdv_command_line.specs.Requests.{by_card_words, by_drive_words};
 
 use crate::clap_command::program_command;
@@ -40,14 +40,10 @@ pub enum Request<'a> {
         kind: &'a str,
         requests: &'a str,
     },
-    /// The explanation of the script in this file.
-    Explain {
-        script: &'a str,
-    },
+    /// The explanation of the script in these files.
+    Explain(ExplainWords<'a>),
     /// The drawing of the graph of the script in this file.
-    Graph {
-        script: &'a str,
-    },
+    Graph(GraphWords<'a>),
     /// The tokens of the script in this file.
     Print {
         script: &'a str,
@@ -121,6 +117,24 @@ pub struct RunFiles<'a> {
     pub input: Option<&'a str>,
     /// Where the blocks go that the script receives. Without it they are dropped.
     pub output: Option<&'a str>,
+}
+
+/// The words of an explanation.
+#[derive(Clone, Copy)]
+pub struct ExplainWords<'a> {
+    pub script: &'a str,
+    /// The certificate that the checker is asked about. Without one the script alone is explained.
+    pub certificate: Option<&'a str>,
+    /// Only the reason of a refusal is printed.
+    pub why: bool,
+}
+
+/// The words of a drawing.
+#[derive(Clone, Copy)]
+pub struct GraphWords<'a> {
+    pub script: &'a str,
+    /// The statements that end in a fault are left out.
+    pub no_faults: bool,
 }
 
 /// The words of an audit.
@@ -280,17 +294,24 @@ fn batch_in<'a>(matches: &ArgMatches<'a>) -> Option<Request<'a>>
 }
 
 fn explain_in<'a>(matches: &ArgMatches<'a>) -> Option<Request<'a>>
-    ensures { option_map seen result ≡ by_script explain (rows_of (found_of matches.now)) }
+    ensures { option_map seen result ≡ by_explain_words (rows_of (found_of matches.now)) }
 {
     let script = word_in(matches, "SCRIPT")?;
-    Some(Request::Explain { script })
+    Some(Request::Explain(ExplainWords {
+        script,
+        certificate: word_in(matches, "CERT"),
+        why: is_set(matches, "why"),
+    }))
 }
 
 fn graph_in<'a>(matches: &ArgMatches<'a>) -> Option<Request<'a>>
-    ensures { option_map seen result ≡ by_script graph (rows_of (found_of matches.now)) }
+    ensures { option_map seen result ≡ by_graph_words (rows_of (found_of matches.now)) }
 {
     let script = word_in(matches, "SCRIPT")?;
-    Some(Request::Graph { script })
+    Some(Request::Graph(GraphWords {
+        script,
+        no_faults: is_set(matches, "no-faults"),
+    }))
 }
 
 fn print_in<'a>(matches: &ArgMatches<'a>) -> Option<Request<'a>>

@@ -68,12 +68,16 @@ pub static COMMANDS: [CommandEntry; 14] = [
     },
     CommandEntry {
         name: "explain",
-        words: &[Word::Required("SCRIPT")],
-        help: "prints what is known at each statement, and why the script is refused",
+        words: &[
+            Word::Required("SCRIPT"),
+            Word::Optional("CERT"),
+            Word::Flag("why"),
+        ],
+        help: "prints what is known at each statement, and why the script or the certificate is refused",
     },
     CommandEntry {
         name: "graph",
-        words: &[Word::Required("SCRIPT")],
+        words: &[Word::Required("SCRIPT"), Word::Flag("no-faults")],
         help: "prints the graph of a script in the language of Graphviz",
     },
     CommandEntry {

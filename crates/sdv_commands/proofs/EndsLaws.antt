@@ -1,12 +1,14 @@
 -- What the end of a request says of standard output.
-use Rattle.std.proofs.Common.{◌≡◌, ◌≢◌, ◌∙◌, refl, sym, ap, ℕ, Bor, IfErr, IsErrAnd, List, OnOk, Option, Result, Ok, Err, Some, None, option_map}
+use Rattle.std.proofs.Common.{◌≡◌, ◌≢◌, ◌∙◌, inl, inr, refl, sym, ap, ℕ, Bor, IfErr, IsErrAnd, List, OnOk, Option, Result, Ok, Err, Some, None, option_map}
 use Rattle.std.specs.Io.KnownBytes.{Keeps}
 use Rattle.clap.specs.Words.{Text}
-use Rattle.sdv_command_line.specs.Requests.{CardNames, DriveNames, Request, frame, certify, check, run, batch, explain, graph, print, emit, audit, describe, drive, serve, review}
+use Rattle.sdv_run_command.specs.Run.{RunEnds}
+use Rattle.sdv_command_line.specs.Requests.{CardNames, DriveNames, ExplainNames, RunNames, Request, frame, certify, check, run, batch, explain, graph, print, emit, audit, describe, drive, serve, review}
 use Rattle.sdv_command_line.specs.CommandLine.{meaning_of}
 use Rattle.sdv_command_line.specs.declared.request.RequestFault.{RequestFault}
 use Rattle.sdv_command_line.specs.declared.request.RequestFault.TheVariants as requests
-use Rattle.sdv_commands.specs.Page.{page_of}
+use Rattle.sdv_commands.specs.Page.{PrintsPage, page_of, text_of}
+use Rattle.sdv_commands.specs.declared.page.Page.{Page}
 use Rattle.sdv_faults.specs.Fault.{fault_of_request, status_of}
 use Rattle.sdv_faults.specs.declared.fault.Fault.{Fault}
 use Rattle.sdv_faults.specs.declared.fault.Fault.TheVariants.{Memory, Output}
@@ -24,7 +26,7 @@ use Rattle.sdv_commands.specs.Batch.{HasNoBatch, IsBatchText}
 use Rattle.sdv_commands.specs.Certify.{HasNone, IsCertificate}
 use Rattle.sdv_commands.specs.Check.{IsBoundLine}
 use Rattle.sdv_commands.specs.Describe.{HasNoPage, IsPageOf}
-use Rattle.sdv_commands.specs.Explain.{IsExplanation, IsUnexplained}
+use Rattle.sdv_commands.specs.Explain.{ExplainsText, HasNoAnswer, IsJudgement}
 use Rattle.sdv_commands.specs.Frame.{IsFrameText, WriteNone}
 use Rattle.sdv_commands.specs.Graph.{IsDrawing, IsUndrawn}
 use Rattle.sdv_commands.specs.Print.{HasNoTokens, IsPrinted}
@@ -49,8 +51,8 @@ module _ (files : Files) (s s' : Streams) (before after : Option (List ℕ)) whe
   quiet-kept (run names) quiet fault other ends = absurd quiet
   quiet-kept (batch kind requests) quiet fault other ends =
       prints-kept before after (IsBatchText kind requests) (HasNoBatch kind requests) fault other ends
-  quiet-kept (explain script) quiet fault other ends = absurd quiet
-  quiet-kept (graph script) quiet fault other ends = absurd quiet
+  quiet-kept (explain names) quiet fault other ends = absurd quiet
+  quiet-kept (graph names) quiet fault other ends = absurd quiet
   quiet-kept (print script) quiet fault other ends =
       over-kept before after files script (λ (text : Text). Prints (IsPrinted text) (HasNoTokens text)) (Some fault)
       (λ text. prints-kept before after (IsPrinted text) (HasNoTokens text) fault other) ends
@@ -65,6 +67,16 @@ module _ (files : Files) (s s' : Streams) (before after : Option (List ℕ)) whe
   quiet-kept (serve names) quiet fault other ends = ends.1
   quiet-kept (review script json) quiet fault other ends = absurd quiet
 
+  run-memory : (names : RunNames) → RunEnds files names (Some Memory) before after → Keeps before after
+  run-memory names (inl taken) = taken.1
+  run-memory names (inr apart) = apart.1
+
+  explain-memory : (names : ExplainNames) (script : Text) (certificate : Option Text)
+      → ExplainsText files names script certificate (Some Memory) before after → Keeps before after
+  explain-memory names script None ends = ends
+  explain-memory names script (Some file) ends =
+      over-kept before after files file (λ (text : Text). Reports (IsJudgement script text) HasNoAnswer) (Some Memory) (λ text kept. kept) ends
+
   -- nothing is printed for want of memory, but by an audit
   memory-kept : (request : Request) → IsWhole request → EndsRequest files s s' request (Some Memory) before after → Keeps before after
   memory-kept (frame index argument) whole ends = ends
@@ -75,12 +87,14 @@ module _ (files : Files) (s s' : Streams) (before after : Option (List ℕ)) whe
       (λ (text : Text). OverText files certificate (λ (closed : Text). Prints (IsBoundLine text closed) (Refuses text closed))) (Some Memory)
       (λ text. over-kept before after files certificate (λ (closed : Text). Prints (IsBoundLine text closed) (Refuses text closed)) (Some Memory)
       (λ closed kept. kept)) ends
-  memory-kept (run names) whole ends = ends
+  memory-kept (run names) whole ends = run-memory names ends
   memory-kept (batch kind requests) whole ends = ends
-  memory-kept (explain script) whole ends =
-      over-kept before after files script (λ (text : Text). Reports (IsExplanation text) (IsUnexplained text)) (Some Memory) (λ text kept. kept) ends
-  memory-kept (graph script) whole ends =
-      over-kept before after files script (λ (text : Text). Reports (IsDrawing text) (IsUndrawn text)) (Some Memory) (λ text kept. kept) ends
+  memory-kept (explain names) whole ends =
+      over-kept before after files names.script (λ (text : Text). ExplainsText files names text names.certificate) (Some Memory)
+      (λ text. explain-memory names text names.certificate) ends
+  memory-kept (graph names) whole ends =
+      over-kept before after files names.script (λ (text : Text). Reports (IsDrawing names.no_faults text) (IsUndrawn text)) (Some Memory)
+      (λ text kept. kept) ends
   memory-kept (print script) whole ends =
       over-kept before after files script (λ (text : Text). Prints (IsPrinted text) (HasNoTokens text)) (Some Memory) (λ text kept. kept) ends
   memory-kept (emit names) whole ends =
@@ -94,19 +108,28 @@ module _ (files : Files) (s s' : Streams) (before after : Option (List ℕ)) whe
   memory-kept (review script json) whole ends =
       over-kept before after files script (λ (text : Text). Reports (IsReview text json) (HasNone text)) (Some Memory) (λ text kept. kept) ends
 
-  page-fault : (page : Text) (fault : Fault) → PrintsText page (Some fault) before after → fault ≡ Output
-  page-fault page Output ends = refl
-  page-fault page _ ends = absurd ends
+  printed-fault : (page : Text) (fault : Fault) → PrintsText page (Some fault) before after → fault ≡ Output
+  printed-fault page Output ends = refl
+  printed-fault page _ ends = absurd ends
+
+  -- a page that was not printed leaves standard output as it was
+  page-kept : (page : Text) (fault : Fault) → fault ≢ Output → PrintsPage page (Some fault) before after → Keeps before after
+  page-kept page fault other (inl printed) = absurd (other (printed-fault page fault printed))
+  page-kept page fault other (inr memory) = memory.1
+
+  page-memory : (page : Text) → PrintsPage page (Some Memory) before after → Keeps before after
+  page-memory page (inl printed) = absurd printed
+  page-memory page (inr memory) = memory.1
 
   pub words-kept : (words : List Text) → AreQuiet words → (fault : Fault) → fault ≢ Output → EndsWords files s s' words (Some fault) before after
       → Keeps before after
-  words-kept words quiet fault other (for_page page asked ends) = absurd (other (page-fault page fault ends))
+  words-kept words quiet fault other (for_page page asked ends) = page-kept page fault other ends
   words-kept words quiet fault other (for_request request means ends) = quiet-kept request (quiet request means) fault other ends
   words-kept words quiet fault other (for_nothing no_page none is kept) = kept
   words-kept words quiet fault other (for_memory is kept) = kept
 
   pub words-memory-kept : (words : List Text) → AreWhole words → EndsWords files s s' words (Some Memory) before after → Keeps before after
-  words-memory-kept words whole (for_page page asked ends) = absurd ends
+  words-memory-kept words whole (for_page page asked ends) = page-memory page ends
   words-memory-kept words whole (for_request request means ends) = memory-kept request (whole request means) ends
   words-memory-kept words whole (for_nothing no_page none is kept) = kept
   words-memory-kept words whole (for_memory is kept) = kept
@@ -122,9 +145,8 @@ of_memory _ three = cc
 
 -- WORDS that are no request
 
-pub no_page : (found : Option (Bor (List ℕ))) (page : Option Text) → option_map (λ (page : Bor (List ℕ)). page.now) found ≡ page → found ≡ None
-    → page ≡ None
-no_page found page same none = sym same ∙ ap (option_map (λ (page : Bor (List ℕ)). page.now)) none
+pub no_page : (found : Option Page) (page : Option Text) → option_map text_of found ≡ page → found ≡ None → page ≡ None
+no_page found page same none = sym same ∙ ap (option_map text_of) none
 
 module _ (files : Files) (s s' : Streams) (words : List Text) (known : Option (List ℕ)) (none_asked : page_of words ≡ None) where
   unread : (fault : RequestFault) → (fault ≡ requests.Usage → meaning_of words ≡ None) → EndsWords files s s' words (Some (fault_of_request fault)) known known

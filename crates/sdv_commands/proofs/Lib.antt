@@ -7,3 +7,4 @@ mod FrameTextLaws
 mod ReportLaws
 mod ReviewLaws
 mod ScriptFaultLaws
+mod VerdictLaws

@@ -13,7 +13,6 @@ use Rattle.sdv_faults.specs.Fault.{fault_of_trace}
 use Rattle.sdv_faults.specs.declared.fault.Fault.{Fault}
 use Rattle.sdv_faults.specs.declared.fault.Fault.TheVariants.{Usage, File, Found, Memory}
 use Rattle.sdv_files.specs.Files.{Files}
-use Rattle.sdv_files.specs.Outcomes.{Ending}
 use Rattle.sdv_commands.specs.Batch.{kind_named}
 
 -- an audit that found something ends by a fault, but not where it found lines outside the tables alone

@@ -1,15 +1,17 @@
 -- How the program ends, by the words that it was called with. It has two streams of lines beside its output: requests and
 -- answers pass there, and nothing is claimed of them where the words ask for neither.
-use Rattle.std.specs.Prelude.{◌≡◌, ℕ, List, Option, Some, None}
-use Rattle.std.specs.Io.KnownBytes.{Keeps}
+use Rattle.std.specs.Prelude.{◌≡◌, ◌⊎◌, ℕ, List, Option, Some, None}
+use Rattle.std.specs.Io.KnownBytes.{Appends, Keeps}
 use Rattle.clap.specs.Words.{Text}
+use Rattle.sdv_text.specs.Written.{AppendsPart}
+use Rattle.sdv_command_line.specs.Mistakes.{usage_line}
 use Rattle.sdv_command_line.specs.CommandLine.{meaning_of}
 use Rattle.sdv_command_line.specs.Requests.{Request, frame, certify, check, run, batch, explain, graph, print, emit, audit, describe, drive, serve, review}
 use Rattle.sdv_faults.specs.Fault.{Says, status_of}
 use Rattle.sdv_faults.specs.declared.fault.Fault.{Fault}
 use Rattle.sdv_faults.specs.declared.fault.Fault.TheVariants.{Usage, Memory}
 use Rattle.sdv_files.specs.Files.{Files}
-use Rattle.sdv_files.specs.Outcomes.{Ending, PrintsText}
+use Rattle.sdv_files.specs.Outcomes.{Ending}
 use Rattle.sdv_lines.specs.Streams.{Streams}
 use Rattle.sdv_run_command.specs.Run.{RunEnds}
 use Rattle.sdv_streams.specs.CardSide.{CardEnds}
@@ -23,7 +25,7 @@ use Rattle.sdv_commands.specs.Describe.{DescribeEnds}
 use Rattle.sdv_commands.specs.Explain.{ExplainEnds}
 use Rattle.sdv_commands.specs.Frame.{FrameEnds}
 use Rattle.sdv_commands.specs.Graph.{GraphEnds}
-use Rattle.sdv_commands.specs.Page.{page_of}
+use Rattle.sdv_commands.specs.Page.{PrintsPage, page_of}
 use Rattle.sdv_commands.specs.Print.{PrintEnds}
 use Rattle.sdv_commands.specs.Review.{ReviewEnds}
 
@@ -39,8 +41,8 @@ EndsRequest files s s' (certify script) = CertifyEnds files script
 EndsRequest files s s' (check script certificate) = CheckEnds files script certificate
 EndsRequest files s s' (run names) = RunEnds files names
 EndsRequest files s s' (batch kind requests) = BatchEnds kind requests
-EndsRequest files s s' (explain script) = ExplainEnds files script
-EndsRequest files s s' (graph script) = GraphEnds files script
+EndsRequest files s s' (explain names) = ExplainEnds files names
+EndsRequest files s s' (graph names) = GraphEnds files names
 EndsRequest files s s' (print script) = PrintEnds files script
 EndsRequest files s s' (emit names) = EmitEnds files names
 EndsRequest files s s' (audit names) = AuditEnds files names
@@ -53,8 +55,8 @@ EndsRequest files s s' (review script json) = ReviewEnds files script json
 -- card description and a review are printed then too.
 abbrev pub IsQuiet : Request → Type 0
 IsQuiet (run names) = ⊥
-IsQuiet (explain script) = ⊥
-IsQuiet (graph script) = ⊥
+IsQuiet (explain names) = ⊥
+IsQuiet (graph names) = ⊥
 IsQuiet (audit names) = ⊥
 IsQuiet (describe card) = ⊥
 IsQuiet (review script json) = ⊥
@@ -70,7 +72,7 @@ IsWhole request = Unit {0}
 pub data EndsWords (files : Files) (s s' : Streams) (words : List Text) (outcome : Option Fault)
     (before after : Option (List ℕ)) : Type 0 where
   -- they ask for a page
-  for_page : (page : Text) → page_of words ≡ Some page → PrintsText page outcome before after
+  for_page : (page : Text) → page_of words ≡ Some page → PrintsPage page outcome before after
       → EndsWords files s s' words outcome before after
   -- they mean a request
   for_request : (request : Request) → meaning_of words ≡ Some request → EndsRequest files s s' request outcome before after
@@ -96,10 +98,16 @@ abbrev pub exit_status : Option Fault → ℕ
 exit_status None = 0
 exit_status (Some fault) = status_of fault
 
--- what is said on standard error
-abbrev pub SaysWhy : Ending
-SaysWhy None before after = Keeps before after
-SaysWhy (Some fault) before after = Says fault before after
+-- a line was said on standard error, or a part of it where that failed
+abbrev pub SaysLine : Text → (before after : Option (List ℕ)) → Type 0
+SaysLine line before after = Appends before after line ⊎ AppendsPart before after line
+
+-- what is said on standard error: of words that are no request, which one is wrong, or how the program is called where memory
+-- was refused for that
+abbrev pub SaysWhy : (words : List Text) → Ending
+SaysWhy words None before after = Keeps before after
+SaysWhy words (Some Usage) before after = SaysLine (usage_line words) before after ⊎ Says Usage before after
+SaysWhy words (Some fault) before after = Says fault before after
 
 -- the program ended with this status, and this is what the streams of lines, standard output and standard error hold
 pub record Ends (files : Files) (s s' : Streams) (words : List Text) (status : ℕ)
@@ -107,4 +115,4 @@ pub record Ends (files : Files) (s s' : Streams) (words : List Text) (status : �
   pub outcome : Option Fault
   pub status_is : status ≡ exit_status outcome
   pub ended : EndsWords files s s' words outcome out out'
-  pub said : SaysWhy outcome err err'
+  pub said : SaysWhy words outcome err err'

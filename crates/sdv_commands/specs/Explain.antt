@@ -1,42 +1,76 @@
--- `explain SCRIPT`: what is known at each point of the script of a file is printed, and why the script is refused; of a
--- text that is no script, the page of its fault.
-use Rattle.std.specs.Prelude.{◌≡◌, ◌⊎◌, Option, Some, option_map}
+-- `explain SCRIPT [CERT] [--why]`: what is known at each point of the script of a file is printed, and why the script is
+-- refused; of a text that is no script, the page of its fault; of a certificate, what the checker says of it.
+use Rattle.std.specs.Prelude.{◌≡◌, ◌⊎◌, Bool, Option, Some, None, if◌then◌else◌, option_map}
 use Rattle.clap.specs.Words.{Text}
 use Rattle.sdv_certify.specs.declared.fault.CertifyFault.TheVariants as certifies
 use Rattle.sdv_explain.specs.declared.explaining.Explanation.{Explanation}
 use Rattle.sdv_explain.specs.declared.explaining.Refusal.{Refusal}
 use Rattle.sdv_explain.specs.declared.fault.ExplainFault.TheVariants as explains
 use Rattle.sdv_explain.specs.Explained.{Explains, Unexplained}
+use Rattle.sdv_check.specs.Verified.{IsNoScript}
+use Rattle.sdv_check_words.specs.declared.judging.Refusal.{Refusal as Refuses}
+use Rattle.sdv_check_words.specs.declared.judging.Refusal.TheVariants.{NoCertificate, Open}
+use Rattle.sdv_check_words.specs.declared.judging.Verdict.{Verdict}
+use Rattle.sdv_check_words.specs.Judged.{Judges}
+use Rattle.sdv_command_line.specs.Requests.{ExplainNames}
 use Rattle.sdv_script.specs.declared.fault.ScriptFault.{ScriptFault}
 use Rattle.sdv_hints.specs.Page.{Tells}
 use Rattle.sdv_files.specs.Files.{Files}
 use Rattle.sdv_files.specs.Outcomes.{Ending, OverText, Reports}
 use Rattle.sdv_faults.specs.declared.fault.Fault.{Fault}
-use Rattle.sdv_faults.specs.declared.fault.Fault.TheVariants.{Script, Uncertified}
+use Rattle.sdv_faults.specs.declared.fault.Fault.TheVariants.{Script, Certificate, Refused, Uncertified}
 
 -- why the script is refused, if it is
 abbrev pub refused_by : Explanation → Option Fault
 refused_by explanation = option_map (λ (r : Refusal). Uncertified r.fault) explanation.refusal
 
+-- what is printed of an explanation: all of it, or only why the script is refused
+abbrev pub shown_of : (only_why : Bool) → Explanation → Text
+shown_of only_why explanation = if only_why then explanation.why.items else explanation.text.items
+
 -- the text is that of the script's explanation, which tells of this refusal or of none
-abbrev pub IsExplained : (script : Text) → (told : Option Fault) → (text : Text) → Type 0
-IsExplained script told text =
+abbrev pub IsExplained : (only_why : Bool) → (script : Text) → (told : Option Fault) → (text : Text) → Type 0
+IsExplained only_why script told text =
     (explanation : Explanation) × Explains script explanation × (told ≡ refused_by explanation)
-    × (text ≡ explanation.text.items)
+    × (text ≡ shown_of only_why explanation)
 
 -- the text is the page of this fault of what is no script
 abbrev pub IsFaultPage : (script : Text) → (told : Option Fault) → (text : Text) → Type 0
 IsFaultPage script told text =
-    (fault : ScriptFault) × (told ≡ Some (Script fault)) × Unexplained script (explains.Script fault)
-    × Tells script fault text
+    (fault : ScriptFault) × (told ≡ Some (Script fault)) × IsNoScript script × Tells script fault text
 
-abbrev pub IsExplanation : (script : Text) → (told : Option Fault) → (text : Text) → Type 0
-IsExplanation script told text = IsExplained script told text ⊎ IsFaultPage script told text
+abbrev pub IsExplanation : (only_why : Bool) → (script : Text) → (told : Option Fault) → (text : Text) → Type 0
+IsExplanation only_why script told text = IsExplained only_why script told text ⊎ IsFaultPage script told text
 
 -- why there is none: too much is known of the script
 abbrev pub IsUnexplained : (script : Text) → Fault → Type 0
 IsUnexplained script (Uncertified fault) = (fault ≡ certifies.TooMany) × Unexplained script explains.TooMany
 IsUnexplained script fault = ⊥
 
-abbrev pub ExplainEnds : Files → (script_file : Text) → Ending
-ExplainEnds files script_file = OverText files script_file (λ script. Reports (IsExplanation script) (IsUnexplained script))
+-- what the checker answers by a verdict
+abbrev pub fault_of_refusal : Option Refuses → Option Fault
+fault_of_refusal None = None
+fault_of_refusal (Some (NoCertificate fault)) = Some (Certificate fault)
+fault_of_refusal (Some (Open fault)) = Some (Refused fault)
+
+-- the text is that of a verdict, which tells of its refusal or of none
+abbrev pub IsVerdict : Verdict → (told : Option Fault) → (text : Text) → Type 0
+IsVerdict verdict told text = (told ≡ fault_of_refusal verdict.refusal) × (text ≡ verdict.words.items)
+
+-- it is that of the verdict on a script and a certificate, or the page of what is no script
+abbrev pub IsJudgement : (script certificate : Text) → (told : Option Fault) → (text : Text) → Type 0
+IsJudgement script certificate told text =
+    ((verdict : Verdict) × Judges script certificate verdict × IsVerdict verdict told text) ⊎ IsFaultPage script told text
+
+-- nothing is left without a report
+abbrev pub HasNoAnswer : Fault → Type 0
+HasNoAnswer fault = ⊥
+
+-- the file of the certificate is read only where that of the script gave a text
+abbrev pub ExplainsText : Files → ExplainNames → (script : Text) → Option Text → Ending
+ExplainsText files names script None = Reports (IsExplanation names.why script) (IsUnexplained script)
+ExplainsText files names script (Some file) =
+    OverText files file (λ certificate. Reports (IsJudgement script certificate) HasNoAnswer)
+
+abbrev pub ExplainEnds : Files → ExplainNames → Ending
+ExplainEnds files names = OverText files names.script (λ script. ExplainsText files names script names.certificate)

@@ -1,10 +1,15 @@
-//! `explain SCRIPT`: what is known at each point of a script, and why it is refused where it is; of a text that is no
-//! script, where it is wrong.
-ghost use Rattle.sdv_explain.specs.Explained.{Unexplained};
-ghost use Rattle.sdv_files.specs.Outcomes.{Reports, outcome_of};
-ghost use Rattle.sdv_commands.specs.Explain.{ExplainEnds, IsExplanation, IsUnexplained};
+//! `explain SCRIPT [CERT] [--why]`: what is known at each point of a script, and why it is refused where it is; of a text
+//! that is no script, where it is wrong; of a certificate, why the checker refuses it.
+ghost use Rattle.std.specs.Prelude.{◌≡◌, ◌≢◌, if◌then◌else◌};
+ghost use Rattle.sdv_check.specs.Verified.{IsNoScript};
+ghost use Rattle.sdv_command_line.specs.Requests.{explain_names_of};
+ghost use Rattle.sdv_files.specs.Outcomes.{OverText, Reports, outcome_of};
+ghost use Rattle.sdv_commands.specs.Explain.{ExplainEnds, ExplainsText, HasNoAnswer, IsExplanation, IsFaultPage, IsJudgement};
+ghost use Rattle.sdv_commands.specs.Explain.{IsUnexplained, IsVerdict, fault_of_refusal};
 
 use sdv_certify::CertifyFault;
+use sdv_check_words::{Refusal, Verdict, judge};
+use sdv_command_line::ExplainWords;
 use sdv_explain::{ExplainFault, Explanation, explain};
 use sdv_faults::Fault;
 use sdv_files::{Store, print_text, text_in};
@@ -13,26 +18,60 @@ use sdv_script::{FaultKind, ScriptFault};
 use std::alloc::Global;
 use std::io::Write;
 
-/// Prints the explanation of the script of a file.
+/// Prints the explanation of the script of a file, or what the checker says of it with the certificate of another.
 ///
 /// # Errors
 ///
-/// - [`Fault::File`]: the file cannot be used. Nothing was printed.
-/// - The faults of [`explain_text`].
+/// - [`Fault::File`]: a file cannot be used; that of the certificate is read only where that of the script gave a text.
+///   Nothing was printed.
+/// - The faults of [`explain_text`] or of [`judge_texts`].
 pub fn explain_file<'a, S: Store, O: Write>(
     alloc: Global,
     files: &S,
-    script: &'a str,
+    words: ExplainWords<'a>,
     out: &mut O,
 ) -> Result<(), Fault<'a>>
-    ensures { ExplainEnds (S.known files.now) script.entry.now
+    ensures { ExplainEnds (S.known files.now) (explain_names_of words.entry)
         (outcome_of result) (O.contents out.old) (O.contents out.new) }
 {
-    let script = text_in(alloc, files, script)?;
-    explain_text(alloc, script.as_str(), out)
+    let script = text_in(alloc, files, words.script)?;
+    explain_given(alloc, files, words, script.as_str(), out)
 }
 
-/// Prints the explanation of a script, by its text.
+/// The same of the text of the script.
+fn explain_given<'a, S: Store, O: Write>(
+    alloc: Global,
+    files: &S,
+    words: ExplainWords<'a>,
+    script: &str,
+    out: &mut O,
+) -> Result<(), Fault<'a>>
+    ensures { ExplainsText (S.known files.now) (explain_names_of words.entry) script.now
+        (explain_names_of words.entry).certificate (outcome_of result) (O.contents out.old) (O.contents out.new) }
+{
+    match words.certificate {
+        None => explain_text(alloc, script, words.why, out),
+        Some(file) => judge_file(alloc, files, script, file, out),
+    }
+}
+
+/// Prints what the checker says of a script with the certificate of a file.
+fn judge_file<'a, S: Store, O: Write>(
+    alloc: Global,
+    files: &S,
+    script: &str,
+    file: &'a str,
+    out: &mut O,
+) -> Result<(), Fault<'a>>
+    ensures { OverText (S.known files.now) file.entry.now
+        (λ certificate. Reports (IsJudgement script.now certificate) HasNoAnswer)
+        (outcome_of result) (O.contents out.old) (O.contents out.new) }
+{
+    let certificate = text_in(alloc, files, file)?;
+    judge_texts(alloc, script, certificate.as_str(), out)
+}
+
+/// Prints the explanation of a script, by its text, or only why it is refused.
 ///
 /// # Errors
 ///
@@ -41,20 +80,76 @@ pub fn explain_file<'a, S: Store, O: Write>(
 /// - [`Fault::Script`]: the text is no script. The page of the fault was printed.
 /// - [`Fault::Output`]: the output failed. A part of the explanation or of the page was printed.
 /// - [`Fault::Memory`]: memory was refused. Nothing was printed.
-pub fn explain_text<'a, O: Write>(alloc: Global, script: &str, out: &mut O) -> Result<(), Fault<'a>>
-    ensures { Reports (IsExplanation script.now) (IsUnexplained script.now)
+pub fn explain_text<'a, O: Write>(
+    alloc: Global,
+    script: &str,
+    only_why: bool,
+    out: &mut O,
+) -> Result<(), Fault<'a>>
+    ensures { Reports (IsExplanation only_why script.now) (IsUnexplained script.now)
         (outcome_of result) (O.contents out.old) (O.contents out.new) }
 {
-    let Explanation { text, refusal, .. } = match explain(alloc, script) {
+    let Explanation { text, why, refusal } = match explain(alloc, script) {
         Ok(explanation) => explanation,
         Err(ExplainFault::Script(fault)) => return print_page(alloc, script, fault, out),
         Err(ExplainFault::TooMany) => return Err(Fault::Uncertified(CertifyFault::TooMany)),
         Err(ExplainFault::Memory) => return Err(Fault::Memory),
     };
-    print_text(text.as_slice(), out)?;
+    let shown = shown_of(only_why, text, why);
+    print_text(shown.as_slice(), out)?;
     match refusal {
         None => Ok(()),
         Some(refusal) => Err(Fault::Uncertified(refusal.fault)),
+    }
+}
+
+/// What is printed of an explanation.
+fn shown_of(only_why: bool, text: Vec<u8>, why: Vec<u8>) -> Vec<u8>
+    ensures { result.items ≡ if only_why then why.items else text.items }
+{
+    if only_why { why } else { text }
+}
+
+/// Prints what the checker says of a script and a certificate, by their texts.
+///
+/// # Errors
+///
+/// - [`Fault::Script`]: the first text is no script. The page of the fault was printed.
+/// - [`Fault::Certificate`], [`Fault::Refused`]: the checker does not accept them, and the reason was printed.
+/// - [`Fault::Output`]: the output failed. A part of the answer was printed.
+/// - [`Fault::Memory`]: memory was refused. Nothing was printed.
+pub fn judge_texts<'a, O: Write>(
+    alloc: Global,
+    script: &str,
+    certificate: &str,
+    out: &mut O,
+) -> Result<(), Fault<'a>>
+    ensures { Reports (IsJudgement script.now certificate.now) HasNoAnswer
+        (outcome_of result) (O.contents out.old) (O.contents out.new) }
+{
+    match judge(alloc, script, certificate) {
+        Ok(verdict) => print_verdict(&verdict, out),
+        Err(fault) => print_page(alloc, script, fault, out),
+    }
+}
+
+/// Prints the words of a verdict, and ends by its fault.
+fn print_verdict<'a, O: Write>(verdict: &Verdict, out: &mut O) -> Result<(), Fault<'a>>
+    ensures { Reports (IsVerdict verdict.now) HasNoAnswer
+        (outcome_of result) (O.contents out.old) (O.contents out.new) }
+{
+    print_text(verdict.words.as_slice(), out)?;
+    end_of(verdict.refusal)
+}
+
+/// What the program answers to a certificate that is refused so, or not at all.
+fn end_of(refusal: Option<Refusal>) -> Result<(), Fault<'static>>
+    ensures { outcome_of result ≡ fault_of_refusal refusal }
+{
+    match refusal {
+        None => Ok(()),
+        Some(Refusal::NoCertificate(fault)) => Err(Fault::Certificate(fault)),
+        Some(Refusal::Open(fault)) => Err(Fault::Refused(fault)),
     }
 }
 
@@ -65,8 +160,8 @@ fn print_page<'a, O: Write>(
     fault: ScriptFault,
     out: &mut O,
 ) -> Result<(), Fault<'a>>
-    requires { Unexplained script.now (ExplainFault.Script fault) }
-    ensures { Reports (IsExplanation script.now) (IsUnexplained script.now)
+    requires { fault.kind ≢ FaultKind.Memory → IsNoScript script.now }
+    ensures { Reports (IsFaultPage script.now) HasNoAnswer
         (outcome_of result) (O.contents out.old) (O.contents out.new) }
 {
     if fault.kind == FaultKind::Memory {

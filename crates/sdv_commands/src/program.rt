@@ -1,12 +1,13 @@
 //! The program over its words and its two output streams.
-ghost use Rattle.std.specs.Prelude.{◌≡◌, ◌⊎◌, None};
+ghost use Rattle.std.specs.Prelude.{◌≡◌, ◌⊎◌, None, Some};
 ghost use Rattle.std.specs.Io.KnownBytes.{Keeps};
 ghost use Rattle.clap.specs.Walk.{texts};
 ghost use Rattle.sdv_command_line.specs.Requests.{seen};
 ghost use Rattle.sdv_files.specs.Files.{any_files};
 ghost use Rattle.sdv_lines.specs.Streams.{streams_of};
 ghost use Rattle.sdv_files.specs.Outcomes.{outcome_of};
-ghost use Rattle.sdv_commands.specs.Ends.{AreQuiet, AreWhole, Ends, EndsRequest, EndsWords};
+ghost use Rattle.sdv_commands.specs.Ends.{AreQuiet, AreWhole, Ends, EndsRequest, EndsWords, SaysLine, SaysWhy};
+ghost use Rattle.sdv_faults.specs.Fault.{status_of};
 
 use crate::audit::audit_file;
 use crate::batch::print_batch;
@@ -16,16 +17,17 @@ use crate::describe::describe_file;
 use crate::explain::explain_file;
 use crate::frame::print_frame;
 use crate::graph::graph_file;
-use crate::page::page_of;
+use crate::page::{page_of, print_page};
 use crate::print::print_file;
 use crate::review::review_file;
-use sdv_command_line::{Request, request_of};
+use sdv_command_line::{Request, request_of, usage_line};
 use sdv_emit_command::emit_files;
 use sdv_faults::Fault;
-use sdv_files::{MachineFiles, Store, print_text};
+use sdv_files::{MachineFiles, Store};
 use sdv_lines::LinePort;
 use sdv_run_command::run_files;
 use sdv_streams::{drive_files, serve_card};
+use sdv_text::write_text;
 use std::alloc::Global;
 use std::io::{Read, Write};
 use std::rt::Files;
@@ -57,12 +59,43 @@ pub fn program<R: Files + AllocGlobal, I: Read, L: Write, O: Write, E: Write>(
 {
     match answer(rt.alloc(), &MachineFiles(rt), words, lines, out) {
         Ok(()) => 0,
-        Err(fault) => fault.report(err),
+        Err(fault) => report(rt.alloc(), words, fault, err),
     }
 }
 
-/// Answers a line of the program from these files. A line that is one word and asks for help or for the version is answered by
-/// that page. The clause says what the files gave and took, by their names, and of a file that cannot be used what was
+/// Says why there is no answer, and gives the exit status. Of words that are no request it says which one is wrong.
+fn report<E: Write>(alloc: Global, words: &[&str], fault: Fault<'_>, err: &mut E) -> u8
+    ensures status { result ≡ status_of fault.entry }
+    ensures said { SaysWhy (texts words.now) (Some fault.entry) (E.contents err.old) (E.contents err.new) }
+{
+    match fault {
+        Fault::Usage => report_usage(alloc, words, err),
+        _ => fault.report(err),
+    }
+}
+
+/// Says which word is wrong, or how the program is called where memory is refused for that.
+fn report_usage<E: Write>(alloc: Global, words: &[&str], err: &mut E) -> u8
+    ensures status { result ≡ status_of Fault.Usage }
+    ensures said { SaysWhy (texts words.now) (Some Fault.Usage) (E.contents err.old) (E.contents err.new) }
+{
+    match usage_line(alloc, words) {
+        Ok(line) => say_line(line.as_slice(), err),
+        Err(_) => Fault::Usage.report(err),
+    }
+}
+
+/// Says a line, and gives the status of words that are no request.
+fn say_line<E: Write>(line: &[u8], err: &mut E) -> u8
+    ensures status { result ≡ status_of Fault.Usage }
+    ensures said { SaysLine line.now (E.contents err.old) (E.contents err.new) }
+{
+    let _ = write_text(err, line);
+    2
+}
+
+/// Answers a line of the program from these files. A line that asks for help or for the version is answered by that page. The
+/// clause says what the files gave and took, by their names, and of a file that cannot be used what was
 /// tried and failed.
 pub fn answer<'a, S: Store, I: Read, L: Write, O: Write>(
     alloc: Global,
@@ -77,7 +110,7 @@ pub fn answer<'a, S: Store, I: Read, L: Write, O: Write>(
         (outcome_of result) (O.contents out.old) (O.contents out.new) }
 {
     if let Some(page) = page_of(words) {
-        return print_text(page.as_bytes(), out);
+        return print_page(alloc, page, out);
     }
     let request = request_of(alloc, words)?;
     answer_request(alloc, files, request, lines, out)
@@ -105,8 +138,8 @@ pub fn answer_request<'a, S: Store, I: Read, L: Write, O: Write>(
         } => check_files(alloc, files, script, certificate, out),
         Request::Run(names) => run_files(alloc, files, names, out),
         Request::Batch { kind, requests } => print_batch(alloc, kind, requests, out),
-        Request::Explain { script } => explain_file(alloc, files, script, out),
-        Request::Graph { script } => graph_file(alloc, files, script, out),
+        Request::Explain(words) => explain_file(alloc, files, words, out),
+        Request::Graph(words) => graph_file(alloc, files, words, out),
         Request::Print { script } => print_file(alloc, files, script, out),
         Request::Emit(words) => emit_files(alloc, files, words, out),
         Request::Audit(words) => audit_file(alloc, files, words, out),

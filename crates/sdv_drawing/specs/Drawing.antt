@@ -1,13 +1,52 @@
 -- The DRAWING of a graph, in the language of Graphviz: a line for each point, in their order, and then a line for each
 -- edge, point by point in the order of the edges of each.
-use Rattle.std.specs.Prelude.{ℕ, suc, List, [], ◌∷◌, ◌++◌, flat_map, Bool, true, false, ◌==◌, ◌||◌, nat_lt, nat_le, length, Option, Some, codes, decimal, if◌then◌else◌}
+use Rattle.std.specs.Prelude.{ℕ, suc, List, [], ◌∷◌, ◌++◌, flat_map, Bool, true, false, ◌==◌, ◌||◌, ◌&&◌, not, nat_lt, nat_le, length, slice_get, Option, Some, None, codes, decimal, if◌then◌else◌}
 use Rattle.sdv_graph.specs.declared.graph.Target.{Target}
+use Rattle.sdv_graph.specs.Walk.{Finished, Failed}
 use Rattle.sdv_graph.specs.Path.{Case, Action, Point, sends, phases, lets, tests, flags, widths, heads, jumps, stops}
 use Rattle.sdv_certify.specs.declared.fault.CertifyFault.{CertifyFault}
 use Rattle.sdv_certify.specs.declared.fault.CertifyFault.TheVariants.{Illegal, Address, EndState}
 use Rattle.sdv_explain.specs.declared.heading.Heading.{Heading}
+use Rattle.sdv_drawing.specs.declared.look.Look.{Look as CodeLook}
+use Rattle.sdv_telling.specs.declared.visit.Visit.{Visit}
 use Rattle.sdv_telling.specs.Guards.{guards_words}
 use Rattle.sdv_telling.specs.Statements.{Text}
+
+-- what is shown: the points of a graph, why the script is refused, a way to what is, and whether faults are left out
+pub record Look : Type 0 where
+  pub places : List Point
+  pub refusal : Option CertifyFault
+  pub way : List Visit
+  pub no_faults : Bool
+
+abbrev pub look_of : CodeLook → Look
+look_of look =
+    record { places = look.graph.now.points; refusal = look.refusal; way = look.way.now; no_faults = look.no_faults }
+
+abbrev pub ends_in_fault : Action → Bool
+ends_in_fault (stops (Failed name)) = true
+ends_in_fault action = false
+
+abbrev pub is_fault : Option Point → Bool
+is_fault None = false
+is_fault (Some place) = ends_in_fault place.action
+
+-- a point that ends in a fault may be left out
+abbrev pub hides : Look → (point : ℕ) → Bool
+hides look point = if look.no_faults then is_fault (slice_get look.places point) else false
+
+-- from the point of the visit before, if there is one, to the point of the next
+abbrev pub steps : (before : Option ℕ) → (after from to : ℕ) → Bool
+steps None after from to = false
+steps (Some before) after from to = (before == from) && (after == to)
+
+abbrev pub steps_on : (before : Option ℕ) → List Visit → (from to : ℕ) → Bool
+steps_on before [] from to = false
+steps_on before (v ∷ vs) from to = steps before v.point from to || steps_on (Some v.point) vs from to
+
+-- the way goes from one point to another at once
+abbrev pub is_on_way : List Visit → (from to : ℕ) → Bool
+is_on_way way from to = steps_on None way from to
 
 -- between quotes a quote and a backslash have a backslash before them
 abbrev pub escaped_byte : ℕ → Text
@@ -21,8 +60,8 @@ abbrev pub numbered : {X : Type 0} → (line : ℕ → X → Text) → (first : 
 numbered line n [] = []
 numbered line n (x ∷ xs) = line n x ++ numbered line (suc n) xs
 
--- POINTS: a box with the line of the text, the number of the point and the words of the statement; the point for which
--- the script is refused is red, and says the clause that fails there
+-- POINTS: a box with the line of the text, the number of the point and the words of the statement; `done` and a fault are
+-- no boxes; the point for which the script is refused is red, and says the clause that fails there
 
 abbrev pub clause_if : Bool → Text → Text
 clause_if true clause = clause
@@ -35,9 +74,25 @@ clause_at (Some (Address number)) point = clause_if (number == point) (codes "Ad
 clause_at (Some (EndState number)) point = clause_if (number == point) (codes "EndState")
 clause_at _ point = []
 
-abbrev pub mark : (clause : Text) → Text
-mark [] = codes "\"];\n"
-mark (c ∷ cs) = codes "\\nrefused " ++ ((c ∷ cs) ++ codes "\", color=red, fontcolor=red, penwidth=2];\n")
+abbrev pub form : Action → Text
+form (stops Finished) = codes ", shape=ellipse, style=bold"
+form (stops (Failed name)) = codes ", style=rounded, color=gray50, fontcolor=gray30"
+form action = []
+
+abbrev pub form_of : Option Point → Text
+form_of None = []
+form_of (Some place) = form place.action
+
+abbrev pub red : Text
+red = codes ", color=red, fontcolor=red, penwidth=2"
+
+-- behind the label of a point: its form and its color
+abbrev pub form_end : (form color : Text) → Text
+form_end form color = codes "\"" ++ (form ++ (color ++ codes "];\n"))
+
+abbrev pub mark : (form clause : Text) → Text
+mark form [] = form_end form []
+mark form (c ∷ cs) = codes "\\nrefused " ++ ((c ∷ cs) ++ form_end form red)
 
 abbrev pub point_front : (point line : ℕ) → Text
 point_front point line =
@@ -45,60 +100,71 @@ point_front point line =
     ++ (decimal line ++ (codes ", point " ++ (decimal point ++ codes "\\n")))))
 
 -- `    3 [label="line 7, point 3\nCMD55"];`
-abbrev pub point_line : Option CertifyFault → (point : ℕ) → Heading → Text
-point_line refusal point heading =
-    point_front point heading.line ++ (escaped heading.words.items ++ mark (clause_at refusal point))
+abbrev pub shown_point : Look → (point : ℕ) → Heading → Text
+shown_point look point heading = point_front point heading.line ++ (escaped heading.words.items
+    ++ mark (form_of (slice_get look.places point)) (clause_at look.refusal point))
 
--- EDGES: each says its case, and one that leads back is dashed, and does not count where points are placed
+abbrev pub point_line : Look → (point : ℕ) → Heading → Text
+point_line look point heading = if hides look point then [] else shown_point look point heading
+
+-- EDGES: each says its case; one of the way to what is refused is red; and one that leads back is dashed, and does not
+-- count where points are placed
 
 abbrev pub dash : (back : Bool) → Text
-dash true = codes "\", style=dashed, constraint=false];\n"
-dash false = codes "\"];\n"
+dash true = codes ", style=dashed, constraint=false];\n"
+dash false = codes "];\n"
+
+abbrev pub paint : (on_way : Bool) → Text
+paint true = codes "\"" ++ red
+paint false = codes "\""
 
 abbrev pub arrow : (from to : ℕ) → Text
-arrow from to = codes "    " ++ (decimal from ++ (codes " -> " ++ (decimal to ++ codes " [label=\"")))
+arrow from to = codes "    " ++ (decimal from ++ (codes " -> " ++ (decimal to ++ codes " [label=\" ")))
 
 -- an edge leads back where its target is not after its own point
-abbrev pub written_edge : (from : ℕ) → Target → (case : Text) → Text
-written_edge from t case = arrow from t.to ++ (case ++ dash (nat_le t.to from))
+abbrev pub written_edge : List Visit → (from : ℕ) → (to : ℕ) → (case : Text) → Text
+written_edge way from to case = arrow from to ++ (case ++ (paint (is_on_way way from to) ++ dash (nat_le to from)))
 
--- `    3 -> 4 [label="app"];` of a graph with so many points; a target past the last one leads nowhere
-abbrev pub edge_line : (points from : ℕ) → Target → (case : Text) → Text
-edge_line points from t case = if nat_lt t.to points then written_edge from t case else []
+-- an edge leads to a point that is shown
+abbrev pub leads : Look → (to : ℕ) → Bool
+leads look to = nat_lt to (length look.places) && not (hides look to)
 
-abbrev pub case_line : (points from : ℕ) → Case → Text
-case_line points from w = edge_line points from w.target (guards_words w.guards)
+-- `    3 -> 4 [label=" app"];`, with a space between the edge and its label
+abbrev pub edge_line : Look → (from : ℕ) → Target → (case : Text) → Text
+edge_line look from t case = if leads look t.to then written_edge look.way from t.to case else []
+
+abbrev pub case_line : Look → (from : ℕ) → Case → Text
+case_line look from w = edge_line look from w.target (guards_words w.guards)
 
 -- a command without cases has one edge, which says nothing
 abbrev pub else_word : List Case → Text
 else_word [] = []
 else_word (w ∷ ws) = codes "else"
 
-abbrev pub edge_lines : (points from : ℕ) → Action → Text
-edge_lines points from (sends c ways other) =
-    flat_map (case_line points from) ways ++ edge_line points from other (else_word ways)
-edge_lines points from (phases p well other) =
-    edge_line points from well (codes "ok") ++ edge_line points from other (codes "else")
-edge_lines points from (lets l t) = edge_line points from t []
-edge_lines points from (tests c met unmet) =
-    edge_line points from met (codes "then") ++ edge_line points from unmet (codes "else")
-edge_lines points from (flags flag on t) = edge_line points from t []
-edge_lines points from (widths width t) = edge_line points from t []
-edge_lines points from (heads count body other) =
-    edge_line points from body (codes "turn") ++ edge_line points from other (codes "else")
-edge_lines points from (jumps t) = edge_line points from t []
-edge_lines points from (stops ending) = []
+abbrev pub edge_lines : Look → (from : ℕ) → Action → Text
+edge_lines look from (sends c ways other) =
+    flat_map (case_line look from) ways ++ edge_line look from other (else_word ways)
+edge_lines look from (phases p well other) =
+    edge_line look from well (codes "ok") ++ edge_line look from other (codes "else")
+edge_lines look from (lets l t) = edge_line look from t []
+edge_lines look from (tests c met unmet) =
+    edge_line look from met (codes "then") ++ edge_line look from unmet (codes "else")
+edge_lines look from (flags flag on t) = edge_line look from t []
+edge_lines look from (widths width t) = edge_line look from t []
+edge_lines look from (heads count body other) =
+    edge_line look from body (codes "turn") ++ edge_line look from other (codes "else")
+edge_lines look from (jumps t) = edge_line look from t []
+edge_lines look from (stops ending) = []
 
-abbrev pub edges_at : (points from : ℕ) → Point → Text
-edges_at points from place = edge_lines points from place.action
+abbrev pub edges_at : Look → (from : ℕ) → Point → Text
+edges_at look from place = edge_lines look from place.action
 
 -- THE DRAWING
 
 abbrev pub header : Text
-header = codes "digraph script {\n    node [shape=box, fontname=\"monospace\"];\n    edge [fontname=\"monospace\"];\n"
+header = codes "digraph script {\n    graph [nodesep=0.4];\n    node [shape=box, fontname=\"monospace\"];\n    edge [fontname=\"monospace\"];\n"
 
 -- of the points of a graph with these headings, of a script that is refused so
-abbrev pub drawing : List Point → List Heading → Option CertifyFault → Text
-drawing places headings refusal =
-    header ++ (numbered (point_line refusal) 0 headings
-    ++ (numbered (edges_at (length places)) 0 places ++ codes "}\n"))
+abbrev pub drawing : Look → List Heading → Text
+drawing look headings =
+    header ++ (numbered (point_line look) 0 headings ++ (numbered (edges_at look) 0 look.places ++ codes "}\n"))

@@ -1,12 +1,14 @@
 //! The edges of a graph, as arrows.
 
-ghost use Rattle.std.specs.Prelude.{◌≡◌, ◌++◌, OnOk, codes, flat_map, length, map};
+ghost use Rattle.std.specs.Prelude.{◌≡◌, ◌++◌, OnOk, codes, flat_map, map, nat_le};
 ghost use Rattle.sdv_graph.specs.Graph.{seen_case, seen_action};
-ghost use Rattle.sdv_drawing.specs.Drawing.{arrow, case_line, dash, edge_line, edge_lines, edges_at, else_word, numbered};
+ghost use Rattle.sdv_drawing.specs.Drawing.{arrow, case_line, dash, edge_line, edge_lines, edges_at, else_word, is_on_way};
+ghost use Rattle.sdv_drawing.specs.Drawing.{look_of, numbered, paint};
 
+use crate::look::{Look, is_on_way};
 use crate::text::{Text, put, put_numbered};
 use sdv_graph::{Action, Case, Graph, Target};
-use sdv_telling::put_guards;
+use sdv_telling::{Visit, put_guards};
 use std::alloc::AllocError;
 
 /// Begins the line of an edge, up to its case.
@@ -15,7 +17,7 @@ fn put_arrow(text: &mut Text, from: usize, to: usize) -> Result<(), AllocError>
 {
     put_numbered(text, "    ", from)?;
     put_numbered(text, " -> ", to)?;
-    put(text, " [label=\"")
+    put(text, " [label=\" ")
 }
 
 /// How the line of an edge ends behind its case.
@@ -23,50 +25,81 @@ fn dash(is_back: bool) -> &'static str
     ensures { result.now ≡ dash is_back }
 {
     if is_back {
-        "\", style=dashed, constraint=false];\n"
+        ", style=dashed, constraint=false];\n"
     } else {
-        "\"];\n"
+        "];\n"
+    }
+}
+
+/// Ends the line of an edge behind its case.
+fn put_end(text: &mut Text, way: &[Visit], from: usize, to: usize) -> Result<(), AllocError>
+    ensures { OnOk result (text.new.items ≡ text.old.items
+        ++ (paint (is_on_way way.now from to) ++ dash (nat_le to from))) }
+{
+    put(text, paint(is_on_way(way, from, to)))?;
+    put(text, dash(to <= from))
+}
+
+/// What stands behind the case of an edge, which is red on the way.
+fn paint(is_on_way: bool) -> &'static str
+    ensures { result.now ≡ paint is_on_way }
+{
+    if is_on_way {
+        "\", color=red, fontcolor=red, penwidth=2"
+    } else {
+        "\""
     }
 }
 
 /// Adds the line of an edge that is taken in a case.
 fn put_edge(
     text: &mut Text,
-    points: usize,
+    look: &Look<'_, '_>,
     from: usize,
     target: Target,
     case: &str,
 ) -> Result<(), AllocError>
-    ensures { OnOk result (text.new.items ≡ text.old.items ++ edge_line points from target case.now) }
+    ensures { OnOk result (text.new.items ≡ text.old.items ++ edge_line (look_of look.now) from target case.now) }
 {
-    if target.to >= points {
+    if !look.leads(target.to) {
         return Ok(());
     }
     put_arrow(text, from, target.to)?;
     put(text, case)?;
-    put(text, dash(target.to <= from))
+    put_end(text, look.way, from, target.to)
 }
 
 /// Adds the line of a case of a command.
-fn put_case(text: &mut Text, points: usize, from: usize, case: &Case) -> Result<(), AllocError>
-    ensures { OnOk result (text.new.items ≡ text.old.items ++ case_line points from (seen_case case.now)) }
+fn put_case(
+    text: &mut Text,
+    look: &Look<'_, '_>,
+    from: usize,
+    case: &Case,
+) -> Result<(), AllocError>
+    ensures { OnOk result
+        (text.new.items ≡ text.old.items ++ case_line (look_of look.now) from (seen_case case.now)) }
 {
     let to = case.target.to;
-    if to >= points {
+    if !look.leads(to) {
         return Ok(());
     }
     put_arrow(text, from, to)?;
     put_guards(text, case.guards.as_slice())?;
-    put(text, dash(to <= from))
+    put_end(text, look.way, from, to)
 }
 
 /// Adds the lines of the cases of a command.
-fn put_cases(text: &mut Text, points: usize, from: usize, cases: &[Case]) -> Result<(), AllocError>
-    ensures { OnOk result
-        (text.new.items ≡ text.old.items ++ flat_map (case_line points from) (map seen_case cases.now)) }
+fn put_cases(
+    text: &mut Text,
+    look: &Look<'_, '_>,
+    from: usize,
+    cases: &[Case],
+) -> Result<(), AllocError>
+    ensures { OnOk result (text.new.items ≡ text.old.items
+        ++ flat_map (case_line (look_of look.now) from) (map seen_case cases.now)) }
 {
     for case in cases {
-        put_case(text, points, from, case)?;
+        put_case(text, look, from, case)?;
     }
     Ok(())
 }
@@ -81,52 +114,53 @@ fn else_word(cases: &[Case]) -> &'static str
 /// Adds the lines of two edges.
 fn put_both(
     text: &mut Text,
-    points: usize,
+    look: &Look<'_, '_>,
     from: usize,
     first: Target,
     case: &str,
     other: Target,
 ) -> Result<(), AllocError>
     ensures { OnOk result (text.new.items ≡ text.old.items
-        ++ (edge_line points from first case.now ++ edge_line points from other (codes "else"))) }
+        ++ (edge_line (look_of look.now) from first case.now ++ edge_line (look_of look.now) from other (codes "else"))) }
 {
-    put_edge(text, points, from, first, case)?;
-    put_edge(text, points, from, other, "else")
+    put_edge(text, look, from, first, case)?;
+    put_edge(text, look, from, other, "else")
 }
 
 /// Adds the lines of the edges of a point.
 fn put_edges_of(
     text: &mut Text,
-    points: usize,
+    look: &Look<'_, '_>,
     from: usize,
     action: &Action<'_>,
 ) -> Result<(), AllocError>
-    ensures { OnOk result (text.new.items ≡ text.old.items ++ edge_lines points from (seen_action action.now)) }
+    ensures { OnOk result
+        (text.new.items ≡ text.old.items ++ edge_lines (look_of look.now) from (seen_action action.now)) }
 {
     match action {
         Action::Send(_, cases, other) => {
-            put_cases(text, points, from, cases.as_slice())?;
-            put_edge(text, points, from, *other, else_word(cases.as_slice()))
+            put_cases(text, look, from, cases.as_slice())?;
+            put_edge(text, look, from, *other, else_word(cases.as_slice()))
         }
-        Action::Phase(_, well, other) => put_both(text, points, from, *well, "ok", *other),
-        Action::If(_, met, unmet) => put_both(text, points, from, *met, "then", *unmet),
-        Action::Loop(_, body, other) => put_both(text, points, from, *body, "turn", *other),
+        Action::Phase(_, well, other) => put_both(text, look, from, *well, "ok", *other),
+        Action::If(_, met, unmet) => put_both(text, look, from, *met, "then", *unmet),
+        Action::Loop(_, body, other) => put_both(text, look, from, *body, "turn", *other),
         Action::Let(_, target)
         | Action::Flag(_, _, target)
         | Action::Lines(_, target)
-        | Action::Break(target) => put_edge(text, points, from, *target, ""),
+        | Action::Break(target) => put_edge(text, look, from, *target, ""),
         Action::Done | Action::Fault(_) => Ok(()),
     }
 }
 
 /// Adds the lines of all edges.
-pub fn put_edges(text: &mut Text, graph: &Graph<'_>) -> Result<(), AllocError>
+pub fn put_edges(text: &mut Text, look: &Look<'_, '_>) -> Result<(), AllocError>
     ensures { OnOk result (text.new.items ≡ text.old.items
-        ++ numbered (edges_at (length graph.now.points)) 0 graph.now.points) }
+        ++ numbered (edges_at (look_of look.now)) 0 look.now.graph.now.points) }
 {
-    let points = graph.len();
-    for from in 0..points {
-        put_edges_of(text, points, from, &graph.point(from).action)?;
+    let graph = look.graph;
+    for from in 0..graph.len() {
+        put_edges_of(text, look, from, &graph.point(from).action)?;
     }
     Ok(())
 }

@@ -5,6 +5,7 @@
 
 mod drawing;
 mod edges;
+mod look;
 mod points;
 mod text;
 

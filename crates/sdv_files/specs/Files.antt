@@ -30,6 +30,10 @@ pub record ImageFiles : Type 1 where
   pub unclosed : (file : Text) → Type 0
 
 pub record Files : Type 1 where
+  -- the two names are of one file
+  pub same : (a b : Text) → Type 0
+  -- they are not
+  pub apart : (a b : Text) → Type 0
   -- the file gave these bytes
   pub gives : (file : Text) (bytes : List ℕ) → Type 0
   -- it could not be opened or read, or did not end
@@ -69,8 +73,13 @@ any_images = record {
   unclosed = any_file;
 }
 
+abbrev pub any_two : (a b : Text) → Type 0
+any_two a b = Unit {0}
+
 abbrev pub any_files : Files
 any_files = record {
+  same = any_two;
+  apart = any_two;
   gives = any_bytes;
   unread = any_file;
   images = any_images;

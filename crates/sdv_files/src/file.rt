@@ -7,8 +7,9 @@ use crate::seek_file::SeekFile;
 use sdv_faults::Fault;
 use sdv_file_image::BlockFile;
 use std::alloc::{AllocError, Global};
-use std::fs::{self, OpenOptions};
+use std::fs::{self, Metadata, OpenOptions};
 use std::io::{ErrorKind, Read, Write};
+use std::os::unix::fs::{FileTypeExt, MetadataExt};
 use std::rt::Files;
 
 /// Files that are known by their names.
@@ -24,6 +25,11 @@ pub trait Store {
 
     /// The file of this name was made or emptied, and its bytes go here.
     ghost opened: { Self → List ℕ → Self.Sink → Type 0 };
+
+    /// The two names are of one file.
+    fn is_same(&self, a: &str, b: &str) -> bool
+        ensures same { result ≡ true → (known self.now).same a.now b.now }
+        ensures apart { result ≡ false → (known self.now).apart a.now b.now };
 
     /// The bytes of a file. None where the file cannot be opened or read, or does not end.
     fn bytes_of(&self, alloc: Global, file: &str) -> Result<Option<Vec<u8>>, AllocError>
@@ -107,6 +113,14 @@ impl<'a, R: Files> Store for MachineFiles<'a, R> {
 
     ghost opened = { λ _. any_sink };
 
+    // By what the file system says of them, and else by the names. A pipe or a terminal loses nothing by being written.
+    fn is_same(&self, a: &str, b: &str) -> bool {
+        match (fs::metadata(self.0, a), fs::metadata(self.0, b)) {
+            (Ok(a), Ok(b)) => keeps_bytes(&a) && a.dev() == b.dev() && a.ino() == b.ino(),
+            _ => a == b,
+        }
+    }
+
     fn bytes_of(&self, alloc: Global, file: &str) -> Result<Option<Vec<u8>>, AllocError> {
         let file = if file == "-" { STANDARD_INPUT } else { file };
         match fs::open(self.0, file) {
@@ -137,6 +151,12 @@ impl<'a, R: Files> Store for MachineFiles<'a, R> {
     fn finish(&self, _file: &str, mut sink: R::File) -> bool {
         sink.flush().is_ok()
     }
+}
+
+/// A file of this kind has bytes that are lost where it is written anew.
+fn keeps_bytes(metadata: &Metadata) -> bool {
+    let kind = metadata.file_type();
+    kind.is_file() || kind.is_block_device()
 }
 
 /// As many bytes and as many reads are allowed of one file.

@@ -38,7 +38,7 @@ use Rattle.sdv_faults.specs.Fault.{fault_of_card}
 use Rattle.sdv_command_line.specs.Requests.{RunNames}
 use Rattle.sdv_files.specs.Files.{CardImage, Files}
 use Rattle.sdv_files.specs.Outcomes.{outcome_of}
-use Rattle.sdv_run_command.specs.Run.{AreGiven, EndsRun, FailsToKeep, HasNoCard, IsKept, IsLost, IsOfFile, IsUnreadable, LosesImage, Receives, RefusesRun, RunEnds, RunFails, StopsRun, answer_of}
+use Rattle.sdv_run_command.specs.Run.{AreGiven, EndsRun, FailsToKeep, HasNoCard, IsKept, IsLost, IsOfFile, IsUnreadable, LosesImage, Receives, RefusesRun, EndsApart, RunFails, StopsRun, answer_of}
 use Rattle.sdv_faults.specs.declared.fault.Fault.{Fault}
 use Rattle.sdv_faults.specs.declared.fault.Fault.TheVariants.{File, Script, Certificate, Refused, Card, Memory as NoMemory}
 use Rattle.sdv_run_command.specs.declared.given.Given.{Given}
@@ -262,11 +262,11 @@ module _ (files : Files) (names : RunNames) (given : Given) (image : CardImage) 
 -- THE COMMAND, by the answer of its function
 module _ (files : Files) (names : RunNames) (trace trace' : Option (List ℕ)) where
   pub run_ends : (r : Result (Unit {0}) Fault) → OnOk r (EndsRun files names Done trace trace') → IfErr r (λ fault. RunFails files names fault trace trace')
-      → RunEnds files names (outcome_of r) trace trace'
+      → EndsApart files names (outcome_of r) trace trace'
   run_ends (Ok u) done fails = done
   run_ends (Err fault) done fails = fails
 
   pub run_fails : (fault : Fault) (r : Result (Unit {0}) Fault) → IsErrAnd r (λ f. f ≡ fault) → IfErr r (λ fault. RunFails files names fault trace trace')
-      → RunEnds files names (outcome_of r) trace trace'
+      → EndsApart files names (outcome_of r) trace trace'
   run_fails fault (Ok u) is fails = absurd is
   run_fails fault (Err f) is fails = fails

@@ -315,7 +315,49 @@ RunFails files names Named trace trace' = (end : End) × (end ≢ ends.Done) × 
 RunFails files names Memory trace trace' = Keeps trace trace'
 RunFails files names fault trace trace' = HasNoRun files names fault trace trace'
 
+abbrev pub EndsApart : Files → RunNames → Ending
+EndsApart files names None trace trace' = EndsRun files names ends.Done trace trace'
+EndsApart files names (Some fault) trace trace' = RunFails files names fault trace trace'
+
+-- NO FILE IS LOST BY A SLIP: the file of the output is none of the others
+
+abbrev pub IsSameImage : Files → (image output : Text) → Type 0
+IsSameImage files image output = IsOfFile image × files.same image output
+
+abbrev pub IsSameGiven : Files → (name : Option Text) → (output : Text) → Type 0
+IsSameGiven files name output = (file : Text) × (name ≡ Some file) × files.same file output
+
+-- the file is one that the run reads, or that of its image
+abbrev pub IsRead : Files → RunNames → (output : Text) → Type 0
+IsRead files names output =
+    files.same names.script output
+    ⊎ (files.same names.certificate output
+    ⊎ (files.same names.card output
+    ⊎ (IsSameImage files names.image output
+    ⊎ (IsSameGiven files names.schedule output ⊎ IsSameGiven files names.input output))))
+
+-- it is none of them
+pub record IsOther (files : Files) (names : RunNames) (output : Text) : Type 0 where
+  pub script : files.apart names.script output
+  pub certificate : files.apart names.certificate output
+  pub card : files.apart names.card output
+  pub image : IsOfFile names.image → files.apart names.image output
+  pub schedule : (file : Text) → names.schedule ≡ Some file → files.apart file output
+  pub input : (file : Text) → names.input ≡ Some file → files.apart file output
+
+abbrev pub IsTaken : Files → RunNames → (output : Text) → Type 0
+IsTaken files names output = (names.output ≡ Some output) × IsRead files names output
+
+abbrev pub IsApart : Files → RunNames → Type 0
+IsApart files names = (output : Text) → names.output ≡ Some output → IsOther files names output
+
+-- the output cannot be used, since it is one of the others
+abbrev pub TakesOther : Files → RunNames → Option Fault → Type 0
+TakesOther files names (Some (File file)) = IsTaken files names file.now
+TakesOther files names outcome = ⊥
+
 -- THE COMMAND
 abbrev pub RunEnds : Files → RunNames → Ending
-RunEnds files names None trace trace' = EndsRun files names ends.Done trace trace'
-RunEnds files names (Some fault) trace trace' = RunFails files names fault trace trace'
+RunEnds files names outcome trace trace' =
+    (TakesOther files names outcome × Keeps trace trace')
+    ⊎ (IsApart files names × EndsApart files names outcome trace trace')

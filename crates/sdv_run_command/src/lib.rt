@@ -4,6 +4,7 @@
 //! its files take.
 #![tactic(auto)]
 
+mod apart;
 mod given;
 mod new_image;
 mod run;

@@ -5,12 +5,13 @@ ghost use Rattle.sdv_command_line.specs.Requests.{names_of};
 ghost use Rattle.sdv_file_image.specs.FileImages.{shown_of};
 ghost use Rattle.sdv_files.specs.Files.{SomeCallFailed, image_of};
 ghost use Rattle.sdv_files.specs.Outcomes.{outcome_of};
-ghost use Rattle.sdv_run_command.specs.Run.{FailsToKeep, HasNoCard, IsCardOver, IsKept, IsRun, RefusesRun, RunEnds, answer_of};
+ghost use Rattle.sdv_run_command.specs.Run.{EndsApart, FailsToKeep, HasNoCard, IsCardOver, IsKept, IsRun, RefusesRun, RunEnds, answer_of};
 ghost use Rattle.sdv_run_command.specs.RunImages.{IsOfName, MayHaveFailed, image_given};
 ghost use Rattle.sdv_controller.specs.Controlled.{wire_of};
 ghost use Rattle.sdv_sim.specs.SimOf.{state_of};
 ghost use Rattle.sdv_faults.specs.declared.fault.Fault.{Fault};
 
+use crate::apart::taken_output;
 use crate::given::{Given, GivenImage, given_by};
 use sdv_check::verify;
 use sdv_command_line::RunFiles;
@@ -38,7 +39,8 @@ pub struct Outcome<F: BlockFile> {
 ///
 /// # Errors
 ///
-/// - [`Fault::File`]: a file cannot be used, and each one before it was; then nothing was run or printed. Or the file of
+/// - [`Fault::File`]: the file of the output is one of the others; then no file was opened. Or a file cannot be used, and each
+///   one before it was; then nothing was run or printed. Or the file of
 ///   the image or of the output did not take all that it had to; then the run had come to its end.
 /// - The faults of [`run_given`].
 /// - [`Fault::Named`]: the script ended in a fault that it names, or in `number`. The trace is whole.
@@ -51,6 +53,22 @@ pub fn run_files<'a, S: Store, T: Write>(
     trace: &mut T,
 ) -> Result<(), Fault<'a>>
     ensures { RunEnds (S.known files.now) (names_of names.entry)
+        (outcome_of result) (T.contents trace.old) (T.contents trace.new) }
+{
+    if let Some(file) = taken_output(files, &names) {
+        return Err(Fault::File(file));
+    }
+    run_apart(alloc, files, names, trace)
+}
+
+/// The same where the file of the output is none of the others.
+fn run_apart<'a, S: Store, T: Write>(
+    alloc: Global,
+    files: &S,
+    names: RunFiles<'a>,
+    trace: &mut T,
+) -> Result<(), Fault<'a>>
+    ensures { EndsApart (S.known files.now) (names_of names.entry)
         (outcome_of result) (T.contents trace.old) (T.contents trace.new) }
 {
     let (given, image) = given_by(alloc, files, &names)?;

@@ -4,10 +4,10 @@ use Rattle.sdv_faults.specs.declared.fault.Fault.TheVariants.{Uncertified}
 use Rattle.sdv_files.specs.Outcomes.{PrintsText, Reports, outcome_of}
 use Rattle.sdv_files.proofs.OutcomeLaws.{failed}
 use Rattle.sdv_files.proofs.StartLaws.{keeps_same}
-use Rattle.sdv_commands.proofs.ReportLaws.{in_part}
+use Rattle.sdv_commands.proofs.ReportLaws.{in_part, reports_too}
 use Rattle.sdv_explain.specs.Explained.{Explains, Unexplained}
 use Rattle.sdv_explain.specs.declared.fault.ExplainFault.TheVariants as explains
-use Rattle.sdv_commands.specs.Explain.{IsExplanation, IsUnexplained, refused_by}
+use Rattle.sdv_commands.specs.Explain.{HasNoAnswer, IsExplanation, IsFaultPage, IsUnexplained, refused_by, shown_of}
 use Rattle.sdv_commands.proofs.explain.explain_text.Goals as goal
 
 pub returns-in-Err-TooMany : goal.returns-in-Err-TooMany
@@ -24,12 +24,12 @@ returns-in_err-print_text g c =
     let before = g.O.Write.contents c.args.out.now in
     let after = g.O.Write.contents c.print_text.new.out in
     let is_so : Explains script c.in-Ok.explanation = search rules in
-    let items : c.as_slice.result.now ≡ c.in-Ok.explanation.text.items = search rules in
+    let items : c.as_slice.result.now ≡ shown_of c.args.only_why c.in-Ok.explanation = search rules in
     let was : PrintsText c.as_slice.result.now (Some c.in_err-print_text.field-0.0) before after =
     subst (λ (r : Result (Unit {0}) Fault). PrintsText c.as_slice.result.now (outcome_of r) before after) c.in_err-print_text.was c.print_text.ensures in
-    failed (λ outcome. Reports (IsExplanation script) (IsUnexplained script) outcome before after) _ c.from_residual.result
+    failed (λ outcome. Reports (IsExplanation c.args.only_why script) (IsUnexplained script) outcome before after) _ c.from_residual.result
     c.from_residual.ensures.1
-    (in_part before after (IsExplanation script) (IsUnexplained script) _ c.as_slice.result.now c.in_err-print_text.field-0.0
+    (in_part before after (IsExplanation c.args.only_why script) (IsUnexplained script) _ c.as_slice.result.now c.in_err-print_text.field-0.0
     (inl (c.in-Ok.explanation, is_so, refl, items)) was)
 
 pub returns-in-None : goal.returns-in-None
@@ -38,7 +38,7 @@ returns-in-None g c =
     let before = g.O.Write.contents c.args.out.now in
     let after = g.O.Write.contents c.print_text.new.out in
     let is_so : Explains script c.in-Ok.explanation = search rules in
-    let items : c.as_slice.result.now ≡ c.in-Ok.explanation.text.items = search rules in
+    let items : c.as_slice.result.now ≡ shown_of c.args.only_why c.in-Ok.explanation = search rules in
     let none : None ≡ refused_by c.in-Ok.explanation = search rules in
     let was : PrintsText c.as_slice.result.now None before after =
     subst (λ (r : Result (Unit {0}) Fault). PrintsText c.as_slice.result.now (outcome_of r) before after) c.in_ok-print_text.was c.print_text.ensures in
@@ -50,8 +50,14 @@ returns g c =
     let before = g.O.Write.contents c.args.out.now in
     let after = g.O.Write.contents c.print_text.new.out in
     let is_so : Explains script c.in-Ok.explanation = search rules in
-    let items : c.as_slice.result.now ≡ c.in-Ok.explanation.text.items = search rules in
+    let items : c.as_slice.result.now ≡ shown_of c.args.only_why c.in-Ok.explanation = search rules in
     let told : Some (Uncertified c.in-Some.refusal.fault) ≡ refused_by c.in-Ok.explanation = search rules in
     let was : PrintsText c.as_slice.result.now None before after =
     subst (λ (r : Result (Unit {0}) Fault). PrintsText c.as_slice.result.now (outcome_of r) before after) c.in_ok-print_text.was c.print_text.ensures in
     inl (c.as_slice.result.now, inl (c.in-Ok.explanation, is_so, told, items), was)
+
+pub returns-in-Err-Script : goal.returns-in-Err-Script
+returns-in-Err-Script g c =
+    reports_too {IsReport = IsFaultPage c.args.script.now} {IsOther = IsExplanation c.args.only_why c.args.script.now} {Because = HasNoAnswer}
+    {BecauseOther = IsUnexplained c.args.script.now} (g.O.Write.contents c.args.out.now) (g.O.Write.contents c.print_page.new.out)
+    (λ told text page. inr page) (λ fault none. absurd none) _ c.print_page.ensures

@@ -1,4 +1,4 @@
-use Rattle.std.proofs.Common.{◌≡◌, ◌≢◌, inl, inr, refl, rules, subst, sym, Result, Some, None}
+use Rattle.std.proofs.Common.{◌≡◌, ◌≢◌, inl, refl, rules, subst, sym, Result, Some, None}
 use Rattle.sdv_faults.specs.declared.fault.Fault.{Fault}
 use Rattle.sdv_files.specs.Outcomes.{PrintsText, Reports, outcome_of}
 use Rattle.sdv_files.proofs.OutcomeLaws.{failed}
@@ -6,7 +6,7 @@ use Rattle.sdv_files.proofs.StartLaws.{keeps_same}
 use Rattle.sdv_hints.specs.Page.{Tells}
 use Rattle.sdv_script.specs.declared.fault.FaultKind.TheVariants as kinds
 use Rattle.sdv_commands.proofs.ReportLaws.{in_part}
-use Rattle.sdv_commands.specs.Explain.{IsExplanation, IsUnexplained}
+use Rattle.sdv_commands.specs.Explain.{HasNoAnswer, IsFaultPage}
 use Rattle.sdv_commands.proofs.explain.print_page.Goals as goal
 
 pub returns-then-eq : goal.returns-then-eq
@@ -16,7 +16,7 @@ pub returns-in_err-page : goal.returns-in_err-page
 returns-in_err-page g c =
     let script = c.args.script.now in
     let known = g.O.Write.contents c.args.out.now in
-    failed (λ outcome. Reports (IsExplanation script) (IsUnexplained script) outcome known known) _ c.from_residual.result c.from_residual.ensures.1
+    failed (λ outcome. Reports (IsFaultPage script) HasNoAnswer outcome known known) _ c.from_residual.result c.from_residual.ensures.1
     (keeps_same known)
 
 pub returns-in_err-print_text : goal.returns-in_err-print_text
@@ -29,10 +29,10 @@ returns-in_err-print_text g c =
     let tells : Tells script c.args.fault c.as_slice.result.now = subst (Tells script c.args.fault) (sym items) (c.in_ok-page.ensures.page other) in
     let was : PrintsText c.as_slice.result.now (Some c.in_err-print_text.field-0.0) before after =
     subst (λ (r : Result (Unit {0}) Fault). PrintsText c.as_slice.result.now (outcome_of r) before after) c.in_err-print_text.was c.print_text.ensures in
-    failed (λ outcome. Reports (IsExplanation script) (IsUnexplained script) outcome before after) _ c.from_residual-in_err-print_text.result
+    failed (λ outcome. Reports (IsFaultPage script) HasNoAnswer outcome before after) _ c.from_residual-in_err-print_text.result
     c.from_residual-in_err-print_text.ensures.1
-    (in_part before after (IsExplanation script) (IsUnexplained script) _ c.as_slice.result.now c.in_err-print_text.field-0.0
-    (inr (c.args.fault, refl, c.requires, tells)) was)
+    (in_part before after (IsFaultPage script) HasNoAnswer _ c.as_slice.result.now c.in_err-print_text.field-0.0
+    (c.args.fault, refl, c.requires other, tells) was)
 
 pub returns : goal.returns
 returns g c =
@@ -44,4 +44,4 @@ returns g c =
     let tells : Tells script c.args.fault c.as_slice.result.now = subst (Tells script c.args.fault) (sym items) (c.in_ok-page.ensures.page other) in
     let was : PrintsText c.as_slice.result.now None before after =
     subst (λ (r : Result (Unit {0}) Fault). PrintsText c.as_slice.result.now (outcome_of r) before after) c.in_ok-print_text.was c.print_text.ensures in
-    inl (c.as_slice.result.now, inr (c.args.fault, refl, c.requires, tells), was)
+    inl (c.as_slice.result.now, (c.args.fault, refl, c.requires other, tells), was)

@@ -8,7 +8,7 @@ use Rattle.sdv_commands.proofs.graph.graph_file.Goals as goal
 
 pub returns-in_err-script : goal.returns-in_err-script
 returns-in_err-script g c =
-    no_text (g.S.Store.known c.args.files.now) c.args.script (λ (script : Text). Reports (IsDrawing script) (IsUndrawn script))
+    no_text (g.S.Store.known c.args.files.now) c.args.words.script (λ (script : Text). Reports (IsDrawing c.args.words.no_faults script) (IsUndrawn script))
     (g.O.Write.contents c.args.out.now)
     c.in_err-script.field-0.0 c.in_err-script.ensures.refused c.in_err-script.ensures.no_text c.from_residual.result c.from_residual.ensures.1
 

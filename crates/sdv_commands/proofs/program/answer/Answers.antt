@@ -1,18 +1,17 @@
-use Rattle.std.proofs.Common.{◌≡◌, ◌∙◌, ℕ, List, None, Some, Err, Bor, ap, option_map, rules, sym}
+use Rattle.std.proofs.Common.{◌≡◌, ◌∙◌, None, Some, Err, ap, option_map, rules, sym}
 use Rattle.clap.specs.Walk.{texts}
 use Rattle.sdv_command_line.specs.Requests.{seen}
 use Rattle.sdv_command_line.proofs.CommandLineLaws.{meaning-fault}
 use Rattle.sdv_commands.specs.Ends.{for_page, for_request}
-use Rattle.sdv_commands.specs.Page.{page_of}
+use Rattle.sdv_commands.specs.Page.{page_of, text_of}
 use Rattle.sdv_commands.proofs.EndsLaws.{no_page, no_request}
 use Rattle.sdv_commands.proofs.program.answer.Goals as goal
 
 pub returns-in-Some : goal.returns-in-Some
 returns-in-Some g c =
-    let asked : page_of (texts c.args.words.now) ≡ Some c.in-Some.page.now =
-    sym c.page_of.ensures ∙ ap (option_map (λ (page : Bor (List ℕ)). page.now)) c.in-Some.is in
-    let bytes : c.as_bytes.result.now ≡ c.in-Some.page.now = search rules in
-    for_page c.in-Some.page.now asked (rw bytes at c.print_text.ensures)
+    let asked : page_of (texts c.args.words.now) ≡ Some (text_of c.in-Some.page) =
+    sym c.page_of.ensures ∙ ap (option_map text_of) c.in-Some.is in
+    for_page (text_of c.in-Some.page) asked c.print_page.ensures
 
 pub returns-in_err-request : goal.returns-in_err-request
 returns-in_err-request g c =

@@ -1,8 +1,9 @@
 use Rattle.std.proofs.Common.{◌≡◌, ◌++◌, drop}
-use Rattle.sdv_drawing.specs.Drawing.{numbered, point_line}
+use Rattle.sdv_drawing.specs.Drawing.{look_of, numbered, point_line}
 use Rattle.sdv_drawing.proofs.points.put_points.Given as goal
 
 -- what is written, and what is still to be, are all
 abbrev pub invariant-loop-point : goal.invariant-loop-point
 invariant-loop-point l =
-    l.text.items ++ numbered (point_line l.refusal) l.point (drop l.point l.headings) ≡ l.fn.text.items ++ numbered (point_line l.refusal) 0 l.headings
+    l.text.items ++ numbered (point_line (look_of l.look)) l.point (drop l.point l.headings)
+    ≡ l.fn.text.items ++ numbered (point_line (look_of l.look)) 0 l.headings

@@ -1,9 +1,7 @@
-use Rattle.std.proofs.Common.{◌≡◌, ◌/◌, refl, subst, inl, inr}
-use Rattle.sdv_controller.specs.Controlled.{wire_of}
+use Rattle.std.proofs.Common.{◌/◌, refl, subst, inl, inr}
 use Rattle.sdv_description.specs.Layout.{image_size}
 use Rattle.sdv_file_image.specs.FileImages.{failed_of, shown_of, size_of}
 use Rattle.sdv_sim.specs.Made.{IsRefused, IsUnread}
-use Rattle.sdv_sim.specs.SimOf.{state_of}
 use Rattle.sdv_files.specs.Files.{CardImage, image_of}
 use Rattle.sdv_run_command.specs.RunImages.{MayHaveFailed}
 use Rattle.sdv_run_command.proofs.RunLaws.{file_unread, made_over, no_card, no_image, refused_so}

@@ -1,0 +1,135 @@
+-- WHAT IS WRONG with words that are no request of the program: the first word that is wrong, or the one that is missing.
+use Rattle.std.specs.Prelude.{ℕ, Bool, false, true, [], ◌∷◌, ◌++◌, ◌+◌, ◌==◌, ◌&&◌, ◌||◌, List, Option, Some, None, codes, find, fold}
+use Rattle.std.specs.Prelude.{if◌then◌else◌, option_and_then, slice_get}
+use Rattle.std.specs.List.{list_any}
+use Rattle.std.specs.Str.{bytes_eq}
+use Rattle.clap.specs.Words.{Text}
+use Rattle.sdv_command_line.specs.Commands.{Command, Word, flag, form, optional, required, with_value}
+use Rattle.sdv_command_line.specs.CommandPages.{command_named}
+use Rattle.sdv_command_line.specs.declared.mistake.Mistake.{Mistake as CodeMistake}
+use Rattle.sdv_command_line.specs.declared.mistake.Mistake.TheVariants as mistakes
+use Rattle.sdv_command_line.specs.declared.mistake.Reading.{Reading as CodeReading}
+use Rattle.sdv_command_line.specs.declared.mistake.Reading.TheVariants as readings
+
+pub data Mistake : Type 0 where
+  -- the words are as many as they should be, and one of them does not fit
+  unknown : Mistake
+  one_too_many : (word : Text) → Mistake
+  no_option : (word : Text) → Mistake
+  no_kind : (word : Text) → Mistake
+  missing : (name : Text) → Mistake
+  no_value : (name value : Text) → Mistake
+
+-- how far the words of a command were read
+pub data Reading : Type 0 where
+  -- the next word in a place is that of this place
+  at_place : (place : ℕ) → Reading
+  -- the next word is the value of this option
+  at_value : (place : ℕ) (name value : Text) → Reading
+  wrong : Mistake → Reading
+
+-- OPTIONS: words that begin with `-`, but `-` itself, which is a file; `--` and `--NAME=VALUE` are left to clap
+
+abbrev pub is_option : Text → Bool
+is_option [] = false
+is_option (b ∷ []) = false
+is_option (b ∷ c ∷ bs) = b == 45
+
+-- the name behind `--`
+abbrev pub option_name : Text → Option Text
+option_name [] = None
+option_name (b ∷ []) = None
+option_name (b ∷ c ∷ name) = if (b == 45) && (c == 45) then Some name else None
+
+abbrev pub is_left : (name : Option Text) → Bool
+is_left None = false
+is_left (Some []) = true
+is_left (Some (b ∷ bs)) = list_any (λ byte. byte == 61) (b ∷ bs)
+
+abbrev pub has_option : (name : Text) → Word → Bool
+has_option name (with_value n value) = bytes_eq n name
+has_option name (flag n) = bytes_eq n name
+has_option name word = false
+
+abbrev pub option_in : List Word → (name : Option Text) → Option Word
+option_in words name = option_and_then (λ name. find (has_option name) words) name
+
+abbrev pub after_option : (place : ℕ) → (word : Text) → Option Word → Reading
+after_option place word None = if is_left (option_name word) then at_place place else wrong (no_option word)
+after_option place word (Some (with_value name value)) = at_value place name value
+after_option place word (Some w) = at_place place
+
+-- WORDS IN A PLACE
+
+abbrev pub is_kind : Text → Bool
+is_kind word = bytes_eq word (codes "sd") || bytes_eq word (codes "emmc")
+
+-- the name of a place, which a command has where it takes a word there
+abbrev pub place_name : Option Word → Option Text
+place_name (Some (required name)) = Some name
+place_name (Some (optional name)) = Some name
+place_name _ = None
+
+abbrev pub fits : (name word : Text) → Bool
+fits name word = if bytes_eq name (codes "KIND") then is_kind word else true
+
+abbrev pub after_place : (place : ℕ) → (word : Text) → (name : Option Text) → Reading
+after_place place word None = wrong (one_too_many word)
+after_place place word (Some name) = if fits name word then at_place (place + 1) else wrong (no_kind word)
+
+-- ALL WORDS behind the name of a command
+
+abbrev pub after_word : Command → Reading → (word : Text) → Reading
+after_word c (at_place place) word =
+    if is_option word then after_option place word (option_in c.words (option_name word))
+    else after_place place word (place_name (slice_get c.words place))
+after_word c (at_value place name value) word = at_place place
+after_word c (wrong mistake) word = wrong mistake
+
+abbrev pub missing_at : Option Word → Mistake
+missing_at (Some (required name)) = missing name
+missing_at _ = unknown
+
+abbrev pub mistake_at : Command → Reading → Mistake
+mistake_at c (at_place place) = missing_at (slice_get c.words place)
+mistake_at c (at_value place name value) = no_value name value
+mistake_at c (wrong mistake) = mistake
+
+abbrev pub mistake_in : Command → List Text → Mistake
+mistake_in c words = mistake_at c (fold (after_word c) (at_place 0) words)
+
+-- WHAT IS SAID of them, on one line
+
+abbrev pub mistake_words : Mistake → Text
+mistake_words unknown = codes "a word does not fit: "
+mistake_words (one_too_many word) = word ++ codes " is one word too many: "
+mistake_words (no_option word) = word ++ codes " is no option: "
+mistake_words (no_kind word) = word ++ codes " is no KIND: "
+mistake_words (missing name) = name ++ codes " is missing: "
+mistake_words (no_value name value) = codes "--" ++ (name ++ (codes " needs " ++ (value ++ codes ": ")))
+
+abbrev pub command_line_words : (name : Text) → List Text → Option Command → Text
+command_line_words name words None = name ++ codes " is no command; sdv --help lists them\n"
+command_line_words name words (Some c) = mistake_words (mistake_in c words) ++ (form c ++ codes "\n")
+
+abbrev pub wrong_words : List Text → Text
+wrong_words [] = codes "a command is missing; sdv --help lists them\n"
+wrong_words (name ∷ words) = command_line_words name words (command_named name)
+
+abbrev pub usage_line : List Text → Text
+usage_line words = codes "usage: " ++ wrong_words words
+
+-- THE CODE'S MISTAKE, with references to the words
+
+abbrev pub seen_mistake : CodeMistake → Mistake
+seen_mistake mistakes.Unknown = unknown
+seen_mistake (mistakes.OneTooMany word) = one_too_many word.now
+seen_mistake (mistakes.NoOption word) = no_option word.now
+seen_mistake (mistakes.NoKind word) = no_kind word.now
+seen_mistake (mistakes.Missing name) = missing name.now
+seen_mistake (mistakes.NoValue name value) = no_value name.now value.now
+
+abbrev pub seen_reading : CodeReading → Reading
+seen_reading (readings.AtPlace place) = at_place place
+seen_reading (readings.AtValue place name value) = at_value place name.now value.now
+seen_reading (readings.Wrong mistake) = wrong (seen_mistake mistake)
