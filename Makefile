@@ -6,11 +6,12 @@ JOBS ?= $(shell nproc)
 export PATH := /opt/rattle/bin:$(PATH)
 
 program := crates/sdv/out/sdv
-.PHONY: help quick build check install uninstall
+.PHONY: help quick build firmware check install uninstall
 
 help:
 	@echo "make quick       a first look in two minutes, without proofs"
 	@echo "make build       proves what changed, with JOBS=$(JOBS) crates side by side, and builds $(program)"
+	@echo "make firmware    builds the player of script tables as a static library, for x86-64 and aarch64"
 	@echo "make check       the gate: every proof from nothing, must-fail edits, tests and examples"
 	@echo "make install     builds the program if its sources changed, and copies it, its man page and completions below"
 	@echo "                 PREFIX=$(PREFIX)"
@@ -22,6 +23,9 @@ quick:
 build:
 	rt all check --jobs $(JOBS)
 	cd crates/sdv && rt run -- frame 0 0
+
+firmware:
+	sh firmware/build.sh
 
 check:
 	bash .ci/run

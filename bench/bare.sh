@@ -1,7 +1,8 @@
 #!/bin/sh
 # sh bench/bare.sh [SCRIPT..]: builds a bare image of the player, the sample driver and the table of a script, and runs it on
 # QEMU's board virt (aarch64) beside QEMU's SDHCI controller and an SD card of 64 MiB. It prints the size of the image and the
-# trace, or with no words the last line for some scripts of examples/.
+# trace, or with no words the last line for some scripts of examples/. With PROVED=1 it takes the player in Rattle in place of the
+# one in C.
 #
 # It needs clang and lld; qemu-system-arm is installed where apt-get can do that. It takes the program that rt ci left, or the
 # one that SDV names, or else has rt make it.
@@ -15,9 +16,16 @@ sdv=${SDV:-$top/crates/sdv/out/sdv}
 command -v qemu-system-aarch64 > "$work/said" || apt-get install -y --no-install-recommends qemu-system-arm > "$work/said" 2>&1
 
 target="--target=aarch64-none-elf -mcpu=cortex-a53 -mstrict-align"
-for file in bench/bare/main firmware/sdv_step firmware/sdhci; do
+files="bench/bare/main firmware/sdhci" player="" proved=""
+if [ "${PROVED:-}" ]; then
+    sh "$top/firmware/build.sh" > "$work/built" 2>&1 || { cat "$work/built"; exit 1; }
+    player=$top/out/firmware/libsdv_aarch64.a proved=-DPROVED
+else
+    files="$files firmware/sdv_step"
+fi
+for file in $files; do
     # shellcheck disable=SC2086 # the options are words
-    clang $target -std=c99 -Wall -Wextra -Os -ffreestanding -ffunction-sections -c "$top/$file.c" -o "$work/$(basename "$file").o"
+    clang $target $proved -std=c99 -Wall -Wextra -Os -ffreestanding -ffunction-sections -c "$top/$file.c" -o "$work/$(basename "$file").o"
 done
 # shellcheck disable=SC2086
 clang $target -c "$top/bench/bare/start.S" -o "$work/start.o"
@@ -29,7 +37,8 @@ image() {
     printf '#include <stddef.h>\nconst size_t table_words = sizeof table / 4;\n' >> "$work/table.c"
     # shellcheck disable=SC2086
     clang $target -std=c99 -Os -ffreestanding -c "$work/table.c" -o "$work/table.o"
-    ld.lld -T "$top/bench/bare/link.ld" --gc-sections --no-undefined "$work"/*.o -o "$work/image"
+    # shellcheck disable=SC2086
+    ld.lld -T "$top/bench/bare/link.ld" --gc-sections --no-undefined "$work"/*.o $player -o "$work/image"
 }
 
 # played: what the image prints

@@ -6,7 +6,11 @@
 #include <stdio.h>
 #include <time.h>
 
+#ifdef PROVED
+#include "../firmware/sdv_player.h"
+#else
 #include "../firmware/sdv_step.h"
+#endif
 
 extern const uint32_t table[];
 extern const size_t table_words;

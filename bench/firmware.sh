@@ -1,8 +1,8 @@
 #!/bin/sh
-# sh bench/firmware.sh: how many bytes the player of tables has on four processors, how many the tables of the scripts of
-# examples/ have, and how long the player takes for a command.
+# sh bench/firmware.sh: how many bytes the player of tables in C has on four processors, and the player in Rattle on two; how many
+# the tables of the scripts of examples/ have; and how long the players take for a command.
 #
-# The player is compiled for size, by clang, and by the compilers of Debian's packages gcc-arm-none-eabi,
+# The player in C is compiled for size, by clang, and by the compilers of Debian's packages gcc-arm-none-eabi,
 # gcc-riscv64-unknown-elf and gcc-aarch64-linux-gnu, which are installed first where apt-get can do that. It takes the program
 # that rt ci left, or the one that SDV names, or else has rt make it.
 set -eu
@@ -44,6 +44,14 @@ code aarch64 aarch64-linux-gnu-gcc
 code x86-64 clang --target=x86_64-none-elf
 code x86-64 gcc
 
+sh "$top/firmware/build.sh" > "$work/built" 2>&1 || { cat "$work/built"; exit 1; }
+for processor in aarch64 x86_64; do
+    library=$top/out/firmware/libsdv_$processor.a
+    bytes=$("$SIZE" -A "$library" | awk '$1 ~ /^\.(text|rodata)/ { bytes += $2 } END { print bytes }')
+    wanted=$(nm -u "$library" 2> "$work/said" | grep -c ' U ' || true)
+    printf '%-10s %-24s %6d bytes, %d symbols from outside\n' "$processor" Rattle "$bytes" "$wanted"
+done
+
 # TABLES
 
 for script in "$top"/examples/*.sdv "$top"/examples/*/*.sdv; do
@@ -64,3 +72,7 @@ for compiler in gcc clang; do
     "$compiler" -std=c99 -O2 "$top/bench/firmware.c" "$top/firmware/sdv_step.c" "$work/table.c" -o "$work/time"
     echo "$compiler -O2 on this machine: $("$work/time")"
 done
+if [ "$(uname -m)" = x86_64 ]; then
+    cc -std=c99 -O2 -DPROVED "$top/bench/firmware.c" "$top/out/firmware/libsdv_x86_64.a" "$work/table.c" -o "$work/time"
+    echo "Rattle on this machine: $("$work/time")"
+fi

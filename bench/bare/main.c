@@ -4,7 +4,11 @@
  * gives count up; those that it receives are added up, and the sum is printed below the trace.
  */
 #include "../../firmware/sdhci.h"
+#ifdef PROVED
+#include "../../firmware/sdv_player.h"
+#else
 #include "../../firmware/sdv_step.h"
+#endif
 
 extern const uint32_t table[];
 extern const size_t table_words;

@@ -5,7 +5,11 @@
  */
 #include <string.h>
 
+#ifdef PROVED
+#include "../../firmware/sdv_player.h"
+#else
 #include "../../firmware/sdv_step.h"
+#endif
 #include "table.h"
 
 static uint32_t drawn = 1;

@@ -9,7 +9,11 @@
  */
 #include <string.h>
 
+#ifdef PROVED
+#include "../../firmware/sdv_player.h"
+#else
 #include "../../firmware/sdv_step.h"
+#endif
 #include "table.h"
 
 enum { LINE = 1100 }; /* the longest line, and its end */

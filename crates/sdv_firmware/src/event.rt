@@ -1,0 +1,160 @@
+//! Events as C sees them.
+
+use sdv_card::{Ask, Width};
+use sdv_frames::Expect;
+use sdv_player::{Next, State};
+use sdv_run::NextEvent;
+use sdv_table::{Data, NameRow, sending_at};
+
+/// What the host does next.
+#[repr(C)]
+#[derive(Clone, Copy)]
+pub struct Event {
+    /// 1 to 8: a command, blocks from the card, a register, blocks to the card, a wait, `done`, a fault, stopped.
+    pub what: u32,
+    /// The statement's point.
+    pub point: u32,
+    /// The index of a command.
+    pub index: u32,
+    /// The argument of a command.
+    pub argument: u32,
+    /// The response to wait for: 0 none, else 1, 2, 3, 6 or 7 for R1 to R7.
+    pub expect: u32,
+    /// What follows a command: 0 nothing, 1 the card may be busy, 2 blocks from the card, 3 blocks to it, 4 a register.
+    pub data: u32,
+    /// Blocks, or bytes of a register or of a name.
+    pub count: u32,
+    /// The data lines that the host uses: 1, 4 or 8.
+    pub lines: u32,
+    /// The name of a fault.
+    pub name: [u8; 16],
+}
+
+/// The name `number`, as a table has names.
+static NUMBER: [u32; 2] = [0x626d_756e, 0x0000_7265];
+
+/// The response that is waited for, by its number.
+fn expect_number(expect: Expect) -> u32 {
+    match expect {
+        Expect::Nothing => 0,
+        Expect::R1(_) => 1,
+        Expect::R2 => 2,
+        Expect::R3 => 3,
+        Expect::R6 => 6,
+        Expect::R7 => 7,
+    }
+}
+
+/// What follows a command of so many blocks on the data lines, and how much of it.
+fn data_of(follows: Data, blocks: u16, app: bool) -> (u32, u32) {
+    match follows {
+        Data::Nothing => (0, 0),
+        Data::Busy => (1, 0),
+        Data::BlocksIn => (2, u32::from(blocks)),
+        Data::BlocksOut => (3, u32::from(blocks)),
+        Data::Scr => (4, 8),
+        Data::SdStatus if app => (4, 64),
+        Data::SdStatus => (0, 0),
+        Data::ExtCsd => (4, 512),
+    }
+}
+
+/// The byte of a name in this place, four bytes a word, the first one lowest.
+fn byte_at(name: NameRow<'_>, at: usize) -> u8 {
+    let word = name.words.get(at / 4).copied().unwrap_or(0);
+    let [a, b, c, d] = word.to_le_bytes();
+    match at % 4 {
+        0 => a,
+        1 => b,
+        2 => c,
+        _ => d,
+    }
+}
+
+/// The end in the fault of this name: as much of it as there is room for.
+fn fault(event: Event, name: NameRow<'_>) -> Event {
+    let mut bytes = [0; 16];
+    let mut count = 0;
+    for at in 0..16_usize {
+        if at < usize::from(name.length) {
+            bytes[at] = byte_at(name, at);
+            count = at as u32 + 1;
+        }
+    }
+    Event {
+        what: 7,
+        count,
+        name: bytes,
+        ..event
+    }
+}
+
+/// The event of a command at a point.
+fn command(table: &[u32], state: &State, event: Event, ask: Ask, argument: u32) -> Event {
+    let point = state.place.point;
+    if point >= 65536 {
+        return event;
+    }
+    let sending = sending_at(table, point);
+    let (data, count) = data_of(sending.follows, ask.count, state.app != 0);
+    Event {
+        what: 1,
+        index: u32::from(ask.index),
+        argument,
+        expect: expect_number(sending.expect),
+        data,
+        count,
+        ..event
+    }
+}
+
+/// What the host does next, as C sees it.
+pub fn event_of(table: &[u32], state: &State, next: Next<'_>) -> Event {
+    let event = Event {
+        what: 8,
+        point: u32::try_from(state.place.point).unwrap_or(u32::MAX),
+        index: 0,
+        argument: 0,
+        expect: 0,
+        data: 0,
+        count: 0,
+        lines: state.host.lines,
+        name: [0; 16],
+    };
+    match next {
+        Next::Event(made) => made_of(table, state, event, made),
+        Next::Done => Event { what: 6, ..event },
+        Next::Fault(name) => fault(event, name),
+        Next::Number => fault(
+            event,
+            NameRow {
+                length: 6,
+                words: &NUMBER,
+            },
+        ),
+        Next::Stopped => event,
+    }
+}
+
+/// An event that is made.
+fn made_of(table: &[u32], state: &State, event: Event, made: NextEvent) -> Event {
+    match made {
+        NextEvent::Send { ask, argument, .. } => command(table, state, event, ask, argument),
+        NextEvent::ReceiveBlocks { count, .. } => Event {
+            what: 2,
+            count: u32::from(count),
+            ..event
+        },
+        NextEvent::ReceiveRegister { count, .. } => Event {
+            what: 3,
+            count: u32::from(count),
+            ..event
+        },
+        NextEvent::GiveBlocks { count, .. } => Event {
+            what: 4,
+            count: u32::from(count),
+            ..event
+        },
+        NextEvent::Wait => Event { what: 5, ..event },
+    }
+}

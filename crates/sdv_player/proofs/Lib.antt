@@ -1,0 +1,4 @@
+pub mod Cases
+pub mod Passed
+pub mod Turns
+pub mod Within

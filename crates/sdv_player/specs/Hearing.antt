@@ -1,0 +1,29 @@
+-- What a player makes of an answer to a command, by the command's row.
+use Rattle.std.specs.Prelude.{◌==◌, ◌&&◌, ℕ, List, Bool, true, Option, Some, None, is_none, if◌then◌else◌}
+use Rattle.sdv_frames.specs.Bits.{bits_of}
+use Rattle.sdv_frames.specs.declared.reply.Reply.TheVariants.{R2}
+use Rattle.sdv_registers.specs.declared.kind.Kind.{Kind}
+use Rattle.sdv_registers.specs.Csd.{fault}
+use Rattle.sdv_card.specs.declared.event.Ask.{Ask}
+use Rattle.sdv_card.specs.declared.answer.Answer.{Answer}
+use Rattle.sdv_card.specs.declared.answer.Answer.TheVariants.{Reply}
+use Rattle.sdv_run.specs.Answers.{is_of_kind}
+use Rattle.sdv_table.specs.declared.sending.Sending.{Sending}
+use Rattle.sdv_table.specs.Sending.{csd_by}
+use Rattle.sdv_player.specs.Seen.{Registers}
+
+-- an R2 to CMD9 has a CSD that can be read
+abbrev pub is_csd : Kind → Answer → Bool
+is_csd k (Reply (R2 register)) = is_none (fault k (bits_of register))
+is_csd k answer = true
+
+abbrev pub is_readable : Kind → (index : ℕ) → Answer → Bool
+is_readable k index answer = if index == 9 then is_csd k answer else true
+
+-- a run goes on with the answer
+abbrev pub is_heard : Kind → Ask → Sending → Answer → Bool
+is_heard k ask sending answer = is_of_kind sending.expect answer && is_readable k ask.index answer
+
+-- the registers that the host then read
+abbrev pub registers_after : (index : ℕ) → Answer → Registers → Registers
+registers_after index answer r = record r { csd = csd_by index answer r.csd }

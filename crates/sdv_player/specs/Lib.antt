@@ -1,0 +1,4 @@
+pub mod Asking
+pub mod Hearing
+pub mod Passing
+pub mod Seen
