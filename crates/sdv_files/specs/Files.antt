@@ -30,7 +30,7 @@ pub record ImageFiles : Type 1 where
   pub unclosed : (file : Text) → Type 0
 
 pub record Files : Type 1 where
-  -- the file gave these bytes
+  -- these are the bytes that the file gives
   pub gives : (file : Text) (bytes : List ℕ) → Type 0
   -- it could not be opened or read, or did not end
   pub unread : (file : Text) → Type 0
