@@ -208,7 +208,7 @@ CMD55 12340000 R1 00000920
 CMD51 00000000 R1 00000920
 REG 8 ok
 CMD55 12340000 R1 00000920
-CMD13 00000000 R1 00000920
+CMD13 12340000 R1 00000920
 REG 64 ok
 CMD55 12340000 R1 00000920
 CMD6 00000002 R1 00000920
@@ -233,6 +233,7 @@ left out: CMD52 (line 2, 2 times)
 left out: CMD5 (line 10)
 left out: CMD55 and CMD41 00000000, an inquiry (line 14)
 CMD41 40300000 stands as CMD41 40ff8000 (line 20)
+CMD13 00000000 stands as CMD13 12340000 (line 36)
 left out: CMD6 (line 38)
 left out: CMD55 and CMD22 (line 56)
 left out: CMD63 (line 58)
@@ -847,7 +848,7 @@ CMD55 12340000 R1 00000920
 CMD51 00000000 R1 00000920
 REG 8 ok
 CMD55 12340000 R1 00000920
-CMD13 00000000 R1 00000920
+CMD13 12340000 R1 00000920
 REG 64 ok
 CMD55 12340000 R1 00000920
 CMD6 00000002 R1 00000920
@@ -870,7 +871,7 @@ CMD12 00000000 R1 00000b00
 CMD24 000003e9 R1 00000900
 CMD13 12340000 R1 00000d00
 CMD7 00000000 -
-CMD7 00000000 timeout
+CMD7 00000000 -
 LINES 1
 CMD0 00000000 -
 =
@@ -883,6 +884,7 @@ left out: CMD55 and CMD41 40000000, an inquiry (line 11)
 CMD41 40300000 stands as CMD41 40ff8000 (line 13)
 CMD41 00300000 stands as CMD41 00ff8000 (line 16)
 put in: REG 8 ok, because a later command shows the phase (line 26)
+CMD13 00000000 stands as CMD13 12340000 (line 27)
 put in: REG 64 ok, because a later command shows the phase (line 28)
 left out: CMD6 (line 28)
 left out: CMD55 and CMD22 (line 32)
@@ -891,7 +893,7 @@ CMD12 was sent by the controller: its answer is not in the capture, and a status
 put in: IN 1 ok for any number of blocks, because a later command shows the phase (line 35)
 put in: OUT 1 ok, because a later command shows the phase (line 38)
 put in: OUT 1 ok for any number of blocks, because a later command shows the phase (line 40)
-CMD7 with address 0 stands as not answered (line 47)
+CMD7 with address 0 stands without an answer (line 47)
 END
 
 # A CMD41 after a CMD55 that does not show APP_CMD stays, and so does a plain CMD51. An echo that is no echo stays none.

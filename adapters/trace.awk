@@ -128,9 +128,11 @@ function renamed(arg,    high) {
     return (high == "0001" && device != "" ? device : high) substr(arg, 5)
 }
 
-# The argument that a script writes in place of this one.
-function argument_of(i, arg) {
+# The argument that a script writes in place of this one. `app`: it comes after CMD55.
+function argument_of(i, arg, app) {
     if (emmc && i ~ /^(3|7|9|10|13)$/) arg = renamed(arg)
+    # the card looks at no bit of ACMD13, and a script sends the address with it
+    if (app && i == 13) return address_55
     # the card does not look at these bits
     if (i == 2 || (!emmc && i ~ /^(0|3|12|51)$/)) return "00000000"
     if (i ~ /^(7|9|10|55)$/) return substr(arg, 1, 4) "0000"
@@ -159,6 +161,7 @@ function command(i, arg, answer,    app, taken, want, state) {
     last_index = i
     taken = held_taken
     after_55 = !emmc && i == 55
+    if (after_55) address_55 = substr(arg, 1, 4) "0000"
     held_taken = 0
     state = shown(answer)
     if (after_left && i == 13 && state >= 5 && state <= 7) {
@@ -182,11 +185,15 @@ function command(i, arg, answer,    app, taken, want, state) {
     }
     let_go()
     if (emmc && i == 3 && substr(arg, 1, 4) != "0000") device = substr(arg, 1, 4)
-    want = argument_of(i, arg)
+    want = argument_of(i, arg, app)
     if (want != arg) {
         note("CMD" i " " arg " stands as CMD" i " " want)
         if (i == 8) answer = echo_of(arg, answer)
         arg = want
+    }
+    if (i == 7 && arg == "00000000" && answer != "-") {
+        note("CMD7 with address 0 stands without an answer")
+        answer = "-"
     }
     if (i == 0) {
         lines_due = 0

@@ -38,5 +38,20 @@ A text that is no trace, a kind that is none, a file that cannot be used, and an
   $ sdv audit sd none.trace
   cannot use none.trace
   [2]
+  $ sdv audit sd .
+  cannot use .
+  [2]
   $ sdv audit sd a.trace > /dev/full
   [2]
+
+A line has at most 1,024 bytes; a trace is read line by line.
+
+  $ head -c 1024 /dev/zero | sdv audit sd -
+  trace fault Word line 1
+  [1]
+  $ head -c 1025 /dev/zero | sdv audit sd -
+  trace fault Length line 1
+  [1]
+  $ sdv audit sd /dev/zero
+  trace fault Length line 1
+  [1]

@@ -1,7 +1,8 @@
 //! The program over writers, readers and texts in memory.
 use crate::testing::{CERTIFICATE, Full, SMALLEST};
 use sdv_commands::program::{answer, program};
-use sdv_files::{Store, bytes_within};
+use sdv_faults::Fault;
+use sdv_files::{Source, Store, bytes_within};
 use sdv_lines::LinePort;
 use sdv_run_command::NewImage;
 use std::alloc::{AllocError, Global};
@@ -36,7 +37,8 @@ impl io::Write for Small {
     }
 }
 
-/// A script beside its certificate in memory: whatever file is asked for by the name `script` or by another.
+/// A script beside its certificate in memory: whatever file is asked for by the name `script` or by another. A file that is
+/// used while it is read has three letters and comes slowly; reading the one of the name `broken` fails behind them.
 #[derive(Drop)]
 struct Pair;
 
@@ -44,6 +46,8 @@ impl Store for Pair {
     type Sink = Full;
 
     type Image = NewImage;
+
+    type Source = Source<Slow>;
 
     ghost use Rattle.sdv_files.specs.Files.{any_files, any_sink};
 
@@ -62,6 +66,18 @@ impl Store for Pair {
             CERTIFICATE
         };
         Ok(Some(text.as_bytes().to_vec(alloc)?))
+    }
+
+    fn open(&self, file: &str) -> Option<Source<Slow>> {
+        Some(Source::new(Slow {
+            left: 3,
+            interrupted: false,
+            fails: file == "broken",
+        }))
+    }
+
+    fn close(&self, _file: &str, source: Source<Slow>) -> bool {
+        !source.has_failed()
     }
 
     fn open_image(&self, _file: &str) -> Option<NewImage> {
@@ -145,6 +161,22 @@ fn answers_from_texts_in_memory(rt: HostRuntime) {
         answer(rt.alloc(), &Pair, row.0, &mut lines, &mut out).expect(&rt, row.1);
         assert!(rt; out.as_slice() == row.1.as_bytes(), "{}", row.1);
     }
+}
+
+#[test]
+fn audits_what_comes_slowly(rt: HostRuntime) {
+    let mut out = Vec::new(rt.alloc());
+    let mut lines = LinePort::new(io::empty(), io::sink());
+    let letters = ["audit", "sd", "letters"];
+    let found = answer(rt.alloc(), &Pair, &letters, &mut lines, &mut out);
+    assert!(rt;
+        matches!(found, Err(Fault::Trace(_))),
+        "letters are no trace"
+    );
+    let broken = ["audit", "sd", "broken"];
+    let found = answer(rt.alloc(), &Pair, &broken, &mut lines, &mut out);
+    assert!(rt; found == Err(Fault::File("broken")));
+    assert!(rt; out.is_empty());
 }
 
 // The bytes of a reader, whether it fails, the limit, and how many bytes are given.

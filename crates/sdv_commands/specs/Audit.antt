@@ -1,5 +1,5 @@
 -- `audit KIND TRACE`: the report on the trace of a file is printed while the trace is read.
-use Rattle.std.specs.Prelude.{◌≡◌, ℕ, List, Option, Some, None, Result, Ok, Err, if◌then◌else◌}
+use Rattle.std.specs.Prelude.{◌≡◌, ℕ, List, Option, Some, None, Result, Ok, Err, IfSome, if◌then◌else◌}
 use Rattle.std.specs.Io.KnownBytes.{Keeps}
 use Rattle.clap.specs.Words.{Text}
 use Rattle.sdv_registers.specs.declared.kind.Kind.{Kind}
@@ -20,29 +20,36 @@ abbrev pub ended_by : Result Tally TraceFault → Option Fault
 ended_by (Ok tally) = if has_findings tally then Some Found else None
 ended_by (Err fault) = Some (fault_of_trace fault)
 
--- these bytes were audited as the trace of a host beside a card of this kind
-pub record AuditsBytes (kind : Kind) (style : Style) (trace : List ℕ) (outcome : Option Fault) (before after : Option (List ℕ))
-    : Type 0 where
+-- what a reader had left, where that is known, was audited as the trace of a host beside a card of this kind
+pub record AuditsReader (kind : Kind) (style : Style) (trace : Option (List ℕ)) (outcome : Option Fault)
+    (before after : Option (List ℕ)) : Type 0 where
   pub left : Option (List ℕ)
   pub result : Result Tally TraceFault
-  pub audited : Audits kind style (Some trace) left before after result
+  pub audited : Audits kind style trace left before after result
   pub outcome_is : outcome ≡ ended_by result
 
 abbrev pub style_of : AuditNames → Style
 style_of names = record { json = names.json; annotate = names.annotate }
 
+-- the file of this name could not be opened or read
+abbrev pub IsUnread : Files → (wanted : Text) → Option Fault → Type 0
+IsUnread files wanted (Some (File file)) = (file.now ≡ wanted) × files.unread wanted
+IsUnread files wanted outcome = ⊥
+
 -- why there is no trace; want of memory says nothing
 abbrev pub NoTrace : Files → (wanted : Text) → Option Fault → Type 0
-NoTrace files wanted (Some (File file)) = (file.now ≡ wanted) × files.unread wanted
 NoTrace files wanted (Some Memory) = Unit {0}
-NoTrace files wanted outcome = ⊥
+NoTrace files wanted outcome = IsUnread files wanted outcome
 
 pub data AuditEnds (files : Files) (names : AuditNames) (outcome : Option Fault) (before after : Option (List ℕ)) : Type 0 where
   -- there is no such kind of card
   no_kind : kind_named names.kind ≡ None → outcome ≡ Some Usage → Keeps before after
       → AuditEnds files names outcome before after
-  -- the file cannot be used
+  -- the trace is not begun
   no_trace : NoTrace files names.trace outcome → Keeps before after → AuditEnds files names outcome before after
-  -- what the file gave was audited
-  audits : (kind : Kind) (trace : List ℕ) → kind_named names.kind ≡ Some kind → files.gives names.trace trace
-      → AuditsBytes kind (style_of names) trace outcome before after → AuditEnds files names outcome before after
+  -- a read of the file failed, and a part of the report may be printed
+  broken_off : IsUnread files names.trace outcome → AuditEnds files names outcome before after
+  -- what the file gives was audited
+  audits : (kind : Kind) (trace : Option (List ℕ)) → kind_named names.kind ≡ Some kind
+      → IfSome trace (λ bytes. files.gives names.trace bytes)
+      → AuditsReader kind (style_of names) trace outcome before after → AuditEnds files names outcome before after

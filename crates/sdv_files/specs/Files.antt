@@ -34,7 +34,7 @@ pub record Files : Type 1 where
   pub same : (a b : Text) → Type 0
   -- they are not
   pub apart : (a b : Text) → Type 0
-  -- the file gave these bytes
+  -- these are the bytes that the file gives
   pub gives : (file : Text) (bytes : List ℕ) → Type 0
   -- it could not be opened or read, or did not end
   pub unread : (file : Text) → Type 0

@@ -4,6 +4,7 @@ ghost use Rattle.std.specs.Io.KnownBytes.{Appends};
 ghost use Rattle.sdv_files.specs.Files.{Files as KnownFiles, GivesNoText, SomeCallFailed, image_of};
 
 use crate::seek_file::SeekFile;
+use crate::source::Source;
 use sdv_faults::Fault;
 use sdv_file_image::BlockFile;
 use std::alloc::{AllocError, Global};
@@ -19,6 +20,9 @@ pub trait Store {
 
     /// A file that is read and written block by block.
     type Image: BlockFile + Drop;
+
+    /// What gives the bytes of a file one after another.
+    type Source: Read + Drop;
 
     /// What is known of its files, by their names.
     ghost known: { Self → KnownFiles };
@@ -36,6 +40,16 @@ pub trait Store {
         ensures given { IfOk result
             (λ found. IfSome found (λ bytes. (known self.now).gives file.now bytes.items)) }
         ensures unread { IfOk result (λ found. found ≡ None → (known self.now).unread file.now) };
+
+    /// Opens a file whose bytes are used while it is read. None where that cannot be done.
+    fn open(&self, file: &str) -> Option<Self::Source>
+        ensures given { IfSome result (λ source.
+            IfSome (Self.Source.remaining source) (λ bytes. (known self.now).gives file.now bytes)) }
+        ensures unread { result ≡ None → (known self.now).unread file.now };
+
+    /// Ends the reading of a file. False where a read failed.
+    fn close(&self, file: &str, source: Self::Source) -> bool
+        ensures unread { result ≡ false → (known self.now).unread file.now };
 
     /// Opens a file whose blocks are read and written. None where that cannot be done.
     fn open_image(&self, file: &str) -> Option<Self::Image>
@@ -97,6 +111,11 @@ pub fn text_in<'a, S: Store>(alloc: Global, files: &S, file: &'a str) -> Result<
 /// The file of standard input.
 const STANDARD_INPUT: &str = "/dev/stdin";
 
+/// The file of this name, where it is read.
+fn path_of(file: &str) -> &str {
+    if file == "-" { STANDARD_INPUT } else { file }
+}
+
 /// The files of a machine. Nothing is claimed of them. The name `-` stands for standard input where a file is read, and
 /// for no file where one is written.
 #[derive(Clone, Copy)]
@@ -106,6 +125,8 @@ impl<'a, R: Files> Store for MachineFiles<'a, R> {
     type Sink = R::File;
 
     type Image = SeekFile<R::File>;
+
+    type Source = Source<R::File>;
 
     ghost use Rattle.sdv_files.specs.Files.{any_files, any_sink};
 
@@ -122,11 +143,21 @@ impl<'a, R: Files> Store for MachineFiles<'a, R> {
     }
 
     fn bytes_of(&self, alloc: Global, file: &str) -> Result<Option<Vec<u8>>, AllocError> {
-        let file = if file == "-" { STANDARD_INPUT } else { file };
-        match fs::open(self.0, file) {
+        match fs::open(self.0, path_of(file)) {
             Ok(mut file) => bytes_within(alloc, LIMIT, &mut file),
             Err(_) => Ok(None),
         }
+    }
+
+    fn open(&self, file: &str) -> Option<Source<R::File>> {
+        match fs::open(self.0, path_of(file)) {
+            Ok(file) => Some(Source::new(file)),
+            Err(_) => None,
+        }
+    }
+
+    fn close(&self, _file: &str, source: Source<R::File>) -> bool {
+        !source.has_failed()
     }
 
     fn open_image(&self, file: &str) -> Option<SeekFile<R::File>> {

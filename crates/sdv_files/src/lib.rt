@@ -1,5 +1,5 @@
-//! The files that the program uses, by their names: their bytes and texts, what is written to them, and images that they
-//! hold.
+//! The files that the program uses, by their names: their bytes and texts, what is written to them, files that are used while
+//! they are read, and images that they hold.
 //!
 //! Begin at `specs/Files.antt`, which says what is known of files by their names.
 #![tactic(auto)]
@@ -7,7 +7,9 @@
 mod file;
 mod output;
 mod seek_file;
+mod source;
 
 pub use file::{MachineFiles, Store, bytes_in, bytes_within, text_in};
 pub use output::print_text;
 pub use seek_file::SeekFile;
+pub use source::{Source, buffered};

@@ -3,9 +3,9 @@ use Rattle.sdv_command_line.specs.Requests.{audit_names_of}
 use Rattle.sdv_faults.specs.declared.fault.Fault.TheVariants.{Usage}
 use Rattle.sdv_files.proofs.OutcomeLaws.{failed}
 use Rattle.sdv_files.proofs.StartLaws.{keeps_same}
-use Rattle.sdv_commands.specs.Audit.{AuditEnds, audits, no_kind}
+use Rattle.sdv_commands.specs.Audit.{AuditEnds, no_kind}
 use Rattle.sdv_commands.specs.Batch.{kind_named}
-use Rattle.sdv_commands.proofs.AuditLaws.{untraced}
+use Rattle.sdv_commands.proofs.AuditLaws.{of_reader}
 use Rattle.sdv_commands.proofs.audit.audit_file.Goals as goal
 
 pub returns-in_err-kind : goal.returns-in_err-kind
@@ -16,14 +16,8 @@ returns-in_err-kind g c =
     failed (λ outcome. AuditEnds (g.S.Store.known c.args.files.now) (audit_names_of c.args.words) outcome known known) Usage c.from_residual.result
     (rw usage at c.from_residual.ensures.1) (no_kind none refl (keeps_same known))
 
-pub returns-in_err-trace : goal.returns-in_err-trace
-returns-in_err-trace g c =
-    untraced (g.S.Store.known c.args.files.now) (audit_names_of c.args.words) (g.O.Write.contents c.args.out.now) c.args.words.trace refl
-    c.in_err-trace.field-0.0 c.in_err-trace.ensures.refused c.in_err-trace.ensures.unread c.from_residual-in_err-trace.result
-    c.from_residual-in_err-trace.ensures.1
-
-pub returns : goal.returns
-returns g c =
+pub returns-then-close : goal.returns-then-close
+returns-then-close g c =
     let named : kind_named c.args.words.kind.now ≡ Some c.in_ok-kind.kind = search rules in
-    let items : c.as_slice.result.now ≡ c.in_ok-trace.trace.items = search rules in
-    audits c.in_ok-kind.kind c.in_ok-trace.trace.items named c.in_ok-trace.ensures.given (rw items at c.audit_bytes.ensures)
+    of_reader (g.S.Store.known c.args.files.now) (audit_names_of c.args.words) _ _ _ c.in_ok-kind.kind _ _ named c.in_ok-reader.ensures.remaining
+    (search rules) c.audit_reader-audited.ensures
