@@ -17,7 +17,11 @@ fn expect_start<R: Files + AllocGlobal + Abort>(
     let mut out = Vec::new(rt.alloc());
     let mut err = Vec::new(rt.alloc());
     let mut lines = LinePort::new(io::empty(), io::sink());
-    same(rt, &start(rt, words, &mut lines, &mut out, &mut err), &status);
+    same(
+        rt,
+        &start(rt, words, &mut lines, &mut out, &mut err),
+        &status,
+    );
     same(rt, &str::from_utf8(&out), &Ok(printed));
     same(rt, &str::from_utf8(&err), &Ok(said));
 }

@@ -132,7 +132,13 @@ fn certify_into<R: Files + AllocGlobal + Abort>(rt: &R, room: usize) {
     };
     let status = if room == CERTIFICATE.len() { 0 } else { 2 };
     let mut lines = LinePort::new(io::empty(), io::sink());
-    let found = program(rt, &["certify", "printed.sdv"], &mut lines, &mut out, &mut err);
+    let found = program(
+        rt,
+        &["certify", "printed.sdv"],
+        &mut lines,
+        &mut out,
+        &mut err,
+    );
     assert!(rt; found == status, "at {room}");
     let is_front = CERTIFICATE.as_bytes().starts_with(&out.taken);
     assert!(rt; out.taken.len() == room && is_front, "at {room}");

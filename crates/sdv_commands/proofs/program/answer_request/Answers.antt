@@ -25,9 +25,11 @@ returns-in-Drive g c =
     let s = streams_of g.I.Read.remaining g.L.Write.contents c.args.lines.now in
     let s' = streams_of g.I.Read.remaining g.L.Write.contents c.drive_files.new.lines in
     subst (λ (request : Request). EndsRequest (g.S.Store.known c.args.files.now) s s' (seen request) (outcome_of c.drive_files.result)
-    (g.O.Write.contents c.args.out.now) (g.O.Write.contents c.args.out.now)) (sym c.in-Drive.is)
-    (drive_ends (g.S.Store.known c.args.files.now) (drive_names_of c.in-Drive.names) s s' c.drive_files.result
-    c.drive_files.ensures.done c.drive_files.ensures.fails, keeps_same _)
+    (g.O.Write.contents c.args.out.now) (g.O.Write.contents c.args.out.now)) (sym c.in-Drive.is) (
+      drive_ends (g.S.Store.known c.args.files.now) (drive_names_of c.in-Drive.names) s s' c.drive_files.result
+          c.drive_files.ensures.done c.drive_files.ensures.fails,
+      keeps_same _,
+    )
 
 pub returns-in-Card : goal.returns-in-Card
 returns-in-Card g c =
@@ -38,6 +40,8 @@ returns-in-Card g c =
     let s = streams_of g.I.Read.remaining g.L.Write.contents c.args.lines.now in
     let s' = record { answers = a'; requests = q'; fault = c.args.lines.now.fault } in
     subst (λ (request : Request). EndsRequest (g.S.Store.known c.args.files.now) s s' (seen request) (outcome_of c.serve_card.result)
-    (g.O.Write.contents c.args.out.now) (g.O.Write.contents c.args.out.now)) (sym c.in-Card.is)
-    (card_ends (g.S.Store.known c.args.files.now) (card_names_of c.in-Card.names) a a' q q' c.serve_card.result
-    c.serve_card.ensures.done c.serve_card.ensures.fails, keeps_same _)
+    (g.O.Write.contents c.args.out.now) (g.O.Write.contents c.args.out.now)) (sym c.in-Card.is) (
+      card_ends (g.S.Store.known c.args.files.now) (card_names_of c.in-Card.names) a a' q q' c.serve_card.result
+          c.serve_card.ensures.done c.serve_card.ensures.fails,
+      keeps_same _,
+    )

@@ -16,7 +16,7 @@ returns-in-Ok-clause-ended g c = record {
   outcome = None;
   status_is = refl;
   ended = subst (λ (r : Result (Unit {0}) Fault). EndsWords any_files (streams_of g.I.Read.remaining g.L.Write.contents c.args.lines.now)
-    (streams_of g.I.Read.remaining g.L.Write.contents c.answer.new.lines) (texts c.args.words.now) (outcome_of r)
+      (streams_of g.I.Read.remaining g.L.Write.contents c.answer.new.lines) (texts c.args.words.now) (outcome_of r)
       (g.O.Write.contents c.args.out.now) (g.O.Write.contents c.answer.new.out)) c.in-Ok.is c.answer.ensures;
   said = keeps_same _;
 }
@@ -26,7 +26,7 @@ returns-in-Err-clause-ended g c = record {
   outcome = Some c.in-Err.fault;
   status_is = c.report.ensures.status;
   ended = subst (λ (r : Result (Unit {0}) Fault). EndsWords any_files (streams_of g.I.Read.remaining g.L.Write.contents c.args.lines.now)
-    (streams_of g.I.Read.remaining g.L.Write.contents c.answer.new.lines) (texts c.args.words.now) (outcome_of r)
+      (streams_of g.I.Read.remaining g.L.Write.contents c.answer.new.lines) (texts c.args.words.now) (outcome_of r)
       (g.O.Write.contents c.args.out.now) (g.O.Write.contents c.answer.new.out)) c.in-Err.is c.answer.ensures;
   said = c.report.ensures.said;
 }
