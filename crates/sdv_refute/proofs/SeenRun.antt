@@ -131,6 +131,8 @@ module _ {S T : Type 0} (f : S → T) (steps : Steps S) (steps' : Steps T)
     seen_watched g w w' (Ok (comes.Stopped wrong)) ran = record {
       halted = seen_halted g wrong.point w w' ran.halted;
       trace = ran.trace;
+      kind = ran.kind;
+      line = ran.line;
       shape = ran.shape;
       refutes = λ c start. ran.refutes c (seen_start g.kind w.port c start);
     }

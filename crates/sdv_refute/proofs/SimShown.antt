@@ -1,11 +1,12 @@
 -- What is seen of a simulated card, what it shows when a run begins, and what a run beside it is worth.
-use Rattle.std.proofs.Common.{◌≡◌, ℕ, List, Option, Some, None, refl, sym, ap, ◌∙◌, subst}
-use Rattle.std.specs.Prelude.{Result, Ok, Err, IfOk}
+use Rattle.std.proofs.Common.{◌≡◌, ℕ, List, Option, Some, None, inr, refl, sym, ap, ◌∙◌, subst}
+use Rattle.std.specs.Prelude.{Result, Ok, Err, IfErr, IfOk}
 use Rattle.sdv_registers.specs.declared.kind.Kind.{Kind}
 use Rattle.sdv_card.specs.Card.{Card, Block}
 use Rattle.sdv_card.specs.Profile.{IsAtStart}
 use Rattle.sdv_graph.specs.Graph.{Graph}
 use Rattle.sdv_description.specs.declared.card_desc.CardDesc.{CardDesc}
+use Rattle.sdv_description.specs.Gives.{Describes}
 use Rattle.sdv_image.specs.declared.image.Image.{Ghosts}
 use Rattle.sdv_behavior.specs.declared.card_state.CardState.{CardState}
 use Rattle.sdv_behavior.specs.CardOf.{card_of, at_start}
@@ -24,7 +25,9 @@ use Rattle.sdv_refute.specs.declared.wrong.Watched.{Watched}
 use Rattle.sdv_refute.specs.declared.wrong.Watched.TheVariants as comes
 use Rattle.sdv_refute.specs.Sight.{sight_of}
 use Rattle.sdv_refute.specs.Watched.{Watches}
-use Rattle.sdv_refute.specs.Tries.{Tries, RefutesText, RefutesIfWrong}
+use Rattle.sdv_refute.specs.Tries.{NotTried, Tries, TryRefuses, RefutesText, RefutesIfWrong}
+use Rattle.sdv_refute.specs.declared.simulated.TryFault.{TryFault}
+use Rattle.sdv_refute.specs.declared.simulated.TryFault.TheVariants.{Script, Kind as OtherKind, Card as NoCard, Memory}
 use Rattle.sdv_refute.proofs.Refuted.{none_is_accepted}
 use Rattle.sdv_refute.proofs.SeenRun.{seen, seen_watched, seen_step}
 
@@ -88,3 +91,16 @@ refutes_text text g desc codes input blocks blocks' out out' trace trace' (Err f
 pub if_ok_more : {A E : Type 0} (r : Result A E) (P Q : A → Type 0) → ((a : A) → P a → Q a) → IfOk r P → IfOk r Q
 if_ok_more (Ok a) P Q f p = f a p
 if_ok_more (Err e) P Q f p = tt
+
+-- nothing was run of the graph of a text beside the card of a description
+pub refuses_text : (text card codes : List ℕ) (size : ℕ) (unread : Type 0) (g : Graph) (desc : CardDesc) → IsGraphOfText text g → Describes card desc
+    → (fault : TryFault) → NotTried g desc codes size unread fault → TryRefuses text card codes size unread fault
+refuses_text text card codes size unread g desc of described (Script fault) not = absurd not
+refuses_text text card codes size unread g desc of described OtherKind not =
+    record { graph = g; of_text = of; desc = desc; described = described; other = not }
+refuses_text text card codes size unread g desc of described (NoCard fault) not = λ other. inr (desc, described, not other)
+refuses_text text card codes size unread g desc of described Memory not = tt
+
+pub if_err_more : {A E : Type 0} (r : Result A E) (P Q : E → Type 0) → ((e : E) → P e → Q e) → IfErr r P → IfErr r Q
+if_err_more (Ok a) P Q f p = tt
+if_err_more (Err e) P Q f p = f e p

@@ -283,12 +283,14 @@ module _ {S : Type 0} (steps : Steps S) (card : S → Option Card) (g : Graph) w
     refutes_by c b wrong seen (Halts Broke) is may names shows = absurd may
     refutes_by c b wrong seen (Halts Open) is may names shows = absurd may
 
-    stops_before : (wrong : Wrong) (t : Option (List ℕ)) → IsWrongHere card g.kind s w.port p wrong → Appends w.trace t (wrong_line wrong.next) →
+    stops_before : (wrong : Wrong) (t : Option (List ℕ)) → IsWrongHere card g.lines g.kind s w.port p wrong → Appends w.trace t (wrong_line wrong.next) →
         StopsBefore steps card g wrong start (record w { trace = t })
     unfolding halted
     stops_before wrong t is printed = record {
       halted = halted wrong.point is.at t;
       trace = appends_more start.trace w.trace t (lines so.events) (wrong_line wrong.next) so.written.trace printed;
+      kind = is.kind;
+      line = is.line;
       shape = is.shape;
       refutes = λ c shows. (
           let b = so.beside c shows in
@@ -299,7 +301,7 @@ module _ {S : Type 0} (steps : Steps S) (card : S → Option Card) (g : Graph) w
           (may_move s b.last b.honest p false no) (named g.kind p.action s.turns s.host wrong.next is.next) shows);
     }
 
-    line_breaks_off : (wrong : Wrong) (t : Option (List ℕ)) → IsWrongHere card g.kind s w.port p wrong → AppendsPart w.trace t (wrong_line wrong.next) →
+    line_breaks_off : (wrong : Wrong) (t : Option (List ℕ)) → IsWrongHere card g.lines g.kind s w.port p wrong → AppendsPart w.trace t (wrong_line wrong.next) →
         WrongLineBrokeOff steps g start (record w { trace = t })
     unfolding halted
     line_breaks_off wrong t is part = record {
@@ -309,7 +311,7 @@ module _ {S : Type 0} (steps : Steps S) (card : S → Option Card) (g : Graph) w
       trace = breaks_off start.trace w.trace t (lines so.events) (wrong_line wrong.next) so.written.trace part;
     }
 
-    pub stops : (wrong : Wrong) (t : Option (List ℕ)) (result : Result Watched RunFault) → IsWrongHere card g.kind s w.port p wrong →
+    pub stops : (wrong : Wrong) (t : Option (List ℕ)) (result : Result Watched RunFault) → IsWrongHere card g.lines g.kind s w.port p wrong →
         StopsWith w.trace t wrong result → Watches steps card g start (record w { trace = t }) result
     stops wrong t (Ok watched) is (same, printed) =
         subst (λ v. Watches steps card g start (record w { trace = t }) (Ok v)) (sym same) (stops_before wrong t is printed)

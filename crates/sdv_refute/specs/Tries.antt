@@ -1,20 +1,27 @@
 -- A RUN THAT WAS TRIED: beside the simulated card of a description, over an image, with the values of a schedule.
-use Rattle.std.specs.Prelude.{◌≡◌, ℕ, List, Option, Some, Result, Ok}
+use Rattle.std.specs.Prelude.{◌≡◌, ◌≢◌, ◌⊎◌, ℕ, List, Option, Some, Result, Ok}
 use Rattle.sdv_card.specs.Card.{Block, Card}
 use Rattle.sdv_description.specs.declared.card_desc.CardDesc.{CardDesc}
 use Rattle.sdv_description.specs.Gives.{Describes}
+use Rattle.sdv_description.specs.Gives.{Refuses as IsNoCard}
+use Rattle.sdv_description.specs.Layout.{image_size}
+use Rattle.sdv_image.specs.declared.fault.SimFault.{SimFault}
+use Rattle.sdv_image.specs.declared.fault.SimFault.TheVariants.{Memory as NoMemory}
 use Rattle.sdv_behavior.specs.CardOf.{card_of, at_start}
 use Rattle.sdv_behavior.specs.SimSteps.{SimState, SimSteps, card_shown}
-use Rattle.sdv_sim.specs.Made.{IsMade}
+use Rattle.sdv_sim.specs.Made.{IsMade, IsRefused as IsUnmade}
 use Rattle.sdv_controller.specs.Controlled.{ControllerSteps}
 use Rattle.sdv_graph.specs.Graph.{Graph}
 use Rattle.sdv_graph.specs.Walk.{Pair}
 use Rattle.sdv_script.specs.Script.{Parsed, IsScript}
-use Rattle.sdv_check.specs.Verified.{Acceptance, IsAccepted, IsGraphOfText}
+use Rattle.sdv_script.specs.declared.fault.FaultKind.TheVariants as kinds
+use Rattle.sdv_check.specs.Verified.{Acceptance, IsAccepted, IsGraphOfText, IsNoScript}
 use Rattle.sdv_run.specs.declared.fault.RunFault.{RunFault}
 use Rattle.sdv_refute.specs.declared.wrong.Watched.{Watched}
 use Rattle.sdv_refute.specs.declared.wrong.Watched.TheVariants as comes
 use Rattle.sdv_refute.specs.declared.wrong.Wrong.{Wrong}
+use Rattle.sdv_refute.specs.declared.simulated.TryFault.{TryFault}
+use Rattle.sdv_refute.specs.declared.simulated.TryFault.TheVariants.{Script, Kind, Card as NoCard, Memory}
 use Rattle.sdv_refute.specs.Refutes.{Coming, Refutes}
 use Rattle.sdv_refute.specs.Watched.{Names, Watches}
 
@@ -62,3 +69,32 @@ pub record TriesText (text card : List ℕ) (codes : List ℕ) (input : List Blo
   pub described : Describes card desc
   pub tries : Tries graph desc codes input blocks blocks' out out' trace trace' result
   pub refutes : RefutesIfWrong text desc blocks result
+
+-- WHY NOTHING WAS RUN
+
+-- the script is for another kind of card than the description
+pub record IsOtherKind (text card : List ℕ) : Type 0 where
+  pub graph : Graph
+  pub of_text : IsGraphOfText text graph
+  pub desc : CardDesc
+  pub described : Describes card desc
+  pub other : graph.kind ≢ desc.kind
+
+-- the description gives no card, or there is none with the schedule over an image of so many blocks
+abbrev pub HasNoCard : (card : List ℕ) → (codes : List ℕ) → (size : ℕ) → (unread : Type 0) → SimFault → Type 0
+HasNoCard card codes size unread fault =
+    IsNoCard card fault ⊎ ((desc : CardDesc) × Describes card desc × IsUnmade codes size (image_size desc) unread fault)
+
+-- want of memory says nothing
+
+abbrev pub NotTried : Graph → CardDesc → (codes : List ℕ) → (size : ℕ) → (unread : Type 0) → TryFault → Type 0
+NotTried g desc codes size unread (Script fault) = ⊥
+NotTried g desc codes size unread Kind = g.kind ≢ desc.kind
+NotTried g desc codes size unread (NoCard fault) = fault ≢ NoMemory → IsUnmade codes size (image_size desc) unread fault
+NotTried g desc codes size unread Memory = Unit {0}
+
+abbrev pub TryRefuses : (text card : List ℕ) → (codes : List ℕ) → (size : ℕ) → (unread : Type 0) → TryFault → Type 0
+TryRefuses text card codes size unread (Script fault) = fault.kind ≢ kinds.Memory → IsNoScript text
+TryRefuses text card codes size unread Kind = IsOtherKind text card
+TryRefuses text card codes size unread (NoCard fault) = fault ≢ NoMemory → HasNoCard card codes size unread fault
+TryRefuses text card codes size unread Memory = Unit {0}

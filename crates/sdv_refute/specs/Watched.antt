@@ -1,6 +1,6 @@
 -- A WATCHED RUN of a graph over a port: it ends, or is cut short, as any run, or it stops before what is not allowed at
 -- the card that the port shows.
-use Rattle.std.specs.Prelude.{◌≡◌, ◌++◌, ◌⊎◌, true, false, ℕ, List, [], Option, Result, Ok, Err, Some, length}
+use Rattle.std.specs.Prelude.{◌≡◌, ◌++◌, ◌⊎◌, true, false, ℕ, List, [], Option, Result, Ok, Err, Some, length, slice_get}
 use Rattle.std.specs.Io.KnownBytes.{Appends}
 use Rattle.sdv_text.specs.Written.{AppendsPart}
 use Rattle.sdv_registers.specs.declared.kind.Kind.{Kind}
@@ -60,9 +60,11 @@ IsAllowedAt card k s port p = (c : Card) → Shows card port c →
     allows_next k s.host (sight_of c) (next_of k p.action s.host) ≡ true
 
 -- what comes next is not allowed at the card that is seen, which is that of the port
-pub record IsWrongHere {S : Type 0} (card : S → Option Card) (k : Kind) (s : Stand) (port : S) (p : Point)
-    (wrong : Wrong) : Type 0 where
+pub record IsWrongHere {S : Type 0} (card : S → Option Card) (lines : List ℕ) (k : Kind) (s : Stand) (port : S)
+    (p : Point) (wrong : Wrong) : Type 0 where
+  pub kind : wrong.kind ≡ k
   pub at : s.point ≡ wrong.point
+  pub line : slice_get lines wrong.point ≡ Some wrong.line
   pub next : next_of k p.action s.host ≡ Some wrong.next
   pub seen : (c : Card) → Shows card port c → wrong.sight ≡ sight_of c
   pub not_allowed : allows k s.host wrong.sight wrong.next ≡ false
@@ -91,6 +93,8 @@ pub record StopsBefore {S : Type 0} (steps : Steps S) (card : S → Option Card)
     (w w' : World S) : Type 0 where
   pub halted : Halted steps g wrong.point w w'
   pub trace : Appends w.trace w'.trace (lines halted.events ++ wrong_line wrong.next)
+  pub kind : wrong.kind ≡ g.kind
+  pub line : slice_get g.lines wrong.point ≡ Some wrong.line
   pub shape : wrong.shape.0 ≡ code_of (fields_seen wrong.sight halted.leads.stand.host)
   pub refutes : (c : Card) → ShowsStart card g.kind w.port c → RefutesGraph g c halted.events wrong
 

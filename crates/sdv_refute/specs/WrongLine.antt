@@ -14,13 +14,19 @@ argument_text argument =
 abbrev pub count_text : (word : List ℕ) → ℕ → List ℕ
 count_text word count = word ++ decimal count
 
+-- what comes next, without the argument of a command
+abbrev pub name_text : Next → List ℕ
+name_text (Send ask position argument) = count_text (codes "CMD") ask.index
+name_text (Receive count) = count_text (codes "IN ") count
+name_text (ReceiveRegister count) = count_text (codes "REG ") count
+name_text (Give count) = count_text (codes "OUT ") count
+name_text Wait = codes "WAIT"
+name_text Done = codes "done"
+
 abbrev pub next_text : Next → List ℕ
-next_text (Send ask position argument) = count_text (codes "CMD") ask.index ++ (codes " " ++ argument_text argument)
-next_text (Receive count) = count_text (codes "IN ") count
-next_text (ReceiveRegister count) = count_text (codes "REG ") count
-next_text (Give count) = count_text (codes "OUT ") count
-next_text Wait = codes "WAIT"
-next_text Done = codes "done"
+next_text (Send ask position argument) =
+    count_text (codes "CMD") ask.index ++ (codes " " ++ argument_text argument)
+next_text next = name_text next
 
 abbrev pub wrong_line : Next → List ℕ
 wrong_line next = codes "wrong " ++ (next_text next ++ line_feed)

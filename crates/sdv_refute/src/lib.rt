@@ -20,4 +20,4 @@ pub use next::{Next, next_of};
 pub use sight::{SeenPort, Sight, fields_seen};
 pub use simulated::{Beside, Given, Tried, TryFault, graph_of_text, try_graph, try_text};
 pub use watching::{Nobody, Onlooker, watch, watch_beside};
-pub use wrong::{Watched, Wrong};
+pub use wrong::{Watched, Wrong, name_of};

@@ -1,11 +1,13 @@
 //! Watched runs beside simulated cards.
 
-ghost use Rattle.std.specs.Prelude.{◌≡◌, List, IfOk};
+ghost use Rattle.std.specs.Prelude.{◌≡◌, ◌≢◌, List, IfErr, IfOk};
+ghost use Rattle.std.specs.Io.KnownBytes.{Keeps};
 ghost use Rattle.sdv_card.specs.Card.{Block};
 ghost use Rattle.sdv_behavior.specs.CardOf.{card_of};
-ghost use Rattle.sdv_check.specs.Verified.{IsGraphOfText};
+ghost use Rattle.sdv_check.specs.Verified.{IsGraphOfText, IsNoScript};
 ghost use Rattle.sdv_refute.specs.Sight.{sight_of};
-ghost use Rattle.sdv_refute.specs.Tries.{Tries, TriesText};
+ghost use Rattle.sdv_refute.specs.Tries.{NotTried, Tries, TriesText, TryRefuses};
+ghost use Rattle.sdv_sim.specs.Made.{IsUnread};
 
 use crate::sight::{SeenPort, Sight};
 use crate::watching::{Nobody, Onlooker, watch_beside};
@@ -16,9 +18,9 @@ use sdv_description::CardDesc;
 use sdv_graph::Graph;
 use sdv_image::{Image, SimFault};
 use sdv_run::RunFault;
-use sdv_script::{ScriptFault, parse};
+use sdv_script::{FaultKind, ScriptFault, parse};
 use sdv_sim::Sim;
-use std::alloc::Global;
+use std::alloc::{AllocError, Global};
 use std::io::Write;
 
 /// What is seen of a simulated card, whatever its image has.
@@ -55,6 +57,18 @@ pub enum TryFault {
     Kind,
     /// There is no such card.
     Card(SimFault),
+    /// Memory was refused.
+    Memory,
+}
+
+impl From<AllocError> for TryFault {
+    ghost use Rattle.sdv_refute.specs.declared.simulated.TryFault.TheVariants.{Memory};
+
+    ghost from_gives = { λ _ fault. fault ≡ Memory };
+
+    fn from(_: AllocError) -> TryFault {
+        TryFault::Memory
+    }
 }
 
 /// What a script is tried beside.
@@ -104,9 +118,12 @@ pub fn try_graph<I: Image + Drop, O: Write, T: Write, L: Onlooker<Controller<Sim
     trace: &mut T,
     onlooker: &mut L,
 ) -> Result<Tried<I>, TryFault>
-    ensures { IfOk result (λ tried. Tries graph.now beside.entry.desc beside.entry.schedule.now beside.entry.input.now
-        (I.blocks image) (I.blocks tried.image)
+    ensures tried { IfOk result (λ tried. Tries graph.now beside.entry.desc beside.entry.schedule.now
+        beside.entry.input.now (I.blocks image) (I.blocks tried.image)
         (O.contents out.old) (O.contents out.new) (T.contents trace.old) (T.contents trace.new) tried.result) }
+    ensures refused { IfErr result (NotTried graph.now beside.entry.desc beside.entry.schedule.now (I.size image)
+        (IsUnread I.size I.blocks I.failed image)) }
+    ensures quiet { IfErr result (λ _. Keeps (T.contents trace.old) (T.contents trace.new)) }
 {
     if graph.kind() != beside.desc.kind {
         return Err(TryFault::Kind);
@@ -137,9 +154,12 @@ pub fn try_text<I: Image + Drop, O: Write, T: Write>(
     out: &mut O,
     trace: &mut T,
 ) -> Result<Tried<I>, TryFault>
-    ensures { IfOk result (λ tried. TriesText given.now.script.now given.now.card.now given.now.schedule.now
+    ensures tried { IfOk result (λ tried. TriesText given.now.script.now given.now.card.now given.now.schedule.now
         given.now.input.now (I.blocks image) (I.blocks tried.image)
         (O.contents out.old) (O.contents out.new) (T.contents trace.old) (T.contents trace.new) tried.result) }
+    ensures refused { IfErr result (TryRefuses given.now.script.now given.now.card.now given.now.schedule.now
+        (I.size image) (IsUnread I.size I.blocks I.failed image)) }
+    ensures quiet { IfErr result (λ _. Keeps (T.contents trace.old) (T.contents trace.new)) }
 {
     let graph = match graph_of_text(alloc, given.script) {
         Ok(graph) => graph,
@@ -159,7 +179,8 @@ pub fn try_text<I: Image + Drop, O: Write, T: Write>(
 
 /// The graph of the script that a text is.
 pub fn graph_of_text<'a>(alloc: Global, text: &'a str) -> Result<Graph<'a>, ScriptFault>
-    ensures { IfOk result (λ g. IsGraphOfText text.entry.now g) }
+    ensures graph { IfOk result (λ g. IsGraphOfText text.entry.now g) }
+    ensures refused { IfErr result (λ fault. fault.kind ≢ FaultKind.Memory → IsNoScript text.entry.now) }
 {
     match parse(alloc, text) {
         Ok(script) => script.graph(alloc),

@@ -1,6 +1,6 @@
 //! A run that is watched: it stops before the first event that is not allowed.
 
-ghost use Rattle.std.specs.Prelude.{◌≡◌, IfNone, IfSome, List};
+ghost use Rattle.std.specs.Prelude.{◌≡◌, ◌<◌, IfNone, IfSome, List, length};
 ghost use Rattle.sdv_card.specs.Card.{Block};
 ghost use Rattle.sdv_graph.specs.Graph.{seen_action};
 ghost use Rattle.sdv_graph.specs.Path.{Point};
@@ -81,7 +81,7 @@ pub fn watch_beside<P: SeenPort, O: Write, T: Write, L: Onlooker<P>>(
     let left = &mut rest;
     for _ in 0..graph.steps() {
         let action = &graph.point(standing.point).action;
-        if let Some(wrong) = wrong_at(action, &standing, port, onlooker) {
+        if let Some(wrong) = wrong_at(graph, action, &standing, port, onlooker) {
             return stop_before(trace, wrong);
         }
         let world = World {
@@ -100,15 +100,17 @@ pub fn watch_beside<P: SeenPort, O: Write, T: Write, L: Onlooker<P>>(
 
 /// What comes next at a point, if it is not allowed at the card behind the port. If it is allowed, the onlooker is told.
 fn wrong_at<P: SeenPort, L: Onlooker<P>>(
+    graph: &Graph<'_>,
     action: &Action<'_>,
     standing: &Standing,
     port: &P,
     onlooker: &mut L,
 ) -> Option<Wrong>
+    requires { standing.now.point < length graph.now.points }
     ensures allowed { (p : Point) → p.action ≡ seen_action action.now → IfNone result
         (IsAllowedAt P.card standing.now.host.kind (stand_of standing.now) port.now p) }
     ensures wrong { (p : Point) → p.action ≡ seen_action action.now → IfSome result
-        (IsWrongHere P.card standing.now.host.kind (stand_of standing.now) port.now p) }
+        (IsWrongHere P.card graph.now.lines standing.now.host.kind (stand_of standing.now) port.now p) }
 {
     let next = next_of(action, &standing.host)?;
     let sight = port.look();
@@ -117,7 +119,9 @@ fn wrong_at<P: SeenPort, L: Onlooker<P>>(
         return None;
     }
     Some(Wrong {
+        kind: standing.host.kind,
         point: standing.point,
+        line: graph.line(standing.point),
         next,
         sight,
         shape: fields_seen(&sight, &standing.host).encode(),

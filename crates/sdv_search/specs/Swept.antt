@@ -1,6 +1,8 @@
 -- Every run with one mishap.
-use Rattle.std.specs.Prelude.{◌≡◌, ℕ, List, [], ◌∷◌, ◌++◌, All, Option, Result, Ok, Err, replicate}
+use Rattle.std.specs.Prelude.{◌≡◌, ◌≢◌, ◌/◌, ◌%◌, ◌⊎◌, ℕ, List, [], ◌∷◌, ◌++◌, All, Option, Some, Result, Ok, Err, length, replicate}
 use Rattle.sdv_card.specs.Card.{Block}
+use Rattle.sdv_image.specs.MemBlocks.{blocks_in}
+use Rattle.sdv_image.specs.declared.fault.SimFault.TheVariants.{ImageLength}
 use Rattle.sdv_check.specs.Verified.{IsGraphOfText}
 use Rattle.sdv_description.specs.declared.card_desc.CardDesc.{CardDesc}
 use Rattle.sdv_description.specs.Gives.{Describes}
@@ -9,7 +11,9 @@ use Rattle.sdv_run.specs.declared.fault.RunFault.{RunFault}
 use Rattle.sdv_trace.specs.declared.end.End.TheVariants.{Done, Fault}
 use Rattle.sdv_refute.specs.declared.wrong.Watched.{Watched}
 use Rattle.sdv_refute.specs.declared.wrong.Watched.TheVariants.{Ended, Stopped}
-use Rattle.sdv_refute.specs.Tries.{Tries}
+use Rattle.sdv_refute.specs.declared.simulated.TryFault.{TryFault}
+use Rattle.sdv_refute.specs.declared.simulated.TryFault.TheVariants.{Script, Kind, Card, Memory}
+use Rattle.sdv_refute.specs.Tries.{NotTried, Tries, TryRefuses}
 use Rattle.sdv_search.specs.declared.sweeping.Row.{Row}
 use Rattle.sdv_search.specs.declared.sweeping.RunEnd.{RunEnd}
 use Rattle.sdv_search.specs.declared.sweeping.RunEnd.TheVariants as ends
@@ -22,36 +26,55 @@ EndsAs (ends.Wrong point) (Ok (Stopped wrong)) = point ≡ wrong.point
 EndsAs (ends.Stopped fault) (Err why) = fault ≡ why
 EndsAs end result = ⊥
 
--- a run with the schedule comes to this, beside the card over some blocks
-pub record HasEnd (g : Graph) (desc : CardDesc) (input : List Block) (codes : List ℕ) (end : RunEnd) : Type 0 where
+-- the blocks that bytes are, one after another
+abbrev pub blocks_of : (bytes : List ℕ) → List Block
+blocks_of bytes = blocks_in (length bytes / 512) bytes
+
+-- a run with the schedule comes to this, beside the card over the image
+pub record HasEnd (g : Graph) (desc : CardDesc) (image : List ℕ) (input : List Block) (codes : List ℕ)
+    (end : RunEnd) : Type 0 where
   pub result : Result Watched RunFault
   pub ends_as : EndsAs end result
-  pub blocks : Option (List Block)
   pub blocks' : Option (List Block)
   pub out : Option (List ℕ)
   pub out' : Option (List ℕ)
   pub trace : Option (List ℕ)
   pub trace' : Option (List ℕ)
-  pub tries : Tries g desc codes input blocks blocks' out out' trace trace' result
+  pub tries : Tries g desc codes input (Some (blocks_of image)) blocks' out out' trace trace' result
 
 -- with one mishap, at an event
 abbrev pub mishap_at : (event code : ℕ) → List ℕ
 mishap_at event code = replicate event 0 ++ code ∷ []
 
-pub record IsRow (g : Graph) (desc : CardDesc) (input : List Block) (row : Row) : Type 0 where
-  pub command_lost : HasEnd g desc input (mishap_at row.event 1) row.command_lost
-  pub answer_lost : HasEnd g desc input (mishap_at row.event 2) row.answer_lost
-  pub slow : HasEnd g desc input (mishap_at row.event 3) row.slow
-  pub error : HasEnd g desc input (mishap_at row.event 4) row.error
-  pub refused : HasEnd g desc input (mishap_at row.event 5) row.refused
-  pub cut : HasEnd g desc input (mishap_at row.event 6) row.cut
-  pub switch_fails : HasEnd g desc input (mishap_at row.event 7) row.switch_fails
+pub record IsRow (g : Graph) (desc : CardDesc) (image : List ℕ) (input : List Block) (row : Row) : Type 0 where
+  pub command_lost : HasEnd g desc image input (mishap_at row.event 1) row.command_lost
+  pub answer_lost : HasEnd g desc image input (mishap_at row.event 2) row.answer_lost
+  pub slow : HasEnd g desc image input (mishap_at row.event 3) row.slow
+  pub error : HasEnd g desc image input (mishap_at row.event 4) row.error
+  pub refused : HasEnd g desc image input (mishap_at row.event 5) row.refused
+  pub cut : HasEnd g desc image input (mishap_at row.event 6) row.cut
+  pub switch_fails : HasEnd g desc image input (mishap_at row.event 7) row.switch_fails
 
 -- The script ran beside the card without a mishap, and then with each one. A row's runs have a mishap at its event.
-pub record IsSweep (text card : List ℕ) (input : List Block) (s : SweepTable) : Type 0 where
+pub record IsSweep (text card image : List ℕ) (input : List Block) (s : SweepTable) : Type 0 where
   pub graph : Graph
   pub of_text : IsGraphOfText text graph
   pub desc : CardDesc
   pub described : Describes card desc
-  pub plain : HasEnd graph desc input [] s.plain
-  pub rows : All (IsRow graph desc input) s.rows.items
+  pub plain : HasEnd graph desc image input [] s.plain
+  pub rows : All (IsRow graph desc image input) s.rows.items
+
+-- WHY NO RUN WAS MADE
+
+-- the bytes are no whole number of blocks; want of memory says nothing
+abbrev pub IsNoImage : (bytes : List ℕ) → TryFault → Type 0
+IsNoImage bytes (Card fault) = (length bytes % 512 ≢ 0) × (fault ≡ ImageLength)
+IsNoImage bytes Memory = Unit {0}
+IsNoImage bytes fault = ⊥
+
+-- an image in memory is never read in vain
+abbrev pub NoEnd : Graph → CardDesc → (image codes : List ℕ) → TryFault → Type 0
+NoEnd g desc image codes fault = IsNoImage image fault ⊎ NotTried g desc codes (length image / 512) ⊥ fault
+
+abbrev pub NotSwept : (text card image : List ℕ) → TryFault → Type 0
+NotSwept text card image fault = IsNoImage image fault ⊎ TryRefuses text card [] (length image / 512) ⊥ fault

@@ -8,7 +8,7 @@ mod cards;
 mod exploring;
 mod mishaps;
 mod refuting;
-mod sentence;
+mod reporting;
 mod sweeping;
 mod table;
 #[cfg(test)]
@@ -16,7 +16,7 @@ mod tests;
 
 pub use cards::small_cards;
 pub use mishaps::mishaps_in_words;
-pub use refuting::{Found, Refutation, RefuteFault, refute};
-pub use sentence::sentence_of;
-pub use sweeping::{Row, RunEnd, SweepTable, sweep};
+pub use refuting::{Found, Refutation, refute};
+pub use reporting::{report, schedule_digits};
+pub use sweeping::{Row, RunEnd, SweepGiven, SweepTable, sweep};
 pub use table::{Tally, put_table, tally_of};

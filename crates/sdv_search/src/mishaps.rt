@@ -1,6 +1,6 @@
 //! The mishaps of a run in words, with the lines of the script.
 
-use crate::refuting::{Refutation, RefuteFault, image_blocks, input_of, zero_image};
+use crate::refuting::{Refutation, image_blocks, input_of, zero_image};
 use sdv_controller::Controller;
 use sdv_description::CardDesc;
 use sdv_graph::Graph;
@@ -67,7 +67,7 @@ fn mishaps_of(
     alloc: Global,
     graph: &Graph<'_>,
     refutation: &Refutation,
-) -> Result<Vec<Mishap>, RefuteFault> {
+) -> Result<Vec<Mishap>, AllocError> {
     let schedule = refutation.schedule.as_slice();
     let mut recorder = Recorder {
         schedule,
@@ -76,7 +76,7 @@ fn mishaps_of(
         failed: false,
     };
     let Ok(desc) = CardDesc::parse(refutation.card) else {
-        return Err(RefuteFault::Memory);
+        return Err(AllocError);
     };
     let image = zero_image(alloc, image_blocks(&desc)?)?;
     let input = input_of(alloc, graph)?;
@@ -96,7 +96,7 @@ fn mishaps_of(
         &mut recorder,
     );
     if tried.is_err() || recorder.failed {
-        return Err(RefuteFault::Memory);
+        return Err(AllocError);
     }
     Ok(recorder.mishaps)
 }
@@ -168,18 +168,20 @@ fn put_mishap(text: &mut Text, graph: &Graph<'_>, mishap: &Mishap) -> Result<(),
 ///
 /// # Errors
 ///
-/// [`RefuteFault::Script`] and [`RefuteFault::Memory`].
+/// Memory was refused.
 pub fn mishaps_in_words(
     alloc: Global,
     script: &str,
     refutation: &Refutation,
-) -> Result<Vec<u8>, RefuteFault> {
-    let graph = match graph_of_text(alloc, script) {
-        Ok(graph) => graph,
-        Err(fault) => return Err(RefuteFault::Script(fault)),
+) -> Result<Vec<u8>, AllocError> {
+    let Ok(graph) = graph_of_text(alloc, script) else {
+        return Err(AllocError);
     };
     let mishaps = mishaps_of(alloc, &graph, refutation)?;
     let mut text = Vec::new(alloc);
+    if mishaps.is_empty() {
+        put(&mut text, "none\n")?;
+    }
     for mishap in &mishaps {
         put_mishap(&mut text, &graph, mishap)?;
     }

@@ -1,17 +1,17 @@
 //! Every run with one mishap.
 
-ghost use Rattle.std.specs.Prelude.{All, IfOk};
-ghost use Rattle.sdv_search.specs.Swept.{EndsAs, HasEnd, IsRow, IsSweep, mishap_at};
+ghost use Rattle.std.specs.Prelude.{◌≡◌, ◌/◌, All, IfErr, IfOk, length};
+ghost use Rattle.sdv_image.specs.MemBlocks.{shown_of, size_of};
+ghost use Rattle.sdv_search.specs.Swept.{EndsAs, HasEnd, IsNoImage, IsRow, IsSweep, NoEnd, NotSwept, blocks_of, mishap_at};
 
-use crate::refuting::{RefuteFault, image_blocks, zero_image};
 use sdv_controller::Controller;
 use sdv_description::CardDesc;
 use sdv_graph::Graph;
 use sdv_image::MemImage;
-use sdv_refute::{Beside, Next, Nobody, Onlooker, Watched, graph_of_text, try_graph};
+use sdv_refute::{Beside, Next, Nobody, Onlooker, TryFault, Watched, graph_of_text, try_graph};
 use sdv_run::{End, RunFault, Standing};
 use sdv_sim::Sim;
-use std::alloc::Global;
+use std::alloc::{AllocError, Global};
 use std::io;
 
 /// What a run comes to.
@@ -116,12 +116,38 @@ impl Onlooker<Controller<Sim<MemImage>>> for Events {
     }
 }
 
+/// What the runs of a sweep are given.
+#[derive(Clone, Copy)]
+pub struct SweepGiven<'a> {
+    /// The script.
+    pub script: &'a str,
+    /// The description of the card.
+    pub card: &'a str,
+    /// The card's blocks before each run, one after another.
+    pub image: &'a [u8],
+    /// The blocks that the script gives.
+    pub input: &'a [[u8; 512]],
+}
+
 /// What the runs of a sweep have in common.
 #[derive(Clone, Copy)]
 struct Common<'g, 's, 'i> {
     graph: &'g Graph<'s>,
     desc: CardDesc,
+    image: &'i [u8],
     input: &'i [[u8; 512]],
+}
+
+/// An image of these bytes.
+fn image_of(alloc: Global, bytes: &[u8]) -> Result<MemImage, TryFault>
+    ensures image { IfOk result (λ image. shown_of image ≡ blocks_of bytes.now) }
+    ensures size { IfOk result (λ image. size_of image ≡ length bytes.now / 512) }
+    ensures refused { IfErr result (IsNoImage bytes.now) }
+{
+    match MemImage::from_bytes(Vec::from_slice(alloc, bytes)?) {
+        Ok(image) => Ok(image),
+        Err(fault) => Err(TryFault::Card(fault)),
+    }
 }
 
 impl Common<'_, '_, '_> {
@@ -129,121 +155,105 @@ impl Common<'_, '_, '_> {
     fn end<L: Onlooker<Controller<Sim<MemImage>>>>(
         &self,
         alloc: Global,
-        image: &mut Option<MemImage>,
         schedule: &[u8],
         onlooker: &mut L,
-    ) -> Result<RunEnd, RefuteFault>
-        ensures { IfOk result (HasEnd self.now.graph.now self.now.desc self.now.input.now schedule.now) }
+    ) -> Result<RunEnd, TryFault>
+        ensures end { IfOk result
+            (HasEnd self.now.graph.now self.now.desc self.now.image.now self.now.input.now schedule.now) }
+        ensures refused { IfErr result (NoEnd self.now.graph.now self.now.desc self.now.image.now schedule.now) }
     {
-        let Some(blocks) = image.take() else {
-            return Err(RefuteFault::Memory);
-        };
         let beside = Beside {
             desc: self.desc,
             schedule,
             input: self.input,
         };
+        let image = image_of(alloc, self.image)?;
         let (mut out, mut trace) = (io::sink(), io::sink());
         let tried = try_graph(
-            alloc, self.graph, beside, blocks, &mut out, &mut trace, onlooker,
+            alloc, self.graph, beside, image, &mut out, &mut trace, onlooker,
         )?;
-        *image = Some(tried.image);
         Ok(end_of(tried.result))
     }
 
-    /// What a run comes to with one mishap.
-    fn end_with(
-        &self,
-        alloc: Global,
-        image: &mut Option<MemImage>,
-        event: usize,
-        code: u8,
-    ) -> Result<RunEnd, RefuteFault>
-        ensures { IfOk result (HasEnd self.now.graph.now self.now.desc self.now.input.now (mishap_at event code)) }
+    /// What a run comes to with one mishap. It is refused only for want of memory, where the run without a mishap was not.
+    fn end_with(&self, alloc: Global, event: usize, code: u8) -> Result<RunEnd, AllocError>
+        ensures { IfOk result
+            (HasEnd self.now.graph.now self.now.desc self.now.image.now self.now.input.now (mishap_at event code)) }
     {
         let mut schedule = vec![in alloc; 0; event]?;
         schedule.push(code)?;
-        self.end(alloc, image, schedule.as_slice(), &mut Nobody)
+        match self.end(alloc, schedule.as_slice(), &mut Nobody) {
+            Ok(end) => Ok(end),
+            Err(_) => Err(AllocError),
+        }
     }
 
     /// The row of an event.
-    fn row(
-        &self,
-        alloc: Global,
-        image: &mut Option<MemImage>,
-        number: usize,
-        event: Event,
-    ) -> Result<Row, RefuteFault>
-        ensures { IfOk result (IsRow self.now.graph.now self.now.desc self.now.input.now) }
+    fn row(&self, alloc: Global, number: usize, event: Event) -> Result<Row, AllocError>
+        ensures { IfOk result (IsRow self.now.graph.now self.now.desc self.now.image.now self.now.input.now) }
     {
         Ok(Row {
             event: number,
             point: event.point,
             line: self.graph.lines().get(event.point).copied().unwrap_or(0),
             next: event.next,
-            command_lost: self.end_with(alloc, image, number, 1)?,
-            answer_lost: self.end_with(alloc, image, number, 2)?,
-            slow: self.end_with(alloc, image, number, 3)?,
-            error: self.end_with(alloc, image, number, 4)?,
-            refused: self.end_with(alloc, image, number, 5)?,
-            cut: self.end_with(alloc, image, number, 6)?,
-            switch_fails: self.end_with(alloc, image, number, 7)?,
+            command_lost: self.end_with(alloc, number, 1)?,
+            answer_lost: self.end_with(alloc, number, 2)?,
+            slow: self.end_with(alloc, number, 3)?,
+            error: self.end_with(alloc, number, 4)?,
+            refused: self.end_with(alloc, number, 5)?,
+            cut: self.end_with(alloc, number, 6)?,
+            switch_fails: self.end_with(alloc, number, 7)?,
         })
     }
 
     /// The rows of events.
-    fn rows(
-        &self,
-        alloc: Global,
-        image: &mut Option<MemImage>,
-        events: &[Event],
-    ) -> Result<Vec<Row>, RefuteFault>
-        ensures { IfOk result (λ rows. All (IsRow self.now.graph.now self.now.desc self.now.input.now) rows.items) }
+    fn rows(&self, alloc: Global, events: &[Event]) -> Result<Vec<Row>, AllocError>
+        ensures { IfOk result (λ rows.
+            All (IsRow self.now.graph.now self.now.desc self.now.image.now self.now.input.now) rows.items) }
     {
         let mut rows = Vec::new(alloc);
         for number in 0..events.len() {
-            rows.push(self.row(alloc, image, number, events[number])?)?;
+            rows.push(self.row(alloc, number, events[number])?)?;
         }
         Ok(rows)
     }
 }
 
-/// Runs a script beside the card of a description, over zeros, with each mishap at each event of the run without a
-/// mishap.
+/// Runs a script beside the card of a description, over an image, with each mishap at each event of the run without a
+/// mishap. Each run begins with the same image.
 ///
 /// # Errors
 ///
-/// The faults of `try_text`.
-pub fn sweep(
-    alloc: Global,
-    script: &str,
-    card: &str,
-    input: &[[u8; 512]],
-) -> Result<SweepTable, RefuteFault>
-    ensures { IfOk result (IsSweep script.now card.now input.now) }
+/// The first of these: [`TryFault::Script`], [`TryFault::Card`] for the description, [`TryFault::Card`] where the image
+/// is no whole number of blocks, [`TryFault::Kind`], [`TryFault::Card`] where the card has not as many blocks. Also
+/// [`TryFault::Memory`].
+pub fn sweep(alloc: Global, given: &SweepGiven<'_>) -> Result<SweepTable, TryFault>
+    ensures swept { IfOk result (IsSweep given.now.script.now given.now.card.now given.now.image.now given.now.input.now) }
+    ensures refused { IfErr result (NotSwept given.now.script.now given.now.card.now given.now.image.now) }
 {
-    let graph = match graph_of_text(alloc, script) {
+    let graph = match graph_of_text(alloc, given.script) {
         Ok(graph) => graph,
-        Err(fault) => return Err(RefuteFault::Script(fault)),
+        Err(fault) => return Err(TryFault::Script(fault)),
     };
-    let desc = match CardDesc::parse(card) {
+    let desc = match CardDesc::parse(given.card) {
         Ok(desc) => desc,
-        Err(fault) => return Err(RefuteFault::Card(fault)),
+        Err(fault) => return Err(TryFault::Card(fault)),
     };
     let common = Common {
         graph: &graph,
         desc,
-        input,
+        image: given.image,
+        input: given.input,
     };
-    let mut image = Some(zero_image(alloc, image_blocks(&desc)?)?);
     let mut seen = Events {
         events: Vec::new(alloc),
         failed: false,
     };
-    let plain = common.end(alloc, &mut image, &[], &mut seen)?;
+    let plain = common.end(alloc, &[], &mut seen)?;
     if seen.failed {
-        return Err(RefuteFault::Memory);
+        return Err(TryFault::Memory);
     }
-    let rows = common.rows(alloc, &mut image, seen.events.as_slice())?;
+    let rows = common.rows(alloc, seen.events.as_slice())?;
     Ok(SweepTable { plain, rows })
 }

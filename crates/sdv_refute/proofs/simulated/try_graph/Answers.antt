@@ -5,8 +5,8 @@ use Rattle.sdv_controller.specs.Controlled.{wire_of}
 use Rattle.sdv_refute.proofs.SimShown.{watched_of_sim}
 use Rattle.sdv_refute.proofs.simulated.try_graph.Goals as goal
 
-pub returns : goal.returns
-returns g c =
+pub returns-clause-tried : goal.returns-clause-tried
+returns-clause-tried g c =
     let beside = c.args.beside in
     let kind : c.args.graph.now.kind ≡ beside.desc.kind = search (rules, c.kind.ensures, c.ne.ensures, c.if-ne.false) in
     record {

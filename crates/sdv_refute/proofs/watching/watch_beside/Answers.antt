@@ -58,7 +58,7 @@ returns-in-Some g c = (
       let p : Point = seen_point c.point.result.now in
       let w : World g.row.P.Denot =
       record { port = c.loop.port; input = c.loop.left.now; out = g.O.Write.contents c.loop.out; trace = g.T.Write.contents c.loop.trace } in
-      let is = subst (λ k. IsWrongHere g.P.CardPort.card k (stand_of c.loop.standing) c.loop.port p c.in-Some.wrong) i.kind (c.in-Some.ensures.wrong p refl) in
+      let is = subst (λ k. IsWrongHere g.P.CardPort.card c.args.graph.now.lines k (stand_of c.loop.standing) c.loop.port p c.in-Some.wrong) i.kind (c.in-Some.ensures.wrong p refl) in
       stops g.P.CardPort.steps g.P.CardPort.card c.args.graph.now g.met.P.CardPort.keeps_tables i.sound _ _ _ (stand_of c.loop.standing) w i.so_far p c.point.ensures
       c.in-Some.wrong (g.T.Write.contents c.stop_before.new.trace) c.stop_before.result is c.stop_before.ensures,
 )
@@ -128,3 +128,6 @@ loop-preserved g c =
       so_far = subst (λ (room : ℕ). Watching steps card f room start (c.steps-end.result - (c.loop.counter + 1)) s w) len
           (subst (λ (n : ℕ). Watching steps card f (length c.loop.held) start n s w) less on);
     }
+
+pub wrong_at-requires : goal.wrong_at-requires
+wrong_at-requires g c = is_point _ _ _ _ c.loop.invariant.so_far.so_far.lasts

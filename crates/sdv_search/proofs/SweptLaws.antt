@@ -1,0 +1,69 @@
+-- Why no run of a sweep was made, and the blocks of an image in memory.
+use Rattle.std.proofs.Common.{arith, ◌≡◌, ◌∙◌, ◌⊎◌, ◌/◌, inl, inr, refl, ap, subst, sym, ℕ, List, [], length, Some, Result, Ok, Err, IfErr, IsErrAnd}
+use Rattle.sdv_card.specs.Card.{Block}
+use Rattle.sdv_check.specs.Verified.{IsGraphOfText}
+use Rattle.sdv_description.specs.declared.card_desc.CardDesc.{CardDesc}
+use Rattle.sdv_description.specs.Gives.{Describes}
+use Rattle.sdv_graph.specs.Graph.{Graph}
+use Rattle.sdv_image.specs.Images.{HasFailed}
+use Rattle.sdv_image.specs.MemBlocks.{blocks_in, bytes_of, shown_of, size_of}
+use Rattle.sdv_image.specs.declared.fault.SimFault.{SimFault}
+use Rattle.sdv_image.specs.declared.fault.SimFault.TheVariants.{Description, Capacity, ImageLength, ImageRead, Memory as NoMemory}
+use Rattle.sdv_image.specs.declared.mem_image.MemImage.{MemImage}
+use Rattle.sdv_refute.specs.declared.simulated.TryFault.{TryFault}
+use Rattle.sdv_refute.specs.declared.simulated.TryFault.TheVariants.{Script, Kind, Card, Memory}
+use Rattle.sdv_refute.specs.Tries.{NotTried}
+use Rattle.sdv_refute.proofs.SimShown.{refuses_text}
+use Rattle.sdv_sim.specs.Made.{IsRefused, IsUnread}
+use Rattle.sdv_search.specs.Swept.{NoEnd, NotSwept, blocks_of}
+
+pub image_shown : (image : MemImage) (bytes : List ℕ) → bytes_of image ≡ bytes → shown_of image ≡ blocks_of bytes
+image_shown image bytes is = ap (λ (b : List ℕ). blocks_in (length b / 512) b) is
+
+pub image_size : (image : MemImage) (bytes : List ℕ) → bytes_of image ≡ bytes → size_of image ≡ length bytes / 512
+image_size image bytes is = ap (λ (b : List ℕ). length b / 512) is
+
+-- no read of an image in memory fails
+abbrev pub Unread : MemImage → Type 0
+Unread image = IsUnread size_of (λ (i : MemImage). Some (shown_of i)) (λ (i : MemImage). 0) image
+
+never_failed : HasFailed 0 0 → ⊥
+never_failed (inl rose) = absurd (omega (arith, rose))
+never_failed (inr greatest) = absurd (omega (arith, greatest))
+
+never_unread : (image : MemImage) → Unread image → ⊥
+never_unread image unread = never_failed unread.counted
+
+pub unmade : (codes : List ℕ) (size wanted : ℕ) (image : MemImage) (fault : SimFault) → IsRefused codes size wanted (Unread image) fault
+    → IsRefused codes size wanted ⊥ fault
+unmade codes size wanted image Description refused = refused
+unmade codes size wanted image ImageLength refused = refused
+unmade codes size wanted image ImageRead refused = (refused.0, never_unread image refused.1)
+unmade codes size wanted image NoMemory refused = refused
+unmade codes size wanted image Capacity refused = refused
+
+module _ (g : Graph) (desc : CardDesc) where
+  not_unread : (codes : List ℕ) (size : ℕ) (image : MemImage) (fault : TryFault) → NotTried g desc codes size (Unread image) fault
+      → NotTried g desc codes size ⊥ fault
+  not_unread codes size image (Script fault) not = not
+  not_unread codes size image Kind not = not
+  not_unread codes size image (Card fault) not = λ other. unmade codes size _ image fault (not other)
+  not_unread codes size image Memory not = tt
+
+  -- a run over an image of these bytes was not made
+  pub no_end : (bytes codes : List ℕ) (image : MemImage) → size_of image ≡ length bytes / 512 → (fault : TryFault)
+      → NotTried g desc codes (size_of image) (Unread image) fault → NoEnd g desc bytes codes fault
+  no_end bytes codes image size fault not =
+      inr (subst (λ n. NotTried g desc codes n ⊥ fault) size (not_unread codes (size_of image) image fault not))
+
+  -- nor one of the text
+  pub not_swept : (text card bytes : List ℕ) → IsGraphOfText text g → Describes card desc → (fault : TryFault) → NoEnd g desc bytes [] fault
+      → NotSwept text card bytes fault
+  not_swept text card bytes of described fault (inl none) = inl none
+  not_swept text card bytes of described fault (inr not) = inr (refuses_text text card [] (length bytes / 512) ⊥ g desc of described fault not)
+
+-- a `?` passes the fault on
+pub passed : {T : Type 0} (text card bytes : List ℕ) (fault : TryFault) (r : Result T TryFault) → IsErrAnd r (λ f. f ≡ fault)
+    → NotSwept text card bytes fault → IfErr r (NotSwept text card bytes)
+passed text card bytes fault (Ok x) is not = absurd is
+passed text card bytes fault (Err f) is not = rw is not

@@ -1,0 +1,37 @@
+-- WHAT IS TOLD of a run that refutes a script.
+use Rattle.std.specs.Prelude.{◌≡◌, ◌+◌, ℕ, List, ◌++◌, codes, decimal, map, nat_le, if◌then◌else◌}
+use Rattle.sdv_refute.specs.declared.wrong.Wrong.{Wrong}
+use Rattle.sdv_wrong_words.specs.declared.event.WrongEvent.{WrongEvent}
+use Rattle.sdv_wrong_words.specs.WrongEvent.{IsEventOf, wrong_event_text}
+use Rattle.sdv_search.specs.declared.refuting.Refutation.{Refutation}
+
+-- the digits of a schedule; 9 is the digit of no value
+abbrev pub digit_of : (code : ℕ) → ℕ
+digit_of code = if nat_le code 7 then 48 + code else 57
+
+abbrev pub schedule_text : (codes : List ℕ) → List ℕ
+schedule_text codes = map digit_of codes
+
+-- the line says why the run stopped
+abbrev pub IsWhy : Wrong → (line : List ℕ) → Type 0
+IsWhy wrong line = (event : WrongEvent) × IsEventOf wrong event × (line ≡ wrong_event_text event)
+
+-- one part before the next
+infixl 40 ◌before◌
+abbrev pub ◌before◌ : List ℕ → List ℕ → List ℕ
+front before back = front ++ back
+
+abbrev pub report_text : (mishaps why schedule : List ℕ) → Refutation → List ℕ
+report_text mishaps why schedule r =
+    codes "mishaps\n" before mishaps
+    before codes "wrong\n" before why
+    before (codes "card over new:" ++ (decimal r.blocks ++ codes "\n")) before r.card.now
+    before codes "schedule\n" before schedule
+    before codes "\ntrace\n" before r.trace.items
+
+-- the words of the mishaps are not said
+pub record IsReport (r : Refutation) (text : List ℕ) : Type 0 where
+  pub mishaps : List ℕ
+  pub why : List ℕ
+  pub is_why : IsWhy r.wrong why
+  pub same : text ≡ report_text mishaps why (schedule_text r.schedule.items) r

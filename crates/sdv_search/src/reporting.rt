@@ -1,0 +1,91 @@
+//! What is told of a run that refutes a script.
+
+ghost use Rattle.std.specs.Prelude.{◌≡◌, IfOk};
+ghost use Rattle.sdv_search.specs.Report.{IsReport, IsWhy, digit_of, report_text, schedule_text};
+
+use crate::mishaps::mishaps_in_words;
+use crate::refuting::Refutation;
+use sdv_refute::Wrong;
+use sdv_telling::{put, put_numbered};
+use sdv_wrong_words::{write_wrong_event, wrong_event};
+use std::alloc::{AllocError, Global};
+
+/// The digit of a value of a schedule; 9 where there is no such value.
+fn digit_of(code: u8) -> u8
+    ensures { result ≡ digit_of code }
+{
+    match code {
+        0..=7 => b'0' + code,
+        _ => b'9',
+    }
+}
+
+/// The digits of a schedule, as a file of it has them.
+pub fn schedule_digits(alloc: Global, codes: &[u8]) -> Result<Vec<u8>, AllocError>
+    ensures { IfOk result (λ text. text.items ≡ schedule_text codes.now) }
+{
+    let mut digits = Vec::new(alloc);
+    for code in codes {
+        digits.push(digit_of(*code))?;
+    }
+    Ok(digits)
+}
+
+/// Why a run stopped, on a line.
+fn why(alloc: Global, wrong: &Wrong) -> Result<Vec<u8>, AllocError>
+    ensures { IfOk result (λ text. IsWhy wrong.now text.items) }
+{
+    let mut text = Vec::new(alloc);
+    match write_wrong_event(wrong_event(wrong), &mut text) {
+        Ok(()) => Ok(text),
+        Err(_) => Err(AllocError),
+    }
+}
+
+/// What is told of a run that refutes a script: its mishaps, why it stops, the card with its image, the schedule and the
+/// trace.
+///
+/// # Errors
+///
+/// Memory was refused.
+pub fn report(alloc: Global, script: &str, refutation: &Refutation) -> Result<Vec<u8>, AllocError>
+    ensures { IfOk result (λ text. IsReport refutation.now text.items) }
+{
+    let Ok(mishaps) = mishaps_in_words(alloc, script, refutation) else {
+        return Err(AllocError);
+    };
+    let Ok(why) = why(alloc, &refutation.wrong) else {
+        return Err(AllocError);
+    };
+    let schedule = schedule_digits(alloc, refutation.schedule.as_slice())?;
+    report_of(alloc, refutation, &mishaps, &why, &schedule)
+}
+
+/// The same, of these parts.
+fn report_of(
+    alloc: Global,
+    refutation: &Refutation,
+    mishaps: &[u8],
+    why: &[u8],
+    schedule: &[u8],
+) -> Result<Vec<u8>, AllocError>
+    ensures { IfOk result (λ text. text.items ≡ report_text mishaps.now why.now schedule.now refutation.now) }
+{
+    let mut text = Vec::new(alloc);
+    put(&mut text, "mishaps\n")?;
+    text.extend_from_slice(mishaps)?;
+    put(&mut text, "wrong\n")?;
+    text.extend_from_slice(why)?;
+    put_numbered(
+        &mut text,
+        "card over new:",
+        u64::from(refutation.blocks),
+        "\n",
+    )?;
+    put(&mut text, refutation.card)?;
+    put(&mut text, "schedule\n")?;
+    text.extend_from_slice(schedule)?;
+    put(&mut text, "\ntrace\n")?;
+    text.extend_from_slice(&refutation.trace)?;
+    Ok(text)
+}
