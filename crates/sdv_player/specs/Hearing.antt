@@ -7,7 +7,7 @@ use Rattle.sdv_registers.specs.Csd.{fault}
 use Rattle.sdv_card.specs.declared.event.Ask.{Ask}
 use Rattle.sdv_card.specs.declared.answer.Answer.{Answer}
 use Rattle.sdv_card.specs.declared.answer.Answer.TheVariants.{Reply}
-use Rattle.sdv_run.specs.Answers.{is_of_kind}
+use Rattle.sdv_card.specs.Expected.{is_of_kind}
 use Rattle.sdv_table.specs.declared.sending.Sending.{Sending}
 use Rattle.sdv_table.specs.Sending.{csd_by}
 use Rattle.sdv_player.specs.Seen.{Registers}

@@ -1,7 +1,7 @@
 //! What a player makes of what its events returned.
 
 ghost use Rattle.std.specs.Prelude.{◌≡◌, true, Some, IfSome};
-ghost use Rattle.sdv_run.specs.Answers.{is_of_kind};
+ghost use Rattle.sdv_card.specs.Expected.{is_of_kind};
 ghost use Rattle.sdv_table.specs.Sending.{rca_by, announced_from, length_from, host_by};
 ghost use Rattle.sdv_player.specs.Seen.{Registers, Remembers, kind_of, host_of};
 ghost use Rattle.sdv_player.specs.Hearing.{is_heard, is_readable, registers_after};
