@@ -47,7 +47,6 @@ A write that a clean status in transfer state confirms, one that nothing confirm
   line 15: done may come where the write of line 14 was cut, or its error passed over
   emmc ready
   line 15: done may come where the write of line 14 was cut, or its error passed over
-  [1]
 
 A write that was cut, and given up for a done; and one that was left for another place.
 

@@ -66,7 +66,7 @@ Cards and images that cannot be used.
   card fault Description
   [1]
   $ sdv card $card
-  usage: sdv frame INDEX ARG * (glob)
+  usage: IMAGE is missing: sdv card CARD IMAGE [SCHEDULE]
   [2]
 
 The host alone asks line by line. An answer that is none, and the end of its input, end the run.
