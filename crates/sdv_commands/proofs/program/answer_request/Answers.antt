@@ -3,7 +3,7 @@ use Rattle.sdv_command_line.specs.Requests.{card_names_of, drive_names_of, seen}
 use Rattle.sdv_files.proofs.StartLaws.{keeps_same}
 use Rattle.sdv_command_line.specs.declared.request.Request.{Request}
 use Rattle.sdv_files.specs.Outcomes.{outcome_of}
-use Rattle.sdv_lines.specs.Streams.{streams_of}
+use Rattle.sdv_lines.specs.Streams.{Streams, streams_of}
 use Rattle.sdv_commands.specs.Ends.{EndsRequest}
 use Rattle.sdv_commands.proofs.EndsLaws.{card_ends, drive_ends}
 use Rattle.sdv_commands.proofs.program.answer_request.Goals as goal
@@ -23,7 +23,7 @@ returns-in-Audit g c =
 pub returns-in-Drive : goal.returns-in-Drive
 returns-in-Drive g c =
     let s = streams_of g.I.Read.remaining g.L.Write.contents c.args.lines.now in
-    let s' = streams_of g.I.Read.remaining g.L.Write.contents c.drive_files.new.lines in
+    let s' = streams_of g.I.Read.remaining g.L.Write.contents c.drive_files.new.port in
     subst (λ (request : Request). EndsRequest (g.S.Store.known c.args.files.now) s s' (seen request) (outcome_of c.drive_files.result)
     (g.O.Write.contents c.args.out.now) (g.O.Write.contents c.args.out.now)) (sym c.in-Drive.is) (
       drive_ends (g.S.Store.known c.args.files.now) (drive_names_of c.in-Drive.names) s s' c.drive_files.result
@@ -38,7 +38,7 @@ returns-in-Card g c =
     let a' = g.I.Read.remaining c.serve_card.new.reader in
     let q' = g.L.Write.contents c.serve_card.new.writer in
     let s = streams_of g.I.Read.remaining g.L.Write.contents c.args.lines.now in
-    let s' = record { answers = a'; requests = q'; fault = c.args.lines.now.fault } in
+    let s' : Streams = record { answers = a'; requests = q'; fault = c.args.lines.now.fault } in
     subst (λ (request : Request). EndsRequest (g.S.Store.known c.args.files.now) s s' (seen request) (outcome_of c.serve_card.result)
     (g.O.Write.contents c.args.out.now) (g.O.Write.contents c.args.out.now)) (sym c.in-Card.is) (
       card_ends (g.S.Store.known c.args.files.now) (card_names_of c.in-Card.names) a a' q q' c.serve_card.result
