@@ -180,6 +180,7 @@ fn audits_what_comes_slowly(rt: HostRuntime) {
         "letters are no trace"
     );
     let broken = ["audit", "sd", "broken"];
+    let mut lines = LinePort::new(io::empty(), io::sink());
     let found = answer(rt.alloc(), &Pair, &broken, &mut lines, &mut out);
     assert!(rt; found == Err(Fault::File("broken")));
     assert!(rt; out.is_empty());
