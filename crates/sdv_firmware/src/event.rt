@@ -1,5 +1,10 @@
 //! Events as C sees them.
 
+ghost use Rattle.std.specs.Prelude.{◌≡◌, ◌<◌};
+ghost use Rattle.sdv_table.specs.Reading.{sending_at};
+ghost use Rattle.sdv_table.specs.Row.{expect_code};
+ghost use Rattle.sdv_firmware.specs.Events.{follows_by, ShowsCommand, ShowsEvent, Shows};
+
 use sdv_card::{Ask, Width};
 use sdv_frames::Expect;
 use sdv_player::{Next, State};
@@ -34,7 +39,9 @@ pub struct Event {
 static NUMBER: [u32; 2] = [0x626d_756e, 0x0000_7265];
 
 /// The response that is waited for, by its number.
-fn expect_number(expect: Expect) -> u32 {
+fn expect_number(expect: Expect) -> u32
+    ensures { result ≡ expect_code expect }
+{
     match expect {
         Expect::Nothing => 0,
         Expect::R1(_) => 1,
@@ -46,15 +53,17 @@ fn expect_number(expect: Expect) -> u32 {
 }
 
 /// What follows a command of so many blocks on the data lines, and how much of it.
-fn data_of(follows: Data, blocks: u16, app: bool) -> (u32, u32) {
+fn data_of(follows: Data, blocks: u16, app: u32) -> (u32, u32)
+    ensures what { result.0 ≡ (follows_by follows blocks app).what }
+    ensures count { result.1 ≡ (follows_by follows blocks app).count }
+{
     match follows {
         Data::Nothing => (0, 0),
         Data::Busy => (1, 0),
         Data::BlocksIn => (2, u32::from(blocks)),
         Data::BlocksOut => (3, u32::from(blocks)),
         Data::Scr => (4, 8),
-        Data::SdStatus if app => (4, 64),
-        Data::SdStatus => (0, 0),
+        Data::SdStatus => { if app == 0 { (0, 0) } else { (4, 64) } }
         Data::ExtCsd => (4, 512),
     }
 }
@@ -72,7 +81,11 @@ fn byte_at(name: NameRow<'_>, at: usize) -> u8 {
 }
 
 /// The end in the fault of this name: as much of it as there is room for.
-fn fault(event: Event, name: NameRow<'_>) -> Event {
+fn fault(event: Event, name: NameRow<'_>) -> Event
+    ensures what { result.what ≡ 7 }
+    ensures lines { result.lines ≡ event.lines }
+    ensures point { result.point ≡ event.point }
+{
     let mut bytes = [0; 16];
     let mut count = 0;
     for at in 0..16_usize {
@@ -90,13 +103,18 @@ fn fault(event: Event, name: NameRow<'_>) -> Event {
 }
 
 /// The event of a command at a point.
-fn command(table: &[u32], state: &State, event: Event, ask: Ask, argument: u32) -> Event {
+fn command(table: &[u32], state: &State, event: Event, ask: Ask, argument: u32) -> Event
+    ensures command { state.now.place.point < 65536 → ShowsCommand result ask.index argument ask.count state.now.app
+        (sending_at table.now state.now.place.point) }
+    ensures lines { result.lines ≡ event.lines }
+    ensures point { result.point ≡ event.point }
+{
     let point = state.place.point;
     if point >= 65536 {
         return event;
     }
     let sending = sending_at(table, point);
-    let (data, count) = data_of(sending.follows, ask.count, state.app != 0);
+    let (data, count) = data_of(sending.follows, ask.count, state.app);
     Event {
         what: 1,
         index: u32::from(ask.index),
@@ -109,7 +127,9 @@ fn command(table: &[u32], state: &State, event: Event, ask: Ask, argument: u32) 
 }
 
 /// What the host does next, as C sees it.
-pub fn event_of(table: &[u32], state: &State, next: Next<'_>) -> Event {
+pub fn event_of(table: &[u32], state: &State, next: Next<'_>) -> Event
+    ensures { Shows table.now state.now result next.entry }
+{
     let event = Event {
         what: 8,
         point: u32::try_from(state.place.point).unwrap_or(u32::MAX),
@@ -137,7 +157,11 @@ pub fn event_of(table: &[u32], state: &State, next: Next<'_>) -> Event {
 }
 
 /// An event that is made.
-fn made_of(table: &[u32], state: &State, event: Event, made: NextEvent) -> Event {
+fn made_of(table: &[u32], state: &State, event: Event, made: NextEvent) -> Event
+    ensures event { ShowsEvent table.now state.now result made }
+    ensures lines { result.lines ≡ event.lines }
+    ensures point { result.point ≡ event.point }
+{
     match made {
         NextEvent::Send { ask, argument, .. } => command(table, state, event, ask, argument),
         NextEvent::ReceiveBlocks { count, .. } => Event {

@@ -1,24 +1,41 @@
 //! The player of script tables for C: a static library with the calls of `firmware/sdv_player.h`.
 //!
-//! Each call is that of `sdv_player`. The structs are those of the header, field by field.
+//! Each call is that of `sdv_player`. The structs are those of the header, field by field. `specs/Events.antt` says what
+//! C sees of an event, and `specs/Answers.antt` what it says of an answer.
 #![tactic(auto)]
+
+ghost use Rattle.std.specs.Prelude.{◌≡◌, Bool, pos};
+ghost use Rattle.std.specs.Int.{from_bool};
+ghost use Rattle.sdv_run.specs.declared.returned.Returned.{Returned};
+ghost use Rattle.sdv_run.specs.declared.returned.Returned.TheVariants.{Answered};
+ghost use Rattle.sdv_player.specs.declared.next_step.Next.{Next};
+ghost use Rattle.sdv_player.specs.Play.{has_header, Starts, Advances, Takes, IsEnd};
+ghost use Rattle.sdv_firmware.specs.Answers.{answer_of, came, is_not_zero};
+ghost use Rattle.sdv_firmware.specs.Events.{Shows};
 
 mod answers;
 mod event;
 
-use answers::answer_of;
+use answers::{answer_of, came, is_not_zero};
 use event::{Event, event_of};
 use sdv_player::{State, answer, ended, next, start};
 
 /// Begins a run. 1, or 0 where the words have not the magic, the version and the size of a table.
 #[unsafe(no_mangle)]
-pub extern "C" fn sdv_start(table: &[u32], state: &mut State) -> i32 {
+pub extern "C" fn sdv_start(table: &[u32], state: &mut State) -> i32
+    ensures header { result ≡ pos (from_bool (has_header table.now)) }
+    ensures starts { Starts table.now state.new }
+{
     i32::from(start(table, state))
 }
 
 /// What the host does next; statements without an event are gone through. Asked again, it answers the same.
 #[unsafe(no_mangle)]
-pub extern "C" fn sdv_next(table: &[u32], state: &mut State, event: &mut Event) -> u32 {
+pub extern "C" fn sdv_next(table: &[u32], state: &mut State, event: &mut Event) -> u32
+    ensures says { (said : Next) × Advances table.now state.old state.new said
+        × Shows table.now state.new event.new said }
+    ensures what { result ≡ event.new.what }
+{
     let next = next(table, state);
     *event = event_of(table, state, next);
     event.what
@@ -32,7 +49,10 @@ pub extern "C" fn sdv_answer_bytes(
     reply: u32,
     word: u32,
     r2: &[u8],
-) -> i32 {
+) -> i32
+    ensures { (taken : Bool) × (result ≡ pos (from_bool taken)) × Takes table.now state.old state.new
+        (Answered (answer_of table.now state.old.place.point reply word r2.now)) taken }
+{
     let came = answer_of(table, state, reply, word, r2);
     i32::from(answer(table, state, &came))
 }
@@ -40,11 +60,10 @@ pub extern "C" fn sdv_answer_bytes(
 /// How the phase or the wait ended that was asked for, with the bytes of a register that came well. 1, or 0 where none
 /// was asked for.
 #[unsafe(no_mangle)]
-pub extern "C" fn sdv_ended_bytes(
-    table: &[u32],
-    state: &mut State,
-    well: i32,
-    bytes: &[u8],
-) -> i32 {
-    i32::from(ended(table, state, well != 0, <&[u8; 512]>::try_from(bytes).ok()))
+pub extern "C" fn sdv_ended_bytes(table: &[u32], state: &mut State, well: i32, bytes: &[u8]) -> i32
+    ensures { (taken : Bool) × (result ≡ pos (from_bool taken)) × ((returned : Returned)
+        → IsEnd returned state.old.host.register_length (is_not_zero well) (came bytes.now)
+        → Takes table.now state.old state.new returned taken) }
+{
+    i32::from(ended(table, state, is_not_zero(well), came(bytes)))
 }

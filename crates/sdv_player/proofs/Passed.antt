@@ -1,17 +1,12 @@
 -- A statement without an event is passed, to where it leads.
-use Rattle.std.proofs.Common.{◌≡◌, ◌≤◌, ℕ, List, length, Option, Some, None, Ok, Err, refl, sym, ap, ◌∙◌, subst}
+use Rattle.std.proofs.Common.{◌≡◌, ◌≤◌, length, Some, None, Ok, Err, sym, ap, ◌∙◌, subst}
 use Rattle.sdv_graph.specs.declared.graph.Target.{Target}
-use Rattle.sdv_graph.specs.Path.{Action, Stand, Move, Goes, Halts, arrive, turns_at}
+use Rattle.sdv_graph.specs.Path.{Action, arrive, turns_at}
 use Rattle.sdv_player.specs.declared.next_step.Next.{Next}
 use Rattle.sdv_player.specs.declared.place.Place.{Place}
 use Rattle.sdv_player.specs.declared.state.State.{State}
-use Rattle.sdv_player.specs.Passing.{Passes, IsNear, move_at, PassesBy, StepsBy}
-use Rattle.sdv_player.specs.Seen.{Registers, turns_of, host_of, stand_of}
-
--- the place is that of the target
-pub record Gone (t : Target) (p p' : Place) : Type 0 where
-  pub point : length (turns_at t (turns_of p)) ≤ 4 → p'.point ≡ t.to
-  pub turns : length (turns_at t (turns_of p)) ≤ 4 → turns_of p' ≡ turns_at t (turns_of p)
+use Rattle.sdv_player.specs.Passing.{Passes, IsNear, PassesBy, StepsBy}
+use Rattle.sdv_player.specs.Seen.{Gone, turns_of, host_of, stand_of}
 
 pub passes_on : (a : Action) (s s₁ : State) (t : Target) (place : Place) → StepsBy a s s₁ (Ok t) → Gone t s₁.place place →
     PassesBy a s (record s₁ { place = place }) None

@@ -1,5 +1,6 @@
 -- What a player makes of an answer to a command, by the command's row.
-use Rattle.std.specs.Prelude.{◌==◌, ◌&&◌, ℕ, List, Bool, true, Option, Some, None, is_none, if◌then◌else◌}
+use Rattle.std.specs.Prelude.{◌==◌, ◌&&◌, ℕ, List, Bool, true, Option, Some, None, is_none, option_map, if◌then◌else◌}
+use Rattle.std.specs.Borrow.{Bor}
 use Rattle.sdv_frames.specs.Bits.{bits_of}
 use Rattle.sdv_frames.specs.declared.reply.Reply.TheVariants.{R2}
 use Rattle.sdv_registers.specs.declared.kind.Kind.{Kind}
@@ -8,6 +9,8 @@ use Rattle.sdv_card.specs.declared.event.Ask.{Ask}
 use Rattle.sdv_card.specs.declared.answer.Answer.{Answer}
 use Rattle.sdv_card.specs.declared.answer.Answer.TheVariants.{Reply}
 use Rattle.sdv_card.specs.Expected.{is_of_kind}
+use Rattle.sdv_graph.specs.declared.tree.Phase.{Phase}
+use Rattle.sdv_graph.specs.declared.tree.Phase.TheVariants as phases
 use Rattle.sdv_table.specs.declared.sending.Sending.{Sending}
 use Rattle.sdv_table.specs.Sending.{csd_by}
 use Rattle.sdv_player.specs.Seen.{Registers}
@@ -27,3 +30,17 @@ is_heard k ask sending answer = is_of_kind sending.expect answer && is_readable 
 -- the registers that the host then read
 abbrev pub registers_after : (index : ℕ) → Answer → Registers → Registers
 registers_after index answer r = record r { csd = csd_by index answer r.csd }
+
+-- the bytes that came, if they did
+abbrev pub bytes_of : Option (Bor (List ℕ)) → Option (List ℕ)
+bytes_of register = option_map (λ bytes. bytes.now) register
+
+-- the registers that the host read, after a register phase of so many bytes that ended well
+abbrev pub registers_kept : (count : ℕ) → (came : Option (List ℕ)) → Registers → Registers
+registers_kept count None r = r
+registers_kept count (Some bytes) r = if count == 512 then record r { ext_csd = Some bytes } else r
+
+-- and after any phase, or a wait
+abbrev pub registers_ended : Phase → (well : Bool) → (count : ℕ) → (came : Option (List ℕ)) → Registers → Registers
+registers_ended phases.ReceiveRegister true count came r = registers_kept count came r
+registers_ended phase well count came r = r

@@ -1,4 +1,10 @@
 pub mod Asking
 pub mod Hearing
+pub mod Judging
+pub mod OverPort
 pub mod Passing
+pub mod Play
+pub mod Plays
+pub mod Rows
 pub mod Seen
+pub mod StandsFor

@@ -1,5 +1,5 @@
 -- What is SEEN of the state of a player: where a run stands, and what its host knows.
-use Rattle.std.specs.Prelude.{◌≡◌, ◌==◌, ℕ, zero, suc, List, [], ◌∷◌, take, slice_index, Option, Some, None, option_map, if◌then◌else◌}
+use Rattle.std.specs.Prelude.{◌≡◌, ◌==◌, ◌≤◌, ℕ, zero, suc, List, [], ◌∷◌, length, take, slice_index, Option, Some, None, option_map, if◌then◌else◌}
 use Rattle.sdv_frames.specs.Bits.{bits_of}
 use Rattle.sdv_registers.specs.declared.kind.Kind.{Kind}
 use Rattle.sdv_registers.specs.declared.kind.Kind.TheVariants.{Sd, Emmc}
@@ -8,7 +8,8 @@ use Rattle.sdv_registers.specs.ExtCsd.{sec_count, boot_blocks}
 use Rattle.sdv_card.specs.declared.state.Width.{Width}
 use Rattle.sdv_card.specs.declared.state.Width.TheVariants.{One, Four, Eight}
 use Rattle.sdv_card.specs.Host.{Host}
-use Rattle.sdv_graph.specs.Path.{Stand}
+use Rattle.sdv_graph.specs.declared.graph.Target.{Target}
+use Rattle.sdv_graph.specs.Path.{Stand, turns_at}
 use Rattle.sdv_player.specs.declared.host.HostNumbers.{HostNumbers}
 use Rattle.sdv_player.specs.declared.place.Place.{Place}
 use Rattle.sdv_player.specs.declared.state.State.{State}
@@ -67,3 +68,12 @@ pub record Remembers (s : HostNumbers) (r : Registers) : Type 0 where
 -- where the run stands, and what its host knows
 abbrev pub stand_of : State → Registers → Stand
 stand_of s r = record { point = s.place.point; turns = turns_of s.place; host = host_of s.host r }
+
+-- before the first command it read none
+abbrev pub no_registers : Registers
+no_registers = record { csd = None; ext_csd = None }
+
+-- a place is where a target leads from another one, where at most four loops stand round it
+pub record Gone (t : Target) (p p' : Place) : Type 0 where
+  pub point : length (turns_at t (turns_of p)) ≤ 4 → p'.point ≡ t.to
+  pub turns : length (turns_at t (turns_of p)) ≤ 4 → turns_of p' ≡ turns_at t (turns_of p)

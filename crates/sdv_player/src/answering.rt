@@ -1,41 +1,16 @@
 //! What a player makes of what its events returned.
 
-ghost use Rattle.std.specs.Prelude.{◌≡◌, true, Some, IfSome};
-ghost use Rattle.sdv_card.specs.Expected.{is_of_kind};
+ghost use Rattle.std.specs.Prelude.{◌≡◌, true};
 ghost use Rattle.sdv_table.specs.Sending.{rca_by, announced_from, length_from, host_by};
 ghost use Rattle.sdv_player.specs.Seen.{Registers, Remembers, kind_of, host_of};
-ghost use Rattle.sdv_player.specs.Hearing.{is_heard, is_readable, registers_after};
+ghost use Rattle.sdv_player.specs.Hearing.{is_heard, is_readable, registers_after, bytes_of, registers_kept, registers_ended};
 
 use crate::host::HostNumbers;
 use sdv_card::{Answer, Ask};
 use sdv_frames::{Expect, Reply};
+use sdv_graph::Phase;
 use sdv_registers::{Csd, ExtCsd, PublishedRca};
 use sdv_table::{Data, Sending};
-
-/// Whether an answer is of the kind that was asked for.
-fn is_of_kind(expect: Expect, answer: &Answer) -> bool
-    ensures { result ≡ is_of_kind expect answer.now }
-{
-    match (expect, answer) {
-        (Expect::Nothing, Answer::Sent) => true,
-        (Expect::Nothing, _) => false,
-        (_, Answer::TimeOut) => true,
-        (
-            Expect::R1(index),
-            Answer::Reply(
-                Reply::R1 {
-                    index: repeated,
-                    ..
-                },
-            ),
-        ) => *repeated == index,
-        (Expect::R2, Answer::Reply(Reply::R2(_))) => true,
-        (Expect::R3, Answer::Reply(Reply::R3(_))) => true,
-        (Expect::R6, Answer::Reply(Reply::R6(_))) => true,
-        (Expect::R7, Answer::Reply(Reply::R7(_))) => true,
-        _ => false,
-    }
-}
 
 /// The relative card address after a command.
 fn rca_after(index: u8, expect: Expect, answer: &Answer, rca: u16) -> u16
@@ -97,10 +72,11 @@ impl HostNumbers {
         ensures remembers { (r : Registers) → result ≡ true → Remembers self.old r
             → Remembers self.new (registers_after ask.index answer.now r) }
         ensures host { (r : Registers) → result ≡ true
-            → host_of self.new (registers_after ask.index answer.now r) ≡ host_by ask sending answer.now (host_of self.old r) }
+            → host_of self.new (registers_after ask.index answer.now r)
+            ≡ host_by ask sending answer.now (host_of self.old r) }
         ensures kind { self.new.kind ≡ self.old.kind }
     {
-        if !is_of_kind(sending.expect, answer) || !self.hear_csd(ask.index, answer) {
+        if !answer.is_of_kind(sending.expect) || !self.hear_csd(ask.index, answer) {
             return false;
         }
         self.rca = rca_after(ask.index, sending.expect, answer, self.rca);
@@ -110,10 +86,9 @@ impl HostNumbers {
     }
 
     /// Takes in the EXT_CSD of a register phase that ended well, if it was one.
-    pub fn keep(&mut self, register: Option<&[u8; 512]>)
-        ensures kept { (r : Registers) → Remembers self.old r → self.old.register_length ≡ 512
-            → IfSome register.entry (λ bytes. Remembers self.new (record r { ext_csd = Some bytes.now })) }
-        ensures other { (self.old.register_length ≡ 512 → ⊥) → self.new ≡ self.old }
+    fn keep(&mut self, register: Option<&[u8; 512]>)
+        ensures remembers { (r : Registers) → Remembers self.old r
+            → Remembers self.new (registers_kept self.old.register_length (bytes_of register.entry) r) }
         ensures host { (r : Registers) → host_of self.new r ≡ host_of self.old r }
         ensures kind { self.new.kind ≡ self.old.kind }
     {
@@ -122,6 +97,18 @@ impl HostNumbers {
             self.ext_blocks = u64::from(register.sec_count());
             self.ext_boot = register.boot_blocks();
             self.ext_read = 1;
+        }
+    }
+
+    /// Takes in how a phase or a wait ended.
+    pub fn hear_end(&mut self, phase: Phase, well: bool, register: Option<&[u8; 512]>)
+        ensures remembers { (r : Registers) → Remembers self.old r
+            → Remembers self.new (registers_ended phase well self.old.register_length (bytes_of register.entry) r) }
+        ensures host { (r : Registers) → host_of self.new r ≡ host_of self.old r }
+        ensures kind { self.new.kind ≡ self.old.kind }
+    {
+        if let (Phase::ReceiveRegister, true) = (phase, well) {
+            self.keep(register);
         }
     }
 }

@@ -1,7 +1,8 @@
 //! What the host of a player knows.
 
-ghost use Rattle.std.specs.Prelude.{◌≡◌};
-ghost use Rattle.sdv_player.specs.Seen.{kind_of, lines_of};
+ghost use Rattle.std.specs.Prelude.{◌≡◌, ◌≤◌};
+ghost use Rattle.sdv_card.specs.Profile.{host_at_start};
+ghost use Rattle.sdv_player.specs.Seen.{Remembers, no_registers, kind_of, lines_of, host_of};
 
 use sdv_card::{Kind, Width};
 
@@ -39,7 +40,11 @@ pub struct HostNumbers {
 
 impl HostNumbers {
     /// What a host knows before the first command to a card of this kind.
-    pub fn at_start(kind: u32, declared: usize) -> HostNumbers {
+    pub fn at_start(kind: u32, declared: usize) -> HostNumbers
+        ensures host { declared ≤ 8 → host_of result no_registers ≡ host_at_start declared }
+        ensures remembers { Remembers result no_registers }
+        ensures kind { result.kind ≡ kind }
+    {
         HostNumbers {
             variables: [0; 8],
             csd_blocks: 0,

@@ -1,6 +1,6 @@
 //! Where a run stands.
 
-ghost use Rattle.std.specs.Prelude.{◌≡◌, ◌≤◌, ◌<◌, ℕ, zero, suc, List, ◌∷◌, length, true, false, slice_index};
+ghost use Rattle.std.specs.Prelude.{◌≡◌, ◌≤◌, ◌<◌, ℕ, zero, suc, List, [], ◌∷◌, length, true, false, slice_index};
 ghost use Rattle.sdv_graph.specs.Path.{turns_at};
 ghost use Rattle.sdv_player.specs.Seen.{turns_of};
 
@@ -23,7 +23,9 @@ const NOWHERE: usize = 65535;
 
 impl Place {
     /// At no point: the run goes on no more.
-    pub fn nowhere() -> Place {
+    pub fn nowhere() -> Place
+        ensures { turns_of result ≡ [] }
+    {
         Place {
             point: NOWHERE,
             depth: 0,

@@ -1,7 +1,13 @@
 //! The calls of a player.
 
-ghost use Rattle.std.specs.Prelude.{◌≡◌, ◌-◌, true, false};
+ghost use Rattle.std.specs.Prelude.{◌≡◌, ◌≤◌, ◌-◌, [], true, false};
+ghost use Rattle.sdv_card.specs.Profile.{host_at_start};
+ghost use Rattle.sdv_run.specs.declared.returned.Returned.{Returned};
+ghost use Rattle.sdv_run.specs.declared.returned.Returned.TheVariants.{Answered};
 ghost use Rattle.sdv_player.specs.declared.next_step.Next.TheVariants.{Stopped};
+ghost use Rattle.sdv_player.specs.Seen.{Gone, Remembers, no_registers, turns_of, host_of};
+ghost use Rattle.sdv_player.specs.Hearing.{bytes_of};
+ghost use Rattle.sdv_player.specs.Play.{has_header, Starts, Advances, Takes, IsEnd};
 
 use crate::asking::ask;
 use crate::guards::way;
@@ -9,17 +15,25 @@ use crate::host::HostNumbers;
 use crate::next_step::Next;
 use crate::passing::pass;
 use crate::place::Place;
+use crate::rows::{command_at, phase_at};
 use crate::state::State;
 use crate::words::{number_at, target_of, word};
 use sdv_card::Answer;
 use sdv_frames::Reply;
-use sdv_graph::{Phase, Target};
+use sdv_graph::Target;
 use sdv_registers::Status;
-use sdv_table::{Row, row_at, sending_at};
+use sdv_table::{row_at, sending_at};
 
 impl State {
     /// A run that goes on no more.
-    fn stopped(kind: u32, declared: usize) -> State {
+    fn stopped(kind: u32, declared: usize) -> State
+        ensures host { declared ≤ 8 → host_of result.host no_registers ≡ host_at_start declared }
+        ensures remembers { Remembers result.host no_registers }
+        ensures kind { result.host.kind ≡ kind }
+        ensures place { turns_of result.place ≡ [] }
+        ensures asked { result.asked ≡ 0 }
+        ensures moves { result.moves ≡ 0 }
+    {
         State {
             host: HostNumbers::at_start(kind, declared),
             moves: 0,
@@ -33,6 +47,8 @@ impl State {
     fn go_on(&mut self, target: Target)
         ensures asked { self.new.asked ≡ 0 }
         ensures moves { self.new.moves ≡ self.old.moves - 1 }
+        ensures host { self.new.host ≡ self.old.host }
+        ensures gone { Gone target self.old.place self.new.place }
     {
         self.asked = 0;
         self.moves = self.moves.saturating_sub(1);
@@ -40,19 +56,27 @@ impl State {
     }
 }
 
+/// Whether words have the magic, the version and the size of a table.
+fn has_header(words: &[u32]) -> bool
+    ensures { result ≡ has_header words.now }
+{
+    word(words, 0) == 0x5456_4453
+        && word(words, 1) % 256 == 1
+        && (word(words, 2) / 65536) as usize == words.len()
+        && words.len() >= 6
+}
+
 /// Begins a run.
 ///
 /// False for words that have not the magic, the version and the size of a table: the run then stops at once.
-pub fn start(words: &[u32], state: &mut State) -> bool {
-    *state = State::stopped(
-        word(words, 1) / 256 % 256,
-        (word(words, 1) / 65536 % 256) as usize,
-    );
-    if word(words, 0) != 0x5456_4453
-        || word(words, 1) % 256 != 1
-        || (word(words, 2) / 65536) as usize != words.len()
-        || words.len() < 6
-    {
+pub fn start(words: &[u32], state: &mut State) -> bool
+    ensures header { result ≡ has_header words.now }
+    ensures starts { Starts words.now state.new }
+    ensures refused { result ≡ false → state.new.moves ≡ 0 }
+{
+    let counts = word(words, 1);
+    *state = State::stopped(counts / 256 % 256, (counts / 65536 % 256) as usize);
+    if !has_header(words) {
         return false;
     }
     state.moves = number_at(words, 4);
@@ -64,7 +88,9 @@ pub fn start(words: &[u32], state: &mut State) -> bool {
 ///
 /// Any words may be played, with any state: the run ends within the moves that the state allows.
 pub fn next<'a>(words: &'a [u32], state: &mut State) -> Next<'a>
+    ensures advances { Advances words.now state.old state.new result }
     ensures stopped { state.old.moves ≡ 0 → (result ≡ Stopped) × (state.new ≡ state.old) }
+    ensures kind { state.new.host.kind ≡ state.old.host.kind }
 {
     if state.moves == 0 {
         return Next::Stopped;
@@ -95,28 +121,27 @@ pub fn next<'a>(words: &'a [u32], state: &mut State) -> Next<'a>
 /// False where no command was asked for: the run stands where it stood. False too for an answer that a run does not go
 /// on with: the run stops.
 pub fn answer(words: &[u32], state: &mut State, answer: &Answer) -> bool
+    ensures takes { Takes words.now state.old state.new (Answered answer.now) result }
     ensures unasked { state.old.asked ≡ 0 → (result ≡ false) × (state.new ≡ state.old) }
     ensures once { result ≡ true → state.new.asked ≡ 0 }
     ensures counted { result ≡ true → state.new.moves ≡ state.old.moves - 1 }
+    ensures kind { result ≡ true → state.new.host.kind ≡ state.old.host.kind }
 {
     let point = state.place.point;
     if state.asked == 0 {
         return false;
     }
-    let Some(Row::Send(command, cases, other)) = row_at(words, point) else {
+    let Some(row) = command_at(words, point) else {
         return false;
     };
-    if !state
-        .host
-        .hear(command.ask, sending_at(words, point), answer)
-    {
+    if !state.host.hear(row.ask, sending_at(words, point), answer) {
         state.moves = 0;
         state.place = Place::nowhere();
         state.asked = 0;
         return false;
     }
-    state.app = u32::from(command.ask.index == 55 && is_app(answer));
-    let target = way(state.host.kind(), cases, other, answer);
+    state.app = u32::from(row.ask.index == 55 && is_app(answer));
+    let target = way(state.host.kind(), row.cases, row.other, answer);
     state.go_on(target);
     true
 }
@@ -133,19 +158,21 @@ fn is_app(answer: &Answer) -> bool {
 ///
 /// False where none was asked for: the run stands where it stood.
 pub fn ended(words: &[u32], state: &mut State, well: bool, register: Option<&[u8; 512]>) -> bool
+    ensures takes { (returned : Returned)
+        → IsEnd returned state.old.host.register_length well (bytes_of register.entry)
+        → Takes words.now state.old state.new returned result }
     ensures unasked { state.old.asked ≡ 0 → (result ≡ false) × (state.new ≡ state.old) }
     ensures once { result ≡ true → state.new.asked ≡ 0 }
     ensures counted { result ≡ true → state.new.moves ≡ state.old.moves - 1 }
+    ensures kind { result ≡ true → state.new.host.kind ≡ state.old.host.kind }
 {
     if state.asked == 0 {
         return false;
     }
-    let Some(Row::Phase(phase, good, other)) = row_at(words, state.place.point) else {
+    let Some(row) = phase_at(words, state.place.point) else {
         return false;
     };
-    if well && phase == Phase::ReceiveRegister {
-        state.host.keep(register);
-    }
-    state.go_on(if well { good } else { other });
+    state.host.hear_end(row.phase, well, register);
+    state.go_on(if well { row.good } else { row.other });
     true
 }

@@ -7,5 +7,5 @@ use Rattle.sdv_player.proofs.guards.way.Given as goal
 -- the cases so far do not hold
 abbrev pub invariant-loop : goal.invariant-loop
 invariant-loop l =
-    way_of l.kind (cases_of (l.cases.count - l.counter) l.rest) l.other (Answered l.answer)
-    ≡ way_of l.kind (cases_of l.cases.count l.cases.words.now) l.other (Answered l.answer)
+    way_of l.fn.kind (cases_of (l.cases.count - l.counter) l.rest) l.other (Answered l.answer)
+    ≡ way_of l.fn.kind (cases_of l.cases.count l.cases.words.now) l.other (Answered l.answer)

@@ -1,6 +1,14 @@
 use Rattle.std.proofs.Common.{◌≡◌, ◌-◌}
+use Rattle.sdv_graph.specs.Graph.{Graph}
+use Rattle.sdv_player.specs.Seen.{Registers}
+use Rattle.sdv_player.specs.StandsFor.{StandsFor}
+use Rattle.sdv_player.proofs.Silent.{OnTheWay}
 use Rattle.sdv_player.proofs.player.next.Given as goal
 
--- a move is taken off for each turn
+-- a move is taken off for each turn, and the moves so far made no event
 abbrev pub invariant-loop : goal.invariant-loop
-invariant-loop l = l.state.moves ≡ l.end - l.counter
+invariant-loop l = record {
+  moves : l.state.moves ≡ l.end - l.counter;
+  kind : l.state.host.kind ≡ l.fn.state.host.kind;
+  way : (g : Graph) (r : Registers) → StandsFor g l.words l.fn.state r → OnTheWay g l.words l.fn.state l.state r;
+}

@@ -1,6 +1,5 @@
-use Rattle.std.proofs.Common.{◌≡◌, ◌∙◌, refl, ap}
+use Rattle.std.proofs.Common.{ap}
 use Rattle.sdv_table.specs.Sending.{host_by}
-use Rattle.sdv_player.specs.Seen.{host_of}
 use Rattle.sdv_player.proofs.host.HostNumbers.hear.Goals as goal
 
 pub returns-clause-host : goal.returns-clause-host

@@ -1,4 +1,4 @@
-use Rattle.std.proofs.Common.{◌≡◌, ◌≤◌, ◌<◌, ◌-◌, ◌+◌, ◌∷◌, ◌∙◌, sym, ap, arith}
+use Rattle.std.proofs.Common.{◌-◌, ◌+◌, ◌∷◌, ◌∙◌, sym, ap, arith}
 use Rattle.sdv_player.specs.Seen.{backward}
 use Rattle.sdv_graph.specs.Path.{entered}
 use Rattle.sdv_player.proofs.Turns.{turns_outside, turns_inside, many_turns, backward_push}

@@ -1,0 +1,186 @@
+-- What is played by the table of an accepted script, beside a card.
+use Rattle.std.proofs.Common.{◌≡◌, ◌<◌, ◌≤◌, ◌^◌, ℕ, List, [], ◌∷◌, ◌++◌, Err, refl, sym, ap, ◌∙◌, subst, inr, arith}
+use Rattle.std.specs.Prelude.{◌&&◌, is_none, Bool, true, false, Option, Some, None, Ok}
+use Rattle.sdv_frames.specs.Bits.{bits_of}
+use Rattle.sdv_frames.specs.declared.reply.Reply.TheVariants.{R1, R2, R3, R6, R7}
+use Rattle.sdv_registers.specs.declared.kind.Kind.{Kind}
+use Rattle.sdv_registers.specs.Csd.{fault}
+use Rattle.sdv_card.specs.declared.answer.Answer.{Answer}
+use Rattle.sdv_card.specs.declared.answer.Answer.TheVariants.{Sent, TimeOut, Reply as Replied, Damaged}
+use Rattle.sdv_card.specs.declared.command.Order.{Order}
+use Rattle.sdv_card.specs.declared.command.Order.TheVariants.{SendCsd}
+use Rattle.sdv_card.specs.CommandTable.{order_of, expect_of}
+use Rattle.sdv_card.specs.Expected.{is_of_kind}
+use Rattle.sdv_card.specs.Step.{Step}
+use Rattle.sdv_card.proofs.AnswerKinds.{of_kind}
+use Rattle.sdv_card.specs.declared.event.Ask.{Ask}
+use Rattle.sdv_card.specs.Card.{Card}
+use Rattle.sdv_card.specs.Host.{Host, host_after, host_after_order}
+use Rattle.sdv_card.specs.Profile.{IsAtStart}
+use Rattle.sdv_card.specs.ScriptEvent.{ScriptEvent, SendCommand, ReceiveBlocks, ReceiveRegister, GiveBlocks, AwaitReady, Return, Answered}
+use Rattle.sdv_graph.specs.Walk.{Pair, Open, Deed, IsDeed, exactly, giving}
+use Rattle.sdv_graph.specs.Path.{Stand, Path, Follows, Move, Goes, Does, Halts, move_from}
+use Rattle.sdv_graph.specs.Graph.{Graph, begin}
+use Rattle.sdv_graph.specs.GraphOf.{IsSound}
+use Rattle.sdv_graph.proofs.Paths.{roll}
+use Rattle.sdv_facts.specs.Facts.{PointFacts}
+use Rattle.sdv_facts.specs.Beside.{StepsOf, IsGood}
+use Rattle.sdv_facts.specs.Closed.{Closed}
+use Rattle.sdv_facts.proofs.ArgumentLaws.{narrow}
+use Rattle.sdv_facts.proofs.Headline.{each_path, each_event}
+use Rattle.sdv_facts.proofs.StepLaws.{Laws, laws_of, honest_after}
+use Rattle.sdv_facts.specs.Stands.{IsMade}
+use Rattle.sdv_run.specs.declared.fault.RunFault.TheVariants.{Reply}
+use Rattle.sdv_run.specs.declared.next_event.NextEvent.TheVariants as events
+use Rattle.sdv_run.specs.declared.returned.Returned.TheVariants as told
+use Rattle.sdv_run.specs.Answers.{has_readable_csd, is_taken}
+use Rattle.sdv_run.specs.Asks.{AsksFor, IsTooWide}
+use Rattle.sdv_run.specs.Takes.{Took}
+use Rattle.sdv_run.specs.Machine.{LeadsBy, now}
+use Rattle.sdv_player.specs.Play.{Says, IsAsked}
+use Rattle.sdv_player.specs.Plays.{PlaysAreGood}
+use Rattle.sdv_player.specs.Seen.{stand_of}
+use Rattle.sdv_player.specs.StandsFor.{run_of}
+use Rattle.sdv_player.proofs.Played.{open_here, from_start, plays_are_walks}
+
+-- ANSWERS OF A CARD are taken
+
+-- a CSD that the host holds can be read
+readable : (k : Kind) (o : Option Order) (answer : Answer) (h : Host) →
+    ((bytes : List ℕ) → (host_after_order o answer h).csd ≡ Some bytes → fault k (bits_of bytes) ≡ None) → has_readable_csd k o answer ≡ true
+readable k (Some SendCsd) (Replied (R2 register)) h f = ap is_none (f register refl)
+readable k (Some SendCsd) (Replied (R1 i w)) h f = refl
+readable k (Some SendCsd) (Replied (R3 w)) h f = refl
+readable k (Some SendCsd) (Replied (R6 w)) h f = refl
+readable k (Some SendCsd) (Replied (R7 w)) h f = refl
+readable k (Some SendCsd) Sent h f = refl
+readable k (Some SendCsd) TimeOut h f = refl
+readable k (Some SendCsd) (Damaged d) h f = refl
+readable k None answer h f = refl
+readable k (Some order) answer h f = refl
+
+both : (a b : Bool) → a ≡ true → b ≡ true → a && b ≡ true
+both a b p q = rw (p, q) refl
+
+pub taken : (k : Kind) → Laws k → (ask : Ask) (position argument : ℕ) (c : Card) (answer : Answer) (u : Card) → IsMade k (SendCommand ask position argument) c →
+    Step (SendCommand ask position argument) c (Answered answer) u → is_taken k ask answer ≡ true
+taken k laws ask position argument c answer u made step =
+    let e = SendCommand ask position argument in
+    let after = honest_after k laws e c made.host (Answered answer) u made.fine made.honest step in
+    both (is_of_kind (expect_of k ask) answer) (has_readable_csd k (order_of k ask) answer)
+    (of_kind (expect_of k ask) answer (laws.steps_are_expected e c (Answered answer) u made.fine.pair.kind step))
+    (readable k (order_of k ask) answer made.host (λ bytes is.
+    subst (λ j. fault j (bits_of bytes) ≡ None) (sym after.pair.kind) (ap (λ b. fault u.kind (bits_of b)) (after.sound.csd bytes is) ∙ after.profile.readable)))
+
+-- a command that cannot be sent, where a run stands
+record Wide (g : Graph) (s : Stand) : Type 0 where
+  ask : Ask
+  position : ℕ
+  argument : ℕ
+  wide : 2 ^ 32 ≤ argument
+  path : Path g.kind g.points Open s ((SendCommand ask position argument, Answered Sent) ∷ [])
+
+module _ (g : Graph) (s : Stand) where
+  wide_deed : (deed : Deed) (before : Host) (next : Return → Host → Stand) → IsTooWide deed → move_from g.kind g.points s ≡ Does deed before next → Wide g s
+  wide_deed (exactly (SendCommand ask position argument)) before next wide at = record {
+    ask = ask;
+    position = position;
+    argument = argument;
+    wide = wide;
+    path =
+        let event = SendCommand ask position argument in
+        roll g.kind g.points Open s ((event, Answered Sent) ∷ [])
+        (inr (subst (λ m. Follows g.kind Open (Path g.kind g.points Open) m ((event, Answered Sent) ∷ [])) (sym at)
+        (event, Answered Sent, [], refl, tt, refl, open_here g (next (Answered Sent) (host_after g.kind event (Answered Sent) before)))));
+  }
+  wide_deed (exactly (ReceiveBlocks lines count)) before next wide at = absurd wide
+  wide_deed (exactly (ReceiveRegister lines count)) before next wide at = absurd wide
+  wide_deed (exactly (GiveBlocks lines blocks)) before next wide at = absurd wide
+  wide_deed (exactly AwaitReady) before next wide at = absurd wide
+  wide_deed (giving lines count) before next wide at = absurd wide
+
+  wide_here : (m : Move) → AsksFor m (Err Reply) → move_from g.kind g.points s ≡ m → Wide g s
+  wide_here (Goes next) asks at = absurd asks
+  wide_here (Does deed before next) asks at = wide_deed deed before next asks at
+  wide_here (Halts last) asks at = absurd asks
+
+-- A COMMAND AND ITS ANSWER, where a run stands
+module _ (g : Graph) (s : Stand) (ask : Ask) (position argument : ℕ) (answer : Answer) where
+  abbrev event : ScriptEvent
+  event = SendCommand ask position argument
+
+  sent_here : (m : Move) → AsksFor m (Ok (Some (events.Send ask position argument))) → move_from g.kind g.points s ≡ m →
+      Path g.kind g.points Open s ((event, Answered answer) ∷ [])
+  sent_here (Goes next) asks at = absurd asks
+  sent_here (Does deed before next) asks at =
+      let there = next (Answered answer) (host_after g.kind event (Answered answer) before) in
+      let is : IsDeed deed event = subst (λ d. IsDeed d event) (sym asks) refl in
+      roll g.kind g.points Open s ((event, Answered answer) ∷ [])
+      (inr (subst (λ m. Follows g.kind Open (Path g.kind g.points Open) m ((event, Answered answer) ∷ [])) (sym at)
+      (event, Answered answer, [], is, tt, refl, open_here g there)))
+  sent_here (Halts last) asks at = absurd asks
+
+  -- one that is refused is none that a run goes on with
+  refused_by : (stand : Stand) (m : Move) → AsksFor m (Ok (Some (events.Send ask position argument))) →
+      Took g.kind m (told.Answered answer) stand (Err Reply) → is_taken g.kind ask answer ≡ false
+  refused_by stand (Goes next) asks took = absurd asks
+  refused_by stand (Does deed before next) asks took =
+      let is : IsDeed deed event = subst (λ d. IsDeed d event) (sym asks) refl in
+      (took [] event (Answered answer) (record { is = is; fits = tt; tells = refl })).1
+  refused_by stand (Halts last) asks took = absurd asks
+
+module _ (g : Graph) (ps : List PointFacts) (laws : Laws g.kind) (sound : IsSound g) (closed : Closed g ps) where
+  -- no argument is too wide beside a card
+  never_wide : (es : List Pair) (s : Stand) (c last : Card) → g.kind ≡ c.kind → IsAtStart c → StepsOf c es last →
+      LeadsBy g (begin g) es s → Wide g s → ⊥
+  never_wide es s c last kind start steps leads wide =
+      let event = SendCommand wide.ask wide.position wide.argument in
+      let made = each_event g ps laws sound closed c kind start Open (es ++ (event, Answered Sent) ∷ [])
+      (leads Open ((event, Answered Sent) ∷ []) wide.path) es event (Answered Sent) [] last refl steps in
+      let small : wide.argument < 2 ^ 32 =
+      narrow g.kind wide.ask wide.position wide.argument last made.host laws.asks_address made.fine made.honest.profile in
+      let large = wide.wide in
+      omega (arith, small, large)
+
+  -- a card's answers are taken
+  never_refused : (es : List Pair) (s : Stand) (c last after : Card) → g.kind ≡ c.kind → IsAtStart c → StepsOf c es last → LeadsBy g (begin g) es s →
+      (ask : Ask) (position argument : ℕ) (answer : Answer) →
+      Path g.kind g.points Open s ((SendCommand ask position argument, Answered answer) ∷ []) →
+      Step (SendCommand ask position argument) last (Answered answer) after → is_taken g.kind ask answer ≡ false → ⊥
+  never_refused es s c last after kind start steps leads ask position argument answer path step refused =
+      let event = SendCommand ask position argument in
+      let made = each_event g ps laws sound closed c kind start Open (es ++ (event, Answered answer) ∷ [])
+      (leads Open ((event, Answered answer) ∷ []) path) es event (Answered answer) [] last refl steps in
+      let takes : is_taken g.kind ask answer ≡ true = taken g.kind laws ask position argument last answer after made step in
+      let clash : true ≡ false = sym takes ∙ refused in
+      absurd (cc)
+
+pub plays_are_good : PlaysAreGood
+plays_are_good script certificate a ws es s said c last accepted table played kind start steps =
+    let g = a.graph in
+    let ps = accepted.facts.points in
+    let sound = accepted.graph.graph.sound in
+    let laws = laws_of g.kind in
+    let run = plays_are_walks g ws es s said table sound played in
+    let all = from_start g ws es s said table sound played in
+    let m = run_of g s all.registers in
+    let good : IsGood a.bound run.last es c =
+    subst (λ n. IsGood n run.last es c) (sym accepted.bound) ((each_path g ps laws sound accepted.closed).good c kind start run.last es run.walk.path) in
+    record {
+      end = run.last;
+      how = run.how;
+      good = good;
+      sent = good.sent last steps;
+      ends = good.ends last steps;
+      sends = λ is.
+          let asks : AsksFor (now m) (Err Reply) = subst (λ v. Says m v) is all.says in
+          never_wide g ps laws sound accepted.closed es (stand_of s all.registers) c last kind start steps all.leads
+          (wide_here g (stand_of s all.registers) (now m) asks refl);
+      takes = λ ask position argument answer after s' is step takes.
+          let asks : AsksFor (now m) (Ok (Some (events.Send ask position argument))) = subst (λ v. Says m v) is all.says in
+          let asked : s.asked ≡ 0 → ⊥ = subst (λ v. IsAsked v s.asked) is all.asked in
+          let refused = takes g all.registers all.stands asked in
+          let path = sent_here g (stand_of s all.registers) ask position argument answer (now m) asks refl in
+          never_refused g ps laws sound accepted.closed es (stand_of s all.registers) c last after kind start steps all.leads ask position argument answer
+          path step (refused_by g (stand_of s all.registers) ask position argument answer m.stand (now m) asks refused);
+    }

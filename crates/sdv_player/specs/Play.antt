@@ -1,0 +1,103 @@
+-- What the calls of a player do to the run that its state stands for.
+use Rattle.std.specs.Prelude.{◌≡◌, ◌/◌, ◌%◌, ◌==◌, ◌&&◌, nat_le, ℕ, List, length, slice_index, Bool, true, false, Option, Some, Ok, Err}
+use Rattle.sdv_card.specs.declared.answer.DataEnd.{DataEnd}
+use Rattle.sdv_card.specs.declared.answer.DataEnd.TheVariants as ends
+use Rattle.sdv_card.specs.declared.answer.WaitEnd.{WaitEnd}
+use Rattle.sdv_card.specs.declared.answer.WaitEnd.TheVariants as waits
+use Rattle.sdv_graph.specs.Walk.{Ending}
+use Rattle.sdv_graph.specs.Path.{Halts}
+use Rattle.sdv_graph.specs.Graph.{Graph}
+use Rattle.sdv_graph.specs.GraphOf.{IsSound}
+use Rattle.sdv_run.specs.declared.fault.RunFault.TheVariants.{Reply}
+use Rattle.sdv_run.specs.declared.returned.Returned.{Returned}
+use Rattle.sdv_run.specs.declared.returned.Returned.TheVariants as told
+use Rattle.sdv_run.specs.Asks.{AsksFor}
+use Rattle.sdv_run.specs.Takes.{Took}
+use Rattle.sdv_run.specs.Machine.{Machine, now, at_start, Came, Went}
+use Rattle.sdv_table.specs.Fits.{IsTable}
+use Rattle.sdv_table.specs.Table.{magic, version, header_size}
+use Rattle.sdv_player.specs.declared.next_step.Next.{Next}
+use Rattle.sdv_player.specs.declared.next_step.Next.TheVariants as nexts
+use Rattle.sdv_player.specs.declared.state.State.{State}
+use Rattle.sdv_player.specs.Seen.{Registers, no_registers}
+use Rattle.sdv_player.specs.Passing.{EndsAs}
+use Rattle.sdv_player.specs.StandsFor.{run_of, StandsFor}
+
+-- START
+
+-- the magic, the version and the size of a table
+abbrev pub has_header : List ℕ → Bool
+has_header words =
+    (slice_index words 0 == magic) && (slice_index words 1 % 256 == version)
+    && (slice_index words 2 / 65536 == length words) && nat_le header_size (length words)
+
+-- the run of a sound graph, from the words of its table
+pub record Begins (g : Graph) (words : List ℕ) (s : State) : Type 0 where
+  pub stands : StandsFor g words s no_registers
+  pub start : run_of g s no_registers ≡ at_start g
+
+abbrev pub Starts : List ℕ → State → Type 0
+Starts words s = (g : Graph) → IsTable g words → IsSound g → Begins g words s
+
+-- NEXT
+
+-- the run ends where it stands, and so
+pub record Ends (m : Machine) (end : Next) : Type 0 where
+  pub last : Ending
+  pub halts : now m ≡ Halts last
+  pub how : EndsAs end last
+
+-- it is at its next event, at its end, or at a command that cannot be sent
+abbrev pub Says : Machine → Next → Type 0
+Says m (nexts.Event event) = AsksFor (now m) (Ok (Some event))
+Says m nexts.Stopped = AsksFor (now m) (Err Reply)
+Says m end = Ends m end
+
+-- an event that is said is asked for
+abbrev pub IsAsked : Next → (asked : ℕ) → Type 0
+IsAsked (nexts.Event event) asked = asked ≡ 0 → ⊥
+IsAsked end asked = Unit {0}
+
+-- it went on without an event to there
+pub record GoesTo (g : Graph) (words : List ℕ) (s s' : State) (r : Registers) (result : Next) : Type 0 where
+  pub stands : StandsFor g words s' r
+  pub came : Came (run_of g s r) (run_of g s' r)
+  pub says : Says (run_of g s' r) result
+  pub asked : IsAsked result s'.asked
+
+abbrev pub Advances : List ℕ → (s s' : State) → Next → Type 0
+Advances words s s' result = (g : Graph) (r : Registers) → StandsFor g words s r → GoesTo g words s s' r result
+
+-- ANSWER AND ENDED
+
+-- it went on by the event, as the run does that is told this
+pub record GoesOn (g : Graph) (words : List ℕ) (s s' : State) (r : Registers) (returned : Returned) : Type 0 where
+  pub registers : Registers
+  pub stands : StandsFor g words s' registers
+  pub went : Went (run_of g s r) returned (run_of g s' registers)
+
+-- or the run does not go on with it
+abbrev pub Refuses : Graph → State → Registers → Returned → Type 0
+Refuses g s r returned = Took g.kind (now (run_of g s r)) returned (run_of g s r).stand (Err Reply)
+
+abbrev pub Takes : List ℕ → (s s' : State) → Returned → Bool → Type 0
+Takes words s s' returned true = (g : Graph) (r : Registers) → StandsFor g words s r → GoesOn g words s s' r returned
+Takes words s s' returned false =
+    (g : Graph) (r : Registers) → StandsFor g words s r → (s.asked ≡ 0 → ⊥) → Refuses g s r returned
+
+-- a phase or a wait ended so; the bytes of an EXT_CSD are those that came
+abbrev pub is_well : DataEnd → Bool
+is_well ends.Ok = true
+is_well end = false
+
+abbrev pub is_over : WaitEnd → Bool
+is_over waits.Ok = true
+is_over end = false
+
+abbrev pub IsEnd : Returned → (register_length : ℕ) → (well : Bool) → Option (List ℕ) → Type 0
+IsEnd (told.Answered answer) n well register = ⊥
+IsEnd (told.BlocksIn end) n well register = well ≡ is_well end
+IsEnd (told.RegisterIn end bytes) n well register =
+    (well ≡ is_well end) × (well ≡ true → n ≡ 512 → register ≡ Some bytes)
+IsEnd (told.BlocksOut end) n well register = well ≡ is_well end
+IsEnd (told.Waited end) n well register = well ≡ is_over end

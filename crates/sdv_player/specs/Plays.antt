@@ -1,0 +1,109 @@
+-- A player that is asked and told, one event after another, whatever the events return.
+use Rattle.std.specs.Prelude.{◌≡◌, ◌≤◌, ℕ, List, [], ◌∷◌, length, map, true, false}
+use Rattle.sdv_card.specs.declared.answer.Answer.{Answer}
+use Rattle.sdv_card.specs.declared.event.Ask.{Ask}
+use Rattle.sdv_card.specs.Card.{Card, Block}
+use Rattle.sdv_card.specs.Profile.{IsAtStart}
+use Rattle.sdv_card.specs.ScriptEvent.{ScriptEvent, SendCommand, GiveBlocks, Return, Answered}
+use Rattle.sdv_card.specs.Step.{Step}
+use Rattle.sdv_graph.specs.Walk.{Pair, Ending, Open, Deed, exactly, giving}
+use Rattle.sdv_graph.specs.Graph.{Graph}
+use Rattle.sdv_graph.specs.GraphOf.{IsSound}
+use Rattle.sdv_facts.specs.Beside.{StepsOf, commands, IsOver, EndsWell, IsGood}
+use Rattle.sdv_check.specs.Verified.{Acceptance, IsAccepted}
+use Rattle.sdv_run.specs.declared.next_event.NextEvent.TheVariants as events
+use Rattle.sdv_run.specs.declared.returned.Returned.{Returned}
+use Rattle.sdv_run.specs.declared.returned.Returned.TheVariants as told
+use Rattle.sdv_run.specs.Asks.{deed_of}
+use Rattle.sdv_run.specs.Takes.{Told}
+use Rattle.sdv_run.specs.Ran.{IsWalk}
+use Rattle.sdv_table.specs.Fits.{IsTable}
+use Rattle.sdv_player.specs.declared.next_step.Next.{Next}
+use Rattle.sdv_player.specs.declared.next_step.Next.TheVariants as nexts
+use Rattle.sdv_player.specs.declared.state.State.{State}
+use Rattle.sdv_player.specs.Passing.{EndsAs}
+use Rattle.sdv_player.specs.Play.{Starts, Advances, Takes}
+
+-- THE CALLS, each as its contract says
+
+-- it said an event, and was told what that returned
+abbrev pub TellsOne : List ℕ → (here next : State) → Next → Pair → Type 0
+TellsOne words here next (nexts.Event event) p =
+    (returned : Returned) × (held : List Block) × Told (deed_of event) returned held p.0 p.1
+    × Takes words here next returned true
+TellsOne words here next end p = ⊥
+
+-- it was asked, and told what these events returned, in turn; asked once more, it said this
+abbrev pub Plays : List ℕ → State → List Pair → State → Next → Type 0
+Plays words s [] s' said = Advances words s s' said
+Plays words s (p ∷ ps) s' said =
+    (here next : State) × (event : Next) × Advances words s here event × TellsOne words here next event p
+    × Plays words next ps s' said
+
+-- from the start
+abbrev pub PlaysFromStart : List ℕ → List Pair → State → Next → Type 0
+PlaysFromStart words es s' said = (s : State) × Starts words s × Plays words s es s' said
+
+-- WHAT THEY ARE
+
+-- how a run has ended where this is said; where an event is said, and where the player stops, it has not
+abbrev pub IsEnding : Next → Ending → Type 0
+IsEnding (nexts.Event event) last = last ≡ Open
+IsEnding nexts.Stopped last = last ≡ Open
+IsEnding end last = EndsAs end last
+
+-- the events, each with what it returned, are a path of the graph, and so a walk of its script, which ends so
+pub record IsRun (g : Graph) (es : List Pair) (said : Next) : Type 0 where
+  pub last : Ending
+  pub how : IsEnding said last
+  pub walk : IsWalk g last es
+
+abbrev pub PlaysAreWalks : Type 0
+PlaysAreWalks =
+    (g : Graph) (words : List ℕ) (es : List Pair) (s : State) (said : Next) → IsTable g words → IsSound g
+    → PlaysFromStart words es s said → IsRun g es said
+
+-- BESIDE A CARD whose steps these are, by the table of an accepted script: each event is legal and in bounds, at most
+-- the certified number of commands is sent, and the run ends in `done` only with the card in the transfer state. The
+-- player does not stop: it can send each command, and takes what the card answers.
+pub record IsGoodRun (words : List ℕ) (most : ℕ) (es : List Pair) (s : State) (said : Next) (c last : Card) :
+    Type 0 where
+  pub end : Ending
+  pub how : IsEnding said end
+  pub good : IsGood most end es c
+  pub sent : commands es ≤ most
+  pub ends : EndsWell end last
+  pub sends : said ≡ nexts.Stopped → ⊥
+  pub takes : (ask : Ask) (position argument : ℕ) (answer : Answer) (after : Card) (s' : State) →
+      said ≡ nexts.Event (events.Send ask position argument) →
+      Step (SendCommand ask position argument) last (Answered answer) after →
+      Takes words s s' (told.Answered answer) false → ⊥
+
+abbrev pub PlaysAreGood : Type 0
+PlaysAreGood =
+    (script certificate : List ℕ) (a : Acceptance) (words : List ℕ) (es : List Pair) (s : State) (said : Next)
+    (c last : Card) → IsAccepted script certificate a → IsTable a.graph words → PlaysFromStart words es s said
+    → a.graph.kind ≡ c.kind → IsAtStart c → StepsOf c es last → IsGoodRun words a.bound es s said c last
+
+-- LIKE ANY RUN of the script: with the same returns there are the same events, whichever blocks are given, and the same
+-- end. So the player and the runner (`run`, whose events are such a walk too) do the same.
+abbrev pub returns_of : List Pair → List Return
+returns_of es = map (λ p. p.1) es
+
+-- an event, without the blocks that it gives
+abbrev pub deed_by : ScriptEvent → Deed
+deed_by (GiveBlocks lines blocks) = giving lines (length blocks)
+deed_by event = exactly event
+
+abbrev pub deeds_of : List Pair → List Deed
+deeds_of es = map (λ p. deed_by p.0) es
+
+pub record IsAlike (last end : Ending) (es fs : List Pair) : Type 0 where
+  pub events : deeds_of es ≡ deeds_of fs
+  pub ends : IsOver last → IsOver end → last ≡ end
+
+abbrev pub PlaysAreAlike : Type 0
+PlaysAreAlike =
+    (g : Graph) (words : List ℕ) (es fs : List Pair) (s : State) (said : Next) (end : Ending) → IsTable g words
+    → IsSound g → PlaysFromStart words es s said → IsWalk g end fs → returns_of es ≡ returns_of fs
+    → (last : Ending) × IsEnding said last × IsAlike last end es fs
