@@ -3,6 +3,7 @@ pub mod FoundLaws
 pub mod ComesLaws
 pub mod MeaningLaws
 pub mod SpreadLaws
+pub mod WeightLaws
 pub mod WriteLaws
 pub mod ConfirmedLaws
 pub mod ContentsLaws

@@ -1,5 +1,5 @@
 -- Walking a list from the front: which elements are left, and which are members.
-use Rattle.std.proofs.Common.{◌≡◌, ℕ, zero, suc, ◌+◌, ◌<◌, inl, inr, refl, sym, ap, ◌∙◌, subst, arith, List, [], ◌∷◌, ◌++◌, Bool, true, false, ◌||◌, drop, take, get_or, length, slice_get, Option, Some}
+use Rattle.std.proofs.Common.{◌≡◌, ℕ, zero, suc, ◌+◌, ◌<◌, inl, inr, refl, sym, ap, ◌∙◌, subst, arith, List, [], ◌∷◌, ◌++◌, Bool, true, false, ◌||◌, drop, take, get_or, append_assoc, length, slice_get, Option, Some}
 use Rattle.std.specs.Prelude.{◌⊎◌, if◌then◌else◌}
 use Rattle.std.specs.List.{list_any}
 use Rattle.sdv_card.specs.Lists.{IsOneOf}
@@ -99,3 +99,10 @@ one_further xs i d x lt one = let on : suc i ≡ i + 1 = omega arith in go xs i 
           | inl n ↦ inl (inr n)
           | inr e ↦ inr e
         ]
+
+-- three pieces behind a text
+pub joined : (old one two new front what back : List ℕ) → one ≡ old ++ front → two ≡ one ++ what → new ≡ two ++ back
+    → new ≡ old ++ (front ++ (what ++ back))
+joined old one two new front what back e f g =
+    g ∙ ap (λ (l : List ℕ). l ++ back) (f ∙ ap (λ (l : List ℕ). l ++ what) e)
+    ∙ append_assoc (old ++ front) what back ∙ append_assoc old front (what ++ back)

@@ -7,7 +7,9 @@ pub mod Reviewed
 pub mod Moves
 pub mod Asked
 pub mod Statuses
+pub mod Given
 pub mod Carried
+pub mod Weights
 pub mod Writes
 pub mod CertainData
 pub mod Confirmed

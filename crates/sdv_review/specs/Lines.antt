@@ -45,35 +45,41 @@ command_words index reach = codes "CMD" ++ (decimal index ++ (codes " may reach 
 abbrev pub status_front : Status → Text
 status_front (Open point) = codes "done may come before the write of line "
 status_front (Failed point) = codes "done may come where the write of line "
-status_front (Left point) = codes "done may come after the write of line "
 status_front (EraseOpen point) = codes "done may come before the erase of line "
 status_front (EraseFailed point) = codes "done may come where the erase of line "
-status_front (EraseLeft point) = codes "done may come after the erase of line "
 status_front status = codes "it is not known whether each write is stored"
 
 abbrev pub status_back : Status → Text
 status_back (Open point) = codes " is confirmed"
 status_back (Failed point) = codes " was cut, or its error passed over"
-status_back (Left point) = codes ", which may have failed, was left for another"
 status_back (EraseOpen point) = codes " is confirmed"
 status_back (EraseFailed point) = codes " was lost, or its error passed over"
-status_back (EraseLeft point) = codes ", which may have failed, was left for another"
 status_back status = []
 
 abbrev pub write_of : Status → Option ℕ
 write_of (Open point) = Some point
 write_of (Failed point) = Some point
-write_of (Left point) = Some point
 write_of (EraseOpen point) = Some point
 write_of (EraseFailed point) = Some point
-write_of (EraseLeft point) = Some point
 write_of status = None
 
 abbrev pub write_line : Graph → Option ℕ → Text
 write_line g (Some point) = decimal (line_at g point)
 write_line g None = []
 
+-- a write or an erase that was left, by the statement at the next point
+abbrev pub leaving_words : Graph → (next : ℕ) → Text
+leaving_words g next = codes "done may come where line " ++ (decimal (line_at g next) ++ codes " left the ")
+
+abbrev pub risk_words : Graph → (point : ℕ) → Text
+risk_words g point = codes " of line " ++ (decimal (line_at g point) ++ codes ", which may have failed")
+
+abbrev pub left_words : Graph → (what : Text) → (point next : ℕ) → Text
+left_words g what point next = leaving_words g next ++ (what ++ risk_words g point)
+
 abbrev pub status_words : Graph → Status → Text
+status_words g (Left write next) = left_words g (codes "write") write next
+status_words g (EraseLeft erase next) = left_words g (codes "erase") erase next
 status_words g status = status_front status ++ (write_line g (write_of status) ++ status_back status)
 
 abbrev pub misplaced_words : (index : ℕ) → Text
@@ -108,7 +114,7 @@ lines_of g found writes = flat_map (line_of g) found ++ flat_map (line_of g) wri
 abbrev pub status_kind : Status → Text
 status_kind (EraseOpen point) = codes "erase"
 status_kind (EraseFailed point) = codes "erase"
-status_kind (EraseLeft point) = codes "erase"
+status_kind (EraseLeft erase next) = codes "erase"
 status_kind status = codes "write"
 
 abbrev pub kind_word : Matter → Text

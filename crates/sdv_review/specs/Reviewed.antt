@@ -1,5 +1,5 @@
 -- What is REVIEWED of a text: what is found in its script, in words and as objects, and what that means.
-use Rattle.std.specs.Prelude.{◌≡◌, ℕ, List, [], Bool, true, false}
+use Rattle.std.specs.Prelude.{◌≡◌, ◌++◌, ℕ, List, [], Bool, true, false, IfSome}
 use Rattle.sdv_script.specs.OneGraph.{IsGraphOfScript}
 use Rattle.sdv_script.specs.declared.fault.FaultKind.{FaultKind}
 use Rattle.sdv_script.specs.declared.fault.FaultKind.TheVariants as kinds
@@ -18,6 +18,7 @@ use Rattle.sdv_review.specs.declared.finding.Finding.{Finding}
 use Rattle.sdv_review.specs.declared.reviewing.Report.{Report}
 use Rattle.sdv_review.specs.CertainData.{CertainData}
 use Rattle.sdv_review.specs.Findings.{findings_of}
+use Rattle.sdv_review.specs.Given.{given_line, given_object, most_of_statements}
 use Rattle.sdv_review.specs.Lines.{lines_of, objects_of}
 use Rattle.sdv_review.specs.Meaning.{AreCertain, NoneComes, PartitionsAreTold, TestsComeOut}
 use Rattle.sdv_review.specs.Writes.{WritesFound}
@@ -29,8 +30,10 @@ pub record ReviewsScript (s : Tree) (r : Report) : Type 0 where
   pub points : List PointFacts
   pub certified : CertificateOf s points
   pub found : r.found.items ≡ findings_of graph points
-  pub lines : r.lines.items ≡ lines_of graph r.found.items r.writes.items
-  pub objects : r.objects.items ≡ objects_of graph r.found.items r.writes.items
+  pub lines : r.lines.items ≡ lines_of graph r.found.items r.writes.items ++ given_line r.given
+  pub objects : r.objects.items ≡ objects_of graph r.found.items r.writes.items ++ given_object r.given
+  -- the most blocks that a run gives, by the statements
+  pub given : IfSome r.given (λ most. most ≡ most_of_statements (shown s).body)
   -- what is found of writes, erases and places, by sets that are carried along the edges
   pub writes : WritesFound graph points r.writes.items
   -- where nothing is, and each partition is certain, the data is there in each run that is done

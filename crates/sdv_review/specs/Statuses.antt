@@ -52,18 +52,18 @@ answered ask seen status = status
 abbrev pub is_write : Ask → Bool
 is_write ask = (ask.index == 24) || (ask.index == 25)
 
--- a write that may have failed, if it is the same one again; or it is left
-abbrev pub again : (same : Bool) → (write : ℕ) → (status : Status) → Status
-again true write status = status
-again false write status = Left write
+-- a write that may have failed, if it is the same one again; or it is left, by the statement at the next point
+abbrev pub again : (same : Bool) → (write next : ℕ) → (status : Status) → Status
+again true write next status = status
+again false write next status = Left write next
 
 abbrev pub begun : (point : ℕ) → Status → Status
 begun point Quiet = Begun point
 begun point (Begun other) = Begun point
-begun point (Open other) = again (other == point) other (Open other)
-begun point (Failed other) = again (other == point) other (Failed other)
-begun point (EraseOpen other) = EraseLeft other
-begun point (EraseFailed other) = EraseLeft other
+begun point (Open other) = again (other == point) other point (Open other)
+begun point (Failed other) = again (other == point) other point (Failed other)
+begun point (EraseOpen other) = EraseLeft other point
+begun point (EraseFailed other) = EraseLeft other point
 begun point status = status
 
 -- CMD38
@@ -78,31 +78,31 @@ erase_sent point false = EraseFailed point
 -- the same erase again, or it is left
 abbrev pub erase_again : (same : Bool) (erase point : ℕ) (kept : Bool) → Status
 erase_again true erase point kept = erase_sent point kept
-erase_again false erase point kept = EraseLeft erase
+erase_again false erase point kept = EraseLeft erase point
 
 abbrev pub erased : (point : ℕ) (kept : Bool) → Status → Status
 erased point kept Quiet = erase_sent point kept
 erased point kept (Begun other) = erase_sent point kept
-erased point kept (Open other) = Left other
-erased point kept (Failed other) = Left other
+erased point kept (Open other) = Left other point
+erased point kept (Failed other) = Left other point
 erased point kept (EraseOpen other) = erase_again (other == point) other point kept
 erased point kept (EraseFailed other) = erase_again (other == point) other point kept
 erased point kept status = status
 
--- the blocks that the command at the point names may be others from here on
-abbrev pub moved : Status → Status
-moved (Begun point) = Quiet
-moved (Open point) = Left point
-moved (Failed point) = Left point
-moved (EraseOpen point) = EraseLeft point
-moved (EraseFailed point) = EraseLeft point
-moved status = status
+-- the blocks that the command of a write or an erase names may be others from the statement at a point on
+abbrev pub moved : (point : ℕ) → Status → Status
+moved point (Begun write) = Quiet
+moved point (Open write) = Left write point
+moved point (Failed write) = Left write point
+moved point (EraseOpen erase) = EraseLeft erase point
+moved point (EraseFailed erase) = EraseLeft erase point
+moved point status = status
 
 abbrev pub sent : (point : ℕ) → Ask → Seen → Status → Status
 sent point ask seen status =
     if is_write ask then begun point (answered ask seen status)
     else (if is_erase ask then erased point (keeps ask seen) (answered ask seen status)
-    else (if moves ask then moved (answered ask seen status) else answered ask seen status))
+    else (if moves ask then moved point (answered ask seen status) else answered ask seen status))
 
 -- A WRITE PHASE: it ended well, or it was cut
 
@@ -118,8 +118,8 @@ abbrev pub given : Seen → Status → Status
 given seen (Begun point) = after_write (ends_well seen) point
 given seen (Open point) = after_write (ends_well seen) point
 given seen (Failed point) = after_write (ends_well seen) point
-given seen (Left point) = Left point
-given seen (EraseLeft point) = EraseLeft point
+given seen (Left write next) = Left write next
+given seen (EraseLeft erase next) = EraseLeft erase next
 given seen status = Unknown
 
 abbrev pub after_phase : Phase → Seen → Status → Status
@@ -151,5 +151,5 @@ is_moved points variable (EraseOpen point) = true
 is_moved points variable (EraseFailed point) = true
 is_moved points variable status = false
 
-abbrev pub after_let : List Point → (variable : ℕ) → Status → Status
-after_let points variable status = if is_moved points variable status then moved status else status
+abbrev pub after_let : List Point → (point variable : ℕ) → Status → Status
+after_let points point variable status = if is_moved points variable status then moved point status else status

@@ -1,6 +1,6 @@
 -- What a review finds of WRITES AND ERASES: each status at a reached `done` that leaves open whether a write is stored or
 -- an erase done.
-use Rattle.std.specs.Prelude.{◌≡◌, ◌⊎◌, ℕ, zero, suc, List, [], ◌∷◌, ◌++◌, length, Bool, true, false, Option, Some, slice_get, if◌then◌else◌}
+use Rattle.std.specs.Prelude.{◌≡◌, ◌⊎◌, ◌≤◌, ◌*◌, ℕ, zero, suc, List, [], ◌∷◌, ◌++◌, length, Bool, true, false, Option, Some, slice_get, if◌then◌else◌}
 use Rattle.sdv_card.specs.declared.shape.Shape.{Shape}
 use Rattle.sdv_graph.specs.Graph.{Graph}
 use Rattle.sdv_graph.specs.Path.{Action, Point, stops}
@@ -12,6 +12,7 @@ use Rattle.sdv_review.specs.declared.status.Status.{Status}
 use Rattle.sdv_review.specs.declared.status.Status.TheVariants.{Quiet, Begun, Unknown}
 use Rattle.sdv_review.specs.Asked.{PlacesFound}
 use Rattle.sdv_review.specs.Carried.{Table, IsCarried}
+use Rattle.sdv_review.specs.Weights.{most_passes}
 
 -- each write phase is known to have stored its blocks, and each erase to be done
 abbrev pub is_stored : Status → Bool
@@ -48,12 +49,14 @@ pub record ByStatuses (g : Graph) (ps : List PointFacts) (found : List Finding) 
   pub carried : IsCarried g.kind g ps table
   pub are : found ≡ writes_before g.points ps table (length g.points)
 
--- The statuses of writes were not worked out: nothing is known at point 0.
+-- The statuses of writes were not worked out: nothing is known at point 0. That takes a graph of more than 4,444
+-- points, and a script has at most 4,096.
 abbrev pub not_worked_out : List Finding
 not_worked_out = unstored 0 Unknown ∷ []
 
 abbrev pub StoredFound : Graph → List PointFacts → List Finding → Type 0
-StoredFound g ps found = ByStatuses g ps found ⊎ (found ≡ not_worked_out)
+StoredFound g ps found =
+    ByStatuses g ps found ⊎ ((found ≡ not_worked_out) × (most_passes ≤ 9 * length g.points))
 
 -- what is found of statuses, and behind it what is found of places
 pub record WritesFound (g : Graph) (ps : List PointFacts) (found : List Finding) : Type 0 where

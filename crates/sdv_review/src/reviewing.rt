@@ -13,6 +13,7 @@ ghost use Rattle.sdv_review.specs.Reviewed.{Reviews, ReviewsScript, Unreviewed, 
 use crate::fault::ReviewFault;
 use crate::finding::Finding;
 use crate::finds::find;
+use crate::given::{most_of_block, put_given_line, put_given_object};
 use crate::text::{put_lines, put_objects};
 use crate::writes::find_writes;
 use sdv_certify::{CertifyFault, ScriptSurvey, survey};
@@ -29,9 +30,11 @@ pub struct Report {
     /// What is found of writes and erases where the script is done, and of commands that may miss the partition that was
     /// asked for last.
     pub writes: Vec<Finding>,
-    /// A line for each, or `nothing found`.
+    /// The most blocks that a run gives, if the number has 64 bits.
+    pub given: Option<u64>,
+    /// A line for each, or `nothing found`, and the most blocks that a run gives.
     pub lines: Vec<u8>,
-    /// An object of JSON for each, one a line.
+    /// An object of JSON for each, and one of the blocks, one a line.
     pub objects: Vec<u8>,
 }
 
@@ -99,13 +102,17 @@ fn review_script(alloc: Global, script: &Script<'_>) -> Result<Report, ReviewFau
     let known = certified(alloc, script, &graph)?;
     let found = find(alloc, &graph, &known)?;
     let writes = find_writes(alloc, &graph, &known)?;
+    let given = most_of_block(script.body());
     let mut lines = Vec::new(alloc);
     put_lines(&mut lines, &graph, &found, &writes)?;
+    put_given_line(&mut lines, given)?;
     let mut objects = Vec::new(alloc);
     put_objects(&mut objects, &graph, &found, &writes)?;
+    put_given_object(&mut objects, given)?;
     Ok(Report {
         found,
         writes,
+        given,
         lines,
         objects,
     })

@@ -2,6 +2,7 @@
 
 ghost use Rattle.std.specs.Prelude.{◌≡◌, slice_get};
 ghost use Rattle.sdv_graph.specs.Graph.{seen_action};
+ghost use Rattle.sdv_review.specs.declared.status.Status.TheVariants.{EraseLeft, Left};
 ghost use Rattle.sdv_review.specs.Statuses.{action_reads, after_event, after_let, after_phase, answered, begun, confirms, ends_well, erase_sent, erased, given, is_erase, is_moved, is_write, keeps, moved, place_reads, sent};
 
 use crate::asked::moves;
@@ -23,14 +24,15 @@ pub enum Status {
     Open(usize),
     /// The blocks of this write were cut, or an error may have gone unseen.
     Failed(usize),
-    /// This write may have failed, and was left for another one or for another place.
-    Left(usize),
+    /// This write may have failed, and was left for another one or for another place, by the statement at this point.
+    Left { write: usize, next: usize },
     /// This erase was sent, and no status has shown yet that it is done.
     EraseOpen(usize),
     /// This erase was lost, or an error may have gone unseen.
     EraseFailed(usize),
-    /// This erase may have failed, and was left for another one, for a write or for another place.
-    EraseLeft(usize),
+    /// This erase may have failed, and was left for another one, for a write or for another place, by the statement at this
+    /// point.
+    EraseLeft { erase: usize, next: usize },
     /// Nothing is known.
     Unknown,
 }
@@ -74,10 +76,25 @@ fn answered(ask: &Ask, seen: Seen, status: Status) -> Status
     }
 }
 
-fn is_write(ask: &Ask) -> bool
+/// CMD24 and CMD25, which begin a write.
+pub fn is_write(ask: &Ask) -> bool
     ensures { result ≡ is_write ask.now }
 {
     ask.index == 24 || ask.index == 25
+}
+
+/// A write that was left, by the statement at a point.
+fn left(write: usize, next: usize) -> Status
+    ensures { result ≡ Left write next }
+{
+    Status::Left { write, next }
+}
+
+/// An erase that was left, by the statement at a point.
+fn erase_left(erase: usize, next: usize) -> Status
+    ensures { result ≡ EraseLeft erase next }
+{
+    Status::EraseLeft { erase, next }
 }
 
 /// After the command of a write at a point.
@@ -86,8 +103,8 @@ fn begun(point: usize, status: Status) -> Status
 {
     match status {
         Status::Quiet | Status::Begun(_) => Status::Begun(point),
-        Status::Open(other) | Status::Failed(other) if other != point => Status::Left(other),
-        Status::EraseOpen(other) | Status::EraseFailed(other) => Status::EraseLeft(other),
+        Status::Open(other) | Status::Failed(other) if other != point => { left(other, point) }
+        Status::EraseOpen(other) | Status::EraseFailed(other) => erase_left(other, point),
         _ => status,
     }
 }
@@ -115,26 +132,26 @@ fn erased(point: usize, kept: bool, status: Status) -> Status
 {
     match status {
         Status::Quiet | Status::Begun(_) => erase_sent(point, kept),
-        Status::Open(other) | Status::Failed(other) => Status::Left(other),
+        Status::Open(other) | Status::Failed(other) => left(other, point),
         Status::EraseOpen(other) | Status::EraseFailed(other) => {
             if other == point {
                 erase_sent(point, kept)
             } else {
-                Status::EraseLeft(other)
+                erase_left(other, point)
             }
         }
         _ => status,
     }
 }
 
-/// After the blocks that the command names became others.
-fn moved(status: Status) -> Status
-    ensures { result ≡ moved status }
+/// After the blocks that the command names became others, by the statement at a point.
+fn moved(point: usize, status: Status) -> Status
+    ensures { result ≡ moved point status }
 {
     match status {
         Status::Begun(_) => Status::Quiet,
-        Status::Open(point) | Status::Failed(point) => Status::Left(point),
-        Status::EraseOpen(point) | Status::EraseFailed(point) => Status::EraseLeft(point),
+        Status::Open(write) | Status::Failed(write) => left(write, point),
+        Status::EraseOpen(erase) | Status::EraseFailed(erase) => erase_left(erase, point),
         _ => status,
     }
 }
@@ -150,7 +167,11 @@ fn sent(point: usize, ask: &Ask, seen: Seen, status: Status) -> Status
     if is_erase(ask) {
         return erased(point, keeps(ask, seen), status);
     }
-    if moves(ask) { moved(status) } else { status }
+    if moves(ask) {
+        moved(point, status)
+    } else {
+        status
+    }
 }
 
 fn ends_well(seen: Seen) -> bool
@@ -171,7 +192,7 @@ fn given(seen: Seen, status: Status) -> Status
                 Status::Failed(point)
             }
         }
-        Status::Left(_) | Status::EraseLeft(_) => status,
+        Status::Left { .. } | Status::EraseLeft { .. } => status,
         _ => Status::Unknown,
     }
 }
@@ -228,12 +249,12 @@ fn is_moved(graph: &Graph<'_>, variable: usize, status: Status) -> bool
     }
 }
 
-/// After the variable was set.
-pub fn after_let(graph: &Graph<'_>, variable: usize, status: Status) -> Status
-    ensures { result ≡ after_let graph.now.points variable status }
+/// After the variable was set at a point.
+pub fn after_let(graph: &Graph<'_>, point: usize, variable: usize, status: Status) -> Status
+    ensures { result ≡ after_let graph.now.points point variable status }
 {
     if is_moved(graph, variable, status) {
-        moved(status)
+        moved(point, status)
     } else {
         status
     }

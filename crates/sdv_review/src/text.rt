@@ -1,34 +1,14 @@
 //! Findings in words, and as objects of JSON.
 
-ghost use Rattle.std.specs.Prelude.{◌≡◌, ◌++◌, ◌∷◌, OnOk, decimal, flat_map};
-ghost use Rattle.sdv_graph.specs.Graph.{texts};
+ghost use Rattle.std.specs.Prelude.{◌≡◌, ◌++◌, ◌∷◌, OnOk, flat_map};
 ghost use Rattle.sdv_telling.specs.Places.{line_at};
-ghost use Rattle.sdv_telling.specs.Statements.{name_at};
-ghost use Rattle.sdv_review.specs.Lines.{command_words, kind_word, line_field, line_of, lines_of, matter_words, members_of, misplaced_words, name_words, object_of, objects_of, partition_words, place_words, reach_words, statement_there, status_back, status_front, status_kind, status_words, unreached_words, way_words, write_line, write_of};
+ghost use Rattle.sdv_review.specs.Lines.{command_words, kind_word, leaving_words, left_words, line_field, line_of, lines_of, matter_words, members_of, misplaced_words, name_words, object_of, objects_of, partition_words, place_words, reach_words, risk_words, statement_there, status_back, status_front, status_kind, status_words, unreached_words, way_words, write_line, write_of};
 
 use crate::finding::{Finding, Matter, Name, Reach};
 use crate::status::Status;
-use itoa::Buffer;
 use sdv_graph::Graph;
-use sdv_telling::{Text, put_statement};
+use sdv_telling::{Text, put, put_name, put_number, put_numbered, put_statement};
 use std::alloc::AllocError;
-
-/// Adds words.
-fn put(text: &mut Text, words: &str) -> Result<(), AllocError>
-    ensures { OnOk result (text.new.items ≡ text.old.items ++ words.now) }
-{
-    text.extend_from_slice(words.as_bytes())
-}
-
-/// Adds words, a number, and words.
-fn put_numbered(text: &mut Text, before: &str, number: u32, after: &str) -> Result<(), AllocError>
-    ensures { OnOk result (text.new.items ≡ text.old.items ++ (before.now ++ (decimal number ++ after.now))) }
-{
-    let mut buffer = Buffer::new();
-    put(text, before)?;
-    put(text, buffer.format(number))?;
-    put(text, after)
-}
 
 fn reach_words(reach: Reach) -> &'static str
     ensures { result.now ≡ reach_words reach }
@@ -51,23 +31,13 @@ fn way_words(holds: bool) -> &'static str
     }
 }
 
-/// The name in a place.
-fn name_at<'n>(names: &[&'n str], place: usize) -> &'n str
-    ensures { result.now ≡ name_at (texts names.now) place }
-{
-    match names.get(place) {
-        Some(name) => name,
-        None => "?",
-    }
-}
-
-fn put_name(text: &mut Text, graph: &Graph<'_>, name: Name) -> Result<(), AllocError>
+fn put_named(text: &mut Text, graph: &Graph<'_>, name: Name) -> Result<(), AllocError>
     ensures { OnOk result (text.new.items ≡ text.old.items ++ name_words graph.now name) }
 {
     let names = graph.names();
     match name {
-        Name::Number(place) => put(text, name_at(&names.numbers, place)),
-        Name::Flag(place) => put(text, name_at(&names.flags, place)),
+        Name::Number(place) => put_name(text, &names.numbers, place),
+        Name::Flag(place) => put_name(text, &names.flags, place),
     }
 }
 
@@ -93,7 +63,7 @@ fn put_unreached(text: &mut Text, graph: &Graph<'_>, point: Option<usize>) -> Re
 fn put_reach(text: &mut Text, index: u8, reach: Reach) -> Result<(), AllocError>
     ensures { OnOk result (text.new.items ≡ text.old.items ++ command_words index reach) }
 {
-    put_numbered(text, "CMD", u32::from(index), " may reach ")?;
+    put_numbered(text, "CMD", u64::from(index), " may reach ")?;
     put(text, reach_words(reach))
 }
 
@@ -103,7 +73,7 @@ fn put_misplaced(text: &mut Text, index: u8) -> Result<(), AllocError>
     put_numbered(
         text,
         "CMD",
-        u32::from(index),
+        u64::from(index),
         " may not reach the partition that was asked for last",
     )
 }
@@ -115,10 +85,8 @@ fn status_front(status: Status) -> &'static str
     match status {
         Status::Open(_) => "done may come before the write of line ",
         Status::Failed(_) => "done may come where the write of line ",
-        Status::Left(_) => "done may come after the write of line ",
         Status::EraseOpen(_) => "done may come before the erase of line ",
         Status::EraseFailed(_) => "done may come where the erase of line ",
-        Status::EraseLeft(_) => "done may come after the erase of line ",
         _ => "it is not known whether each write is stored",
     }
 }
@@ -130,7 +98,6 @@ fn status_back(status: Status) -> &'static str
     match status {
         Status::Open(_) => " is confirmed",
         Status::Failed(_) => " was cut, or its error passed over",
-        Status::Left(_) | Status::EraseLeft(_) => ", which may have failed, was left for another",
         Status::EraseOpen(_) => " is confirmed",
         Status::EraseFailed(_) => " was lost, or its error passed over",
         _ => "",
@@ -142,19 +109,12 @@ fn write_of(status: Status) -> Option<usize>
     ensures { result ≡ write_of status }
 {
     match status {
-        Status::Open(point) | Status::Failed(point) | Status::Left(point) => Some(point),
-        Status::EraseOpen(point) | Status::EraseFailed(point) | Status::EraseLeft(point) => {
-            Some(point)
-        }
+        Status::Open(point)
+        | Status::Failed(point)
+        | Status::EraseOpen(point)
+        | Status::EraseFailed(point) => Some(point),
         _ => None,
     }
-}
-
-fn put_number(text: &mut Text, number: u32) -> Result<(), AllocError>
-    ensures { OnOk result (text.new.items ≡ text.old.items ++ decimal number) }
-{
-    let mut buffer = Buffer::new();
-    put(text, buffer.format(number))
 }
 
 /// Adds the line of a write, if there is one.
@@ -167,13 +127,54 @@ fn put_write(text: &mut Text, graph: &Graph<'_>, write: Option<usize>) -> Result
     }
 }
 
+/// Adds the words of the statement that left a write or an erase.
+fn put_leaving(text: &mut Text, graph: &Graph<'_>, next: usize) -> Result<(), AllocError>
+    ensures { OnOk result (text.new.items ≡ text.old.items ++ leaving_words graph.now next) }
+{
+    put_numbered(
+        text,
+        "done may come where line ",
+        line_at(graph, next),
+        " left the ",
+    )
+}
+
+/// Adds the words of the write or the erase that was left.
+fn put_risk(text: &mut Text, graph: &Graph<'_>, point: usize) -> Result<(), AllocError>
+    ensures { OnOk result (text.new.items ≡ text.old.items ++ risk_words graph.now point) }
+{
+    let line = line_at(graph, point);
+    put_numbered(text, " of line ", line, ", which may have failed")
+}
+
+/// Adds the words of a write or an erase that was left, by the statement at the next point.
+fn put_left(
+    text: &mut Text,
+    graph: &Graph<'_>,
+    what: &str,
+    point: usize,
+    next: usize,
+) -> Result<(), AllocError>
+    ensures { OnOk result (text.new.items ≡ text.old.items ++ left_words graph.now what.now point next) }
+{
+    put_leaving(text, graph, next)?;
+    put(text, what)?;
+    put_risk(text, graph, point)
+}
+
 /// Adds the words of a status by which a write may not be stored.
 fn put_status(text: &mut Text, graph: &Graph<'_>, status: Status) -> Result<(), AllocError>
     ensures { OnOk result (text.new.items ≡ text.old.items ++ status_words graph.now status) }
 {
-    put(text, status_front(status))?;
-    put_write(text, graph, write_of(status))?;
-    put(text, status_back(status))
+    match status {
+        Status::Left { write, next } => put_left(text, graph, "write", write, next),
+        Status::EraseLeft { erase, next } => put_left(text, graph, "erase", erase, next),
+        _ => {
+            put(text, status_front(status))?;
+            put_write(text, graph, write_of(status))?;
+            put(text, status_back(status))
+        }
+    }
 }
 
 /// Adds what is found, in words.
@@ -194,7 +195,7 @@ fn put_matter(
         ),
         Matter::OneWay(holds) => put(text, way_words(holds)),
         Matter::Unread(name) => {
-            put_name(text, graph, name)?;
+            put_named(text, graph, name)?;
             put(text, " is never read")
         }
         Matter::Misplaced(index) => put_misplaced(text, index),
@@ -203,11 +204,11 @@ fn put_matter(
 }
 
 /// The line of the text on which the statement of a point begins; 0 where there is no such point.
-fn line_at(graph: &Graph<'_>, point: usize) -> u32
+fn line_at(graph: &Graph<'_>, point: usize) -> u64
     ensures { result ≡ line_at graph.now point }
 {
     match graph.lines().get(point) {
-        Some(line) => *line,
+        Some(line) => u64::from(*line),
         None => 0,
     }
 }
@@ -260,7 +261,7 @@ fn status_kind(status: Status) -> &'static str
     ensures { result.now ≡ status_kind status }
 {
     match status {
-        Status::EraseOpen(_) | Status::EraseFailed(_) | Status::EraseLeft(_) => "erase",
+        Status::EraseOpen(_) | Status::EraseFailed(_) | Status::EraseLeft { .. } => "erase",
         _ => "write",
     }
 }
