@@ -1,2 +1,1 @@
-mod NumberedLaws
 mod PieceLaws

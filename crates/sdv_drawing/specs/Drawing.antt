@@ -1,15 +1,17 @@
 -- The DRAWING of a graph, in the language of Graphviz: a line for each point, in their order, and then a line for each
 -- edge, point by point in the order of the edges of each.
-use Rattle.std.specs.Prelude.{ℕ, suc, List, [], ◌∷◌, ◌++◌, flat_map, Bool, true, false, ◌==◌, ◌||◌, ◌&&◌, not, nat_lt, nat_le, length, slice_get, Option, Some, None, codes, decimal, if◌then◌else◌}
+use Rattle.std.specs.Prelude.{ℕ, List, [], ◌∷◌, ◌++◌, flat_map, Bool, true, false, ◌==◌, ◌||◌, ◌&&◌, not, nat_lt, nat_le, length, slice_get, Option, Some, None, codes, decimal, if◌then◌else◌}
 use Rattle.sdv_graph.specs.declared.graph.Target.{Target}
 use Rattle.sdv_graph.specs.Walk.{Finished, Failed}
 use Rattle.sdv_graph.specs.Path.{Case, Action, Point, sends, phases, lets, tests, flags, widths, heads, jumps, stops}
 use Rattle.sdv_certify.specs.declared.fault.CertifyFault.{CertifyFault}
 use Rattle.sdv_certify.specs.declared.fault.CertifyFault.TheVariants.{Illegal, Address, EndState}
 use Rattle.sdv_explain.specs.declared.heading.Heading.{Heading}
+use Rattle.sdv_drawing.specs.declared.edges.Edge.{Edge}
 use Rattle.sdv_drawing.specs.declared.look.Look.{Look as CodeLook}
 use Rattle.sdv_telling.specs.declared.visit.Visit.{Visit}
 use Rattle.sdv_telling.specs.Guards.{guards_words}
+use Rattle.sdv_telling.specs.Numbered.{numbered}
 use Rattle.sdv_telling.specs.Statements.{Text}
 
 -- what is shown: the points of a graph, why the script is refused, a way to what is, and whether faults are left out
@@ -54,11 +56,6 @@ escaped_byte byte = if (byte == 34) || (byte == 92) then 92 ∷ byte ∷ [] else
 
 abbrev pub escaped : Text → Text
 escaped text = flat_map escaped_byte text
-
--- a line for each of a list, by its number
-abbrev pub numbered : {X : Type 0} → (line : ℕ → X → Text) → (first : ℕ) → List X → Text
-numbered line n [] = []
-numbered line n (x ∷ xs) = line n x ++ numbered line (suc n) xs
 
 -- POINTS: a box with the line of the text, the number of the point and the words of the statement; `done` and a fault are
 -- no boxes; the point for which the script is refused is red, and says the clause that fails there
@@ -132,6 +129,11 @@ leads look to = nat_lt to (length look.places) && not (hides look to)
 -- `    3 -> 4 [label=" app"];`, with a space between the edge and its label
 abbrev pub edge_line : Look → (from : ℕ) → Target → (case : Text) → Text
 edge_line look from t case = if leads look t.to then written_edge look.way from t.to case else []
+
+-- an edge of a point, and its other one
+abbrev pub both_lines : Look → Edge → (other : Target) → Text
+both_lines look edge other =
+    edge_line look edge.from edge.target edge.case.now ++ edge_line look edge.from other (codes "else")
 
 abbrev pub case_line : Look → (from : ℕ) → Case → Text
 case_line look from w = edge_line look from w.target (guards_words w.guards)

@@ -10,12 +10,11 @@ ghost use Rattle.sdv_drawing.specs.Drawn.{Draws, DrawsScript, IsTold, fault_of, 
 use crate::edges::put_edges;
 use crate::look::Look;
 use crate::points::put_points;
-use crate::text::put;
 use sdv_certify::CertifyFault;
 use sdv_explain::{ExplainFault, Explanation, Heading, Refusal, explain, headings};
 use sdv_graph::Graph;
 use sdv_script::{FaultKind, Script, ScriptFault, parse};
-use sdv_telling::Visit;
+use sdv_telling::{Visit, put};
 use std::alloc::{AllocError, Global};
 
 /// The drawing of a script's graph.

@@ -3,20 +3,20 @@
 ghost use Rattle.std.specs.Prelude.{◌≡◌, ◌++◌, OnOk, codes, flat_map, map, nat_le};
 ghost use Rattle.sdv_graph.specs.Graph.{seen_case, seen_action};
 ghost use Rattle.sdv_drawing.specs.Drawing.{arrow, case_line, dash, edge_line, edge_lines, edges_at, else_word, is_on_way};
-ghost use Rattle.sdv_drawing.specs.Drawing.{look_of, numbered, paint};
+ghost use Rattle.sdv_drawing.specs.Drawing.{both_lines, look_of, paint};
+ghost use Rattle.sdv_telling.specs.Numbered.{numbered};
 
 use crate::look::{Look, is_on_way};
-use crate::text::{Text, put, put_numbered};
 use sdv_graph::{Action, Case, Graph, Target};
-use sdv_telling::{Visit, put_guards};
+use sdv_telling::{Text, Visit, put, put_guards, put_with_number};
 use std::alloc::AllocError;
 
 /// Begins the line of an edge, up to its case.
 fn put_arrow(text: &mut Text, from: usize, to: usize) -> Result<(), AllocError>
     ensures { OnOk result (text.new.items ≡ text.old.items ++ arrow from to) }
 {
-    put_numbered(text, "    ", from)?;
-    put_numbered(text, " -> ", to)?;
+    put_with_number(text, "    ", from as u64)?;
+    put_with_number(text, " -> ", to as u64)?;
     put(text, " [label=\" ")
 }
 
@@ -51,16 +51,26 @@ fn paint(is_on_way: bool) -> &'static str
     }
 }
 
-/// Adds the line of an edge that is taken in a case.
-fn put_edge(
-    text: &mut Text,
-    look: &Look<'_, '_>,
+/// An edge of a point, that is taken in a case.
+#[derive(Clone, Copy)]
+struct Edge<'a> {
     from: usize,
+    case: &'a str,
     target: Target,
-    case: &str,
-) -> Result<(), AllocError>
-    ensures { OnOk result (text.new.items ≡ text.old.items ++ edge_line (look_of look.now) from target case.now) }
+}
+
+fn edge_of(from: usize, case: &str, target: Target) -> Edge<'_>
+    ensures { result ≡ record { from = from; case = case.entry; target = target } }
 {
+    Edge { from, case, target }
+}
+
+/// Adds the line of an edge.
+fn put_edge(text: &mut Text, look: &Look<'_, '_>, edge: Edge<'_>) -> Result<(), AllocError>
+    ensures { OnOk result (text.new.items ≡ text.old.items
+        ++ edge_line (look_of look.now) edge.entry.from edge.entry.target edge.entry.case.now) }
+{
+    let Edge { from, case, target } = edge;
     if !look.leads(target.to) {
         return Ok(());
     }
@@ -111,20 +121,17 @@ fn else_word(cases: &[Case]) -> &'static str
     if cases.is_empty() { "" } else { "else" }
 }
 
-/// Adds the lines of two edges.
+/// Adds the lines of an edge and of the other edge of its point.
 fn put_both(
     text: &mut Text,
     look: &Look<'_, '_>,
-    from: usize,
-    first: Target,
-    case: &str,
+    edge: Edge<'_>,
     other: Target,
 ) -> Result<(), AllocError>
-    ensures { OnOk result (text.new.items ≡ text.old.items
-        ++ (edge_line (look_of look.now) from first case.now ++ edge_line (look_of look.now) from other (codes "else"))) }
+    ensures { OnOk result (text.new.items ≡ text.old.items ++ both_lines (look_of look.now) edge.entry other) }
 {
-    put_edge(text, look, from, first, case)?;
-    put_edge(text, look, from, other, "else")
+    put_edge(text, look, edge)?;
+    put_edge(text, look, edge_of(edge.from, "else", other))
 }
 
 /// Adds the lines of the edges of a point.
@@ -140,15 +147,19 @@ fn put_edges_of(
     match action {
         Action::Send(_, cases, other) => {
             put_cases(text, look, from, cases.as_slice())?;
-            put_edge(text, look, from, *other, else_word(cases.as_slice()))
+            put_edge(
+                text,
+                look,
+                edge_of(from, else_word(cases.as_slice()), *other),
+            )
         }
-        Action::Phase(_, well, other) => put_both(text, look, from, *well, "ok", *other),
-        Action::If(_, met, unmet) => put_both(text, look, from, *met, "then", *unmet),
-        Action::Loop(_, body, other) => put_both(text, look, from, *body, "turn", *other),
+        Action::Phase(_, well, other) => put_both(text, look, edge_of(from, "ok", *well), *other),
+        Action::If(_, met, unmet) => put_both(text, look, edge_of(from, "then", *met), *unmet),
+        Action::Loop(_, body, other) => put_both(text, look, edge_of(from, "turn", *body), *other),
         Action::Let(_, target)
         | Action::Flag(_, _, target)
         | Action::Lines(_, target)
-        | Action::Break(target) => put_edge(text, look, from, *target, ""),
+        | Action::Break(target) => put_edge(text, look, edge_of(from, "", *target)),
         Action::Done | Action::Fault(_) => Ok(()),
     }
 }

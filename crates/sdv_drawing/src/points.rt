@@ -1,15 +1,17 @@
 //! The points of a graph, as boxes.
 
 ghost use Rattle.std.specs.Prelude.{◌≡◌, ◌++◌, OnOk, slice_get};
-ghost use Rattle.sdv_drawing.specs.Drawing.{clause_at, form, form_end, form_of, look_of, mark, numbered, point_front, point_line};
+ghost use Rattle.sdv_drawing.specs.Drawing.{clause_at, form, form_end, form_of, look_of, mark, point_front, point_line};
 ghost use Rattle.sdv_drawing.specs.Drawing.{shown_point};
+ghost use Rattle.sdv_telling.specs.Numbered.{numbered};
 ghost use Rattle.sdv_graph.specs.Graph.{seen_action};
 
 use crate::look::Look;
-use crate::text::{Text, put, put_escaped, put_numbered};
+use crate::text::put_escaped;
 use sdv_certify::CertifyFault;
 use sdv_explain::Heading;
 use sdv_graph::{Action, Graph};
+use sdv_telling::{Text, put, put_with_number};
 use std::alloc::AllocError;
 
 /// The clause that fails at a point; nothing where it is not the point that the refusal names.
@@ -74,9 +76,9 @@ fn put_form(text: &mut Text, form: &str, color: &str) -> Result<(), AllocError>
 fn put_front(text: &mut Text, point: usize, line: u32) -> Result<(), AllocError>
     ensures { OnOk result (text.new.items ≡ text.old.items ++ point_front point line) }
 {
-    put_numbered(text, "    ", point)?;
-    put_numbered(text, " [label=\"line ", line as usize)?;
-    put_numbered(text, ", point ", point)?;
+    put_with_number(text, "    ", point as u64)?;
+    put_with_number(text, " [label=\"line ", line as u64)?;
+    put_with_number(text, ", point ", point as u64)?;
     put(text, "\\n")
 }
 

@@ -1,5 +1,5 @@
 -- What is explained of a text: whether it is the text of a script that is refused, and the way to the point that is.
-use Rattle.std.specs.Prelude.{◌≡◌, ◌⊎◌, ◌++◌, ℕ, List, [], slice_get, Some, IfSome, None}
+use Rattle.std.specs.Prelude.{◌≡◌, ◌⊎◌, ℕ, List, [], slice_get, Some, IfSome, IfNone, None}
 use Rattle.sdv_card.specs.declared.shape.Shape.{Shape}
 use Rattle.sdv_script.specs.OneGraph.{IsGraphOfScript}
 use Rattle.sdv_script.specs.declared.fault.FaultKind.{FaultKind}
@@ -18,6 +18,7 @@ use Rattle.sdv_explain.specs.declared.explaining.Explanation.{Explanation}
 use Rattle.sdv_explain.specs.declared.explaining.Refusal.{Refusal}
 use Rattle.sdv_explain.specs.declared.fault.ExplainFault.{ExplainFault}
 use Rattle.sdv_explain.specs.declared.fault.ExplainFault.TheVariants.{Script, TooMany, Memory}
+use Rattle.sdv_telling.specs.Begins.{BeginsWith}
 use Rattle.sdv_telling.specs.declared.visit.Visit.{Visit}
 use Rattle.sdv_explain.specs.Refused.{IsRefusedAt, IsRefusedNowhere}
 use Rattle.sdv_explain.specs.Failing.{AreFailures}
@@ -86,17 +87,14 @@ pub record IsRefusal (s : Tree) (refusal : Refusal) : Type 0 where
   pub way : HasWay graph points refusal
   pub failures : HasFailures graph points refusal
 
--- a text has another one at the front
-pub record BeginsWith (front whole : List ℕ) : Type 0 where
-  pub behind : List ℕ
-  pub same : whole ≡ front ++ behind
-
 -- the text is that of a script: one that has a certificate, or one that is refused so
 pub record Explains (text : List ℕ) (explanation : Explanation) : Type 0 where
   pub script : Tree
   pub same : (shown script).text ≡ text
   pub is_script : IsScript (shown script)
   pub front : BeginsWith explanation.why.items explanation.text.items
+  -- nothing is said where the script is not refused
+  pub quiet : IfNone explanation.refusal (explanation.why.items ≡ [])
   pub certified : explanation.refusal ≡ None → (ps : List PointFacts) × CertificateOf script ps
   pub refused : IfSome explanation.refusal (IsRefusal script)
 

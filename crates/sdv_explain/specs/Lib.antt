@@ -8,3 +8,4 @@ pub mod Laws
 pub mod Explained
 pub mod Headings
 pub mod Failing
+pub mod Told

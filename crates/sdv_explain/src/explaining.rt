@@ -7,8 +7,9 @@ ghost use Rattle.sdv_script.specs.OneGraph.{IsGraphOfScript};
 ghost use Rattle.sdv_script.specs.Shown.{shown};
 ghost use Rattle.sdv_certify.specs.Assembled.{CertificateOf, RefusedFor, SurveyOf};
 ghost use Rattle.sdv_explain.specs.Failing.{AreFailures};
-ghost use Rattle.sdv_explain.specs.Explained.{BeginsWith, EndsThere, Explains, HasFailures, HasWay, IsRefusal, NamesPoint, Unexplained};
+ghost use Rattle.sdv_explain.specs.Explained.{EndsThere, Explains, HasFailures, HasWay, IsRefusal, NamesPoint, Unexplained};
 ghost use Rattle.sdv_explain.specs.Way.{HasNoWay, IsShortest};
+ghost use Rattle.sdv_telling.specs.Begins.{BeginsWith};
 
 use crate::failing::{Failure, failures_of, put_further};
 use crate::fault::ExplainFault;
@@ -21,7 +22,7 @@ use sdv_certify::{CertifyFault, ScriptSurvey, survey};
 use sdv_facts::Certificate;
 use sdv_graph::Graph;
 use sdv_script::{Script, parse};
-use sdv_telling::{Text, Visit, put_listing, put_way};
+use sdv_telling::{Beside, Text, Visit, put_listing, put_way};
 use std::alloc::{AllocError, Global};
 
 /// Why a script has no certificate, with a way to the point that is refused.
@@ -65,6 +66,7 @@ pub fn explain(alloc: Global, text: &str) -> Result<Explanation, ExplainFault>
 /// The same of a script.
 fn explain_script(alloc: Global, script: &Script<'_>) -> Result<Explanation, ExplainFault>
     ensures front { IfOk result (λ e. BeginsWith e.why.items e.text.items) }
+    ensures quiet { IfOk result (λ e. IfNone e.refusal (e.why.items ≡ [])) }
     ensures certified { IfOk result (λ e. e.refusal ≡ None → (ps : List PointFacts) × CertificateOf script.now ps) }
     ensures refused { IfOk result (λ e. IfSome e.refusal (IsRefusal script.now)) }
     ensures too_many { IfErr result (λ fault. fault ≡ ExplainFault.TooMany
@@ -127,6 +129,7 @@ fn refusal_of(
     survey: &ScriptSurvey,
 ) -> Result<Option<Refusal>, AllocError>
     ensures none { IfOk result (λ refusal. IfNone refusal (survey.now.refusal ≡ None)) }
+    ensures quiet { IfOk result (λ refusal. IfNone refusal (words.new.items ≡ words.old.items)) }
     ensures fault { IfOk result (λ refusal. IfSome refusal (λ r. survey.now.refusal ≡ Some r.fault)) }
     ensures way { IfOk result (λ refusal. IfSome refusal (HasWay graph.now survey.now.known.points)) }
     ensures failures { IfOk result (λ refusal. IfSome refusal (HasFailures graph.now survey.now.known.points)) }
@@ -165,10 +168,7 @@ fn refuse(
     ensures way { IfOk result (HasWay graph.now known.now.points) }
     ensures failures { IfOk result (λ refusal. AreFailures graph.now known.now.points refusal.failures.items) }
 {
-    let mut way = Vec::new(alloc);
-    if let Some(number) = refused_point(fault) {
-        way = refuse_point(alloc, words, graph, known, fault, number)?;
-    }
+    let way = refuse_point(alloc, words, graph, known, fault)?;
     let failures = failures_of(alloc, graph, known)?;
     put_further(words, graph, known, &failures)?;
     Ok(Refusal {
@@ -178,18 +178,19 @@ fn refuse(
     })
 }
 
-/// Adds the words of the refusal of a point, and answers a way to it.
+/// Adds the words of the refusal of a point, and answers a way to it; an empty one where the fault names no point.
 fn refuse_point(
     alloc: Global,
     words: &mut Text,
     graph: &Graph<'_>,
     known: &Certificate,
     fault: CertifyFault,
-    number: usize,
 ) -> Result<Vec<Visit>, AllocError>
-    requires { NamesPoint fault number }
     ensures { IfOk result (λ way. EndsThere graph.now known.now.points fault way.items) }
 {
+    let Some(number) = refused_point(fault) else {
+        return Ok(Vec::new(alloc));
+    };
     if graph.len() <= number {
         return Ok(Vec::new(alloc));
     }
@@ -199,7 +200,11 @@ fn refuse_point(
     let Some(shape) = refused_shape(fault, &graph.point(number).action, &here) else {
         return Ok(Vec::new(alloc));
     };
-    put_refusal(words, graph, fault, number, here.numbers, shape)?;
+    let beside = Beside {
+        numbers: here.numbers,
+        shape,
+    };
+    put_refusal(words, graph, fault, number, beside)?;
     let way = way_or_none(alloc, graph, known, number, shape)?;
     put_way(words, graph, &way)?;
     Ok(way)

@@ -1,9 +1,10 @@
 //! Every point that fails a clause, and not only the first.
 
-ghost use Rattle.std.specs.Prelude.{◌≡◌, ◌<◌, All, IfNone, IfOk, IfSome, length};
+ghost use Rattle.std.specs.Prelude.{◌≡◌, ◌<◌, ◌++◌, All, IfNone, IfOk, IfSome, OnOk, flat_map, length};
 ghost use Rattle.sdv_graph.specs.Graph.{seen_action};
 ghost use Rattle.sdv_explain.specs.Failing.{AreFailures, IsFailure, IsFailureAt, IsFine, IsFineAt, illegal_shape};
 ghost use Rattle.sdv_explain.specs.Known.{facts_here};
+ghost use Rattle.sdv_explain.specs.Told.{all_further_words, failure_words, further_words, point_of};
 
 use crate::known::{Known, known_at};
 use crate::refusal::{illegality, put_refusal};
@@ -12,7 +13,7 @@ use sdv_card::{Kind, Shape};
 use sdv_certify::CertifyFault;
 use sdv_facts::Certificate;
 use sdv_graph::{Action, Graph};
-use sdv_telling::Text;
+use sdv_telling::{Beside, Text, put};
 use std::alloc::{AllocError, Global};
 
 /// A point that fails a clause, and a shape there at which it does.
@@ -85,18 +86,60 @@ pub fn failures_of(
     Ok(failures)
 }
 
-/// Adds the failures behind the first.
+/// Adds the failures behind the first, each behind an empty line.
 pub fn put_further(
     text: &mut Text,
     graph: &Graph<'_>,
     known: &Certificate,
     failures: &[Failure],
-) -> Result<(), AllocError> {
-    for failure in failures.iter().skip(1) {
-        text.extend_from_slice(b"\n")?;
-        put_failure(text, graph, known, failure)?;
+) -> Result<(), AllocError>
+    ensures { OnOk result
+        (text.new.items ≡ text.old.items ++ all_further_words graph.now known.now.points failures.now) }
+{
+    match failures {
+        [_, further @ ..] => put_each(text, graph, known, further),
+        [] => Ok(()),
+    }
+}
+
+fn put_each(
+    text: &mut Text,
+    graph: &Graph<'_>,
+    known: &Certificate,
+    failures: &[Failure],
+) -> Result<(), AllocError>
+    ensures { OnOk result
+        (text.new.items ≡ text.old.items ++ flat_map (further_words graph.now known.now.points) failures.now) }
+{
+    for failure in failures {
+        put_one_more(text, graph, known, failure)?;
     }
     Ok(())
+}
+
+fn put_one_more(
+    text: &mut Text,
+    graph: &Graph<'_>,
+    known: &Certificate,
+    failure: &Failure,
+) -> Result<(), AllocError>
+    ensures { OnOk result
+        (text.new.items ≡ text.old.items ++ further_words graph.now known.now.points failure.now) }
+{
+    put(text, "\n")?;
+    put_failure(text, graph, known, failure)
+}
+
+/// The point that a fault names.
+fn point_of(fault: CertifyFault) -> Option<usize>
+    ensures { result ≡ point_of fault }
+{
+    match fault {
+        CertifyFault::Illegal { point, .. }
+        | CertifyFault::Address { point }
+        | CertifyFault::EndState { point } => Some(point),
+        CertifyFault::TooMany | CertifyFault::Memory => None,
+    }
 }
 
 fn put_failure(
@@ -104,22 +147,21 @@ fn put_failure(
     graph: &Graph<'_>,
     known: &Certificate,
     failure: &Failure,
-) -> Result<(), AllocError> {
-    let point = match failure.fault {
-        CertifyFault::Illegal { point, .. }
-        | CertifyFault::Address { point }
-        | CertifyFault::EndState { point } => point,
-        CertifyFault::TooMany | CertifyFault::Memory => return Ok(()),
+) -> Result<(), AllocError>
+    ensures { OnOk result
+        (text.new.items ≡ text.old.items ++ failure_words graph.now known.now.points failure.now) }
+{
+    let Some(point) = point_of(failure.fault) else {
+        return Ok(());
     };
     match known_at(known, point) {
-        Some(here) => put_refusal(
-            text,
-            graph,
-            failure.fault,
-            point,
-            here.numbers,
-            failure.shape,
-        ),
+        Some(here) => {
+            let beside = Beside {
+                numbers: here.numbers,
+                shape: failure.shape,
+            };
+            put_refusal(text, graph, failure.fault, point, beside)
+        }
         None => Ok(()),
     }
 }

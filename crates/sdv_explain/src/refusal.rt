@@ -1,17 +1,18 @@
 //! Why a statement is refused beside a card.
 
-ghost use Rattle.std.specs.Prelude.{◌≡◌};
+ghost use Rattle.std.specs.Prelude.{◌≡◌, ◌++◌, OnOk};
 ghost use Rattle.sdv_graph.specs.Graph.{seen_action};
 ghost use Rattle.sdv_explain.specs.Reason.{event_of, illegality_there, why_refused};
+ghost use Rattle.sdv_explain.specs.Told.{refusal_words};
 
 use crate::reason::reason_of;
 use sdv_card::{Event, Kind, Shape};
 use sdv_certify::CertifyFault;
 use sdv_emmc::EmmcTable;
-use sdv_facts::{Numbers, event_of_phase};
+use sdv_facts::event_of_phase;
 use sdv_graph::{Action, Graph};
 use sdv_sd::SdTable;
-use sdv_telling::{Illegality, Text, Why, put_refused};
+use sdv_telling::{Beside, Illegality, Text, Why, put_refused};
 use std::alloc::AllocError;
 
 /// The event of a statement, if it makes one.
@@ -54,15 +55,17 @@ pub fn put_refusal(
     graph: &Graph<'_>,
     fault: CertifyFault,
     number: usize,
-    numbers: &Numbers,
-    shape: Shape,
-) -> Result<(), AllocError> {
+    beside: Beside<'_>,
+) -> Result<(), AllocError>
+    ensures { OnOk result (text.new.items ≡ text.old.items
+        ++ refusal_words graph.now fault number beside.entry.numbers.now beside.entry.shape) }
+{
     if graph.len() <= number {
         return Ok(());
     }
     let action = &graph.point(number).action;
-    match why_of(fault, graph.kind(), action, shape) {
-        Some(why) => put_refused(text, graph, number, why, numbers, shape),
+    match why_of(fault, graph.kind(), action, beside.shape) {
+        Some(why) => put_refused(text, graph, number, why, beside),
         None => Ok(()),
     }
 }

@@ -1,2 +1,4 @@
+pub mod BeginsLaws
+pub mod PieceLaws
 pub mod PlaceLaws
 pub mod NumberedLaws

@@ -1,5 +1,5 @@
 -- The words of a point's place, piece by piece.
-use Rattle.std.proofs.Common.{◌≡◌, ◌++◌, [], ℕ, List, get_or, append_assoc, refl, sym, ap, ◌∙◌, Option, Some}
+use Rattle.std.proofs.Common.{◌≡◌, ◌++◌, ℕ, append_assoc, sym, ap, ◌∙◌, Some}
 use Rattle.std.specs.Prelude.{slice_get, codes, decimal}
 use Rattle.std.proofs.lemmas.Option.{get_or_from_slice_get}
 use Rattle.sdv_graph.specs.Graph.{Graph}

@@ -1,5 +1,5 @@
 -- A CARD IN WORDS: its state and all else of its shape, without the script's flags.
-use Rattle.std.specs.Prelude.{ℕ, List, [], ◌++◌, Bool, true, false, ◌==◌, not, codes, decimal, if◌then◌else◌}
+use Rattle.std.specs.Prelude.{ℕ, [], ◌++◌, Bool, true, false, ◌==◌, not, codes, decimal, if◌then◌else◌}
 use Rattle.sdv_card.specs.declared.state.State.{State}
 use Rattle.sdv_card.specs.declared.state.State.TheVariants.{Idle, Ready, Ident, Stby, Tran, Data, Rcv, Prg, Dis}
 use Rattle.sdv_card.specs.declared.state.Transfer.{Transfer}

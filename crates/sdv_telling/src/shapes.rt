@@ -2,6 +2,9 @@
 
 ghost use Rattle.std.specs.Prelude.{◌≡◌, ◌++◌, OnOk, codes};
 ghost use Rattle.sdv_card.specs.Modes.{same_width};
+ghost use Rattle.sdv_graph.specs.Graph.{texts};
+ghost use Rattle.sdv_telling.specs.Begins.{BeginsWith};
+ghost use Rattle.sdv_telling.specs.Refusals.{flag_words, flags_words, shape_words, sign_words};
 ghost use Rattle.sdv_telling.specs.Cards.{state_word, numbered_state_word, transfer_words, erase_words, partition_words, lines_words, preset_words, both_lines_words, doing_words, left_words, mode_words, state_words, unit_of_addresses_words, card_words};
 
 use crate::text::{Text, put, put_with_number, words_if};
@@ -184,23 +187,46 @@ pub fn put_card(text: &mut Text, fields: &Fields) -> Result<(), AllocError>
 }
 
 /// Adds the names of the flags that are set.
-fn put_flags(text: &mut Text, shape: Shape, names: &[&str]) -> Result<(), AllocError> {
-    let mut sign = " [";
-    for (place, name) in names.iter().enumerate() {
-        if shape.flag(place) {
-            put(text, sign)?;
-            put(text, name)?;
-            sign = " ";
-        }
+fn put_flags(text: &mut Text, shape: Shape, names: &[&str]) -> Result<(), AllocError>
+    ensures { OnOk result (text.new.items ≡ text.old.items ++ flags_words (texts names.now) shape) }
+{
+    let mut is_open = false;
+    for place in 0..names.len() {
+        put_flag(text, is_open, shape, place, names[place])?;
+        let now = shape.flag(place);
+        is_open |= now;
     }
-    if sign == " " {
-        put(text, "]")?;
+    put(text, words_if(is_open, "]"))
+}
+
+/// Adds the name of the flag in a place, if it is set, behind others that are or behind none.
+fn put_flag(
+    text: &mut Text,
+    is_open: bool,
+    shape: Shape,
+    place: usize,
+    name: &str,
+) -> Result<(), AllocError>
+    ensures { OnOk result (text.new.items ≡ text.old.items ++ flag_words is_open shape place name.now) }
+{
+    if shape.flag(place) {
+        put(text, sign_of(is_open))?;
+        return put(text, name);
     }
     Ok(())
 }
 
+/// The bracket before the first of the flags that are set, or a space before another.
+fn sign_of(is_open: bool) -> &'static str
+    ensures { result.now ≡ sign_words is_open }
+{
+    if is_open { " " } else { " [" }
+}
+
 /// Adds a shape, with the names of the script's flags.
-pub fn put_shape(text: &mut Text, shape: Shape, names: &[&str]) -> Result<(), AllocError> {
+pub fn put_shape(text: &mut Text, shape: Shape, names: &[&str]) -> Result<(), AllocError>
+    ensures { OnOk result (text.new.items ≡ text.old.items ++ shape_words (texts names.now) shape) }
+{
     let Some(fields) = shape.decode() else {
         return put(text, "no card");
     };
@@ -221,12 +247,15 @@ fn line_of(shape: Shape) -> Option<u64> {
 }
 
 /// Adds a shape behind another one: what varies, where both stand on one line, and else a line of its own.
+#[tactic(auto, using(crate::proofs::BeginsLaws::begins_itself, crate::proofs::BeginsLaws::begins_by, crate::proofs::BeginsLaws::begins_then))]
 fn put_behind(
     text: &mut Text,
     last: Option<Shape>,
     shape: Shape,
     names: &[&str],
-) -> Result<(), AllocError> {
+) -> Result<(), AllocError>
+    ensures { OnOk result (BeginsWith text.old.items text.new.items) }
+{
     match (last, shape.decode()) {
         (Some(last), Some(fields)) if line_of(last) == line_of(shape) => {
             put(text, "; ")?;
@@ -245,12 +274,15 @@ fn put_behind(
 }
 
 /// Adds shapes, which rise: a line for each state, with the units, lengths and flags that are possible in it.
+#[tactic(auto, using(crate::proofs::BeginsLaws::begins_itself, crate::proofs::BeginsLaws::begins_by, crate::proofs::BeginsLaws::begins_then))]
 pub fn put_shapes(
     alloc: Global,
     text: &mut Text,
     shapes: &[Shape],
     names: &[&str],
-) -> Result<(), AllocError> {
+) -> Result<(), AllocError>
+    ensures { OnOk result (BeginsWith text.old.items text.new.items) }
+{
     let mut sorted = Vec::from_slice(alloc, shapes)?;
     sorted.sort_by_key(|shape| line_of(*shape))?;
     let mut last = None;

@@ -5,9 +5,10 @@ ghost use Rattle.sdv_graph.specs.Graph.{declared_names, seen_action, texts};
 ghost use Rattle.sdv_telling.specs.Statements.{address_if_any, address_words, aim_words, atom_words, change_words, command_words};
 ghost use Rattle.sdv_telling.specs.Statements.{condition_words, count_words, let_words, more_words, name_at, phase_words, position_words};
 ghost use Rattle.sdv_telling.specs.Statements.{set_words, setting_words, statement_words, unit_words};
+ghost use Rattle.sdv_telling.specs.Seen.{block_words, cut_word, is_known, ready_words, seen_words, status_words};
 
 use crate::shapes::numbered_state_word;
-use crate::text::{Text, put, put_all, put_number, put_numbered, words_if};
+use crate::text::{Text, put, put_number, put_numbered, words_if};
 use sdv_card::{Aim, Ask, Seen};
 use sdv_graph::{
     Action, Address, Atom, Change, Condition, Let, Names, Phase, Position, ScriptCommand, Unit,
@@ -234,15 +235,29 @@ pub fn put_statement(
     }
 }
 
+/// It is known to be so.
+fn is_known(shown: Option<bool>) -> bool
+    ensures { result ≡ is_known shown }
+{
+    match shown {
+        Some(holds) => holds,
+        None => false,
+    }
+}
+
 /// How a data phase or a wait is said not to have ended well.
-fn cut_word(action: &Action<'_>) -> &'static str {
+fn cut_word(action: &Action<'_>) -> &'static str
+    ensures { result.now ≡ cut_word (seen_action action.now) }
+{
     match action {
         Action::Phase(Phase::Wait, _, _) => "late",
         _ => "cut",
     }
 }
 
-fn put_ocr(text: &mut Text, ready: bool, block: Option<bool>) -> Result<(), AllocError> {
+fn put_ocr(text: &mut Text, ready: bool, block: Option<bool>) -> Result<(), AllocError>
+    ensures { OnOk result (text.new.items ≡ text.old.items ++ (ready_words ready ++ block_words block)) }
+{
     let answer = if ready {
         "answer, ready"
     } else {
@@ -253,7 +268,8 @@ fn put_ocr(text: &mut Text, ready: bool, block: Option<bool>) -> Result<(), Allo
         Some(false) => ", byte addresses",
         None => "",
     };
-    put_all(text, &[answer, unit])
+    put(text, answer)?;
+    put(text, unit)
 }
 
 fn put_status(
@@ -262,19 +278,20 @@ fn put_status(
     doubt: bool,
     app: bool,
     switch: bool,
-) -> Result<(), AllocError> {
-    let words = [
-        "status ",
-        numbered_state_word(state),
-        words_if(app, ", application command next"),
-        words_if(doubt, ", error"),
-        words_if(switch, ", switch error"),
-    ];
-    put_all(text, &words)
+) -> Result<(), AllocError>
+    ensures { OnOk result (text.new.items ≡ text.old.items ++ status_words state doubt app switch) }
+{
+    put(text, "status ")?;
+    put(text, numbered_state_word(state))?;
+    put(text, words_if(app, ", application command next"))?;
+    put(text, words_if(doubt, ", error"))?;
+    put(text, words_if(switch, ", switch error"))
 }
 
 /// Adds what was seen of the event of a statement.
-pub fn put_seen(text: &mut Text, action: &Action<'_>, seen: Seen) -> Result<(), AllocError> {
+pub fn put_seen(text: &mut Text, action: &Action<'_>, seen: Seen) -> Result<(), AllocError>
+    ensures { OnOk result (text.new.items ≡ text.old.items ++ seen_words (seen_action action.now) seen) }
+{
     match seen {
         Seen::Sent => put(text, "-"),
         Seen::TimeOut => put(text, "timeout"),
@@ -285,7 +302,7 @@ pub fn put_seen(text: &mut Text, action: &Action<'_>, seen: Seen) -> Result<(), 
             doubt,
             app,
             switch,
-        } => put_status(text, state, doubt, app == Some(true), switch == Some(true)),
+        } => put_status(text, state, doubt, is_known(app), is_known(switch)),
         Seen::Ok => put(text, "ok"),
         Seen::NotOk => put(text, cut_word(action)),
     }

@@ -1,7 +1,9 @@
 //! Texts that are put together piece by piece.
 
-ghost use Rattle.std.specs.Prelude.{◌≡◌, ◌++◌, OnOk, decimal};
+ghost use Rattle.std.specs.Prelude.{◌≡◌, ◌++◌, ◌+◌, ◌-◌, OnOk, decimal, flat_map, length, replicate};
 ghost use Rattle.sdv_telling.specs.Cards.{words_if};
+ghost use Rattle.sdv_telling.specs.Known.{counted_words};
+ghost use Rattle.sdv_telling.specs.Columns.{padding};
 
 use itoa::Buffer;
 use std::alloc::AllocError;
@@ -17,7 +19,9 @@ pub fn put(text: &mut Text, words: &str) -> Result<(), AllocError>
 }
 
 /// Adds words, piece by piece.
-pub fn put_all(text: &mut Text, pieces: &[&str]) -> Result<(), AllocError> {
+pub fn put_all(text: &mut Text, pieces: &[&str]) -> Result<(), AllocError>
+    ensures { OnOk result (text.new.items ≡ text.old.items ++ flat_map (λ words. words.now) pieces.now) }
+{
     for words in pieces {
         put(text, words)?;
     }
@@ -29,6 +33,15 @@ pub fn words_if(holds: bool, words: &str) -> &str
     ensures { result.now ≡ words_if holds words.now }
 {
     if holds { words } else { "" }
+}
+
+/// Adds words between others.
+pub fn put_around(text: &mut Text, before: &str, words: &str, after: &str) -> Result<(), AllocError>
+    ensures { OnOk result (text.new.items ≡ text.old.items ++ (before.now ++ (words.now ++ after.now))) }
+{
+    put(text, before)?;
+    put(text, words)?;
+    put(text, after)
 }
 
 /// Adds a number, in decimal digits.
@@ -62,16 +75,26 @@ pub fn put_numbered(
 }
 
 /// Adds a number of things, by the words for one and for more.
-pub fn put_count(text: &mut Text, number: u64, one: &str, more: &str) -> Result<(), AllocError> {
+pub fn put_count(text: &mut Text, number: u64, one: &str, more: &str) -> Result<(), AllocError>
+    ensures { OnOk result (text.new.items ≡ text.old.items ++ counted_words number one.now more.now) }
+{
     put_numbered(text, "", number, " ")?;
     put(text, if number == 1 { one } else { more })
 }
 
 /// Adds spaces until the text has so many bytes from a place on, and one in any case.
-pub fn pad(text: &mut Text, from: usize, width: usize) -> Result<(), AllocError> {
+pub fn pad(text: &mut Text, from: usize, width: usize) -> Result<(), AllocError>
+    ensures { OnOk result (text.new.items ≡ text.old.items ++ padding (length text.old.items + 1 - from) width) }
+{
     put(text, " ")?;
     let len = text.len().saturating_sub(from);
-    for _ in len..width {
+    put_spaces(text, width.saturating_sub(len))
+}
+
+fn put_spaces(text: &mut Text, count: usize) -> Result<(), AllocError>
+    ensures { OnOk result (text.new.items ≡ text.old.items ++ replicate count 32) }
+{
+    for _ in 0..count {
         put(text, " ")?;
     }
     Ok(())

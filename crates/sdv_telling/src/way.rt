@@ -1,6 +1,7 @@
 //! A way in words: the events by which it leads, and the shapes after them.
 
-ghost use Rattle.std.specs.Prelude.{◌<◌, length};
+ghost use Rattle.std.specs.Prelude.{◌<◌, length, OnOk};
+ghost use Rattle.sdv_telling.specs.Begins.{BeginsWith};
 
 use crate::cases::put_taken;
 use crate::shapes::put_shape;
@@ -25,8 +26,10 @@ fn tests_at(graph: &Graph<'_>, visit: &Visit) -> bool {
 }
 
 /// Adds the line of a point and its statement, as a step of a way.
+#[tactic(auto, using(crate::proofs::BeginsLaws::begins_itself, crate::proofs::BeginsLaws::begins_by, crate::proofs::BeginsLaws::begins_then))]
 fn put_step(text: &mut Text, graph: &Graph<'_>, point: usize) -> Result<(), AllocError>
     requires { point < length graph.now.points }
+    ensures { OnOk result (BeginsWith text.old.items text.new.items) }
 {
     let start = text.len();
     put_numbered(text, "    line ", u64::from(graph.line(point)), "")?;
@@ -35,6 +38,7 @@ fn put_step(text: &mut Text, graph: &Graph<'_>, point: usize) -> Result<(), Allo
 }
 
 /// Adds that a loop has no turn left, where its else block comes next.
+#[tactic(auto, using(crate::proofs::BeginsLaws::begins_itself, crate::proofs::BeginsLaws::begins_by, crate::proofs::BeginsLaws::begins_then))]
 fn put_last_turn(
     text: &mut Text,
     graph: &Graph<'_>,
@@ -42,6 +46,7 @@ fn put_last_turn(
     after: &Visit,
 ) -> Result<(), AllocError>
     requires { before.now.point < length graph.now.points }
+    ensures { OnOk result (BeginsWith text.old.items text.new.items) }
 {
     match &graph.point(before.point).action {
         Action::Loop(_, body, other) if after.point == other.to && after.point != body.to => {
@@ -53,12 +58,15 @@ fn put_last_turn(
 }
 
 /// Adds the event of a visit, what was seen of it, and the shape after it.
+#[tactic(auto, using(crate::proofs::BeginsLaws::begins_itself, crate::proofs::BeginsLaws::begins_by, crate::proofs::BeginsLaws::begins_then))]
 fn put_event(
     text: &mut Text,
     graph: &Graph<'_>,
     before: &Visit,
     after: &Visit,
-) -> Result<(), AllocError> {
+) -> Result<(), AllocError>
+    ensures { OnOk result (BeginsWith text.old.items text.new.items) }
+{
     if graph.len() <= before.point {
         return Ok(());
     }
@@ -80,7 +88,10 @@ fn put_event(
 }
 
 /// Adds the events of a way.
-pub fn put_way(text: &mut Text, graph: &Graph<'_>, way: &[Visit]) -> Result<(), AllocError> {
+#[tactic(auto, using(crate::proofs::BeginsLaws::begins_itself, crate::proofs::BeginsLaws::begins_by, crate::proofs::BeginsLaws::begins_then))]
+pub fn put_way(text: &mut Text, graph: &Graph<'_>, way: &[Visit]) -> Result<(), AllocError>
+    ensures { OnOk result (BeginsWith text.old.items text.new.items) }
+{
     let Some(first) = way.first() else {
         return Ok(());
     };

@@ -1,6 +1,6 @@
 use Rattle.sdv_graph.specs.Graph.{seen_point}
 use Rattle.sdv_drawing.specs.Drawing.{edges_at, look_of}
-use Rattle.sdv_drawing.proofs.NumberedLaws.{line_added}
+use Rattle.sdv_telling.proofs.NumberedLaws.{line_added}
 use Rattle.sdv_drawing.proofs.edges.put_edges.Goals as goal
 
 pub loop-from-preserved : goal.loop-from-preserved

@@ -1,5 +1,6 @@
 use Rattle.std.proofs.Common.{◌≡◌, ◌++◌, drop}
-use Rattle.sdv_drawing.specs.Drawing.{edges_at, look_of, numbered}
+use Rattle.sdv_telling.specs.Numbered.{numbered}
+use Rattle.sdv_drawing.specs.Drawing.{edges_at, look_of}
 use Rattle.sdv_drawing.proofs.edges.put_edges.Given as goal
 
 -- what is written, and what is still to be, are all

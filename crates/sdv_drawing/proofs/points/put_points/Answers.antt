@@ -1,5 +1,5 @@
 use Rattle.sdv_drawing.specs.Drawing.{look_of, point_line}
-use Rattle.sdv_drawing.proofs.NumberedLaws.{item_there, line_added}
+use Rattle.sdv_telling.proofs.NumberedLaws.{item_there, line_added}
 use Rattle.sdv_drawing.proofs.points.put_points.Goals as goal
 
 pub loop-point-preserved : goal.loop-point-preserved

@@ -1,5 +1,6 @@
 use Rattle.std.proofs.Common.{◌≡◌, ◌++◌, drop}
-use Rattle.sdv_drawing.specs.Drawing.{look_of, numbered, point_line}
+use Rattle.sdv_telling.specs.Numbered.{numbered}
+use Rattle.sdv_drawing.specs.Drawing.{look_of, point_line}
 use Rattle.sdv_drawing.proofs.points.put_points.Given as goal
 
 -- what is written, and what is still to be, are all

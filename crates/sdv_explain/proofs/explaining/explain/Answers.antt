@@ -8,6 +8,7 @@ returns-clause-explained c = record {
   same = c.in_ok-script.ensures.text;
   is_script = c.in_ok-script.ensures.script;
   front = c.in_ok-explanation.ensures.front;
+  quiet = c.in_ok-explanation.ensures.quiet;
   certified = c.in_ok-explanation.ensures.certified;
   refused = c.in_ok-explanation.ensures.refused;
 }
