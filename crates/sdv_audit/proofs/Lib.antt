@@ -6,3 +6,4 @@ pub mod Living
 pub mod Bounded
 pub mod Courses
 pub mod FindingLaws
+pub mod RoomLaws

@@ -1,28 +1,19 @@
 -- Each card that may stand after a line has one of the shapes that may follow.
-use Rattle.std.proofs.Common.{◌≡◌, ℕ, ◌==◌, refl, ap, subst, sym, ◌∙◌, Bool, true, false, not, List, [], ◌∷◌, Option, Some, None, eqb-true, eq-eqb}
+use Rattle.std.proofs.Common.{◌≡◌, ◌==◌, refl, ap, subst, sym, ◌∙◌, Bool, true, false, not, List, [], ◌∷◌, Option, Some, None, eqb-true}
 use Rattle.sdv_registers.specs.declared.kind.Kind.{Kind}
-use Rattle.sdv_frames.specs.declared.reply.Expect.{Expect}
-use Rattle.sdv_frames.specs.declared.reply.Reply.TheVariants.{R1, R2, R3, R6, R7}
 use Rattle.sdv_card.specs.declared.state.Width.{Width}
-use Rattle.sdv_card.specs.declared.state.State.TheVariants.{Stby}
 use Rattle.sdv_card.specs.declared.shape.Shape.{Shape}
 use Rattle.sdv_card.specs.declared.fields.Fields.{Fields}
 use Rattle.sdv_card.specs.declared.event.Event.{Event}
 use Rattle.sdv_card.specs.declared.event.Outcome.{Outcome}
-use Rattle.sdv_card.specs.declared.event.Seen.{Seen}
-use Rattle.sdv_card.specs.declared.event.Seen.TheVariants.{TimeOut as SeenTimeOut}
 use Rattle.sdv_card.specs.declared.answer.Answer.{Answer}
-use Rattle.sdv_card.specs.declared.answer.Answer.TheVariants.{Sent, TimeOut, Reply as Replied, Damaged}
 use Rattle.sdv_card.specs.declared.command.Order.{Order}
-use Rattle.sdv_card.specs.declared.command.Order.TheVariants.{SendRelativeAddress}
 use Rattle.sdv_card.specs.Lists.{May}
-use Rattle.sdv_card.specs.States.{state_number}
 use Rattle.sdv_card.specs.Modes.{has_width}
 use Rattle.sdv_card.specs.CommandTable.{order_of, expect_of}
 use Rattle.sdv_card.specs.ScriptEvent.{ScriptEvent, SendCommand, ReceiveBlocks, ReceiveRegister, GiveBlocks, AwaitReady, Return, Answered, BlocksIn as InBlocks, RegisterIn as InRegister, BlocksOut as OutBlocks, Waited, event_of}
 use Rattle.sdv_card.specs.Card.{Card}
 use Rattle.sdv_card.specs.Host.{Host, host_after, host_after_order, rca_known, csd_known, announced_by, register_length_by}
-use Rattle.sdv_card.specs.Code.{fields_of}
 use Rattle.sdv_card.specs.Shapes.{view, pair_code, IsPair}
 use Rattle.sdv_card.specs.Outcomes.{outcomes_code, phase_seen, wait_seen}
 use Rattle.sdv_card.specs.LegalShapes.{legal_code}
@@ -32,10 +23,10 @@ use Rattle.sdv_card.specs.Profile.{host_at_start}
 use Rattle.sdv_card.specs.Laws.{StartHolds}
 use Rattle.sdv_card.proofs.AnswerKinds.{of_kind}
 use Rattle.sdv_card.proofs.Digits.{digits_law}
-use Rattle.sdv_card.proofs.Members.{May-map, and_left, and_right, same_state}
+use Rattle.sdv_card.proofs.Members.{May-map}
 use Rattle.sdv_card.proofs.ShapeLines.{pair_with_lines}
 use Rattle.sdv_card.proofs.TableLaws.{legal_is_exact, steps_are_outcomes, steps_are_expected, steps_keep_pairs, starts_hold}
-use Rattle.sdv_outcomes.specs.OutcomeSteps.{IsImpossibleMatch, step_outcome}
+use Rattle.sdv_outcomes.specs.OutcomeSteps.{step_outcome}
 use Rattle.sdv_outcomes.specs.Histories.{is_impossible_match}
 use Rattle.sdv_outcomes.proofs.RunHistories.{match_is}
 use Rattle.sdv_outcomes.proofs.ImpossibleMatches.{impossible_matches_are_no_steps}

@@ -12,9 +12,9 @@ use Rattle.sdv_audit.specs.declared.turn.Turn.{Turn}
 use Rattle.sdv_audit.specs.declared.turn.Turn.TheVariants.{Does}
 use Rattle.sdv_audit.specs.declared.audit.Audit.{Audit}
 use Rattle.sdv_audit.specs.Turns.{turn_of}
-use Rattle.sdv_audit.specs.Lived.{Lived}
+use Rattle.sdv_audit.specs.Lived.{Lived, IsReckless}
 use Rattle.sdv_audit.specs.Beyond.{is_beyond}
-use Rattle.sdv_audit.specs.Standing.{known_of, Covers}
+use Rattle.sdv_audit.specs.Standing.{known_of, Covers, NoneAnswers}
 
 abbrev pub is_empty : List Shape → Bool
 is_empty [] = true
@@ -26,6 +26,19 @@ pub record Stands (audit : Audit) (past : List Told) : Type 0 where
   pub covers : Covers audit.kind past audit.shapes.items
   -- as long as each address lay on some card, each shape is that of a real card
   pub lived : audit.bounded ≡ true → (s : Shape) → May audit.shapes.items s → Lived audit.kind past s
+
+-- where the audit stood after some lines, so does the new one after this line behind them
+abbrev pub StandsOn : (old new : Audit) → Told → Type 0
+StandsOn old new told = (past : List Told) → Stands old past → Stands new (told ∷ past)
+
+-- after any such lines and this one, no card answers so
+abbrev pub NoneAnswersThere : Audit → Told → Type 0
+NoneAnswersThere audit told = (past : List Told) → Stands audit past → NoneAnswers audit.kind (told ∷ past)
+
+-- after any such lines, if each address lay on some card: the turn is reckless beside a real card of this shape
+abbrev pub IsRecklessThere : Audit → Turn → Shape → Type 0
+IsRecklessThere audit turn s =
+    (past : List Told) → Stands audit past → audit.bounded ≡ true → IsReckless audit.kind past turn s
 
 -- the event that a turn makes is legal at each shape
 abbrev pub AllLegal : Audit → Turn → Type 0

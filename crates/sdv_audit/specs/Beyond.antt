@@ -64,4 +64,5 @@ Sends line argument = ⊥
 abbrev pub NoneInBounds : Kind → List Told → Told → Type 0
 NoneInBounds k past told =
     (c : Card) (h : Host) (ask : Ask) (position argument : ℕ) → Stood k past c h →
-    turn_behind k past told ≡ Does (Send ask) → Sends told.line argument → InBounds (SendCommand ask position argument) c → ⊥
+    turn_behind k past told ≡ Does (Send ask) → Sends told.line argument
+    → InBounds (SendCommand ask position argument) c → ⊥

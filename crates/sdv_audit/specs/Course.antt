@@ -61,7 +61,8 @@ same_flag (Some a) (Some b) = same_bit a b
 same_flag a b = false
 
 abbrev pub same_parts : SeenParts → SeenParts → Bool
-same_parts a b = (a.state == b.state) && (same_bit a.bit b.bit && (same_flag a.first b.first && same_flag a.second b.second))
+same_parts a b =
+    (a.state == b.state) && (same_bit a.bit b.bit && (same_flag a.first b.first && same_flag a.second b.second))
 
 abbrev pub same_seen : Seen → Seen → Bool
 same_seen a b = (seen_sort a == seen_sort b) && same_parts (seen_parts a) (seen_parts b)
@@ -184,6 +185,20 @@ SameMembers xs ys = (s : Shape) → May xs s ↔ May ys s
 pub record IsAt (audit : Audit) (c : Course) : Type 0 where
   pub known : audit.known ≡ c.known
   pub shapes : SameMembers audit.shapes.items c.shapes
+
+-- one line further, without and with a new beginning
+abbrev pub GoesOn : (old new : Audit) → Told → Type 0
+GoesOn old new told = (c : Course) → IsAt old c → IsAt new (goes_on old.kind told c)
+
+abbrev pub GoesAnew : (old new : Audit) → Told → Type 0
+GoesAnew old new told = (c : Course) → IsAt old c → IsAt new (goes_anew old.kind told c)
+
+-- what is found is that of any course where the audit stands
+abbrev pub FindsOn : Audit → Told → Findings → Type 0
+FindsOn audit told found = (c : Course) → IsAt audit c → found ≡ found_on audit.kind told c
+
+abbrev pub Finds : Audit → Told → Findings → Type 0
+Finds audit told found = (c : Course) → IsAt audit c → found ≡ found_at audit.kind told c
 
 -- WHAT A FINDING MEANS, after any lines
 

@@ -9,3 +9,4 @@ pub mod Audited
 pub mod Lived
 pub mod Beyond
 pub mod Course
+pub mod Room

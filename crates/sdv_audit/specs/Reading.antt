@@ -1,5 +1,5 @@
 -- Reading a line of a trace from left to right, or the first fault: each part, and what follows it.
-use Rattle.std.specs.Prelude.{ℕ, List, [], ◌∷◌, length, take, drop, Bool, true, false, ◌&&◌, nat_lt, nat_le, codes, Option, Some, None, Result, Ok, Err, if◌then◌else◌}
+use Rattle.std.specs.Prelude.{ℕ, List, length, take, drop, ◌&&◌, nat_lt, nat_le, codes, Option, Some, None, Result, Ok, Err, if◌then◌else◌}
 use Rattle.std.specs.Int.{w32, from_be_bytes}
 use Rattle.hex.specs.Hex.{decode_sized}
 use Rattle.hex.specs.declared.error.FromHexError.{FromHexError}
@@ -43,7 +43,8 @@ map_some f (Some x) = Some (f x)
 
 abbrev pub figure : (digits rest : List ℕ) → Read ℕ
 figure digits rest =
-    if nat_lt 0 (length digits) && nat_le (number_after 0 digits) 65535 then Some (number_after 0 digits, rest) else None
+    if nat_lt 0 (length digits) && nat_le (number_after 0 digits) 65535
+    then Some (number_after 0 digits, rest) else None
 
 unfoldable pub read_number : List ℕ → Read ℕ
 read_number bs = figure (take (run is_digit bs) bs) (drop (run is_digit bs) bs)

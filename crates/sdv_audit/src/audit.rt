@@ -1,16 +1,16 @@
 //! Audits: line by line, the shapes at which a card may stand.
 
-ghost use Rattle.std.specs.Prelude.{◌≡◌, ◌↔◌, IsTrue, IfOk, OnOk, OnErr, IfSome, MatchOption, List, [], ◌∷◌, true, false, None};
+ghost use Rattle.std.specs.Prelude.{◌≡◌, ◌↔◌, IsTrue, IfOk, IfErr, OnOk, OnErr, IfSome, MatchOption, List, [], ◌∷◌, true, false, None};
 ghost use Rattle.sdv_card.specs.declared.shape.Shape.{Shape as CardShape};
 ghost use Rattle.sdv_card.specs.Lists.{May};
 ghost use Rattle.sdv_audit.specs.declared.turn.Told.{Told as TraceTold};
 ghost use Rattle.sdv_audit.specs.Turns.{turn_of, known_after};
 ghost use Rattle.sdv_audit.specs.Carried.{has_address, Follows};
-ghost use Rattle.sdv_audit.specs.Lived.{IsReckless};
 ghost use Rattle.sdv_audit.specs.Beyond.{NoneInBounds};
 ghost use Rattle.sdv_audit.specs.Standing.{start_set, NoneAnswers};
-ghost use Rattle.sdv_audit.specs.Course.{Course, IsAt, SameMembers, begun, least_illegal, goes_on, goes_anew, course_after, found_on, found_at};
-ghost use Rattle.sdv_audit.specs.Audited.{is_empty, Stands, AllBeyond, AllLegal, IsIllegalAt, is_unanswered, is_reset, restarts, lines_told, Behind};
+ghost use Rattle.sdv_audit.specs.Course.{Course, IsAt, SameMembers, GoesOn, GoesAnew, FindsOn, Finds, begun, least_illegal, goes_on, goes_anew, course_after};
+ghost use Rattle.sdv_audit.specs.Room.{AreMany};
+ghost use Rattle.sdv_audit.specs.Audited.{is_empty, Stands, StandsOn, NoneAnswersThere, IsRecklessThere, AllBeyond, AllLegal, IsIllegalAt, is_unanswered, is_reset, restarts, lines_told, Behind};
 
 use crate::bounds::{all_beyond, all_within};
 use crate::fault::AuditFault;
@@ -62,6 +62,7 @@ impl Audit {
         ensures kind { IfOk result (λ audit. audit.kind ≡ kind) }
         ensures stands { IfOk result (λ audit. Stands audit []) }
         ensures begun { IfOk result (λ audit. IsAt audit begun) }
+        ensures memory { IfErr result (λ fault. fault ≡ AuditFault.Memory) }
     {
         Ok(Audit {
             alloc,
@@ -95,8 +96,10 @@ impl Audit {
 
     /// The shapes after a line.
     fn after(&self, turn: &Turn, line: &TraceLine) -> Result<Vec<Shape>, AuditFault>
-        ensures { IfOk result (λ all. (s : CardShape) → May all.items s ↔
+        ensures members { IfOk result (λ all. (s : CardShape) → May all.items s ↔
             Follows self.now.kind turn.now line.now (has_address self.now.known) self.now.shapes.items s) }
+        ensures room { IfErr result (λ fault. fault ≡ AuditFault.Room → AreMany
+            (Follows self.now.kind turn.now line.now (has_address self.now.known) self.now.shapes.items)) }
     {
         match turn {
             Turn::Does(event) => {
@@ -141,23 +144,23 @@ impl Audit {
     fn advance(&mut self, told: &Told) -> Result<Findings, AuditFault>
         ensures turn { IfOk result (λ found. found.turn ≡ turn_of self.old.kind self.old.known told.now) }
         ensures kind { self.new.kind ≡ self.old.kind }
-        ensures stands { OnOk result ((past : List TraceTold) → Stands self.old past → Stands self.new (told.now ∷ past)) }
+        ensures stands { OnOk result (StandsOn self.old self.new told.now) }
         ensures reckless { IfOk result (λ found.
             MatchOption found.reckless (AllLegal self.old found.turn) (IsIllegalAt self.old found.turn)) }
-        ensures real { IfOk result (λ found. IfSome found.reckless (λ s. (past : List TraceTold) →
-            Stands self.old past → self.old.bounded ≡ true → IsReckless self.old.kind past found.turn s)) }
+        ensures real { IfOk result (λ found. IfSome found.reckless (IsRecklessThere self.old found.turn)) }
         ensures exactly { IfOk result (λ found.
             found.unanswered ≡ is_unanswered found.reckless self.old.shapes.items self.new.shapes.items) }
-        ensures unanswered { IfOk result (λ found. found.unanswered ≡ true → (past : List TraceTold) → Stands self.old past
-            → NoneAnswers self.old.kind (told.now ∷ past)) }
+        ensures unanswered { IfOk result (λ found. found.unanswered ≡ true → NoneAnswersThere self.old told.now) }
         ensures passed { IfOk result (λ found. IsTrue found.beyond ↔
             ((is_empty self.old.shapes.items ≡ false) × AllBeyond self.old found.turn told.now.line)) }
         ensures beyond { IfOk result (λ found. found.beyond ≡ true → (past : List TraceTold) → Stands self.old past →
             NoneInBounds self.old.kind past told.now) }
         ensures going_on { IfOk result (λ found. found.restarted ≡ false) }
-        ensures found { IfOk result (λ found. (c : Course) → IsAt self.old c → found ≡ found_on self.old.kind told.now c) }
-        ensures course { OnOk result ((c : Course) → IsAt self.old c → IsAt self.new (goes_on self.old.kind told.now c)) }
+        ensures found { IfOk result (FindsOn self.old told.now) }
+        ensures course { OnOk result (GoesOn self.old self.new told.now) }
         ensures same { OnErr result (self.new ≡ self.old) }
+        ensures room { IfErr result (λ fault. fault ≡ AuditFault.Room → (c : Course) → IsAt self.old c →
+            AreMany (May (goes_on self.old.kind told.now c).shapes)) }
     {
         let turn = told.turn(self.kind, &self.known);
         let reckless = self.reckless(&turn);
@@ -193,7 +196,9 @@ impl Audit {
         ensures restarted { IfOk result (λ x. x.1.restarted ≡ true) }
         ensures legal { IfOk result (λ x. x.1.reckless ≡ None) }
         ensures bounds { IfOk result (λ x. x.1.beyond ≡ false) }
-        ensures course { IfOk result (λ x. (c : Course) → IsAt self.now c → IsAt x.0 (goes_anew self.now.kind told.now c)) }
+        ensures course { IfOk result (λ x. GoesAnew self.now x.0 told.now) }
+        ensures room { IfErr result (λ fault. fault ≡ AuditFault.Room → (c : Course) → IsAt self.now c →
+            AreMany (May (goes_anew self.now.kind told.now c).shapes)) }
     {
         let mut audit = Audit::new(self.alloc, self.kind)?;
         let lines = Told {
@@ -230,8 +235,8 @@ impl Audit {
         ensures turn { IfOk result (λ found. found.turn ≡ turn_of self.old.kind self.old.known told.now) }
         ensures reckless { IfOk result (λ found. found.restarted ≡ false →
             MatchOption found.reckless (AllLegal self.old found.turn) (IsIllegalAt self.old found.turn)) }
-        ensures real { IfOk result (λ found. found.restarted ≡ false → IfSome found.reckless (λ s.
-            (past : List TraceTold) → Stands self.old past → self.old.bounded ≡ true → IsReckless self.old.kind past found.turn s)) }
+        ensures real { IfOk result (λ found. found.restarted ≡ false →
+            IfSome found.reckless (IsRecklessThere self.old found.turn)) }
         ensures exactly { IfOk result (λ found. found.restarted ≡ false →
             found.unanswered ≡ is_unanswered found.reckless self.old.shapes.items self.new.shapes.items) }
         ensures unanswered { IfOk result (λ found. found.unanswered ≡ true → (past : List TraceTold) →
@@ -242,10 +247,12 @@ impl Audit {
             Stands self.old past → NoneInBounds self.old.kind past told.now) }
         ensures anew { IfOk result (λ found. found.restarted ≡ true → (found.reckless ≡ None) × (found.beyond ≡ false)
             × (found.unanswered ≡ is_empty self.new.shapes.items)) }
-        ensures found { IfOk result (λ found. (c : Course) → IsAt self.old c → found ≡ found_at self.old.kind told.now c) }
+        ensures found { IfOk result (Finds self.old told.now) }
         ensures course { OnOk result ((c : Course) → IsAt self.old c →
             IsAt self.new (course_after self.old.kind told.now c)) }
         ensures same { OnErr result (self.new ≡ self.old) }
+        ensures room { IfErr result (λ fault. fault ≡ AuditFault.Room → (c : Course) → IsAt self.old c →
+            AreMany (May (course_after self.old.kind told.now c).shapes)) }
     {
         if !self.restarts(told) {
             return self.advance(told);

@@ -1,5 +1,5 @@
 -- The notes on a line are those of the course at which the audit stands.
-use Rattle.std.proofs.Common.{◌≡◌, ℕ, Bool, true, false, List, [], ◌∷◌, ◌++◌, refl, sym, ap, ◌∙◌, inl, inr, if◌then◌else◌, append_assoc}
+use Rattle.std.proofs.Common.{◌≡◌, ℕ, Bool, true, false, List, [], ◌∷◌, ◌++◌, refl, sym, ap, subst, ◌∙◌, inl, inr, if◌then◌else◌, append_assoc}
 use Rattle.std.specs.Prelude.{codes}
 use Rattle.sdv_registers.specs.declared.kind.Kind.{Kind}
 use Rattle.sdv_card.specs.declared.shape.Shape.{Shape}
@@ -10,7 +10,12 @@ use Rattle.sdv_audit.specs.declared.audit.Findings.{Findings}
 use Rattle.sdv_audit.specs.declared.line.TraceLine.{TraceLine}
 use Rattle.sdv_audit.specs.declared.known.HostKnown.{HostKnown}
 use Rattle.sdv_audit.specs.declared.turn.Told.{Told}
-use Rattle.sdv_audit.specs.Course.{IsAt, SameMembers, course_after, found_at}
+use Rattle.sdv_audit.specs.Course.{Course, IsAt, SameMembers, course_after, found_at}
+use Rattle.sdv_audit.specs.Room.{AreMany}
+use Rattle.sdv_audit.specs.declared.fault.AuditFault.{AuditFault}
+use Rattle.sdv_audit.specs.declared.fault.AuditFault.TheVariants as audit_faults
+use Rattle.sdv_audit_report.specs.declared.fault.NoteFault.TheVariants as note_faults
+use Rattle.sdv_audit_report.specs.Faults.{fault_of_audit}
 use Rattle.sdv_audit_report.specs.declared.style.Style.{Style}
 use Rattle.sdv_audit_report.specs.declared.report.Report.{Report}
 use Rattle.sdv_audit_report.specs.Words.{some_is, is_in, all_states, sign_words, states_words, standing_words}
@@ -130,3 +135,15 @@ notes_are k style n m line xs ys found v w csd_line e f g =
     ap (λ a. standing_note style a line xs ++ (notes_taken style a line found ++ notes_found style a line found k v.csd csd_line)) e
     ∙ (ap (λ a. standing_note style m line a ++ (notes_taken style m line found ++ notes_found style m line found k v.csd csd_line)) f
     ∙ ap (λ a. standing_note style m line ys ++ (notes_taken style m line found ++ notes_found style m line found k a.csd csd_line)) g)
+
+-- TOO MANY SHAPES follow a line
+
+room_is : (f : AuditFault) → fault_of_audit f ≡ note_faults.Room → f ≡ audit_faults.Room
+room_is audit_faults.Memory e = absurd (cc)
+room_is audit_faults.Room e = refl
+
+pub take_room : (f : AuditFault) (report : Report) (told : Told) →
+    (f ≡ audit_faults.Room → (c : Course) → IsAt report.audit c → AreMany (May (course_after report.audit.kind told c).shapes)) →
+    fault_of_audit f ≡ note_faults.Room → (p : Progress) → ReportAt report p → AreMany (May (progress_after report.kind p told).course.shapes)
+take_room f report told many e p at =
+    subst (λ v. AreMany (May (course_after v told p.course).shapes)) at.kind (many (room_is f e) p.course at.course)

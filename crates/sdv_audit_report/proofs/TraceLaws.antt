@@ -1,7 +1,7 @@
 -- Lines are judged one after another, each with the one behind it.
-use Rattle.std.proofs.Common.{◌≡◌, ℕ, List, [], ◌∷◌, ◌++◌, Option, Some, None, Result, Ok, Err, refl, sym, ap, subst, ◌∙◌, append_assoc}
+use Rattle.std.proofs.Common.{◌≡◌, ℕ, List, [], ◌∷◌, ◌++◌, Option, Some, None, Result, Ok, Err, inl, inr, refl, sym, ap, subst, ◌∙◌, append_assoc}
 use Rattle.std.proofs.lemmas.List.{append-nil}
-use Rattle.std.specs.Prelude.{OnOk, IfSome}
+use Rattle.std.specs.Prelude.{OnOk, IfErr, IfSome}
 use Rattle.std.specs.Io.KnownBytes.{Appends, Consumes}
 use Rattle.sdv_registers.specs.declared.kind.Kind.{Kind}
 use Rattle.sdv_text.proofs.WrittenLaws.{appends_more, appends_none}
@@ -19,7 +19,11 @@ use Rattle.sdv_audit_report.specs.declared.input.TextEnd.TheVariants as ends
 use Rattle.sdv_audit_report.specs.declared.input.TextFault.{TextFault}
 use Rattle.sdv_audit_report.specs.declared.trace.Pending.{Pending}
 use Rattle.sdv_audit_report.specs.Input.{line_feed, IsText, lines_of, ReadsText, AreRead, LinesRead, last_texts, TraceRead}
-use Rattle.sdv_audit_report.specs.Audited.{Written, Finished, StopsAt, StopsReading, EndsReport, Goes, Audits}
+use Rattle.sdv_audit_report.specs.Audited.{Written, Finished, StopsAt, StopsReading, EndsReport, Goes, Audits, NoRoom, StoppedByRoom, number_behind}
+use Rattle.sdv_audit_report.specs.Faults.{fault_of_note}
+use Rattle.sdv_audit_report.specs.declared.fault.NoteFault.TheVariants as note_faults
+use Rattle.sdv_card.specs.Lists.{May}
+use Rattle.sdv_audit.specs.Room.{AreMany}
 use Rattle.sdv_audit_report.proofs.InputLaws.{consumes_none, consumes_more}
 use Rattle.sdv_audit.specs.declared.fault.LineFault.{LineFault}
 use Rattle.sdv_audit.specs.declared.fault.LineFault.TheVariants as line_faults
@@ -200,10 +204,15 @@ reading_stops k style pending old mid new out now after text fault (Err (faults.
       stopped = record { lines = g.lines; read = g.lines_read; number_is = x.1; written_is = x.2 };
       long = subst (λ f. ReadsText mid new text (Err f)) x.0 t;
     }
-reading_stops k style pending old mid new out now after text fault (Err faults.Read) g t s = tt
+reading_stops k style pending old mid new out now after text fault (Err faults.Read) g t s = record {
+  left = mid;
+  number = number_behind k g.lines;
+  stopped = record { lines = g.lines; read = g.lines_read; number_is = refl; written_is = s g.lines g.written };
+}
 reading_stops k style pending old mid new out now after text fault (Err faults.Write) g t s = tt
 reading_stops k style pending old mid new out now after text fault (Err faults.Memory) g t s = tt
-reading_stops k style pending old mid new out now after text fault (Err faults.Room) g t s = tt
+reading_stops k style pending old mid new out now after text fault (Err faults.Room) g t s =
+    record { left = mid; lines = g.lines; read = inl g.lines_read; next = None; no_room = s g.lines g.written }
 
 pub line_stops : (k : Kind) (style : Style) (pending : Pending) (old mid new out now after : Option (List ℕ)) (text : List ℕ) (end : TextEnd) (fault : LineFault)
     (r : Result Tally TraceFault) → Goes k style pending old mid out now → ReadsText mid new text (Ok end) → read_line text ≡ Err fault →
@@ -222,17 +231,66 @@ line_stops k style pending old mid new out now after text end fault (Err (faults
       front = f.1;
     }
 line_stops k style pending old mid new out now after text end fault (Err (faults.Length number)) g t e s = absurd (s g.lines g.written)
-line_stops k style pending old mid new out now after text end fault (Err faults.Read) g t e s = tt
+line_stops k style pending old mid new out now after text end fault (Err faults.Read) g t e s = absurd (s g.lines g.written)
 line_stops k style pending old mid new out now after text end fault (Err faults.Write) g t e s = tt
 line_stops k style pending old mid new out now after text end fault (Err faults.Memory) g t e s = tt
-line_stops k style pending old mid new out now after text end fault (Err faults.Room) g t e s = tt
+line_stops k style pending old mid new out now after text end fault (Err faults.Room) g t e s =
+    record { left = mid; lines = g.lines; read = inl g.lines_read; next = None; no_room = s g.lines g.written }
 
 pub all_ends : (k : Kind) (style : Style) (old new out after : Option (List ℕ)) (lines : List TraceLine) (r : Result Tally TraceFault) →
     TraceRead old new lines → EndsReport k style lines out after r → Audits k style old new out after r
 all_ends k style old new out after lines (Ok tally) t e = record { lines = lines; read = t; written_is = e.0; tally_is = e.1 }
 all_ends k style old new out after lines (Err (faults.Line why number)) t e = absurd e
 all_ends k style old new out after lines (Err (faults.Length number)) t e = absurd e
-all_ends k style old new out after lines (Err faults.Read) t e = tt
+all_ends k style old new out after lines (Err faults.Read) t e = absurd e
 all_ends k style old new out after lines (Err faults.Write) t e = tt
 all_ends k style old new out after lines (Err faults.Memory) t e = tt
-all_ends k style old new out after lines (Err faults.Room) t e = tt
+all_ends k style old new out after lines (Err faults.Room) t e =
+    record { left = new; lines = lines; read = inr t; next = None; no_room = e }
+
+-- WHERE NOTES ARE NOT WRITTEN
+
+-- the last line was judged, and more shapes follow it than an audit keeps
+pub no_room : (report : Report) (held : TraceLine) (next : Option TraceLine) (k : Kind) (style : Style) (read : List TraceLine) (old now : Option (List ℕ)) →
+    Written report (Some held) k style read old now →
+    ((p : Progress) → ReportAt report p → AreMany (May (progress_after report.kind p (told_with held next)).course.shapes)) → NoRoom k style read next
+no_room report held next k style read old now w many = record {
+  progress = w.progress;
+  last = held;
+  text = w.text;
+  waits = w.pending;
+  many = subst (λ v. AreMany (May (progress_after v w.progress (told_with held next)).course.shapes)) w.kind (many w.progress w.at);
+}
+
+pub finish_room : (r : Result (Unit {0}) NoteFault) (report : Report) (held : TraceLine) (out : Option (List ℕ)) →
+    IfErr r (λ fault. fault ≡ note_faults.Room → (p : Progress) → ReportAt report p →
+    AreMany (May (progress_after report.kind p (told_with held None)).course.shapes)) →
+    IfErr r (λ fault. fault ≡ note_faults.Room → (k : Kind) (style : Style) (read : List TraceLine) (old : Option (List ℕ)) →
+    Written report (Some held) k style read old out → NoRoom k style read None)
+finish_room (Ok x) report held out many = tt
+finish_room (Err x) report held out many = λ e k style read old w. no_room report held None k style read old out w (many e)
+
+pub stops_at_note : (f : NoteFault) (k : Kind) (style : Style) (read : List TraceLine) (old now : Option (List ℕ)) (fault : LineFault) →
+    (f ≡ note_faults.Room → NoRoom k style read None) → StopsAt k style read old now fault (Err (fault_of_note f))
+stops_at_note note_faults.Write k style read old now fault room = tt
+stops_at_note note_faults.Memory k style read old now fault room = tt
+stops_at_note note_faults.Room k style read old now fault room = room refl
+
+pub stops_reading_note : (f : NoteFault) (k : Kind) (style : Style) (read : List TraceLine) (old now : Option (List ℕ)) (fault : TextFault) →
+    (f ≡ note_faults.Room → NoRoom k style read None) → StopsReading k style read old now fault (Err (fault_of_note f))
+stops_reading_note note_faults.Write k style read old now fault room = tt
+stops_reading_note note_faults.Memory k style read old now fault room = tt
+stops_reading_note note_faults.Room k style read old now fault room = room refl
+
+pub ends_note : (f : NoteFault) (k : Kind) (style : Style) (read : List TraceLine) (old now : Option (List ℕ)) →
+    (f ≡ note_faults.Room → NoRoom k style read None) → EndsReport k style read old now (Err (fault_of_note f))
+ends_note note_faults.Write k style read old now room = tt
+ends_note note_faults.Memory k style read old now room = tt
+ends_note note_faults.Room k style read old now room = room refl
+
+-- an audit that ends before its first line, or at one that is judged with the next
+pub audits_note : (f : NoteFault) (k : Kind) (style : Style) (old new written after : Option (List ℕ)) → (f ≡ note_faults.Room → StoppedByRoom k style old) →
+    Audits k style old new written after (Err (fault_of_note f))
+audits_note note_faults.Write k style old new written after room = tt
+audits_note note_faults.Memory k style old new written after room = tt
+audits_note note_faults.Room k style old new written after room = room refl

@@ -1,7 +1,9 @@
 -- WHAT THE AUDIT OF A TRACE does: which lines are read, and what is written.
-use Rattle.std.specs.Prelude.{◌≡◌, ℕ, List, ◌++◌, Option, Result, Ok, Err, IfSome}
+use Rattle.std.specs.Prelude.{◌≡◌, ℕ, List, ◌++◌, ◌⊎◌, Option, Some, None, Result, Ok, Err, IfSome}
 use Rattle.std.specs.Io.KnownBytes.{Appends}
 use Rattle.sdv_registers.specs.declared.kind.Kind.{Kind}
+use Rattle.sdv_card.specs.Lists.{May}
+use Rattle.sdv_audit.specs.Room.{AreMany}
 use Rattle.sdv_audit.specs.declared.line.TraceLine.{TraceLine}
 use Rattle.sdv_audit.specs.declared.fault.LineFault.{LineFault}
 use Rattle.sdv_audit.specs.Reading.{read_line}
@@ -13,7 +15,7 @@ use Rattle.sdv_audit_report.specs.declared.input.TextFault.{TextFault}
 use Rattle.sdv_audit_report.specs.declared.input.TextFault.TheVariants as text_faults
 use Rattle.sdv_audit_report.specs.declared.report.Report.{Report}
 use Rattle.sdv_audit_report.specs.declared.trace.Pending.{Pending}
-use Rattle.sdv_audit_report.specs.Report.{Progress, ReportAt, PendingAt, at_start, number_at, notes, progress_from, tally_of, audit_text}
+use Rattle.sdv_audit_report.specs.Report.{Progress, ReportAt, PendingAt, at_start, number_at, notes, progress_after, progress_from, tally_of, audit_text}
 use Rattle.sdv_audit_report.specs.Input.{IsText, BeginsLong, LinesRead, TraceRead}
 
 -- the number of the line behind these
@@ -35,8 +37,8 @@ pub record StoppedAt (k : Kind) (style : Style) (old left written after : Option
   pub written_is : Appends written after (notes k style at_start lines)
 
 -- the text behind them is no line, for this reason
-pub record StoppedByLine (k : Kind) (style : Style) (old written after : Option (List ℕ)) (fault : LineFault) (number : ℕ)
-    : Type 0 where
+pub record StoppedByLine (k : Kind) (style : Style) (old written after : Option (List ℕ))
+    (fault : LineFault) (number : ℕ) : Type 0 where
   pub left : Option (List ℕ)
   pub stopped : StoppedAt k style old left written after number
   pub text : List ℕ
@@ -50,10 +52,35 @@ pub record StoppedByLength (k : Kind) (style : Style) (old written after : Optio
   pub stopped : StoppedAt k style old left written after number
   pub long : IfSome left BeginsLong
 
+-- the reader failed behind them
+pub record StoppedByReader (k : Kind) (style : Style) (old written after : Option (List ℕ)) : Type 0 where
+  pub left : Option (List ℕ)
+  pub number : ℕ
+  pub stopped : StoppedAt k style old left written after number
+
+-- the last of these lines is judged with the next one, if there is one: more shapes follow it than an audit keeps
+pub record NoRoom (k : Kind) (style : Style) (read : List TraceLine) (next : Option TraceLine) : Type 0 where
+  pub progress : Progress
+  pub last : TraceLine
+  pub text : List ℕ
+  pub waits : PendingAt k style progress (Some last) read text
+  pub many : AreMany (May (progress_after k progress (record { line = last; next = next })).course.shapes)
+
+-- so it is at the last of the lines that were read
+pub record StoppedByRoom (k : Kind) (style : Style) (old : Option (List ℕ)) : Type 0 where
+  pub left : Option (List ℕ)
+  pub lines : List TraceLine
+  pub read : LinesRead old left lines ⊎ TraceRead old left lines
+  pub next : Option TraceLine
+  pub no_room : NoRoom k style lines next
+
 abbrev pub Audits : Kind → Style → (old new written after : Option (List ℕ)) → Result Tally TraceFault → Type 0
 Audits k style old new written after (Ok tally) = Reported k style old new written after tally
-Audits k style old new written after (Err (faults.Line fault number)) = StoppedByLine k style old written after fault number
+Audits k style old new written after (Err (faults.Line fault number)) =
+    StoppedByLine k style old written after fault number
 Audits k style old new written after (Err (faults.Length number)) = StoppedByLength k style old written after number
+Audits k style old new written after (Err faults.Read) = StoppedByReader k style old written after
+Audits k style old new written after (Err faults.Room) = StoppedByRoom k style old
 Audits k style old new written after (Err fault) = Unit {0}
 
 -- A REPORT whose last line waits for the line behind it: these lines were read, and what is known of what is written
@@ -75,18 +102,24 @@ pub record Finished (report : Report) (k : Kind) (style : Style) (read : List Tr
   pub appended : Appends old now (notes k style at_start read)
 
 -- the notes on the lines that were read are written, and the fault tells the number of the next line
-abbrev pub StopsAt : Kind → Style → List TraceLine → (old now : Option (List ℕ)) → LineFault → Result Tally TraceFault → Type 0
+abbrev pub StopsAt : Kind → Style → List TraceLine → (old now : Option (List ℕ)) → LineFault
+    → Result Tally TraceFault → Type 0
 StopsAt k style read old now fault (Ok tally) = ⊥
 StopsAt k style read old now fault (Err (faults.Line why number)) =
     (why ≡ fault) × (number ≡ number_behind k read) × Appends old now (notes k style at_start read)
 StopsAt k style read old now fault (Err (faults.Length number)) = ⊥
+StopsAt k style read old now fault (Err faults.Read) = ⊥
+StopsAt k style read old now fault (Err faults.Room) = NoRoom k style read None
 StopsAt k style read old now fault (Err why) = Unit {0}
 
-abbrev pub StopsReading : Kind → Style → List TraceLine → (old now : Option (List ℕ)) → TextFault → Result Tally TraceFault → Type 0
+abbrev pub StopsReading : Kind → Style → List TraceLine → (old now : Option (List ℕ)) → TextFault
+    → Result Tally TraceFault → Type 0
 StopsReading k style read old now fault (Ok tally) = ⊥
 StopsReading k style read old now fault (Err (faults.Line why number)) = ⊥
 StopsReading k style read old now fault (Err (faults.Length number)) =
     (fault ≡ text_faults.Long) × (number ≡ number_behind k read) × Appends old now (notes k style at_start read)
+StopsReading k style read old now fault (Err faults.Read) = Appends old now (notes k style at_start read)
+StopsReading k style read old now fault (Err faults.Room) = NoRoom k style read None
 StopsReading k style read old now fault (Err why) = Unit {0}
 
 -- all is written, with the summary
@@ -94,6 +127,8 @@ abbrev pub EndsReport : Kind → Style → List TraceLine → (old now : Option 
 EndsReport k style read old now (Ok tally) = Appends old now (audit_text k style read) × (tally ≡ tally_of k read)
 EndsReport k style read old now (Err (faults.Line why number)) = ⊥
 EndsReport k style read old now (Err (faults.Length number)) = ⊥
+EndsReport k style read old now (Err faults.Read) = ⊥
+EndsReport k style read old now (Err faults.Room) = NoRoom k style read None
 EndsReport k style read old now (Err why) = Unit {0}
 
 -- so it is while lines are read

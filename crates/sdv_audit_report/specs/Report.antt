@@ -74,8 +74,8 @@ abbrev pub behind : Option TraceLine → List TraceLine → List TraceLine
 behind None rest = rest
 behind (Some line) rest = line ∷ rest
 
-pub record PendingAt (k : Kind) (style : Style) (p : Progress) (held : Option TraceLine) (read : List TraceLine) (text : Text)
-    : Type 0 where
+pub record PendingAt (k : Kind) (style : Style) (p : Progress) (held : Option TraceLine) (read : List TraceLine)
+    (text : Text) : Type 0 where
   pub notes_are : (rest : List TraceLine) →
       notes k style at_start (read ++ rest) ≡ text ++ notes k style p (behind held rest)
   pub leads : (rest : List TraceLine) → progress_from k at_start (read ++ rest) ≡ progress_from k p (behind held rest)

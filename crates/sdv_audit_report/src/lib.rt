@@ -16,3 +16,4 @@ mod words;
 pub use fault::TraceFault;
 pub use style::{Style, Tally};
 pub use trace::audit_trace;
+pub use words::{put_answer, put_standing, put_told};

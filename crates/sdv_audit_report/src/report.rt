@@ -1,7 +1,9 @@
 //! A report, line by line.
 
-ghost use Rattle.std.specs.Prelude.{◌≡◌, ◌++◌, IfOk, OnOk};
+ghost use Rattle.std.specs.Prelude.{◌≡◌, ◌++◌, IfErr, IfOk, OnOk};
 ghost use Rattle.std.specs.Io.KnownBytes.{Appends};
+ghost use Rattle.sdv_card.specs.Lists.{May};
+ghost use Rattle.sdv_audit.specs.Room.{AreMany};
 ghost use Rattle.sdv_audit_report.specs.Notes.{csd_line_after};
 ghost use Rattle.sdv_audit_report.specs.Report.{Progress, at_start, ReportAt, line_notes, progress_after};
 
@@ -34,6 +36,7 @@ impl Report {
         ensures kind { IfOk result (λ report. report.kind ≡ kind) }
         ensures style { IfOk result (λ report. report.style ≡ style) }
         ensures start { IfOk result (λ report. ReportAt report at_start) }
+        ensures memory { IfErr result (λ fault. fault ≡ NoteFault.Memory) }
     {
         Ok(Report {
             alloc,
@@ -53,6 +56,8 @@ impl Report {
             ReportAt self.new (progress_after self.old.kind p told.now)) }
         ensures written { OnOk result ((p : Progress) → ReportAt self.old p →
             Appends (W.contents out.old) (W.contents out.new) (line_notes self.old.kind self.old.style p told.now)) }
+        ensures room { IfErr result (λ fault. fault ≡ NoteFault.Room → (p : Progress) → ReportAt self.old p →
+            AreMany (May (progress_after self.old.kind p told.now).course.shapes)) }
     {
         let at = Place {
             style: self.style,

@@ -1,12 +1,12 @@
 //! The audit of a trace from a reader.
 
-ghost use Rattle.std.specs.Prelude.{◌≡◌, ◌++◌, ℕ, List, [], ◌∷◌, OnOk, Option};
+ghost use Rattle.std.specs.Prelude.{◌≡◌, ◌≢◌, ◌++◌, ℕ, List, [], ◌∷◌, IfErr, OnOk, Option, None, Some};
 ghost use Rattle.sdv_registers.specs.declared.kind.Kind.{Kind as CardKind};
 ghost use Rattle.sdv_audit.specs.declared.line.TraceLine.{TraceLine as Line};
 ghost use Rattle.sdv_audit_report.specs.declared.style.Style.{Style as ReportStyle};
 ghost use Rattle.std.specs.Io.KnownBytes.{Appends};
 ghost use Rattle.sdv_audit_report.specs.Notes.{summary};
-ghost use Rattle.sdv_audit_report.specs.Audited.{Written, Finished, StopsAt, StopsReading, EndsReport, Audits};
+ghost use Rattle.sdv_audit_report.specs.Audited.{Written, Finished, StopsAt, StopsReading, EndsReport, NoRoom, Audits};
 
 use crate::fault::{NoteFault, TraceFault};
 use crate::input::{LineBytes, TextEnd, TextFault, read_text};
@@ -29,9 +29,13 @@ pub struct Pending {
 impl Pending {
     /// Takes in a line, and writes the notes on the one before it.
     fn push<W: Write>(&mut self, line: TraceLine, out: &mut W) -> Result<(), NoteFault>
-        ensures { OnOk result ((k : CardKind) (style : ReportStyle) (read : List Line) (old : Option (List ℕ)) →
+        ensures written { OnOk result ((k : CardKind) (style : ReportStyle) (read : List Line) (old : Option (List ℕ)) →
             Written self.old.report self.old.held k style read old (W.contents out.old) →
             Written self.new.report self.new.held k style (read ++ line ∷ []) old (W.contents out.new)) }
+        ensures room { IfErr result (λ fault. fault ≡ NoteFault.Room →
+            (k : CardKind) (style : ReportStyle) (read : List Line) (old : Option (List ℕ)) →
+            Written self.old.report self.old.held k style read old (W.contents out.old) →
+            NoRoom k style read (Some line)) }
     {
         match self.held {
             Some(before) => {
@@ -49,9 +53,14 @@ impl Pending {
 
     /// Writes the notes on the last line.
     fn finish<W: Write>(&mut self, out: &mut W) -> Result<(), NoteFault>
-        ensures { OnOk result ((k : CardKind) (style : ReportStyle) (read : List Line) (old : Option (List ℕ)) →
+        ensures finished { OnOk result (
+            (k : CardKind) (style : ReportStyle) (read : List Line) (old : Option (List ℕ)) →
             Written self.old.report self.old.held k style read old (W.contents out.old) →
             Finished self.new.report k style read old (W.contents out.new)) }
+        ensures room { IfErr result (λ fault. fault ≡ NoteFault.Room →
+            (k : CardKind) (style : ReportStyle) (read : List Line) (old : Option (List ℕ)) →
+            Written self.old.report self.old.held k style read old (W.contents out.old) →
+            NoRoom k style read None) }
     {
         match self.held {
             Some(last) => {
@@ -106,7 +115,8 @@ fn write_summary<W: Write>(
     tally: Tally,
     out: &mut W,
 ) -> Result<(), NoteFault>
-    ensures { OnOk result (Appends (W.contents out.old) (W.contents out.new) (summary style tally)) }
+    ensures written { OnOk result (Appends (W.contents out.old) (W.contents out.new) (summary style tally)) }
+    ensures room { IfErr result (λ fault. fault ≢ NoteFault.Room) }
 {
     let mut text = Vec::new(alloc);
     put_summary(&mut text, style, tally)?;
@@ -147,8 +157,8 @@ pub fn audit_trace<R: Read, W: Write>(
     reader: &mut R,
     out: &mut W,
 ) -> Result<Tally, TraceFault>
-    ensures { Audits kind style (R.remaining reader.old) (R.remaining reader.new) (W.contents out.old) (W.contents out.new)
-        result }
+    ensures { Audits kind style (R.remaining reader.old) (R.remaining reader.new)
+        (W.contents out.old) (W.contents out.new) result }
 {
     let mut pending = Pending {
         report: Report::new(alloc, kind, style)?,
@@ -173,5 +183,5 @@ pub fn audit_trace<R: Read, W: Write>(
             TextEnd::Feed => {}
         }
     }
-    Err(TraceFault::Read)
+    stop_reading(&mut pending, TextFault::Read, out)
 }

@@ -3,7 +3,7 @@
 ghost use Rattle.std.specs.Prelude.{◌≡◌, ◌++◌, OnOk, true, codes, decimal};
 ghost use Rattle.sdv_telling.specs.Cards.{numbered_state_word};
 ghost use Rattle.hex.specs.Hex.{encode_lower};
-ghost use Rattle.sdv_audit.specs.Spelling.{word_text, reply_text, answer_text, end_text, wait_text, line_text};
+ghost use Rattle.sdv_audit.specs.Spelling.{word_text, reply_text, answer_text, end_text, phase_text, wait_text, line_text};
 ghost use Rattle.sdv_audit_report.specs.Words.{told_words, reckless_words, fields_words, due_words, line_answer_words, turn_words, unanswered_words, csd_words, count_words, told_blocks, beyond_words, some_is, is_in, sign_words, states_words, standing_words};
 
 use sdv_audit::{TraceLine, Turn};
@@ -54,7 +54,8 @@ fn put_reply(text: &mut Text, reply: &Reply) -> Result<(), AllocError>
     }
 }
 
-fn put_answer(text: &mut Text, answer: &Answer) -> Result<(), AllocError>
+/// Adds what came of a command.
+pub fn put_answer(text: &mut Text, answer: &Answer) -> Result<(), AllocError>
     ensures { OnOk result (text.new.items ≡ text.old.items ++ answer_text answer.now) }
 {
     match answer {
@@ -78,7 +79,7 @@ fn put_command(text: &mut Text, command: Command) -> Result<(), AllocError>
 
 /// Adds the word of a data phase, its length, and how it ended.
 fn put_phase(text: &mut Text, word: &str, count: u16, end: DataEnd) -> Result<(), AllocError>
-    ensures { OnOk result (text.new.items ≡ text.old.items ++ (word.now ++ (codes " " ++ (decimal count ++ end_text end)))) }
+    ensures { OnOk result (text.new.items ≡ text.old.items ++ phase_text word.now count end) }
 {
     put(text, word)?;
     put(text, " ")?;

@@ -1,0 +1,2 @@
+pub mod MisfitLaws
+mod ScheduleLaws

@@ -8,12 +8,12 @@ use Rattle.sdv_describe.specs.CardWords.{card_words}
 use Rattle.sdv_describe.specs.LineWords.{Text}
 use Rattle.sdv_describe.specs.MisfitWords.{capacity_words, misfit_words}
 use Rattle.sdv_describe.specs.declared.describing.Page.{Page}
-use Rattle.sdv_describe.specs.declared.misfit.Misfit.{Misfit}
+use Rattle.sdv_describe.specs.Misfits.{misfit_of}
 
--- the page of a text that is no description names a line and what is to stand there
-abbrev pub IsFaultPage : SimFault → Text → Type 0
-IsFaultPage faults.Description page = (m : Misfit) × (page ≡ misfit_words m)
-IsFaultPage fault page = page ≡ capacity_words
+-- the page of a text that is no description names the first line that is wrong, and what is to stand there
+abbrev pub IsFaultPage : (text : List ℕ) → SimFault → Text → Type 0
+IsFaultPage text faults.Description page = page ≡ misfit_words (misfit_of text)
+IsFaultPage text fault page = page ≡ capacity_words
 
 -- the text gives this card, and the page tells of it
 pub record TellsCard (text : List ℕ) (page : Text) : Type 0 where
@@ -24,7 +24,7 @@ pub record TellsCard (text : List ℕ) (page : Text) : Type 0 where
 -- it gives none, for this fault
 pub record TellsFault (text : List ℕ) (fault : SimFault) (page : Text) : Type 0 where
   pub refused : Refuses text fault
-  pub told : IsFaultPage fault page
+  pub told : IsFaultPage text fault page
 
 abbrev pub TellsBy : Option SimFault → (text page : Text) → Type 0
 TellsBy None text page = TellsCard text page

@@ -21,6 +21,7 @@ before_words line.CSizeMult = codes "    C_SIZE_MULT "
 before_words line.SecCount = codes "    SEC_COUNT "
 before_words line.BootSizeMult = codes "    BOOT_SIZE_MULT "
 before_words line.Wrong = codes "line "
+before_words line.Schedule = codes "the schedule is wrong, line "
 
 abbrev pub after_words : Line → Text
 after_words line.Version = []
@@ -30,6 +31,7 @@ after_words line.Image = codes " blocks, "
 after_words line.Bytes = codes " bytes\n"
 after_words line.Length = codes " bytes\n"
 after_words line.Wrong = codes ": here is to stand "
+after_words line.Schedule = codes ": here is to stand a digit from 0 to 7\n"
 after_words other = codes "\n"
 
 unfoldable pub line_words : Line → ℕ → Text

@@ -51,7 +51,7 @@ fn card_page(alloc: Global, card: &CardDesc) -> Result<Vec<u8>, AllocError>
 }
 
 fn fault_page(alloc: Global, text: &str, fault: SimFault) -> Result<Vec<u8>, AllocError>
-    ensures { IfOk result (λ words. IsFaultPage fault words.items) }
+    ensures { IfOk result (λ words. IsFaultPage text.now fault words.items) }
 {
     match fault {
         SimFault::Description => misfit_page(alloc, text),
@@ -65,7 +65,7 @@ fn fault_page(alloc: Global, text: &str, fault: SimFault) -> Result<Vec<u8>, All
 }
 
 fn misfit_page(alloc: Global, text: &str) -> Result<Vec<u8>, AllocError>
-    ensures { IfOk result (λ words. IsFaultPage SimFault.Description words.items) }
+    ensures { IfOk result (λ words. IsFaultPage text.now SimFault.Description words.items) }
 {
     let misfit = misfit_in(text.as_bytes());
     let mut words = Vec::new(alloc);

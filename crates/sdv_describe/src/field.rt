@@ -1,6 +1,11 @@
 //! The lines of a description, one after another.
 
-use sdv_text::capped_value;
+ghost use Rattle.std.specs.Prelude.{◌≡◌, ◌≤◌};
+ghost use Rattle.std.specs.List.{list_all};
+ghost use Rattle.sdv_text.specs.Fronts.{is_digit};
+ghost use Rattle.sdv_describe.specs.Fields.{number_within, number_on, behind, behind_unit, behind_version, behind_card, next_field};
+
+use sdv_text::{after, capped_value, is_word};
 
 /// What a line is to say. Those of an e.MMC device with byte addresses are named for it, since other lines follow them.
 #[derive(Clone, Copy)]
@@ -40,21 +45,40 @@ pub enum Field {
 }
 
 /// The number behind a word and a space, if there is no more on the line and the number is within bounds.
-fn number_on(line: &[u8], word: &[u8], least: u64, most: u64) -> Option<u64> {
-    let digits = line.strip_prefix(word)?;
-    if digits.is_empty() || !digits.iter().all(|byte| byte.is_ascii_digit()) {
-        return None;
+fn number_on(line: &[u8], word: &[u8], least: u64, most: u64) -> Option<u64>
+    requires { most ≤ 4294967295 }
+    ensures { result ≡ number_on word.now least most line.now }
+{
+    match after(line, word) {
+        Some(text) => number_within(text, least, most),
+        None => None,
     }
-    let value = capped_value(digits, 1 << 32);
-    if least <= value && value <= most {
+}
+
+/// The number that a text is, if it is digits alone, and the number is within bounds.
+fn number_within(text: &[u8], least: u64, most: u64) -> Option<u64>
+    requires { most ≤ 4294967295 }
+    ensures { result ≡ number_within least most text.now }
+{
+    let value = capped_value(text, 1 << 32);
+    if !text.is_empty() && are_digits(text) && least <= value && value <= most {
         Some(value)
     } else {
         None
     }
 }
 
+fn are_digits(text: &[u8]) -> bool
+    ensures { result ≡ list_all is_digit text.now }
+{
+    text.iter().all(|byte| byte.is_ascii_digit())
+}
+
 /// What follows a line with such a number.
-fn behind(line: &[u8], word: &[u8], least: u64, most: u64, next: Field) -> Option<Field> {
+fn behind(line: &[u8], word: &[u8], least: u64, most: u64, next: Field) -> Option<Field>
+    requires { most ≤ 4294967295 }
+    ensures { result ≡ behind word.now least most next line.now }
+{
     match number_on(line, word, least, most) {
         Some(_) => Some(next),
         None => None,
@@ -62,15 +86,21 @@ fn behind(line: &[u8], word: &[u8], least: u64, most: u64, next: Field) -> Optio
 }
 
 /// What follows a line with the unit, if the line has one of these.
-fn behind_unit(line: &[u8], bytes: Field, blocks: Option<Field>) -> Option<Field> {
-    match line {
-        b"unit byte" => Some(bytes),
-        b"unit block" => blocks,
-        _ => None,
+fn behind_unit(line: &[u8], bytes: Field, blocks: Option<Field>) -> Option<Field>
+    ensures { result ≡ behind_unit bytes blocks line.now }
+{
+    if is_word(line, b"unit byte") {
+        Some(bytes)
+    } else if is_word(line, b"unit block") {
+        blocks
+    } else {
+        None
     }
 }
 
-fn behind_version(line: &[u8]) -> Option<Field> {
+fn behind_version(line: &[u8]) -> Option<Field>
+    ensures { result ≡ behind_version line.now }
+{
     match number_on(line, b"version ", 1, 2) {
         Some(1) => Some(Field::ByteUnit),
         Some(_) => Some(Field::Unit),
@@ -78,17 +108,23 @@ fn behind_version(line: &[u8]) -> Option<Field> {
     }
 }
 
-fn behind_card(line: &[u8]) -> Option<Field> {
-    match line {
-        b"card sd" => Some(Field::Version),
-        b"card emmc" => Some(Field::DeviceUnit),
-        _ => None,
+fn behind_card(line: &[u8]) -> Option<Field>
+    ensures { result ≡ behind_card line.now }
+{
+    if is_word(line, b"card sd") {
+        Some(Field::Version)
+    } else if is_word(line, b"card emmc") {
+        Some(Field::DeviceUnit)
+    } else {
+        None
     }
 }
 
 impl Field {
     /// What the next line is to say, if a line says what this is.
-    pub fn next(self, line: &[u8]) -> Option<Field> {
+    pub fn next(self, line: &[u8]) -> Option<Field>
+        ensures { result ≡ next_field self line.now }
+    {
         match self {
             Field::Card => behind_card(line),
             Field::Version => behind_version(line),

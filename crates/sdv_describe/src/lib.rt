@@ -9,5 +9,7 @@ mod describing;
 mod field;
 mod line;
 mod misfit;
+mod schedule;
 
 pub use describing::{Page, describe};
+pub use schedule::describe_given;

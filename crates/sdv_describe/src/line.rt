@@ -37,6 +37,8 @@ pub enum Line {
     BootSizeMult,
     /// The line of a text that is wrong.
     Wrong,
+    /// The line of a schedule that is wrong.
+    Schedule,
 }
 
 fn before_words(line: Line) -> &'static str
@@ -57,6 +59,7 @@ fn before_words(line: Line) -> &'static str
         Line::SecCount => "    SEC_COUNT ",
         Line::BootSizeMult => "    BOOT_SIZE_MULT ",
         Line::Wrong => "line ",
+        Line::Schedule => "the schedule is wrong, line ",
     }
 }
 
@@ -68,6 +71,7 @@ fn after_words(line: Line) -> &'static str
         Line::Capacity | Line::Boot | Line::Image => " blocks, ",
         Line::Bytes | Line::Length => " bytes\n",
         Line::Wrong => ": here is to stand ",
+        Line::Schedule => ": here is to stand a digit from 0 to 7\n",
         _ => "\n",
     }
 }

@@ -1,6 +1,7 @@
 //! The first line of a text that no description has there.
 
-ghost use Rattle.std.specs.Prelude.{◌≡◌, ◌++◌, OnOk};
+ghost use Rattle.std.specs.Prelude.{◌≡◌, ◌++◌, OnOk, option_map};
+ghost use Rattle.sdv_describe.specs.Misfits.{behind_line, line_len, misfit_of, step};
 ghost use Rattle.sdv_describe.specs.MisfitWords.{misfit_words, wanted_line, wanted_words};
 
 use crate::field::Field;
@@ -16,21 +17,48 @@ pub struct Misfit {
     pub field: Field,
 }
 
-/// The first line that does not say what it is to. A description has eight lines at most.
-pub fn misfit_in(text: &[u8]) -> Misfit {
+/// How many bytes the first line of a text has.
+fn line_len(text: &[u8]) -> usize
+    ensures { result ≡ line_len text.now }
+{
+    text.iter().take_while(|byte| **byte != b'\n').count()
+}
+
+/// What follows the first line and its end, if it has one.
+fn behind_line(text: &[u8]) -> Option<&[u8]>
+    ensures { option_map (λ rest. rest.now) result ≡ behind_line text.now }
+{
+    match &text[line_len(text)..] {
+        [_, rest @ ..] => Some(rest),
+        [] => None,
+    }
+}
+
+/// What the second line is to say, and the text from there on, if the first line says what it is to.
+fn step(field: Field, text: &[u8]) -> Option<(Field, &[u8])>
+    ensures { option_map (λ x. (x.0, x.1.now)) result ≡ step field text.now }
+{
+    let Some(rest) = behind_line(text) else {
+        return None;
+    };
+    match field.next(&text[..line_len(text)]) {
+        Some(next) => Some((next, rest)),
+        None => None,
+    }
+}
+
+/// The first line that does not say what it is to. A description has seven lines at most.
+pub fn misfit_in(text: &[u8]) -> Misfit
+    ensures { result ≡ misfit_of text.now }
+{
     let mut rest = text;
     let mut field = Field::Card;
     for line in 1..10 {
-        let len = rest.iter().take_while(|byte| **byte != b'\n').count();
-        let (front, behind) = rest.split_at(len.min(rest.len()));
-        let Some((_, following)) = behind.split_first() else {
-            return Misfit { line, field };
-        };
-        let Some(next) = field.next(front) else {
+        let Some((next, behind)) = step(field, rest) else {
             return Misfit { line, field };
         };
         field = next;
-        rest = following;
+        rest = behind;
     }
     Misfit { line: 10, field }
 }

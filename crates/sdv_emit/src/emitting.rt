@@ -1,6 +1,6 @@
 //! Scripts and certificates, as tables in C.
 
-ghost use Rattle.std.specs.Prelude.{◌≡◌, IfErr, IfOk, true};
+ghost use Rattle.std.specs.Prelude.{◌≡◌, Err, IfErr, IfOk, true, false};
 ghost use Rattle.sdv_emit.specs.Emitted.{EmitFails, Emits, EmitsGraph, HasNoTable};
 ghost use Rattle.sdv_emit.specs.Identifier.{is_identifier};
 
@@ -35,6 +35,7 @@ pub fn emit(
 ) -> Result<Emitted, EmitFault>
     ensures emitted { IfOk result (Emits script.now certificate.now labels.now.file.now labels.now.name.now) }
     ensures fails { IfErr result (EmitFails script.now certificate.now labels.now.name.now) }
+    ensures name { is_identifier labels.now.name.now ≡ false → result ≡ Err EmitFault.Name }
 {
     if !is_identifier(labels.name) {
         return Err(EmitFault::Name);

@@ -48,7 +48,8 @@ pub safe_added : (i p q : ℕ) (text was now whole : List ℕ) → i < length te
     → now ++ safe_behind q (get_or text i 0) (drop (i + 1) text) ≡ whole
 safe_added i p q text was now whole lt e n =
     ap (λ (xs : List ℕ). xs ++ safe_behind q (get_or text i 0) (drop (i + 1) text)) n
-    ∙ (append_assoc was (safe_byte p q (get_or text i 0) ∷ []) (safe_behind q (get_or text i 0) (drop (i + 1) text)) ∙ (ap (λ (xs : List ℕ). was ++ xs) (sym (safe_step i p q text lt)) ∙ e))
+    ∙ (append_assoc was (safe_byte p q (get_or text i 0) ∷ []) (safe_behind q (get_or text i 0) (drop (i + 1) text))
+    ∙ (ap (λ (xs : List ℕ). was ++ xs) (sym (safe_step i p q text lt)) ∙ e))
 
 pub chars_nil : (n : ℕ) → first_chars n [] ≡ []
 unfolding first_chars
@@ -75,7 +76,8 @@ chars_end i text lt e = ap (first_chars 0) (drop-cons text i 0 lt) ∙ chars_ful
 moved : (i m : ℕ) (text : List ℕ) → i < length text
     → take i text ++ (get_or text i 0 ∷ first_chars m (drop (suc i) text)) ≡ take (i + 1) text ++ first_chars m (drop (i + 1) text)
 moved i m text lt =
-    sym (append_assoc (take i text) (get_or text i 0 ∷ []) (first_chars m (drop (suc i) text))) ∙ (ap (λ (xs : List ℕ). xs ++ first_chars m (drop (suc i) text)) (sym (take-suc text i 0 lt))
+    sym (append_assoc (take i text) (get_or text i 0 ∷ []) (first_chars m (drop (suc i) text)))
+    ∙ (ap (λ (xs : List ℕ). xs ++ first_chars m (drop (suc i) text)) (sym (take-suc text i 0 lt))
     ∙ ap (λ (k : ℕ). take k text ++ first_chars m (drop k text)) (sym (add-one i)))
 
 -- one byte more is passed, which begins no character

@@ -96,9 +96,15 @@ plain_words hint.Capitals = codes "words and names have no capitals"
 plain_words hint.NoNumber = codes "a number is decimal digits, or 0x and hexadecimal digits"
 plain_words h = []
 
+abbrev pub meant_words : Text → Text
+meant_words word = codes "did you mean `" ++ (word ++ codes "`?")
+
+abbrev pub command_words : (digits : Text) → Text
+command_words digits = codes "commands are numbers: write " ++ digits
+
 abbrev pub hint_words : Hint → Text
-hint_words (hint.Meant word) = codes "did you mean `" ++ (word.now ++ codes "`?")
-hint_words (hint.Command digits) = codes "commands are numbers: write " ++ digits.now
+hint_words (hint.Meant word) = meant_words word.now
+hint_words (hint.Command digits) = command_words digits.now
 hint_words (hint.NoElse line) = codes "`else` is missing after line " ++ decimal line
 hint_words (hint.Unclosed line) = codes "the `{` of line " ++ (decimal line ++ codes " is not closed")
 hint_words (hint.Limit sort) = limit_words sort

@@ -1,6 +1,9 @@
 //! A hint: what is likely meant, or what the rule is.
 
-ghost use Rattle.std.specs.Prelude.{◌≡◌, ◌++◌, OnOk, decimal, drop};
+ghost use Rattle.std.specs.Prelude.{◌≡◌, ◌++◌, OnOk, decimal, drop, option_map};
+ghost use Rattle.std.specs.List.{list_all};
+ghost use Rattle.sdv_text.specs.Fronts.{is_digit};
+ghost use Rattle.sdv_hints.specs.Hints.{near_word, meant, is_offer, offers_word, is_cmd, behind_cmd, behind_acmd, digits_of_command, command_digits, command_hint, stray_byte_hint, stray_hint, is_of_devices, name_hint, rule_hint, written_hint, word_hint, unclosed_hint, offer_hint, found_hint, place_hint, hint_for};
 ghost use Rattle.sdv_hints.specs.Near.{common_len, is_near};
 ghost use Rattle.sdv_hints.specs.Page.{hint_line, hint_words, limit_words, plain_words};
 
@@ -9,6 +12,7 @@ use crate::offers::Offer;
 use crate::place::Found;
 use itoa::Buffer;
 use sdv_script::FaultKind;
+use sdv_text::is_word;
 use std::alloc::AllocError;
 
 /// A hint.
@@ -106,49 +110,119 @@ fn is_near(found: &[u8], meant: &[u8]) -> bool
     others == wanted || xs == wanted || others == ys
 }
 
-/// A word that is offered and spelled almost as what was found.
-fn meant<'a>(written: &[u8], offers: &[Offer<'a>]) -> Option<&'a str> {
-    for offer in offers {
-        if let Offer::Word(word) = offer {
-            if word.len() > 1 && is_near(written, word.as_bytes()) {
-                return Some(word);
-            }
-        }
+/// The word of an offer, if it has more than one byte and is spelled almost as what was found.
+fn near_word<'a>(written: &[u8], offer: Offer<'a>) -> Option<&'a str>
+    ensures { option_map (λ word. word.now) result ≡ near_word written.now offer.entry }
+{
+    match offer {
+        Offer::Word(word) if word.len() > 1 && is_near(written, word.as_bytes()) => Some(word),
+        _ => None,
     }
-    None
+}
+
+/// The first word that is offered and spelled almost as what was found.
+fn meant<'a>(written: &[u8], offers: &[Offer<'a>]) -> Option<&'a str>
+    ensures { option_map (λ word. word.now) result ≡ meant written.now offers.now }
+{
+    match offers {
+        [] => None,
+        [offer, rest @ ..] => match near_word(written, *offer) {
+            Some(word) => Some(word),
+            None => meant(written, rest),
+        },
+    }
+}
+
+fn is_offer(wanted: &str, offer: Offer<'_>) -> bool
+    ensures { result ≡ is_offer wanted.now offer.entry }
+{
+    match offer {
+        Offer::Word(word) => word == wanted,
+        _ => false,
+    }
 }
 
 /// A word is offered.
-fn offers_word(offers: &[Offer<'_>], wanted: &str) -> bool {
-    for offer in offers {
-        if let Offer::Word(word) = offer {
-            if *word == wanted {
-                return true;
+fn offers_word(offers: &[Offer<'_>], wanted: &str) -> bool
+    ensures { result ≡ offers_word wanted.now offers.now }
+{
+    offers.iter().any(|offer| is_offer(wanted, *offer))
+}
+
+/// What follows `CMD`, in either case.
+fn behind_cmd(text: &[u8]) -> Option<&[u8]>
+    ensures { option_map (λ rest. rest.now) result ≡ behind_cmd text.now }
+{
+    match text {
+        [c, m, d, rest @ ..] => { if is_cmd(*c, *m, *d) { Some(rest) } else { None } }
+        _ => None,
+    }
+}
+
+fn is_cmd(c: u8, m: u8, d: u8) -> bool
+    ensures { result ≡ is_cmd c m d }
+{
+    (c == b'C' || c == b'c') && (m == b'M' || m == b'm') && (d == b'D' || d == b'd')
+}
+
+/// What follows `ACMD`, in either case.
+fn behind_acmd(text: &[u8]) -> Option<&[u8]>
+    ensures { option_map (λ rest. rest.now) result ≡ behind_acmd text.now }
+{
+    match text {
+        [a, rest @ ..] => {
+            if *a == b'A' || *a == b'a' {
+                behind_cmd(rest)
+            } else {
+                None
             }
         }
+        [] => None,
     }
-    false
+}
+
+fn are_digits(text: &[u8]) -> bool
+    ensures { result ≡ list_all is_digit text.now }
+{
+    text.iter().all(|byte| byte.is_ascii_digit())
+}
+
+fn digits_of_command(text: &[u8]) -> Option<&[u8]>
+    ensures { option_map (λ digits. digits.now) result ≡ digits_of_command text.now }
+{
+    if !text.is_empty() && text.len() <= 2 && are_digits(text) {
+        Some(text)
+    } else {
+        None
+    }
 }
 
 /// The digits behind `CMD` or `ACMD`, in either case.
-fn command_digits(written: &[u8]) -> Option<&[u8]> {
-    let start = match written {
-        [b'C' | b'c', b'M' | b'm', b'D' | b'd', ..] => 3,
-        [b'A' | b'a', b'C' | b'c', b'M' | b'm', b'D' | b'd', ..] => 4,
-        _ => return None,
+fn command_digits(written: &[u8]) -> Option<&[u8]>
+    ensures { option_map (λ digits. digits.now) result ≡ command_digits written.now }
+{
+    let behind = match behind_cmd(written) {
+        Some(rest) => Some(rest),
+        None => behind_acmd(written),
     };
-    let digits = written.get(start..)?;
-    if digits.is_empty() || digits.len() > 2 || !digits.iter().all(|byte| byte.is_ascii_digit()) {
-        return None;
+    match behind {
+        Some(rest) => digits_of_command(rest),
+        None => None,
     }
-    Some(digits)
 }
 
-/// The hint at a character that begins no token, or at digits that are no number.
-fn stray_hint<'a>(written: &'a [u8]) -> Option<Hint<'a>> {
-    if let Some(digits) = command_digits(written) {
-        return Some(Hint::Command(digits));
+fn command_hint(written: &[u8]) -> Option<Hint<'_>>
+    ensures { option_map hint_words result ≡ command_hint written.now }
+{
+    match command_digits(written) {
+        Some(digits) => Some(Hint::Command(digits)),
+        None => None,
     }
+}
+
+fn stray_byte_hint(written: &[u8]) -> Option<Hint<'static>>
+    ensures { option_map hint_words result ≡ stray_byte_hint written.now }
+{
     match written {
         [b'>', ..] => Some(Hint::Comparison),
         [b'0'..=b'9', ..] => Some(Hint::NoNumber),
@@ -157,8 +231,20 @@ fn stray_hint<'a>(written: &'a [u8]) -> Option<Hint<'a>> {
     }
 }
 
+/// The hint at a character that begins no token, or at digits that are no number.
+fn stray_hint(written: &[u8]) -> Option<Hint<'_>>
+    ensures { option_map hint_words result ≡ stray_hint written.now }
+{
+    match command_hint(written) {
+        Some(hint) => Some(hint),
+        None => stray_byte_hint(written),
+    }
+}
+
 /// The hint at a word that was to be a name.
-fn name_hint(found: Found) -> Hint<'static> {
+fn name_hint(found: Found) -> Hint<'static>
+    ensures { hint_words result ≡ name_hint found }
+{
     match found {
         Found::Key => Hint::Reserved,
         _ => Hint::Undeclared,
@@ -166,64 +252,109 @@ fn name_hint(found: Found) -> Hint<'static> {
 }
 
 /// The word is of scripts for e.MMC devices alone.
-fn is_of_devices(written: &[u8]) -> bool {
-    matches!(written, b"ext.blocks" | b"ext.boot" | b"part.access")
+fn is_of_devices(written: &[u8]) -> bool
+    ensures { result ≡ is_of_devices written.now }
+{
+    is_word(written, b"ext.blocks")
+        || is_word(written, b"ext.boot")
+        || is_word(written, b"part.access")
+}
+
+/// The hint at a word that is no name, or that stands outside a loop.
+fn rule_hint(kind: FaultKind, found: Found, written: &[u8]) -> Option<Hint<'static>>
+    ensures { option_map hint_words result ≡ rule_hint kind found written.now }
+{
+    match kind {
+        FaultKind::Name => Some(name_hint(found)),
+        _ => {
+            if is_word(written, b"break") {
+                Some(Hint::NoLoop)
+            } else {
+                None
+            }
+        }
+    }
+}
+
+/// The hint by the word that was found, where it is spelled like none that is offered.
+fn written_hint<'a>(clue: &Clue<'a>) -> Option<Hint<'a>>
+    ensures { option_map hint_words result ≡ written_hint clue.now }
+{
+    match command_hint(clue.written) {
+        Some(hint) => Some(hint),
+        None => {
+            if is_of_devices(clue.written) {
+                Some(Hint::OfDevices)
+            } else {
+                rule_hint(clue.kind, clue.found, clue.written)
+            }
+        }
+    }
 }
 
 /// The hint by the word that was found.
-fn word_hint<'a>(clue: &Clue<'a>, offers: &[Offer<'a>]) -> Option<Hint<'a>> {
-    if let Some(word) = meant(clue.written, offers) {
-        return Some(Hint::Meant(word));
+fn word_hint<'a>(clue: &Clue<'a>, offers: &[Offer<'a>]) -> Option<Hint<'a>>
+    ensures { option_map hint_words result ≡ word_hint clue.now offers.now }
+{
+    match meant(clue.written, offers) {
+        Some(word) => Some(Hint::Meant(word)),
+        None => written_hint(clue),
     }
-    if let Some(digits) = command_digits(clue.written) {
-        return Some(Hint::Command(digits));
-    }
-    if is_of_devices(clue.written) {
-        return Some(Hint::OfDevices);
-    }
-    if clue.kind == FaultKind::Name {
-        return Some(name_hint(clue.found));
-    }
-    match clue.written {
-        b"break" => Some(Hint::NoLoop),
+}
+
+/// The hint at the end of the text, where the innermost brace that is open can be closed.
+fn unclosed_hint(found: Found, offers: &[Offer<'_>], unclosed: &[u32]) -> Option<Hint<'static>>
+    ensures { option_map hint_words result ≡ unclosed_hint found offers.now unclosed.now }
+{
+    match found {
+        Found::End if offers_word(offers, "}") => match unclosed.last() {
+            Some(line) => Some(Hint::Unclosed(*line)),
+            None => None,
+        },
         _ => None,
     }
 }
 
 /// The hint by what can stand at the place.
-fn offer_hint(clue: &Clue<'_>, offers: &[Offer<'_>], before: &Before<'_>) -> Option<Hint<'static>> {
+fn offer_hint(found: Found, offers: &[Offer<'_>], before: &Before<'_>) -> Option<Hint<'static>>
+    ensures { option_map hint_words result ≡ offer_hint found offers.now before.now }
+{
     if offers_word(offers, ">=") {
-        return Some(Hint::Comparison);
+        Some(Hint::Comparison)
+    } else if offers_word(offers, "at") || offers_word(offers, "block") {
+        Some(Hint::Address)
+    } else if offers_word(offers, "else") {
+        Some(Hint::NoElse(before.last))
+    } else {
+        unclosed_hint(found, offers, before.unclosed.as_slice())
     }
-    if offers_word(offers, "at") || offers_word(offers, "block") {
-        return Some(Hint::Address);
-    }
-    if offers_word(offers, "else") {
-        return Some(Hint::NoElse(before.last));
-    }
-    match before.open.last() {
-        Some(line) if clue.found == Found::End && offers_word(offers, "}") => {
-            Some(Hint::Unclosed(*line))
-        }
-        _ => None,
+}
+
+/// The hint by what stands at the place.
+fn found_hint<'a>(clue: &Clue<'a>, offers: &[Offer<'a>]) -> Option<Hint<'a>>
+    ensures { option_map hint_words result ≡ found_hint clue.now offers.now clue.now.found }
+{
+    match clue.found {
+        Found::Stray => stray_hint(clue.written),
+        Found::Key | Found::Name | Found::Dotted => word_hint(clue, offers),
+        Found::Number | Found::Sign | Found::End | Found::Long => None,
     }
 }
 
 /// The hint at a place where something else was to stand.
-fn place_hint<'a>(clue: &Clue<'a>, offers: &[Offer<'a>], before: &Before<'_>) -> Option<Hint<'a>> {
-    let of_word = match clue.found {
-        Found::Stray => stray_hint(clue.written),
-        Found::Key | Found::Name | Found::Dotted => word_hint(clue, offers),
-        Found::Number | Found::Sign | Found::End | Found::Long => None,
-    };
-    match of_word {
+fn place_hint<'a>(clue: &Clue<'a>, offers: &[Offer<'a>], before: &Before<'_>) -> Option<Hint<'a>>
+    ensures { option_map hint_words result ≡ place_hint clue.now offers.now before.now }
+{
+    match found_hint(clue, offers) {
         Some(hint) => Some(hint),
-        None => offer_hint(clue, offers, before),
+        None => offer_hint(clue.found, offers, before),
     }
 }
 
 /// A hint, if one is likely to help.
-pub fn hint_of<'a>(clue: &Clue<'a>, offers: &[Offer<'a>], before: &Before<'_>) -> Option<Hint<'a>> {
+pub fn hint_of<'a>(clue: &Clue<'a>, offers: &[Offer<'a>], before: &Before<'_>) -> Option<Hint<'a>>
+    ensures { option_map hint_words result ≡ hint_for clue.now offers.now before.now }
+{
     match clue.kind {
         FaultKind::Limit => Some(Hint::Limit(clue.found)),
         FaultKind::NoEnd => Some(Hint::NoEnd),

@@ -1,24 +1,25 @@
-use Rattle.std.proofs.Common.{false, ◌≡◌, ap, refl, subst, sym, ◌∙◌, ◌∷◌, true}
+use Rattle.std.proofs.Common.{Err, rules, false, ◌≡◌, ap, refl, subst, sym, ◌∙◌, ◌∷◌, true}
 use Rattle.sdv_card.specs.Lists.{May}
 use Rattle.sdv_audit.specs.declared.audit.Audit.{Audit}
 use Rattle.sdv_audit.specs.declared.audit.Findings.{Findings}
 use Rattle.sdv_audit.specs.Audited.{is_empty, is_unanswered}
 use Rattle.sdv_audit.proofs.Audits.{no_bounds, some_reckless, lived_more, one_more, none_left, left_empty}
 use Rattle.sdv_audit.proofs.Courses.{Advanced, found_so, is_at_next}
+use Rattle.sdv_audit.proofs.RoomLaws.{room_on}
 use Rattle.sdv_audit.proofs.audit.Audit.advance.Goals as goal
 use Rattle.sdv_audit.proofs.audit.Audit.advance.Goals.{then-self, else-self}
 
 pub returns-clause-stands : goal.returns-clause-stands
 returns-clause-stands c past s =
     let more = one_more c.args.self.now.kind c.args.self.now.known c.after_line-self.result c.args.self.now.shapes.items c.in_ok-shapes.shapes.items
-    c.turn-turn.result c.args.told.now past s.known s.covers c.turn-turn.ensures c.after_line-self.ensures c.in_ok-shapes.ensures in
+    c.turn-turn.result c.args.told.now past s.known s.covers c.turn-turn.ensures c.after_line-self.ensures c.in_ok-shapes.ensures.members in
     record {
       known = more.known_is;
       covers = more.covers;
       lived = λ e t m.
           elim c.if-self.branch [
             | then-self w ↦ lived_more c.args.self.now.kind c.args.self.now.known c.args.self.now.shapes.items c.in_ok-shapes.shapes.items c.turn-turn.result
-                c.args.told.now past s.known c.turn-turn.ensures c.in_ok-shapes.ensures (s.lived w.if-self.true)
+                c.args.told.now past s.known c.turn-turn.ensures c.in_ok-shapes.ensures.members (s.lived w.if-self.true)
                 (λ v n. w.all_within-self.ensures.0 (sym w.self-is ∙ e) v (subst (λ xs. May xs v) (sym w.as_slice-then-self.ensures.value) n)) t m
             | else-self w ↦ absurd (let f : false ≡ true = cc in cc)
           ];
@@ -30,7 +31,7 @@ returns-clause-real c = some_reckless c.args.self.now c.turn-turn.result c.reckl
 pub returns-clause-unanswered : goal.returns-clause-unanswered
 returns-clause-unanswered c e past s =
     let more = one_more c.args.self.now.kind c.args.self.now.known c.after_line-self.result c.args.self.now.shapes.items c.in_ok-shapes.shapes.items
-    c.turn-turn.result c.args.told.now past s.known s.covers c.turn-turn.ensures c.after_line-self.ensures c.in_ok-shapes.ensures in
+    c.turn-turn.result c.args.told.now past s.known s.covers c.turn-turn.ensures c.after_line-self.ensures c.in_ok-shapes.ensures.members in
     none_left c.args.self.now.kind (c.args.told.now ∷ past) c.in_ok-shapes.shapes.items
     (subst (λ v. is_empty v ≡ true) c.as_slice-2.ensures.value
     (left_empty c.reckless-reckless.result c.as_slice.result.now c.as_slice-2.result.now (sym c.is_unanswered-unanswered.ensures ∙ e)))
@@ -63,7 +64,7 @@ unfolding after found
 advanced c = record {
   turn = c.turn-turn.ensures;
   known = c.after_line-self.ensures;
-  shapes = c.in_ok-shapes.ensures;
+  shapes = c.in_ok-shapes.ensures.members;
   reckless = c.reckless-reckless.ensures.least;
   unanswered = c.is_unanswered-unanswered.ensures ∙ (ap (λ v. is_unanswered c.reckless-reckless.result v c.as_slice-2.result.now) c.as_slice.ensures.value
       ∙ ap (λ v. is_unanswered c.reckless-reckless.result c.args.self.now.shapes.items v) c.as_slice-2.ensures.value);
@@ -78,3 +79,9 @@ returns-clause-found c course at = found_so c.args.self.now (after c) c.args.tol
 pub returns-clause-course : goal.returns-clause-course
 unfolding after found
 returns-clause-course c course at = is_at_next c.args.self.now (after c) c.args.told.now (found c) course (advanced c) at
+
+pub returns-in_err-shapes-clause-room : goal.returns-in_err-shapes-clause-room
+returns-in_err-shapes-clause-room c =
+    let is : c.from_residual.result ≡ Err c.in_err-shapes.field-0.0 = search rules in
+    rw is (λ e course at.
+    room_on c.args.self.now c.turn-turn.result c.args.told.now course c.turn-turn.ensures at (c.in_err-shapes.ensures.room e))

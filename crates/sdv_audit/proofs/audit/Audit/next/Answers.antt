@@ -1,7 +1,8 @@
-use Rattle.std.proofs.Common.{subst, sym, ◌∙◌}
+use Rattle.std.proofs.Common.{◌≡◌, Err, rules, subst, sym, ◌∙◌}
 use Rattle.sdv_audit.specs.Audited.{Behind}
 use Rattle.sdv_audit.proofs.Audits.{unanswered_here, unanswered_anew}
 use Rattle.sdv_audit.proofs.Courses.{found_there, course_there, found_anew_so, course_anew}
+use Rattle.sdv_audit.proofs.RoomLaws.{room_anew, room_there}
 use Rattle.sdv_audit.proofs.audit.Audit.next.Goals as goal
 
 pub returns-then-not-restarts-clause-unanswered : goal.returns-then-not-restarts-clause-unanswered
@@ -31,3 +32,14 @@ pub returns-clause-course : goal.returns-clause-course
 returns-clause-course c course at =
     course_anew c.args.self.now c.in_ok-audit.audit c.args.told.now course (sym c.restarts.ensures ∙ c.if-not-restarts.false) at
     (c.in_ok-audit.ensures.course course at)
+
+pub returns-then-not-restarts-clause-room : goal.returns-then-not-restarts-clause-room
+returns-then-not-restarts-clause-room c =
+    room_there c.args.self.now c.args.told.now c.advance.result (sym c.restarts.ensures ∙ c.if-not-restarts.true) c.advance.ensures.room
+
+pub returns-in_err-audit-clause-room : goal.returns-in_err-audit-clause-room
+returns-in_err-audit-clause-room c =
+    let is : c.from_residual.result ≡ Err c.in_err-audit.field-0.0 = search rules in
+    rw is (λ e course at.
+    room_anew c.args.self.now c.args.told.now course (sym c.restarts.ensures ∙ c.if-not-restarts.false) at
+    (c.in_err-audit.ensures.room e course at))

@@ -1,8 +1,9 @@
-use Rattle.std.proofs.Common.{◌∙◌, ap, subst, true}
+use Rattle.std.proofs.Common.{◌≡◌, ◌∙◌, Err, ap, rules, subst, true}
 use Rattle.std.specs.Io.KnownBytes.{Appends}
 use Rattle.sdv_audit.specs.Course.{IsAt, course_after, found_at}
+use Rattle.sdv_audit_report.specs.Faults.{fault_of_audit}
 use Rattle.sdv_audit_report.specs.Notes.{csd_line_after, counted, standing_note, notes_taken, notes_found}
-use Rattle.sdv_audit_report.proofs.ReportLaws.{notes_same, report_after, three_notes, notes_are}
+use Rattle.sdv_audit_report.proofs.ReportLaws.{notes_same, report_after, take_room, three_notes, notes_are}
 use Rattle.sdv_audit_report.proofs.report.Report.take.Goals as goal
 
 pub returns-in-Ok-clause-course : goal.returns-in-Ok-clause-course
@@ -39,3 +40,8 @@ returns-in-Ok-clause-written g c p at =
     ∙ notes_same c.args.self.now.kind c.args.self.now.style c.args.self.now p c.args.told.now c.in_ok-found.found at
     (c.in_ok-found.ensures.found p.course at.course ∙ ap (λ v. found_at v c.args.told.now p.course) at.kind))))
     c.in-Ok.ensures
+
+pub returns-in_err-found-clause-room : goal.returns-in_err-found-clause-room
+returns-in_err-found-clause-room g c =
+    let is : c.from_residual-in_err-found.result ≡ Err (fault_of_audit c.in_err-found.field-0.0) = search rules in
+    rw is (take_room c.in_err-found.field-0.0 c.args.self.now c.args.told.now c.in_err-found.ensures.room)

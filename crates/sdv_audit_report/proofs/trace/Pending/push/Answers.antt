@@ -1,11 +1,11 @@
-use Rattle.std.proofs.Common.{◌++◌, [], ◌∷◌, Some, sym, subst}
+use Rattle.std.proofs.Common.{◌≡◌, ◌++◌, [], ◌∷◌, Err, Some, rules, sym, subst}
 use Rattle.sdv_audit_report.specs.Audited.{Written}
-use Rattle.sdv_audit_report.proofs.TraceLaws.{first_held, next_held}
+use Rattle.sdv_audit_report.proofs.TraceLaws.{first_held, next_held, no_room}
 use Rattle.sdv_audit_report.proofs.trace.Pending.push.Goals as goal
 use Rattle.sdv_audit_report.proofs.trace.Pending.push.Goals.{in-Some+in_ok-take-in-Some, in-None}
 
-pub returns : goal.returns
-returns g c k style read old wr =
+pub returns-clause-written : goal.returns-clause-written
+returns-clause-written g c k style read old wr =
     elim c.match-self.branch [
       | in-Some+in_ok-take-in-Some w ↦
           subst (λ v. Written v.report (Some c.args.line) k style (read ++ c.args.line ∷ []) old (g.W.Write.contents c.match-self.out)) (sym w.self-is)
@@ -25,3 +25,11 @@ returns g c k style read old wr =
           (first_held c.args.self.now.report k style read c.args.line old (g.W.Write.contents c.args.out.now)
           (subst (λ h. Written c.args.self.now.report h k style read old (g.W.Write.contents c.args.out.now)) w.in-None.is wr)))
     ]
+
+pub returns-in_err-take-in-Some-clause-room : goal.returns-in_err-take-in-Some-clause-room
+returns-in_err-take-in-Some-clause-room g c =
+    let is : c.from_residual.result ≡ Err c.in_err-take-in-Some.field-0.0 = search rules in
+    rw is (λ e k style read old wr.
+    no_room c.args.self.now.report c.in-Some.before (Some c.args.line) k style read old (g.W.Write.contents c.args.out.now)
+    (subst (λ h. Written c.args.self.now.report h k style read old (g.W.Write.contents c.args.out.now)) c.in-Some.is wr)
+    (c.in_err-take-in-Some.ensures.room e))

@@ -1,0 +1,12 @@
+use Rattle.std.proofs.Common.{◌≡◌, IfOk, Some, rules}
+use Rattle.sdv_describe.specs.Described.{Tells}
+use Rattle.sdv_describe.specs.Schedules.{TellsGiven}
+use Rattle.sdv_describe.proofs.ScheduleLaws.{both_told}
+use Rattle.sdv_describe.proofs.schedule.describe_given.Goals as goal
+
+pub returns-in-Some : goal.returns-in-Some
+returns-in-Some c =
+    let told : Tells c.args.text.now c.in_ok-page.page = search rules in
+    rw c.in-Some.is
+    (both_told c.args.text.now c.in-Some.bytes.now c.in_ok-page.page c.wrong_line.result c.beside.result told c.wrong_line.ensures
+    c.beside.ensures.words c.beside.ensures.fault)
