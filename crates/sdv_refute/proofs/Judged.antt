@@ -232,7 +232,11 @@ module _ (k : Kind) (laws : Laws k) (c : Card) (h : Host) (honest : IsHonest k c
   moves (sends command ways other) ts suits =
       moves_with (position_of_command h command.address)
       (λ position. Does (command_deed k command h position) h (λ returned h'. arrive (way_of k ways other returned) ts h'))
-      (λ position. (refl, (λ event is. subst (λ e. Makes k e h) (sym is) (record { address = address_of_command h command.address position; same = refl })), λ returned after. refl))
+      (λ position. (
+        refl,
+        (λ event is. subst (λ e. Makes k e h) (sym is) (record { address = address_of_command h command.address position; same = refl })),
+        λ returned after. refl,
+      ))
   moves (phases p well other) ts suits = (refl, makes_phase p, λ returned after. refl)
   moves (lets l t) ts suits =
       moves_with (value_of_let k h l) (λ n. Goes (arrive t ts (with_number h l.target n)))

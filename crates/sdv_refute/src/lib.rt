@@ -11,8 +11,6 @@ pub mod laws;
 mod next;
 mod sight;
 mod simulated;
-#[cfg(test)]
-mod tests;
 mod watching;
 mod wrong;
 

@@ -1,2 +1,3 @@
 pub mod SweptLaws
+pub mod TableLaws
 pub mod ZeroLaws

@@ -1,6 +1,5 @@
 -- Why no run of a sweep was made, and the blocks of an image in memory.
-use Rattle.std.proofs.Common.{arith, ◌≡◌, ◌∙◌, ◌⊎◌, ◌/◌, inl, inr, refl, ap, subst, sym, ℕ, List, [], length, Some, Result, Ok, Err, IfErr, IsErrAnd}
-use Rattle.sdv_card.specs.Card.{Block}
+use Rattle.std.proofs.Common.{arith, ◌≡◌, ◌/◌, inl, inr, ap, subst, ℕ, List, [], length, Some, Result, Ok, Err, IfErr, IsErrAnd}
 use Rattle.sdv_check.specs.Verified.{IsGraphOfText}
 use Rattle.sdv_description.specs.declared.card_desc.CardDesc.{CardDesc}
 use Rattle.sdv_description.specs.Gives.{Describes}

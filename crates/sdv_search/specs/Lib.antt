@@ -1,3 +1,4 @@
 pub mod Refuted
 pub mod Report
 pub mod Swept
+pub mod Table

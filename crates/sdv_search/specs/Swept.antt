@@ -12,7 +12,7 @@ use Rattle.sdv_trace.specs.declared.end.End.TheVariants.{Done, Fault}
 use Rattle.sdv_refute.specs.declared.wrong.Watched.{Watched}
 use Rattle.sdv_refute.specs.declared.wrong.Watched.TheVariants.{Ended, Stopped}
 use Rattle.sdv_refute.specs.declared.simulated.TryFault.{TryFault}
-use Rattle.sdv_refute.specs.declared.simulated.TryFault.TheVariants.{Script, Kind, Card, Memory}
+use Rattle.sdv_refute.specs.declared.simulated.TryFault.TheVariants.{Card, Memory}
 use Rattle.sdv_refute.specs.Tries.{NotTried, Tries, TryRefuses}
 use Rattle.sdv_search.specs.declared.sweeping.Row.{Row}
 use Rattle.sdv_search.specs.declared.sweeping.RunEnd.{RunEnd}

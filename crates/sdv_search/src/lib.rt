@@ -11,12 +11,10 @@ mod refuting;
 mod reporting;
 mod sweeping;
 mod table;
-#[cfg(test)]
-mod tests;
 
 pub use cards::small_cards;
 pub use mishaps::mishaps_in_words;
 pub use refuting::{Found, Refutation, refute};
 pub use reporting::{report, schedule_digits};
 pub use sweeping::{Row, RunEnd, SweepGiven, SweepTable, sweep};
-pub use table::{Tally, put_table, tally_of};
+pub use table::{Tally, has_wrong, put_table, tally_of};

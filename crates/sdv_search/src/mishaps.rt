@@ -5,10 +5,10 @@ use sdv_controller::Controller;
 use sdv_description::CardDesc;
 use sdv_graph::Graph;
 use sdv_image::MemImage;
-use sdv_refute::{Beside, Next, Onlooker, graph_of_text, try_graph};
-use sdv_run::Standing;
+use sdv_refute::{Beside, Next, Onlooker, Watched, graph_of_text, try_graph};
+use sdv_run::{RunFault, Standing};
 use sdv_sim::Sim;
-use sdv_telling::{Text, put, put_all, put_numbered};
+use sdv_telling::{Text, put, put_numbered};
 use std::alloc::{AllocError, Global};
 use std::io;
 
@@ -95,14 +95,22 @@ fn mishaps_of(
         &mut trace,
         &mut recorder,
     );
-    if tried.is_err() || recorder.failed {
-        return Err(AllocError);
+    match tried {
+        Ok(tried) if !is_short(&tried.result) && !recorder.failed => Ok(recorder.mishaps),
+        _ => Err(AllocError),
     }
-    Ok(recorder.mishaps)
+}
+
+/// Memory was refused to a run.
+fn is_short(end: &Result<Watched, RunFault>) -> bool {
+    match end {
+        Err(RunFault::Memory) => true,
+        _ => false,
+    }
 }
 
 /// Adds the name of an event.
-pub fn put_name(text: &mut Text, next: &Next) -> Result<(), AllocError> {
+fn put_name(text: &mut Text, next: &Next) -> Result<(), AllocError> {
     match next {
         Next::Send { ask, .. } => put_numbered(text, "CMD", u64::from(ask.index), ""),
         Next::Receive(count) => put_numbered(
@@ -119,18 +127,6 @@ pub fn put_name(text: &mut Text, next: &Next) -> Result<(), AllocError> {
             " blocks to the card",
         ),
         Next::Wait => put(text, "the wait"),
-        Next::Done => put(text, "done"),
-    }
-}
-
-/// Adds an event as in a trace.
-pub fn put_event(text: &mut Text, next: &Next) -> Result<(), AllocError> {
-    match next {
-        Next::Send { ask, .. } => put_numbered(text, "CMD", u64::from(ask.index), ""),
-        Next::Receive(count) => put_numbered(text, "IN ", u64::from(*count), ""),
-        Next::ReceiveRegister(count) => put_numbered(text, "REG ", u64::from(*count), ""),
-        Next::Give(count) => put_numbered(text, "OUT ", u64::from(*count), ""),
-        Next::Wait => put(text, "WAIT"),
         Next::Done => put(text, "done"),
     }
 }

@@ -172,7 +172,10 @@ impl Common<'_, '_, '_> {
         let tried = try_graph(
             alloc, self.graph, beside, image, &mut out, &mut trace, onlooker,
         )?;
-        Ok(end_of(tried.result))
+        match tried.result {
+            Err(RunFault::Memory) => Err(TryFault::Memory),
+            end => Ok(end_of(end)),
+        }
     }
 
     /// What a run comes to with one mishap. It is refused only for want of memory, where the run without a mishap was not.
@@ -229,7 +232,8 @@ impl Common<'_, '_, '_> {
 /// is no whole number of blocks, [`TryFault::Kind`], [`TryFault::Card`] where the card has not as many blocks. Also
 /// [`TryFault::Memory`].
 pub fn sweep(alloc: Global, given: &SweepGiven<'_>) -> Result<SweepTable, TryFault>
-    ensures swept { IfOk result (IsSweep given.now.script.now given.now.card.now given.now.image.now given.now.input.now) }
+    ensures swept { IfOk result
+        (IsSweep given.now.script.now given.now.card.now given.now.image.now given.now.input.now) }
     ensures refused { IfErr result (NotSwept given.now.script.now given.now.card.now given.now.image.now) }
 {
     let graph = match graph_of_text(alloc, given.script) {

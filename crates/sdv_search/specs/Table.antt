@@ -1,0 +1,75 @@
+-- THE TABLE of a sweep, as a text: a line for each event, with what the run comes to with each mishap there.
+use Rattle.std.specs.Prelude.{◌≡◌, ◌-◌, ◌+◌, ◌||◌, Bool, true, false, ℕ, List, ◌++◌, codes, decimal, flat_map, length, replicate}
+use Rattle.std.specs.List.{list_any}
+use Rattle.sdv_refute.specs.WrongLine.{name_text}
+use Rattle.sdv_search.specs.declared.sweeping.Row.{Row}
+use Rattle.sdv_search.specs.declared.sweeping.RunEnd.{RunEnd}
+use Rattle.sdv_search.specs.declared.sweeping.RunEnd.TheVariants as ends
+use Rattle.sdv_search.specs.declared.sweeping.SweepTable.{SweepTable}
+use Rattle.sdv_search.specs.declared.table.Tally.{Tally}
+
+-- A CELL: words, and spaces up to a width, one in any case
+abbrev pub padded : (width : ℕ) → (cell : List ℕ) → List ℕ
+padded width cell = cell ++ replicate (1 + (width - (length cell + 1))) 32
+
+abbrev pub end_word : RunEnd → List ℕ
+end_word ends.Done = codes "done"
+end_word ends.Fault = codes "fault"
+end_word (ends.Wrong point) = codes "wrong"
+end_word (ends.Stopped fault) = codes "stopped"
+
+abbrev pub end_cell : RunEnd → List ℕ
+end_cell end = padded 18 (end_word end)
+
+abbrev pub line_text : (line : ℕ) → List ℕ
+line_text line = codes "line " ++ decimal line
+
+-- A ROW: the line of the script, the event as in a trace, and an end for each mishap
+abbrev pub losses_text : Row → List ℕ
+losses_text row = end_cell row.command_lost ++ (end_cell row.answer_lost ++ end_cell row.slow)
+
+abbrev pub failures_text : Row → List ℕ
+failures_text row =
+    end_cell row.error ++ (end_cell row.refused ++ (end_cell row.cut ++ end_word row.switch_fails))
+
+abbrev pub row_text : Row → List ℕ
+row_text row = padded 11 (line_text row.line) ++ (padded 12 (name_text row.next)
+    ++ (losses_text row ++ (failures_text row ++ codes "\n")))
+
+abbrev pub rows_text : List Row → List ℕ
+rows_text rows = flat_map row_text rows
+
+-- THE WHOLE
+
+abbrev pub head : List ℕ
+head = codes "line       event       command lost      answer lost       not ready         error shown       refused           phase cut         switch fails\n"
+
+abbrev pub tally_text : Tally → List ℕ
+tally_text t =
+    decimal t.done ++ (codes " done, " ++ (decimal t.faults ++ (codes " faults, "
+    ++ (decimal t.wrong ++ (codes " wrong, " ++ (decimal t.stopped ++ codes " stopped\n"))))))
+
+abbrev pub plain_text : RunEnd → List ℕ
+plain_text end = codes "without a mishap: " ++ (end_word end ++ codes "\n")
+
+abbrev pub table_text : SweepTable → Tally → List ℕ
+table_text s t = head ++ (rows_text s.rows.items ++ (plain_text s.plain ++ tally_text t))
+
+-- the counts are not said
+pub record IsTable (s : SweepTable) (text : List ℕ) : Type 0 where
+  pub tally : Tally
+  pub same : text ≡ table_text s tally
+
+-- WHETHER A RUN comes to what is not allowed at the card
+
+abbrev pub is_wrong : RunEnd → Bool
+is_wrong (ends.Wrong point) = true
+is_wrong end = false
+
+abbrev pub are_wrong : Row → Bool
+are_wrong row =
+    is_wrong row.command_lost || (is_wrong row.answer_lost || (is_wrong row.slow || (is_wrong row.error
+    || (is_wrong row.refused || (is_wrong row.cut || is_wrong row.switch_fails)))))
+
+abbrev pub has_wrong : SweepTable → Bool
+has_wrong s = is_wrong s.plain || list_any are_wrong s.rows.items
