@@ -86,7 +86,7 @@ impl<'g, 'a> Model for Runner<'g, 'a> {
 }
 
 impl<'g, 'a> Runner<'g, 'a> {
-    ghost use Rattle.std.specs.Prelude.{◌≡◌, IfOk};
+    ghost use Rattle.std.specs.Prelude.{◌≡◌, ◌<◌, IfOk, length};
     ghost use Rattle.sdv_run.specs.Machine.{at_start, Came, Asked, IsPerformable, TookOn};
 
     /// A run of this graph, before its first event.
@@ -104,6 +104,22 @@ impl<'g, 'a> Runner<'g, 'a> {
             standing,
             left,
         })
+    }
+
+    /// The graph.
+    pub fn graph(&self) -> &'g Graph<'a>
+        ensures { result.now ≡ self.now.graph }
+    {
+        self.graph
+    }
+
+    /// The number of the point at which the run stands.
+    #[tactic(auto, using(crate::proofs::AtPoints::is_point))]
+    pub fn point(&self) -> usize
+        ensures point { result ≡ self.now.stand.point }
+        ensures on { result < length self.now.graph.points }
+    {
+        self.standing.point
     }
 
     /// The event that the run makes next, or its end. Asked again, it answers the same.

@@ -1,0 +1,5 @@
+pub mod LineLaws
+pub mod OpenLaws
+pub mod PieceLaws
+pub mod StepLaws
+pub mod ReadLaws

@@ -1,0 +1,45 @@
+-- Words of shapes depend only on which shapes there are.
+use Rattle.std.proofs.Common.{◌≡◌, ◌++◌, Bool, List, [], ◌∷◌, refl, ap}
+use Rattle.std.specs.Prelude.{codes}
+use Rattle.sdv_registers.specs.declared.kind.Kind.{Kind}
+use Rattle.sdv_card.specs.declared.answer.Answer.{Answer}
+use Rattle.sdv_card.specs.declared.answer.Answer.TheVariants.{Sent, TimeOut, Damaged, Reply as Replied}
+use Rattle.sdv_card.specs.declared.answer.DataEnd.{DataEnd}
+use Rattle.sdv_card.specs.declared.answer.DataEnd.TheVariants.{Ok as Whole, Cut}
+use Rattle.sdv_card.specs.declared.answer.WaitEnd.TheVariants.{Ok as InTime, Late}
+use Rattle.sdv_card.specs.declared.shape.Shape.{Shape}
+use Rattle.sdv_card.proofs.Members.{here}
+use Rattle.sdv_telling.specs.Statements.{Text}
+use Rattle.sdv_audit.specs.Course.{SameMembers}
+use Rattle.sdv_audit.specs.declared.line.TraceLine.{TraceLine}
+use Rattle.sdv_audit.specs.declared.line.TraceLine.TheVariants.{Exchange, BlocksIn, RegisterIn, BlocksOut, Wait, Lines, End}
+use Rattle.sdv_audit_report.proofs.ReportLaws.{standing_same}
+use Rattle.sdv_decode.specs.LineWords.{Spot, event_line, between, line_end, spot_front, told}
+use Rattle.sdv_decode.specs.Meaning.{answer_meaning, meaning, open_words, phase_meaning}
+
+open_same : (xs ys : List Shape) → SameMembers xs ys → open_words xs ≡ open_words ys
+open_same [] [] same = refl
+open_same [] (y ∷ ys) same = absurd ((same y).1 (here refl)).one
+open_same (x ∷ xs) [] same = absurd ((same x).0 (here refl)).one
+open_same (x ∷ xs) (y ∷ ys) same = ap (λ (words : Text). codes "the card may be " ++ words) (standing_same (x ∷ xs) (y ∷ ys) same)
+
+phase_same : (what : Text) (end : DataEnd) (xs ys : List Shape) → SameMembers xs ys → phase_meaning what end xs ≡ phase_meaning what end ys
+phase_same what Whole xs ys same = refl
+phase_same what Cut xs ys same = ap (λ (words : Text). what ++ (codes ", cut: " ++ words)) (open_same xs ys same)
+
+meaning_same : (k : Kind) (line : TraceLine) (xs ys : List Shape) → SameMembers xs ys → meaning k line xs ≡ meaning k line ys
+meaning_same k (Exchange command Sent) xs ys same = refl
+meaning_same k (Exchange command TimeOut) xs ys same = ap (λ (words : Text). codes "no answer: " ++ words) (open_same xs ys same)
+meaning_same k (Exchange command (Replied reply)) xs ys same = refl
+meaning_same k (Exchange command (Damaged fault)) xs ys same = refl
+meaning_same k (BlocksIn count end) xs ys same = phase_same (codes "blocks from the card") end xs ys same
+meaning_same k (RegisterIn count end) xs ys same = phase_same _ end xs ys same
+meaning_same k (BlocksOut count end) xs ys same = phase_same (codes "blocks to the card") end xs ys same
+meaning_same k (Wait InTime) xs ys same = refl
+meaning_same k (Wait Late) xs ys same = ap (λ (words : Text). codes "still busy: " ++ words) (open_same xs ys same)
+meaning_same k (Lines width) xs ys same = refl
+meaning_same k End xs ys same = refl
+
+pub event_line_same : (at : Spot) (app : Bool) (line : TraceLine) (xs ys : List Shape) → SameMembers xs ys → event_line at app line xs ≡ event_line at app line ys
+event_line_same at app line xs ys same =
+    ap (λ (words : Text). spot_front at ++ (told app line ++ (between at.json ++ (words ++ line_end at.json)))) (meaning_same at.graph.kind line xs ys same)

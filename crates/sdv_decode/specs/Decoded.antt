@@ -1,0 +1,147 @@
+-- A TRACE READ BESIDE A SCRIPT: which point of the script each of its lines is of, and what is printed of it.
+use Rattle.std.specs.Prelude.{◌≡◌, ◌⊎◌, ℕ, List, [], ◌∷◌, ◌++◌, Bool, true, false, Option, Some, None, Result, Ok, Err}
+use Rattle.sdv_card.specs.declared.state.Width.{Width}
+use Rattle.sdv_graph.specs.Graph.{Graph}
+use Rattle.sdv_registers.specs.declared.kind.Kind.{Kind}
+use Rattle.sdv_telling.specs.Statements.{Text}
+use Rattle.sdv_audit.specs.declared.fault.LineFault.{LineFault}
+use Rattle.sdv_audit.specs.declared.line.TraceLine.{TraceLine}
+use Rattle.sdv_audit.specs.declared.turn.Told.{Told}
+use Rattle.sdv_audit.specs.Audited.{lines_told}
+use Rattle.sdv_audit.specs.Course.{Course, begun, course_after}
+use Rattle.sdv_audit.specs.Reading.{read_line}
+use Rattle.sdv_audit_report.specs.Notes.{counted}
+use Rattle.sdv_trace.specs.declared.end.End.{End}
+use Rattle.sdv_run.specs.declared.fault.RunFault.{RunFault}
+use Rattle.sdv_run.specs.declared.next_event.Next.{Next}
+use Rattle.sdv_run.specs.declared.next_event.Next.TheVariants as nexts
+use Rattle.sdv_run.specs.declared.next_event.NextEvent.{NextEvent}
+use Rattle.sdv_run.specs.declared.next_event.NextEvent.TheVariants as events
+use Rattle.sdv_run.specs.Machine.{Machine, Asked, Came, TookOn, Went, at_start}
+use Rattle.sdv_decode.specs.LineWords.{Spot, announces, event_line, last_line, stray_line}
+use Rattle.sdv_decode.specs.Lines.{lines_in}
+use Rattle.sdv_decode.specs.Matches.{given_after, is_end, is_of, register_told, returned_of}
+use Rattle.sdv_decode.specs.declared.fault.TraceOff.{TraceOff}
+use Rattle.sdv_decode.specs.declared.fault.TraceOff.TheVariants.{Line, Script}
+
+-- WHERE A READING STANDS
+pub record Place : Type 0 where
+  -- the run of the script
+  pub machine : Machine
+  -- the next command is an application command
+  pub app : Bool
+  -- the shapes at which a card may stand that answered so
+  pub course : Course
+  -- the bytes of registers that are left, if they are given
+  pub given : Option (List ℕ)
+  -- the number of the next line, from 1
+  pub number : ℕ
+
+abbrev pub at_first : Graph → (given : Option (List ℕ)) → Place
+at_first g given = record { machine = at_start g; app = false; course = begun; given = given; number = 1 }
+
+-- the host's data lines at a phase; a run prints no line where it changes them
+abbrev pub uses : Kind → Width → Course → Course
+uses k width c = course_after k (lines_told width) c
+
+abbrev pub course_before : Kind → NextEvent → Course → Course
+course_before k (events.ReceiveBlocks lines count) c = uses k lines c
+course_before k (events.ReceiveRegister lines count) c = uses k lines c
+course_before k (events.GiveBlocks lines count) c = uses k lines c
+course_before k event c = c
+
+-- the line behind, where it is one
+abbrev pub line_read : Result TraceLine LineFault → Option TraceLine
+line_read (Ok line) = Some line
+line_read (Err fault) = None
+
+abbrev pub line_behind : List Text → Option TraceLine
+line_behind [] = None
+line_behind (text ∷ texts) = line_read (read_line text)
+
+abbrev pub told_with : TraceLine → Option TraceLine → Told
+told_with line next = record { line = line; next = next }
+
+abbrev pub course_by : Kind → NextEvent → TraceLine → Option TraceLine → Course → Course
+course_by k event line next c = course_after k (told_with line next) (course_before k event c)
+
+abbrev pub place_after : Place → (after : Machine) → NextEvent → TraceLine → Option TraceLine → Place
+place_after at after event line next = record {
+  machine = after;
+  app = announces line;
+  course = course_by after.graph.kind event line next at.course;
+  given = given_after at.given line;
+  number = counted true at.number;
+}
+
+abbrev pub spot_of : (json : Bool) → Place → Machine → Spot
+spot_of json at here = record { graph = here.graph; json = json; number = at.number; point = here.stand.point }
+
+-- A LINE
+
+-- it is that of the next event of the run, which returned what it tells
+pub record Passes (json : Bool) (at : Place) (text : Text) (next : Option TraceLine) (words : Text) (at' : Place) : Type 0 where
+  pub line : TraceLine
+  pub read : read_line text ≡ Ok line
+  pub here : Machine
+  pub came : Came at.machine here
+  pub event : NextEvent
+  pub asked : Asked here (Ok (nexts.Event event))
+  pub fits : is_of event line ≡ true
+  pub after : Machine
+  pub went : Went here (returned_of line (register_told at.given line)) after
+  pub leads : at' ≡ place_after at after event line next
+  pub told : words ≡ event_line (spot_of json at here) at.app line at'.course.shapes
+
+-- it is that of the end of the run
+pub record IsLast (json : Bool) (at : Place) (text words : Text) : Type 0 where
+  pub here : Machine
+  pub came : Came at.machine here
+  pub end : End
+  pub asked : Asked here (Ok (nexts.End end))
+  pub fits : is_end text end ≡ true
+  pub told : words ≡ last_line (spot_of json at here) end
+
+-- it is of nothing that the run does next
+abbrev pub Misfits : Machine → (text : Text) → TraceLine → (register : List ℕ) → Result Next RunFault → Type 0
+Misfits here text line register (Ok (nexts.Event event)) =
+    (is_of event line ≡ false)
+    ⊎ ((fault : RunFault) × TookOn here (returned_of line register) here (Err fault))
+Misfits here text line register (Ok (nexts.End end)) = is_end text end ≡ false
+Misfits here text line register (Err fault) = Unit {0}
+
+pub record Strays (json : Bool) (at : Place) (text words : Text) : Type 0 where
+  pub line : TraceLine
+  pub read : read_line text ≡ Ok line
+  pub here : Machine
+  pub came : Came at.machine here
+  pub asked : Result Next RunFault
+  pub next : Asked here asked
+  pub misfits : Misfits here text line (register_told at.given line) asked
+  pub told : words ≡ stray_line (spot_of json at here) line
+
+-- ALL LINES
+
+-- the line behind the end of the run, if there is one, is of nothing
+abbrev pub off_behind : (number : ℕ) → List Text → Option TraceOff
+off_behind number [] = None
+off_behind number (text ∷ texts) = Some (Script number)
+
+-- The reading stops at a line: at the end of the run, at a text that is no line, or at a line that the run does not come to.
+abbrev pub StopsAt : (json : Bool) → Place → (text : Text) → (texts : List Text) → (words : Text) → Option TraceOff → Type 0
+StopsAt json at text texts words off =
+    (IsLast json at text words × (off ≡ off_behind (counted true at.number) texts))
+    ⊎ (((fault : LineFault) × (read_line text ≡ Err fault) × (words ≡ []) × (off ≡ Some (Line fault at.number)))
+    ⊎ (Strays json at text words × (off ≡ Some (Script at.number))))
+
+-- the texts of lines are read from a place on: this is printed of them, and the trace is off at a line, or at none
+abbrev pub Reads : (json : Bool) → Place → List Text → (words : Text) → Option TraceOff → Type 0
+Reads json at [] words off = (words ≡ []) × (off ≡ None)
+Reads json at (text ∷ texts) words off =
+    ((at' : Place) × (first rest : Text) × Passes json at text (line_behind texts) first at' × (words ≡ first ++ rest)
+    × Reads json at' texts rest off)
+    ⊎ StopsAt json at text texts words off
+
+-- what is printed of a trace beside the graph of a script
+abbrev pub Decodes : Graph → (json : Bool) → (given : Option (List ℕ)) → (trace words : Text) → Option TraceOff → Type 0
+Decodes g json given trace words off = Reads json (at_first g given) (lines_in trace) words off

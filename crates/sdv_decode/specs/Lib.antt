@@ -1,0 +1,9 @@
+pub mod Faults
+pub mod Lines
+pub mod Matches
+pub mod Meaning
+pub mod LineWords
+pub mod Spots
+pub mod Decoded
+pub mod Steps
+pub mod DecodedText

@@ -1,0 +1,16 @@
+//! Traces beside scripts: which statement of a script each line of its trace is of, and what the line means.
+//!
+//! Begin at `specs/Decoded.antt`, which says what is printed of a trace. `specs/Matches.antt` says which lines an event
+//! has, and `specs/LineWords.antt` and `specs/Meaning.antt` have the words.
+#![tactic(auto)]
+
+mod decoding;
+mod fault;
+mod line_words;
+mod lines;
+mod matches;
+mod meaning;
+mod reading;
+
+pub use decoding::{Decoding, decode};
+pub use fault::{DecodeFault, TraceOff};

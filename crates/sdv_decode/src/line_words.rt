@@ -1,0 +1,185 @@
+//! The line that is printed of a line of a trace.
+
+ghost use Rattle.std.specs.Prelude.{◌≡◌, ◌<◌, ◌++◌, OnOk, length};
+ghost use Rattle.sdv_decode.specs.LineWords.{announces, between, end_told, event_line, front, has_other_meaning, json_front, last_line, line_end, mark, plain_front, spot_front, stray_line, stray_words, told};
+ghost use Rattle.sdv_decode.specs.Spots.{spot_seen};
+
+use crate::meaning::put_meaning;
+use sdv_audit::TraceLine;
+use sdv_audit_report::{put_answer, put_told};
+use sdv_card::{Answer, Shape};
+use sdv_frames::Reply;
+use sdv_graph::Graph;
+use sdv_registers::Status;
+use sdv_run::End;
+use sdv_telling::{Text, put, put_number, put_statement};
+use std::alloc::AllocError;
+
+/// Where a line stands.
+#[derive(Clone, Copy)]
+pub struct Spot<'g, 'a> {
+    /// The graph of the script.
+    pub graph: &'g Graph<'a>,
+    /// The line is printed as an object of JSON.
+    pub json: bool,
+    /// The number of the line, from 1.
+    pub number: u64,
+    /// The point of the script.
+    pub point: usize,
+}
+
+/// The card says that it takes the next command as an application command.
+pub fn announces(line: &TraceLine) -> bool
+    ensures { result ≡ announces line.now }
+{
+    match line {
+        TraceLine::Exchange {
+            command,
+            answer: Answer::Reply(Reply::R1 { status, .. }),
+        } => command.index == 55 && Status(*status).is_app_cmd(),
+        _ => false,
+    }
+}
+
+/// The commands that have another meaning then.
+fn has_other_meaning(index: u8) -> bool
+    ensures { result ≡ has_other_meaning index }
+{
+    index == 6 || index == 13 || index == 41 || index == 51
+}
+
+/// Adds the mark of an application command.
+fn put_mark(text: &mut Text, app: bool, line: &TraceLine) -> Result<(), AllocError>
+    ensures { OnOk result (text.new.items ≡ text.old.items ++ mark app line.now) }
+{
+    match line {
+        TraceLine::Exchange { command, .. } if app && has_other_meaning(command.index) => {
+            put(text, "A")
+        }
+        _ => Ok(()),
+    }
+}
+
+/// Adds what the trace says.
+fn put_line_told(text: &mut Text, app: bool, line: &TraceLine) -> Result<(), AllocError>
+    ensures { OnOk result (text.new.items ≡ text.old.items ++ told app line.now) }
+{
+    match line {
+        TraceLine::Exchange { answer, .. } => {
+            put_mark(text, app, line)?;
+            put_told(text, line)?;
+            put(text, " ")?;
+            put_answer(text, answer)
+        }
+        TraceLine::End => put(text, "the end"),
+        _ => put_told(text, line),
+    }
+}
+
+fn put_end_told(text: &mut Text, end: &End) -> Result<(), AllocError>
+    ensures { OnOk result (text.new.items ≡ text.old.items ++ end_told end.now) }
+{
+    match end {
+        End::Done => put(text, "done"),
+        End::Fault(name) => {
+            put(text, "fault ")?;
+            put(text, name.as_str())
+        }
+    }
+}
+
+fn put_plain_front(text: &mut Text, number: u64, script_line: u64) -> Result<(), AllocError>
+    ensures { OnOk result (text.new.items ≡ text.old.items ++ plain_front number script_line) }
+{
+    put(text, "line ")?;
+    put_number(text, number)?;
+    put(text, ", script line ")?;
+    put_number(text, script_line)?;
+    put(text, ": ")
+}
+
+fn put_json_front(text: &mut Text, number: u64, script_line: u64) -> Result<(), AllocError>
+    ensures { OnOk result (text.new.items ≡ text.old.items ++ json_front number script_line) }
+{
+    put(text, "{\"line\":")?;
+    put_number(text, number)?;
+    put(text, ",\"script\":")?;
+    put_number(text, script_line)?;
+    put(text, ",\"told\":\"")
+}
+
+/// Adds what stands before the words of a line.
+fn put_front(text: &mut Text, at: &Spot<'_, '_>) -> Result<(), AllocError>
+    requires { at.now.point < length at.now.graph.now.points }
+    ensures { OnOk result (text.new.items ≡ text.old.items ++ spot_front (spot_seen at.now)) }
+{
+    let script_line = u64::from(at.graph.line(at.point));
+    if at.json {
+        put_json_front(text, at.number, script_line)
+    } else {
+        put_plain_front(text, at.number, script_line)
+    }
+}
+
+fn between(json: bool) -> &'static str
+    ensures { result.now ≡ between json }
+{
+    if json { "\",\"text\":\"" } else { ": " }
+}
+
+fn line_end(json: bool) -> &'static str
+    ensures { result.now ≡ line_end json }
+{
+    if json { "\"}\n" } else { "\n" }
+}
+
+/// Adds the line of an event.
+pub fn put_event(
+    text: &mut Text,
+    at: &Spot<'_, '_>,
+    app: bool,
+    line: &TraceLine,
+    shapes: &[Shape],
+) -> Result<(), AllocError>
+    requires { at.now.point < length at.now.graph.now.points }
+    ensures { OnOk result (text.new.items ≡ text.old.items ++ event_line (spot_seen at.now) app line.now shapes.now) }
+{
+    put_front(text, at)?;
+    put_line_told(text, app, line)?;
+    put(text, between(at.json))?;
+    put_meaning(text, at.graph.kind(), line, shapes)?;
+    put(text, line_end(at.json))
+}
+
+/// Adds the line of the end of the run.
+pub fn put_last(text: &mut Text, at: &Spot<'_, '_>, end: &End) -> Result<(), AllocError>
+    requires { at.now.point < length at.now.graph.now.points }
+    ensures { OnOk result (text.new.items ≡ text.old.items ++ last_line (spot_seen at.now) end.now) }
+{
+    put_front(text, at)?;
+    put_end_told(text, end)?;
+    put(text, between(at.json))?;
+    put(text, "the run ends")?;
+    put(text, line_end(at.json))
+}
+
+/// Adds where the script stands.
+fn put_stray_words(text: &mut Text, at: &Spot<'_, '_>) -> Result<(), AllocError>
+    requires { at.now.point < length at.now.graph.now.points }
+    ensures { OnOk result (text.new.items ≡ text.old.items ++ stray_words (spot_seen at.now)) }
+{
+    put(text, "the script does not come here; it stands at ")?;
+    put_statement(text, &at.graph.point(at.point).action, at.graph.names())
+}
+
+/// Adds the line of what the script does not lead to.
+pub fn put_stray(text: &mut Text, at: &Spot<'_, '_>, line: &TraceLine) -> Result<(), AllocError>
+    requires { at.now.point < length at.now.graph.now.points }
+    ensures { OnOk result (text.new.items ≡ text.old.items ++ stray_line (spot_seen at.now) line.now) }
+{
+    put_front(text, at)?;
+    put_line_told(text, false, line)?;
+    put(text, between(at.json))?;
+    put_stray_words(text, at)?;
+    put(text, line_end(at.json))
+}
