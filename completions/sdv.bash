@@ -39,13 +39,13 @@ _sdv() {
     last=$((${#words[@]} - 1))
     local word=${words[last]} before=${words[last - 1]}
     if [ "$last" -eq 1 ]; then
-        _sdv_words "$word" "frame certify check run batch explain graph print emit audit describe drive card review --help --version"
+        _sdv_words "$word" "frame certify check run batch explain graph print emit audit describe drive card review try refute sweep decode --help --version"
         return
     fi
     # which of the command's words this is, options and their files left out
     for ((at = 2; at < last; at++)); do
         case ${words[at]} in
-        --in | --out | --trace | --binary) at=$((at + 1)) ;;
+        --in | --out | --trace | --binary | --card | --schedule | --registers) at=$((at + 1)) ;;
         -?*) ;;
         *) place=$((place + 1)) ;;
         esac
@@ -62,6 +62,29 @@ _sdv() {
         *:2) _sdv_files "$word" '*.card' ;;
         *:3) _sdv_image "$word" ;;
         *:4) _sdv_files "$word" '*' ;;
+        esac ;;
+    try:*)
+        case $before:$word:$place in
+        --in:* | --out:*) _sdv_files "$word" '*' ;;
+        *:-*:*) _sdv_words "$word" "--in --out" ;;
+        *:0) _sdv_files "$word" '*.sdv' ;;
+        *:1) _sdv_files "$word" '*.card' ;;
+        *:2) _sdv_image "$word" ;;
+        *:3) _sdv_files "$word" '*' ;;
+        esac ;;
+    refute:*)
+        case $before:$word:$place in
+        --card:* | --schedule:*) _sdv_files "$word" '*' ;;
+        *:-*:*) _sdv_words "$word" "--card --schedule" ;;
+        *:0) _sdv_files "$word" '*.sdv' ;;
+        esac ;;
+    sweep:*)
+        case $before:$word:$place in
+        --in:*) _sdv_files "$word" '*' ;;
+        *:-*:*) _sdv_words "$word" "--in" ;;
+        *:0) _sdv_files "$word" '*.sdv' ;;
+        *:1) _sdv_files "$word" '*.card' ;;
+        *:2) _sdv_image "$word" ;;
         esac ;;
     drive:*)
         case $before:$word:$place in
@@ -86,6 +109,13 @@ _sdv() {
         *:0) _sdv_words "$word" "sd emmc" ;;
         *:1) _sdv_files "$word" '*.trace' ;;
         esac ;;
+    decode:*)
+        case $before:$word:$place in
+        --registers:*) _sdv_files "$word" '*' ;;
+        *:-*:*) _sdv_words "$word" "--registers --json" ;;
+        *:0) _sdv_files "$word" '*.sdv' ;;
+        *:1) _sdv_files "$word" '*.trace' ;;
+        esac ;;
     review:*)
         case $word:$place in
         -*) _sdv_words "$word" "--json" ;;
@@ -103,6 +133,7 @@ _sdv() {
         *:0) _sdv_files "$word" '*.sdv' ;;
         esac ;;
     describe:0) _sdv_files "$word" '*.card' ;;
+    describe:1) _sdv_files "$word" '*' ;;
     batch:0) _sdv_words "$word" "sd emmc" ;;
     check:1) _sdv_files "$word" '*.cert' ;;
     certify:0 | check:0 | print:0) _sdv_files "$word" '*.sdv' ;;

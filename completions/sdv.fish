@@ -8,7 +8,7 @@ function __sdv_place
     for word in $words
         if test $skip -eq 1
             set skip 0
-        else if contains -- $word --in --out --trace --binary
+        else if contains -- $word --in --out --trace --binary --card --schedule --registers
             set skip 1
         else
             set place (math $place + 1)
@@ -22,7 +22,7 @@ function __sdv_at
     __fish_seen_subcommand_from $argv[2..]; and test (__sdv_place) -eq $argv[1]
 end
 
-set -l commands frame certify check run batch explain graph print emit audit describe drive card review
+set -l commands frame certify check run batch explain graph print emit audit describe drive card review try refute sweep decode
 
 complete -c sdv -f
 complete -c sdv -n "not __fish_seen_subcommand_from $commands" -s h -l help -d "How the program is called"
@@ -41,20 +41,33 @@ complete -c sdv -n "not __fish_seen_subcommand_from $commands" -a describe -d "A
 complete -c sdv -n "not __fish_seen_subcommand_from $commands" -a drive -d "Run a script over lines"
 complete -c sdv -n "not __fish_seen_subcommand_from $commands" -a card -d "Answer requests by a simulated card"
 complete -c sdv -n "not __fish_seen_subcommand_from $commands" -a review -d "What an accepted script leaves open for the data"
+complete -c sdv -n "not __fish_seen_subcommand_from $commands" -a try -d "Run any script beside a simulated card"
+complete -c sdv -n "not __fish_seen_subcommand_from $commands" -a refute -d "A run that shows that a script is refused"
+complete -c sdv -n "not __fish_seen_subcommand_from $commands" -a sweep -d "How each run with one mishap ends"
+complete -c sdv -n "not __fish_seen_subcommand_from $commands" -a decode -d "What the lines of a trace are of, and mean"
 
-complete -c sdv -n "__sdv_at 0 certify check run explain graph print emit drive review" -k -a "(__fish_complete_suffix .sdv)"
+complete -c sdv -n "__sdv_at 0 certify check run explain graph print emit drive review try refute sweep decode" -k -a "(__fish_complete_suffix .sdv)"
 complete -c sdv -n "__sdv_at 1 check run emit drive explain" -k -a "(__fish_complete_suffix .cert)"
 complete -c sdv -n "__sdv_at 2 run" -k -a "(__fish_complete_suffix .card)"
 complete -c sdv -n "__sdv_at 3 run" -F -a "new:" -d "An image of zeros: new:BLOCKS"
 complete -c sdv -n "__sdv_at 4 run" -F -d "Schedule"
+complete -c sdv -n "__sdv_at 1 try sweep" -k -a "(__fish_complete_suffix .card)"
+complete -c sdv -n "__sdv_at 2 try sweep" -F -a "new:" -d "An image of zeros: new:BLOCKS"
+complete -c sdv -n "__sdv_at 3 try" -F -d "Schedule"
 complete -c sdv -n "__sdv_at 1 card" -F -a "new:" -d "An image of zeros: new:BLOCKS"
 complete -c sdv -n "__sdv_at 2 card" -F -d "Schedule"
-complete -c sdv -n "__fish_seen_subcommand_from run drive" -l in -r -F -d "The blocks that the script gives"
-complete -c sdv -n "__fish_seen_subcommand_from run drive" -l out -r -F -d "The file for the blocks that it receives"
+complete -c sdv -n "__sdv_at 1 describe" -F -d "Schedule"
+complete -c sdv -n "__fish_seen_subcommand_from run drive try sweep" -l in -r -F -d "The blocks that the script gives"
+complete -c sdv -n "__fish_seen_subcommand_from run drive try" -l out -r -F -d "The file for the blocks that it receives"
 complete -c sdv -n "__fish_seen_subcommand_from drive" -l trace -r -F -d "The file for the trace"
+complete -c sdv -n "__fish_seen_subcommand_from refute" -l card -r -F -d "The file for the description of the card"
+complete -c sdv -n "__fish_seen_subcommand_from refute" -l schedule -r -F -d "The file for the schedule"
 complete -c sdv -n "__fish_seen_subcommand_from emit" -l binary -r -F -d "The file for the words of the table as bytes"
 complete -c sdv -n "__fish_seen_subcommand_from audit" -l json -d "Print JSON"
 complete -c sdv -n "__fish_seen_subcommand_from audit" -l annotate -d "Print each line of the trace too"
+complete -c sdv -n "__sdv_at 1 decode" -k -a "(__fish_complete_suffix .trace)"
+complete -c sdv -n "__fish_seen_subcommand_from decode" -l registers -r -F -d "The bytes of the registers that came"
+complete -c sdv -n "__fish_seen_subcommand_from decode" -l json -d "Print JSON"
 complete -c sdv -n "__fish_seen_subcommand_from review" -l json -d "Print JSON"
 complete -c sdv -n "__fish_seen_subcommand_from explain" -l why -d "Print only why it is refused"
 complete -c sdv -n "__fish_seen_subcommand_from graph" -l no-faults -d "Leave out the statements that end in a fault"

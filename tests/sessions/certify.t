@@ -44,3 +44,7 @@ Files that are no texts, or none.
   [2]
   $ sdv certify a.sdv > /dev/full
   [2]
+
+The certificate that `make quick` shows.
+
+  $ sed 's/at block 8/at by hc 8/' $EXAMPLES/refused_block_address.sdv > mended.sdv; sdv certify mended.sdv | cmp - $EXAMPLES/quick/mended.cert

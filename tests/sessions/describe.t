@@ -36,3 +36,20 @@ A text that is none.
   $ sdv describe none.card
   cannot use none.card
   [2]
+
+A schedule beside a card.
+
+  $ printf '0 0\r\n02\n' > good; sdv describe $EXAMPLES/sd_byte.card good | tail -n 1
+  schedule: digits from 0 to 7, as `run` wants them
+  $ printf '01\n08\n' > wrong; sdv describe $EXAMPLES/sd_byte.card wrong 2> said | tail -n 1
+  the schedule is wrong, line 2: here is to stand a digit from 0 to 7
+  $ sdv describe $EXAMPLES/sd_byte.card wrong > page; echo $?
+  card fault Description
+  1
+  $ printf 'card sd\nversion 3\n' | sdv describe - wrong
+  line 2: here is to stand `version` and 1 or 2
+  card fault Description
+  [1]
+  $ sdv describe $EXAMPLES/sd_byte.card none
+  cannot use none
+  [2]

@@ -46,3 +46,17 @@ Why there is none; nothing is printed, and no file is made, then.
   [2]
   $ wc -c < c.c
   0
+
+The file of the words is none of those that are read, by its name or by a link.
+
+  $ sdv emit a.sdv a.cert table --binary a.sdv
+  cannot use a.sdv
+  [2]
+  $ sdv emit a.sdv a.cert table --binary ./a.cert
+  cannot use ./a.cert
+  [2]
+  $ ln -s a.cert link; sdv emit a.sdv a.cert table --binary link
+  cannot use link
+  [2]
+  $ sdv check a.sdv a.cert
+  accepted 1

@@ -2,11 +2,15 @@ Reviews of scripts in files. Each of these begins with a bring-up of an example.
 
   $ sdv review $EXAMPLES/production/sd_write_many.sdv
   nothing found
+  gives at most 24 blocks
   $ sdv review --json $EXAMPLES/production/sd_write_many.sdv
+  {"kind":"blocks","text":"gives at most 24 blocks"}
   $ sdv batch sd "write 3 2 read 3 2" | sdv review -
   nothing found
+  gives at most 2 blocks
   $ sdv batch emmc "write 3 2 read 3 2 write 9 1" | sdv review -
   nothing found
+  gives at most 3 blocks
 
 A write that a clean status in transfer state confirms, one that nothing confirms, and one whose error is passed over.
 
@@ -34,19 +38,27 @@ A write that a clean status in transfer state confirms, one that nothing confirm
   >   for name in confirmed open doubt ready; do echo $kind $name; sdv review $name.sdv | grep -v 'no run comes to fault write'; done
   > done
   sd confirmed
+  gives at most 1 block
   sd open
   line 16: done may come before the write of line 15 is confirmed
+  gives at most 1 block
   sd doubt
   line 16: done may come where the write of line 15 was cut, or its error passed over
+  gives at most 1 block
   sd ready
   line 16: done may come where the write of line 15 was cut, or its error passed over
+  gives at most 1 block
   emmc confirmed
+  gives at most 1 block
   emmc open
   line 15: done may come before the write of line 14 is confirmed
+  gives at most 1 block
   emmc doubt
   line 15: done may come where the write of line 14 was cut, or its error passed over
+  gives at most 1 block
   emmc ready
   line 15: done may come where the write of line 14 was cut, or its error passed over
+  gives at most 1 block
 
 A write that was cut, and given up for a done; and one that was left for another place.
 
@@ -66,8 +78,10 @@ A write that was cut, and given up for a done; and one that was left for another
   > END
   > sdv review cut.sdv; sdv review --json other.sdv
   line 16: done may come where the write of line 15 was cut, or its error passed over
+  gives at most 1 block
   {"line":20,"kind":"unreached","text":"no run comes to fault write"}
-  {"line":19,"kind":"write","text":"done may come after the write of line 15, which may have failed, was left for another"}
+  {"line":19,"kind":"write","text":"done may come where line 18 left the write of line 15, which may have failed"}
+  {"kind":"blocks","text":"gives at most 2 blocks"}
   [1]
 
 An erase, confirmed and not.
@@ -102,6 +116,7 @@ A CMD6 that was lost leaves open which partition a write reaches.
   line 23: CMD24 may reach the user area or boot partition 1
   line 25: no run comes to fault write
   line 15: cap is never read
+  gives at most 1 block
   [1]
 
 A write into another partition than the script may have asked for, as it seems by its statements alone.

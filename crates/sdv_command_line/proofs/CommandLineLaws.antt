@@ -11,8 +11,8 @@ use Rattle.clap.specs.Faults.{entered_fault, level_fault}
 use Rattle.clap.specs.Words.{App, app_of, HasKind, Kinds, Row, Shape, Text, built, fault_of, first_of, is_simple, is_simple_and_free, kind_of, matches_of, subcommand_of, takes}
 use Rattle.clap.specs.declared.error.Error.{Error}
 use Rattle.clap.specs.declared.error.kind.ErrorKind.TheVariants.{OutOfMemory}
-use Rattle.sdv_command_line.specs.Commands.{Command, Word, of_emit, of_run, of_script, of_script_and_certificate, of_explain, of_graph, required, optional, with_value, flag, of_audit, of_card, of_drive, of_served_card, of_review}
-use Rattle.sdv_command_line.specs.Requests.{Request, by_emit_words, by_run_words, by_script, by_two_words, run, frame, certify, check, batch, emit, explain, graph, print, request_in, seen, by_audit_words, by_card, by_card_words, by_drive_words, by_explain_words, by_graph_words, is_set, audit, describe, drive, serve, review}
+use Rattle.sdv_command_line.specs.Commands.{Command, Word, of_emit, of_run, of_script, of_script_and_certificate, of_explain, of_graph, required, optional, with_value, flag, of_audit, of_card, of_drive, of_served_card, of_review, of_try, of_refute, of_sweep, of_decode}
+use Rattle.sdv_command_line.specs.Requests.{Request, by_emit_words, by_run_words, by_script, by_two_words, run, frame, certify, check, batch, emit, explain, graph, print, request_in, seen, by_audit_words, by_card_words, by_decode_words, by_describe_words, by_drive_words, by_explain_words, by_graph_words, is_set, audit, describe, drive, serve, review, attempt, refute, sweep, by_refute_words, by_sweep_words, by_try_words, decode}
 use Rattle.sdv_command_line.specs.CommandLine.{app_for, command_line, meaning_of, request_without, rule_for, with_word}
 use Rattle.sdv_command_line.specs.declared.request.Request.{Request as CodeRequest}
 use Rattle.sdv_command_line.specs.declared.request.RequestFault.{RequestFault}
@@ -180,10 +180,10 @@ explain_given rows =
 graph_given : (rows : List Row) → is_some (first_of (codes "SCRIPT") rows) ≡ true → is_some (by_graph_words rows) ≡ true
 graph_given rows = script_given (λ script. graph (record { script = script; no_faults = is_set (codes "no-faults") rows })) rows
 
-card_given : (request : Text → Request) (rows : List Row) → is_some (first_of (codes "CARD") rows) ≡ true → is_some (by_card request rows) ≡ true
-card_given request rows given = go (first_of (codes "CARD") rows) given
+described_given : (rows : List Row) → is_some (first_of (codes "CARD") rows) ≡ true → is_some (by_describe_words rows) ≡ true
+described_given rows given = go (first_of (codes "CARD") rows) given
   where
-    go : (card : Option Text) → is_some card ≡ true → is_some (option_and_then (λ card. Some (request card)) card) ≡ true
+    go : (card : Option Text) → is_some card ≡ true → is_some (option_and_then (λ card. Some (describe card (first_of (codes "SCHEDULE") rows))) card) ≡ true
     go None given = cc
     go (Some card) given = refl
 
@@ -203,6 +203,60 @@ served_given : (rows : List Row) → is_some (first_of (codes "CARD") rows) ≡ 
 served_given rows card image =
     two_given (codes "CARD") (codes "IMAGE")
     (λ card image. serve (record { card = card; image = image; schedule = first_of (codes "SCHEDULE") rows })) rows card image
+
+try_given : (rows : List Row) → is_some (first_of (codes "SCRIPT") rows) ≡ true → is_some (first_of (codes "CARD") rows) ≡ true
+    → is_some (first_of (codes "IMAGE") rows) ≡ true → is_some (by_try_words rows) ≡ true
+try_given rows script card image =
+    go (first_of (codes "SCRIPT") rows) (first_of (codes "CARD") rows) (first_of (codes "IMAGE") rows) script card image
+  where
+    names : (script card image : Text) → Request
+    names script card image = attempt (record {
+      script = script;
+      card = card;
+      image = image;
+      schedule = first_of (codes "SCHEDULE") rows;
+      input = first_of (codes "in") rows;
+      output = first_of (codes "out") rows;
+    })
+
+    go : (a b c : Option Text) → is_some a ≡ true → is_some b ≡ true → is_some c ≡ true
+        → is_some (option_and_then (λ a. option_and_then (λ b. option_and_then (λ c. Some (names a b c)) c) b) a) ≡ true
+    go None b c is_a is_b is_c = cc
+    go (Some a) None c is_a is_b is_c = cc
+    go (Some a) (Some b) None is_a is_b is_c = cc
+    go (Some a) (Some b) (Some c) is_a is_b is_c = refl
+
+refute_given : (rows : List Row) → is_some (first_of (codes "SCRIPT") rows) ≡ true → is_some (by_refute_words rows) ≡ true
+refute_given rows = script_given (λ script. refute (record {
+  script = script;
+  description = first_of (codes "card") rows;
+  schedule = first_of (codes "schedule") rows;
+})) rows
+
+sweep_given : (rows : List Row) → is_some (first_of (codes "SCRIPT") rows) ≡ true → is_some (first_of (codes "CARD") rows) ≡ true
+    → is_some (first_of (codes "IMAGE") rows) ≡ true → is_some (by_sweep_words rows) ≡ true
+sweep_given rows script card image =
+    go (first_of (codes "SCRIPT") rows) (first_of (codes "CARD") rows) (first_of (codes "IMAGE") rows) script card image
+  where
+    names : (script card image : Text) → Request
+    names script card image = sweep (record { script = script; card = card; image = image; input = first_of (codes "in") rows })
+
+    go : (a b c : Option Text) → is_some a ≡ true → is_some b ≡ true → is_some c ≡ true
+        → is_some (option_and_then (λ a. option_and_then (λ b. option_and_then (λ c. Some (names a b c)) c) b) a) ≡ true
+    go None b c is_a is_b is_c = cc
+    go (Some a) None c is_a is_b is_c = cc
+    go (Some a) (Some b) None is_a is_b is_c = cc
+    go (Some a) (Some b) (Some c) is_a is_b is_c = refl
+
+decode_given : (rows : List Row) → is_some (first_of (codes "SCRIPT") rows) ≡ true → is_some (first_of (codes "TRACE") rows) ≡ true
+    → is_some (by_decode_words rows) ≡ true
+decode_given rows script trace =
+    two_given (codes "SCRIPT") (codes "TRACE") (λ script trace. decode (record {
+      script = script;
+      trace = trace;
+      registers = first_of (codes "registers") rows;
+      json = is_set (codes "json") rows;
+    })) rows script trace
 
 frame_means : Means (shape 0)
 frame_means words none =
@@ -252,7 +306,7 @@ audit_means words none =
 
 describe_means : Means (shape 10)
 describe_means words none =
-    card_given describe (rows_at (shape 10) words).1 ((leaf_required (shape 10) words (one_word 1 of_card) none).0 refl)
+    described_given (rows_at (shape 10) words).1 ((leaf_required (shape 10) words (one_word 1 of_card) none).0 refl)
 
 drive_means : Means (shape 11)
 drive_means words none =
@@ -269,8 +323,27 @@ review_means words none =
     let rows = (rows_at (shape 13) words).1 in
     script_given (λ script. review script (is_set (codes "json") rows)) rows ((leaf_required (shape 13) words (one_word 1 of_review) none).0 refl)
 
+try_means : Means (shape 14)
+try_means words none =
+    let given = leaf_required (shape 14) words (one_word 1 of_try) none in
+    try_given (rows_at (shape 14) words).1 (given.0 refl) (given.1.0 refl) (given.1.1.0 refl)
+
+refute_means : Means (shape 15)
+refute_means words none =
+    refute_given (rows_at (shape 15) words).1 ((leaf_required (shape 15) words (one_word 1 of_refute) none).0 refl)
+
+sweep_means : Means (shape 16)
+sweep_means words none =
+    let given = leaf_required (shape 16) words (one_word 1 of_sweep) none in
+    sweep_given (rows_at (shape 16) words).1 (given.0 refl) (given.1.0 refl) (given.1.1.0 refl)
+
+decode_means : Means (shape 17)
+decode_means words none =
+    let given = leaf_required (shape 17) words (one_word 1 of_decode) none in
+    decode_given (rows_at (shape 17) words).1 (given.0 refl) (given.1.0 refl)
+
 each_means : AllByRecursion Means (built command_line).subs
-each_means = (frame_means, (certify_means, (check_means, (run_means, (batch_means, (explain_means, (graph_means, (print_means, (emit_means, (audit_means, (describe_means, (drive_means, (served_means, (review_means, tt))))))))))))))
+each_means = (frame_means, (certify_means, (check_means, (run_means, (batch_means, (explain_means, (graph_means, (print_means, (emit_means, (audit_means, (describe_means, (drive_means, (served_means, (review_means, (try_means, (refute_means, (sweep_means, (decode_means, tt))))))))))))))))))
 
 found_means : (p : Shape → Bool) (shapes : List Shape) → AllByRecursion Means shapes → IfSome (find p shapes) Means
 found_means p [] each = tt

@@ -55,7 +55,7 @@ abbrev pub of_audit : List Word
 of_audit = required (codes "KIND") ∷ required (codes "TRACE") ∷ flag (codes "json") ∷ flag (codes "annotate") ∷ []
 
 abbrev pub of_card : List Word
-of_card = required (codes "CARD") ∷ []
+of_card = required (codes "CARD") ∷ optional (codes "SCHEDULE") ∷ []
 
 abbrev pub of_drive : List Word
 of_drive =
@@ -70,6 +70,31 @@ of_served_card = required (codes "CARD") ∷ required (codes "IMAGE") ∷ option
 
 abbrev pub of_review : List Word
 of_review = required (codes "SCRIPT") ∷ flag (codes "json") ∷ []
+
+abbrev pub of_try : List Word
+of_try =
+    required (codes "SCRIPT") ∷ required (codes "CARD") ∷ required (codes "IMAGE")
+    ∷ optional (codes "SCHEDULE")
+    ∷ with_value (codes "in") (codes "FILE")
+    ∷ with_value (codes "out") (codes "FILE")
+    ∷ []
+
+abbrev pub of_refute : List Word
+of_refute =
+    required (codes "SCRIPT") ∷ with_value (codes "card") (codes "FILE") ∷ with_value (codes "schedule") (codes "FILE") ∷ []
+
+abbrev pub of_sweep : List Word
+of_sweep =
+    required (codes "SCRIPT") ∷ required (codes "CARD") ∷ required (codes "IMAGE")
+    ∷ with_value (codes "in") (codes "FILE")
+    ∷ []
+
+abbrev pub of_decode : List Word
+of_decode =
+    required (codes "SCRIPT") ∷ required (codes "TRACE")
+    ∷ with_value (codes "registers") (codes "FILE")
+    ∷ flag (codes "json")
+    ∷ []
 
 -- the commands, in the order of the usage line
 abbrev pub commands : List Command
@@ -88,6 +113,10 @@ commands =
     ∷ command (codes "drive") of_drive (codes "runs the script over lines: requests are printed, and answers read")
     ∷ command (codes "card") of_served_card (codes "answers such requests by a simulated card")
     ∷ command (codes "review") of_review (codes "prints what an accepted script leaves open for the data")
+    ∷ command (codes "try") of_try (codes "runs any script beside a simulated card, and stops before what is not allowed there")
+    ∷ command (codes "refute") of_refute (codes "looks for a run that shows that a script is refused")
+    ∷ command (codes "sweep") of_sweep (codes "prints how each run with one mishap ends")
+    ∷ command (codes "decode") of_decode (codes "prints which statement of the script each line of a trace is of, and what it means")
     ∷ []
 
 -- a word and a command of the code's table

@@ -14,7 +14,7 @@ pub use help_page::{command_named, command_page};
 pub use mistake::usage_line;
 pub use pages::{HELP, USAGE, help, usage};
 pub use request::{
-    AuditWords, CardFiles, DriveFiles, EmitWords, ExplainWords, GraphWords, Request, RequestFault,
-    RunFiles, request_of,
+    AuditWords, CardFiles, DecodeWords, DriveFiles, EmitWords, ExplainWords, GraphWords,
+    RefuteFiles, Request, RequestFault, RunFiles, SweepFiles, TryFiles, request_of,
 };
 pub use table::{COMMANDS, CommandEntry, Word};

@@ -4,6 +4,7 @@ ghost use Rattle.std.specs.Borrow.{Bor};
 ghost use Rattle.clap.specs.Walk.{texts};
 ghost use Rattle.sdv_command_line.specs.Commands.{seen_command, seen_word};
 ghost use Rattle.sdv_command_line.specs.CommandPages.{command_named};
+ghost use Rattle.sdv_command_line.specs.declared.table.CommandEntry.{CommandEntry as Entry};
 ghost use Rattle.sdv_command_line.specs.Mistakes.{after_option, after_place, after_word, has_option, is_kind, is_left, is_option};
 ghost use Rattle.sdv_command_line.specs.Mistakes.{command_line_words, mistake_at, mistake_in, mistake_words};
 ghost use Rattle.sdv_command_line.specs.Mistakes.{fits, option_in, option_name, place_name, seen_mistake, seen_reading};
@@ -69,7 +70,21 @@ fn put_command_line(line: &mut Vec<u8>, name: &str, words: &[&str]) -> Result<()
     ensures { OnOk result (line.new.items ≡ line.old.items
         ++ command_line_words name.now (texts words.now) (command_named name.now)) }
 {
-    match command_named(name) {
+    put_line_of(line, name, words, command_named(name))
+}
+
+/// The rest of the line, by the command of that name, if there is one.
+fn put_line_of(
+    line: &mut Vec<u8>,
+    name: &str,
+    words: &[&str],
+    found: Option<&'static CommandEntry>,
+) -> Result<(), AllocError>
+    ensures { OnOk result (line.new.items ≡ line.old.items
+        ++ command_line_words name.now (texts words.now)
+        (option_map (λ (entry : Bor Entry). seen_command entry.now) found.entry)) }
+{
+    match found {
         None => {
             put(line, name)?;
             put(line, " is no command; sdv --help lists them\n")

@@ -5,9 +5,9 @@ ghost use Rattle.clap.specs.Words.{fault_of, first_of, found_of, kind_of, rows_o
 ghost use Rattle.clap.specs.Walk.{texts};
 ghost use Rattle.clap.specs.declared.error.kind.ErrorKind.TheVariants.{OutOfMemory};
 ghost use Rattle.sdv_command_line.specs.CommandLine.{command_line, meaning_of};
-ghost use Rattle.sdv_command_line.specs.Requests.{by_emit_words, by_run_words, by_script, by_two_words, request_in, seen, by_audit_words, by_card, by_review_words, is_set};
-ghost use Rattle.sdv_command_line.specs.Requests.{batch, by_explain_words, by_graph_words, certify, check, frame, print, describe};
-ghost use Rattle.sdv_command_line.specs.Requests.{by_card_words, by_drive_words};
+ghost use Rattle.sdv_command_line.specs.Requests.{by_emit_words, by_run_words, by_script, by_two_words, request_in, seen, by_audit_words, by_describe_words, by_review_words, is_set};
+ghost use Rattle.sdv_command_line.specs.Requests.{batch, by_explain_words, by_graph_words, certify, check, frame, print};
+ghost use Rattle.sdv_command_line.specs.Requests.{by_card_words, by_decode_words, by_drive_words, by_refute_words, by_sweep_words, by_try_words};
 
 use crate::clap_command::program_command;
 use crate::pages::USAGE;
@@ -50,9 +50,10 @@ pub enum Request<'a> {
     },
     /// The audit of the trace in this file.
     Audit(AuditWords<'a>),
-    /// What the card description in this file says.
+    /// What the card description in this file says, and whether the schedule in another is one.
     Describe {
         card: &'a str,
+        schedule: Option<&'a str>,
     },
     /// What the script in this file leaves open for the data, as JSON or in words.
     Review {
@@ -65,6 +66,14 @@ pub enum Request<'a> {
     Drive(DriveFiles<'a>),
     /// The simulated card of these files, which answers requests in lines.
     Card(CardFiles<'a>),
+    /// The run of the script in these files, which has no certificate, beside a simulated card.
+    Try(TryFiles<'a>),
+    /// The search for a run that refutes the script in this file.
+    Refute(RefuteFiles<'a>),
+    /// All runs of the script in these files with one mishap.
+    Sweep(SweepFiles<'a>),
+    /// What the lines of the trace in these files are of, and mean.
+    Decode(DecodeWords<'a>),
 }
 
 /// The names of the files of a run over lines.
@@ -119,6 +128,44 @@ pub struct RunFiles<'a> {
     pub output: Option<&'a str>,
 }
 
+/// The names of the files of a run without a certificate.
+#[derive(Clone, Copy)]
+pub struct TryFiles<'a> {
+    pub script: &'a str,
+    /// The description of the card.
+    pub card: &'a str,
+    /// The image of the card, or `new:` and how many blocks of zeros it has.
+    pub image: &'a str,
+    /// The schedule of the card. Without one the card is prompt at each event.
+    pub schedule: Option<&'a str>,
+    /// The blocks that the script gives. Without it there are none.
+    pub input: Option<&'a str>,
+    /// Where the blocks go that the script receives. Without it they are dropped.
+    pub output: Option<&'a str>,
+}
+
+/// The names of the files of a search for a run that refutes a script.
+#[derive(Clone, Copy)]
+pub struct RefuteFiles<'a> {
+    pub script: &'a str,
+    /// Where the description of the card goes. Without it it is only printed.
+    pub description: Option<&'a str>,
+    /// Where the schedule goes. Without it it is only printed.
+    pub schedule: Option<&'a str>,
+}
+
+/// The names of the files of all runs with one mishap.
+#[derive(Clone, Copy)]
+pub struct SweepFiles<'a> {
+    pub script: &'a str,
+    /// The description of the card.
+    pub card: &'a str,
+    /// The image of the card before each run, or `new:` and how many blocks of zeros it has.
+    pub image: &'a str,
+    /// The blocks that the script gives. Without it there are none.
+    pub input: Option<&'a str>,
+}
+
 /// The words of an explanation.
 #[derive(Clone, Copy)]
 pub struct ExplainWords<'a> {
@@ -148,6 +195,18 @@ pub struct AuditWords<'a> {
     pub json: bool,
     /// Each line of the trace is printed too.
     pub annotate: bool,
+}
+
+/// The words of a trace that is read beside a script.
+#[derive(Clone, Copy)]
+pub struct DecodeWords<'a> {
+    pub script: &'a str,
+    /// The file of the trace.
+    pub trace: &'a str,
+    /// The bytes of the registers that came. Without it they are not known.
+    pub registers: Option<&'a str>,
+    /// An object of JSON is printed for each line.
+    pub json: bool,
 }
 
 /// Why words are no request.
@@ -217,6 +276,10 @@ fn request_in<'a>(matches: &ArgMatches<'a>) -> Option<Request<'a>>
         ("drive", matches) => drive_in(matches),
         ("card", matches) => card_in(matches),
         ("review", matches) => review_in(matches),
+        ("try", matches) => try_in(matches),
+        ("refute", matches) => refute_in(matches),
+        ("sweep", matches) => sweep_in(matches),
+        ("decode", matches) => decode_in(matches),
         _ => None,
     }
 }
@@ -335,10 +398,11 @@ fn audit_in<'a>(matches: &ArgMatches<'a>) -> Option<Request<'a>>
 }
 
 fn describe_in<'a>(matches: &ArgMatches<'a>) -> Option<Request<'a>>
-    ensures { option_map seen result ≡ by_card describe (rows_of (found_of matches.now)) }
+    ensures { option_map seen result ≡ by_describe_words (rows_of (found_of matches.now)) }
 {
     let card = word_in(matches, "CARD")?;
-    Some(Request::Describe { card })
+    let schedule = word_in(matches, "SCHEDULE");
+    Some(Request::Describe { card, schedule })
 }
 
 fn review_in<'a>(matches: &ArgMatches<'a>) -> Option<Request<'a>>
@@ -347,6 +411,19 @@ fn review_in<'a>(matches: &ArgMatches<'a>) -> Option<Request<'a>>
     let script = word_in(matches, "SCRIPT")?;
     let json = is_set(matches, "json");
     Some(Request::Review { script, json })
+}
+
+fn decode_in<'a>(matches: &ArgMatches<'a>) -> Option<Request<'a>>
+    ensures { option_map seen result ≡ by_decode_words (rows_of (found_of matches.now)) }
+{
+    let script = word_in(matches, "SCRIPT")?;
+    let trace = word_in(matches, "TRACE")?;
+    Some(Request::Decode(DecodeWords {
+        script,
+        trace,
+        registers: word_in(matches, "registers"),
+        json: is_set(matches, "json"),
+    }))
 }
 
 fn emit_in<'a>(matches: &ArgMatches<'a>) -> Option<Request<'a>>
@@ -386,5 +463,46 @@ fn card_in<'a>(matches: &ArgMatches<'a>) -> Option<Request<'a>>
         card,
         image,
         schedule: word_in(matches, "SCHEDULE"),
+    }))
+}
+
+fn try_in<'a>(matches: &ArgMatches<'a>) -> Option<Request<'a>>
+    ensures { option_map seen result ≡ by_try_words (rows_of (found_of matches.now)) }
+{
+    let script = word_in(matches, "SCRIPT")?;
+    let card = word_in(matches, "CARD")?;
+    let image = word_in(matches, "IMAGE")?;
+    Some(Request::Try(TryFiles {
+        script,
+        card,
+        image,
+        schedule: word_in(matches, "SCHEDULE"),
+        input: word_in(matches, "in"),
+        output: word_in(matches, "out"),
+    }))
+}
+
+fn refute_in<'a>(matches: &ArgMatches<'a>) -> Option<Request<'a>>
+    ensures { option_map seen result ≡ by_refute_words (rows_of (found_of matches.now)) }
+{
+    let script = word_in(matches, "SCRIPT")?;
+    Some(Request::Refute(RefuteFiles {
+        script,
+        description: word_in(matches, "card"),
+        schedule: word_in(matches, "schedule"),
+    }))
+}
+
+fn sweep_in<'a>(matches: &ArgMatches<'a>) -> Option<Request<'a>>
+    ensures { option_map seen result ≡ by_sweep_words (rows_of (found_of matches.now)) }
+{
+    let script = word_in(matches, "SCRIPT")?;
+    let card = word_in(matches, "CARD")?;
+    let image = word_in(matches, "IMAGE")?;
+    Some(Request::Sweep(SweepFiles {
+        script,
+        card,
+        image,
+        input: word_in(matches, "in"),
     }))
 }

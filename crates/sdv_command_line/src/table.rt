@@ -26,7 +26,7 @@ pub struct CommandEntry {
 }
 
 /// The commands of the program, in the order in which `--help` and the usage line name them.
-pub static COMMANDS: [CommandEntry; 14] = [
+pub static COMMANDS: [CommandEntry; 18] = [
     CommandEntry {
         name: "frame",
         words: &[Word::Required("INDEX"), Word::Required("ARG")],
@@ -110,7 +110,7 @@ pub static COMMANDS: [CommandEntry; 14] = [
     },
     CommandEntry {
         name: "describe",
-        words: &[Word::Required("CARD")],
+        words: &[Word::Required("CARD"), Word::Optional("SCHEDULE")],
         help: "prints a card description in words, or the line that is wrong",
     },
     CommandEntry {
@@ -146,5 +146,64 @@ pub static COMMANDS: [CommandEntry; 14] = [
         name: "review",
         words: &[Word::Required("SCRIPT"), Word::Flag("json")],
         help: "prints what an accepted script leaves open for the data",
+    },
+    CommandEntry {
+        name: "try",
+        words: &[
+            Word::Required("SCRIPT"),
+            Word::Required("CARD"),
+            Word::Required("IMAGE"),
+            Word::Optional("SCHEDULE"),
+            Word::WithValue {
+                name: "in",
+                value: "FILE",
+            },
+            Word::WithValue {
+                name: "out",
+                value: "FILE",
+            },
+        ],
+        help: "runs any script beside a simulated card, and stops before what is not allowed there",
+    },
+    CommandEntry {
+        name: "refute",
+        words: &[
+            Word::Required("SCRIPT"),
+            Word::WithValue {
+                name: "card",
+                value: "FILE",
+            },
+            Word::WithValue {
+                name: "schedule",
+                value: "FILE",
+            },
+        ],
+        help: "looks for a run that shows that a script is refused",
+    },
+    CommandEntry {
+        name: "sweep",
+        words: &[
+            Word::Required("SCRIPT"),
+            Word::Required("CARD"),
+            Word::Required("IMAGE"),
+            Word::WithValue {
+                name: "in",
+                value: "FILE",
+            },
+        ],
+        help: "prints how each run with one mishap ends",
+    },
+    CommandEntry {
+        name: "decode",
+        words: &[
+            Word::Required("SCRIPT"),
+            Word::Required("TRACE"),
+            Word::WithValue {
+                name: "registers",
+                value: "FILE",
+            },
+            Word::Flag("json"),
+        ],
+        help: "prints which statement of the script each line of a trace is of, and what it means",
     },
 ];

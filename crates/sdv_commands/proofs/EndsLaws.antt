@@ -2,8 +2,11 @@
 use Rattle.std.proofs.Common.{◌≡◌, ◌≢◌, ◌∙◌, inl, inr, refl, sym, ap, ℕ, Bor, IfErr, IsErrAnd, List, OnOk, Option, Result, Ok, Err, Some, None, option_map}
 use Rattle.std.specs.Io.KnownBytes.{Keeps}
 use Rattle.clap.specs.Words.{Text}
+use Rattle.sdv_refute_commands.specs.Refute.{IsToldRun, RefuteEnds, Untold}
+use Rattle.sdv_refute_commands.specs.Sweep.{ImageEnds, InputEnds}
+use Rattle.sdv_refute_commands.specs.Try.{TryEnds}
 use Rattle.sdv_run_command.specs.Run.{RunEnds}
-use Rattle.sdv_command_line.specs.Requests.{CardNames, DriveNames, ExplainNames, RunNames, Request, frame, certify, check, run, batch, explain, graph, print, emit, audit, describe, drive, serve, review}
+use Rattle.sdv_command_line.specs.Requests.{CardNames, DecodeNames, DriveNames, EmitNames, ExplainNames, RefuteNames, RunNames, SweepNames, TryNames, Request, frame, certify, check, run, batch, explain, graph, print, emit, audit, describe, drive, serve, review, attempt, refute, sweep, decode}
 use Rattle.sdv_command_line.specs.CommandLine.{meaning_of}
 use Rattle.sdv_command_line.specs.declared.request.RequestFault.{RequestFault}
 use Rattle.sdv_command_line.specs.declared.request.RequestFault.TheVariants as requests
@@ -13,19 +16,21 @@ use Rattle.sdv_faults.specs.Fault.{fault_of_request, status_of}
 use Rattle.sdv_faults.specs.declared.fault.Fault.{Fault}
 use Rattle.sdv_faults.specs.declared.fault.Fault.TheVariants.{Memory, Output}
 use Rattle.sdv_files.specs.Files.{Files}
-use Rattle.sdv_files.specs.Outcomes.{OverText, Prints, PrintsText, Reports, outcome_of}
+use Rattle.sdv_files.specs.Outcomes.{Ending, OverText, Prints, PrintsText, Reports, outcome_of}
 use Rattle.sdv_files.proofs.OutcomeLaws.{failed, over-kept, prints-kept}
 use Rattle.sdv_files.proofs.StartLaws.{keeps_same}
 use Rattle.sdv_faults.specs.Refused.{Refuses}
 use Rattle.sdv_lines.specs.Streams.{Streams}
-use Rattle.sdv_emit_command.specs.Emit.{IsTableText, TableEnds, Unemitted}
+use Rattle.sdv_emit_command.specs.Emit.{EmitEnds, IsTableText, TableEnds, Unemitted}
 use Rattle.sdv_streams.specs.CardSide.{CardEnds, CardFails, EndsCard}
 use Rattle.sdv_streams.specs.Drive.{DriveEnds, DriveFails, EndsDrive}
 use Rattle.sdv_trace.specs.declared.end.End.TheVariants.{Done}
 use Rattle.sdv_commands.specs.Batch.{HasNoBatch, IsBatchText}
 use Rattle.sdv_commands.specs.Certify.{HasNone, IsCertificate}
 use Rattle.sdv_commands.specs.Check.{IsBoundLine}
-use Rattle.sdv_commands.specs.Describe.{HasNoPage, IsPageOf}
+use Rattle.sdv_commands.specs.Decode.{DecodesScript, DecodesTexts, DecodesTrace}
+use Rattle.sdv_commands.specs.Describe.{DescribesText, HasNoPage, IsPageOf}
+use Rattle.sdv_commands.specs.Given.{OverGiven}
 use Rattle.sdv_commands.specs.Explain.{ExplainsText, HasNoAnswer, IsJudgement}
 use Rattle.sdv_commands.specs.Frame.{IsFrameText, WriteNone}
 use Rattle.sdv_commands.specs.Graph.{IsDrawing, IsUndrawn}
@@ -34,8 +39,34 @@ use Rattle.sdv_commands.specs.Review.{IsReview}
 use Rattle.sdv_commands.specs.Ends.{AreQuiet, AreWhole, EndsRequest, EndsWords, IsQuiet, IsWhole, for_memory, for_nothing, for_page, for_request}
 
 module _ (files : Files) (s s' : Streams) (before after : Option (List ℕ)) where
-  -- a request that is refused prints nothing, but a run, an explanation, a drawing, an audit, the page of a description and a
-  -- review
+  emit-kept : (names : EmitNames) (fault : Fault) → fault ≢ Output → EmitEnds files names (Some fault) before after → Keeps before after
+  emit-kept names fault other (inl taken) = taken.1
+  emit-kept names fault other (inr apart) =
+      over-kept before after files names.script (λ (script : Text). OverText files names.certificate (TableEnds files names script)) (Some fault)
+      (λ script. over-kept before after files names.certificate (TableEnds files names script) (Some fault)
+      (λ certificate. prints-kept before after (IsTableText files names script certificate) (Unemitted files names script certificate) fault other))
+      apart.1
+
+  emit-memory : (names : EmitNames) → EmitEnds files names (Some Memory) before after → Keeps before after
+  emit-memory names (inl taken) = taken.1
+  emit-memory names (inr apart) =
+      over-kept before after files names.script (λ (script : Text). OverText files names.certificate (TableEnds files names script)) (Some Memory)
+      (λ script. over-kept before after files names.certificate (TableEnds files names script) (Some Memory) (λ certificate kept. kept)) apart.1
+
+  refute-kept : (names : RefuteNames) (fault : Fault) → fault ≢ Output → RefuteEnds files names (Some fault) before after → Keeps before after
+  refute-kept names fault other (inl taken) = taken.1
+  refute-kept names fault other (inr apart) =
+      over-kept before after files names.script (λ (text : Text). Prints (IsToldRun files names text) (Untold files names text)) (Some fault)
+      (λ text. prints-kept before after (IsToldRun files names text) (Untold files names text) fault other) apart.1
+
+  refute-memory : (names : RefuteNames) → RefuteEnds files names (Some Memory) before after → Keeps before after
+  refute-memory names (inl taken) = taken.1
+  refute-memory names (inr apart) =
+      over-kept before after files names.script (λ (text : Text). Prints (IsToldRun files names text) (Untold files names text)) (Some Memory)
+      (λ text kept. kept) apart.1
+
+  -- a request that is refused prints nothing, but a run with or without a certificate, an explanation, a drawing, an audit, the
+  -- page of a description, a review and a sweep
   quiet-kept : (request : Request) → IsQuiet request → (fault : Fault) → fault ≢ Output → EndsRequest files s s' request (Some fault) before after
       → Keeps before after
   quiet-kept (frame index argument) quiet fault other ends =
@@ -56,26 +87,45 @@ module _ (files : Files) (s s' : Streams) (before after : Option (List ℕ)) whe
   quiet-kept (print script) quiet fault other ends =
       over-kept before after files script (λ (text : Text). Prints (IsPrinted text) (HasNoTokens text)) (Some fault)
       (λ text. prints-kept before after (IsPrinted text) (HasNoTokens text) fault other) ends
-  quiet-kept (emit names) quiet fault other ends =
-      over-kept before after files names.script (λ (script : Text). OverText files names.certificate (TableEnds files names script)) (Some fault)
-      (λ script. over-kept before after files names.certificate (TableEnds files names script) (Some fault)
-      (λ certificate. prints-kept before after (IsTableText files names script certificate) (Unemitted files names script certificate) fault other))
-      ends
+  quiet-kept (emit names) quiet fault other ends = emit-kept names fault other ends
   quiet-kept (audit names) quiet fault other ends = absurd quiet
-  quiet-kept (describe card) quiet fault other ends = absurd quiet
+  quiet-kept (describe card schedule) quiet fault other ends = absurd quiet
   quiet-kept (drive names) quiet fault other ends = ends.1
   quiet-kept (serve names) quiet fault other ends = ends.1
   quiet-kept (review script json) quiet fault other ends = absurd quiet
+  quiet-kept (attempt names) quiet fault other ends = absurd quiet
+  quiet-kept (refute names) quiet fault other ends = refute-kept names fault other ends
+  quiet-kept (sweep names) quiet fault other ends = absurd quiet
+  quiet-kept (decode names) quiet fault other ends = absurd quiet
 
   run-memory : (names : RunNames) → RunEnds files names (Some Memory) before after → Keeps before after
   run-memory names (inl taken) = taken.1
   run-memory names (inr apart) = apart.1
+
+  try-memory : (names : TryNames) → TryEnds files names (Some Memory) before after → Keeps before after
+  try-memory names (inl taken) = taken.1
+  try-memory names (inr apart) = apart.1
+
+  input-memory : (names : SweepNames) (script card image : Text) → InputEnds files names script card image (Some Memory) before after → Keeps before after
+  input-memory names script card image (inl none) = none.1
+  input-memory names script card image (inr given) = given.2
+
+  image-memory : (names : SweepNames) (script card : Text) → ImageEnds files names script card (Some Memory) before after → Keeps before after
+  image-memory names script card (inl none) = none.1
+  image-memory names script card (inr given) = input-memory names script card given.0 given.2
 
   explain-memory : (names : ExplainNames) (script : Text) (certificate : Option Text)
       → ExplainsText files names script certificate (Some Memory) before after → Keeps before after
   explain-memory names script None ends = ends
   explain-memory names script (Some file) ends =
       over-kept before after files file (λ (text : Text). Reports (IsJudgement script text) HasNoAnswer) (Some Memory) (λ text kept. kept) ends
+
+  given-memory : (file : Option Text) (Ends : Option (List ℕ) → Ending)
+      → ((given : Option (List ℕ)) → Ends given (Some Memory) before after → Keeps before after)
+      → OverGiven files file Ends (Some Memory) before after → Keeps before after
+  given-memory None Ends kept ends = kept None ends
+  given-memory (Some file) Ends kept (inl none) = none.1
+  given-memory (Some file) Ends kept (inr given) = kept (Some given.0) given.2
 
   -- nothing is printed for want of memory, but by an audit
   memory-kept : (request : Request) → IsWhole request → EndsRequest files s s' request (Some Memory) before after → Keeps before after
@@ -97,16 +147,24 @@ module _ (files : Files) (s s' : Streams) (before after : Option (List ℕ)) whe
       (λ text kept. kept) ends
   memory-kept (print script) whole ends =
       over-kept before after files script (λ (text : Text). Prints (IsPrinted text) (HasNoTokens text)) (Some Memory) (λ text kept. kept) ends
-  memory-kept (emit names) whole ends =
-      over-kept before after files names.script (λ (script : Text). OverText files names.certificate (TableEnds files names script)) (Some Memory)
-      (λ script. over-kept before after files names.certificate (TableEnds files names script) (Some Memory) (λ certificate kept. kept)) ends
+  memory-kept (emit names) whole ends = emit-memory names ends
   memory-kept (audit names) whole ends = absurd whole
-  memory-kept (describe card) whole ends =
-      over-kept before after files card (λ (text : Text). Reports (IsPageOf text) HasNoPage) (Some Memory) (λ text kept. kept) ends
+  memory-kept (describe card schedule) whole ends =
+      over-kept before after files card (λ (text : Text). DescribesText files text schedule) (Some Memory)
+      (λ text. given-memory schedule (λ given. Reports (IsPageOf text given) HasNoPage) (λ given kept. kept)) ends
   memory-kept (drive names) whole ends = ends.1
   memory-kept (serve names) whole ends = ends.1
   memory-kept (review script json) whole ends =
       over-kept before after files script (λ (text : Text). Reports (IsReview text json) (HasNone text)) (Some Memory) (λ text kept. kept) ends
+  memory-kept (attempt names) whole ends = try-memory names ends
+  memory-kept (refute names) whole ends = refute-memory names ends
+  memory-kept (sweep names) whole ends =
+      over-kept before after files names.script (λ (script : Text). OverText files names.card (ImageEnds files names script)) (Some Memory)
+      (λ script. over-kept before after files names.card (ImageEnds files names script) (Some Memory) (image-memory names script)) ends
+  memory-kept (decode names) whole ends =
+      over-kept before after files names.script (λ (script : Text). DecodesScript files names script) (Some Memory)
+      (λ script. over-kept before after files names.trace (λ (trace : Text). DecodesTrace files names script trace) (Some Memory)
+      (λ trace. given-memory names.registers (DecodesTexts names.json script trace) (λ given kept. kept))) ends
 
   printed-fault : (page : Text) (fault : Fault) → PrintsText page (Some fault) before after → fault ≡ Output
   printed-fault page Output ends = refl

@@ -2,6 +2,7 @@ mod AuditLaws
 mod BatchWordsLaws
 mod CertifyLaws
 mod CheckLaws
+mod DecodeLaws
 mod EndsLaws
 mod FrameTextLaws
 mod ReportLaws

@@ -41,7 +41,8 @@ abbrev pub NoTrace : Files → (wanted : Text) → Option Fault → Type 0
 NoTrace files wanted (Some Memory) = Unit {0}
 NoTrace files wanted outcome = IsUnread files wanted outcome
 
-pub data AuditEnds (files : Files) (names : AuditNames) (outcome : Option Fault) (before after : Option (List ℕ)) : Type 0 where
+pub data AuditEnds (files : Files) (names : AuditNames) (outcome : Option Fault) (before after : Option (List ℕ))
+    : Type 0 where
   -- there is no such kind of card
   no_kind : kind_named names.kind ≡ None → outcome ≡ Some Usage → Keeps before after
       → AuditEnds files names outcome before after

@@ -19,4 +19,5 @@ IsBoundLine script certificate text =
 -- the file of the certificate is read only where that of the script gave a text
 abbrev pub CheckEnds : Files → (script_file certificate_file : Text) → Ending
 CheckEnds files script_file certificate_file = OverText files script_file (λ script.
-    OverText files certificate_file (λ certificate. Prints (IsBoundLine script certificate) (Refuses script certificate)))
+    OverText files certificate_file (λ certificate.
+    Prints (IsBoundLine script certificate) (Refuses script certificate)))

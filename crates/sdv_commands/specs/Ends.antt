@@ -6,13 +6,16 @@ use Rattle.clap.specs.Words.{Text}
 use Rattle.sdv_text.specs.Written.{AppendsPart}
 use Rattle.sdv_command_line.specs.Mistakes.{usage_line}
 use Rattle.sdv_command_line.specs.CommandLine.{meaning_of}
-use Rattle.sdv_command_line.specs.Requests.{Request, frame, certify, check, run, batch, explain, graph, print, emit, audit, describe, drive, serve, review}
+use Rattle.sdv_command_line.specs.Requests.{Request, frame, certify, check, run, batch, explain, graph, print, emit, audit, describe, drive, serve, review, attempt, refute, sweep, decode}
 use Rattle.sdv_faults.specs.Fault.{Says, status_of}
 use Rattle.sdv_faults.specs.declared.fault.Fault.{Fault}
 use Rattle.sdv_faults.specs.declared.fault.Fault.TheVariants.{Usage, Memory}
 use Rattle.sdv_files.specs.Files.{Files}
 use Rattle.sdv_files.specs.Outcomes.{Ending}
 use Rattle.sdv_lines.specs.Streams.{Streams}
+use Rattle.sdv_refute_commands.specs.Refute.{RefuteEnds}
+use Rattle.sdv_refute_commands.specs.Sweep.{SweepEnds}
+use Rattle.sdv_refute_commands.specs.Try.{TryEnds}
 use Rattle.sdv_run_command.specs.Run.{RunEnds}
 use Rattle.sdv_streams.specs.CardSide.{CardEnds}
 use Rattle.sdv_streams.specs.Drive.{DriveEnds}
@@ -20,6 +23,7 @@ use Rattle.sdv_commands.specs.Audit.{AuditEnds}
 use Rattle.sdv_commands.specs.Batch.{BatchEnds}
 use Rattle.sdv_commands.specs.Certify.{CertifyEnds}
 use Rattle.sdv_commands.specs.Check.{CheckEnds}
+use Rattle.sdv_commands.specs.Decode.{DecodeEnds}
 use Rattle.sdv_emit_command.specs.Emit.{EmitEnds}
 use Rattle.sdv_commands.specs.Describe.{DescribeEnds}
 use Rattle.sdv_commands.specs.Explain.{ExplainEnds}
@@ -46,20 +50,27 @@ EndsRequest files s s' (graph names) = GraphEnds files names
 EndsRequest files s s' (print script) = PrintEnds files script
 EndsRequest files s s' (emit names) = EmitEnds files names
 EndsRequest files s s' (audit names) = AuditEnds files names
-EndsRequest files s s' (describe card) = DescribeEnds files card
+EndsRequest files s s' (describe card schedule) = DescribeEnds files card schedule
 EndsRequest files s s' (drive names) = Speaks (DriveEnds files names s s')
 EndsRequest files s s' (serve names) = Speaks (CardEnds files names s.answers s'.answers s.requests s'.requests)
 EndsRequest files s s' (review script json) = ReviewEnds files script json
+EndsRequest files s s' (attempt names) = TryEnds files names
+EndsRequest files s s' (refute names) = RefuteEnds files names
+EndsRequest files s s' (sweep names) = SweepEnds files names
+EndsRequest files s s' (decode names) = DecodeEnds files names
 
--- Nothing is printed where the command is refused. A run, an explanation, a drawing, the report of an audit, the page of a
--- card description and a review are printed then too.
+-- Nothing is printed where the command is refused. A run with or without a certificate, an explanation, a drawing, the
+-- report of an audit, the page of a card description, a review and the table of a sweep and the lines of a trace are printed then too.
 abbrev pub IsQuiet : Request → Type 0
 IsQuiet (run names) = ⊥
 IsQuiet (explain names) = ⊥
 IsQuiet (graph names) = ⊥
 IsQuiet (audit names) = ⊥
-IsQuiet (describe card) = ⊥
+IsQuiet (describe card schedule) = ⊥
 IsQuiet (review script json) = ⊥
+IsQuiet (attempt names) = ⊥
+IsQuiet (sweep names) = ⊥
+IsQuiet (decode names) = ⊥
 IsQuiet request = Unit {0}
 
 -- Nothing is printed before the answer is whole. An audit prints its report while it reads the trace.

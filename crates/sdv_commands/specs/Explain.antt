@@ -60,7 +60,8 @@ IsVerdict verdict told text = (told ≡ fault_of_refusal verdict.refusal) × (te
 -- it is that of the verdict on a script and a certificate, or the page of what is no script
 abbrev pub IsJudgement : (script certificate : Text) → (told : Option Fault) → (text : Text) → Type 0
 IsJudgement script certificate told text =
-    ((verdict : Verdict) × Judges script certificate verdict × IsVerdict verdict told text) ⊎ IsFaultPage script told text
+    ((verdict : Verdict) × Judges script certificate verdict × IsVerdict verdict told text)
+    ⊎ IsFaultPage script told text
 
 -- nothing is left without a report
 abbrev pub HasNoAnswer : Fault → Type 0

@@ -2,6 +2,8 @@ pub mod Batch
 pub mod Audit
 pub mod Certify
 pub mod Check
+pub mod Given
+pub mod Decode
 pub mod Describe
 pub mod Explain
 pub mod Frame

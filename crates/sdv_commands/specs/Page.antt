@@ -49,4 +49,5 @@ text_of (pages.Command entry) = command_page (seen_command entry.now)
 
 -- the page was printed, unless memory was refused
 abbrev pub PrintsPage : (text : Text) → Ending
-PrintsPage text outcome before after = PrintsText text outcome before after ⊎ ((outcome ≡ Some Memory) × Keeps before after)
+PrintsPage text outcome before after =
+    PrintsText text outcome before after ⊎ ((outcome ≡ Some Memory) × Keeps before after)

@@ -59,7 +59,8 @@ pub fn audit_reader<'a, R: Read, O: Write>(
     reader: &mut R,
     out: &mut O,
 ) -> Result<(), Fault<'a>>
-    ensures { AuditsReader kind style (R.remaining reader.old) (outcome_of result) (O.contents out.old) (O.contents out.new) }
+    ensures { AuditsReader kind style (R.remaining reader.old)
+        (outcome_of result) (O.contents out.old) (O.contents out.new) }
 {
     let tally = audit_trace(alloc, kind, style, reader, out)?;
     if tally.has_findings() {

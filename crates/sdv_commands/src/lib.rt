@@ -7,6 +7,7 @@ pub mod audit;
 pub mod batch;
 pub mod certify;
 pub mod check;
+pub mod decode;
 pub mod describe;
 pub mod explain;
 pub mod frame;

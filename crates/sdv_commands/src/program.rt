@@ -13,6 +13,7 @@ use crate::audit::audit_file;
 use crate::batch::print_batch;
 use crate::certify::certify_file;
 use crate::check::check_files;
+use crate::decode::decode_files;
 use crate::describe::describe_file;
 use crate::explain::explain_file;
 use crate::frame::print_frame;
@@ -25,6 +26,7 @@ use sdv_emit_command::emit_files;
 use sdv_faults::Fault;
 use sdv_files::{MachineFiles, Store};
 use sdv_lines::LinePort;
+use sdv_refute_commands::{refute_file, sweep_files, try_files};
 use sdv_run_command::run_files;
 use sdv_streams::{drive_files, serve_card};
 use sdv_text::write_text;
@@ -143,11 +145,15 @@ pub fn answer_request<'a, S: Store, I: Read, L: Write, O: Write>(
         Request::Print { script } => print_file(alloc, files, script, out),
         Request::Emit(words) => emit_files(alloc, files, words, out),
         Request::Audit(words) => audit_file(alloc, files, words, out),
-        Request::Describe { card } => describe_file(alloc, files, card, out),
+        Request::Describe { card, schedule } => describe_file(alloc, files, card, schedule, out),
         Request::Drive(names) => drive_files(alloc, files, names, lines),
         Request::Card(names) => {
             serve_card(alloc, files, names, &mut lines.reader, &mut lines.writer)
         }
         Request::Review { script, json } => review_file(alloc, files, script, json, out),
+        Request::Try(names) => try_files(alloc, files, names, out),
+        Request::Refute(names) => refute_file(alloc, files, names, out),
+        Request::Sweep(names) => sweep_files(alloc, files, names, out),
+        Request::Decode(words) => decode_files(alloc, files, words, out),
     }
 }

@@ -1,5 +1,7 @@
 //! How far a run is: a line on a terminal that says how many lines went to standard output.
 
+ghost use Rattle.std.specs.Prelude.{◌≡◌};
+
 use itoa::Buffer;
 use sdv_text::write_texts;
 use std::cell::{Cell, RefCell};
@@ -21,7 +23,9 @@ pub struct Progress<'a, E, C> {
 
 impl<'a, E: Write, C: Clock> Progress<'a, E, C> {
     /// Without a terminal nothing is shown.
-    pub fn new(terminal: Option<E>, clock: &'a C) -> Progress<'a, E, C> {
+    pub fn new(terminal: Option<E>, clock: &'a C) -> Progress<'a, E, C>
+        ensures { result.clock.now ≡ clock.now }
+    {
         Progress {
             terminal: RefCell::new(terminal),
             clock,

@@ -14,7 +14,8 @@ use Rattle.sdv_files.specs.Files.{Files}
 use Rattle.sdv_files.specs.Outcomes.{Ending, Prints, PrintsText}
 use Rattle.sdv_files.proofs.OutcomeLaws.{prints}
 use Rattle.sdv_files.proofs.StartLaws.{keeps_same}
-use Rattle.sdv_emit_command.specs.Emit.{IsLeft, IsTableText, LeavesFault, TableEnds, Unemitted}
+use Rattle.sdv_files.specs.Left.{IsLeft, LeavesFault}
+use Rattle.sdv_emit_command.specs.Emit.{IsTableText, TableEnds, Unemitted}
 
 module _ (files : Files) (names : EmitNames) (script certificate : Text) where
   abbrev pub table_ends : Ending

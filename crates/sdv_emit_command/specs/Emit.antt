@@ -1,5 +1,7 @@
--- `emit SCRIPT CERT NAME [--binary FILE]`: the table of the script of a file, in C, and its bytes in a file.
-use Rattle.std.specs.Prelude.{◌≡◌, ◌⊎◌, ◌<◌, ◌++◌, ℕ, List, Option, Some, None, length, false}
+-- `emit SCRIPT CERT NAME [--binary FILE]`: the table of the script of a file, in C, and its bytes in a file, which is none
+-- of those that the command reads.
+use Rattle.std.specs.Prelude.{◌≡◌, ◌⊎◌, ℕ, List, Option, Some, None, false}
+use Rattle.std.specs.Io.KnownBytes.{Keeps}
 use Rattle.std.specs.Borrow.{Bor}
 use Rattle.clap.specs.Words.{Text}
 use Rattle.sdv_command_line.specs.Requests.{EmitNames}
@@ -10,27 +12,8 @@ use Rattle.sdv_faults.specs.Refused.{Refuses}
 use Rattle.sdv_faults.specs.declared.fault.Fault.{Fault}
 use Rattle.sdv_faults.specs.declared.fault.Fault.TheVariants.{Usage, File, Script, Certificate, Refused, Wide}
 use Rattle.sdv_files.specs.Files.{Files}
+use Rattle.sdv_files.specs.Left.{IsLeft, LosesFile}
 use Rattle.sdv_files.specs.Outcomes.{Ending, OverText, Prints}
-
--- THE FILE of the bytes, if one is named
-
--- it took the bytes
-abbrev pub IsLeft : Files → Option Text → (bytes : List ℕ) → Type 0
-IsLeft files None bytes = Unit {0}
-IsLeft files (Some file) bytes = files.received file bytes
-
--- it took a front of them, and not all
-abbrev pub TakesPart : Files → (file : Text) → (bytes : List ℕ) → Type 0
-TakesPart files file bytes =
-    (front back : List ℕ) × (bytes ≡ front ++ back) × (0 < length back) × files.received file front
-
-abbrev pub LosesFile : Files → (file : Text) → (bytes : List ℕ) → Type 0
-LosesFile files file bytes = files.uncreated file ⊎ (files.unfinished file ⊎ TakesPart files file bytes)
-
--- the fault names the file, which did not take them
-abbrev pub LeavesFault : Files → Option (Bor Text) → (bytes : List ℕ) → Fault → Type 0
-LeavesFault files None bytes fault = ⊥
-LeavesFault files (Some file) bytes fault = (fault ≡ File file) × LosesFile files file.now bytes
 
 -- THE COMMAND
 
@@ -62,6 +45,32 @@ abbrev pub TableEnds : Files → EmitNames → (script certificate : Text) → E
 TableEnds files names script certificate =
     Prints (IsTableText files names script certificate) (Unemitted files names script certificate)
 
-abbrev pub EmitEnds : Files → EmitNames → Ending
-EmitEnds files names = OverText files names.script (λ script. OverText files names.certificate (λ certificate.
+abbrev pub EmitsApart : Files → EmitNames → Ending
+EmitsApart files names = OverText files names.script (λ script. OverText files names.certificate (λ certificate.
     TableEnds files names script certificate))
+
+-- NO FILE IS LOST BY A SLIP: the file of the bytes is neither of the others
+
+abbrev pub IsRead : Files → EmitNames → (binary : Text) → Type 0
+IsRead files names binary = files.same names.script binary ⊎ files.same names.certificate binary
+
+-- it is neither
+pub record IsOther (files : Files) (names : EmitNames) (binary : Text) : Type 0 where
+  pub script : files.apart names.script binary
+  pub certificate : files.apart names.certificate binary
+
+abbrev pub IsTaken : Files → EmitNames → (binary : Text) → Type 0
+IsTaken files names binary = (names.binary ≡ Some binary) × IsRead files names binary
+
+abbrev pub IsApart : Files → EmitNames → Type 0
+IsApart files names = (binary : Text) → names.binary ≡ Some binary → IsOther files names binary
+
+-- the file of the bytes cannot be used, since it is one of the others
+abbrev pub TakesOther : Files → EmitNames → Option Fault → Type 0
+TakesOther files names (Some (File file)) = IsTaken files names file.now
+TakesOther files names outcome = ⊥
+
+abbrev pub EmitEnds : Files → EmitNames → Ending
+EmitEnds files names outcome before after =
+    (TakesOther files names outcome × Keeps before after)
+    ⊎ (IsApart files names × EmitsApart files names outcome before after)

@@ -1,14 +1,13 @@
 //! `emit SCRIPT CERT NAME [--binary FILE]`: the table of a script, in C.
-ghost use Rattle.std.specs.Prelude.{◌≡◌, option_map, IfErr, OnOk, false, true};
+ghost use Rattle.std.specs.Prelude.{◌≡◌, option_map, IfErr, IfSome, None, OnOk, false, true};
 ghost use Rattle.sdv_command_line.specs.Requests.{emit_names_of};
 ghost use Rattle.sdv_files.specs.Outcomes.{outcome_of};
-ghost use Rattle.sdv_emit_command.specs.Emit.{EmitEnds, IsLeft, LeavesFault, LosesFile};
+ghost use Rattle.sdv_emit_command.specs.Emit.{EmitEnds, EmitsApart, IsApart, IsOther, IsRead, IsTaken};
 
 use sdv_command_line::EmitWords;
 use sdv_emit::{Labels, emit};
 use sdv_faults::Fault;
-use sdv_files::{Store, print_text, text_in};
-use sdv_text::write_text;
+use sdv_files::{Store, leave, print_text, text_in};
 use std::alloc::Global;
 use std::io::Write;
 
@@ -17,8 +16,9 @@ use std::io::Write;
 ///
 /// # Errors
 ///
-/// - [`Fault::File`]: a file cannot be used: that of the script, that of the certificate, or that of the words, which was made
-///   or emptied only where the script was accepted. Nothing was printed.
+/// - [`Fault::File`]: the file of the words is that of the script or of the certificate; then no file was opened. Or a file
+///   cannot be used: that of the script, that of the certificate, or that of the words, which was made or emptied only where
+///   the script was accepted. Nothing was printed.
 /// - [`Fault::Usage`]: the array's name is no identifier of C. Nothing was printed.
 /// - [`Fault::Script`], [`Fault::Certificate`], [`Fault::Refused`]: the texts are not accepted. Nothing was printed.
 /// - [`Fault::Wide`]: a part of the script has no room in a table. Nothing was printed.
@@ -33,6 +33,45 @@ pub fn emit_files<'a, S: Store, O: Write>(
     ensures { EmitEnds (S.known files.now) (emit_names_of words.entry)
         (outcome_of result) (O.contents out.old) (O.contents out.new) }
 {
+    if let Some(file) = taken_binary(files, &words) {
+        return Err(Fault::File(file));
+    }
+    emit_apart(alloc, files, words, out)
+}
+
+/// The file of the words, where the command reads it too.
+fn taken_binary<'a, S: Store>(files: &S, words: &EmitWords<'a>) -> Option<&'a str>
+    ensures taken { IfSome result (λ file. IsTaken (S.known files.now) (emit_names_of words.now) file.now) }
+    ensures apart { result ≡ None → IsApart (S.known files.now) (emit_names_of words.now) }
+{
+    let binary = words.binary?;
+    if is_read(files, words, binary) {
+        Some(binary)
+    } else {
+        None
+    }
+}
+
+/// The command reads this file.
+fn is_read<S: Store>(files: &S, words: &EmitWords<'_>, binary: &str) -> bool
+    ensures read { result ≡ true → IsRead (S.known files.now) (emit_names_of words.now) binary.now }
+    ensures other { result ≡ false → IsOther (S.known files.now) (emit_names_of words.now) binary.now }
+{
+    let is_script = files.is_same(words.script, binary);
+    let is_certificate = files.is_same(words.certificate, binary);
+    is_script | is_certificate
+}
+
+/// The same where the file of the words is none of the others.
+fn emit_apart<'a, S: Store, O: Write>(
+    alloc: Global,
+    files: &S,
+    words: EmitWords<'a>,
+    out: &mut O,
+) -> Result<(), Fault<'a>>
+    ensures { EmitsApart (S.known files.now) (emit_names_of words.entry)
+        (outcome_of result) (O.contents out.old) (O.contents out.new) }
+{
     let script = text_in(alloc, files, words.script)?;
     let certificate = text_in(alloc, files, words.certificate)?;
     let labels = Labels {
@@ -42,40 +81,4 @@ pub fn emit_files<'a, S: Store, O: Write>(
     let emitted = emit(alloc, script.as_str(), certificate.as_str(), &labels)?;
     leave(files, words.binary, emitted.binary.as_slice())?;
     print_text(emitted.text.as_slice(), out)
-}
-
-/// Writes the bytes of a table to the file that is named for them, if one is.
-///
-/// # Errors
-///
-/// [`Fault::File`]: the file cannot be made, or did not take all of them.
-fn leave<'a, S: Store>(files: &S, binary: Option<&'a str>, bytes: &[u8]) -> Result<(), Fault<'a>>
-    ensures left { OnOk result (IsLeft (S.known files.now) (option_map (λ file. file.now) binary.entry) bytes.now) }
-    ensures lost { IfErr result (LeavesFault (S.known files.now) binary.entry bytes.now) }
-{
-    let Some(file) = binary else {
-        return Ok(());
-    };
-    if leave_in(files, file, bytes) {
-        Ok(())
-    } else {
-        Err(Fault::File(file))
-    }
-}
-
-/// Writes bytes to the file of a name. False where the file cannot be made, or did not take all of them.
-fn leave_in<S: Store>(files: &S, file: &str, bytes: &[u8]) -> bool
-    ensures left { result ≡ true → (S.known files.now).received file.now bytes.now }
-    ensures lost { result ≡ false → LosesFile (S.known files.now) file.now bytes.now }
-{
-    let Some(mut sink) = files.create(file) else {
-        return false;
-    };
-    match write_text(&mut sink, bytes) {
-        Ok(()) => files.finish(file, sink),
-        Err(_) => {
-            files.finish(file, sink);
-            false
-        }
-    }
 }

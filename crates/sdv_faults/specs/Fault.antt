@@ -40,11 +40,15 @@ use Rattle.sdv_run.specs.declared.fault.RunFault.TheVariants as runs
 use Rattle.sdv_lines.specs.declared.fault.LineFault.{LineFault as RequestLineFault}
 use Rattle.sdv_lines.specs.declared.fault.LineFault.TheVariants as lines_asked
 use Rattle.sdv_lines.specs.declared.fault.ServeFault.{ServeFault}
+use Rattle.sdv_refute.specs.declared.simulated.TryFault.{TryFault}
+use Rattle.sdv_refute.specs.declared.simulated.TryFault.TheVariants as tries
+use Rattle.sdv_wrong_words.specs.declared.event.WrongEvent.{WrongEvent}
+use Rattle.sdv_wrong_words.specs.WrongEvent.{wrong_event_text}
 use Rattle.sdv_command_line.specs.Commands.{usage}
 use Rattle.sdv_command_line.specs.declared.request.RequestFault.{RequestFault}
 use Rattle.sdv_command_line.specs.declared.request.RequestFault.TheVariants as requests
 use Rattle.sdv_faults.specs.declared.fault.Fault.{Fault}
-use Rattle.sdv_faults.specs.declared.fault.Fault.TheVariants.{Usage, File, Script, Certificate, Refused, Uncertified, Unserved, Wide, Card, Run, Request, Named, Output, Memory, Trace, Found}
+use Rattle.sdv_faults.specs.declared.fault.Fault.TheVariants.{Usage, File, Script, Certificate, Refused, Uncertified, Unserved, Wide, Card, Run, OtherKind, Wrong, NoRun, Request, Named, Output, Memory, Trace, Stray, Found}
 
 -- WHAT IS SAID
 
@@ -125,6 +129,10 @@ trace_fault_line traces.Write = plain_line (codes "the report could not be writt
 trace_fault_line traces.Memory = plain_line (codes "out of memory")
 trace_fault_line traces.Room = plain_line (codes "too many shapes")
 
+-- the line of a trace to which its script does not come
+abbrev pub stray_line : (line : ℕ) → Text
+stray_line line = numbered_line (codes "trace fault Script line ") line
+
 abbrev pub block_fault_name : BlockFault → Text
 block_fault_name blocks.Empty = codes "Empty"
 block_fault_name blocks.Range = codes "Range"
@@ -159,6 +167,11 @@ abbrev pub request_line : ServeFault → Text
 request_line fault = codes "request fault "
     ++ (request_fault_name fault.fault ++ (codes " line " ++ (decimal fault.line ++ 10 ∷ [])))
 
+-- no run that refutes a script was found
+abbrev pub no_run_line : (runs mishaps : ℕ) → Text
+no_run_line runs mishaps = codes "no run found ("
+    ++ (decimal runs ++ (codes " runs of at most " ++ (decimal mishaps ++ codes " mishaps)\n")))
+
 abbrev pub named_line : (words name : Text) → Text
 named_line words name = words ++ (name ++ 10 ∷ [])
 
@@ -175,8 +188,12 @@ fault_line (Uncertified fault) = uncertified_line fault
 fault_line (Unserved fault) = named_line (codes "refused ") (block_fault_name fault)
 fault_line (Wide part) = wide_line part
 fault_line (Trace fault) = trace_fault_line fault
+fault_line (Stray line) = stray_line line
 fault_line (Card fault) = named_line (codes "card fault ") (sim_fault_name fault)
 fault_line (Run fault) = named_line (codes "run fault ") (run_fault_name fault)
+fault_line OtherKind = plain_line (codes "the script is for another kind of card")
+fault_line (Wrong event) = wrong_event_text event
+fault_line (NoRun runs mishaps) = no_run_line runs mishaps
 fault_line (Request fault) = request_line fault
 fault_line Named = []
 fault_line Found = []
@@ -200,8 +217,12 @@ status_of (Uncertified fault) = 1
 status_of (Unserved fault) = 1
 status_of (Wide part) = 1
 status_of (Trace fault) = 1
+status_of (Stray line) = 1
 status_of (Card fault) = 1
 status_of (Run fault) = 1
+status_of OtherKind = 1
+status_of (Wrong event) = 1
+status_of (NoRun runs mishaps) = 1
 status_of (Request fault) = 2
 status_of Named = 1
 status_of Found = 1
@@ -276,3 +297,10 @@ fault_of_card fault = Card fault
 abbrev pub fault_of_run : RunFault → Fault
 fault_of_run runs.Memory = Memory
 fault_of_run fault = Run fault
+
+-- runs that were not tried
+abbrev pub fault_of_try : TryFault → Fault
+fault_of_try (tries.Script fault) = fault_of_script fault.kind fault
+fault_of_try tries.Kind = OtherKind
+fault_of_try (tries.Card fault) = fault_of_card fault
+fault_of_try tries.Memory = Memory

@@ -5,8 +5,9 @@ ghost use Rattle.hex.specs.Hex.{encode_lower};
 ghost use Rattle.sdv_text.specs.Written.{Writes};
 ghost use Rattle.sdv_faults.specs.Fault.{Says, certificate_line, fault_line, illegal_line, kind_name, numbered_line, plain_line};
 ghost use Rattle.sdv_faults.specs.Fault.{block_fault_name, named_line, refusal_line, run_fault_name, sim_fault_name, status_of};
-ghost use Rattle.sdv_faults.specs.Fault.{line_fault_name, trace_fault_line, trace_line, uncertified_line, wide_line};
-ghost use Rattle.sdv_faults.specs.Fault.{request_fault_name, request_line};
+ghost use Rattle.sdv_faults.specs.Fault.{line_fault_name, stray_line, trace_fault_line, trace_line, uncertified_line, wide_line};
+ghost use Rattle.sdv_faults.specs.Fault.{no_run_line, request_fault_name, request_line};
+ghost use Rattle.sdv_wrong_words.specs.WrongEvent.{wrong_event_text};
 
 use itoa::Buffer;
 use sdv_audit::LineFault;
@@ -19,12 +20,14 @@ use sdv_command_line::{RequestFault, usage};
 use sdv_emit::EmitFault;
 use sdv_explain::ExplainFault;
 use sdv_lines::{LineFault as RequestLineFault, ServeFault};
+use sdv_refute::TryFault;
 use sdv_review::ReviewFault;
 use sdv_run::RunFault;
 use sdv_script::{FaultKind, ScriptFault};
 use sdv_sim::SimFault;
 use sdv_table::Part;
 use sdv_text::write_texts;
+use sdv_wrong_words::{WrongEvent, write_wrong_event};
 use std::alloc::AllocError;
 use std::io::{self, Write};
 
@@ -49,10 +52,18 @@ pub enum Fault<'a> {
     Wide(Part),
     /// A text is no trace, or an audit does not reach its end.
     Trace(TraceFault),
+    /// The script of a trace does not come to the line with this number.
+    Stray(u64),
     /// There is no simulated card by the description, the schedule and the image.
     Card(SimFault),
     /// The run of a script stopped before its end.
     Run(RunFault),
+    /// A script is for another kind of card than the one described.
+    OtherKind,
+    /// What comes next in the run of a script is not allowed at the card.
+    Wrong(WrongEvent),
+    /// No run that refutes a script was found, among so many that had so many mishaps at most.
+    NoRun { runs: u64, mishaps: u64 },
     /// A request in lines was not answered.
     Request(ServeFault),
     /// The run of a script ended in a fault that the script names; its trace says so.
@@ -215,6 +226,21 @@ impl<'a> From<RunFault> for Fault<'a> {
     }
 }
 
+impl<'a> From<TryFault> for Fault<'a> {
+    ghost use Rattle.sdv_faults.specs.Fault.{fault_of_try};
+
+    ghost from_gives = { λ fault f. f ≡ fault_of_try fault };
+
+    fn from(fault: TryFault) -> Fault<'a> {
+        match fault {
+            TryFault::Script(fault) => Fault::from(fault),
+            TryFault::Kind => Fault::OtherKind,
+            TryFault::Card(fault) => Fault::from(fault),
+            TryFault::Memory => Fault::Memory,
+        }
+    }
+}
+
 impl<'a> From<AllocError> for Fault<'a> {
     ghost use Rattle.sdv_faults.specs.declared.fault.Fault.TheVariants.{Memory};
 
@@ -235,7 +261,9 @@ impl<'a> Fault<'a> {
                 1,
             Fault::Unserved(_) | Fault::Wide(_) | Fault::Card(_) | Fault::Run(_) | Fault::Named =>
                 1,
-            Fault::Trace(_) | Fault::Found => 1,
+            Fault::Trace(_) | Fault::Stray(_) | Fault::Found | Fault::OtherKind | Fault::Wrong(_) =>
+                1,
+            Fault::NoRun { .. } => 1,
             Fault::Usage | Fault::File(_) | Fault::Request(_) | Fault::Output => 2,
             Fault::Memory => 3,
         }
@@ -260,8 +288,12 @@ impl<'a> Fault<'a> {
             Fault::Unserved(fault) => say_named("refused ", block_fault_name(fault), err),
             Fault::Wide(part) => say_wide(part, err),
             Fault::Trace(fault) => say_trace(fault, err),
+            Fault::Stray(line) => say_stray(line, err),
             Fault::Card(fault) => say_named("card fault ", sim_fault_name(fault), err),
             Fault::Run(fault) => say_named("run fault ", run_fault_name(fault), err),
+            Fault::OtherKind => say_plain("the script is for another kind of card", err),
+            Fault::Wrong(event) => write_wrong_event(event, err),
+            Fault::NoRun { runs, mishaps } => say_no_run(runs, mishaps, err),
             Fault::Request(fault) => say_request(fault, err),
             Fault::Named | Fault::Found | Fault::Output => Ok(()),
             Fault::Memory => say_plain("out of memory", err),
@@ -378,6 +410,31 @@ fn say_number<E: Write>(words: &str, number: u64, err: &mut E) -> io::Result<()>
         err,
         &[words.as_bytes(), digits.format(number).as_bytes(), b"\n"],
     )
+}
+
+fn say_no_run<E: Write>(runs: u64, mishaps: u64, err: &mut E) -> io::Result<()>
+    ensures { Writes (E.contents err.old) (E.contents err.new) result (no_run_line runs mishaps) }
+{
+    let mut tried = Buffer::new();
+    let mut most = Buffer::new();
+    let runs = tried.format(runs).as_bytes();
+    let mishaps = most.format(mishaps).as_bytes();
+    write_texts(
+        err,
+        &[
+            b"no run found (",
+            runs,
+            b" runs of at most ",
+            mishaps,
+            b" mishaps)\n",
+        ],
+    )
+}
+
+fn say_stray<E: Write>(line: u64, err: &mut E) -> io::Result<()>
+    ensures { Writes (E.contents err.old) (E.contents err.new) result (stray_line line) }
+{
+    say_number("trace fault Script line ", line, err)
 }
 
 fn say_script<E: Write>(fault: ScriptFault, err: &mut E) -> io::Result<()>

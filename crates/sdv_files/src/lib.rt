@@ -5,11 +5,13 @@
 #![tactic(auto)]
 
 mod file;
+mod left;
 mod output;
 mod seek_file;
 mod source;
 
 pub use file::{MachineFiles, Store, bytes_in, bytes_within, text_in};
+pub use left::leave;
 pub use output::print_text;
 pub use seek_file::SeekFile;
 pub use source::{Source, buffered};

@@ -1,6 +1,6 @@
 //! A file of the machine, read and written block by block.
 
-ghost use Rattle.std.specs.Prelude.{None};
+ghost use Rattle.std.specs.Prelude.{◌≡◌, IfOk, None};
 
 use sdv_file_image::BlockFile;
 use sdv_image::ImageFault;
@@ -17,12 +17,15 @@ pub struct SeekFile<F> {
 }
 
 impl<F: Read + Write + Seek + Drop> SeekFile<F> {
-    /// A file, of which as many bytes are used as it has now.
+    /// A file, of which as many bytes are used as it has now. No call of it has failed.
     ///
     /// # Errors
     ///
     /// Where it has no end that a position can be set to, as a pipe.
-    pub fn new(file: F) -> io::Result<SeekFile<F>> {
+    pub fn new(file: F) -> io::Result<SeekFile<F>>
+        ensures failed { IfOk result (λ file. file.failures ≡ 0) }
+        ensures place { IfOk result (λ file. file.next ≡ None) }
+    {
         let mut file = file;
         let bytes = seek(&mut file, SeekFrom::End(0))?;
         Ok(SeekFile {

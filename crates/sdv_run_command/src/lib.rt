@@ -6,9 +6,12 @@
 
 mod apart;
 mod given;
+mod named;
 mod new_image;
 mod run;
 
+pub use apart::taken_output;
 pub use given::{Given, GivenImage, codes_in, codes_of, given_by, image_in, input_in, new_blocks};
+pub use named::Named;
 pub use new_image::NewImage;
 pub use run::{Outcome, card_over, close_image, run_files, run_given};

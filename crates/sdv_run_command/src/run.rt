@@ -13,6 +13,7 @@ ghost use Rattle.sdv_faults.specs.declared.fault.Fault.{Fault};
 
 use crate::apart::taken_output;
 use crate::given::{Given, GivenImage, given_by};
+use crate::named::Named;
 use sdv_check::verify;
 use sdv_command_line::RunFiles;
 use sdv_controller::Controller;
@@ -72,11 +73,16 @@ fn run_apart<'a, S: Store, T: Write>(
         (outcome_of result) (T.contents trace.old) (T.contents trace.new) }
 {
     let (given, image) = given_by(alloc, files, &names)?;
+    let named = Named {
+        alloc,
+        files,
+        names: &names,
+    };
     match names.output {
-        None => end_of(run_kept(alloc, files, &names, &given, image, &mut io::sink(), trace)?),
+        None => end_of(run_kept(named, &given, image, &mut io::sink(), trace)?),
         Some(file) => {
             let mut sink = files.create(file).ok_or(Fault::File(file))?;
-            let end = run_kept(alloc, files, &names, &given, image, &mut sink, trace)?;
+            let end = run_kept(named, &given, image, &mut sink, trace)?;
             if !files.finish(file, sink) {
                 return Err(Fault::File(file));
             }
@@ -87,30 +93,28 @@ fn run_apart<'a, S: Store, T: Write>(
 
 /// Runs what was given, and then writes back what the file of the image has not got yet, whatever the end of the run.
 fn run_kept<'a, S: Store, O: Write, T: Write>(
-    alloc: Global,
-    files: &S,
-    names: &RunFiles<'a>,
+    named: Named<'_, S, RunFiles<'a>>,
     given: &Given,
     image: GivenImage<S::Image>,
     out: &mut O,
     trace: &mut T,
 ) -> Result<Result<End, RunFault>, Fault<'a>>
-    requires { IsOfName S.Image.failed (S.known files.now) names.now.image.now image }
-    ensures kept { IfOk result (λ end. IsKept (S.known files.now)
-        (names_of names.now) given.now (image_given S.Image.byte_count S.Image.blocks image) end
+    requires { IsOfName S.Image.failed (S.known named.files.now) named.names.now.image.now image }
+    ensures kept { IfOk result (λ end. IsKept (S.known named.entry.files.now)
+        (names_of named.entry.names.now) given.now (image_given S.Image.byte_count S.Image.blocks image) end
         (O.contents out.old) (O.contents out.new) (T.contents trace.old) (T.contents trace.new)) }
-    ensures fails { IfErr result (λ fault. FailsToKeep (S.known files.now)
-        (names_of names.now) given.now (image_given S.Image.byte_count S.Image.blocks image) fault
+    ensures fails { IfErr result (λ fault. FailsToKeep (S.known named.entry.files.now)
+        (names_of named.entry.names.now) given.now (image_given S.Image.byte_count S.Image.blocks image) fault
         (T.contents trace.old) (T.contents trace.new)) }
 {
     match image {
         GivenImage::New(image) => {
-            let outcome = run_given(alloc, given, image, out, trace)?;
+            let outcome = run_given(named.alloc, given, image, out, trace)?;
             Ok(outcome.end)
         }
         GivenImage::File(file) => {
-            let Outcome { end, image } = run_given(alloc, given, file, out, trace)?;
-            close_image(files, names.image, image)?;
+            let Outcome { end, image } = run_given(named.alloc, given, file, out, trace)?;
+            close_image(named.files, named.names.image, image)?;
             Ok(end)
         }
     }

@@ -13,7 +13,7 @@ use sdv_faults::Fault;
 use sdv_file_image::{BlockFile, FileImage};
 use sdv_files::{Store, text_in};
 use sdv_lines::{ServeFault, serve};
-use sdv_run_command::{GivenImage, card_over, close_image, codes_in, image_in};
+use sdv_run_command::{GivenImage, Named, card_over, close_image, codes_in, image_in};
 use std::alloc::Global;
 use std::io::{Read, Write};
 
@@ -61,7 +61,12 @@ pub fn serve_card<'a, S: Store, R: Read, W: Write>(
         (R.remaining reader.old) (R.remaining reader.new) (W.contents writer.old) (W.contents writer.new)) }
 {
     let (given, image) = given_by(alloc, files, &names)?;
-    match serve_kept(alloc, files, &names, &given, image, reader, writer)? {
+    let named = Named {
+        alloc,
+        files,
+        names: &names,
+    };
+    match serve_kept(named, &given, image, reader, writer)? {
         Ok(()) => Ok(()),
         Err(fault) => Err(Fault::Request(fault)),
     }
@@ -87,30 +92,28 @@ fn given_by<'a, S: Store>(
 
 /// Answers requests by what was given, and then writes back what the file of the image has not got yet.
 fn serve_kept<'a, S: Store, R: Read, W: Write>(
-    alloc: Global,
-    files: &S,
-    names: &CardFiles<'a>,
+    named: Named<'_, S, CardFiles<'a>>,
     given: &Given,
     image: GivenImage<S::Image>,
     reader: &mut R,
     writer: &mut W,
 ) -> Result<Result<(), ServeFault>, Fault<'a>>
-    requires { IsOfName S.Image.failed (S.known files.now) names.now.image.now image }
-    ensures kept { IfOk result (λ end. IsKept (S.known files.now)
-        (card_names_of names.now) given.now (image_given S.Image.byte_count S.Image.blocks image) end
+    requires { IsOfName S.Image.failed (S.known named.files.now) named.names.now.image.now image }
+    ensures kept { IfOk result (λ end. IsKept (S.known named.entry.files.now)
+        (card_names_of named.entry.names.now) given.now (image_given S.Image.byte_count S.Image.blocks image) end
         (R.remaining reader.old) (R.remaining reader.new) (W.contents writer.old) (W.contents writer.new)) }
-    ensures fails { IfErr result (λ fault. FailsToKeep (S.known files.now)
-        (card_names_of names.now) given.now (image_given S.Image.byte_count S.Image.blocks image) fault
+    ensures fails { IfErr result (λ fault. FailsToKeep (S.known named.entry.files.now)
+        (card_names_of named.entry.names.now) given.now (image_given S.Image.byte_count S.Image.blocks image) fault
         (R.remaining reader.old) (R.remaining reader.new) (W.contents writer.old) (W.contents writer.new)) }
 {
     match image {
         GivenImage::New(image) => {
-            let outcome = serve_given(alloc, given, image, reader, writer)?;
+            let outcome = serve_given(named.alloc, given, image, reader, writer)?;
             Ok(outcome.end)
         }
         GivenImage::File(file) => {
-            let Outcome { end, image } = serve_given(alloc, given, file, reader, writer)?;
-            close_image(files, names.image, image)?;
+            let Outcome { end, image } = serve_given(named.alloc, given, file, reader, writer)?;
+            close_image(named.files, named.names.image, image)?;
             Ok(end)
         }
     }

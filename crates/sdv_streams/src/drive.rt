@@ -14,7 +14,7 @@ use sdv_faults::Fault;
 use sdv_files::{Store, text_in};
 use sdv_lines::{LineFault, LinePort};
 use sdv_run::{End, RunFault, run};
-use sdv_run_command::input_in;
+use sdv_run_command::{Named, input_in};
 use std::alloc::Global;
 use std::io::{self, Read, Write};
 
@@ -64,11 +64,16 @@ pub fn drive_files<'a, S: Store, R: Read, W: Write>(
         (streams_of R.remaining W.contents port.old) (streams_of R.remaining W.contents port.new)) }
 {
     let given = given_by(alloc, files, &names)?;
+    let named = Named {
+        alloc,
+        files,
+        names: &names,
+    };
     match names.output {
-        None => end_of(drive_traced(alloc, files, &names, &given, port, &mut io::sink())?),
+        None => end_of(drive_traced(named, &given, port, &mut io::sink())?),
         Some(file) => {
             let mut sink = files.create(file).ok_or(Fault::File(file))?;
-            let outcome = drive_traced(alloc, files, &names, &given, port, &mut sink)?;
+            let outcome = drive_traced(named, &given, port, &mut sink)?;
             if !files.finish(file, sink) {
                 return Err(Fault::File(file));
             }
@@ -98,20 +103,24 @@ fn given_by<'a, S: Store>(
 
 /// Runs what was given, with the trace to its file.
 fn drive_traced<'a, S: Store, R: Read, W: Write, O: Write>(
-    alloc: Global,
-    files: &S,
-    names: &DriveFiles<'a>,
+    named: Named<'_, S, DriveFiles<'a>>,
     given: &Given,
     port: &mut LinePort<R, W>,
     out: &mut O,
 ) -> Result<Outcome, Fault<'a>>
     requires { (streams_of R.remaining W.contents port.old).fault ≡ None }
-    ensures traced { IfOk result (λ outcome. IsTraced (S.known files.now) (drive_names_of names.now) given.now outcome
-        (O.contents out.old) (O.contents out.new)
+    ensures traced { IfOk result (λ outcome. IsTraced (S.known named.entry.files.now)
+        (drive_names_of named.entry.names.now) given.now outcome (O.contents out.old) (O.contents out.new)
         (streams_of R.remaining W.contents port.old) (streams_of R.remaining W.contents port.new)) }
-    ensures fails { IfErr result (λ fault. FailsToTrace (S.known files.now) (drive_names_of names.now) given.now fault
+    ensures fails { IfErr result (λ fault. FailsToTrace (S.known named.entry.files.now)
+        (drive_names_of named.entry.names.now) given.now fault
         (streams_of R.remaining W.contents port.old) (streams_of R.remaining W.contents port.new)) }
 {
+    let Named {
+        alloc,
+        files,
+        names,
+    } = named;
     match names.trace {
         None => Ok(drive_given(alloc, given, port, out, &mut io::sink())?),
         Some(file) => {

@@ -35,8 +35,8 @@ pub returns-in-Err-clause-refused : goal.returns-in-Err-clause-refused
 returns-in-Err-clause-refused g c = λ quiet status.
     let one : status_of c.in-Err.fault ≡ 1 = search rules in
     words-kept any_files (streams_of g.I.Read.remaining g.L.Write.contents c.args.lines.now)
-    (streams_of g.I.Read.remaining g.L.Write.contents c.answer.new.lines) (g.O.Write.contents c.args.out.now) (g.O.Write.contents c.answer.new.out) (texts c.args.words.now) quiet c.in-Err.fault
-    (no_output c.in-Err.fault one)
+    (streams_of g.I.Read.remaining g.L.Write.contents c.answer.new.lines) (g.O.Write.contents c.args.out.now)
+    (g.O.Write.contents c.answer.new.out) (texts c.args.words.now) quiet c.in-Err.fault (no_output c.in-Err.fault one)
     (subst (λ (r : Result (Unit {0}) Fault). EndsWords any_files (streams_of g.I.Read.remaining g.L.Write.contents c.args.lines.now)
     (streams_of g.I.Read.remaining g.L.Write.contents c.answer.new.lines) (texts c.args.words.now) (outcome_of r)
     (g.O.Write.contents c.args.out.now) (g.O.Write.contents c.answer.new.out)) c.in-Err.is c.answer.ensures)
@@ -46,7 +46,8 @@ returns-in-Err-clause-no_memory g c = λ whole status.
     let three : status_of c.in-Err.fault ≡ 3 = search rules in
     let memory : c.in-Err.fault ≡ Memory = of_memory c.in-Err.fault three in
     words-memory-kept any_files (streams_of g.I.Read.remaining g.L.Write.contents c.args.lines.now)
-    (streams_of g.I.Read.remaining g.L.Write.contents c.answer.new.lines) (g.O.Write.contents c.args.out.now) (g.O.Write.contents c.answer.new.out) (texts c.args.words.now) whole
+    (streams_of g.I.Read.remaining g.L.Write.contents c.answer.new.lines) (g.O.Write.contents c.args.out.now)
+    (g.O.Write.contents c.answer.new.out) (texts c.args.words.now) whole
     (subst (λ (fault : Fault). EndsWords any_files (streams_of g.I.Read.remaining g.L.Write.contents c.args.lines.now)
     (streams_of g.I.Read.remaining g.L.Write.contents c.answer.new.lines) (texts c.args.words.now) (Some fault)
     (g.O.Write.contents c.args.out.now) (g.O.Write.contents c.answer.new.out)) memory

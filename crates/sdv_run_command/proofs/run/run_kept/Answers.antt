@@ -10,24 +10,24 @@ use Rattle.sdv_run_command.proofs.run.run_kept.Goals as goal
 
 pub returns-in_err-outcome-in-New-clause-fails : goal.returns-in_err-outcome-in-New-clause-fails
 returns-in_err-outcome-in-New-clause-fails g c =
-    let files : Files = g.S.Store.known c.args.files.now in
-    subst (λ image. IfErr c.from_residual.result (λ fault. FailsToKeep files (names_of c.args.names.now) c.args.given.now
+    let files : Files = g.S.Store.known c.args.named.files.now in
+    subst (λ image. IfErr c.from_residual.result (λ fault. FailsToKeep files (names_of c.args.named.names.now) c.args.given.now
     (image_given g.S.Image.BlockFile.byte_count g.S.Image.BlockFile.blocks image) fault
     (g.T.Write.contents c.args.trace.now) (g.T.Write.contents c.run_given.new.trace))) (sym c.in-New.is)
-    (refusal_unkept files (names_of c.args.names.now) c.args.given.now
+    (refusal_unkept files (names_of c.args.named.names.now) c.args.given.now
     (image_given g.S.Image.BlockFile.byte_count g.S.Image.BlockFile.blocks (New c.in-New.image)) _ _
     (MayHaveFailed (λ _. 0) c.in-New.image) (λ unread. absurd (never_unread c.in-New.image unread)) c.in_err-outcome-in-New.field-0.0
     c.in_err-outcome-in-New.ensures.refused c.in_err-outcome-in-New.ensures.quiet c.from_residual.result c.from_residual.ensures.1)
 
 pub returns-in_err-end-in-File-clause-fails : goal.returns-in_err-end-in-File-clause-fails
 returns-in_err-end-in-File-clause-fails g c =
-    let files : Files = g.S.Store.known c.args.files.now in
-    let of_name : IsOfName g.S.Image.BlockFile.failed files c.args.names.now.image.now (File c.in-File.file) =
-    subst (λ image. IsOfName g.S.Image.BlockFile.failed files c.args.names.now.image.now image) c.in-File.is c.requires in
-    subst (λ image. IfErr c.from_residual-in_err-end-in-File.result (λ fault. FailsToKeep files (names_of c.args.names.now) c.args.given.now
+    let files : Files = g.S.Store.known c.args.named.files.now in
+    let of_name : IsOfName g.S.Image.BlockFile.failed files c.args.named.names.now.image.now (File c.in-File.file) =
+    subst (λ image. IsOfName g.S.Image.BlockFile.failed files c.args.named.names.now.image.now image) c.in-File.is c.requires in
+    subst (λ image. IfErr c.from_residual-in_err-end-in-File.result (λ fault. FailsToKeep files (names_of c.args.named.names.now) c.args.given.now
     (image_given g.S.Image.BlockFile.byte_count g.S.Image.BlockFile.blocks image) fault
     (g.T.Write.contents c.args.trace.now) (g.T.Write.contents c.run_given-in-File.new.trace))) (sym c.in-File.is)
-    (refusal_unkept files (names_of c.args.names.now) c.args.given.now
+    (refusal_unkept files (names_of c.args.named.names.now) c.args.given.now
     (image_given g.S.Image.BlockFile.byte_count g.S.Image.BlockFile.blocks (File c.in-File.file)) _ _
     (MayHaveFailed g.S.Image.BlockFile.failed c.in-File.file) (λ unread. (of_name.0, of_name.1 (c.in-File.file, unread.0, unread.1))) c.in_err-end-in-File.field-0.0
     c.in_err-end-in-File.ensures.refused c.in_err-end-in-File.ensures.quiet c.from_residual-in_err-end-in-File.result
@@ -35,14 +35,14 @@ returns-in_err-end-in-File-clause-fails g c =
 
 pub returns-in_err-close_image-in-File-clause-fails : goal.returns-in_err-close_image-in-File-clause-fails
 returns-in_err-close_image-in-File-clause-fails g c =
-    let files : Files = g.S.Store.known c.args.files.now in
-    let name = c.args.names.now.image in
+    let files : Files = g.S.Store.known c.args.named.files.now in
+    let name = c.args.named.names.now.image in
     let of_name : IsOfName g.S.Image.BlockFile.failed files name.now (File c.in-File.file) =
     subst (λ image. IsOfName g.S.Image.BlockFile.failed files name.now image) c.in-File.is c.requires in
-    subst (λ image. IfErr c.from_residual-in_err-close_image-in-File.result (λ fault. FailsToKeep files (names_of c.args.names.now) c.args.given.now
+    subst (λ image. IfErr c.from_residual-in_err-close_image-in-File.result (λ fault. FailsToKeep files (names_of c.args.named.names.now) c.args.given.now
     (image_given g.S.Image.BlockFile.byte_count g.S.Image.BlockFile.blocks image) fault
     (g.T.Write.contents c.args.trace.now) (g.T.Write.contents c.run_given-in-File.new.trace))) (sym c.in-File.is)
-    (close_fails files (names_of c.args.names.now) c.args.given.now
+    (close_fails files (names_of c.args.named.names.now) c.args.given.now
     (image_given g.S.Image.BlockFile.byte_count g.S.Image.BlockFile.blocks (File c.in-File.file))
     (g.T.Write.contents c.args.trace.now) (g.T.Write.contents c.run_given-in-File.new.trace) name refl (record {
       blocks' = shown_of c.in_ok-end-in-File.field-0.image;

@@ -11,27 +11,29 @@ use Rattle.sdv_streams.proofs.card.serve_kept.Goals as goal
 
 pub returns-in_err-outcome-in-New-clause-fails : goal.returns-in_err-outcome-in-New-clause-fails
 returns-in_err-outcome-in-New-clause-fails g c =
-    let files : Files = g.S.Store.known c.args.files.now in
+    let files : Files = g.S.Store.known c.args.named.files.now in
     let image_of = image_given g.S.Image.BlockFile.byte_count g.S.Image.BlockFile.blocks in
-    subst (λ image. IfErr c.from_residual.result (λ fault. FailsToKeep files (card_names_of c.args.names.now) c.args.given.now (image_of image) fault (g.R.Read.remaining c.args.reader.now) (g.R.Read.remaining c.serve_given.new.reader)
+    subst (λ image. IfErr c.from_residual.result (λ fault. FailsToKeep files (card_names_of c.args.named.names.now) c.args.given.now
+    (image_of image) fault (g.R.Read.remaining c.args.reader.now) (g.R.Read.remaining c.serve_given.new.reader)
     (g.W.Write.contents c.args.writer.now) (g.W.Write.contents c.serve_given.new.writer)))
     (sym c.in-New.is)
-    (refusal_unkept files (card_names_of c.args.names.now) (g.R.Read.remaining c.args.reader.now) (g.R.Read.remaining c.serve_given.new.reader)
-    (g.W.Write.contents c.args.writer.now) (g.W.Write.contents c.serve_given.new.writer) c.args.given.now (image_of (New c.in-New.image)) (MayHaveFailed (λ _. 0) c.in-New.image)
+    (refusal_unkept files (card_names_of c.args.named.names.now) (g.R.Read.remaining c.args.reader.now) (g.R.Read.remaining c.serve_given.new.reader)
+    (g.W.Write.contents c.args.writer.now) (g.W.Write.contents c.serve_given.new.writer) c.args.given.now
+    (image_of (New c.in-New.image)) (MayHaveFailed (λ _. 0) c.in-New.image)
     (λ unread. absurd (never_unread c.in-New.image unread)) c.in_err-outcome-in-New.field-0.0 c.in_err-outcome-in-New.ensures.refused
     (c.in_err-outcome-in-New.ensures.unread, c.in_err-outcome-in-New.ensures.quiet) c.from_residual.result c.from_residual.ensures.1)
 
 pub returns-in_err-end-in-File-clause-fails : goal.returns-in_err-end-in-File-clause-fails
 returns-in_err-end-in-File-clause-fails g c =
-    let files : Files = g.S.Store.known c.args.files.now in
-    let name = c.args.names.now.image.now in
+    let files : Files = g.S.Store.known c.args.named.files.now in
+    let name = c.args.named.names.now.image.now in
     let image_of = image_given g.S.Image.BlockFile.byte_count g.S.Image.BlockFile.blocks in
     let of_name : IsOfName g.S.Image.BlockFile.failed files name (File c.in-File.file) =
     subst (λ image. IsOfName g.S.Image.BlockFile.failed files name image) c.in-File.is c.requires in
-    subst (λ image. IfErr c.from_residual-in_err-end-in-File.result (λ fault. FailsToKeep files (card_names_of c.args.names.now) c.args.given.now (image_of image)
-    fault (g.R.Read.remaining c.args.reader.now) (g.R.Read.remaining c.serve_given-in-File.new.reader)
+    subst (λ image. IfErr c.from_residual-in_err-end-in-File.result (λ fault. FailsToKeep files (card_names_of c.args.named.names.now)
+    c.args.given.now (image_of image) fault (g.R.Read.remaining c.args.reader.now) (g.R.Read.remaining c.serve_given-in-File.new.reader)
     (g.W.Write.contents c.args.writer.now) (g.W.Write.contents c.serve_given-in-File.new.writer))) (sym c.in-File.is)
-    (refusal_unkept files (card_names_of c.args.names.now) (g.R.Read.remaining c.args.reader.now) (g.R.Read.remaining c.serve_given-in-File.new.reader)
+    (refusal_unkept files (card_names_of c.args.named.names.now) (g.R.Read.remaining c.args.reader.now) (g.R.Read.remaining c.serve_given-in-File.new.reader)
     (g.W.Write.contents c.args.writer.now) (g.W.Write.contents c.serve_given-in-File.new.writer) c.args.given.now (image_of (File c.in-File.file))
     (MayHaveFailed g.S.Image.BlockFile.failed c.in-File.file) (λ unread. (of_name.0, of_name.1 (c.in-File.file, unread.0, unread.1)))
     c.in_err-end-in-File.field-0.0 c.in_err-end-in-File.ensures.refused
@@ -40,16 +42,18 @@ returns-in_err-end-in-File-clause-fails g c =
 
 pub returns-in_err-close_image-in-File-clause-fails : goal.returns-in_err-close_image-in-File-clause-fails
 returns-in_err-close_image-in-File-clause-fails g c =
-    let files : Files = g.S.Store.known c.args.files.now in
-    let name = c.args.names.now.image in
+    let files : Files = g.S.Store.known c.args.named.files.now in
+    let name = c.args.named.names.now.image in
     let image_of = image_given g.S.Image.BlockFile.byte_count g.S.Image.BlockFile.blocks in
     let of_name : IsOfName g.S.Image.BlockFile.failed files name.now (File c.in-File.file) =
     subst (λ image. IsOfName g.S.Image.BlockFile.failed files name.now image) c.in-File.is c.requires in
-    subst (λ image. IfErr c.from_residual-in_err-close_image-in-File.result (λ fault. FailsToKeep files (card_names_of c.args.names.now) c.args.given.now
+    subst (λ image. IfErr c.from_residual-in_err-close_image-in-File.result (λ fault. FailsToKeep files
+    (card_names_of c.args.named.names.now) c.args.given.now
     (image_of image) fault (g.R.Read.remaining c.args.reader.now) (g.R.Read.remaining c.serve_given-in-File.new.reader)
     (g.W.Write.contents c.args.writer.now) (g.W.Write.contents c.serve_given-in-File.new.writer))) (sym c.in-File.is)
-    (close_fails files (card_names_of c.args.names.now) (g.R.Read.remaining c.args.reader.now) (g.R.Read.remaining c.serve_given-in-File.new.reader)
-    (g.W.Write.contents c.args.writer.now) (g.W.Write.contents c.serve_given-in-File.new.writer) c.args.given.now (image_of (File c.in-File.file)) name refl (record {
+    (close_fails files (card_names_of c.args.named.names.now) (g.R.Read.remaining c.args.reader.now) (g.R.Read.remaining c.serve_given-in-File.new.reader)
+    (g.W.Write.contents c.args.writer.now) (g.W.Write.contents c.serve_given-in-File.new.writer) c.args.given.now
+    (image_of (File c.in-File.file)) name refl (record {
       blocks' = shown_of c.in_ok-end-in-File.field-0.image;
       end = c.in_ok-end-in-File.field-0.end;
       served = c.in_ok-end-in-File.ensures.served;

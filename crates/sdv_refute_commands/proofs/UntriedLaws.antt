@@ -1,0 +1,181 @@
+-- Searches and sweeps that were not made, and what they left.
+use Rattle.std.proofs.Common.{◌≡◌, ◌∙◌, refl, sym, ap, subst, inl, inr, Some, None, ℕ, List, Option, Result, Ok, Err, IfErr, IsErrAnd, option_map}
+use Rattle.std.specs.Prelude.{◌≢◌, if◌then◌else◌}
+use Rattle.std.specs.Borrow.{Bor}
+use Rattle.std.specs.Io.KnownBytes.{Keeps}
+use Rattle.clap.specs.Words.{Text}
+use Rattle.sdv_card.specs.Card.{Block}
+use Rattle.sdv_image.specs.declared.fault.SimFault.{SimFault}
+use Rattle.sdv_image.specs.declared.fault.SimFault.TheVariants as cards
+use Rattle.sdv_image.specs.Images.{zeros}
+use Rattle.sdv_script.specs.declared.fault.FaultKind.{FaultKind}
+use Rattle.sdv_script.specs.declared.fault.FaultKind.TheVariants as kinds
+use Rattle.sdv_script.specs.declared.fault.ScriptFault.{ScriptFault}
+use Rattle.sdv_check.specs.Verified.{IsNoScript}
+use Rattle.sdv_refute.specs.declared.simulated.TryFault.{TryFault}
+use Rattle.sdv_refute.specs.declared.simulated.TryFault.TheVariants as tries
+use Rattle.sdv_refute.specs.Tries.{IsRefused}
+use Rattle.sdv_search.specs.Refuted.{IsNoSearch, IsRefutation}
+use Rattle.sdv_search.specs.Report.{IsReport, schedule_text}
+use Rattle.sdv_search.specs.Swept.{IsSweep, NotSwept}
+use Rattle.sdv_search.specs.Table.{IsTable, has_wrong}
+use Rattle.sdv_search.specs.declared.sweeping.SweepTable.{SweepTable}
+use Rattle.sdv_search.specs.declared.refuting.Refutation.{Refutation}
+use Rattle.sdv_command_line.specs.Requests.{RefuteNames}
+use Rattle.sdv_faults.specs.Fault.{fault_of_card, fault_of_script, fault_of_try}
+use Rattle.sdv_faults.specs.declared.fault.Fault.{Fault}
+use Rattle.sdv_faults.specs.declared.fault.Fault.TheVariants.{File, Script, NoRun, Found, Output, Memory}
+use Rattle.sdv_files.specs.Files.{Files}
+use Rattle.sdv_files.specs.Left.{IsLeft, LeavesFault}
+use Rattle.sdv_files.specs.Outcomes.{Ending, Prints, PrintsText, Reports, outcome_of}
+use Rattle.sdv_files.proofs.OutcomeLaws.{prints}
+use Rattle.sdv_files.proofs.StartLaws.{keeps_same}
+use Rattle.sdv_run_command.specs.Run.{GivesNoInput, IsOptional}
+use Rattle.sdv_refute_commands.specs.Refute.{IsNoRefutation, IsToldRun, Untold}
+use Rattle.sdv_refute_commands.specs.Sweep.{HasNoBytes, IsSwept, IsUnswept, NoImage, NoInput, Over}
+
+-- SEARCHES
+
+script_untried : (script : Text) (kind : FaultKind) (fault : ScriptFault) → (kind ≢ kinds.Memory → IsNoScript script)
+    → IsNoRefutation script (fault_of_script kind fault)
+script_untried script kinds.Memory fault is = tt
+script_untried script kinds.Token fault is = is (λ same. absurd (cc same))
+script_untried script kinds.Syntax fault is = is (λ same. absurd (cc same))
+script_untried script kinds.Name fault is = is (λ same. absurd (cc same))
+script_untried script kinds.Command fault is = is (λ same. absurd (cc same))
+script_untried script kinds.Argument fault is = is (λ same. absurd (cc same))
+script_untried script kinds.Guard fault is = is (λ same. absurd (cc same))
+script_untried script kinds.Limit fault is = is (λ same. absurd (cc same))
+script_untried script kinds.NoEnd fault is = is (λ same. absurd (cc same))
+
+no_search : (script : Text) (fault : TryFault) → IsNoSearch script fault → IsNoRefutation script (fault_of_try fault)
+no_search script (tries.Script fault) none = script_untried script fault.kind fault none
+no_search script tries.Kind none = absurd none
+no_search script (tries.Card fault) none = absurd none
+no_search script tries.Memory none = tt
+
+pub unsearched : {T : Type 0} (script : Text) (fault : TryFault) → IsNoSearch script fault → (r : Result T Fault) → IsErrAnd r (λ f. f ≡ fault_of_try fault)
+    → IfErr r (IsNoRefutation script)
+unsearched script fault none (Ok x) is = absurd is
+unsearched script fault none (Err f) is = rw is (no_search script fault none)
+
+-- no certificate is accepted with a script that a run refutes
+none_accepted : (script : Text) (run : Refutation) → IsRefutation script run → IsRefused script
+none_accepted script run is = (is.tries.refutes (zeros run.blocks) refl).refused
+
+module _ (files : Files) (names : RefuteNames) (script : Text) where
+  abbrev pub told_ends : Ending
+  told_ends = Prints (IsToldRun files names script) (Untold files names script)
+
+  untold : (known : Option (List ℕ)) (fault : Fault) → IsNoRefutation script fault → told_ends (Some fault) known known
+  untold known (Script fault) none = (none, keeps_same known)
+  untold known (NoRun runs mishaps) none = (none, keeps_same known)
+  untold known Memory none = keeps_same known
+  untold known _ none = absurd none
+
+  pub unfound : {T : Type 0} (known : Option (List ℕ)) (fault : Fault) → IsNoRefutation script fault → (r : Result T Fault) → IsErrAnd r (λ f. f ≡ fault)
+      → told_ends (outcome_of r) known known
+  unfound known fault none (Ok x) is = absurd is
+  unfound known fault none (Err f) is = rw is (untold known fault none)
+
+  module _ (run : Refutation) (is : IsRefutation script run) where
+    description_lost : (name : Option (Bor Text)) → names.description ≡ option_map (λ (file : Bor Text). file.now) name → (fault : Fault)
+        → LeavesFault files name run.card.now fault → (known : Option (List ℕ)) → told_ends (Some fault) known known
+    description_lost None same fault leaves known = absurd leaves
+    description_lost (Some file) same fault leaves known =
+        subst (λ (f : Fault). told_ends (Some f) known known) (sym leaves.0)
+        (record { run = run; refutes = is; lost = inl (same, leaves.1) }, keeps_same known)
+
+    schedule_lost : (name : Option (Bor Text)) → names.schedule ≡ option_map (λ (file : Bor Text). file.now) name → (fault : Fault)
+        → LeavesFault files name (schedule_text run.schedule.items) fault → (known : Option (List ℕ)) → told_ends (Some fault) known known
+    schedule_lost None same fault leaves known = absurd leaves
+    schedule_lost (Some file) same fault leaves known =
+        subst (λ (f : Fault). told_ends (Some f) known known) (sym leaves.0)
+        (record { run = run; refutes = is; lost = inr (same, leaves.1) }, keeps_same known)
+
+    pub description_fails : {T : Type 0} (name : Option (Bor Text)) → names.description ≡ option_map (λ (file : Bor Text). file.now) name → (fault : Fault)
+        → LeavesFault files name run.card.now fault → (known : Option (List ℕ)) → (r : Result T Fault) → IsErrAnd r (λ f. f ≡ fault)
+        → told_ends (outcome_of r) known known
+    description_fails name same fault leaves known (Ok x) e = absurd e
+    description_fails name same fault leaves known (Err f) e = rw e (description_lost name same fault leaves known)
+
+    pub schedule_fails : {T : Type 0} (name : Option (Bor Text)) → names.schedule ≡ option_map (λ (file : Bor Text). file.now) name → (fault : Fault)
+        → LeavesFault files name (schedule_text run.schedule.items) fault → (known : Option (List ℕ)) → (r : Result T Fault) → IsErrAnd r (λ f. f ≡ fault)
+        → told_ends (outcome_of r) known known
+    schedule_fails name same fault leaves known (Ok x) e = absurd e
+    schedule_fails name same fault leaves known (Err f) e = rw e (schedule_lost name same fault leaves known)
+
+    pub told : (text : Text) → IsReport run text → IsLeft files names.description run.card.now
+        → IsLeft files names.schedule (schedule_text run.schedule.items) → (outcome : Option Fault) (before after : Option (List ℕ))
+        → PrintsText text outcome before after → told_ends outcome before after
+    told text report description schedule outcome before after printed =
+        prints before after (IsToldRun files names script) (Untold files names script) text outcome
+        (record { run = run; refutes = is; refused = none_accepted script run is; told = report; description = description; schedule = schedule }) printed
+
+-- SWEEPS
+
+script_output : (kind : FaultKind) (fault : ScriptFault) → fault_of_script kind fault ≡ Output → ⊥
+script_output kinds.Memory fault is = cc
+script_output kinds.Token fault is = cc
+script_output kinds.Syntax fault is = cc
+script_output kinds.Name fault is = cc
+script_output kinds.Command fault is = cc
+script_output kinds.Argument fault is = cc
+script_output kinds.Guard fault is = cc
+script_output kinds.Limit fault is = cc
+script_output kinds.NoEnd fault is = cc
+
+card_output : (fault : SimFault) → fault_of_card fault ≡ Output → ⊥
+card_output cards.Memory is = cc
+card_output cards.Description is = cc
+card_output cards.Capacity is = cc
+card_output cards.ImageLength is = cc
+card_output cards.ImageRead is = cc
+
+try_output : (fault : TryFault) → fault_of_try fault ≡ Output → ⊥
+try_output (tries.Script fault) is = script_output fault.kind fault is
+try_output tries.Kind is = cc
+try_output (tries.Card fault) is = card_output fault is
+try_output tries.Memory is = cc
+
+module _ (IsReport : Option Fault → Text → Type 0) (script card image : Text) (known : Option (List ℕ)) where
+  unswept_as : (why : TryFault) → NotSwept script card image why → (fault : Fault) → fault ≡ fault_of_try why
+      → Reports IsReport (IsUnswept script card image) (Some fault) known known
+  unswept_as why not Memory same = keeps_same known
+  unswept_as why not Output same = absurd (try_output why (sym same))
+  unswept_as why not _ same = inr ((why, not, same), keeps_same known)
+
+  pub unswept : {T : Type 0} (why : TryFault) → NotSwept script card image why → (r : Result T Fault) → IsErrAnd r (λ f. f ≡ fault_of_try why)
+      → Reports IsReport (IsUnswept script card image) (outcome_of r) known known
+  unswept why not (Ok x) is = absurd is
+  unswept why not (Err f) is = unswept_as why not f is
+
+-- files that were not read
+module _ (Gives : List ℕ → Type 0) (Ends : List ℕ → Ending) (known : Option (List ℕ)) (files : Files) where
+  pub no_image_bytes : {T : Type 0} (name : Bor Text) (fault : Fault) → HasNoBytes files name fault → (r : Result T Fault) → IsErrAnd r (λ f. f ≡ fault)
+      → Over (NoImage files name.now) Gives Ends (outcome_of r) known known
+  no_image_bytes name fault none (Ok x) is = absurd is
+  no_image_bytes name fault none (Err f) is = inl ((name, refl, subst (HasNoBytes files name) (sym is) none), keeps_same known)
+
+  no_input_as : (name : Option (Bor Text)) (fault : Fault) → IsOptional (GivesNoInput files) name fault
+      → NoInput files (option_map (λ (file : Bor Text). file.now) name) (Some fault)
+  no_input_as name fault (inl none) = inl (none.0, ap (option_map (λ (file : Bor Text). file.now)) none.1, none.2, none.3)
+  no_input_as name fault (inr memory) = inr memory
+
+  pub no_input : {T : Type 0} (name : Option (Bor Text)) (fault : Fault) → IsOptional (GivesNoInput files) name fault → (r : Result T Fault)
+      → IsErrAnd r (λ f. f ≡ fault) → Over (NoInput files (option_map (λ (file : Bor Text). file.now) name)) Gives Ends (outcome_of r) known known
+  no_input name fault none (Ok x) is = absurd is
+  no_input name fault none (Err f) is =
+      inl (subst (λ f. NoInput files (option_map (λ (file : Bor Text). file.now) name) (Some f)) (sym is) (no_input_as name fault none), keeps_same known)
+
+-- a table of which a part was printed
+module _ (script card image : Text) (input : List Block) (s : SweepTable) (swept : IsSweep script card image input s) (text : Text) (table : IsTable s text) where
+  in_part : (before after : Option (List ℕ)) (fault : Fault) → PrintsText text (Some fault) before after
+      → Reports (IsSwept script card image input) (IsUnswept script card image) (Some fault) before after
+  in_part before after Output printed = ((if has_wrong s then Some Found else None), text, (s, swept, refl, table), printed)
+  in_part before after _ printed = absurd printed
+
+  pub reported_in_part : {T : Type 0} (before after : Option (List ℕ)) (fault : Fault) → PrintsText text (Some fault) before after → (r : Result T Fault)
+      → IsErrAnd r (λ f. f ≡ fault) → Reports (IsSwept script card image input) (IsUnswept script card image) (outcome_of r) before after
+  reported_in_part before after fault printed (Ok x) is = absurd is
+  reported_in_part before after fault printed (Err f) is = rw is (in_part before after fault printed)

@@ -1,0 +1,3 @@
+pub mod Refute
+pub mod Sweep
+pub mod Try

@@ -1,0 +1,81 @@
+-- `refute SCRIPT [--card FILE] [--schedule FILE]`: a run that refutes the script of a file, with its card and its schedule in
+-- two files, neither of which is that of the script.
+use Rattle.std.specs.Prelude.{◌≡◌, ◌⊎◌, ◌≢◌, Option, Some, ℕ, List}
+use Rattle.std.specs.Io.KnownBytes.{Keeps}
+use Rattle.clap.specs.Words.{Text}
+use Rattle.sdv_check.specs.Verified.{IsNoScript}
+use Rattle.sdv_refute.specs.Tries.{IsRefused}
+use Rattle.sdv_search.specs.Refuted.{IsRefutation}
+use Rattle.sdv_search.specs.Report.{IsReport, schedule_text}
+use Rattle.sdv_search.specs.declared.refuting.Refutation.{Refutation}
+use Rattle.sdv_command_line.specs.Requests.{RefuteNames}
+use Rattle.sdv_faults.specs.declared.fault.Fault.{Fault}
+use Rattle.sdv_faults.specs.declared.fault.Fault.TheVariants.{File, Script, NoRun, Memory}
+use Rattle.sdv_files.specs.Files.{Files}
+use Rattle.sdv_files.specs.Left.{IsLeft, LosesFile}
+use Rattle.sdv_files.specs.Outcomes.{Ending, OverText, Prints}
+
+-- The text tells of a run that refutes the script: beside the card that it describes, with the schedule that it has, the
+-- script prints the trace that it has. No certificate is accepted with the script. The description and the schedule went to
+-- the files that are named for them.
+pub record IsToldRun (files : Files) (names : RefuteNames) (script text : Text) : Type 0 where
+  pub run : Refutation
+  pub refutes : IsRefutation script run
+  pub refused : IsRefused script
+  pub told : IsReport run text
+  pub description : IsLeft files names.description run.card.now
+  pub schedule : IsLeft files names.schedule (schedule_text run.schedule.items)
+
+-- there is a run, and a file did not take its description or its schedule
+pub record IsUnwritten (files : Files) (names : RefuteNames) (script file : Text) : Type 0 where
+  pub run : Refutation
+  pub refutes : IsRefutation script run
+  pub lost : ((names.description ≡ Some file) × LosesFile files file run.card.now)
+      ⊎ ((names.schedule ≡ Some file) × LosesFile files file (schedule_text run.schedule.items))
+
+-- why there is no run: the text is no script, or none was found, which says nothing of the script; nor does want of memory
+abbrev pub IsNoRefutation : (script : Text) → Fault → Type 0
+IsNoRefutation script (Script fault) = IsNoScript script
+IsNoRefutation script (NoRun runs mishaps) = Unit {0}
+IsNoRefutation script Memory = Unit {0}
+IsNoRefutation script fault = ⊥
+
+-- why none is told
+abbrev pub Untold : Files → RefuteNames → (script : Text) → Fault → Type 0
+Untold files names script (File file) = IsUnwritten files names script file.now
+Untold files names script fault = IsNoRefutation script fault
+
+abbrev pub RefutesApart : Files → RefuteNames → Ending
+RefutesApart files names = OverText files names.script (λ script.
+    Prints (IsToldRun files names script) (Untold files names script))
+
+-- NO FILE IS LOST BY A SLIP: neither file is that of the script, and they are two
+
+-- the file of this name would be written over another
+abbrev pub IsOver : Files → (other : Text) → (name : Option Text) → (file : Text) → Type 0
+IsOver files other name file = (name ≡ Some file) × files.same other file
+
+abbrev pub StaysOff : Files → (other : Text) → (name : Option Text) → Type 0
+StaysOff files other name = (file : Text) → name ≡ Some file → files.apart other file
+
+abbrev pub IsTaken : Files → RefuteNames → (file : Text) → Type 0
+IsTaken files names file =
+    IsOver files names.script names.description file
+    ⊎ (IsOver files names.script names.schedule file
+    ⊎ ((other : Text) × (names.description ≡ Some other) × IsOver files other names.schedule file))
+
+pub record IsApart (files : Files) (names : RefuteNames) : Type 0 where
+  pub description : StaysOff files names.script names.description
+  pub schedule : StaysOff files names.script names.schedule
+  pub two : (other : Text) → names.description ≡ Some other → StaysOff files other names.schedule
+
+-- a file cannot be used, since it is one of the others
+abbrev pub TakesOther : Files → RefuteNames → Option Fault → Type 0
+TakesOther files names (Some (File file)) = IsTaken files names file.now
+TakesOther files names outcome = ⊥
+
+-- THE COMMAND
+abbrev pub RefuteEnds : Files → RefuteNames → Ending
+RefuteEnds files names outcome before after =
+    (TakesOther files names outcome × Keeps before after)
+    ⊎ (IsApart files names × RefutesApart files names outcome before after)

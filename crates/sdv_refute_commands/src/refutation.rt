@@ -1,0 +1,127 @@
+//! `refute SCRIPT [--card FILE] [--schedule FILE]`: a run that refutes a script.
+ghost use Rattle.std.specs.Prelude.{◌≡◌, option_map, IfErr, IfOk, IfSome, None};
+ghost use Rattle.sdv_command_line.specs.Requests.{refute_names_of};
+ghost use Rattle.sdv_files.specs.Outcomes.{Prints, outcome_of};
+ghost use Rattle.sdv_search.specs.Refuted.{IsRefutation};
+ghost use Rattle.sdv_refute_commands.specs.Refute.{IsApart, IsNoRefutation, IsOver, IsTaken, IsToldRun, RefuteEnds, RefutesApart, StaysOff, Untold};
+
+use sdv_command_line::RefuteFiles;
+use sdv_faults::Fault;
+use sdv_files::{Store, leave, print_text, text_in};
+use sdv_search::{Refutation, refute, report, schedule_digits};
+use std::alloc::Global;
+use std::io::Write;
+
+/// So many events the runs of a search have at most, one after another.
+const BUDGET: u64 = 1_000_000;
+
+/// Looks for a run that refutes the script of a file, and prints what is told of it: its mishaps, why it stops, the card, the
+/// schedule and the trace. The description of the card and the schedule also go to the files that are named for them, if any
+/// are, before anything is printed.
+///
+/// # Errors
+///
+/// - [`Fault::File`]: a file that is written is that of the script, or both that are written are one; then no file was opened.
+///   Or a file cannot be used: that of the script, or one that is written, which was made or emptied only where a run was
+///   found. Nothing was printed.
+/// - [`Fault::Script`]: the text is no script. Nothing was printed.
+/// - [`Fault::NoRun`]: no run was found. Nothing was printed.
+/// - [`Fault::Output`]: the output failed. A part of what is told was printed.
+/// - [`Fault::Memory`]: memory was refused. Nothing was printed.
+pub fn refute_file<'a, S: Store, O: Write>(
+    alloc: Global,
+    files: &S,
+    names: RefuteFiles<'a>,
+    out: &mut O,
+) -> Result<(), Fault<'a>>
+    ensures { RefuteEnds (S.known files.now) (refute_names_of names.entry)
+        (outcome_of result) (O.contents out.old) (O.contents out.new) }
+{
+    if let Some(file) = taken_file(files, &names) {
+        return Err(Fault::File(file));
+    }
+    refute_apart(alloc, files, names, out)
+}
+
+/// A file that is written, where it is that of the script, or where the other one goes there too.
+fn taken_file<'a, S: Store>(files: &S, names: &RefuteFiles<'a>) -> Option<&'a str>
+    ensures taken { IfSome result (λ file. IsTaken (S.known files.now) (refute_names_of names.now) file.now) }
+    ensures apart { result ≡ None → IsApart (S.known files.now) (refute_names_of names.now) }
+{
+    if let Some(file) = written_over(files, names.script, names.description) {
+        return Some(file);
+    }
+    if let Some(file) = written_over(files, names.script, names.schedule) {
+        return Some(file);
+    }
+    let description = names.description?;
+    written_over(files, description, names.schedule)
+}
+
+/// A file that was named, where it is this other one.
+fn written_over<'a, S: Store>(files: &S, other: &str, name: Option<&'a str>) -> Option<&'a str>
+    ensures over { IfSome result (λ file.
+        IsOver (S.known files.now) other.now (option_map (λ file. file.now) name.entry) file.now) }
+    ensures off { result ≡ None
+        → StaysOff (S.known files.now) other.now (option_map (λ file. file.now) name.entry) }
+{
+    let file = name?;
+    if files.is_same(other, file) {
+        Some(file)
+    } else {
+        None
+    }
+}
+
+/// The same where the files are others.
+fn refute_apart<'a, S: Store, O: Write>(
+    alloc: Global,
+    files: &S,
+    names: RefuteFiles<'a>,
+    out: &mut O,
+) -> Result<(), Fault<'a>>
+    ensures { RefutesApart (S.known files.now) (refute_names_of names.entry)
+        (outcome_of result) (O.contents out.old) (O.contents out.new) }
+{
+    let script = text_in(alloc, files, names.script)?;
+    refute_text(alloc, files, &names, script.as_str(), out)
+}
+
+/// The same, by the script's text.
+fn refute_text<'a, S: Store, O: Write>(
+    alloc: Global,
+    files: &S,
+    names: &RefuteFiles<'a>,
+    script: &str,
+    out: &mut O,
+) -> Result<(), Fault<'a>>
+    ensures { Prints (IsToldRun (S.known files.now) (refute_names_of names.now) script.now)
+        (Untold (S.known files.now) (refute_names_of names.now) script.now)
+        (outcome_of result) (O.contents out.old) (O.contents out.new) }
+{
+    let run = run_against(alloc, script)?;
+    let text = report(alloc, script, &run)?;
+    let digits = schedule_digits(alloc, run.schedule.as_slice())?;
+    leave(files, names.description, run.card.as_bytes())?;
+    leave(files, names.schedule, digits.as_slice())?;
+    print_text(text.as_slice(), out)
+}
+
+/// A run that refutes a script.
+///
+/// # Errors
+///
+/// [`Fault::Script`]: the text is no script. [`Fault::NoRun`]: no run was found. [`Fault::Memory`]: memory was refused.
+fn run_against(alloc: Global, script: &str) -> Result<Refutation, Fault<'static>>
+    ensures found { IfOk result (IsRefutation script.now) }
+    ensures none { IfErr result (IsNoRefutation script.now) }
+{
+    let found = refute(alloc, script, BUDGET)?;
+    match found.refutation {
+        Some(run) => Ok(run),
+        None => Err(Fault::NoRun {
+            runs: found.runs,
+            mishaps: found.mishaps,
+        }),
+    }
+}

@@ -1,0 +1,206 @@
+A run that refutes a script: without a mishap, and with one.
+
+  $ printf 'card sd\nsend 0 { else { } }\ndone\n' > early.sdv; sdv refute early.sdv
+  mishaps
+  none
+  wrong
+  line 3: done comes to a card in idle state
+  card over new:1024
+  card sd
+  version 2
+  unit block
+  csize 0
+  rca 4660
+  schedule
+  
+  trace
+  CMD0 00000000 -
+  wrong done
+  $ sdv refute $EXAMPLES/hosts/linux_read.sdv --card card --schedule schedule
+  mishaps
+  none
+  wrong
+  line 33: CMD17 comes to a card in tran state whose block length is not 512 bytes
+  card over new:512
+  card sd
+  version 2
+  unit byte
+  csize 63
+  cmult 0
+  rbl 10
+  rca 4660
+  schedule
+  
+  trace
+  CMD0 00000000 -
+  CMD8 000001aa R7 000001aa
+  CMD55 00000000 R1 00000120
+  CMD41 40ff8000 R3 80ff8000
+  CMD2 00000000 R2 005858534456202010000000010181
+  CMD3 00000000 R6 12340500
+  CMD9 12340000 R2 00000000000a000fc0000000000000
+  CMD7 12340000 R1 00000700
+  CMD55 12340000 R1 00000920
+  CMD51 00000000 R1 00000920
+  REG 8 ok
+  CMD55 12340000 R1 00000920
+  CMD6 00000002 R1 00000920
+  wrong CMD17 00001000
+  $ cat card schedule
+  card sd
+  version 2
+  unit byte
+  csize 63
+  cmult 0
+  rbl 10
+  rca 4660
+  $ sdv try $EXAMPLES/hosts/linux_read.sdv card new:512 schedule | tail -n 1
+  line 33: CMD17 comes to a card in tran state whose block length is not 512 bytes
+  wrong CMD17 00001000
+
+Each refused script of the examples, but linux_write, of which the search finds none. `try` shows the same run.
+
+  $ head -c 1048576 /dev/zero > zeros
+  $ for script in $EXAMPLES/refused_*.sdv $EXAMPLES/hosts/seabios.sdv $EXAMPLES/hosts/edk2.sdv $EXAMPLES/hosts/linux_erase.sdv $EXAMPLES/hosts/linux_write_many.sdv $EXAMPLES/hosts/uboot.sdv $EXAMPLES/hosts/uboot_read_many.sdv; do
+  >   basename $script; sdv refute $script --card card --schedule schedule > told; sed -n '/^mishaps/,/^card/p' told | sed '$d'
+  >   sdv try $script card $(sed -n 's/^card over //p' told) schedule --in zeros > trace; sed '1,/^trace/d' told | cmp - trace
+  > done
+  refused_block_address.sdv
+  mishaps
+  none
+  wrong
+  line 15: CMD17 comes to a card in tran state with byte addresses, and its argument is none of the block
+  line 15: CMD17 comes to a card in tran state with byte addresses, and its argument is none of the block
+  refused_unlike_lines.sdv
+  mishaps
+  none
+  wrong
+  line 16: IN 1 comes to a card in data state that uses other data lines than the host
+  line 16: IN 1 comes to a card in data state that uses other data lines than the host
+  seabios.sdv
+  mishaps
+  none
+  wrong
+  line 26: done comes to a card in prg state
+  line 26: done comes to a card in prg state
+  edk2.sdv
+  mishaps
+  none
+  wrong
+  line 31: done comes to a card in prg state
+  line 31: done comes to a card in prg state
+  linux_erase.sdv
+  mishaps
+  line 30: the card refuses CMD32 with an error
+  wrong
+  line 31: CMD33 comes to a card in tran state whose erase sequence is not so far
+  line 31: CMD33 comes to a card in tran state whose erase sequence is not so far
+  linux_write_many.sdv
+  mishaps
+  line 31: the answer to CMD12 is lost
+  line 32: the card is not ready at CMD13
+  wrong
+  line 32: CMD12 comes to a card in prg state, where it is not legal
+  line 32: CMD12 comes to a card in prg state, where it is not legal
+  uboot.sdv
+  mishaps
+  line 13: the card refuses CMD55 with an error
+  wrong
+  line 14: CMD41 comes to a card in idle state without the application flag
+  line 14: CMD41 comes to a card in idle state without the application flag
+  uboot_read_many.sdv
+  mishaps
+  line 24: the answer to CMD18 is lost
+  wrong
+  line 23: CMD16 comes to a card in data state, where it is not legal
+  line 23: CMD16 comes to a card in data state, where it is not legal
+
+  $ sdv refute $EXAMPLES/hosts/linux_write.sdv
+  no run found (1800 runs of at most 4 mishaps)
+  [1]
+
+Scripts that have a certificate: none is found.
+
+  $ for script in $EXAMPLES/smallest.sdv $EXAMPLES/sd_bring_up.sdv $EXAMPLES/emmc_bring_up.sdv; do sdv refute $script; done
+  no run found (4 runs of at most 0 mishaps)
+  no run found (352 runs of at most 2 mishaps)
+  no run found (176 runs of at most 1 mishaps)
+  [1]
+
+Nothing is written where no run was found, and nothing is printed where a file cannot be written.
+
+  $ sdv refute $EXAMPLES/smallest.sdv --card none --schedule neither; [ -e none ] || [ -e neither ] || echo not there
+  no run found (4 runs of at most 0 mishaps)
+  not there
+  $ sdv refute early.sdv --card /nofolder/card
+  cannot use /nofolder/card
+  [2]
+  $ sdv refute early.sdv --schedule /nofolder/schedule
+  cannot use /nofolder/schedule
+  [2]
+  $ sdv refute $EXAMPLES/hosts/linux_erase.sdv --schedule /dev/full
+  cannot use /dev/full
+  [2]
+
+The files that are written are two, and neither is the script, by its name or by a link. Otherwise nothing is opened.
+
+  $ cp early.sdv whole; sdv refute early.sdv --card early.sdv
+  cannot use early.sdv
+  [2]
+  $ ln -s early.sdv link; sdv refute early.sdv --schedule link
+  cannot use link
+  [2]
+  $ sdv refute link --card new --schedule ./early.sdv
+  cannot use ./early.sdv
+  [2]
+  $ sdv refute early.sdv --card new --schedule new
+  cannot use new
+  [2]
+  $ touch one; ln one two; sdv refute nofile --card one --schedule two
+  cannot use two
+  [2]
+  $ cmp early.sdv whole; [ -e new ] || echo not there
+  not there
+  $ sdv refute early.sdv --card /dev/null --schedule /dev/null | head -n 4 | tail -n 1
+  line 3: done comes to a card in idle state
+
+Why there is none for another reason.
+
+  $ sdv refute nofile
+  cannot use nofile
+  [2]
+  $ printf 'card\n' | sdv refute -
+  script fault Syntax line 2
+  [1]
+  $ sdv refute
+  usage: SCRIPT is missing: sdv refute SCRIPT [--card FILE] [--schedule FILE]
+  [2]
+  $ sdv refute early.sdv more
+  usage: more is one word too many: sdv refute SCRIPT [--card FILE] [--schedule FILE]
+  [2]
+  $ sdv refute early.sdv > /dev/full
+  [2]
+
+The pages of the three commands.
+
+  $ for command in try refute sweep; do sdv $command --help; done
+  sdv try SCRIPT CARD IMAGE [SCHEDULE] [--in FILE] [--out FILE]
+      runs any script beside a simulated card, and stops before what is not allowed there
+      SCRIPT: a file with a script
+      CARD: a file with the description of a card
+      IMAGE: a file with the blocks of the card, or new: and a number of blocks of zeros
+      SCHEDULE: a file with a digit from 0 to 7 for each event: what the card does there
+      --in FILE: the blocks that the script gives, a whole number of them
+      --out FILE: the file that takes the blocks that the script receives
+  sdv refute SCRIPT [--card FILE] [--schedule FILE]
+      looks for a run that shows that a script is refused
+      SCRIPT: a file with a script
+      --card FILE: the file that takes the description of the card
+      --schedule FILE: the file that takes the schedule
+  sdv sweep SCRIPT CARD IMAGE [--in FILE]
+      prints how each run with one mishap ends
+      SCRIPT: a file with a script
+      CARD: a file with the description of a card
+      IMAGE: a file with the blocks of the card, or new: and a number of blocks of zeros
+      --in FILE: the blocks that the script gives, a whole number of them
+
