@@ -13,7 +13,7 @@ work=$(mktemp -d)
 trap 'rm -rf "$work"' EXIT
 sdv=${SDV:-$top/crates/sdv/out/sdv}
 [ -x "$sdv" ] || (cd "$top/crates/sdv" && rt run -- frame 0 0) > "$work/built" 2>&1 || { cat "$work/built"; exit 1; }
-command -v qemu-system-aarch64 > "$work/said" || apt-get install -y --no-install-recommends qemu-system-arm > "$work/said" 2>&1
+command -v qemu-system-aarch64 > "$work/said" || { apt-get update -qq && apt-get install -y --no-install-recommends qemu-system-arm; } > "$work/said" 2>&1
 
 target="--target=aarch64-none-elf -mcpu=cortex-a53 -mstrict-align"
 files="bench/bare/main firmware/sdhci" player="" proved=""

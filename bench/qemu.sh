@@ -2,7 +2,8 @@
 # Drives every accepted SD script of examples/ over QEMU's SDHCI controller and SD card, by adapters/qemu-sdhci, and beside the
 # simulated card of the same size: over a card of 64 MiB, which has byte addresses, and over one of 4 GiB, which has block
 # addresses. Each script has to end as beside the simulated card, and to leave the same image. QEMU fills erased blocks with ff,
-# and the simulated card with 00; a card may do either, and says which in its SCR.
+# and the simulated card with 00; a card may do either, and says which in its SCR. Then the player in C plays the script's table
+# over the same controller and a fresh card, and has to have the trace of `sdv drive`, to the letter.
 #
 # It installs qemu-system-x86 with apt-get where it is not there. At its end it prints how the answers of the two cards differ,
 # and why.
@@ -17,6 +18,7 @@ command -v qemu-system-x86_64 > /dev/null ||
     { apt-get update -qq && apt-get install -y -qq --no-install-recommends qemu-system-x86; } > "$work/built" 2>&1 ||
     { cat "$work/built"; exit 1; }
 make -s -C "$top/adapters/qemu-sdhci"
+cc -std=c99 -Wall -Wextra -O2 "$top/tests/firmware/play.c" "$top/firmware/sdv_step.c" -o "$work/play"
 cd "$work"
 mkfifo requests answers
 
@@ -34,6 +36,16 @@ drive() {
     echo "$status $(tail -n 1 trace)$(cat said qemu.said)"
 }
 
+# play SCRIPT IMAGE: plays the table of the script over QEMU's card; false where its trace is not that of `sdv drive`.
+play() {
+    status=0
+    "$sdv" emit "$1" "$1.cert" table --binary table > table.c
+    timeout 600 "$top/adapters/qemu-sdhci/qemu-sdhci" "$2" < requests > answers 2> qemu.said &
+    timeout 600 ./play table > requests < answers 2> played || status=$?
+    wait || true
+    [ "$status" -eq 0 ] && cmp -s played trace
+}
+
 # run SCRIPT CARD IMAGE: the same beside the simulated card.
 run() {
     status=0
@@ -41,7 +53,7 @@ run() {
     echo "$status $(tail -n 1 run.trace)$(cat said)"
 }
 
-passed=0 failed=0
+passed=0 failed=0 played=0
 : > differences
 for size in 64M 4G; do
     for script in "$top"/examples/*.sdv "$top"/examples/hosts/*.sdv "$top"/examples/production/*.sdv; do
@@ -61,6 +73,14 @@ for size in 64M 4G; do
         if [ "$found" = "$wanted" ]; then passed=$((passed + 1)); else failed=$((failed + 1)); fi
         echo "$size, $name: $found$([ "$found" = "$wanted" ] || echo "; beside the simulated card $wanted")"
         diff run.trace trace | grep '^[<>]' >> differences || true
+        rm -f image
+        truncate -s $size image
+        if play script image; then
+            played=$((played + 1))
+        else
+            failed=$((failed + 1))
+            echo "$size, $name: the player in C: $(tail -n 1 played) $(cat qemu.said)"
+        fi
     done
 done
 
@@ -82,5 +102,5 @@ echo "what differs in the traces ('<' the simulated card, '>' QEMU's), and how o
 sort differences | uniq -c | sort -k3,3V -k4,4 -k2,2 | awk '{ $1 = sprintf("%4d", $1); print }'
 cut -d ' ' -f 2 differences | sort -uV | while read -r command; do echo "$command: $(why "$command")"; done
 echo
-echo "qemu: $passed ended as beside the simulated card, $failed otherwise"
+echo "qemu: $passed ended as beside the simulated card, $played were played with the same trace, $failed otherwise"
 [ "$failed" -eq 0 ]
