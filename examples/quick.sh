@@ -2,15 +2,16 @@
 # sh examples/quick.sh
 #
 # A first look, in about two minutes on a new machine. It compiles the program without proving anything, and shows a script
-# that is refused, with the reason; the bring-up of an SD card that is accepted; and the run of that bring-up beside a
-# simulated card. `make build` proves the program.
+# that is refused, with the reason; the script with the mend, which is accepted; and a run of it beside a simulated card.
+# `make build` proves the program.
 set -eu
 top=$(cd "$(dirname "$0")/.." && pwd)
 export PATH="/opt/rattle/bin:$PATH"
 command -v rt > /dev/null || { echo "rt is not on the path: README.md says where the toolchain comes from" >&2; exit 2; }
 
 cases=$(mktemp -d)
-trap 'rm -rf "$cases"' EXIT
+mended=$(mktemp)
+trap 'rm -rf "$cases" "$mended"' EXIT
 
 # words NAME WORD..: a call of the program with these words
 words() {
@@ -18,11 +19,12 @@ words() {
     printf '%s\n' "$2" $3 > "$cases/$1.args"
 }
 words 1 explain "--why refused_block_address.sdv"
-words 2 check "sd_bring_up.sdv sd_bring_up.cert"
-words 3 run "sd_bring_up.sdv sd_bring_up.cert sd_block.card new:1024"
+words 2 check "mended.sdv mended.cert"
+words 3 run "mended.sdv mended.cert sd_byte.card new:16"
 
-data=""
-for name in refused_block_address.sdv sd_bring_up.sdv sd_bring_up.cert sd_block.card; do
+sed 's/at block 8/at by hc 8/' "$top/examples/refused_block_address.sdv" > "$mended"
+data="--data mended.sdv=$mended --data mended.cert=$top/examples/quick/mended.cert"
+for name in refused_block_address.sdv sd_byte.card; do
     data="$data --data $name=$top/examples/$name"
 done
 
@@ -41,12 +43,13 @@ echo "A read of block 8 by its number, whatever unit the card's addresses have, 
 echo "  sdv explain --why examples/refused_block_address.sdv"
 part 1 | sed -n '/^refused/,$p' | sed '$d; s/^/    /'
 echo
-echo "The bring-up of an SD card is accepted: no run of it sends more than 2,007 commands."
-echo "  sdv check examples/sd_bring_up.sdv examples/sd_bring_up.cert"
+echo "With 'at by hc 8' the unit is that of the card, and the script is accepted: no run of it sends more than 2,008 commands."
+echo "  sed 's/at block 8/at by hc 8/' examples/refused_block_address.sdv > mended.sdv"
+echo "  sdv check mended.sdv examples/quick/mended.cert"
 part 2 | sed 's/^/    /'
 echo
-echo "It runs beside a simulated card of 1,024 blocks:"
-echo "  sdv run examples/sd_bring_up.sdv examples/sd_bring_up.cert examples/sd_block.card new:1024"
+echo "It runs beside a simulated card of 16 blocks with byte addresses, and reads block 8 at byte 4096, which is 1000 in hexadecimal:"
+echo "  sdv run mended.sdv examples/quick/mended.cert examples/sd_byte.card new:16"
 part 3 | sed 's/^/    /'
 echo
 echo "Nothing was proved. 'make build' proves the program and leaves it as crates/sdv/out/sdv."
