@@ -23,7 +23,7 @@ abbrev pub fault_of_off : TraceOff → Fault
 fault_of_off (offs.Line fault line) = Trace (traces.Line fault line)
 fault_of_off (offs.Script line) = Stray line
 
--- of which nothing is told
+-- the fault where no line of the trace was told
 abbrev pub fault_of_decode : DecodeFault → Fault
 fault_of_decode (decodes.Script fault) = Script fault
 fault_of_decode decodes.Room = Trace traces.Room

@@ -29,7 +29,7 @@ kind_back : (k : Kind) → (if kind_code k == 0 then Sd else Emmc) ≡ k
 kind_back Sd = refl
 kind_back Emmc = refl
 
--- the word of the kind and the counts, and that of the points and the size
+-- the parts of a header's words: version, kind and counts; points and size
 record Parts (word k n : ℕ) : Type 0 where
   version_is : word % 256 ≡ 1
   kind_is : word / 256 % 256 ≡ k

@@ -32,7 +32,7 @@ pub struct Given {
 }
 
 impl Drop for Given {
-    // One call where what a run is given is let go: the proofs of those who do need not go through its parts.
+    // A drop of its own keeps the proofs of callers short: they need not go through these parts.
     fn drop(self) {
         let Given {
             script: _script,
