@@ -1,18 +1,17 @@
 -- What is played over a port that shows a card, by the table of an accepted script.
-use Rattle.std.proofs.Common.{◌≡◌, ℕ, List, [], ◌∷◌, ◌++◌, true, false, Option, Ok, Err, refl, sym, ap, ◌∙◌, subst, inr}
+use Rattle.std.proofs.Common.{◌≡◌, ℕ, List, [], ◌∷◌, ◌++◌, true, false, Option, Ok, Err, refl, sym, ◌∙◌, subst, inr}
 use Rattle.std.specs.Prelude.{Result}
 use Rattle.sdv_registers.specs.declared.kind.Kind.{Kind}
 use Rattle.sdv_card.specs.Card.{Card, Block}
 use Rattle.sdv_card.specs.Host.{host_after}
-use Rattle.sdv_card.specs.Port.{Shows, Kept, KeepsTables}
+use Rattle.sdv_card.specs.Port.{KeepsTables}
 use Rattle.sdv_card.specs.ScriptEvent.{ScriptEvent, SendCommand, Return, Answered}
 use Rattle.sdv_card.specs.Step.{Step}
-use Rattle.sdv_graph.specs.Walk.{Pair, Open}
+use Rattle.sdv_graph.specs.Walk.{Open}
 use Rattle.sdv_graph.specs.Path.{Stand, Path, Follows, Move, Goes, Does, Halts, move_from}
 use Rattle.sdv_graph.specs.Graph.{Graph}
 use Rattle.sdv_graph.proofs.Paths.{roll}
-use Rattle.sdv_facts.specs.Beside.{StepsOf}
-use Rattle.sdv_facts.specs.Stands.{IsMade, EachIsMade}
+use Rattle.sdv_facts.specs.Stands.{IsMade}
 use Rattle.sdv_facts.proofs.Headline.{each_event}
 use Rattle.sdv_facts.proofs.StepLaws.{Laws, laws_of}
 use Rattle.sdv_check.specs.Verified.{Acceptance, IsAccepted}
@@ -24,6 +23,7 @@ use Rattle.sdv_run.specs.OnCard.{ShowsStart}
 use Rattle.sdv_run.specs.Performs.{Source}
 use Rattle.sdv_run.specs.Run.{Steps, RunMoved}
 use Rattle.sdv_run.specs.Takes.{goes_on_with, Took}
+use Rattle.sdv_run.proofs.OnCard.{taken, beside, last_step}
 use Rattle.sdv_table.specs.Fits.{IsTable}
 use Rattle.sdv_player.specs.declared.next_step.Next.{Next}
 use Rattle.sdv_player.specs.declared.next_step.Next.TheVariants as nexts
@@ -33,37 +33,9 @@ use Rattle.sdv_player.specs.Play.{Starts}
 use Rattle.sdv_player.specs.Seen.{kind_of, stand_of}
 use Rattle.sdv_player.specs.StandsFor.{run_of}
 use Rattle.sdv_player.proofs.Played.{told_at, open_here, from_start, plays_are_walks}
-use Rattle.sdv_player.proofs.PlayedBeside.{taken, plays_are_good}
+use Rattle.sdv_player.proofs.PlayedBeside.{plays_are_good}
 
 -- STEP BY STEP
-
-record Stepped {S : Type 0} (card : S → Option Card) (es : List Pair) (c : Card) (s' : S) : Type 0 where
-  last : Card
-  steps : StepsOf c es last
-  shown : Shows card s' last
-
-stepped : {S : Type 0} (steps : Steps S) (card : S → Option Card) → KeepsTables steps card → (k : Kind) (es : List Pair) (c : Card) (p p' : S) →
-    EachIsMade k es c → Shows card p c → RunMoved k steps p es p' → Stepped card es c p'
-stepped steps card keeps k [] c p p' made shown moved = record { last = c; steps = refl; shown = subst (λ s. Shows card s c) (sym moved) shown }
-stepped steps card keeps k ((event, returned) ∷ es) c p p' made shown (q, step, more) =
-    let one : IsMade k event c = made [] event returned es c refl refl in
-    let kept : Kept card event c returned q = keeps p q k event c one.host returned shown one.fine step in
-    let rest = stepped steps card keeps k es kept.after q p'
-    (λ front v r back u is st. made ((event, returned) ∷ front) v r back u (ap (λ l. (event, returned) ∷ l) is) (kept.after, kept.step, st)) kept.shown
-    more in
-    record { last = rest.last; steps = (kept.after, kept.step, rest.steps); shown = rest.shown }
-
--- the last of some steps
-record LastStep (c : Card) (front : List Pair) (x : Pair) (last : Card) : Type 0 where
-  before : Card
-  steps : StepsOf c front before
-  step : Step x.0 before x.1 last
-
-last_step : (front : List Pair) (x : Pair) (c last : Card) → StepsOf c (front ++ x ∷ []) last → LastStep c front x last
-last_step [] x c last (u, step, e) = record { before = c; steps = refl; step = subst (λ v. Step x.0 c x.1 v) e step }
-last_step (y ∷ front) x c last (u, step, more) =
-    let l = last_step front x u last more in
-    record { before = l.before; steps = (u, step, l.steps); step = l.step }
 
 -- a run goes on with what a card returns
 goes_on : (k : Kind) → Laws k → (e : ScriptEvent) (c : Card) (seen : Return) (u : Card) → IsMade k e c → Step e c seen u → goes_on_with k e seen ≡ true
@@ -95,15 +67,15 @@ module _ {S : Type 0} (steps : Steps S) (card : S → Option Card) (keeps : Keep
   kind : kind_of s.host ≡ a.graph.kind
   kind = (starts a.graph table accepted.graph.graph.sound).stands.kind
 
-  beside : (s' : State) (to : Source S) (said : Next) (p : Played (kind_of s.host) steps words s s' from to said) →
+  played_beside : (s' : State) (to : Source S) (said : Next) (p : Played (kind_of s.host) steps words s s' from to said) →
       PlayedBeside card a.bound p.events said c to.0
-  beside s' to said p =
+  played_beside s' to said p =
       let g = a.graph in
       let sound = accepted.graph.graph.sound in
       let run = plays_are_walks g words p.events s' said table sound (s, starts, p.plays) in
       let moved = subst (λ k. RunMoved k steps from.0 p.events to.0) kind p.made.moved in
       let each = each_event g accepted.facts.points (laws_of g.kind) sound accepted.closed c start.kind start.start run.last p.events run.walk.path in
-      let b = stepped steps card keeps g.kind p.events c from.0 to.0 each start.shown moved in
+      let b = beside steps card keeps g.kind p.events c from.0 to.0 each start.shown moved in
       let good = plays_are_good script certificate a words p.events s' said c b.last accepted table (s, starts, p.plays) start.kind start.start b.steps in
       record {
         last = good.end;
@@ -123,7 +95,7 @@ module _ {S : Type 0} (steps : Steps S) (card : S → Option Card) (keeps : Keep
       let path = all.leads Open (w.last ∷ []) (told_here g (stand_of w.here all.registers) (now m) w.returned w.held w.last.0 w.last.1 t refl) in
       let each = each_event g accepted.facts.points laws sound accepted.closed c start.kind start.start Open (w.events ++ w.last ∷ []) path in
       let moved = subst (λ k. RunMoved k steps from.0 (w.events ++ w.last ∷ []) to.0) kind w.made.moved in
-      let b = stepped steps card keeps g.kind (w.events ++ w.last ∷ []) c from.0 to.0 each start.shown moved in
+      let b = beside steps card keeps g.kind (w.events ++ w.last ∷ []) c from.0 to.0 each start.shown moved in
       let l = last_step w.events w.last c b.last b.steps in
       let made = each w.events w.last.0 w.last.1 [] l.before refl l.steps in
       let yes : goes_on_with g.kind w.last.0 w.last.1 ≡ true = goes_on g.kind laws w.last.0 l.before w.last.1 b.last made l.step in
@@ -136,12 +108,12 @@ pub plays_beside : {S : Type 0} (steps : Steps S) (card : S → Option Card) →
     (from to : Source S) (result : Result Next RunFault) → PlaysOver (kind_of s.host) steps words room s s' from to result →
     PlaysBeside (kind_of s.host) steps card words room s s' from to result
 plays_beside steps card keeps words room s s' from to (Ok said) played = λ script certificate a c accepted table starts start.
-    (played, beside steps card keeps script certificate a words s accepted table starts from c start s' to said played)
+    (played, played_beside steps card keeps script certificate a words s accepted table starts from c start s' to said played)
 plays_beside steps card keeps words room s s' from to (Err Reply) refused = λ script certificate a c accepted table starts start.
     never_refused steps card keeps script certificate a words s accepted table starts from c start s' to refused
 plays_beside steps card keeps words room s s' from to (Err Input) cut = λ script certificate a c accepted table starts start.
-    (cut, beside steps card keeps script certificate a words s accepted table starts from c start s' to (nexts.Event cut.event) cut.played)
+    (cut, played_beside steps card keeps script certificate a words s accepted table starts from c start s' to (nexts.Event cut.event) cut.played)
 plays_beside steps card keeps words room s s' from to (Err Memory) cut = λ script certificate a c accepted table starts start.
-    (cut, beside steps card keeps script certificate a words s accepted table starts from c start s' to (nexts.Event cut.event) cut.played)
+    (cut, played_beside steps card keeps script certificate a words s accepted table starts from c start s' to (nexts.Event cut.event) cut.played)
 plays_beside steps card keeps words room s s' from to (Err Output) over = absurd over
 plays_beside steps card keeps words room s s' from to (Err Trace) over = absurd over

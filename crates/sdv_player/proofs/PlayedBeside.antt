@@ -1,21 +1,12 @@
 -- What is played by the table of an accepted script, beside a card.
-use Rattle.std.proofs.Common.{◌≡◌, ◌<◌, ◌≤◌, ◌^◌, ℕ, List, [], ◌∷◌, ◌++◌, Err, refl, sym, ap, ◌∙◌, subst, inr, arith}
-use Rattle.std.specs.Prelude.{◌&&◌, is_none, Bool, true, false, Option, Some, None, Ok}
-use Rattle.sdv_frames.specs.Bits.{bits_of}
-use Rattle.sdv_frames.specs.declared.reply.Reply.TheVariants.{R1, R2, R3, R6, R7}
-use Rattle.sdv_registers.specs.declared.kind.Kind.{Kind}
-use Rattle.sdv_registers.specs.Csd.{fault}
+use Rattle.std.proofs.Common.{◌≡◌, ◌<◌, ◌≤◌, ◌^◌, ℕ, List, [], ◌∷◌, ◌++◌, Err, refl, sym, ◌∙◌, subst, inr, arith}
+use Rattle.std.specs.Prelude.{true, false, Some, Ok}
 use Rattle.sdv_card.specs.declared.answer.Answer.{Answer}
-use Rattle.sdv_card.specs.declared.answer.Answer.TheVariants.{Sent, TimeOut, Reply as Replied, Damaged}
-use Rattle.sdv_card.specs.declared.command.Order.{Order}
-use Rattle.sdv_card.specs.declared.command.Order.TheVariants.{SendCsd}
-use Rattle.sdv_card.specs.CommandTable.{order_of, expect_of}
-use Rattle.sdv_card.specs.Expected.{is_of_kind}
+use Rattle.sdv_card.specs.declared.answer.Answer.TheVariants.{Sent}
 use Rattle.sdv_card.specs.Step.{Step}
-use Rattle.sdv_card.proofs.AnswerKinds.{of_kind}
 use Rattle.sdv_card.specs.declared.event.Ask.{Ask}
 use Rattle.sdv_card.specs.Card.{Card}
-use Rattle.sdv_card.specs.Host.{Host, host_after, host_after_order}
+use Rattle.sdv_card.specs.Host.{Host, host_after}
 use Rattle.sdv_card.specs.Profile.{IsAtStart}
 use Rattle.sdv_card.specs.ScriptEvent.{ScriptEvent, SendCommand, ReceiveBlocks, ReceiveRegister, GiveBlocks, AwaitReady, Return, Answered}
 use Rattle.sdv_graph.specs.Walk.{Pair, Open, Deed, IsDeed, exactly, giving}
@@ -28,49 +19,20 @@ use Rattle.sdv_facts.specs.Beside.{StepsOf, IsGood}
 use Rattle.sdv_facts.specs.Closed.{Closed}
 use Rattle.sdv_facts.proofs.ArgumentLaws.{narrow}
 use Rattle.sdv_facts.proofs.Headline.{each_path, each_event}
-use Rattle.sdv_facts.proofs.StepLaws.{Laws, laws_of, honest_after}
-use Rattle.sdv_facts.specs.Stands.{IsMade}
+use Rattle.sdv_facts.proofs.StepLaws.{Laws, laws_of}
 use Rattle.sdv_run.specs.declared.fault.RunFault.TheVariants.{Reply}
 use Rattle.sdv_run.specs.declared.next_event.NextEvent.TheVariants as events
 use Rattle.sdv_run.specs.declared.returned.Returned.TheVariants as told
-use Rattle.sdv_run.specs.Answers.{has_readable_csd, is_taken}
+use Rattle.sdv_run.specs.Answers.{is_taken}
 use Rattle.sdv_run.specs.Asks.{AsksFor, IsTooWide}
 use Rattle.sdv_run.specs.Takes.{Took}
 use Rattle.sdv_run.specs.Machine.{LeadsBy, now}
+use Rattle.sdv_run.proofs.OnCard.{taken}
 use Rattle.sdv_player.specs.Play.{Says, IsAsked}
 use Rattle.sdv_player.specs.Plays.{PlaysAreGood}
 use Rattle.sdv_player.specs.Seen.{stand_of}
 use Rattle.sdv_player.specs.StandsFor.{run_of}
 use Rattle.sdv_player.proofs.Played.{open_here, from_start, plays_are_walks}
-
--- ANSWERS OF A CARD are taken
-
--- a CSD that the host holds can be read
-readable : (k : Kind) (o : Option Order) (answer : Answer) (h : Host) →
-    ((bytes : List ℕ) → (host_after_order o answer h).csd ≡ Some bytes → fault k (bits_of bytes) ≡ None) → has_readable_csd k o answer ≡ true
-readable k (Some SendCsd) (Replied (R2 register)) h f = ap is_none (f register refl)
-readable k (Some SendCsd) (Replied (R1 i w)) h f = refl
-readable k (Some SendCsd) (Replied (R3 w)) h f = refl
-readable k (Some SendCsd) (Replied (R6 w)) h f = refl
-readable k (Some SendCsd) (Replied (R7 w)) h f = refl
-readable k (Some SendCsd) Sent h f = refl
-readable k (Some SendCsd) TimeOut h f = refl
-readable k (Some SendCsd) (Damaged d) h f = refl
-readable k None answer h f = refl
-readable k (Some order) answer h f = refl
-
-both : (a b : Bool) → a ≡ true → b ≡ true → a && b ≡ true
-both a b p q = rw (p, q) refl
-
-pub taken : (k : Kind) → Laws k → (ask : Ask) (position argument : ℕ) (c : Card) (answer : Answer) (u : Card) → IsMade k (SendCommand ask position argument) c →
-    Step (SendCommand ask position argument) c (Answered answer) u → is_taken k ask answer ≡ true
-taken k laws ask position argument c answer u made step =
-    let e = SendCommand ask position argument in
-    let after = honest_after k laws e c made.host (Answered answer) u made.fine made.honest step in
-    both (is_of_kind (expect_of k ask) answer) (has_readable_csd k (order_of k ask) answer)
-    (of_kind (expect_of k ask) answer (laws.steps_are_expected e c (Answered answer) u made.fine.pair.kind step))
-    (readable k (order_of k ask) answer made.host (λ bytes is.
-    subst (λ j. fault j (bits_of bytes) ≡ None) (sym after.pair.kind) (ap (λ b. fault u.kind (bits_of b)) (after.sound.csd bytes is) ∙ after.profile.readable)))
 
 -- a command that cannot be sent, where a run stands
 record Wide (g : Graph) (s : Stand) : Type 0 where

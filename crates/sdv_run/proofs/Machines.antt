@@ -1,15 +1,14 @@
 -- A machine that is asked and told, one event after another.
-use Rattle.std.proofs.Common.{◌≡◌, ◌≤◌, ◌+◌, ◌-◌, ℕ, zero, suc, List, [], ◌∷◌, ◌++◌, Option, Some, None, Ok, refl, sym, ap, ◌∙◌, subst, inr, arith}
+use Rattle.std.proofs.Common.{◌≡◌, ◌≤◌, ◌-◌, ℕ, zero, suc, List, [], ◌∷◌, ◌++◌, Some, None, Ok, refl, sym, ap, ◌∙◌, subst, inr, arith}
 use Rattle.std.specs.Prelude.{slice_get}
 use Rattle.std.proofs.lemmas.List.{append-nil}
 use Rattle.sdv_registers.specs.declared.kind.Kind.{Kind}
 use Rattle.sdv_card.specs.Card.{Block}
 use Rattle.sdv_card.specs.Host.{host_after}
 use Rattle.sdv_card.specs.ScriptEvent.{ScriptEvent, Return}
-use Rattle.sdv_graph.specs.Walk.{Pair, Ending, Walk}
+use Rattle.sdv_graph.specs.Walk.{Pair}
 use Rattle.sdv_graph.specs.Path.{Point, Stand, Path, Move, Goes, Does, Halts, Follows, action_move, move, move_from}
 use Rattle.sdv_graph.specs.Graph.{Graph, Lasts, begin}
-use Rattle.sdv_graph.specs.GraphOf.{IsSound, IsGraphOf}
 use Rattle.sdv_graph.proofs.Paths.{roll}
 use Rattle.sdv_trace.specs.declared.end.End.{End}
 use Rattle.sdv_run.specs.declared.next_event.NextEvent.{NextEvent}
@@ -18,8 +17,8 @@ use Rattle.sdv_run.specs.Asks.{CanPerform}
 use Rattle.sdv_run.specs.declared.returned.Returned.{Returned}
 use Rattle.sdv_run.specs.Run.{ending_of}
 use Rattle.sdv_run.specs.Moves.{Passes}
-use Rattle.sdv_run.specs.Takes.{Told, Took, IsLedTo, IsEvent}
-use Rattle.sdv_run.specs.Machine.{Machine, now, CanGoOn, LeadsBy, PassesBy, Came, received_blocks, ToldAt, Went, at_start, Plays, PlaysAreWalks}
+use Rattle.sdv_run.specs.Takes.{Took, IsLedTo}
+use Rattle.sdv_run.specs.Machine.{Machine, CanGoOn, LeadsBy, Came, received_blocks, ToldAt, Went, at_start, Plays, PlaysAreWalks}
 use Rattle.sdv_run.proofs.AtPoints.{Ready, ready}
 use Rattle.sdv_run.proofs.Runs.{is_walk}
 

@@ -1,5 +1,5 @@
 -- A run of an accepted script over a port that shows a card.
-use Rattle.std.proofs.Common.{◌≡◌, ℕ, ◌<◌, ◌^◌, inl, inr, refl, sym, ap, ◌∙◌, subst, arith, Bool, true, false, List, [], ◌∷◌, ◌++◌, Option, Some, None, eq-eqb}
+use Rattle.std.proofs.Common.{◌≡◌, ℕ, ◌<◌, ◌^◌, inl, inr, refl, sym, ap, ◌∙◌, subst, arith, Bool, true, false, List, [], ◌∷◌, ◌++◌, Option, Some, None}
 use Rattle.std.specs.Prelude.{◌&&◌, is_none, Result, Ok, Err}
 use Rattle.std.proofs.Math.Logic.{∥∥₁_map, ∥∥₁_elim}
 use Rattle.sdv_frames.specs.Bits.{bits_of}
@@ -60,7 +60,7 @@ both : (a b : Bool) → a ≡ true → b ≡ true → a && b ≡ true
 both true b e f = f
 both false b e f = absurd (cc)
 
-taken : (k : Kind) → Laws k → (ask : Ask) (position argument : ℕ) (c : Card) (answer : Answer) (u : Card) → IsMade k (SendCommand ask position argument) c →
+pub taken : (k : Kind) → Laws k → (ask : Ask) (position argument : ℕ) (c : Card) (answer : Answer) (u : Card) → IsMade k (SendCommand ask position argument) c →
     Step (SendCommand ask position argument) c (Answered answer) u → is_taken k ask answer ≡ true
 taken k laws ask position argument c answer u made step =
     let e = SendCommand ask position argument in
@@ -72,12 +72,13 @@ taken k laws ask position argument c answer u made step =
 
 -- STEP BY STEP
 
-record Beside {S : Type 0} (card : S → Option Card) (es : List Pair) (c : Card) (s' : S) : Type 0 where
-  last : Card
-  steps : StepsOf c es last
-  shown : Shows card s' last
+-- the steps of a card from what a port showed before, to what it shows behind the events
+pub record Beside {S : Type 0} (card : S → Option Card) (es : List Pair) (c : Card) (s' : S) : Type 0 where
+  pub last : Card
+  pub steps : StepsOf c es last
+  pub shown : Shows card s' last
 
-beside : {S : Type 0} (steps : Steps S) (card : S → Option Card) → KeepsTables steps card → (k : Kind) (es : List Pair) (c : Card) (p p' : S) →
+pub beside : {S : Type 0} (steps : Steps S) (card : S → Option Card) → KeepsTables steps card → (k : Kind) (es : List Pair) (c : Card) (p p' : S) →
     EachIsMade k es c → Shows card p c → RunMoved k steps p es p' → Beside card es c p'
 beside steps card keeps k [] c p p' made shown moved = record { last = c; steps = refl; shown = subst (λ s. Shows card s c) (sym moved) shown }
 beside steps card keeps k ((event, returned) ∷ es) c p p' made shown (q, step, more) =
@@ -89,12 +90,12 @@ beside steps card keeps k ((event, returned) ∷ es) c p p' made shown (q, step,
     record { last = rest.last; steps = (kept.after, kept.step, rest.steps); shown = rest.shown }
 
 -- the last of some steps
-record LastStep (c : Card) (front : List Pair) (x : Pair) (last : Card) : Type 0 where
-  before : Card
-  steps : StepsOf c front before
-  step : Step x.0 before x.1 last
+pub record LastStep (c : Card) (front : List Pair) (x : Pair) (last : Card) : Type 0 where
+  pub before : Card
+  pub steps : StepsOf c front before
+  pub step : Step x.0 before x.1 last
 
-last_step : (front : List Pair) (x : Pair) (c last : Card) → StepsOf c (front ++ x ∷ []) last → LastStep c front x last
+pub last_step : (front : List Pair) (x : Pair) (c last : Card) → StepsOf c (front ++ x ∷ []) last → LastStep c front x last
 last_step [] x c last (u, step, e) = record { before = c; steps = refl; step = subst (λ v. Step x.0 c x.1 v) e step }
 last_step (y ∷ front) x c last (u, step, more) =
     let l = last_step front x u last more in

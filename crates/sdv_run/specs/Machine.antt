@@ -1,5 +1,5 @@
 -- A run as a STEP MACHINE: it is asked for its next event, and told what that returned.
-use Rattle.std.specs.Prelude.{◌≡◌, ◌+◌, ◌≤◌, ◌⊎◌, ℕ, zero, suc, List, [], ◌∷◌, ◌++◌, Some, None, Result, Ok, Err, slice_get}
+use Rattle.std.specs.Prelude.{◌≡◌, ◌+◌, ◌≤◌, ◌⊎◌, ℕ, zero, suc, List, [], ◌∷◌, ◌++◌, Some, Result, Ok, Err, slice_get}
 use Rattle.sdv_card.specs.Card.{Block}
 use Rattle.sdv_card.specs.ScriptEvent.{ScriptEvent, Return}
 use Rattle.sdv_graph.specs.Walk.{Pair, Ending}

@@ -33,3 +33,4 @@ pub use returned::Returned;
 pub use runner::Runner;
 pub use sdv_trace::End;
 pub use standing::Standing;
+pub use values::{changed, is_flag_set, with_flag};

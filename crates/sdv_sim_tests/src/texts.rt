@@ -1,22 +1,8 @@
 //! Scripts, cards and traces that tests share.
 
-/// A script that brings a card up to the transfer state.
-pub const BRING_UP: &str = "card sd
-flags hc
-nums cap
-send 0 { else { } }
-send 8 { else { } }
-loop 1000 { send 55 { app { send 41 0x40ff8000 { ocr.ready & ocr.block { set hc break } ocr.ready { break } answer { } else { fault lost41 } } } else { fault lost55 } } } else { fault busy }
-send 2 { answer { } else { fault cid } }
-send 3 { clean { } else { fault rca } }
-send 9 { answer { } else { fault csd } }
-send 7 { clean { } else { fault select } }
-send 16 { clean { } else { fault blen } }
-let cap = csd.blocks
-done
-";
+pub use sdv_sample_scripts::{BRING_UP, CERTIFICATE, DEVICE_BRING_UP, SMALLEST};
 
-/// One that then reads the last block.
+/// A script that brings a card up and then reads the last block.
 pub const LAST_BLOCK: &str = "card sd
 flags hc
 nums cap x
@@ -32,31 +18,6 @@ let cap = csd.blocks
 let x = cap - 1
 send 17 at by hc x { clean { recv { ok { } else { fault read } } } else { fault read } }
 done
-";
-
-/// A script that brings an e.MMC device up to the transfer state.
-pub const DEVICE_BRING_UP: &str = "card emmc
-flags hc
-nums cap
-send 0 { else { } }
-loop 1000 { send 1 { ocr.ready & ocr.block { set hc break } ocr.ready { break } answer { } else { fault lost1 } } } else { fault busy }
-send 2 { answer { } else { fault cid } }
-send 3 { clean { } else { fault rca } }
-send 9 { answer { } else { fault csd } }
-send 7 { clean { } else { fault select } }
-send 16 { clean { } else { fault blen } }
-if hc { send 8 { clean { recv reg { ok { let cap = ext.blocks } else { fault ext } } } else { fault ext } } } else { let cap = csd.blocks }
-done
-";
-
-/// The smallest script that sends a command.
-pub const SMALLEST: &str = "card sd\nsend 0 { else { } }\nfault stop\n";
-
-/// Its certificate.
-pub const CERTIFICATE: &str = "sdv-cert 1
-points 2
-p 0 b 1 m 1 s 0000000000002000 0000000000002800 0000000000002c00
-p 1 b 0 m 1 s 0000000000002000 0000000000002800 0000000000002c00
 ";
 
 /// An SD card of version 2 with block addresses, of 1,024 blocks.

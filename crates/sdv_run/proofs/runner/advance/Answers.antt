@@ -1,4 +1,4 @@
-use Rattle.std.proofs.Common.{◌≡◌, ◌≤◌, ◌+◌, ◌-◌, ℕ, ◌∙◌, arith}
+use Rattle.std.proofs.Common.{◌≤◌, ◌∙◌, arith}
 use Rattle.sdv_graph.specs.Graph.{seen_point}
 use Rattle.sdv_run.specs.Standing.{stand_of}
 use Rattle.sdv_run.specs.Machine.{Machine}
