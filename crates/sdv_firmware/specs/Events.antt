@@ -1,11 +1,11 @@
 -- What the player says, as C sees it.
-use Rattle.std.specs.Prelude.{◌≡◌, ◌<◌, ◌==◌, ℕ, List, if◌then◌else◌}
+use Rattle.std.specs.Prelude.{◌≡◌, ◌<◌, ◌==◌, ℕ, zero, suc, List, codes, get_or, length, min, if◌then◌else◌}
 use Rattle.sdv_run.specs.declared.next_event.NextEvent.{NextEvent}
 use Rattle.sdv_run.specs.declared.next_event.NextEvent.TheVariants as events
 use Rattle.sdv_table.specs.declared.sending.Data.{Data}
 use Rattle.sdv_table.specs.declared.sending.Data.TheVariants as uses
 use Rattle.sdv_table.specs.declared.sending.Sending.{Sending}
-use Rattle.sdv_table.specs.Reading.{sending_at}
+use Rattle.sdv_table.specs.Reading.{name_of, sending_at}
 use Rattle.sdv_table.specs.Row.{expect_code}
 use Rattle.sdv_player.specs.declared.next_step.Next.{Next}
 use Rattle.sdv_player.specs.declared.next_step.Next.TheVariants as nexts
@@ -42,6 +42,19 @@ pub record ShowsPhase (e : Event) (what count : ℕ) : Type 0 where
   pub what_is : e.what ≡ what
   pub count_is : e.count ≡ count
 
+-- what a word is divided by for each of its bytes, the lowest one first
+abbrev pub below : (place : ℕ) → ℕ
+below zero = 1
+below (suc zero) = 256
+below (suc (suc zero)) = 65536
+below place = 16777216
+
+-- the end in the fault of a name: as many of its bytes as there is room for
+pub record ShowsFault (e : Event) (name : List ℕ) : Type 0 where
+  pub what_is : e.what ≡ 7
+  pub count_is : e.count ≡ min (length name) 16
+  pub bytes_are : (k : ℕ) → k < e.count → get_or e.name k 0 ≡ get_or name k 0
+
 abbrev pub ShowsEvent : List ℕ → State → Event → NextEvent → Type 0
 ShowsEvent table s e (events.Send ask position argument) =
     s.place.point < 65536 → ShowsCommand e ask.index argument ask.count s.app (sending_at table s.place.point)
@@ -53,8 +66,8 @@ ShowsEvent table s e events.Wait = e.what ≡ 5
 abbrev pub ShowsNext : List ℕ → State → Event → Next → Type 0
 ShowsNext table s e (nexts.Event event) = ShowsEvent table s e event
 ShowsNext table s e nexts.Done = e.what ≡ 6
-ShowsNext table s e (nexts.Fault name) = e.what ≡ 7
-ShowsNext table s e nexts.Number = e.what ≡ 7
+ShowsNext table s e (nexts.Fault name) = ShowsFault e (name_of name.length name.words.now)
+ShowsNext table s e nexts.Number = ShowsFault e (codes "number")
 ShowsNext table s e nexts.Stopped = e.what ≡ 8
 
 -- with the data lines of the host, and the point where it stands

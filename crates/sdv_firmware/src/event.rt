@@ -1,9 +1,9 @@
 //! Events as C sees them.
 
-ghost use Rattle.std.specs.Prelude.{◌≡◌, ◌<◌};
-ghost use Rattle.sdv_table.specs.Reading.{sending_at};
+ghost use Rattle.std.specs.Prelude.{◌≡◌, ◌<◌, ◌/◌, ◌%◌, get_or, slice_index};
+ghost use Rattle.sdv_table.specs.Reading.{name_of, sending_at};
 ghost use Rattle.sdv_table.specs.Row.{expect_code};
-ghost use Rattle.sdv_firmware.specs.Events.{follows_by, ShowsCommand, ShowsEvent, Shows};
+ghost use Rattle.sdv_firmware.specs.Events.{follows_by, ShowsCommand, ShowsEvent, ShowsFault, Shows, below};
 
 use sdv_card::{Ask, Width};
 use sdv_frames::Expect;
@@ -68,35 +68,49 @@ fn data_of(follows: Data, blocks: u16, app: u32) -> (u32, u32)
     }
 }
 
-/// The byte of a name in this place, four bytes a word, the first one lowest.
-fn byte_at(name: NameRow<'_>, at: usize) -> u8 {
-    let word = name.words.get(at / 4).copied().unwrap_or(0);
-    let [a, b, c, d] = word.to_le_bytes();
-    match at % 4 {
-        0 => a,
-        1 => b,
-        2 => c,
-        _ => d,
-    }
+/// A word; 0 where there is none.
+fn word_at(words: &[u32], place: usize) -> u32
+    ensures { result ≡ slice_index words.now place }
+{
+    if place < words.len() { words[place] } else { 0 }
+}
+
+/// A byte of a word, the lowest one first.
+fn byte_in(word: u32, place: usize) -> u8
+    ensures { result ≡ word / below place % 256 }
+{
+    let part = match place {
+        0 => word,
+        1 => word / 256,
+        2 => word / 65_536,
+        _ => word / 16_777_216,
+    };
+    (part % 256) as u8
+}
+
+/// The byte of a name in this place, four bytes a word.
+#[tactic(auto, using(crate::proofs::Names::byte_there))]
+fn byte_at(name: NameRow<'_>, at: usize) -> u8
+    requires { at < name.length }
+    ensures { result ≡ get_or (name_of name.entry.length name.entry.words.now) at 0 }
+{
+    byte_in(word_at(name.words, at / 4), at % 4)
 }
 
 /// The end in the fault of this name: as much of it as there is room for.
 fn fault(event: Event, name: NameRow<'_>) -> Event
-    ensures what { result.what ≡ 7 }
+    ensures fault { ShowsFault result (name_of name.entry.length name.entry.words.now) }
     ensures lines { result.lines ≡ event.lines }
     ensures point { result.point ≡ event.point }
 {
     let mut bytes = [0; 16];
-    let mut count = 0;
-    for at in 0..16_usize {
-        if at < usize::from(name.length) {
-            bytes[at] = byte_at(name, at);
-            count = at as u32 + 1;
-        }
+    let count = usize::from(name.length).min(16);
+    for at in 0..count {
+        bytes[at] = byte_at(name, at);
     }
     Event {
         what: 7,
-        count,
+        count: count as u32,
         name: bytes,
         ..event
     }
