@@ -1,3 +1,4 @@
+pub mod Brief
 pub mod Refuted
 pub mod Report
 pub mod Swept

@@ -18,7 +18,7 @@ const EMMC_CARDS: [&str; 4] = [
 
 /// The descriptions of small cards of a kind: with block and with byte addresses, of both versions, and with a block
 /// length other than 512.
-pub fn small_cards(kind: Kind) -> &'static [&'static str] {
+pub(crate) fn small_cards(kind: Kind) -> &'static [&'static str] {
     match kind {
         Kind::Sd => &SD_CARDS,
         Kind::Emmc => &EMMC_CARDS,

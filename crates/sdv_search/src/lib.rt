@@ -1,19 +1,28 @@
 //! The search for a run that refutes a script, and the table of all runs with one mishap.
 //!
 //! Begin at `refute` and `sweep`. Nothing is trusted of the search: what it finds is run again and watched, and the
-//! contract speaks of that run (`specs/Refuted.antt`).
+//! contract speaks of that run (`specs/Refuted.antt`). `tables` asks first whether a path of the state tables breaks the
+//! script at all, `paths` follows it beside the states of small cards, and `exploring` keeps the trials that come last.
 #![tactic(auto)]
 
+mod brief;
 mod cards;
+mod exits;
 mod exploring;
+mod host;
+mod limit;
 mod mishaps;
+mod paths;
+mod quiet;
 mod refuting;
 mod reporting;
+mod spot;
 mod sweeping;
 mod table;
+mod tables;
+mod turns;
 
-pub use cards::small_cards;
-pub use mishaps::mishaps_in_words;
+pub use brief::shown_run;
 pub use refuting::{Found, Refutation, refute};
 pub use reporting::{report, schedule_digits};
 pub use sweeping::{Row, RunEnd, SweepGiven, SweepTable, sweep};

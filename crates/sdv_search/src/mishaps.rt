@@ -14,7 +14,7 @@ use std::io;
 
 /// A mishap of a run.
 #[derive(Clone, Copy)]
-pub struct Mishap {
+pub(crate) struct Mishap {
     /// The point of the graph at which it comes.
     pub point: usize,
     /// The event.
@@ -165,7 +165,7 @@ fn put_mishap(text: &mut Text, graph: &Graph<'_>, mishap: &Mishap) -> Result<(),
 /// # Errors
 ///
 /// Memory was refused.
-pub fn mishaps_in_words(
+pub(crate) fn mishaps_in_words(
     alloc: Global,
     script: &str,
     refutation: &Refutation,

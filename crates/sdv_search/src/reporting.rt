@@ -32,7 +32,7 @@ pub fn schedule_digits(alloc: Global, codes: &[u8]) -> Result<Vec<u8>, AllocErro
 }
 
 /// Why a run stopped, on a line.
-fn why(alloc: Global, wrong: &Wrong) -> Result<Vec<u8>, AllocError>
+pub fn why(alloc: Global, wrong: &Wrong) -> Result<Vec<u8>, AllocError>
     ensures { IfOk result (λ text. IsWhy wrong.now text.items) }
 {
     let mut text = Vec::new(alloc);
