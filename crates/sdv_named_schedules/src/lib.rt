@@ -1,0 +1,17 @@
+//! Schedules by name: which mishap comes at which event of a run.
+//!
+//! Begin at `specs/Naming.antt`, which says what a schedule by name means beside the events of a run, and at
+//! `specs/Reading.antt`, which says how its text is read. `codes_by_name` finds the events by running the script.
+#![tactic(auto)]
+
+mod blank;
+mod fault;
+mod finding;
+mod line;
+mod naming;
+mod reading;
+
+pub use fault::ScheduleFault;
+pub use finding::{Beside, codes_by_name};
+pub use naming::{EventName, NamedMishap, SeenEvent, named_codes};
+pub use reading::{is_by_name, read_mishaps};

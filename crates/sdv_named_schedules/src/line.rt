@@ -1,0 +1,192 @@
+//! Reading a line of a schedule by name, from left to right.
+
+ghost use Rattle.std.specs.Prelude.{◌≡◌, option_map};
+ghost use Rattle.sdv_text.specs.Fronts.{run};
+ghost use Rattle.sdv_named_schedules.specs.Reading.{is_blank, is_over, read_event, read_failure, read_line, read_loss, read_mishap, read_number, read_ordinal, skipped, suffix_of};
+
+use crate::fault::ScheduleFault;
+use crate::naming::{EventName, NamedMishap};
+use sdv_text::{after, capped_value, digits_len};
+
+/// How many blanks a text begins with.
+fn blanks_len(text: &[u8]) -> usize
+    ensures { result ≡ run is_blank text.now }
+{
+    text.iter()
+        .take_while(|byte| matches!(**byte, b' ' | b'\t' | b'\r'))
+        .count()
+}
+
+/// What follows the blanks at the front.
+pub fn skipped(text: &[u8]) -> &[u8]
+    ensures { result.now ≡ skipped text.now }
+{
+    let (_, rest) = text.split_at(blanks_len(text));
+    rest
+}
+
+/// Nothing follows but blanks and a comment.
+pub fn is_over(text: &[u8]) -> bool
+    ensures { result ≡ is_over text.now }
+{
+    match skipped(text) {
+        [] => true,
+        [first, ..] => *first == b'#',
+    }
+}
+
+/// A number below 2^32 in decimal digits, one or more, and what follows.
+#[tactic(auto, unfolding(crate::specs::Reading::read_number))]
+fn number(text: &[u8]) -> Option<(u32, &[u8])>
+    ensures { option_map (λ x. (x.0, x.1.now)) result ≡ read_number text.now }
+{
+    let (digits, rest) = text.split_at(digits_len(text));
+    let value = capped_value(digits, 1 << 32);
+    if digits.is_empty() || value > 0xffff_ffff {
+        return None;
+    }
+    Some((value as u32, rest))
+}
+
+/// What makes a number an ordinal.
+fn suffix_of(number: u32) -> &'static [u8]
+    ensures { result.now ≡ suffix_of number }
+{
+    let tens = number % 100;
+    if tens >= 11 && tens <= 13 {
+        return b"th ";
+    }
+    match number % 10 {
+        1 => b"st ",
+        2 => b"nd ",
+        3 => b"rd ",
+        _ => b"th ",
+    }
+}
+
+/// An ordinal, and what follows its space; 1 where a text begins with no digit.
+#[tactic(auto, unfolding(crate::specs::Reading::read_ordinal))]
+fn ordinal(text: &[u8]) -> Option<(u32, &[u8])>
+    ensures { option_map (λ x. (x.0, x.1.now)) result ≡ read_ordinal text.now }
+{
+    if digits_len(text) == 0 {
+        return Some((1, text));
+    }
+    let (ordinal, rest) = number(text)?;
+    if ordinal == 0 {
+        return None;
+    }
+    let rest = after(rest, suffix_of(ordinal))?;
+    Some((ordinal, rest))
+}
+
+/// A name of events, and what follows.
+#[tactic(auto, unfolding(crate::specs::Reading::read_event))]
+fn event(text: &[u8]) -> Option<(EventName, &[u8])>
+    ensures { option_map (λ x. (x.0, x.1.now)) result ≡ read_event text.now }
+{
+    if let Some(rest) = after(text, b"line ") {
+        let (line, rest) = number(rest)?;
+        return Some((EventName::Line(line), rest));
+    }
+    if let Some(rest) = after(text, b"CMD") {
+        let (index, rest) = number(rest)?;
+        return if index < 64 {
+            Some((EventName::Command(index as u8), rest))
+        } else {
+            None
+        };
+    }
+    let rest = after(text, b"ACMD")?;
+    let (index, rest) = number(rest)?;
+    if index < 64 {
+        Some((EventName::Application(index as u8), rest))
+    } else {
+        None
+    }
+}
+
+/// A mishap in which something is lost or late, and what follows.
+#[tactic(auto, unfolding(crate::specs::Reading::read_loss))]
+fn loss(text: &[u8]) -> Option<(u8, &[u8])>
+    ensures { option_map (λ x. (x.0, x.1.now)) result ≡ read_loss text.now }
+{
+    if let Some(rest) = after(text, b"command lost") {
+        return Some((1, rest));
+    }
+    if let Some(rest) = after(text, b"lost") {
+        return Some((1, rest));
+    }
+    if let Some(rest) = after(text, b"answer lost") {
+        return Some((2, rest));
+    }
+    match after(text, b"not ready") {
+        Some(rest) => Some((3, rest)),
+        None => None,
+    }
+}
+
+/// A mishap in which the card shows an error or fails, and what follows.
+#[tactic(auto, unfolding(crate::specs::Reading::read_failure))]
+fn failure(text: &[u8]) -> Option<(u8, &[u8])>
+    ensures { option_map (λ x. (x.0, x.1.now)) result ≡ read_failure text.now }
+{
+    if let Some(rest) = after(text, b"error shown") {
+        return Some((4, rest));
+    }
+    if let Some(rest) = after(text, b"refused") {
+        return Some((5, rest));
+    }
+    if let Some(rest) = after(text, b"phase cut") {
+        return Some((6, rest));
+    }
+    if let Some(rest) = after(text, b"cut") {
+        return Some((6, rest));
+    }
+    match after(text, b"switch fails") {
+        Some(rest) => Some((7, rest)),
+        None => None,
+    }
+}
+
+/// The value of a mishap, and what follows.
+#[tactic(auto, unfolding(crate::specs::Reading::read_mishap))]
+fn mishap(text: &[u8]) -> Option<(u8, &[u8])>
+    ensures { option_map (λ x. (x.0, x.1.now)) result ≡ read_mishap text.now }
+{
+    match loss(text) {
+        Some(read) => Some(read),
+        None => failure(text),
+    }
+}
+
+/// Reads the line with a number, which begins with no blank.
+///
+/// # Errors
+///
+/// The first fault from the left.
+#[tactic(auto, unfolding(crate::specs::Reading::read_line))]
+pub fn read_line(number: u64, text: &[u8]) -> Result<NamedMishap, ScheduleFault>
+    ensures { result ≡ read_line number text.now }
+{
+    let Some((ordinal, rest)) = ordinal(text) else {
+        return Err(ScheduleFault::Event(number));
+    };
+    let Some((event, rest)) = event(rest) else {
+        return Err(ScheduleFault::Event(number));
+    };
+    let Some(rest) = after(rest, b":") else {
+        return Err(ScheduleFault::Event(number));
+    };
+    let Some((code, rest)) = mishap(skipped(rest)) else {
+        return Err(ScheduleFault::Mishap(number));
+    };
+    if !is_over(rest) {
+        return Err(ScheduleFault::Mishap(number));
+    }
+    Ok(NamedMishap {
+        ordinal,
+        event,
+        code,
+    })
+}
