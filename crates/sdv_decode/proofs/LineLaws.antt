@@ -1,7 +1,7 @@
 -- Lines of a text, byte by byte.
 use Rattle.std.proofs.Common.{◌≡◌, ◌∙◌, ℕ, List, [], ◌∷◌, ◌++◌, refl, sym, ap, append_assoc}
 use Rattle.std.proofs.lemmas.List.{append-nil}
-use Rattle.sdv_decode.specs.Lines.{before_first, lines_in}
+use Rattle.sdv_decode.specs.Lines.{before_first}
 
 -- bytes before the first line
 abbrev pub with_front : List ℕ → List (List ℕ) → List (List ℕ)

@@ -2,7 +2,6 @@
 use Rattle.std.proofs.Common.{◌≡◌, ◌++◌, Bool, List, [], ◌∷◌, refl, ap}
 use Rattle.std.specs.Prelude.{codes}
 use Rattle.sdv_registers.specs.declared.kind.Kind.{Kind}
-use Rattle.sdv_card.specs.declared.answer.Answer.{Answer}
 use Rattle.sdv_card.specs.declared.answer.Answer.TheVariants.{Sent, TimeOut, Damaged, Reply as Replied}
 use Rattle.sdv_card.specs.declared.answer.DataEnd.{DataEnd}
 use Rattle.sdv_card.specs.declared.answer.DataEnd.TheVariants.{Ok as Whole, Cut}
@@ -14,8 +13,9 @@ use Rattle.sdv_audit.specs.Course.{SameMembers}
 use Rattle.sdv_audit.specs.declared.line.TraceLine.{TraceLine}
 use Rattle.sdv_audit.specs.declared.line.TraceLine.TheVariants.{Exchange, BlocksIn, RegisterIn, BlocksOut, Wait, Lines, End}
 use Rattle.sdv_audit_report.proofs.ReportLaws.{standing_same}
-use Rattle.sdv_decode.specs.LineWords.{Spot, event_line, between, line_end, spot_front, told}
-use Rattle.sdv_decode.specs.Meaning.{answer_meaning, meaning, open_words, phase_meaning}
+use Rattle.sdv_decode.specs.LineWords.{Spot}
+use Rattle.sdv_decode.specs.Meaning.{meaning, open_words, phase_meaning}
+use Rattle.sdv_decode.specs.Rows.{event_in, event_line}
 
 open_same : (xs ys : List Shape) → SameMembers xs ys → open_words xs ≡ open_words ys
 open_same [] [] same = refl
@@ -42,4 +42,4 @@ meaning_same k End xs ys same = refl
 
 pub event_line_same : (at : Spot) (app : Bool) (line : TraceLine) (xs ys : List Shape) → SameMembers xs ys → event_line at app line xs ≡ event_line at app line ys
 event_line_same at app line xs ys same =
-    ap (λ (words : Text). spot_front at ++ (told app line ++ (between at.json ++ (words ++ line_end at.json)))) (meaning_same at.graph.kind line xs ys same)
+    ap (event_in at.form at app line) (meaning_same at.graph.kind line xs ys same)

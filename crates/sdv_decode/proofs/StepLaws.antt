@@ -1,5 +1,5 @@
 -- One line more: where a reading stands after it, and what it is.
-use Rattle.std.proofs.Common.{◌≡◌, ◌⊎◌, ◌∙◌, ℕ, Bool, true, false, List, [], ◌∷◌, ◌++◌, Option, Some, None, Result, Ok, Err, inl, inr, refl, sym, ap, subst, option_map}
+use Rattle.std.proofs.Common.{◌≡◌, ◌∙◌, ℕ, Bool, true, List, ◌++◌, Option, Some, Result, Ok, Err, inl, inr, refl, sym, ap, subst, option_map}
 use Rattle.std.specs.Prelude.{IfOk, OnOk, is_err}
 use Rattle.sdv_telling.specs.Statements.{Text}
 use Rattle.sdv_audit.specs.Course.{Course, IsAt, course_after}
@@ -15,14 +15,15 @@ use Rattle.sdv_run.specs.declared.next_event.Next.TheVariants as nexts
 use Rattle.sdv_run.specs.declared.next_event.NextEvent.{NextEvent}
 use Rattle.sdv_run.specs.declared.returned.Returned.{Returned}
 use Rattle.sdv_trace.specs.declared.end.End.{End}
-use Rattle.sdv_decode.specs.Decoded.{IsLast, Misfits, Passes, Place, StopsAt, Strays, course_before, line_behind, off_behind, place_after, spot_of, told_with}
-use Rattle.sdv_decode.specs.LineWords.{Spot, announces, event_line, last_line, stray_line}
+use Rattle.sdv_decode.specs.Decoded.{Misfits, Place, Strays, course_before, line_behind, off_behind, place_after, spot_of, told_with}
+use Rattle.sdv_decode.specs.LineWords.{Spot, announces}
 use Rattle.sdv_decode.specs.Matches.{given_after, is_end, is_of, register_told, returned_of}
+use Rattle.sdv_decode.specs.Rows.{event_line, last_line, stray_line}
+use Rattle.sdv_decode.specs.declared.form.Form.{Form}
 use Rattle.sdv_graph.specs.Graph.{Graph}
 use Rattle.sdv_decode.specs.Spots.{spot_seen}
 use Rattle.sdv_decode.specs.declared.line_words.Spot.{Spot as CodeSpot}
-use Rattle.sdv_decode.specs.Steps.{GoesOn, IsAsked, IsBeside, IsPlace, Steps, StepsTo, given_of}
-use Rattle.sdv_decode.specs.declared.fault.TraceOff.{TraceOff}
+use Rattle.sdv_decode.specs.Steps.{GoesOn, IsAsked, IsPlace, Steps, given_of}
 use Rattle.sdv_decode.specs.declared.fault.TraceOff.TheVariants.{Script}
 use Rattle.sdv_decode.specs.declared.reading.Reading.{Reading}
 use Rattle.sdv_decode.specs.declared.reading.Step.{Step}
@@ -55,16 +56,16 @@ went_on r r' event line next went kind course app given number at asked =
 
 -- WHERE A READING STANDS in words
 abbrev pub spot_at : Reading → Spot
-spot_at r = record { graph = r.runner.graph; json = r.json; number = r.number; point = r.runner.stand.point }
+spot_at r = record { graph = r.runner.graph; form = r.form; number = r.number; point = r.runner.stand.point }
 
 module _ (r : Reading) (at : Place) (asked : IsAsked r at) (text : Text) (behind : List Text) where
-  spot_is : spot_at r ≡ spot_of r.json at r.runner
-  spot_is = ap (λ (n : ℕ). record { graph = r.runner.graph; json = r.json; number = n; point = r.runner.stand.point }) asked.beside.number
+  spot_is : spot_at r ≡ spot_of r.form at r.runner
+  spot_is = ap (λ (n : ℕ). record { graph = r.runner.graph; form = r.form; number = n; point = r.runner.stand.point }) asked.beside.number
 
   -- a line that the run does not come to
   module _ (line : TraceLine) (read : read_line text ≡ Ok line) (answer : Result Next RunFault) (next : Asked r.runner answer)
       (misfits : Misfits r.runner text line (register_told (given_of r) line) answer) where
-    strays : Strays r.json at text (stray_line (spot_at r) line)
+    strays : Strays r.form at text (stray_line (spot_at r) line)
     strays = record {
       line = line;
       read = read;
@@ -77,16 +78,16 @@ module _ (r : Reading) (at : Place) (asked : IsAsked r at) (text : Text) (behind
     }
 
     pub stopped_astray : (old new : Text) (r' : Reading) (step : Step) → new ≡ old ++ stray_line (spot_at r) line → step ≡ Stopped (Some (Script r.number))
-        → Steps r.json at text behind old new r' step
+        → Steps r.form at text behind old new r' step
     stopped_astray old new r' step words is =
-        subst (λ (s : Step). Steps r.json at text behind old new r' s) (sym is)
+        subst (λ (s : Step). Steps r.form at text behind old new r' s) (sym is)
         (stray_line (spot_at r) line, words, inr (inr (strays, ap (λ (n : ℕ). Some (Script n)) asked.beside.number)))
 
   -- the end of the run
   pub stopped_at_end : (end : End) → Asked r.runner (Ok (nexts.End end)) → is_end text end ≡ true → (old new : Text) (r' : Reading) (step : Step)
-      → new ≡ old ++ last_line (spot_at r) end → step ≡ Stopped (off_behind (counted true r.number) behind) → Steps r.json at text behind old new r' step
+      → new ≡ old ++ last_line (spot_at r) end → step ≡ Stopped (off_behind (counted true r.number) behind) → Steps r.form at text behind old new r' step
   stopped_at_end end next fits old new r' step words is =
-      subst (λ (s : Step). Steps r.json at text behind old new r' s) (sym is) (
+      subst (λ (s : Step). Steps r.form at text behind old new r' s) (sym is) (
         last_line (spot_at r) end,
         words,
         inl (
@@ -98,7 +99,7 @@ module _ (r : Reading) (at : Place) (asked : IsAsked r at) (text : Text) (behind
   -- the line of an event
   pub passed_by : (event : NextEvent) (line : TraceLine) (r' : Reading) → read_line text ≡ Ok line → Asked r.runner (Ok (nexts.Event event))
       → is_of event line ≡ true → GoesOn r event line (line_behind behind) r' true → (old new : Text)
-      → new ≡ old ++ event_line (spot_at r) r.app line r'.audit.shapes.items → Steps r.json at text behind old new r' Passed
+      → new ≡ old ++ event_line (spot_at r) r.app line r'.audit.shapes.items → Steps r.form at text behind old new r' Passed
   passed_by event line r' read next fits on old new words =
       let went = on at asked in
       let at' : Place = place_after at went.0 event line (line_behind behind) in
@@ -120,20 +121,20 @@ module _ (r : Reading) (at : Place) (asked : IsAsked r at) (text : Text) (behind
             leads = refl;
             told = event_line_same (spot_at r) r.app line r'.audit.shapes.items at'.course.shapes stands.beside.course.shapes
                 ∙ (ap (λ (spot : Spot). event_line spot r.app line at'.course.shapes) spot_is
-                ∙ ap (λ (app : Bool). event_line (spot_of r.json at r.runner) app line at'.course.shapes) asked.beside.app);
+                ∙ ap (λ (app : Bool). event_line (spot_of r.form at r.runner) app line at'.course.shapes) asked.beside.app);
           },
           stands,
         ),
       )
 
 -- the code's spot is that of the reading
-pub spot_same : (s : CodeSpot) (r : Reading) → s.graph.now ≡ r.runner.graph → s.json ≡ r.json → s.number ≡ r.number → s.point ≡ r.runner.stand.point
+pub spot_same : (s : CodeSpot) (r : Reading) → s.graph.now ≡ r.runner.graph → s.form ≡ r.form → s.number ≡ r.number → s.point ≡ r.runner.stand.point
     → spot_seen s ≡ spot_at r
-spot_same s r graph json number point =
-    ap (λ (g : Graph). record { graph = g; json = s.json; number = s.number; point = s.point }) graph
-    ∙ (ap (λ (b : Bool). record { graph = r.runner.graph; json = b; number = s.number; point = s.point }) json
-    ∙ (ap (λ (n : ℕ). record { graph = r.runner.graph; json = r.json; number = n; point = s.point }) number
-    ∙ ap (λ (n : ℕ). record { graph = r.runner.graph; json = r.json; number = r.number; point = n }) point))
+spot_same s r graph form number point =
+    ap (λ (g : Graph). record { graph = g; form = s.form; number = s.number; point = s.point }) graph
+    ∙ (ap (λ (f : Form). record { graph = r.runner.graph; form = f; number = s.number; point = s.point }) form
+    ∙ (ap (λ (n : ℕ). record { graph = r.runner.graph; form = r.form; number = n; point = s.point }) number
+    ∙ ap (λ (n : ℕ). record { graph = r.runner.graph; form = r.form; number = r.number; point = n }) point))
 
 -- the run was asked for its next event
 pub asked_on : (r r' : Reading) (at : Place) → IsPlace r at → Came r.runner r'.runner → r'.audit ≡ r.audit → r'.app ≡ r.app → r'.given ≡ r.given
@@ -163,13 +164,13 @@ module _ (r r' : Reading) (line : TraceLine) (behind : List Text) (old new : Tex
   pub stray_step : (event : NextEvent)
       → ((text : Text) → Misfits r.runner text line (register_told (given_of r) line) (Ok (nexts.Event event)))
       → IfOk result (λ step. (at : Place) (text : Text) → read_line text ≡ Ok line → IsAsked r at → Asked r.runner (Ok (nexts.Event event))
-      → Steps r.json at text behind old new r' step)
+      → Steps r.form at text behind old new r' step)
   stray_step event misfits = go result words is
     where
       go : (result : Result Step AuditFault) → OnOk result (new ≡ old ++ stray_line (spot_at r) line)
           → IfOk result (λ step. step ≡ Stopped (Some (Script r.number)))
           → IfOk result (λ step. (at : Place) (text : Text) → read_line text ≡ Ok line → IsAsked r at → Asked r.runner (Ok (nexts.Event event))
-          → Steps r.json at text behind old new r' step)
+          → Steps r.form at text behind old new r' step)
       go (Ok step) words is = λ at text read asked next.
           stopped_astray r at asked text behind line read (Ok (nexts.Event event)) next (misfits text) old new r' step words is
       go (Err fault) words is = tt
@@ -177,12 +178,12 @@ module _ (r r' : Reading) (line : TraceLine) (behind : List Text) (old new : Tex
   -- whatever the run was asked
   pub stray_answer : (answer : Result Next RunFault) → Asked r.runner answer → (text : Text)
       → Misfits r.runner text line (register_told (given_of r) line) answer
-      → IfOk result (λ step. (at : Place) → read_line text ≡ Ok line → IsAsked r at → Steps r.json at text behind old new r' step)
+      → IfOk result (λ step. (at : Place) → read_line text ≡ Ok line → IsAsked r at → Steps r.form at text behind old new r' step)
   stray_answer answer next text misfits = go result words is
     where
       go : (result : Result Step AuditFault) → OnOk result (new ≡ old ++ stray_line (spot_at r) line)
           → IfOk result (λ step. step ≡ Stopped (Some (Script r.number)))
-          → IfOk result (λ step. (at : Place) → read_line text ≡ Ok line → IsAsked r at → Steps r.json at text behind old new r' step)
+          → IfOk result (λ step. (at : Place) → read_line text ≡ Ok line → IsAsked r at → Steps r.form at text behind old new r' step)
       go (Ok step) words is = λ at read asked.
           stopped_astray r at asked text behind line read answer next misfits old new r' step words is
       go (Err fault) words is = tt
@@ -192,11 +193,11 @@ module _ (r r' : Reading) (behind : List Text) (old new : Text) (result : Result
     (is : IfOk result (λ step. step ≡ Stopped (off_behind (counted true r.number) behind))) where
   -- the end of the run, by the answer of a function
   pub end_step : Asked r.runner (Ok (nexts.End end)) → (text : Text) → is_end text end ≡ true
-      → IfOk result (λ step. (at : Place) → IsAsked r at → Steps r.json at text behind old new r' step)
+      → IfOk result (λ step. (at : Place) → IsAsked r at → Steps r.form at text behind old new r' step)
   end_step next text fits = go result words is
     where
       go : (result : Result Step AuditFault) → OnOk result (new ≡ old ++ last_line (spot_at r) end)
           → IfOk result (λ step. step ≡ Stopped (off_behind (counted true r.number) behind))
-          → IfOk result (λ step. (at : Place) → IsAsked r at → Steps r.json at text behind old new r' step)
+          → IfOk result (λ step. (at : Place) → IsAsked r at → Steps r.form at text behind old new r' step)
       go (Ok step) words is = λ at asked. stopped_at_end r at asked text behind end next fits old new r' step words is
       go (Err fault) words is = tt

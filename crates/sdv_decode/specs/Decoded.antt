@@ -1,5 +1,5 @@
 -- A TRACE READ BESIDE A SCRIPT: which point of the script each of its lines is of, and what is printed of it.
-use Rattle.std.specs.Prelude.{◌≡◌, ◌⊎◌, ℕ, List, [], ◌∷◌, ◌++◌, Bool, true, false, Option, Some, None, Result, Ok, Err}
+use Rattle.std.specs.Prelude.{◌≡◌, ◌⊎◌, ℕ, List, [], ◌∷◌, ◌++◌, ◌-◌, Bool, true, false, Option, Some, None, Result, Ok, Err, length}
 use Rattle.sdv_card.specs.declared.state.Width.{Width}
 use Rattle.sdv_graph.specs.Graph.{Graph}
 use Rattle.sdv_registers.specs.declared.kind.Kind.{Kind}
@@ -18,11 +18,15 @@ use Rattle.sdv_run.specs.declared.next_event.Next.TheVariants as nexts
 use Rattle.sdv_run.specs.declared.next_event.NextEvent.{NextEvent}
 use Rattle.sdv_run.specs.declared.next_event.NextEvent.TheVariants as events
 use Rattle.sdv_run.specs.Machine.{Machine, Asked, Came, TookOn, Went, at_start}
-use Rattle.sdv_decode.specs.LineWords.{Spot, announces, event_line, last_line, stray_line}
+use Rattle.sdv_decode.specs.LineWords.{Spot, announces}
 use Rattle.sdv_decode.specs.Lines.{lines_in}
 use Rattle.sdv_decode.specs.Matches.{given_after, is_end, is_of, register_told, returned_of}
+use Rattle.sdv_decode.specs.Picture.{whole}
+use Rattle.sdv_decode.specs.Rows.{event_line, last_line, stray_line}
 use Rattle.sdv_decode.specs.declared.fault.TraceOff.{TraceOff}
 use Rattle.sdv_decode.specs.declared.fault.TraceOff.TheVariants.{Line, Script}
+use Rattle.sdv_decode.specs.declared.form.Form.{Form}
+use Rattle.sdv_decode.specs.declared.form.Form.TheVariants.{Picture}
 
 -- WHERE A READING STANDS
 pub record Place : Type 0 where
@@ -74,13 +78,13 @@ place_after at after event line next = record {
   number = counted true at.number;
 }
 
-abbrev pub spot_of : (json : Bool) → Place → Machine → Spot
-spot_of json at here = record { graph = here.graph; json = json; number = at.number; point = here.stand.point }
+abbrev pub spot_of : (form : Form) → Place → Machine → Spot
+spot_of form at here = record { graph = here.graph; form = form; number = at.number; point = here.stand.point }
 
 -- A LINE
 
 -- it is that of the next event of the run, which returned what it tells
-pub record Passes (json : Bool) (at : Place) (text : Text) (next : Option TraceLine) (words : Text) (at' : Place) : Type 0 where
+pub record Passes (form : Form) (at : Place) (text : Text) (next : Option TraceLine) (words : Text) (at' : Place) : Type 0 where
   pub line : TraceLine
   pub read : read_line text ≡ Ok line
   pub here : Machine
@@ -91,16 +95,16 @@ pub record Passes (json : Bool) (at : Place) (text : Text) (next : Option TraceL
   pub after : Machine
   pub went : Went here (returned_of line (register_told at.given line)) after
   pub leads : at' ≡ place_after at after event line next
-  pub told : words ≡ event_line (spot_of json at here) at.app line at'.course.shapes
+  pub told : words ≡ event_line (spot_of form at here) at.app line at'.course.shapes
 
 -- it is that of the end of the run
-pub record IsLast (json : Bool) (at : Place) (text words : Text) : Type 0 where
+pub record IsLast (form : Form) (at : Place) (text words : Text) : Type 0 where
   pub here : Machine
   pub came : Came at.machine here
   pub end : End
   pub asked : Asked here (Ok (nexts.End end))
   pub fits : is_end text end ≡ true
-  pub told : words ≡ last_line (spot_of json at here) end
+  pub told : words ≡ last_line (spot_of form at here) end
 
 -- it is of nothing that the run does next
 abbrev pub Misfits : Machine → (text : Text) → TraceLine → (register : List ℕ) → Result Next RunFault → Type 0
@@ -110,7 +114,7 @@ Misfits here text line register (Ok (nexts.Event event)) =
 Misfits here text line register (Ok (nexts.End end)) = is_end text end ≡ false
 Misfits here text line register (Err fault) = Unit {0}
 
-pub record Strays (json : Bool) (at : Place) (text words : Text) : Type 0 where
+pub record Strays (form : Form) (at : Place) (text words : Text) : Type 0 where
   pub line : TraceLine
   pub read : read_line text ≡ Ok line
   pub here : Machine
@@ -118,7 +122,7 @@ pub record Strays (json : Bool) (at : Place) (text words : Text) : Type 0 where
   pub asked : Result Next RunFault
   pub next : Asked here asked
   pub misfits : Misfits here text line (register_told at.given line) asked
-  pub told : words ≡ stray_line (spot_of json at here) line
+  pub told : words ≡ stray_line (spot_of form at here) line
 
 -- ALL LINES
 
@@ -128,20 +132,33 @@ off_behind number [] = None
 off_behind number (text ∷ texts) = Some (Script number)
 
 -- The reading stops at a line: at the end of the run, at a text that is no line, or at a line that the run does not come to.
-abbrev pub StopsAt : (json : Bool) → Place → (text : Text) → (texts : List Text) → (words : Text) → Option TraceOff → Type 0
-StopsAt json at text texts words off =
-    (IsLast json at text words × (off ≡ off_behind (counted true at.number) texts))
+abbrev pub StopsAt : (form : Form) → Place → (text : Text) → (texts : List Text) → (words : Text) → Option TraceOff → Type 0
+StopsAt form at text texts words off =
+    (IsLast form at text words × (off ≡ off_behind (counted true at.number) texts))
     ⊎ (((fault : LineFault) × (read_line text ≡ Err fault) × (words ≡ []) × (off ≡ Some (Line fault at.number)))
-    ⊎ (Strays json at text words × (off ≡ Some (Script at.number))))
+    ⊎ (Strays form at text words × (off ≡ Some (Script at.number))))
 
 -- the texts of lines are read from a place on: this is printed of them, and the trace is off at a line, or at none
-abbrev pub Reads : (json : Bool) → Place → List Text → (words : Text) → Option TraceOff → Type 0
-Reads json at [] words off = (words ≡ []) × (off ≡ None)
-Reads json at (text ∷ texts) words off =
-    ((at' : Place) × (first rest : Text) × Passes json at text (line_behind texts) first at' × (words ≡ first ++ rest)
-    × Reads json at' texts rest off)
-    ⊎ StopsAt json at text texts words off
+abbrev pub Reads : (form : Form) → Place → List Text → (words : Text) → Option TraceOff → Type 0
+Reads form at [] words off = (words ≡ []) × (off ≡ None)
+Reads form at (text ∷ texts) words off =
+    ((at' : Place) × (first rest : Text) × Passes form at text (line_behind texts) first at' × (words ≡ first ++ rest)
+    × Reads form at' texts rest off)
+    ⊎ StopsAt form at text texts words off
+
+-- A PICTURE has a row for each line that is told, and one for a line behind the end of the run
+abbrev pub rows_in : (lines : ℕ) → Option TraceOff → ℕ
+rows_in lines None = lines
+rows_in lines (Some (Line fault number)) = number - 1
+rows_in lines (Some (Script number)) = number
+
+abbrev pub framed : Form → (rows : ℕ) → Text → Text
+framed Picture rows told = whole rows told
+framed form rows told = told
 
 -- what is printed of a trace beside the graph of a script
-abbrev pub Decodes : Graph → (json : Bool) → (given : Option (List ℕ)) → (trace words : Text) → Option TraceOff → Type 0
-Decodes g json given trace words off = Reads json (at_first g given) (lines_in trace) words off
+pub record Decodes (g : Graph) (form : Form) (given : Option (List ℕ)) (trace words : Text) (off : Option TraceOff)
+    : Type 0 where
+  pub told : Text
+  pub reads : Reads form (at_first g given) (lines_in trace) told off
+  pub printed : words ≡ framed form (rows_in (length (lines_in trace)) off) told

@@ -3,6 +3,8 @@ pub mod Lines
 pub mod Matches
 pub mod Meaning
 pub mod LineWords
+pub mod Picture
+pub mod Rows
 pub mod Spots
 pub mod Decoded
 pub mod Steps

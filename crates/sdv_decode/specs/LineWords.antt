@@ -1,12 +1,10 @@
--- The LINE that is printed of a line of a trace: its number, the line of the script, what the trace says there, and what
--- that means; in words, or as an object of JSON.
-use Rattle.std.specs.Prelude.{ℕ, List, [], ◌++◌, ◌==◌, ◌&&◌, ◌||◌, Bool, true, false, codes, decimal, if◌then◌else◌}
+-- The LINE that is printed of a line of a trace: its number, the line of the script, what the trace says there, and
+-- what that means; in words, or as an object of JSON. `Rows.antt` has the rows of a picture.
+use Rattle.std.specs.Prelude.{ℕ, [], ◌++◌, ◌==◌, ◌&&◌, ◌||◌, Bool, false, codes, decimal, if◌then◌else◌}
 use Rattle.sdv_graph.specs.Graph.{Graph}
-use Rattle.sdv_registers.specs.declared.kind.Kind.{Kind}
 use Rattle.sdv_registers.specs.Status.{is_app_cmd}
 use Rattle.sdv_frames.specs.declared.reply.Reply.TheVariants.{R1}
 use Rattle.sdv_card.specs.declared.answer.Answer.TheVariants.{Reply as Replied}
-use Rattle.sdv_card.specs.declared.shape.Shape.{Shape}
 use Rattle.sdv_telling.specs.Places.{line_at, words_at}
 use Rattle.sdv_telling.specs.Statements.{Text}
 use Rattle.sdv_audit.specs.declared.line.TraceLine.{TraceLine}
@@ -15,7 +13,8 @@ use Rattle.sdv_audit.specs.Spelling.{answer_text}
 use Rattle.sdv_audit_report.specs.Words.{told_words}
 use Rattle.sdv_trace.specs.declared.end.End.{End as RunEnd}
 use Rattle.sdv_trace.specs.declared.end.End.TheVariants.{Done, Fault}
-use Rattle.sdv_decode.specs.Meaning.{meaning}
+use Rattle.sdv_decode.specs.declared.form.Form.{Form}
+use Rattle.sdv_decode.specs.declared.form.Form.TheVariants.{Json}
 
 -- APPLICATION COMMANDS
 
@@ -56,40 +55,46 @@ abbrev pub json_front : (number script_line : ℕ) → Text
 json_front number script_line =
     codes "{\"line\":" ++ (decimal number ++ (codes ",\"script\":" ++ (decimal script_line ++ codes ",\"told\":\"")))
 
-abbrev pub front : (json : Bool) → (number script_line : ℕ) → Text
-front json number script_line = if json then json_front number script_line else plain_front number script_line
+abbrev pub front : Form → (number script_line : ℕ) → Text
+front Json number script_line = json_front number script_line
+front form number script_line = plain_front number script_line
 
-abbrev pub between : (json : Bool) → Text
-between json = if json then codes "\",\"text\":\"" else codes ": "
+abbrev pub between : Form → Text
+between Json = codes "\",\"text\":\""
+between form = codes ": "
 
-abbrev pub line_end : (json : Bool) → Text
-line_end json = if json then codes "\"}\n" else codes "\n"
+abbrev pub line_end : Form → Text
+line_end Json = codes "\"}\n"
+line_end form = codes "\n"
 
 -- where it stands
 pub record Spot : Type 0 where
   pub graph : Graph
-  pub json : Bool
+  pub form : Form
   -- the number of the line, from 1
   pub number : ℕ
   -- the point of the script
   pub point : ℕ
 
 abbrev pub spot_front : Spot → Text
-spot_front at = front at.json at.number (line_at at.graph at.point)
+spot_front at = front at.form at.number (line_at at.graph at.point)
 
--- the line of an event
-abbrev pub event_line : Spot → (app : Bool) → TraceLine → List Shape → Text
-event_line at app line shapes =
-    spot_front at ++ (told app line ++ (between at.json ++ (meaning at.graph.kind line shapes ++ line_end at.json)))
+-- the line of an event, by what it means
+abbrev pub event_words : Spot → (app : Bool) → TraceLine → (meant : Text) → Text
+event_words at app line meant =
+    spot_front at ++ (told app line ++ (between at.form ++ (meant ++ line_end at.form)))
 
 -- of the end of the run
-abbrev pub last_line : Spot → RunEnd → Text
-last_line at end = spot_front at ++ (end_told end ++ (between at.json ++ (codes "the run ends" ++ line_end at.json)))
+abbrev pub last_words : Spot → RunEnd → Text
+last_words at end =
+    spot_front at ++ (end_told end
+    ++ (between at.form ++ (codes "the run ends" ++ line_end at.form)))
 
 -- of a line that the script does not lead to
 abbrev pub stray_words : Spot → Text
 stray_words at = codes "the script does not come here; it stands at " ++ words_at at.graph at.point
 
-abbrev pub stray_line : Spot → TraceLine → Text
-stray_line at line =
-    spot_front at ++ (told false line ++ (between at.json ++ (stray_words at ++ line_end at.json)))
+abbrev pub strayed_words : Spot → TraceLine → Text
+strayed_words at line =
+    spot_front at ++ (told false line
+    ++ (between at.form ++ (stray_words at ++ line_end at.form)))

@@ -3,4 +3,4 @@ use Rattle.sdv_decode.specs.LineWords.{Spot}
 use Rattle.sdv_decode.specs.declared.line_words.Spot.{Spot as CodeSpot}
 
 abbrev pub spot_seen : CodeSpot → Spot
-spot_seen at = record { graph = at.graph.now; json = at.json; number = at.number; point = at.point }
+spot_seen at = record { graph = at.graph.now; form = at.form; number = at.number; point = at.point }

@@ -8,6 +8,7 @@ use Rattle.sdv_run.specs.declared.fault.RunFault.{RunFault}
 use Rattle.sdv_run.specs.declared.next_event.NextEvent.{NextEvent}
 use Rattle.sdv_decode.specs.Decoded.{Passes, Place, StopsAt, line_behind, place_after}
 use Rattle.sdv_decode.specs.Matches.{register_told, returned_of}
+use Rattle.sdv_decode.specs.declared.form.Form.{Form}
 use Rattle.sdv_decode.specs.declared.reading.Reading.{Reading}
 use Rattle.sdv_decode.specs.declared.reading.Step.{Step}
 use Rattle.sdv_decode.specs.declared.reading.Step.TheVariants.{Passed, Stopped}
@@ -44,12 +45,12 @@ GoesOn r event line next r' false =
     × ((fault : RunFault) × TookOn r.runner (returned_of line (register_told (given_of r) line)) r.runner (Err fault))
 
 -- the line is that of the next event, or the reading stops there
-abbrev pub StepsTo : (json : Bool) → Place → (text : Text) → (behind : List Text) → (words : Text) → Reading → Step → Type 0
-StepsTo json at text behind words r Passed =
-    (at' : Place) × Passes json at text (line_behind behind) words at' × IsPlace r at'
-StepsTo json at text behind words r (Stopped off) = StopsAt json at text behind words off
+abbrev pub StepsTo : (form : Form) → Place → (text : Text) → (behind : List Text) → (words : Text) → Reading → Step → Type 0
+StepsTo form at text behind words r Passed =
+    (at' : Place) × Passes form at text (line_behind behind) words at' × IsPlace r at'
+StepsTo form at text behind words r (Stopped off) = StopsAt form at text behind words off
 
 -- and its words were added
-abbrev pub Steps : (json : Bool) → Place → (text : Text) → (behind : List Text) → (old new : Text) → Reading → Step → Type 0
-Steps json at text behind old new r step =
-    (words : Text) × (new ≡ old ++ words) × StepsTo json at text behind words r step
+abbrev pub Steps : (form : Form) → Place → (text : Text) → (behind : List Text) → (old new : Text) → Reading → Step → Type 0
+Steps form at text behind old new r step =
+    (words : Text) × (new ≡ old ++ words) × StepsTo form at text behind words r step

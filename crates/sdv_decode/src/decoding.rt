@@ -1,16 +1,19 @@
 //! What is told of a trace.
 
 ghost use Rattle.std.specs.Prelude.{◌≡◌, ◌<◌, ◌+◌, IfErr, IfOk, drop, length, map, option_map};
-ghost use Rattle.sdv_decode.specs.Decoded.{Reads, at_first};
+ghost use Rattle.sdv_decode.specs.Decoded.{Decodes, Reads, at_first, framed, rows_in};
 ghost use Rattle.sdv_decode.specs.DecodedText.{DecodesText, IsUndecoded};
 
 use crate::fault::{DecodeFault, TraceOff};
+use crate::form::Form;
 use crate::lines::lines_of;
+use crate::picture::put_whole;
 use crate::reading::{Reading, Step};
 use sdv_audit::AuditFault;
 use sdv_graph::Graph;
 use sdv_script::parse;
-use std::alloc::Global;
+use sdv_telling::Text;
+use std::alloc::{AllocError, Global};
 
 /// What is told of a trace.
 #[derive(Drop)]
@@ -33,18 +36,63 @@ pub fn decode(
     script: &str,
     trace: &[u8],
     given: Option<&[u8]>,
-    json: bool,
+    form: Form,
 ) -> Result<Decoding, DecodeFault>
-    ensures decoded { IfOk result (DecodesText script.now json (option_map (λ bytes. bytes.now) given.entry) trace.now) }
+    ensures decoded { IfOk result (DecodesText script.now form (option_map (λ bytes. bytes.now) given.entry) trace.now) }
     ensures refused { IfErr result (IsUndecoded script.now) }
 {
     let script = parse(alloc, script)?;
     let Ok(graph) = script.graph(alloc) else {
         return Err(DecodeFault::Memory);
     };
-    let lines = lines_of(alloc, trace)?;
-    let decoding = decode_lines(alloc, &graph, lines.as_slice(), given, json)?;
+    let decoding = decode_trace(alloc, &graph, trace, given, form)?;
     Ok(decoding)
+}
+
+/// Tells of a trace beside a graph.
+fn decode_trace(
+    alloc: Global,
+    graph: &Graph<'_>,
+    trace: &[u8],
+    given: Option<&[u8]>,
+    form: Form,
+) -> Result<Decoding, AuditFault>
+    ensures { IfOk result (λ decoding. Decodes graph.now form (option_map (λ bytes. bytes.now) given.entry) trace.now
+        decoding.text.items decoding.off) }
+{
+    let lines = lines_of(alloc, trace)?;
+    let told = decode_lines(alloc, graph, lines.as_slice(), given, form)?;
+    let rows = rows_in(lines.len() as u64, told.off);
+    let text = framed(alloc, form, rows, told.text)?;
+    Ok(Decoding {
+        text,
+        off: told.off,
+    })
+}
+
+/// The rows of a picture, of a trace with so many lines.
+fn rows_in(lines: u64, off: Option<TraceOff>) -> u64
+    ensures { result ≡ rows_in lines off }
+{
+    match off {
+        None => lines,
+        Some(TraceOff::Line(_, number)) => number.saturating_sub(1),
+        Some(TraceOff::Script(number)) => number,
+    }
+}
+
+/// What was told, in the whole of its form.
+fn framed(alloc: Global, form: Form, rows: u64, told: Text) -> Result<Text, AllocError>
+    ensures { IfOk result (λ text. text.items ≡ framed form rows told.items) }
+{
+    match form {
+        Form::Picture => {
+            let mut text = Vec::new(alloc);
+            put_whole(&mut text, rows, told.as_slice())?;
+            Ok(text)
+        }
+        Form::Words | Form::Json => Ok(told),
+    }
 }
 
 /// The lines behind the one in this place.
@@ -61,14 +109,14 @@ fn decode_lines(
     graph: &Graph<'_>,
     lines: &[Vec<u8>],
     given: Option<&[u8]>,
-    json: bool,
+    form: Form,
 ) -> Result<Decoding, AuditFault>
-    ensures { IfOk result (λ decoding. Reads json
+    ensures { IfOk result (λ decoding. Reads form
         (at_first graph.now (option_map (λ bytes. bytes.now) given.entry))
         (map (λ line. line.items) lines.now) decoding.text.items decoding.off) }
 {
     let mut text = Vec::new(alloc);
-    let mut reading = Reading::new(alloc, graph, given, json)?;
+    let mut reading = Reading::new(alloc, graph, given, form)?;
     for place in 0..lines.len() {
         let behind = lines_behind(lines, place);
         match reading.take(lines[place].as_slice(), behind, &mut text)? {

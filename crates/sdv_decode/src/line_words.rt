@@ -1,9 +1,11 @@
 //! The line that is printed of a line of a trace.
 
 ghost use Rattle.std.specs.Prelude.{◌≡◌, ◌<◌, ◌++◌, OnOk, length};
-ghost use Rattle.sdv_decode.specs.LineWords.{announces, between, end_told, event_line, front, has_other_meaning, json_front, last_line, line_end, mark, plain_front, spot_front, stray_line, stray_words, told};
+ghost use Rattle.sdv_decode.specs.LineWords.{announces, between, end_told, event_words, has_other_meaning, json_front, last_words, line_end, mark, plain_front, spot_front, stray_words, strayed_words, told};
+ghost use Rattle.sdv_decode.specs.Meaning.{meaning};
 ghost use Rattle.sdv_decode.specs.Spots.{spot_seen};
 
+use crate::form::Form;
 use crate::meaning::put_meaning;
 use sdv_audit::TraceLine;
 use sdv_audit_report::{put_answer, put_told};
@@ -13,15 +15,15 @@ use sdv_graph::Graph;
 use sdv_registers::Status;
 use sdv_run::End;
 use sdv_telling::{Text, put, put_number, put_statement};
-use std::alloc::AllocError;
+use std::alloc::{AllocError, Global};
 
 /// Where a line stands.
 #[derive(Clone, Copy)]
 pub struct Spot<'g, 'a> {
+    pub alloc: Global,
     /// The graph of the script.
     pub graph: &'g Graph<'a>,
-    /// The line is printed as an object of JSON.
-    pub json: bool,
+    pub form: Form,
     /// The number of the line, from 1.
     pub number: u64,
     /// The point of the script.
@@ -49,7 +51,7 @@ fn has_other_meaning(index: u8) -> bool
 }
 
 /// Adds the mark of an application command.
-fn put_mark(text: &mut Text, app: bool, line: &TraceLine) -> Result<(), AllocError>
+pub fn put_mark(text: &mut Text, app: bool, line: &TraceLine) -> Result<(), AllocError>
     ensures { OnOk result (text.new.items ≡ text.old.items ++ mark app line.now) }
 {
     match line {
@@ -61,7 +63,7 @@ fn put_mark(text: &mut Text, app: bool, line: &TraceLine) -> Result<(), AllocErr
 }
 
 /// Adds what the trace says.
-fn put_line_told(text: &mut Text, app: bool, line: &TraceLine) -> Result<(), AllocError>
+pub fn put_line_told(text: &mut Text, app: bool, line: &TraceLine) -> Result<(), AllocError>
     ensures { OnOk result (text.new.items ≡ text.old.items ++ told app line.now) }
 {
     match line {
@@ -76,7 +78,8 @@ fn put_line_told(text: &mut Text, app: bool, line: &TraceLine) -> Result<(), All
     }
 }
 
-fn put_end_told(text: &mut Text, end: &End) -> Result<(), AllocError>
+/// Adds how the run ended.
+pub fn put_end_told(text: &mut Text, end: &End) -> Result<(), AllocError>
     ensures { OnOk result (text.new.items ≡ text.old.items ++ end_told end.now) }
 {
     match end {
@@ -114,27 +117,32 @@ fn put_front(text: &mut Text, at: &Spot<'_, '_>) -> Result<(), AllocError>
     ensures { OnOk result (text.new.items ≡ text.old.items ++ spot_front (spot_seen at.now)) }
 {
     let script_line = u64::from(at.graph.line(at.point));
-    if at.json {
-        put_json_front(text, at.number, script_line)
-    } else {
-        put_plain_front(text, at.number, script_line)
+    match at.form {
+        Form::Json => put_json_front(text, at.number, script_line),
+        Form::Words | Form::Picture => put_plain_front(text, at.number, script_line),
     }
 }
 
-fn between(json: bool) -> &'static str
-    ensures { result.now ≡ between json }
+fn between(form: Form) -> &'static str
+    ensures { result.now ≡ between form }
 {
-    if json { "\",\"text\":\"" } else { ": " }
+    match form {
+        Form::Json => "\",\"text\":\"",
+        Form::Words | Form::Picture => ": ",
+    }
 }
 
-fn line_end(json: bool) -> &'static str
-    ensures { result.now ≡ line_end json }
+fn line_end(form: Form) -> &'static str
+    ensures { result.now ≡ line_end form }
 {
-    if json { "\"}\n" } else { "\n" }
+    match form {
+        Form::Json => "\"}\n",
+        Form::Words | Form::Picture => "\n",
+    }
 }
 
-/// Adds the line of an event.
-pub fn put_event(
+/// Adds the line of an event, in words or JSON.
+pub fn put_event_words(
     text: &mut Text,
     at: &Spot<'_, '_>,
     app: bool,
@@ -142,29 +150,30 @@ pub fn put_event(
     shapes: &[Shape],
 ) -> Result<(), AllocError>
     requires { at.now.point < length at.now.graph.now.points }
-    ensures { OnOk result (text.new.items ≡ text.old.items ++ event_line (spot_seen at.now) app line.now shapes.now) }
+    ensures { OnOk result (text.new.items ≡ text.old.items ++ event_words (spot_seen at.now) app line.now
+        (meaning at.now.graph.now.kind line.now shapes.now)) }
 {
     put_front(text, at)?;
     put_line_told(text, app, line)?;
-    put(text, between(at.json))?;
+    put(text, between(at.form))?;
     put_meaning(text, at.graph.kind(), line, shapes)?;
-    put(text, line_end(at.json))
+    put(text, line_end(at.form))
 }
 
-/// Adds the line of the end of the run.
-pub fn put_last(text: &mut Text, at: &Spot<'_, '_>, end: &End) -> Result<(), AllocError>
+/// Adds the line of the end of the run, in words or JSON.
+pub fn put_last_words(text: &mut Text, at: &Spot<'_, '_>, end: &End) -> Result<(), AllocError>
     requires { at.now.point < length at.now.graph.now.points }
-    ensures { OnOk result (text.new.items ≡ text.old.items ++ last_line (spot_seen at.now) end.now) }
+    ensures { OnOk result (text.new.items ≡ text.old.items ++ last_words (spot_seen at.now) end.now) }
 {
     put_front(text, at)?;
     put_end_told(text, end)?;
-    put(text, between(at.json))?;
+    put(text, between(at.form))?;
     put(text, "the run ends")?;
-    put(text, line_end(at.json))
+    put(text, line_end(at.form))
 }
 
 /// Adds where the script stands.
-fn put_stray_words(text: &mut Text, at: &Spot<'_, '_>) -> Result<(), AllocError>
+pub fn put_stray_words(text: &mut Text, at: &Spot<'_, '_>) -> Result<(), AllocError>
     requires { at.now.point < length at.now.graph.now.points }
     ensures { OnOk result (text.new.items ≡ text.old.items ++ stray_words (spot_seen at.now)) }
 {
@@ -172,14 +181,18 @@ fn put_stray_words(text: &mut Text, at: &Spot<'_, '_>) -> Result<(), AllocError>
     put_statement(text, &at.graph.point(at.point).action, at.graph.names())
 }
 
-/// Adds the line of what the script does not lead to.
-pub fn put_stray(text: &mut Text, at: &Spot<'_, '_>, line: &TraceLine) -> Result<(), AllocError>
+/// Adds the line of what the script does not lead to, in words or JSON.
+pub fn put_strayed_words(
+    text: &mut Text,
+    at: &Spot<'_, '_>,
+    line: &TraceLine,
+) -> Result<(), AllocError>
     requires { at.now.point < length at.now.graph.now.points }
-    ensures { OnOk result (text.new.items ≡ text.old.items ++ stray_line (spot_seen at.now) line.now) }
+    ensures { OnOk result (text.new.items ≡ text.old.items ++ strayed_words (spot_seen at.now) line.now) }
 {
     put_front(text, at)?;
     put_line_told(text, false, line)?;
-    put(text, between(at.json))?;
+    put(text, between(at.form))?;
     put_stray_words(text, at)?;
-    put(text, line_end(at.json))
+    put(text, line_end(at.form))
 }

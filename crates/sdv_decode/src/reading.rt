@@ -7,12 +7,14 @@ ghost use Rattle.sdv_run.specs.Machine.{Asked};
 ghost use Rattle.sdv_run.specs.declared.next_event.Next.TheVariants.{Event};
 ghost use Rattle.sdv_decode.specs.Decoded.{Place, at_first, course_before, line_behind, off_behind, uses};
 ghost use Rattle.sdv_audit_report.specs.Notes.{counted};
-ghost use Rattle.sdv_decode.specs.LineWords.{last_line, stray_line};
+ghost use Rattle.sdv_decode.specs.Rows.{last_line, stray_line};
 ghost use Rattle.sdv_decode.specs.Steps.{GoesOn, IsAsked, IsPlace, Steps};
 
 use crate::fault::TraceOff;
-use crate::line_words::{Spot, announces, put_event, put_last, put_stray};
+use crate::form::Form;
+use crate::line_words::{Spot, announces};
 use crate::matches::{given_after, is_end, is_of, register_told, returned_of};
+use crate::rows::{put_event, put_last, put_stray};
 use sdv_audit::{Audit, AuditFault, Told, TraceLine, read_line};
 use sdv_card::Width;
 use sdv_graph::Graph;
@@ -23,7 +25,8 @@ use std::alloc::Global;
 /// A trace that is read beside a script, as far as it has come.
 #[derive(Drop)]
 pub struct Reading<'g, 'a, 'r> {
-    json: bool,
+    alloc: Global,
+    form: Form,
     runner: Runner<'g, 'a>,
     audit: Audit,
     // the next command is an application command
@@ -108,14 +111,15 @@ impl<'g, 'a, 'r> Reading<'g, 'a, 'r> {
         alloc: Global,
         graph: &'g Graph<'a>,
         given: Option<&'r [u8]>,
-        json: bool,
+        form: Form,
     ) -> Result<Reading<'g, 'a, 'r>, AuditFault>
         ensures place { IfOk result (λ reading. IsPlace reading
             (at_first graph.now (option_map (λ bytes. bytes.now) given.entry))) }
-        ensures json { IfOk result (λ reading. reading.json ≡ json) }
+        ensures form { IfOk result (λ reading. reading.form ≡ form) }
     {
         Ok(Reading {
-            json,
+            alloc,
+            form,
             runner: Runner::new(alloc, graph)?,
             audit: Audit::new(alloc, graph.kind())?,
             app: false,
@@ -135,9 +139,9 @@ impl<'g, 'a, 'r> Reading<'g, 'a, 'r> {
         behind: &[Vec<u8>],
         out: &mut Text,
     ) -> Result<Step, AuditFault>
-        ensures json { self.new.json ≡ self.old.json }
+        ensures form { self.new.form ≡ self.old.form }
         ensures steps { IfOk result (λ step. (at : Place) → IsPlace self.old at →
-            Steps self.old.json at text.now (map (λ text. text.items) behind.now) out.old.items out.new.items
+            Steps self.old.form at text.now (map (λ text. text.items) behind.now) out.old.items out.new.items
             self.new step) }
     {
         match read_line(text) {
@@ -154,9 +158,9 @@ impl<'g, 'a, 'r> Reading<'g, 'a, 'r> {
         behind: &[Vec<u8>],
         out: &mut Text,
     ) -> Result<Step, AuditFault>
-        ensures json { self.new.json ≡ self.old.json }
+        ensures form { self.new.form ≡ self.old.form }
         ensures steps { IfOk result (λ step. (at : Place) → read_line text.now ≡ Ok line → IsPlace self.old at →
-            Steps self.old.json at text.now (map (λ text. text.items) behind.now) out.old.items out.new.items
+            Steps self.old.form at text.now (map (λ text. text.items) behind.now) out.old.items out.new.items
             self.new step) }
     {
         match self.runner.ask() {
@@ -180,10 +184,10 @@ impl<'g, 'a, 'r> Reading<'g, 'a, 'r> {
         behind: &[Vec<u8>],
         out: &mut Text,
     ) -> Result<Step, AuditFault>
-        ensures json { self.new.json ≡ self.old.json }
+        ensures form { self.new.form ≡ self.old.form }
         ensures steps { IfOk result (λ step. (at : Place) (text : List ℕ) → read_line text ≡ Ok line →
             IsAsked self.old at → Asked self.old.runner (Ok (Event event.now)) →
-            Steps self.old.json at text (map (λ text. text.items) behind.now) out.old.items out.new.items
+            Steps self.old.form at text (map (λ text. text.items) behind.now) out.old.items out.new.items
             self.new step) }
     {
         if !is_of(event, &line) {
@@ -206,7 +210,7 @@ impl<'g, 'a, 'r> Reading<'g, 'a, 'r> {
         line: TraceLine,
         next: Option<TraceLine>,
     ) -> Result<bool, AuditFault>
-        ensures json { self.new.json ≡ self.old.json }
+        ensures form { self.new.form ≡ self.old.form }
         ensures on { IfOk result (GoesOn self.old event.now line next self.new) }
     {
         let returned = returned_of(&line, register_told(self.given, &line));
@@ -223,14 +227,15 @@ impl<'g, 'a, 'r> Reading<'g, 'a, 'r> {
     /// Where the next line stands.
     fn spot(&self) -> Spot<'g, 'a>
         ensures graph { result.graph.now ≡ self.now.runner.graph }
-        ensures json { result.json ≡ self.now.json }
+        ensures form { result.form ≡ self.now.form }
         ensures number { result.number ≡ self.now.number }
         ensures point { result.point ≡ self.now.runner.stand.point }
         ensures on { result.point < length self.now.runner.graph.points }
     {
         Spot {
+            alloc: self.alloc,
             graph: self.runner.graph(),
-            json: self.json,
+            form: self.form,
             number: self.number,
             point: self.runner.point(),
         }
@@ -240,7 +245,7 @@ impl<'g, 'a, 'r> Reading<'g, 'a, 'r> {
     fn stray(&self, line: &TraceLine, out: &mut Text) -> Result<Step, AuditFault>
         ensures words { OnOk result (out.new.items ≡ out.old.items ++ stray_line (record {
           graph = self.now.runner.graph;
-          json = self.now.json;
+          form = self.now.form;
           number = self.now.number;
           point = self.now.runner.stand.point;
         }) line.now) }
@@ -254,7 +259,7 @@ impl<'g, 'a, 'r> Reading<'g, 'a, 'r> {
     fn end(&self, end: &End, behind: &[Vec<u8>], out: &mut Text) -> Result<Step, AuditFault>
         ensures words { OnOk result (out.new.items ≡ out.old.items ++ last_line (record {
           graph = self.now.runner.graph;
-          json = self.now.json;
+          form = self.now.form;
           number = self.now.number;
           point = self.now.runner.stand.point;
         }) end.now) }

@@ -6,18 +6,18 @@ use Rattle.sdv_decode.proofs.decoding.decode_lines.Goals as goal
 
 pub returns-in-Stopped : goal.returns-in-Stopped
 returns-in-Stopped c =
-    stopped_on c.args.json (at_first c.args.graph.now (option_map (λ bytes. bytes.now) c.args.given)) (map (λ line. line.items) c.args.lines.now) _ _ _ _ _ _ _
+    stopped_on c.args.form (at_first c.args.graph.now (option_map (λ bytes. bytes.now) c.args.given)) (map (λ line. line.items) c.args.lines.now) _ _ _ _ _ _ _
     c.loop-place.reading _ c.loop-place.invariant.so_far
     (left_from (λ line. line.items) c.args.lines.now c.loop-place.place c.index-lines-place.result c.loop-place-test.true c.index-lines-place.is)
-    c.loop-place.invariant.json c.as_slice.ensures.value (ap (map (λ line. line.items)) c.lines_behind-behind.ensures) c.in_ok-take.field-0 c.in_ok-take.ensures.steps c.in-Stopped.off c.in-Stopped.is
+    c.loop-place.invariant.form c.as_slice.ensures.value (ap (map (λ line. line.items)) c.lines_behind-behind.ensures) c.in_ok-take.field-0 c.in_ok-take.ensures.steps c.in-Stopped.off c.in-Stopped.is
 
 pub loop-place-preserved : goal.loop-place-preserved
 loop-place-preserved c = record {
-  json = c.in_ok-take.ensures.json ∙ c.loop-place.invariant.json;
-  so_far = passed_on c.args.json (at_first c.args.graph.now (option_map (λ bytes. bytes.now) c.args.given)) (map (λ line. line.items) c.args.lines.now) _ _ _ _ _ _ _
+  form = c.in_ok-take.ensures.form ∙ c.loop-place.invariant.form;
+  so_far = passed_on c.args.form (at_first c.args.graph.now (option_map (λ bytes. bytes.now) c.args.given)) (map (λ line. line.items) c.args.lines.now) _ _ _ _ _ _ _
       c.loop-place.reading _ c.loop-place.invariant.so_far
       (left_from (λ line. line.items) c.args.lines.now c.loop-place.place c.index-lines-place.result c.loop-place-test.true c.index-lines-place.is)
-      c.loop-place.invariant.json c.as_slice.ensures.value (ap (map (λ line. line.items)) c.lines_behind-behind.ensures) c.in_ok-take.field-0 c.in_ok-take.ensures.steps c.in-Passed.is;
+      c.loop-place.invariant.form c.as_slice.ensures.value (ap (map (λ line. line.items)) c.lines_behind-behind.ensures) c.in_ok-take.field-0 c.in_ok-take.ensures.steps c.in-Passed.is;
 }
 
 pub returns : goal.returns
@@ -25,5 +25,5 @@ returns c =
     let first = at_first c.args.graph.now (option_map (λ bytes. bytes.now) c.args.given) in
     let all = map (λ line. line.items) c.args.lines.now in
     let none = none_left (λ line. line.items) c.args.lines.now c.loop-place.place c.loop-place-test.false in
-    ends c.args.json first all c.loop-place.text.items c.loop-place.reading
-    (subst (λ (left : List Text). SoFar c.args.json first all left c.loop-place.text.items c.loop-place.reading) none c.loop-place.invariant.so_far)
+    ends c.args.form first all c.loop-place.text.items c.loop-place.reading
+    (subst (λ (left : List Text). SoFar c.args.form first all left c.loop-place.text.items c.loop-place.reading) none c.loop-place.invariant.so_far)

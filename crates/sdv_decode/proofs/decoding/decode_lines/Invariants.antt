@@ -6,7 +6,7 @@ use Rattle.sdv_decode.proofs.decoding.decode_lines.Given as goal
 -- the lines so far were read, and their words added
 abbrev pub invariant-loop-place : goal.invariant-loop-place
 invariant-loop-place l = record {
-  json : l.reading.json ≡ l.json;
-  so_far : SoFar l.json (at_first l.graph (option_map (λ bytes. bytes.now) l.given)) (map (λ line. line.items) l.lines)
+  form : l.reading.form ≡ l.fn.form;
+  so_far : SoFar l.fn.form (at_first l.graph (option_map (λ bytes. bytes.now) l.given)) (map (λ line. line.items) l.lines)
       (map (λ line. line.items) (drop l.place l.lines)) l.text.items l.reading;
 }

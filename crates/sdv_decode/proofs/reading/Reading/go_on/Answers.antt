@@ -1,8 +1,6 @@
-use Rattle.std.proofs.Common.{◌≡◌, ◌∙◌, true, ap, subst, sym, rules}
+use Rattle.std.proofs.Common.{◌≡◌, ◌∙◌, true, ap, rules}
 use Rattle.std.specs.Prelude.{is_err}
-use Rattle.sdv_run.specs.Machine.{TookOn}
-use Rattle.sdv_decode.specs.Matches.{register_told, returned_of}
-use Rattle.sdv_decode.specs.Steps.{given_of}
+use Rattle.sdv_decode.specs.Matches.{returned_of}
 use Rattle.sdv_decode.proofs.StepLaws.{refused}
 use Rattle.sdv_decode.proofs.reading.Reading.go_on.Goals as goal
 

@@ -1,8 +1,9 @@
-use Rattle.std.proofs.Common.{◌≡◌, ◌∙◌, ◌++◌, false, true, inl, inr, ap, subst, sym, rules, List, ℕ, Option, Bool, OnOk}
+use Rattle.std.proofs.Common.{◌≡◌, ◌∙◌, ◌++◌, false, true, inl, inr, ap, subst, rules, List, Option, Bool, OnOk}
 use Rattle.sdv_audit.specs.declared.line.TraceLine.{TraceLine}
 use Rattle.sdv_card.specs.declared.shape.Shape.{Shape}
-use Rattle.sdv_decode.specs.LineWords.{Spot, event_line, stray_line}
+use Rattle.sdv_decode.specs.LineWords.{Spot}
 use Rattle.sdv_decode.specs.Matches.{is_of}
+use Rattle.sdv_decode.specs.Rows.{event_line, stray_line}
 use Rattle.sdv_decode.specs.Steps.{GoesOn}
 use Rattle.sdv_decode.specs.declared.reading.Reading.{Reading}
 use Rattle.sdv_decode.proofs.StepLaws.{passed_by, spot_at, spot_same, stray_step}
@@ -23,7 +24,7 @@ returns-in_ok-put_event-clause-steps c = λ at text read asked next.
     let fits : is_of event line ≡ true = search rules in
     let on = subst (λ (n : Option TraceLine). GoesOn r event line n r' true) c.line_behind.ensures
     (subst (λ (b : Bool). GoesOn r event line c.line_behind.result r' b) c.if-branch.true c.in_ok-go_on.ensures.on) in
-    let spot = spot_same c.spot-spot.result r c.spot-spot.ensures.graph c.spot-spot.ensures.json c.spot-spot.ensures.number c.spot-spot.ensures.point in
+    let spot = spot_same c.spot-spot.result r c.spot-spot.ensures.graph c.spot-spot.ensures.form c.spot-spot.ensures.number c.spot-spot.ensures.point in
     passed_by r at asked text _ event line r' read next fits on _ _
     (c.in_ok-put_event.ensures
     ∙ (ap (λ (s : Spot). c.args.out.now.items ++ event_line s r.app line c.shapes.result.now) spot

@@ -1,7 +1,6 @@
-use Rattle.std.proofs.Common.{◌∙◌, ◌++◌, ap, subst, OnOk, List, ℕ}
-use Rattle.sdv_decode.specs.LineWords.{between, line_end}
+use Rattle.std.proofs.Common.{◌∙◌, ◌++◌, ap, List, ℕ}
 use Rattle.sdv_decode.proofs.PieceLaws.{five_pieces}
-use Rattle.sdv_decode.proofs.line_words.put_stray.Goals as goal
+use Rattle.sdv_decode.proofs.line_words.put_strayed_words.Goals as goal
 
 pub returns : goal.returns
 returns c =
