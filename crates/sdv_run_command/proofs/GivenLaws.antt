@@ -74,28 +74,62 @@ module _ (files : Files) where
     input_place None input file more is = rw is refl
     input_place (Some first) input file more is = rw is refl
 
-    output_place : (schedule input output : Option Text) (file : Text) → output ≡ Some file
-        → four [] ++ (some_use as_schedule schedule ++ (some_use as_input input ++ some_use as_output output))
-        ≡ four (some_use as_schedule schedule ++ some_use as_input input) ++ as_output file ∷ []
-    output_place None None output file is = rw is refl
-    output_place None (Some second) output file is = rw is refl
-    output_place (Some first) None output file is = rw is refl
-    output_place (Some first) (Some second) output file is = rw is refl
+    output_place : (schedule input output : Option Text) (file : Text) (more : List FileUse) → output ≡ Some file
+        → four [] ++ (some_use as_schedule schedule ++ (some_use as_input input ++ (some_use as_output output ++ more)))
+        ≡ four (some_use as_schedule schedule ++ some_use as_input input) ++ as_output file ∷ more
+    output_place None None output file more is = rw is refl
+    output_place None (Some second) output file more is = rw is refl
+    output_place (Some first) None output file more is = rw is refl
+    output_place (Some first) (Some second) output file more is = rw is refl
 
-    -- a file of the output that cannot be made or emptied
-    pub output_unusable : (given : Given) (image : CardImage) (file : Text) → AreGiven files names given image → names.output ≡ Some file
-        → files.uncreated file → IsUnusable files (uses_of names) file
-    output_unusable given image file are is uncreated = record {
-      wanted = as_output file;
-      is_file = refl;
-      earlier = four (some_use as_schedule names.schedule ++ some_use as_input names.input);
-      later = [];
-      place = output_place names.schedule names.input names.output file is;
-      used = four_used (text_gave names.script given.script are.script)
-          (text_gave names.certificate given.certificate are.certificate)
-          (text_gave names.card given.card are.card) image are.of_image
-          (some_use as_schedule names.schedule ++ some_use as_input names.input)
-          (both_used (some_use as_schedule names.schedule) (some_use as_input names.input) (schedule_gave names.schedule given.codes.items are.schedule)
-          (input_gave names.input given.input.items are.input));
-      failed = uncreated;
-    }
+    registers_place : (schedule input output registers : Option Text) (file : Text) → registers ≡ Some file
+        → four [] ++ (some_use as_schedule schedule ++ (some_use as_input input ++ (some_use as_output output ++ some_use as_output registers)))
+        ≡ four (some_use as_schedule schedule ++ (some_use as_input input ++ some_use as_output output)) ++ as_output file ∷ []
+    registers_place None None None registers file is = rw is refl
+    registers_place None None (Some third) registers file is = rw is refl
+    registers_place None (Some second) None registers file is = rw is refl
+    registers_place None (Some second) (Some third) registers file is = rw is refl
+    registers_place (Some first) None None registers file is = rw is refl
+    registers_place (Some first) None (Some third) registers file is = rw is refl
+    registers_place (Some first) (Some second) None registers file is = rw is refl
+    registers_place (Some first) (Some second) (Some third) registers file is = rw is refl
+
+    output_made : (output : Option Text) → AllByRecursion (IsUsed files) (some_use as_output output)
+    output_made None = tt
+    output_made (Some file) = (tt, tt)
+
+    module _ (given : Given) (image : CardImage) (are : AreGiven files names given image) where
+      inputs_used : AllByRecursion (IsUsed files) (some_use as_schedule names.schedule ++ some_use as_input names.input)
+      inputs_used =
+          both_used (some_use as_schedule names.schedule) (some_use as_input names.input) (schedule_gave names.schedule given.codes.items are.schedule)
+          (input_gave names.input given.input.items are.input)
+
+      made_unusable : (file : Text) (used later : List FileUse) → AllByRecursion (IsUsed files) used
+          → uses_of names ≡ four used ++ as_output file ∷ later → files.uncreated file → IsUnusable files (uses_of names) file
+      made_unusable file used later are_used place uncreated = record {
+        wanted = as_output file;
+        is_file = refl;
+        earlier = four used;
+        later = later;
+        place = place;
+        used = four_used (text_gave names.script given.script are.script)
+            (text_gave names.certificate given.certificate are.certificate)
+            (text_gave names.card given.card are.card) image are.of_image used are_used;
+        failed = uncreated;
+      }
+
+      -- a file of the output that cannot be made or emptied
+      pub output_unusable : (file : Text) → names.output ≡ Some file → files.uncreated file → IsUnusable files (uses_of names) file
+      output_unusable file is uncreated =
+          made_unusable file (some_use as_schedule names.schedule ++ some_use as_input names.input) (some_use as_output names.registers) inputs_used
+          (output_place names.schedule names.input names.output file (some_use as_output names.registers) is) uncreated
+
+      -- one of the registers
+      pub registers_unusable : (file : Text) → names.registers ≡ Some file → files.uncreated file → IsUnusable files (uses_of names) file
+      registers_unusable file is uncreated =
+          made_unusable file (some_use as_schedule names.schedule ++ (some_use as_input names.input ++ some_use as_output names.output)) []
+          (both_used (some_use as_schedule names.schedule) (some_use as_input names.input ++ some_use as_output names.output)
+          (schedule_gave names.schedule given.codes.items are.schedule)
+          (both_used (some_use as_input names.input) (some_use as_output names.output) (input_gave names.input given.input.items are.input)
+          (output_made names.output)))
+          (registers_place names.schedule names.input names.output names.registers file is) uncreated

@@ -1,4 +1,5 @@
 pub mod RunMaps
+pub mod RegisterLaws
 pub mod TakenLaws
 pub mod RunLaws
 pub mod GivenLaws

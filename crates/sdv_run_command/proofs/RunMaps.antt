@@ -1,5 +1,5 @@
 -- A run over a port is a run over what is seen of the port, where each step of the port is one of what is seen.
-use Rattle.std.proofs.Common.{◌≡◌, ◌∙◌, ap, sym, inl, inr, ℕ, Option, List, [], ◌∷◌, Result, Ok, Err}
+use Rattle.std.proofs.Common.{◌≡◌, ◌∙◌, ap, refl, sym, inl, inr, ℕ, Option, List, [], ◌∷◌, Result, Ok, Err}
 use Rattle.std.proofs.Math.Logic.{∥∥₁_map}
 use Rattle.sdv_registers.specs.declared.kind.Kind.{Kind}
 use Rattle.sdv_card.specs.Card.{Card}
@@ -16,6 +16,7 @@ use Rattle.sdv_run.specs.Run.{Steps, RunMoved}
 use Rattle.sdv_run.specs.Ran.{Because, Ended, Happened, Stopped}
 use Rattle.sdv_run.specs.Step.{World}
 use Rattle.sdv_run.specs.OnCard.{OnCard, RanBeside, ShowsStart}
+use Rattle.sdv_run_command.specs.Registers.{events_of}
 
 -- why a run stopped says nothing of its port, but that it is as it was where nothing happened
 module _ {S T : Type 0} (t t' : T) where
@@ -135,6 +136,13 @@ module _ {S T : Type 0} (f : S → T) (steps : Steps S) (steps' : Steps T)
       seen_stopped g fault w w' ran.0,
       λ c start. let on = ran.1 c (seen_start g.kind w.port c start) in (∥∥₁_map on.0 (seen_card most _ ran.0.events c w'.port), on.1),
     )
+
+    -- the events are the same
+    pub seen_events : (g : Graph) (most : ℕ) (w w' : World S) (result : Result End RunFault) (ran : RanBeside steps card g most w w' result)
+        → events_of steps' card' g most (seen f w) (seen f w') result (seen_run g most w w' result ran) ≡ events_of steps card g most w w' result ran
+    unfolding seen_run seen_ended seen_stopped
+    seen_events g most w w' (Ok end) ran = refl
+    seen_events g most w w' (Err fault) ran = refl
 
 -- a controller steps as one over what is seen of its wire
 module _ {S T : Type 0} (f : S → T) (steps : T → WireCall → WireReturn → T → Type 0) where

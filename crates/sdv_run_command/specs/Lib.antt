@@ -1,3 +1,4 @@
 pub mod NewImages
+pub mod Registers
 pub mod Run
 pub mod RunImages

@@ -26,6 +26,7 @@ use Rattle.sdv_run.specs.OnCard.{RanBeside}
 use Rattle.sdv_faults.specs.declared.fault.Fault.{Fault}
 use Rattle.sdv_faults.specs.declared.fault.Fault.TheVariants.{File, Script, Certificate, Refused, Card, Run, Named, Memory}
 use Rattle.sdv_run_command.specs.declared.given.Given.{Given}
+use Rattle.sdv_run_command.specs.Registers.{events_of, registered}
 use Rattle.sdv_faults.specs.Refused.{Refuses}
 use Rattle.sdv_command_line.specs.Requests.{RunNames}
 use Rattle.sdv_faults.specs.Fault.{fault_of_run}
@@ -115,6 +116,17 @@ pub record IsRun (given : Given) (image : CardImage) (blocks' : Option (List Blo
       (record { port = card; input = blocks_of given.input.items; out = out; trace = trace })
       (record { port = card'; input = left; out = out'; trace = trace' }) result
 
+-- the bytes of the registers that the run received
+abbrev pub registers_of : {given : Given} {image : CardImage} {blocks' : Option (List Block)} {result : Result End RunFault}
+    {out out' trace trace' : Option (List ℕ)} → IsRun given image blocks' result out out' trace trace' → List ℕ
+registers_of {result = result} run = registered (events_of _ _ _ _ _ _ result run.ran)
+
+-- The run took place, and this holds of the bytes of its registers.
+pub record IsRunWith (took : List ℕ → Type 0) (given : Given) (image : CardImage) (blocks' : Option (List Block))
+    (result : Result End RunFault) (out out' trace trace' : Option (List ℕ)) : Type 0 where
+  pub run : IsRun given image blocks' result out out' trace trace'
+  pub registers : took (registers_of run)
+
 -- there is no simulated card, for this reason: that of the description, of the image, or of the schedule beside them,
 -- or that the image was not read
 abbrev pub HasNoCard : (description : Text) → (codes : List ℕ) → CardImage → (unread : Type 0) → SimFault → Type 0
@@ -156,6 +168,14 @@ abbrev pub Receives : Files → Option Text → (bytes : List ℕ) → Type 0
 Receives files None bytes = Unit {0}
 Receives files (Some file) bytes = files.received file bytes
 
+-- the file took a front of these bytes, and not all of them
+pub record ReceivesPart (files : Files) (file : Text) (bytes : List ℕ) : Type 0 where
+  pub front : List ℕ
+  pub rest : List ℕ
+  pub is_front : bytes ≡ front ++ rest
+  pub is_part : 0 < length rest
+  pub received : files.received file front
+
 -- the file of the output took a front of these bytes
 pub record ReceivesFront (files : Files) (output : Option Text) (bytes : List ℕ) : Type 0 where
   pub front : List ℕ
@@ -177,7 +197,14 @@ pub record IsKept (files : Files) (names : RunNames) (given : Given) (image : Ca
   pub run : IsRun given image blocks' result out out' trace trace'
   pub stored : StoresImage files names.image blocks'
 
--- The run came to this end. The file of the output took the blocks of its phases that ended well.
+-- The same, and this holds of the bytes of its registers.
+pub record IsKeptWith (took : List ℕ → Type 0) (files : Files) (names : RunNames) (given : Given) (image : CardImage)
+    (result : Result End RunFault) (out out' trace trace' : Option (List ℕ)) : Type 0 where
+  pub kept : IsKept files names given image result out out' trace trace'
+  pub registers : took (registers_of kept.run)
+
+-- The run came to this end. The file of the output took the blocks of its phases that ended well, and the file of the
+-- registers the bytes of the registers that came whole.
 pub record EndsRun (files : Files) (names : RunNames) (end : End) (trace trace' : Option (List ℕ)) : Type 0 where
   pub given : Given
   pub image : CardImage
@@ -186,9 +213,10 @@ pub record EndsRun (files : Files) (names : RunNames) (end : End) (trace trace' 
   pub out' : Option (List ℕ)
   pub kept : IsKept files names given image (Ok end) out out' trace trace'
   pub output : Receives files names.output (received kept.run.ran.0.events)
+  pub registers : Receives files names.registers (registered kept.run.ran.0.events)
 
 -- The run stopped before its end. The file of the output took the blocks of its phases that ended well, or, where the
--- output failed, a front of them.
+-- output failed, a front of them. The file of the registers took the bytes of all registers that had come whole.
 pub record StopsRun (files : Files) (names : RunNames) (fault : RunFault)
     (trace trace' : Option (List ℕ)) : Type 0 where
   pub given : Given
@@ -198,6 +226,7 @@ pub record StopsRun (files : Files) (names : RunNames) (fault : RunFault)
   pub out' : Option (List ℕ)
   pub kept : IsKept files names given image (Err fault) out out' trace trace'
   pub output : ReceivesUntil fault files names.output (received kept.run.ran.0.events)
+  pub registers : Receives files names.registers (registered kept.run.ran.0.events)
 
 -- The run took place, and then a file did not take all that it had to.
 pub record IsLost (given : Given) (image : CardImage) (trace trace' : Option (List ℕ)) : Type 0 where
@@ -207,14 +236,19 @@ pub record IsLost (given : Given) (image : CardImage) (trace trace' : Option (Li
   pub out' : Option (List ℕ)
   pub run : IsRun given image blocks' result out out' trace trace'
 
--- It was the file of the image, which did not take the card's blocks, or that of the output.
+-- the file of the registers did not take all of these bytes: a write to it failed, or it could not be ended
+abbrev pub LosesRegisters : Files → (file : Text) → (bytes : List ℕ) → Type 0
+LosesRegisters files file bytes = files.unfinished file ⊎ ReceivesPart files file bytes
+
+-- It was the file of the image, which did not take the card's blocks, or that of the output, or that of the registers.
 pub record IsNotKept (files : Files) (names : RunNames) (file : Text) (trace trace' : Option (List ℕ)) : Type 0 where
   pub given : Given
   pub image : CardImage
   pub are_given : AreGiven files names given image
   pub lost : IsLost given image trace trace'
   pub is_file : ((file ≡ names.image) × LosesImage files names.image)
-      ⊎ ((Some file ≡ names.output) × files.unfinished file)
+      ⊎ (((Some file ≡ names.output) × files.unfinished file)
+      ⊎ ((Some file ≡ names.registers) × LosesRegisters files file (registers_of lost.run)))
 
 -- There was no run.
 pub record HasNoRun (files : Files) (names : RunNames) (fault : Fault) (trace trace' : Option (List ℕ)) : Type 0 where
@@ -237,7 +271,22 @@ FailsToKeep files names given image (File file) trace trace' =
 FailsToKeep files names given image fault trace trace' =
     RefusesRun given image (IsUnreadable files names.image) fault × Keeps trace trace'
 
--- THE FILES, in the order in which they are read; that of the output is made or emptied after them
+-- the file of the registers did not take all that it had to
+pub record IsUnregistered (files : Files) (file : Text) (given : Given) (image : CardImage)
+    (trace trace' : Option (List ℕ)) : Type 0 where
+  pub lost : IsLost given image trace trace'
+  pub loses : LosesRegisters files file (registers_of lost.run)
+
+-- the same, or the file of the registers could not be made or emptied, or did not take all that it had to
+abbrev pub FailsToRegister : Files → RunNames → Given → CardImage → Fault → (trace trace' : Option (List ℕ)) → Type 0
+FailsToRegister files names given image (File file) trace trace' =
+    FailsToKeep files names given image (File file) trace trace'
+    ⊎ ((Some file.now ≡ names.registers)
+    × ((files.uncreated file.now × Keeps trace trace') ⊎ IsUnregistered files file.now given image trace trace'))
+FailsToRegister files names given image fault trace trace' =
+    FailsToKeep files names given image fault trace trace'
+
+-- THE FILES, in the order in which they are read; those of the output and of the registers are made or emptied after them
 
 -- what a run uses a file as
 pub data FileUse : Type 0 where
@@ -262,9 +311,10 @@ some_use to (Some file) = to file ∷ []
 abbrev pub uses_of : RunNames → List FileUse
 uses_of names =
     (as_text names.script ∷ as_text names.certificate ∷ as_text names.card ∷ as_image names.image ∷ [])
-    ++ (some_use as_schedule names.schedule ++ (some_use as_input names.input ++ some_use as_output names.output))
+    ++ (some_use as_schedule names.schedule ++ (some_use as_input names.input
+    ++ (some_use as_output names.output ++ some_use as_output names.registers)))
 
--- the file was used so; nothing comes after the output
+-- the file was used so; of one that was made or emptied nothing more is said
 abbrev pub IsUsed : Files → FileUse → Type 0
 IsUsed files (as_text file) = (text : List ℕ) × files.gives file text × IsUtf8 text
 IsUsed files (as_image name) = (image : CardImage) × GivesImage files name image
@@ -319,7 +369,8 @@ abbrev pub EndsApart : Files → RunNames → Ending
 EndsApart files names None trace trace' = EndsRun files names ends.Done trace trace'
 EndsApart files names (Some fault) trace trace' = RunFails files names fault trace trace'
 
--- NO FILE IS LOST BY A SLIP: the file of the output is none of the others
+-- NO FILE IS LOST BY A SLIP: the file of the output is none of those that are read, and that of the registers is none of the
+-- others
 
 abbrev pub IsSameImage : Files → (image output : Text) → Type 0
 IsSameImage files image output = IsOfFile image × files.same image output
@@ -351,13 +402,31 @@ IsTaken files names output = (names.output ≡ Some output) × IsRead files name
 abbrev pub IsApart : Files → RunNames → Type 0
 IsApart files names = (output : Text) → names.output ≡ Some output → IsOther files names output
 
+-- the file of the registers is one that the run reads, or that of its image, or that of the output
+abbrev pub IsTakenTwice : Files → RunNames → (file : Text) → Type 0
+IsTakenTwice files names file =
+    (names.registers ≡ Some file) × (IsRead files names file ⊎ IsSameGiven files names.output file)
+
+-- it is none of them
+pub record IsAlone (files : Files) (names : RunNames) (file : Text) : Type 0 where
+  pub read : IsOther files names file
+  pub output : (output : Text) → names.output ≡ Some output → files.apart output file
+
+abbrev pub AreAlone : Files → RunNames → Type 0
+AreAlone files names = (file : Text) → names.registers ≡ Some file → IsAlone files names file
+
 -- the output cannot be used, since it is one of the others
 abbrev pub TakesOther : Files → RunNames → Option Fault → Type 0
 TakesOther files names (Some (File file)) = IsTaken files names file.now
 TakesOther files names outcome = ⊥
 
+-- the output cannot be used so, or the file of the registers cannot
+abbrev pub TakesAnother : Files → RunNames → Option Fault → Type 0
+TakesAnother files names (Some (File file)) = IsTaken files names file.now ⊎ IsTakenTwice files names file.now
+TakesAnother files names outcome = ⊥
+
 -- THE COMMAND
 abbrev pub RunEnds : Files → RunNames → Ending
 RunEnds files names outcome trace trace' =
-    (TakesOther files names outcome × Keeps trace trace')
-    ⊎ (IsApart files names × EndsApart files names outcome trace trace')
+    (TakesAnother files names outcome × Keeps trace trace')
+    ⊎ ((IsApart files names × AreAlone files names) × EndsApart files names outcome trace trace')

@@ -1,11 +1,39 @@
-//! The file of the output is none of those that a run reads.
-ghost use Rattle.std.specs.Prelude.{◌≡◌, IfSome, None, Some, option_map, ℕ, List, true, false};
+//! The files that a run makes are none of those that it reads.
+ghost use Rattle.std.specs.Prelude.{◌≡◌, ◌⊎◌, IfSome, None, Some, option_map, ℕ, List, true, false};
 ghost use Rattle.sdv_command_line.specs.Requests.{names_of};
-ghost use Rattle.sdv_run_command.specs.Run.{IsApart, IsOfFile, IsOther, IsRead, IsSameGiven, IsSameImage, IsTaken};
+ghost use Rattle.sdv_run_command.specs.Run.{AreAlone, IsApart, IsOfFile, IsOther, IsRead, IsSameGiven, IsSameImage, IsTaken, IsTakenTwice};
 
 use crate::given::new_blocks;
 use sdv_command_line::RunFiles;
 use sdv_files::Store;
+
+/// The file of the output where the run reads it too, or else that of the registers where the run uses it otherwise too.
+pub fn taken_file<'a, S: Store>(files: &S, names: &RunFiles<'a>) -> Option<&'a str>
+    ensures taken { IfSome result (λ file. IsTaken (S.known files.now) (names_of names.now) file.now
+        ⊎ IsTakenTwice (S.known files.now) (names_of names.now) file.now) }
+    ensures apart { result ≡ None → IsApart (S.known files.now) (names_of names.now) }
+    ensures alone { result ≡ None → AreAlone (S.known files.now) (names_of names.now) }
+{
+    match taken_output(files, names) {
+        Some(file) => Some(file),
+        None => taken_registers(files, names),
+    }
+}
+
+/// The file of the registers, where the run reads it, or where it is that of the image or of the output.
+fn taken_registers<'a, S: Store>(files: &S, names: &RunFiles<'a>) -> Option<&'a str>
+    ensures taken { IfSome result (λ file. IsTakenTwice (S.known files.now) (names_of names.now) file.now) }
+    ensures alone { result ≡ None → AreAlone (S.known files.now) (names_of names.now) }
+{
+    let file = names.registers?;
+    let is_read = is_read(files, names, file);
+    let is_output = is_given(files, names.output, file);
+    if is_read | is_output {
+        Some(file)
+    } else {
+        None
+    }
+}
 
 /// The file of the output, where the run reads it too.
 pub fn taken_output<'a, S: Store>(files: &S, names: &RunFiles<'a>) -> Option<&'a str>

@@ -8,10 +8,12 @@ mod apart;
 mod given;
 mod named;
 mod new_image;
+mod registers;
 mod run;
 
-pub use apart::taken_output;
+pub use apart::{taken_file, taken_output};
 pub use given::{Given, GivenImage, codes_in, codes_of, given_by, image_in, input_in, new_blocks};
 pub use named::Named;
 pub use new_image::NewImage;
-pub use run::{Outcome, card_over, close_image, run_files, run_given};
+pub use registers::{RegisterPort, RegisterSink};
+pub use run::{Outcome, Outputs, card_over, close_image, run_files, run_given};

@@ -1,10 +1,14 @@
-use Rattle.std.proofs.Common.{refl, ap, [], ◌∷◌, ◌++◌, option_map}
-use Rattle.sdv_command_line.specs.Requests.{names_of}
+use Rattle.std.proofs.Common.{refl, ap, List, [], ◌∷◌, ◌++◌, option_map}
+use Rattle.sdv_command_line.specs.Requests.{RunNames, names_of}
 use Rattle.sdv_files.specs.Files.{Files}
-use Rattle.sdv_run_command.specs.Run.{GivesNoInput, as_image, as_input, as_output, as_schedule, as_text, some_use, uses_of}
+use Rattle.sdv_run_command.specs.Run.{FileUse, GivesNoInput, as_image, as_input, as_output, as_schedule, as_text, some_use, uses_of}
 use Rattle.sdv_run_command.specs.RunImages.{image_given}
 use Rattle.sdv_run_command.proofs.GivenLaws.{four, four_used, input_place, optional_unread, schedule_gave, text_gave, unread}
 use Rattle.sdv_run_command.proofs.given.given_by.Goals as goal
+
+-- the files that are made or emptied
+abbrev made : RunNames → List FileUse
+made names = some_use as_output names.output ++ some_use as_output names.registers
 
 pub returns-in_err-script-clause-refused : goal.returns-in_err-script-clause-refused
 returns-in_err-script-clause-refused g c =
@@ -53,9 +57,9 @@ returns-in_err-codes-clause-refused g c =
     let certificate = text_gave files names.certificate c.in_ok-certificate.certificate c.in_ok-certificate.ensures.given in
     let card = text_gave files names.card c.in_ok-card.card c.in_ok-card.ensures.given in
     optional_unread files (uses_of names) as_schedule (λ file. refl) files.unread (λ file unread. unread) c.args.names.now.schedule (four files names [])
-    (some_use as_input names.input ++ some_use as_output names.output)
+    (some_use as_input names.input ++ made names)
     (λ file is. ap (λ name. four files names [] ++ (some_use as_schedule (option_map (λ f. f.now) name)
-    ++ (some_use as_input names.input ++ some_use as_output names.output))) is)
+    ++ (some_use as_input names.input ++ made names))) is)
     (four_used files names script certificate card (image_given g.S.Image.BlockFile.byte_count g.S.Image.BlockFile.blocks c.in_ok-image.image)
     c.in_ok-image.ensures.given [] tt)
     c.in_err-codes.field-0.0 c.in_err-codes.ensures.refused c.from_residual-in_err-codes.result c.from_residual-in_err-codes.ensures.1
@@ -68,8 +72,8 @@ returns-in_err-input-clause-refused g c =
     let certificate = text_gave files names.certificate c.in_ok-certificate.certificate c.in_ok-certificate.ensures.given in
     let card = text_gave files names.card c.in_ok-card.card c.in_ok-card.ensures.given in
     optional_unread files (uses_of names) as_input (λ file. refl) (GivesNoInput files) (λ file none. none) c.args.names.now.input
-    (four files names (some_use as_schedule names.schedule)) (some_use as_output names.output)
-    (λ file is. input_place files names names.schedule names.input file.now (some_use as_output names.output) (ap (option_map (λ f. f.now)) is))
+    (four files names (some_use as_schedule names.schedule)) (made names)
+    (λ file is. input_place files names names.schedule names.input file.now (made names) (ap (option_map (λ f. f.now)) is))
     (four_used files names script certificate card (image_given g.S.Image.BlockFile.byte_count g.S.Image.BlockFile.blocks c.in_ok-image.image)
     c.in_ok-image.ensures.given (some_use as_schedule names.schedule)
     (schedule_gave files names.schedule c.in_ok-codes.codes.items c.in_ok-codes.ensures.given))

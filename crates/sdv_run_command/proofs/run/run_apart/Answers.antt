@@ -7,14 +7,14 @@ use Rattle.sdv_run_command.proofs.RunLaws.{ended, ended_fails, finish_fails, kep
 use Rattle.sdv_files.proofs.StartLaws.{keeps_same}
 use Rattle.sdv_run_command.proofs.run.run_apart.Goals as goal
 
-pub returns-in_err-run_kept-in-None : goal.returns-in_err-run_kept-in-None
-returns-in_err-run_kept-in-None g c =
-    run_fails (g.S.Store.known c.args.files.now) (names_of c.args.names) _ _ c.in_err-run_kept-in-None.field-0.0 c.from_residual-in_err-run_kept-in-None.result
-    c.from_residual-in_err-run_kept-in-None.ensures.1
+pub returns-in_err-run_registered-in-None : goal.returns-in_err-run_registered-in-None
+returns-in_err-run_registered-in-None g c =
+    run_fails (g.S.Store.known c.args.files.now) (names_of c.args.names) _ _ c.in_err-run_registered-in-None.field-0.0 c.from_residual-in_err-run_registered-in-None.result
+    c.from_residual-in_err-run_registered-in-None.ensures.1
     (kept_fails (g.S.Store.known c.args.files.now) (names_of c.args.names) c.in_ok-given.given
     (image_given g.S.Image.BlockFile.byte_count g.S.Image.BlockFile.blocks c.in_ok-given.image)
-    c.in_ok-given.ensures.given _ _ c.in_err-run_kept-in-None.field-0.0 c.from_residual-in_err-run_kept-in-None.result
-    c.in_err-run_kept-in-None.ensures.fails c.from_residual-in_err-run_kept-in-None.ensures.1)
+    c.in_ok-given.ensures.given _ _ c.in_err-run_registered-in-None.field-0.0 c.from_residual-in_err-run_registered-in-None.result
+    c.in_err-run_registered-in-None.ensures.fails c.from_residual-in_err-run_registered-in-None.ensures.1)
 
 -- without a file for the output
 none_taken : (files : Files) (output : Option (List ℕ)) (bytes : List ℕ) → output ≡ None → Receives files output bytes
@@ -26,8 +26,8 @@ returns-in-None g c =
     let names = names_of c.args.names in
     let image = image_given g.S.Image.BlockFile.byte_count g.S.Image.BlockFile.blocks c.in_ok-given.image in
     let output : names.output ≡ None = ap (option_map (λ file. file.now)) c.in-None.is in
-    let end = c.in_ok-run_kept-in-None.field-0 in
-    let kept = c.in_ok-run_kept-in-None.ensures.kept in
+    let end = c.in_ok-run_registered-in-None.field-0.0 in
+    let kept = c.in_ok-run_registered-in-None.ensures.kept in
     run_ends files names _ _ c.end_of.result
     (ended files names c.in_ok-given.given image c.in_ok-given.ensures.given _ _ _ _
     (λ bytes appends. none_taken files _ bytes output) end c.end_of.result c.end_of.ensures kept)

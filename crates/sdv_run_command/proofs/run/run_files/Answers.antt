@@ -7,5 +7,5 @@ returns-in-Some g c = inl (c.in-Some.ensures.taken, keeps_same _)
 
 pub returns : goal.returns
 returns g c =
-    let none : c.taken_output.result ≡ None = search rules in
-    inr (c.taken_output.ensures.apart none, c.run_apart.ensures)
+    let none : c.taken_file.result ≡ None = search rules in
+    inr ((c.taken_file.ensures.apart none, c.taken_file.ensures.alone none), c.run_apart.ensures)
