@@ -53,10 +53,10 @@ _sdv() {
     case ${words[1]}:$place in
     run:*)
         case $before in
-        --in | --out) _sdv_files "$word" '*' && return ;;
+        --in | --out | --registers) _sdv_files "$word" '*' && return ;;
         esac
         case $word:$place in
-        -*) _sdv_words "$word" "--in --out" ;;
+        -*) _sdv_words "$word" "--in --out --registers" ;;
         *:0) _sdv_files "$word" '*.sdv' ;;
         *:1) _sdv_files "$word" '*.cert' ;;
         *:2) _sdv_files "$word" '*.card' ;;
@@ -112,7 +112,7 @@ _sdv() {
     decode:*)
         case $before:$word:$place in
         --registers:*) _sdv_files "$word" '*' ;;
-        *:-*:*) _sdv_words "$word" "--registers --json" ;;
+        *:-*:*) _sdv_words "$word" "--registers --json --svg" ;;
         *:0) _sdv_files "$word" '*.sdv' ;;
         *:1) _sdv_files "$word" '*.trace' ;;
         esac ;;

@@ -103,10 +103,170 @@ A line that is not of the script, or no line of a trace; what stands before it i
   [2]
   $ sdv decode $up up.trace > /dev/full
   [2]
+
+A picture of a trace, in SVG. Here is a whole one.
+
+  $ printf 'card sd\nsend 0 { else { } }\nsend 8 { else { } }\nfault stop\n' > small.sdv
+  $ printf 'CMD0 00000000 -\nCMD8 000001aa timeout\nfault stop\n' | sdv decode small.sdv - --svg
+  <svg xmlns="http://www.w3.org/2000/svg" version="1.1" width="297mm" height="39mm" viewBox="0 0 297 39" font-family="monospace">
+  <rect width="297" height="39" fill="white"/>
+  <path d="M40 8V39M110 8V39" stroke="gray" stroke-width="0.3"/>
+  <rect x="30" y="2" width="20" height="6" fill="white" stroke="black" stroke-width="0.2"/><text x="40" y="6" text-anchor="middle" font-size="2.8">host</text>
+  <rect x="100" y="2" width="20" height="6" fill="white" stroke="black" stroke-width="0.2"/><text x="110" y="6" text-anchor="middle" font-size="2.8">card</text>
+  <g transform="translate(0 10)">
+  <text x="4" y="3.4" font-size="2.4">script line 2</text><text x="4" y="7" font-size="2" fill="gray">trace line 1</text>
+  <path d="M40 3.4H108" stroke="black" stroke-width="0.4"/><path d="M110 3.4l-3 -1.2v2.4z"/>
+  <text x="75" y="2.4" text-anchor="middle" font-size="2.8">CMD0 00000000</text>
+  <text x="124" y="5.6" font-size="2.8">no answer is due</text>
+  </g>
+  <g transform="translate(0 20)">
+  <text x="4" y="3.4" font-size="2.4">script line 3</text><text x="4" y="7" font-size="2" fill="gray">trace line 2</text>
+  <path d="M40 3.4H108" stroke="black" stroke-width="0.4"/><path d="M110 3.4l-3 -1.2v2.4z"/>
+  <text x="75" y="2.4" text-anchor="middle" font-size="2.8">CMD8 000001aa</text>
+  <path d="M110 7.6H77" stroke="black" stroke-width="0.4" stroke-dasharray="2 1.2"/><path d="M73.8 6.4l2.4 2.4m0 -2.4l-2.4 2.4" stroke="firebrick" stroke-width="0.5"/>
+  <text x="93" y="6.6" text-anchor="middle" font-size="2.8">timeout</text>
+  <text x="124" y="8.4" font-size="2.8">no answer: the card may be in idle</text>
+  </g>
+  <g transform="translate(0 30)">
+  <text x="4" y="3.4" font-size="2.4">script line 4</text><text x="4" y="7" font-size="2" fill="gray">trace line 3</text>
+  <rect x="32" y="1.6" width="86" height="6" fill="mistyrose" stroke="firebrick" stroke-width="0.4"/>
+  <text x="75" y="5.6" text-anchor="middle" font-size="2.8">fault stop</text>
+  <text x="124" y="5.6" font-size="2.8">the run ends</text>
+  </g>
+  </svg>
+
+Each line of a trace has a row: commands and answers, registers, a wait, and what was lost, cut or late.
+
+  $ sdv decode $up up.trace --svg | grep -A 6 'translate(0 40)'
+  <g transform="translate(0 40)">
+  <text x="4" y="3.4" font-size="2.4">script line 7</text><text x="4" y="7" font-size="2" fill="gray">trace line 4</text>
+  <path d="M40 3.4H108" stroke="black" stroke-width="0.4"/><path d="M110 3.4l-3 -1.2v2.4z"/>
+  <text x="75" y="2.4" text-anchor="middle" font-size="2.8">ACMD41 40ff8000</text>
+  <path d="M110 7.6H42" stroke="black" stroke-width="0.4" stroke-dasharray="2 1.2"/><path d="M40 7.6l3 -1.2v2.4z"/>
+  <text x="75" y="6.6" text-anchor="middle" font-size="2.8">R3 c0ff8000</text>
+  <text x="124" y="8.4" font-size="2.8">ready, block addresses</text>
+  $ sdv decode $EXAMPLES/sd_read_retry.sdv read.trace --svg | grep -A 6 'translate(0 100)'
+  <g transform="translate(0 100)">
+  <text x="4" y="3.4" font-size="2.4">script line 16</text><text x="4" y="7" font-size="2" fill="gray">trace line 10</text>
+  <path d="M40 3.4H108" stroke="black" stroke-width="0.4"/><path d="M110 3.4l-3 -1.2v2.4z"/>
+  <text x="75" y="2.4" text-anchor="middle" font-size="2.8">CMD17 00000000</text>
+  <path d="M110 7.6H77" stroke="black" stroke-width="0.4" stroke-dasharray="2 1.2"/><path d="M73.8 6.4l2.4 2.4m0 -2.4l-2.4 2.4" stroke="firebrick" stroke-width="0.5"/>
+  <text x="93" y="6.6" text-anchor="middle" font-size="2.8">timeout</text>
+  <text x="124" y="8.4" font-size="2.8">no answer: the card may be in tran or data</text>
+  $ sdv decode $device device.trace --svg | grep -A 5 'translate(0 90)'
+  <g transform="translate(0 90)">
+  <text x="4" y="3.4" font-size="2.4">script line 12</text><text x="4" y="7" font-size="2" fill="gray">trace line 9</text>
+  <path d="M110 6H45" stroke="steelblue" stroke-width="1.6"/><path d="M40 6l6 -2.4v4.8z" fill="steelblue"/>
+  <text x="75" y="2.8" text-anchor="middle" font-size="2.8">REG 512 ok</text>
+  <text x="124" y="5.6" font-size="2.8">EXT_CSD</text>
+  </g>
+  $ printf 'CMD0 00000000 -\nCMD13 00000000 R1 ffffffff\nIN 0 cut\nWAIT late\nfault stop\n' | sdv decode odd.sdv - --svg | tail -n 26
+  <text x="4" y="3.4" font-size="2.4">script line 3</text><text x="4" y="7" font-size="2" fill="gray">trace line 2</text>
+  <path d="M40 3.4H108" stroke="black" stroke-width="0.4"/><path d="M110 3.4l-3 -1.2v2.4z"/>
+  <text x="75" y="2.4" text-anchor="middle" font-size="2.8">CMD13 00000000</text>
+  <path d="M110 7.6H42" stroke="black" stroke-width="0.4" stroke-dasharray="2 1.2"/><path d="M40 7.6l3 -1.2v2.4z"/>
+  <text x="75" y="6.6" text-anchor="middle" font-size="2.8">R1 ffffffff</text>
+  <text x="124" y="8.4" font-size="0.7">reserved state, OUT_OF_RANGE, ADDRESS_ERROR, BLOCK_LEN_ERROR, ERASE_SEQ_ERROR, ERASE_PARAM, WP_VIOLATION, CARD_IS_LOCKED, LOCK_UNLOCK_FAILED, COM_CRC_ERROR, ILLEGAL_COMMAND, CARD_ECC_FAILED, CC_ERROR, ERROR, CSD_OVERWRITE, WP_ERASE_SKIP, ERASE_RESET, ready, SWITCH_ERROR, APP_CMD</text>
+  </g>
+  <g transform="translate(0 30)">
+  <text x="4" y="3.4" font-size="2.4">script line 4</text><text x="4" y="7" font-size="2" fill="gray">trace line 3</text>
+  <path d="M110 6H77" stroke="steelblue" stroke-width="1.6"/><path d="M73 4l4 4m0 -4l-4 4" stroke="firebrick" stroke-width="0.5"/>
+  <text x="75" y="2.8" text-anchor="middle" font-size="2.8">IN 0 cut</text>
+  <text x="124" y="5.6" font-size="2.8">blocks from the card, cut: no card answers so</text>
+  </g>
+  <g transform="translate(0 40)">
+  <text x="4" y="3.4" font-size="2.4">script line 5</text><text x="4" y="7" font-size="2" fill="gray">trace line 4</text>
+  <rect x="100" y="1.6" width="20" height="6" fill="mistyrose" stroke="firebrick" stroke-width="0.4"/>
+  <text x="110" y="5.6" text-anchor="middle" font-size="2.8">WAIT late</text>
+  <text x="124" y="5.6" font-size="2.8">still busy: no card answers so</text>
+  </g>
+  <g transform="translate(0 50)">
+  <text x="4" y="3.4" font-size="2.4">script line 6</text><text x="4" y="7" font-size="2" fill="gray">trace line 5</text>
+  <rect x="32" y="1.6" width="86" height="6" fill="mistyrose" stroke="firebrick" stroke-width="0.4"/>
+  <text x="75" y="5.6" text-anchor="middle" font-size="2.8">fault stop</text>
+  <text x="124" y="5.6" font-size="2.8">the run ends</text>
+  </g>
+  </svg>
+
+Pictures are XML, and have a row for each line that the other forms tell, 10 mm each.
+
+  $ cat > drawn.py << 'END'
+  > import sys, xml.etree.ElementTree as tree
+  > picture = tree.parse(sys.stdin).getroot()
+  > rows = picture.findall("{http://www.w3.org/2000/svg}g")
+  > places = [row.get("transform") for row in rows] == [f"translate(0 {number}0)" for number in range(1, len(rows) + 1)]
+  > print(len(rows), picture.get("height"), places)
+  > END
+  $ for name in sd_bring_up sd_four_lines sd_write_poll sd_erase; do
+  >   sdv certify $EXAMPLES/$name.sdv > $name.cert; head -c 512 /dev/zero > block
+  >   sdv run $EXAMPLES/$name.sdv $name.cert $card new:1024 --in block > $name.trace
+  >   sdv decode $EXAMPLES/$name.sdv $name.trace --svg | python3 drawn.py; wc -l < $name.trace
+  > done
+  10 109mm True
+  10
+  14 149mm True
+  14
+  13 139mm True
+  13
+  15 159mm True
+  15
+  $ for name in emmc_bring_up emmc_trim emmc_ext_csd emmc_eight_lines; do
+  >   sdv certify $EXAMPLES/$name.sdv > $name.cert
+  >   sdv run $EXAMPLES/$name.sdv $name.cert $EXAMPLES/emmc_block.card new:2048 > $name.trace
+  >   sdv decode $EXAMPLES/$name.sdv $name.trace --svg | python3 drawn.py; wc -l < $name.trace
+  > done
+  10 109mm True
+  10
+  15 159mm True
+  15
+  10 109mm True
+  10
+  15 159mm True
+  15
+  $ printf '' | sdv decode $up - --svg | python3 drawn.py
+  0 09mm True
+  $ printf 'CMD0 00000000 -\nCMD13 00000000 R1 ffffffff\nIN 0 cut\nWAIT late\nfault stop\n' | sdv decode odd.sdv - --svg | python3 drawn.py
+  5 59mm True
+
+A picture of a trace that is off is whole, with the lines that are told. A line that is not of the script is a box.
+
+  $ printf 'CMD0 00000000 -\nCMD8 000001ab R7 000001aa\n' | sdv decode $up - --svg | tail -n 7
+  trace fault Script line 2
+  <g transform="translate(0 20)">
+  <text x="4" y="3.4" font-size="2.4">script line 6</text><text x="4" y="7" font-size="2" fill="gray">trace line 2</text>
+  <rect x="32" y="1.6" width="86" height="6" fill="mistyrose" stroke="firebrick" stroke-width="0.4"/>
+  <text x="75" y="5.6" text-anchor="middle" font-size="2.8">CMD8 000001ab R7 000001aa</text>
+  <text x="124" y="5.6" font-size="2.8">the script does not come here; it stands at CMD8</text>
+  </g>
+  </svg>
+  $ printf 'CMD0 00000000 -\nCMD8\n' | sdv decode $up - --svg | tail -n 6
+  trace fault Index line 2
+  <text x="4" y="3.4" font-size="2.4">script line 5</text><text x="4" y="7" font-size="2" fill="gray">trace line 1</text>
+  <path d="M40 3.4H108" stroke="black" stroke-width="0.4"/><path d="M110 3.4l-3 -1.2v2.4z"/>
+  <text x="75" y="2.4" text-anchor="middle" font-size="2.8">CMD0 00000000</text>
+  <text x="124" y="5.6" font-size="2.8">no answer is due</text>
+  </g>
+  </svg>
+  $ printf 'CMD0 00000000 -\nCMD8\n' | sdv decode $up - --svg | python3 drawn.py
+  trace fault Index line 2
+  1 19mm True
+  $ printf 'card sd\nsend 0\n' | sdv decode - up.trace --svg
+  script fault Argument line 3
+  [1]
+  $ sdv decode $up up.trace --svg > /dev/full
+  [2]
+
+A trace is told in one form, which is looked at before the files.
+
+  $ sdv decode none none --json --svg
+  usage: a word does not fit: sdv decode SCRIPT TRACE [--registers FILE] [--json] [--svg]
+  [2]
+
   $ sdv decode --help
-  sdv decode SCRIPT TRACE [--registers FILE] [--json]
+  sdv decode SCRIPT TRACE [--registers FILE] [--json] [--svg]
       prints which statement of the script each line of a trace is of, and what it means
       SCRIPT: a file with a script
       TRACE: a file with a trace, as sdv run prints it
       --registers FILE: the bytes of the registers that came, one after another
       --json: prints an object of JSON a line
+      --svg: prints a sequence diagram of host and card, as a picture in SVG

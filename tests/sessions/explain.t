@@ -10,6 +10,10 @@ Explanations of scripts in files.
   line 1, point 0: CMD7, if the card is
       idle: byte addresses, block length not 512
   why: CMD7 is not legal in idle state
+  a run that breaks the script, beside a simulated card:
+      mishap   none
+      wrong    line 1: CMD7 comes to a card in idle state, where it is not legal
+      `sdv refute` prints its card, its schedule and its trace
   a run that gets there:
       before the first command    idle: byte addresses, block length not 512
   
@@ -143,3 +147,48 @@ The reason alone.
       data, a read is due, the card on 4 data lines and the host on 1 data line: byte addresses, block length 512
   why: the card uses 4 data lines, and the host 1 data line
   $ sdv explain --why $up
+
+A run that breaks the script, behind the reason and before the way. Such a run may stop at another point.
+
+  $ sdv explain --why $EXAMPLES/hosts/linux_write_many.sdv 2> said | sed -n '4,9p'
+  why: CMD12 is not legal in prg state
+  a run that breaks the script, beside a simulated card:
+      mishap   line 31: the answer to CMD12 is lost
+      mishap   line 32: the card is not ready at CMD13
+      wrong    line 32: CMD12 comes to a card in prg state, where it is not legal
+      `sdv refute` prints its card, its schedule and its trace
+  $ sdv explain --why $EXAMPLES/hosts/edk2.sdv 2> said | sed -n '4,10p'
+  why: this is an application command, and the card may not take the next command as one
+  a run that breaks the script, beside a simulated card:
+      mishap   none
+      wrong    line 31: done comes to a card in prg state
+      `sdv refute` prints its card, its schedule and its trace
+      it stops at point 46, and the refusal names point 6
+  a run that gets there:
+  $ sdv refute $EXAMPLES/hosts/edk2.sdv | sed -n '/^mishaps/,/^card/p'
+  mishaps
+  none
+  wrong
+  line 31: done comes to a card in prg state
+  card over new:1024
+
+Where none is found, nothing is added; nor where a run may be long, or where the script is accepted.
+
+  $ sdv explain --why $EXAMPLES/hosts/linux_write.sdv 2> said | sed -n '4,5p'
+  why: CMD12 is not legal in prg state
+  a run that gets there, if its number tests come out this way:
+  $ printf 'card sd\nsend 0 { else { } } loop 60 { loop 65535 { loop 65535 { send 0 { else { } } } else { } } else { } } else { }\ndone' > long.sdv
+  $ sdv explain --why long.sdv
+  refused EndState point 5
+  line 3, point 5: done, if the card is
+      idle: byte addresses, block length not 512
+  why: at done the card has to be in tran state
+  a run that gets there:
+      before the first command    idle: byte addresses, block length not 512
+      line 2   CMD0                    -                                    then idle: byte addresses, block length not 512
+      line 2   loop 60, after its last turn
+  refused EndState point 5
+  [1]
+  $ sdv explain $up | grep -c breaks
+  0
+  [1]

@@ -119,18 +119,39 @@ Each refused script of the examples, but linux_write, of which the search finds 
   no run found (1800 runs of at most 4 mishaps)
   [1]
 
-Scripts that have a certificate: none is found.
+Scripts that have a certificate: there is none.
 
   $ for script in $EXAMPLES/smallest.sdv $EXAMPLES/sd_bring_up.sdv $EXAMPLES/emmc_bring_up.sdv; do sdv refute $script; done
-  no run found (4 runs of at most 0 mishaps)
+  no run found (no path of the state tables breaks the script)
+  no run found (no path of the state tables breaks the script)
+  no run found (no path of the state tables breaks the script)
+  [1]
+
+A script that is refused out of caution: an answer that is not taken by the case `clean` is not taken by `clean & ready` either.
+
+  $ sed 's/^done$/send 13 { clean { } clean \& ready { send 2 { else { } } } else { } }\ndone/' $EXAMPLES/sd_bring_up.sdv > caution.sdv
+  $ sdv certify caution.sdv; sdv refute caution.sdv
+  refused Illegal point 23 shape 0000000000002804
+  no run found (no path of the state tables breaks the script)
+  [1]
+
+The same where the second case can be taken.
+
+  $ sed 's/clean & ready/ready/' caution.sdv > ready.sdv; sdv refute ready.sdv | sed -n '/^mishaps/,/^wrong/p'
+  mishaps
+  line 14: the answer to CMD13 shows an error
+  wrong
+
+What breaks this script is an answer of CMD55 without an error and without the application flag, which no simulated card gives.
+
+  $ sed 's/ app { send 41/ clean { send 41/' $EXAMPLES/sd_bring_up.sdv > unasked.sdv; sdv refute unasked.sdv
   no run found (352 runs of at most 2 mishaps)
-  no run found (176 runs of at most 1 mishaps)
   [1]
 
 Nothing is written where no run was found, and nothing is printed where a file cannot be written.
 
   $ sdv refute $EXAMPLES/smallest.sdv --card none --schedule neither; [ -e none ] || [ -e neither ] || echo not there
-  no run found (4 runs of at most 0 mishaps)
+  no run found (no path of the state tables breaks the script)
   not there
   $ sdv refute early.sdv --card /nofolder/card
   cannot use /nofolder/card
@@ -189,7 +210,7 @@ The pages of the three commands.
       SCRIPT: a file with a script
       CARD: a file with the description of a card
       IMAGE: a file with the blocks of the card, or new: and a number of blocks of zeros
-      SCHEDULE: a file with a digit from 0 to 7 for each event: what the card does there
+      SCHEDULE: a file with a digit from 0 to 7 for each event: what the card does there; for try also with mishaps by name
       --in FILE: the blocks that the script gives, a whole number of them
       --out FILE: the file that takes the blocks that the script receives
   sdv refute SCRIPT [--card FILE] [--schedule FILE]

@@ -136,3 +136,97 @@ An output that is one of the other files, by its name or by links, loses nothing
   0
   $ sdv run up.sdv up.cert up.card new:1024 --in /dev/null --out /dev/null | tail -n 1
   done
+
+The registers that came, as `sdv decode` takes them: of an e.MMC device its EXT_CSD, of an SD card SCR and SD status.
+
+  $ device=$EXAMPLES/emmc_bring_up.sdv; sed 's/^done$/if cap >= 4096 { done } else { fault small }/' $device > large.sdv; sdv certify large.sdv > large.cert
+  $ sdv run large.sdv large.cert $EXAMPLES/emmc_block.card new:2048 --registers r > large.trace
+  [1]
+  $ wc -c < r; od -An -v -tx1 -j 212 -N 4 r; sdv decode large.sdv large.trace | tail -n 1
+  512
+   00 08 00 00
+  trace fault Script line 10
+  line 10, script line 13: the end: the script does not come here; it stands at done
+  $ sdv decode large.sdv large.trace --registers r | tail -n 1
+  line 10, script line 13: fault small: the run ends
+  $ { sed '/^done$/d' $up; for index in 51 13; do
+  >     echo "send 55 { app & state=tran { send $index { clean { recv reg { ok { } else { fault lost } } } else { fault no } } } else { fault no } }"
+  > done; echo done; } > both.sdv; sdv certify both.sdv > both.cert
+  $ sdv run both.sdv both.cert $card new:1024 --registers r | tail -n 7; od -An -v -tx1 r
+  CMD55 12340000 R1 00000920
+  CMD51 00000000 R1 00000920
+  REG 8 ok
+  CMD55 12340000 R1 00000920
+  CMD13 12340000 R1 00000920
+  REG 64 ok
+  done
+   02 05 00 00 00 00 00 00 00 00 00 00 00 00 00 00
+   00 00 00 00 00 00 00 00 00 00 00 00 00 00 00 00
+   00 00 00 00 00 00 00 00 00 00 00 00 00 00 00 00
+   00 00 00 00 00 00 00 00 00 00 00 00 00 00 00 00
+   00 00 00 00 00 00 00 00
+  $ sdv run both.sdv both.cert $card new:1024 --registers r > both.trace; sdv decode both.sdv both.trace --registers r | tail -n 7
+  line 10, script line 14: CMD55 12340000 R1 00000920: tran, ready, APP_CMD
+  line 11, script line 14: ACMD51 00000000 R1 00000920: tran, ready, APP_CMD
+  line 12, script line 14: REG 8 ok: SCR
+  line 13, script line 15: CMD55 12340000 R1 00000920: tran, ready, APP_CMD
+  line 14, script line 15: ACMD13 12340000 R1 00000920: tran, ready, APP_CMD
+  line 15, script line 15: REG 64 ok: SD status
+  line 16, script line 16: done: the run ends
+
+Where the second is cut, it is not there; of a script that reads none the file is empty.
+
+  $ printf '000000000000006' > schedule; sdv run both.sdv both.cert $card new:1024 schedule --registers r | tail -n 3; wc -c < r
+  CMD13 12340000 R1 00000920
+  REG 64 cut
+  fault lost
+  8
+  $ sdv run $up $cert $card new:1024 --registers r | tail -n 1; wc -c < r
+  done
+  0
+
+A file of the registers that is one of the other files, by its name or by links, loses nothing.
+
+  $ for file in up.sdv ./up.cert up.card up.img up.schedule up.in link hard; do
+  >     sdv run up.sdv up.cert up.card up.img up.schedule --in up.in --registers $file; echo $?
+  > done
+  cannot use up.sdv
+  2
+  cannot use ./up.cert
+  2
+  cannot use up.card
+  2
+  cannot use up.img
+  2
+  cannot use up.schedule
+  2
+  cannot use up.in
+  2
+  cannot use link
+  2
+  cannot use hard
+  2
+  $ cmp up.sdv $up && cmp up.cert $cert && cmp up.card $card && wc -c < up.img && cat up.schedule && wc -c < up.in
+  524288
+  000
+  512
+  $ sdv run up.sdv up.cert up.card up.img --out o --registers o; sdv run missing.sdv up.cert up.card up.img --registers up.cert
+  cannot use o
+  cannot use up.cert
+  [2]
+
+One that cannot be used, and one that takes nothing: then the run took place.
+
+  $ sdv run $up $cert $card new:1024 --registers none/r
+  cannot use none/r
+  [2]
+  $ sdv run $up $cert $card new:1024 --registers -
+  cannot use -
+  [2]
+  $ sdv run both.sdv both.cert $card new:1024 --registers /dev/full | tail -n 2
+  cannot use /dev/full
+  REG 64 ok
+  done
+  $ sdv run both.sdv both.cert $card new:1024 --registers /dev/full > both.full; echo $?; cmp both.full both.trace
+  cannot use /dev/full
+  2

@@ -54,9 +54,9 @@ Which word is wrong.
   usage: frames is no command; sdv --help lists them
   usage: ARG is missing: sdv frame INDEX ARG
   usage: 0 is one word too many: sdv frame INDEX ARG
-  usage: IMAGE is missing: sdv run SCRIPT CERT CARD IMAGE [SCHEDULE] [--in FILE] [--out FILE]
-  usage: --out needs FILE: sdv run SCRIPT CERT CARD IMAGE [SCHEDULE] [--in FILE] [--out FILE]
-  usage: --ot is no option: sdv run SCRIPT CERT CARD IMAGE [SCHEDULE] [--in FILE] [--out FILE]
+  usage: IMAGE is missing: sdv run SCRIPT CERT CARD IMAGE [SCHEDULE] [--in FILE] [--out FILE] [--registers FILE]
+  usage: --out needs FILE: sdv run SCRIPT CERT CARD IMAGE [SCHEDULE] [--in FILE] [--out FILE] [--registers FILE]
+  usage: --ot is no option: sdv run SCRIPT CERT CARD IMAGE [SCHEDULE] [--in FILE] [--out FILE] [--registers FILE]
   usage: --no-fault is no option: sdv graph SCRIPT [--no-faults]
   usage: mmc is no KIND: sdv batch KIND REQUESTS
   usage: a word does not fit: sdv frame INDEX ARG
@@ -65,15 +65,16 @@ Which word is wrong.
 The page of a command.
 
   $ sdv run --help
-  sdv run SCRIPT CERT CARD IMAGE [SCHEDULE] [--in FILE] [--out FILE]
+  sdv run SCRIPT CERT CARD IMAGE [SCHEDULE] [--in FILE] [--out FILE] [--registers FILE]
       runs the script beside a simulated card
       SCRIPT: a file with a script
       CERT: a file with a certificate
       CARD: a file with the description of a card
       IMAGE: a file with the blocks of the card, or new: and a number of blocks of zeros
-      SCHEDULE: a file with a digit from 0 to 7 for each event: what the card does there
+      SCHEDULE: a file with a digit from 0 to 7 for each event: what the card does there; for try also with mishaps by name
       --in FILE: the blocks that the script gives, a whole number of them
       --out FILE: the file that takes the blocks that the script receives
+      --registers FILE: the bytes of the registers that came, one after another
   $ sdv explain -h
   sdv explain SCRIPT [CERT] [--why]
       prints what is known at each statement, and why the script or the certificate is refused

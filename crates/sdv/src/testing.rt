@@ -15,7 +15,7 @@ p 1 b 0 m 1 s 0000000000002000 0000000000002800 0000000000002c00
 
 /// What it says of words that are none of its lines.
 pub const USAGE: &str =
-    "usage: sdv frame INDEX ARG | sdv certify SCRIPT | sdv check SCRIPT CERT | sdv run SCRIPT CERT CARD IMAGE [SCHEDULE] [--in FILE] [--out FILE] | sdv batch KIND REQUESTS | sdv explain SCRIPT [CERT] [--why] | sdv graph SCRIPT [--no-faults] | sdv print SCRIPT | sdv emit SCRIPT CERT NAME [--binary FILE] | sdv audit KIND TRACE [--json] [--annotate] | sdv describe CARD [SCHEDULE] | sdv drive SCRIPT CERT [--in FILE] [--out FILE] [--trace FILE] | sdv card CARD IMAGE [SCHEDULE] | sdv review SCRIPT [--json] | sdv try SCRIPT CARD IMAGE [SCHEDULE] [--in FILE] [--out FILE] | sdv refute SCRIPT [--card FILE] [--schedule FILE] | sdv sweep SCRIPT CARD IMAGE [--in FILE] | sdv decode SCRIPT TRACE [--registers FILE] [--json]\n";
+    "usage: sdv frame INDEX ARG | sdv certify SCRIPT | sdv check SCRIPT CERT | sdv run SCRIPT CERT CARD IMAGE [SCHEDULE] [--in FILE] [--out FILE] [--registers FILE] | sdv batch KIND REQUESTS | sdv explain SCRIPT [CERT] [--why] | sdv graph SCRIPT [--no-faults] | sdv print SCRIPT | sdv emit SCRIPT CERT NAME [--binary FILE] | sdv audit KIND TRACE [--json] [--annotate] | sdv describe CARD [SCHEDULE] | sdv drive SCRIPT CERT [--in FILE] [--out FILE] [--trace FILE] | sdv card CARD IMAGE [SCHEDULE] | sdv review SCRIPT [--json] | sdv try SCRIPT CARD IMAGE [SCHEDULE] [--in FILE] [--out FILE] | sdv refute SCRIPT [--card FILE] [--schedule FILE] | sdv sweep SCRIPT CARD IMAGE [--in FILE] | sdv decode SCRIPT TRACE [--registers FILE] [--json] [--svg]\n";
 
 /// A writer that takes nothing.
 #[derive(Drop)]

@@ -140,6 +140,7 @@ run_given rows script certificate card image =
       schedule = first_of (codes "SCHEDULE") rows;
       input = first_of (codes "in") rows;
       output = first_of (codes "out") rows;
+      registers = first_of (codes "registers") rows;
     })
 
     go : (a b c d : Option Text) → is_some a ≡ true → is_some b ≡ true → is_some c ≡ true → is_some d ≡ true
@@ -256,6 +257,7 @@ decode_given rows script trace =
       trace = trace;
       registers = first_of (codes "registers") rows;
       json = is_set (codes "json") rows;
+      svg = is_set (codes "svg") rows;
     })) rows script trace
 
 frame_means : Means (shape 0)

@@ -37,6 +37,7 @@ of_run =
     ∷ optional (codes "SCHEDULE")
     ∷ with_value (codes "in") (codes "FILE")
     ∷ with_value (codes "out") (codes "FILE")
+    ∷ with_value (codes "registers") (codes "FILE")
     ∷ []
 
 abbrev pub of_explain : List Word
@@ -94,6 +95,7 @@ of_decode =
     required (codes "SCRIPT") ∷ required (codes "TRACE")
     ∷ with_value (codes "registers") (codes "FILE")
     ∷ flag (codes "json")
+    ∷ flag (codes "svg")
     ∷ []
 
 -- the commands, in the order of the usage line

@@ -25,6 +25,7 @@ pub record RunNames : Type 0 where
   pub schedule : Option Text
   pub input : Option Text
   pub output : Option Text
+  pub registers : Option Text
 
 -- the files of a table, by their names, and the name of its array
 pub record EmitNames : Type 0 where
@@ -93,6 +94,7 @@ pub record DecodeNames : Type 0 where
   pub trace : Text
   pub registers : Option Text
   pub json : Bool
+  pub svg : Bool
 
 -- a command of the program, with the texts of its words
 pub data Request : Type 0 where
@@ -144,6 +146,7 @@ by_run_words rows =
       schedule = first_of (codes "SCHEDULE") rows;
       input = first_of (codes "in") rows;
       output = first_of (codes "out") rows;
+      registers = first_of (codes "registers") rows;
     }))))))
 
 abbrev pub by_emit_words : List Row → Option Request
@@ -236,6 +239,7 @@ by_decode_words rows =
       trace = trace;
       registers = first_of (codes "registers") rows;
       json = is_set (codes "json") rows;
+      svg = is_set (codes "svg") rows;
     }))))
 
 -- the request in a command's name and the rows of its words
@@ -272,6 +276,7 @@ names_of files = record {
   schedule = option_map (λ file. file.now) files.schedule;
   input = option_map (λ file. file.now) files.input;
   output = option_map (λ file. file.now) files.output;
+  registers = option_map (λ file. file.now) files.registers;
 }
 
 abbrev pub emit_names_of : EmitWords → EmitNames
@@ -343,6 +348,7 @@ decode_names_of words = record {
   trace = words.trace.now;
   registers = option_map (λ file. file.now) words.registers;
   json = words.json;
+  svg = words.svg;
 }
 
 abbrev pub seen : CodeRequest → Request

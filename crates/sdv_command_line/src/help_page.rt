@@ -152,7 +152,8 @@ fn meaning(name: &str) -> &'static str
         "CERT" => "a file with a certificate",
         "CARD" => "a file with the description of a card",
         "IMAGE" => "a file with the blocks of the card, or new: and a number of blocks of zeros",
-        "SCHEDULE" => "a file with a digit from 0 to 7 for each event: what the card does there",
+        "SCHEDULE" =>
+            "a file with a digit from 0 to 7 for each event: what the card does there; for try also with mishaps by name",
         "in" => "the blocks that the script gives, a whole number of them",
         "out" => "the file that takes the blocks that the script receives",
         "card" => "the file that takes the description of the card",
@@ -164,6 +165,7 @@ fn meaning(name: &str) -> &'static str
         "TRACE" => "a file with a trace, as sdv run prints it",
         "registers" => "the bytes of the registers that came, one after another",
         "json" => "prints an object of JSON a line",
+        "svg" => "prints a sequence diagram of host and card, as a picture in SVG",
         "annotate" => "prints each line of the trace too",
         "why" => "prints only why the script is refused",
         "no-faults" => "leaves out the statements that end in a fault",

@@ -126,6 +126,8 @@ pub struct RunFiles<'a> {
     pub input: Option<&'a str>,
     /// Where the blocks go that the script receives. Without it they are dropped.
     pub output: Option<&'a str>,
+    /// Where the bytes of the registers go that the script receives. Without it they are dropped.
+    pub registers: Option<&'a str>,
 }
 
 /// The names of the files of a run without a certificate.
@@ -207,6 +209,8 @@ pub struct DecodeWords<'a> {
     pub registers: Option<&'a str>,
     /// An object of JSON is printed for each line.
     pub json: bool,
+    /// A picture is printed. It is not asked for together with JSON.
+    pub svg: bool,
 }
 
 /// Why words are no request.
@@ -344,6 +348,7 @@ fn run_in<'a>(matches: &ArgMatches<'a>) -> Option<Request<'a>>
         schedule: word_in(matches, "SCHEDULE"),
         input: word_in(matches, "in"),
         output: word_in(matches, "out"),
+        registers: word_in(matches, "registers"),
     }))
 }
 
@@ -423,6 +428,7 @@ fn decode_in<'a>(matches: &ArgMatches<'a>) -> Option<Request<'a>>
         trace,
         registers: word_in(matches, "registers"),
         json: is_set(matches, "json"),
+        svg: is_set(matches, "svg"),
     }))
 }
 

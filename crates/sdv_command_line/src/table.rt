@@ -58,6 +58,10 @@ pub static COMMANDS: [CommandEntry; 18] = [
                 name: "out",
                 value: "FILE",
             },
+            Word::WithValue {
+                name: "registers",
+                value: "FILE",
+            },
         ],
         help: "runs the script beside a simulated card",
     },
@@ -203,6 +207,7 @@ pub static COMMANDS: [CommandEntry; 18] = [
                 value: "FILE",
             },
             Word::Flag("json"),
+            Word::Flag("svg"),
         ],
         help: "prints which statement of the script each line of a trace is of, and what it means",
     },

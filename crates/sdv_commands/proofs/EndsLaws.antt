@@ -28,7 +28,7 @@ use Rattle.sdv_trace.specs.declared.end.End.TheVariants.{Done}
 use Rattle.sdv_commands.specs.Batch.{HasNoBatch, IsBatchText}
 use Rattle.sdv_commands.specs.Certify.{HasNone, IsCertificate}
 use Rattle.sdv_commands.specs.Check.{IsBoundLine}
-use Rattle.sdv_commands.specs.Decode.{DecodesScript, DecodesTexts, DecodesTrace}
+use Rattle.sdv_commands.specs.Decode.{DecodeEnds, DecodesScript, DecodesTexts, DecodesTrace, form_of}
 use Rattle.sdv_commands.specs.Describe.{DescribesText, HasNoPage, IsPageOf}
 use Rattle.sdv_commands.specs.Given.{OverGiven}
 use Rattle.sdv_commands.specs.Explain.{ExplainsText, HasNoAnswer, IsJudgement}
@@ -127,6 +127,13 @@ module _ (files : Files) (s s' : Streams) (before after : Option (List ℕ)) whe
   given-memory (Some file) Ends kept (inl none) = none.1
   given-memory (Some file) Ends kept (inr given) = kept (Some given.0) given.2
 
+  decode-memory : (names : DecodeNames) → DecodeEnds files names (Some Memory) before after → Keeps before after
+  decode-memory names (inl both) = both.2
+  decode-memory names (inr one) =
+      over-kept before after files names.script (λ (script : Text). DecodesScript files names script) (Some Memory)
+      (λ script. over-kept before after files names.trace (λ (trace : Text). DecodesTrace files names script trace) (Some Memory)
+      (λ trace. given-memory names.registers (DecodesTexts (form_of names) script trace) (λ given kept. kept))) one.1
+
   -- nothing is printed for want of memory, but by an audit
   memory-kept : (request : Request) → IsWhole request → EndsRequest files s s' request (Some Memory) before after → Keeps before after
   memory-kept (frame index argument) whole ends = ends
@@ -161,10 +168,7 @@ module _ (files : Files) (s s' : Streams) (before after : Option (List ℕ)) whe
   memory-kept (sweep names) whole ends =
       over-kept before after files names.script (λ (script : Text). OverText files names.card (ImageEnds files names script)) (Some Memory)
       (λ script. over-kept before after files names.card (ImageEnds files names script) (Some Memory) (image-memory names script)) ends
-  memory-kept (decode names) whole ends =
-      over-kept before after files names.script (λ (script : Text). DecodesScript files names script) (Some Memory)
-      (λ script. over-kept before after files names.trace (λ (trace : Text). DecodesTrace files names script trace) (Some Memory)
-      (λ trace. given-memory names.registers (DecodesTexts names.json script trace) (λ given kept. kept))) ends
+  memory-kept (decode names) whole ends = decode-memory names ends
 
   printed-fault : (page : Text) (fault : Fault) → PrintsText page (Some fault) before after → fault ≡ Output
   printed-fault page Output ends = refl

@@ -1,6 +1,7 @@
--- `decode SCRIPT TRACE [--registers FILE] [--json]`: the lines of the trace of a file are printed, each with the line of the
--- script that it is of, and what it means.
-use Rattle.std.specs.Prelude.{◌≡◌, ℕ, Bool, List, Option, option_map}
+-- `decode SCRIPT TRACE [--registers FILE] [--json] [--svg]`: the lines of the trace of a file are printed, each with the
+-- line of the script that it is of, and what it means; in words, as JSON, or as a picture.
+use Rattle.std.specs.Prelude.{◌≡◌, ◌⊎◌, ◌&&◌, ℕ, Bool, true, false, List, Option, Some, option_map, if◌then◌else◌}
+use Rattle.std.specs.Io.KnownBytes.{Keeps}
 use Rattle.clap.specs.Words.{Text}
 use Rattle.sdv_audit_report.specs.declared.fault.TraceFault.TheVariants as traces
 use Rattle.sdv_decode.specs.DecodedText.{DecodesText, IsUndecoded}
@@ -8,10 +9,12 @@ use Rattle.sdv_decode.specs.declared.decoding.Decoding.{Decoding}
 use Rattle.sdv_decode.specs.declared.fault.DecodeFault.{DecodeFault}
 use Rattle.sdv_decode.specs.declared.fault.DecodeFault.TheVariants as decodes
 use Rattle.sdv_decode.specs.declared.fault.TraceOff.{TraceOff}
+use Rattle.sdv_decode.specs.declared.form.Form.{Form}
+use Rattle.sdv_decode.specs.declared.form.Form.TheVariants as forms
 use Rattle.sdv_decode.specs.declared.fault.TraceOff.TheVariants as offs
 use Rattle.sdv_command_line.specs.Requests.{DecodeNames}
 use Rattle.sdv_faults.specs.declared.fault.Fault.{Fault}
-use Rattle.sdv_faults.specs.declared.fault.Fault.TheVariants.{Script, Trace, Stray, Memory}
+use Rattle.sdv_faults.specs.declared.fault.Fault.TheVariants.{Script, Trace, Stray, Memory, Usage}
 use Rattle.sdv_files.specs.Files.{Files}
 use Rattle.sdv_files.specs.Outcomes.{Ending, OverText, Reports}
 use Rattle.sdv_commands.specs.Given.{OverGiven}
@@ -31,27 +34,39 @@ fault_of_decode decodes.Memory = Memory
 
 -- THE COMMAND
 
+abbrev pub form_of : DecodeNames → Form
+form_of names = if names.svg then forms.Picture else if names.json then forms.Json else forms.Words
+
 -- the text is what is printed of the trace beside the script, which tells where the trace is off, if it is
-abbrev pub IsDecoding : (json : Bool) → (script trace : Text) → (given : Option (List ℕ)) → (told : Option Fault) → (text : Text)
+abbrev pub IsDecoding : (form : Form) → (script trace : Text) → (given : Option (List ℕ)) → (told : Option Fault) → (text : Text)
     → Type 0
-IsDecoding json script trace given told text =
-    (decoding : Decoding) × DecodesText script json given trace decoding × (told ≡ option_map fault_of_off decoding.off)
+IsDecoding form script trace given told text =
+    (decoding : Decoding) × DecodesText script form given trace decoding × (told ≡ option_map fault_of_off decoding.off)
     × (text ≡ decoding.text.items)
 
 -- why there is none
 abbrev pub IsUntold : (script : Text) → Fault → Type 0
 IsUntold script fault = (f : DecodeFault) × (fault ≡ fault_of_decode f) × IsUndecoded script f
 
-abbrev pub DecodesTexts : (json : Bool) → (script trace : Text) → (given : Option (List ℕ)) → Ending
-DecodesTexts json script trace given = Reports (IsDecoding json script trace given) (IsUntold script)
+abbrev pub DecodesTexts : (form : Form) → (script trace : Text) → (given : Option (List ℕ)) → Ending
+DecodesTexts form script trace given = Reports (IsDecoding form script trace given) (IsUntold script)
 
 -- the file of the registers is read only where those of the script and of the trace gave texts
 abbrev pub DecodesTrace : Files → DecodeNames → (script trace : Text) → Ending
 DecodesTrace files names script trace =
-    OverGiven files names.registers (DecodesTexts names.json script trace)
+    OverGiven files names.registers (DecodesTexts (form_of names) script trace)
 
 abbrev pub DecodesScript : Files → DecodeNames → (script : Text) → Ending
 DecodesScript files names script = OverText files names.trace (λ trace. DecodesTrace files names script trace)
 
+abbrev pub DecodesFiles : Files → DecodeNames → Ending
+DecodesFiles files names = OverText files names.script (λ script. DecodesScript files names script)
+
+-- a trace is told in one form
+abbrev pub asks_both : DecodeNames → Bool
+asks_both names = names.json && names.svg
+
 abbrev pub DecodeEnds : Files → DecodeNames → Ending
-DecodeEnds files names = OverText files names.script (λ script. DecodesScript files names script)
+DecodeEnds files names outcome before after =
+    ((asks_both names ≡ true) × (outcome ≡ Some Usage) × Keeps before after)
+    ⊎ ((asks_both names ≡ false) × DecodesFiles files names outcome before after)

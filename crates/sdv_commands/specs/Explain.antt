@@ -1,12 +1,15 @@
 -- `explain SCRIPT [CERT] [--why]`: what is known at each point of the script of a file is printed, and why the script is
--- refused; of a text that is no script, the page of its fault; of a certificate, what the checker says of it.
-use Rattle.std.specs.Prelude.{◌≡◌, ◌⊎◌, Bool, Option, Some, None, if◌then◌else◌, option_map}
+-- refused, with a run that refutes it, if one was found; of a text that is no script, the page of its fault; of a
+-- certificate, what the checker says of it.
+use Rattle.std.specs.Prelude.{◌≡◌, ◌⊎◌, ◌-◌, Bool, ℕ, Option, Some, None, if◌then◌else◌, length, option_map, take}
 use Rattle.clap.specs.Words.{Text}
 use Rattle.sdv_certify.specs.declared.fault.CertifyFault.TheVariants as certifies
 use Rattle.sdv_explain.specs.declared.explaining.Explanation.{Explanation}
 use Rattle.sdv_explain.specs.declared.explaining.Refusal.{Refusal}
 use Rattle.sdv_explain.specs.declared.fault.ExplainFault.TheVariants as explains
-use Rattle.sdv_explain.specs.Explained.{Explains, Unexplained}
+use Rattle.sdv_explain.specs.Explained.{Explains, NamesPoint, Unexplained}
+use Rattle.sdv_search.specs.Brief.{IsShownRun}
+use Rattle.sdv_search.specs.Report.{◌before◌}
 use Rattle.sdv_check.specs.Verified.{IsNoScript}
 use Rattle.sdv_check_words.specs.declared.judging.Refusal.{Refusal as Refuses}
 use Rattle.sdv_check_words.specs.declared.judging.Refusal.TheVariants.{NoCertificate, Open}
@@ -14,6 +17,7 @@ use Rattle.sdv_check_words.specs.declared.judging.Verdict.{Verdict}
 use Rattle.sdv_check_words.specs.Judged.{Judges}
 use Rattle.sdv_command_line.specs.Requests.{ExplainNames}
 use Rattle.sdv_script.specs.declared.fault.ScriptFault.{ScriptFault}
+use Rattle.sdv_hints.specs.Lines.{behind_line}
 use Rattle.sdv_hints.specs.Page.{Tells}
 use Rattle.sdv_files.specs.Files.{Files}
 use Rattle.sdv_files.specs.Outcomes.{Ending, OverText, Reports}
@@ -24,15 +28,42 @@ use Rattle.sdv_faults.specs.declared.fault.Fault.TheVariants.{Script, Certificat
 abbrev pub refused_by : Explanation → Option Fault
 refused_by explanation = option_map (λ (r : Refusal). Uncertified r.fault) explanation.refusal
 
--- what is printed of an explanation: all of it, or only why the script is refused
+-- what is shown of an explanation: all of it, or only why the script is refused
 abbrev pub shown_of : (only_why : Bool) → Explanation → Text
 shown_of only_why explanation = if only_why then explanation.why.items else explanation.text.items
 
--- the text is that of the script's explanation, which tells of this refusal or of none
+-- A RUN that refutes the script stands behind the reason of its refusal, if one was found
+
+-- the reason takes four lines: the clause that fails, its statement, such a card, and why it fails
+abbrev pub behind_reason : (shown : Text) → Text
+behind_reason shown = behind_line (behind_line (behind_line (behind_line shown)))
+
+abbrev pub put_behind_reason : (words shown : Text) → Text
+put_behind_reason words shown =
+    take (length shown - length (behind_reason shown)) shown before words before behind_reason shown
+
+-- the refusal names the point; a script that is not refused has none
+abbrev pub IsRefusedAt : Option Refusal → (point : ℕ) → Type 0
+IsRefusedAt None point = ⊥
+IsRefusedAt (Some refusal) point = NamesPoint refusal.fault point
+
+-- the page is what was shown, with the words for a run that refutes the script
+pub record ShowsRun (script : Text) (refusal : Option Refusal) (shown page : Text) : Type 0 where
+  pub point : ℕ
+  pub refused : IsRefusedAt refusal point
+  pub words : Text
+  pub refutes : IsShownRun script point words
+  pub same : page ≡ put_behind_reason words shown
+
+-- or nothing was put there
+abbrev pub MayShowRun : (script : Text) → Option Refusal → (shown page : Text) → Type 0
+MayShowRun script refusal shown page = (page ≡ shown) ⊎ ShowsRun script refusal shown page
+
+-- the text is that of the script's explanation, which tells of this refusal or of none, and may show a run
 abbrev pub IsExplained : (only_why : Bool) → (script : Text) → (told : Option Fault) → (text : Text) → Type 0
 IsExplained only_why script told text =
     (explanation : Explanation) × Explains script explanation × (told ≡ refused_by explanation)
-    × (text ≡ shown_of only_why explanation)
+    × MayShowRun script explanation.refusal (shown_of only_why explanation) text
 
 -- the text is the page of this fault of what is no script
 abbrev pub IsFaultPage : (script : Text) → (told : Option Fault) → (text : Text) → Type 0

@@ -1,21 +1,24 @@
-//! `explain SCRIPT [CERT] [--why]`: what is known at each point of a script, and why it is refused where it is; of a text
-//! that is no script, where it is wrong; of a certificate, why the checker refuses it.
-ghost use Rattle.std.specs.Prelude.{◌≡◌, ◌≢◌, if◌then◌else◌};
+//! `explain SCRIPT [CERT] [--why]`: what is known at each point of a script, and why it is refused where it is, with a run that
+//! refutes it; of a text that is no script, where it is wrong; of a certificate, why the checker refuses it.
+ghost use Rattle.std.specs.Prelude.{◌≡◌, ◌≢◌, ◌≤◌, length, IfOk, IfSome, if◌then◌else◌};
 ghost use Rattle.sdv_check.specs.Verified.{IsNoScript};
 ghost use Rattle.sdv_command_line.specs.Requests.{explain_names_of};
 ghost use Rattle.sdv_files.specs.Outcomes.{OverText, Reports, outcome_of};
 ghost use Rattle.sdv_commands.specs.Explain.{ExplainEnds, ExplainsText, HasNoAnswer, IsExplanation, IsFaultPage, IsJudgement};
-ghost use Rattle.sdv_commands.specs.Explain.{IsUnexplained, IsVerdict, fault_of_refusal};
+ghost use Rattle.sdv_commands.specs.Explain.{IsRefusedAt, IsUnexplained, IsVerdict, MayShowRun, fault_of_refusal};
+ghost use Rattle.sdv_commands.specs.Explain.{behind_reason, put_behind_reason};
+ghost use Rattle.sdv_hints.specs.Lines.{behind_line, line_len};
 
 use sdv_certify::CertifyFault;
 use sdv_check_words::{Refusal, Verdict, judge};
 use sdv_command_line::ExplainWords;
-use sdv_explain::{ExplainFault, Explanation, explain};
+use sdv_explain::{ExplainFault, Explanation, Refusal as ScriptRefusal, explain};
 use sdv_faults::Fault;
 use sdv_files::{Store, print_text, text_in};
 use sdv_hints::fault_page;
 use sdv_script::{FaultKind, ScriptFault};
-use std::alloc::Global;
+use sdv_search::shown_run;
+use std::alloc::{AllocError, Global};
 use std::io::Write;
 
 /// Prints the explanation of the script of a file, or what the checker says of it with the certificate of another.
@@ -71,7 +74,8 @@ fn judge_file<'a, S: Store, O: Write>(
     judge_texts(alloc, script, certificate.as_str(), out)
 }
 
-/// Prints the explanation of a script, by its text, or only why it is refused.
+/// Prints the explanation of a script, by its text, or only why it is refused. Behind the reason of a refusal it shows a run that
+/// refutes the script, if one was found.
 ///
 /// # Errors
 ///
@@ -96,18 +100,91 @@ pub fn explain_text<'a, O: Write>(
         Err(ExplainFault::Memory) => return Err(Fault::Memory),
     };
     let shown = shown_of(only_why, text, why);
-    print_text(shown.as_slice(), out)?;
+    let page = with_run(alloc, script, &refusal, shown)?;
+    print_text(page.as_slice(), out)?;
     match refusal {
         None => Ok(()),
         Some(refusal) => Err(Fault::Uncertified(refusal.fault)),
     }
 }
 
-/// What is printed of an explanation.
+/// What is shown of an explanation.
 fn shown_of(only_why: bool, text: Vec<u8>, why: Vec<u8>) -> Vec<u8>
     ensures { result.items ≡ if only_why then why.items else text.items }
 {
     if only_why { why } else { text }
+}
+
+/// What is shown of a script, and behind the reason of its refusal a run that refutes it, if one was found.
+fn with_run(
+    alloc: Global,
+    script: &str,
+    refusal: &Option<ScriptRefusal>,
+    shown: Vec<u8>,
+) -> Result<Vec<u8>, AllocError>
+    ensures { IfOk result (λ page. MayShowRun script.now refusal.now shown.items page.items) }
+{
+    let Some(point) = refused_point(refusal) else {
+        return Ok(shown);
+    };
+    match shown_run(alloc, script, point)? {
+        Some(words) => put_behind_reason(alloc, &words, &shown),
+        None => Ok(shown),
+    }
+}
+
+/// The point that is refused.
+fn refused_point(refusal: &Option<ScriptRefusal>) -> Option<usize>
+    ensures { IfSome result (IsRefusedAt refusal.now) }
+{
+    match refusal {
+        Some(refusal) => match refusal.fault {
+            CertifyFault::Illegal { point, .. }
+            | CertifyFault::Address { point }
+            | CertifyFault::EndState { point } => Some(point),
+            CertifyFault::TooMany | CertifyFault::Memory => None,
+        },
+        None => None,
+    }
+}
+
+/// How many bytes the first line has, without its line feed.
+fn line_len(text: &[u8]) -> usize
+    ensures len { result ≡ line_len text.now }
+    ensures within { result ≤ length text.now }
+{
+    text.iter().take_while(|byte| **byte != b'\n').count()
+}
+
+/// What follows the first line.
+fn behind_line(text: &[u8]) -> &[u8]
+    ensures { result.now ≡ behind_line text.now }
+{
+    let len = line_len(text);
+    if len < text.len() {
+        &text[len + 1..]
+    } else {
+        &[]
+    }
+}
+
+/// What follows the reason of a refusal.
+fn behind_reason(shown: &[u8]) -> &[u8]
+    ensures { result.now ≡ behind_reason shown.now }
+{
+    behind_line(behind_line(behind_line(behind_line(shown))))
+}
+
+/// What is shown, with words behind the reason.
+fn put_behind_reason(alloc: Global, words: &[u8], shown: &[u8]) -> Result<Vec<u8>, AllocError>
+    ensures { IfOk result (λ page. page.items ≡ put_behind_reason words.now shown.now) }
+{
+    let rest = behind_reason(shown);
+    let front = &shown[..shown.len().saturating_sub(rest.len())];
+    let mut page = Vec::from_slice(alloc, front)?;
+    page.extend_from_slice(words)?;
+    page.extend_from_slice(rest)?;
+    Ok(page)
 }
 
 /// Prints what the checker says of a script and a certificate, by their texts.

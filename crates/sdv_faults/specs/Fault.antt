@@ -40,6 +40,8 @@ use Rattle.sdv_run.specs.declared.fault.RunFault.TheVariants as runs
 use Rattle.sdv_lines.specs.declared.fault.LineFault.{LineFault as RequestLineFault}
 use Rattle.sdv_lines.specs.declared.fault.LineFault.TheVariants as lines_asked
 use Rattle.sdv_lines.specs.declared.fault.ServeFault.{ServeFault}
+use Rattle.sdv_named_schedules.specs.declared.fault.ScheduleFault.{ScheduleFault}
+use Rattle.sdv_named_schedules.specs.declared.fault.ScheduleFault.TheVariants as schedules
 use Rattle.sdv_refute.specs.declared.simulated.TryFault.{TryFault}
 use Rattle.sdv_refute.specs.declared.simulated.TryFault.TheVariants as tries
 use Rattle.sdv_wrong_words.specs.declared.event.WrongEvent.{WrongEvent}
@@ -48,7 +50,7 @@ use Rattle.sdv_command_line.specs.Commands.{usage}
 use Rattle.sdv_command_line.specs.declared.request.RequestFault.{RequestFault}
 use Rattle.sdv_command_line.specs.declared.request.RequestFault.TheVariants as requests
 use Rattle.sdv_faults.specs.declared.fault.Fault.{Fault}
-use Rattle.sdv_faults.specs.declared.fault.Fault.TheVariants.{Usage, File, Script, Certificate, Refused, Uncertified, Unserved, Wide, Card, Run, OtherKind, Wrong, NoRun, Request, Named, Output, Memory, Trace, Stray, Found}
+use Rattle.sdv_faults.specs.declared.fault.Fault.TheVariants.{Usage, File, Script, Certificate, Refused, Uncertified, Unserved, Wide, Card, Schedule, Run, OtherKind, Wrong, NoRun, NoPath, Request, Named, Output, Memory, Trace, Stray, Found}
 
 -- WHAT IS SAID
 
@@ -149,6 +151,15 @@ sim_fault_name cards.ImageLength = codes "ImageLength"
 sim_fault_name cards.ImageRead = codes "ImageRead"
 sim_fault_name cards.Memory = codes "Memory"
 
+-- the line of a schedule that names no mishap at an event, or too many of them
+abbrev pub schedule_line : ScheduleFault → Text
+schedule_line (schedules.Event line) =
+    numbered_line (codes "schedule fault: no event (CMD18, 2nd CMD18, line 31) with a colon in line ") line
+schedule_line (schedules.Mishap line) =
+    numbered_line (codes "schedule fault: no mishap (command lost, answer lost, not ready, error shown, refused, phase cut, switch fails) in line ") line
+schedule_line schedules.Many = plain_line (codes "schedule fault: more than 64 mishaps")
+schedule_line schedules.Memory = plain_line (codes "out of memory")
+
 abbrev pub run_fault_name : RunFault → Text
 run_fault_name runs.Reply = codes "Reply"
 run_fault_name runs.Input = codes "Input"
@@ -166,6 +177,9 @@ request_fault_name lines_asked.Line = codes "Line"
 abbrev pub request_line : ServeFault → Text
 request_line fault = codes "request fault "
     ++ (request_fault_name fault.fault ++ (codes " line " ++ (decimal fault.line ++ 10 ∷ [])))
+
+abbrev pub no_path_line : Text
+no_path_line = plain_line (codes "no run found (no path of the state tables breaks the script)")
 
 -- no run that refutes a script was found
 abbrev pub no_run_line : (runs mishaps : ℕ) → Text
@@ -190,10 +204,12 @@ fault_line (Wide part) = wide_line part
 fault_line (Trace fault) = trace_fault_line fault
 fault_line (Stray line) = stray_line line
 fault_line (Card fault) = named_line (codes "card fault ") (sim_fault_name fault)
+fault_line (Schedule fault) = schedule_line fault
 fault_line (Run fault) = named_line (codes "run fault ") (run_fault_name fault)
 fault_line OtherKind = plain_line (codes "the script is for another kind of card")
 fault_line (Wrong event) = wrong_event_text event
 fault_line (NoRun runs mishaps) = no_run_line runs mishaps
+fault_line NoPath = no_path_line
 fault_line (Request fault) = request_line fault
 fault_line Named = []
 fault_line Found = []
@@ -219,10 +235,12 @@ status_of (Wide part) = 1
 status_of (Trace fault) = 1
 status_of (Stray line) = 1
 status_of (Card fault) = 1
+status_of (Schedule fault) = 1
 status_of (Run fault) = 1
 status_of OtherKind = 1
 status_of (Wrong event) = 1
 status_of (NoRun runs mishaps) = 1
+status_of NoPath = 1
 status_of (Request fault) = 2
 status_of Named = 1
 status_of Found = 1
@@ -292,6 +310,11 @@ fault_of_block fault = Unserved fault
 abbrev pub fault_of_card : SimFault → Fault
 fault_of_card cards.Memory = Memory
 fault_of_card fault = Card fault
+
+-- schedules by name that are none
+abbrev pub fault_of_schedule : ScheduleFault → Fault
+fault_of_schedule schedules.Memory = Memory
+fault_of_schedule fault = Schedule fault
 
 -- runs that stopped
 abbrev pub fault_of_run : RunFault → Fault

@@ -6,7 +6,7 @@ ghost use Rattle.sdv_text.specs.Written.{Writes};
 ghost use Rattle.sdv_faults.specs.Fault.{Says, certificate_line, fault_line, illegal_line, kind_name, numbered_line, plain_line};
 ghost use Rattle.sdv_faults.specs.Fault.{block_fault_name, named_line, refusal_line, run_fault_name, sim_fault_name, status_of};
 ghost use Rattle.sdv_faults.specs.Fault.{line_fault_name, stray_line, trace_fault_line, trace_line, uncertified_line, wide_line};
-ghost use Rattle.sdv_faults.specs.Fault.{no_run_line, request_fault_name, request_line};
+ghost use Rattle.sdv_faults.specs.Fault.{no_run_line, no_path_line, request_fault_name, request_line, schedule_line};
 ghost use Rattle.sdv_wrong_words.specs.WrongEvent.{wrong_event_text};
 
 use itoa::Buffer;
@@ -20,6 +20,7 @@ use sdv_command_line::{RequestFault, usage};
 use sdv_emit::EmitFault;
 use sdv_explain::ExplainFault;
 use sdv_lines::{LineFault as RequestLineFault, ServeFault};
+use sdv_named_schedules::ScheduleFault;
 use sdv_refute::TryFault;
 use sdv_review::ReviewFault;
 use sdv_run::RunFault;
@@ -30,6 +31,13 @@ use sdv_text::write_texts;
 use sdv_wrong_words::{WrongEvent, write_wrong_event};
 use std::alloc::AllocError;
 use std::io::{self, Write};
+
+/// What is said of a line that names no event, before its number.
+const NO_EVENT: &str = "schedule fault: no event (CMD18, 2nd CMD18, line 31) with a colon in line ";
+
+/// What is said of a line that names no mishap, before its number.
+const NO_MISHAP: &str =
+    "schedule fault: no mishap (command lost, answer lost, not ready, error shown, refused, phase cut, switch fails) in line ";
 
 /// Why the program ends without its answer.
 #[derive(Clone, Copy, Debug, PartialEq, Eq)]
@@ -56,6 +64,8 @@ pub enum Fault<'a> {
     Stray(u64),
     /// There is no simulated card by the description, the schedule and the image.
     Card(SimFault),
+    /// The text of a schedule by name is none.
+    Schedule(ScheduleFault),
     /// The run of a script stopped before its end.
     Run(RunFault),
     /// A script is for another kind of card than the one described.
@@ -64,6 +74,8 @@ pub enum Fault<'a> {
     Wrong(WrongEvent),
     /// No run that refutes a script was found, among so many that had so many mishaps at most.
     NoRun { runs: u64, mishaps: u64 },
+    /// No run that refutes a script was found, and no path of the state tables breaks the script.
+    NoPath,
     /// A request in lines was not answered.
     Request(ServeFault),
     /// The run of a script ended in a fault that the script names; its trace says so.
@@ -241,6 +253,19 @@ impl<'a> From<TryFault> for Fault<'a> {
     }
 }
 
+impl<'a> From<ScheduleFault> for Fault<'a> {
+    ghost use Rattle.sdv_faults.specs.Fault.{fault_of_schedule};
+
+    ghost from_gives = { λ fault f. f ≡ fault_of_schedule fault };
+
+    fn from(fault: ScheduleFault) -> Fault<'a> {
+        match fault {
+            ScheduleFault::Memory => Fault::Memory,
+            _ => Fault::Schedule(fault),
+        }
+    }
+}
+
 impl<'a> From<AllocError> for Fault<'a> {
     ghost use Rattle.sdv_faults.specs.declared.fault.Fault.TheVariants.{Memory};
 
@@ -263,7 +288,7 @@ impl<'a> Fault<'a> {
                 1,
             Fault::Trace(_) | Fault::Stray(_) | Fault::Found | Fault::OtherKind | Fault::Wrong(_) =>
                 1,
-            Fault::NoRun { .. } => 1,
+            Fault::NoRun { .. } | Fault::Schedule(_) | Fault::NoPath => 1,
             Fault::Usage | Fault::File(_) | Fault::Request(_) | Fault::Output => 2,
             Fault::Memory => 3,
         }
@@ -290,10 +315,12 @@ impl<'a> Fault<'a> {
             Fault::Trace(fault) => say_trace(fault, err),
             Fault::Stray(line) => say_stray(line, err),
             Fault::Card(fault) => say_named("card fault ", sim_fault_name(fault), err),
+            Fault::Schedule(fault) => say_schedule(fault, err),
             Fault::Run(fault) => say_named("run fault ", run_fault_name(fault), err),
             Fault::OtherKind => say_plain("the script is for another kind of card", err),
             Fault::Wrong(event) => write_wrong_event(event, err),
             Fault::NoRun { runs, mishaps } => say_no_run(runs, mishaps, err),
+            Fault::NoPath => say_no_path(err),
             Fault::Request(fault) => say_request(fault, err),
             Fault::Named | Fault::Found | Fault::Output => Ok(()),
             Fault::Memory => say_plain("out of memory", err),
@@ -412,6 +439,15 @@ fn say_number<E: Write>(words: &str, number: u64, err: &mut E) -> io::Result<()>
     )
 }
 
+fn say_no_path<E: Write>(err: &mut E) -> io::Result<()>
+    ensures { Writes (E.contents err.old) (E.contents err.new) result no_path_line }
+{
+    say_plain(
+        "no run found (no path of the state tables breaks the script)",
+        err,
+    )
+}
+
 fn say_no_run<E: Write>(runs: u64, mishaps: u64, err: &mut E) -> io::Result<()>
     ensures { Writes (E.contents err.old) (E.contents err.new) result (no_run_line runs mishaps) }
 {
@@ -527,6 +563,17 @@ fn say_request<E: Write>(fault: ServeFault, err: &mut E) -> io::Result<()>
     let name = request_fault_name(fault.fault).as_bytes();
     let line = digits.format(fault.line).as_bytes();
     write_texts(err, &[b"request fault ", name, b" line ", line, b"\n"])
+}
+
+fn say_schedule<E: Write>(fault: ScheduleFault, err: &mut E) -> io::Result<()>
+    ensures { Writes (E.contents err.old) (E.contents err.new) result (schedule_line fault) }
+{
+    match fault {
+        ScheduleFault::Event(line) => say_number(NO_EVENT, line, err),
+        ScheduleFault::Mishap(line) => say_number(NO_MISHAP, line, err),
+        ScheduleFault::Many => say_plain("schedule fault: more than 64 mishaps", err),
+        ScheduleFault::Memory => say_plain("out of memory", err),
+    }
 }
 
 fn say_trace<E: Write>(fault: TraceFault, err: &mut E) -> io::Result<()>

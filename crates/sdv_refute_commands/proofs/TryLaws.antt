@@ -22,18 +22,20 @@ use Rattle.sdv_refute.specs.declared.wrong.Watched.{Watched}
 use Rattle.sdv_refute.specs.declared.wrong.Watched.TheVariants.{Ended, Stopped}
 use Rattle.sdv_refute.specs.Tries.{HasNoCard, TryRefuses}
 use Rattle.sdv_command_line.specs.Requests.{TryNames}
+use Rattle.sdv_named_schedules.specs.declared.fault.ScheduleFault.{ScheduleFault}
 use Rattle.sdv_faults.specs.Fault.{fault_of_card, fault_of_run, fault_of_script, fault_of_try}
 use Rattle.sdv_faults.specs.declared.fault.Fault.{Fault}
-use Rattle.sdv_faults.specs.declared.fault.Fault.TheVariants.{File, Script, Card, OtherKind, Wrong, Named, Memory as NoMemory}
+use Rattle.sdv_faults.specs.declared.fault.Fault.TheVariants.{File, Script, Card, Schedule as Unscheduled, OtherKind, Wrong, Named, Memory as NoMemory}
 use Rattle.sdv_files.specs.Files.{CardImage, Files}
 use Rattle.sdv_files.specs.Outcomes.{outcome_of}
 use Rattle.sdv_files.proofs.StartLaws.{keeps_same}
 use Rattle.sdv_run_command.specs.Run.{FileUse, GivesImage, IsUnread, IsUnreadable, IsUnusable, IsUsed, LosesImage, Receives}
-use Rattle.sdv_run_command.specs.Run.{as_image, as_input, as_output, as_schedule, as_text, some_use}
-use Rattle.sdv_run_command.proofs.GivenLaws.{both_used, input_gave, schedule_gave, text_gave}
+use Rattle.sdv_run_command.specs.Run.{as_image, as_input, as_output, as_schedule, as_text, schedule_codes, some_use}
+use Rattle.sdv_run_command.proofs.GivenLaws.{both_used, input_gave, text_gave}
 use Rattle.sdv_run_command.proofs.RunLaws.{refused_so}
 use Rattle.sdv_refute_commands.specs.declared.attempt.Given.{Given}
-use Rattle.sdv_refute_commands.specs.Try.{Answers, AreGiven, ComesTo, EndsApart, FailsToKeep, HasNoCardOver, IsKept, IsLost, RefusesTry, TryFails, uses_of}
+use Rattle.sdv_refute_commands.specs.Schedules.{GivesValues, IsWrongFile}
+use Rattle.sdv_refute_commands.specs.Try.{Answers, AreGiven, ComesTo, EndsApart, FailsToKeep, HasNoCardOver, IsKept, IsLost, IsUnreadFor, RefusesTry, TryFails, uses_of}
 
 -- WHY NOTHING IS RUN
 
@@ -131,6 +133,10 @@ module _ (files : Files) (names : TryNames) (given : Given) (image : CardImage) 
 
 -- THE FILES
 
+values_used : (files : Files) (name : Option Text) (codes : List ℕ) → GivesValues files name codes → AllByRecursion (IsUsed files) (some_use as_schedule name)
+values_used files None codes given = tt
+values_used files (Some file) codes given = ((schedule_codes given.0, (given.0, given.1, refl)), tt)
+
 module _ (files : Files) (names : TryNames) where
   abbrev pub three : List FileUse → List FileUse
   three more = as_text names.script ∷ as_text names.card ∷ as_image names.image ∷ more
@@ -163,7 +169,7 @@ module _ (files : Files) (names : TryNames) where
     place = output_place names.schedule names.input names.output file is;
     used = three_used (text_gave files names.script given.script are.script) (text_gave files names.card given.card are.card) image are.of_image
         (some_use as_schedule names.schedule ++ some_use as_input names.input)
-        (both_used files (some_use as_schedule names.schedule) (some_use as_input names.input) (schedule_gave files names.schedule given.codes.items are.schedule)
+        (both_used files (some_use as_schedule names.schedule) (some_use as_input names.input) (values_used files names.schedule given.codes.items are.schedule)
         (input_gave files names.input given.input.items are.input));
     failed = uncreated;
   }
@@ -176,10 +182,19 @@ module _ (files : Files) (names : TryNames) (trace trace' : Option (List ℕ)) w
   unread_fails NoMemory unread kept = kept
   unread_fails _ unread kept = absurd unread
 
-  pub unread_ends : {T : Type 0} (fault : Fault) → IsUnread files (uses_of names) fault → Keeps trace trace' → (r : Result T Fault) → IsErrAnd r (λ f. f ≡ fault)
+  -- or that of the schedule is wrong
+  wrong_fails : (why : ScheduleFault) (fault : Fault) → fault ≡ Unscheduled why → IsWrongFile files names.schedule why → Keeps trace trace'
+      → TryFails files names fault trace trace'
+  wrong_fails why fault same wrong kept = rw same (wrong, kept)
+
+  unready : (fault : Fault) → IsUnreadFor files names fault → Keeps trace trace' → TryFails files names fault trace trace'
+  unready fault (inl unread) kept = unread_fails fault unread kept
+  unready fault (inr wrong) kept = wrong_fails wrong.0 fault wrong.1 wrong.2 kept
+
+  pub unread_ends : {T : Type 0} (fault : Fault) → IsUnreadFor files names fault → Keeps trace trace' → (r : Result T Fault) → IsErrAnd r (λ f. f ≡ fault)
       → EndsApart files names (outcome_of r) trace trace'
   unread_ends fault unread kept (Ok x) is = absurd is
-  unread_ends fault unread kept (Err f) is = rw is (unread_fails fault unread kept)
+  unread_ends fault unread kept (Err f) is = rw is (unready fault unread kept)
 
   module _ (given : Given) (image : CardImage) (are : AreGiven files names given image) where
     fails_of : (fault : Fault) → FailsToKeep files names given image fault trace trace' → TryFails files names fault trace trace'

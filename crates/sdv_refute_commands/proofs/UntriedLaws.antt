@@ -24,7 +24,7 @@ use Rattle.sdv_search.specs.declared.refuting.Refutation.{Refutation}
 use Rattle.sdv_command_line.specs.Requests.{RefuteNames}
 use Rattle.sdv_faults.specs.Fault.{fault_of_card, fault_of_script, fault_of_try}
 use Rattle.sdv_faults.specs.declared.fault.Fault.{Fault}
-use Rattle.sdv_faults.specs.declared.fault.Fault.TheVariants.{File, Script, NoRun, Found, Output, Memory}
+use Rattle.sdv_faults.specs.declared.fault.Fault.TheVariants.{File, Script, NoRun, NoPath, Found, Output, Memory}
 use Rattle.sdv_files.specs.Files.{Files}
 use Rattle.sdv_files.specs.Left.{IsLeft, LeavesFault}
 use Rattle.sdv_files.specs.Outcomes.{Ending, Prints, PrintsText, Reports, outcome_of}
@@ -70,6 +70,7 @@ module _ (files : Files) (names : RefuteNames) (script : Text) where
   untold : (known : Option (List ℕ)) (fault : Fault) → IsNoRefutation script fault → told_ends (Some fault) known known
   untold known (Script fault) none = (none, keeps_same known)
   untold known (NoRun runs mishaps) none = (none, keeps_same known)
+  untold known NoPath none = (none, keeps_same known)
   untold known Memory none = keeps_same known
   untold known _ none = absurd none
 

@@ -1,3 +1,4 @@
 pub mod Refute
+pub mod Schedules
 pub mod Sweep
 pub mod Try

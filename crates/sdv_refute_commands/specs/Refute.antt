@@ -10,7 +10,7 @@ use Rattle.sdv_search.specs.Report.{IsReport, schedule_text}
 use Rattle.sdv_search.specs.declared.refuting.Refutation.{Refutation}
 use Rattle.sdv_command_line.specs.Requests.{RefuteNames}
 use Rattle.sdv_faults.specs.declared.fault.Fault.{Fault}
-use Rattle.sdv_faults.specs.declared.fault.Fault.TheVariants.{File, Script, NoRun, Memory}
+use Rattle.sdv_faults.specs.declared.fault.Fault.TheVariants.{File, Script, NoRun, NoPath, Memory}
 use Rattle.sdv_files.specs.Files.{Files}
 use Rattle.sdv_files.specs.Left.{IsLeft, LosesFile}
 use Rattle.sdv_files.specs.Outcomes.{Ending, OverText, Prints}
@@ -37,6 +37,7 @@ pub record IsUnwritten (files : Files) (names : RefuteNames) (script file : Text
 abbrev pub IsNoRefutation : (script : Text) → Fault → Type 0
 IsNoRefutation script (Script fault) = IsNoScript script
 IsNoRefutation script (NoRun runs mishaps) = Unit {0}
+IsNoRefutation script NoPath = Unit {0}
 IsNoRefutation script Memory = Unit {0}
 IsNoRefutation script fault = ⊥
 

@@ -17,17 +17,19 @@ use Rattle.sdv_wrong_words.specs.declared.event.WrongEvent.{WrongEvent}
 use Rattle.sdv_wrong_words.specs.WrongEvent.{IsEventOf}
 use Rattle.sdv_command_line.specs.Requests.{RunNames, TryNames}
 use Rattle.sdv_faults.specs.declared.fault.Fault.{Fault}
-use Rattle.sdv_faults.specs.declared.fault.Fault.TheVariants.{File, Script, Card, Run, OtherKind, Wrong, Named, Memory}
+use Rattle.sdv_faults.specs.declared.fault.Fault.TheVariants.{File, Script, Card, Schedule, Run, OtherKind, Wrong, Named, Memory}
+use Rattle.sdv_named_schedules.specs.declared.fault.ScheduleFault.{ScheduleFault}
 use Rattle.sdv_faults.specs.Fault.{fault_of_run}
 use Rattle.sdv_files.specs.Files.{CardImage, Files}
 use Rattle.sdv_files.specs.Outcomes.{Ending}
-use Rattle.sdv_run_command.specs.Run.{FileUse, GivesImage, GivesInput, GivesSchedule, IsApart, IsUnreadable, IsUnusable, LosesImage, Receives, StoresImage, TakesOther}
+use Rattle.sdv_run_command.specs.Run.{FileUse, GivesImage, GivesInput, IsApart, IsUnread, IsUnreadable, IsUnusable, LosesImage, Receives, StoresImage, TakesOther}
 use Rattle.sdv_run_command.specs.Run.{as_image, as_input, as_output, as_schedule, as_text, blocks_of, some_use}
+use Rattle.sdv_refute_commands.specs.Schedules.{GivesValues, IsWrongFile}
 use Rattle.sdv_refute_commands.specs.declared.attempt.Given.{Given}
 
 -- THE FILES
 
--- those of a run whose certificate is in no other file
+-- those of a run whose certificate is in no other file, and whose registers go to none
 abbrev pub as_run : TryNames → RunNames
 as_run names = record {
   script = names.script;
@@ -37,6 +39,7 @@ as_run names = record {
   schedule = names.schedule;
   input = names.input;
   output = names.output;
+  registers = None;
 }
 
 -- in the order in which they are used; that of the output is made or emptied after the others
@@ -50,8 +53,14 @@ pub record AreGiven (files : Files) (names : TryNames) (given : Given) (image : 
   pub script : files.gives names.script (string_bytes given.script)
   pub card : files.gives names.card (string_bytes given.card)
   pub of_image : GivesImage files names.image image
-  pub schedule : GivesSchedule files names.schedule given.codes.items
+  pub schedule : GivesValues files names.schedule given.codes.items
   pub input : GivesInput files names.input given.input.items
+
+-- a file was not read, or a line of the schedule is wrong, or memory ran out
+abbrev pub IsUnreadFor : Files → TryNames → Fault → Type 0
+IsUnreadFor files names fault =
+    IsUnread files (uses_of names) fault
+    ⊎ ((why : ScheduleFault) × (fault ≡ Schedule why) × IsWrongFile files names.schedule why)
 
 -- THE RUN
 
@@ -146,6 +155,7 @@ TryFails files names (Wrong event) trace trace' =
 TryFails files names Named trace trace' =
     (end : End) × (end ≢ ends.Done) × ComesTo files names (Ok (Ended end)) trace trace'
 TryFails files names (Run fault) trace trace' = ComesTo files names (Err fault) trace trace'
+TryFails files names (Schedule why) trace trace' = IsWrongFile files names.schedule why × Keeps trace trace'
 TryFails files names Memory trace trace' = Keeps trace trace'
 TryFails files names fault trace trace' = HasNoTry files names fault trace trace'
 

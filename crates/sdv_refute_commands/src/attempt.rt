@@ -5,17 +5,18 @@ ghost use Rattle.sdv_command_line.specs.Requests.{try_names_of};
 ghost use Rattle.sdv_file_image.specs.FileImages.{shown_of};
 ghost use Rattle.sdv_files.specs.Files.{image_of};
 ghost use Rattle.sdv_files.specs.Outcomes.{outcome_of};
-ghost use Rattle.sdv_run_command.specs.Run.{IsUnread};
 ghost use Rattle.sdv_run_command.specs.RunImages.{IsOfName, MayHaveFailed, image_given};
-ghost use Rattle.sdv_refute_commands.specs.Try.{Answers, AreGiven, EndsApart, FailsToKeep, IsKept, IsTried, RefusesTry, TryEnds, uses_of};
+ghost use Rattle.sdv_refute_commands.specs.Try.{Answers, AreGiven, EndsApart, FailsToKeep, IsKept, IsTried, IsUnreadFor, RefusesTry, TryEnds};
 
+use crate::schedules::{schedule_in, values_of};
 use sdv_command_line::{RunFiles, TryFiles};
 use sdv_faults::Fault;
 use sdv_file_image::{BlockFile, FileImage};
 use sdv_files::{Store, text_in};
+use sdv_named_schedules::Beside;
 use sdv_refute::{Given as Texts, Tried, Watched, try_text};
 use sdv_run::{End, RunFault};
-use sdv_run_command::{GivenImage, close_image, codes_in, image_in, input_in, taken_output};
+use sdv_run_command::{GivenImage, close_image, image_in, input_in, taken_output};
 use sdv_wrong_words::wrong_event;
 use std::alloc::Global;
 use std::io::{self, Write};
@@ -60,6 +61,7 @@ pub struct Outcome<F: BlockFile> {
 /// - [`Fault::File`]: the file of the output is one of the others; then no file was opened. Or a file cannot be used, and each
 ///   one before it was; then nothing was run or printed. Or the file of the image or of the output did not take all that it
 ///   had to; then the run had come to its end.
+/// - [`Fault::Schedule`]: the schedule is one by name, and a line of it is wrong. Nothing was run or printed.
 /// - [`Fault::Card`], [`Fault::Script`], [`Fault::OtherKind`], [`Fault::Memory`]: nothing was run or printed.
 /// - [`Fault::Wrong`]: what comes next is not allowed at the card, and was not done.
 /// - [`Fault::Named`]: the script ended in a fault that it names, or in `number`. The trace is whole.
@@ -82,6 +84,7 @@ pub fn try_files<'a, S: Store, T: Write>(
         schedule: names.schedule,
         input: names.input,
         output: names.output,
+        registers: None,
     };
     if let Some(file) = taken_output(files, &as_run) {
         return Err(Fault::File(file));
@@ -113,7 +116,8 @@ fn try_apart<'a, S: Store, T: Write>(
     }
 }
 
-/// Reads the files of a run, in the order of their names, and opens that of the image.
+/// Reads the files of a run, in the order of their names, and opens that of the image. The events of a schedule by name are
+/// found by runs over blocks that never fail; nothing is printed or stored by them.
 fn given_by<'a, S: Store>(
     alloc: Global,
     files: &S,
@@ -123,13 +127,20 @@ fn given_by<'a, S: Store>(
         read.0 (image_given S.Image.byte_count S.Image.blocks read.1)) }
     ensures image { IfOk result (λ read. IsOfName S.Image.failed (S.known files.now)
         names.now.image.now read.1) }
-    ensures refused { IfErr result (IsUnread (S.known files.now) (uses_of (try_names_of names.now))) }
+    ensures refused { IfErr result (IsUnreadFor (S.known files.now) (try_names_of names.now)) }
 {
     let script = text_in(alloc, files, names.script)?;
     let card = text_in(alloc, files, names.card)?;
     let image = image_in(alloc, files, names.image)?;
-    let codes = codes_in(alloc, files, names.schedule)?;
+    let schedule = schedule_in(alloc, files, names.schedule)?;
     let input = input_in(alloc, files, names.input)?;
+    let (blocks, _) = input.as_slice().as_chunks::<512>();
+    let beside = Beside {
+        script: script.as_str(),
+        card: card.as_str(),
+        input: blocks,
+    };
+    let codes = values_of(alloc, schedule, &beside)?;
     let given = Given {
         script,
         card,

@@ -26,6 +26,7 @@ const BUDGET: u64 = 1_000_000;
 ///   found. Nothing was printed.
 /// - [`Fault::Script`]: the text is no script. Nothing was printed.
 /// - [`Fault::NoRun`]: no run was found. Nothing was printed.
+/// - [`Fault::NoPath`]: no run was found, and no path of the state tables breaks the script. Nothing was printed.
 /// - [`Fault::Output`]: the output failed. A part of what is told was printed.
 /// - [`Fault::Memory`]: memory was refused. Nothing was printed.
 pub fn refute_file<'a, S: Store, O: Write>(
@@ -111,7 +112,8 @@ fn refute_text<'a, S: Store, O: Write>(
 ///
 /// # Errors
 ///
-/// [`Fault::Script`]: the text is no script. [`Fault::NoRun`]: no run was found. [`Fault::Memory`]: memory was refused.
+/// [`Fault::Script`]: the text is no script. [`Fault::NoRun`] and [`Fault::NoPath`]: no run was found. [`Fault::Memory`]:
+/// memory was refused.
 fn run_against(alloc: Global, script: &str) -> Result<Refutation, Fault<'static>>
     ensures found { IfOk result (IsRefutation script.now) }
     ensures none { IfErr result (IsNoRefutation script.now) }
@@ -119,6 +121,7 @@ fn run_against(alloc: Global, script: &str) -> Result<Refutation, Fault<'static>
     let found = refute(alloc, script, BUDGET)?;
     match found.refutation {
         Some(run) => Ok(run),
+        None if found.unbreakable => Err(Fault::NoPath),
         None => Err(Fault::NoRun {
             runs: found.runs,
             mishaps: found.mishaps,

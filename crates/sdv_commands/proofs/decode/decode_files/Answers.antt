@@ -1,19 +1,15 @@
-use Rattle.std.proofs.Common.{◌≡◌, inr, rules}
-use Rattle.std.specs.Prelude.{string_bytes}
-use Rattle.clap.specs.Words.{Text}
+use Rattle.std.proofs.Common.{◌≡◌, ◌∙◌, false, true, inl, inr, refl, sym}
 use Rattle.sdv_command_line.specs.Requests.{decode_names_of}
-use Rattle.sdv_files.proofs.OutcomeLaws.{no_text}
-use Rattle.sdv_commands.specs.Decode.{DecodesScript}
+use Rattle.sdv_files.proofs.StartLaws.{keeps_same}
+use Rattle.sdv_commands.specs.Decode.{asks_both}
 use Rattle.sdv_commands.proofs.decode.decode_files.Goals as goal
 
-pub returns-in_err-script : goal.returns-in_err-script
-returns-in_err-script g c =
-    no_text (g.S.Store.known c.args.files.now) c.args.words.script
-    (λ (script : Text). DecodesScript (g.S.Store.known c.args.files.now) (decode_names_of c.args.words) script)
-    (g.O.Write.contents c.args.out.now)
-    c.in_err-script.field-0.0 c.in_err-script.ensures.refused c.in_err-script.ensures.no_text c.from_residual.result c.from_residual.ensures.1
+pub returns-then-asks_both : goal.returns-then-asks_both
+returns-then-asks_both g c =
+    let both : asks_both (decode_names_of c.args.words) ≡ true = sym c.asks_both.ensures ∙ c.if-asks_both.true in
+    inl (both, refl, keeps_same (g.O.Write.contents c.args.out.now))
 
 pub returns : goal.returns
 returns g c =
-    let text : c.as_str.result.now ≡ string_bytes c.in_ok-script.script = search rules in
-    inr (string_bytes c.in_ok-script.script, c.in_ok-script.ensures.given, rw text at c.decode_script.ensures)
+    let one : asks_both (decode_names_of c.args.words) ≡ false = sym c.asks_both.ensures ∙ c.if-asks_both.false in
+    inr (one, c.decode_in_form.ensures)

@@ -15,13 +15,13 @@ returns-in_err-print_text g c =
     let given : Option (List ℕ) = option_map (λ bytes. bytes.now) c.args.given in
     let before = g.O.Write.contents c.args.out.now in
     let after = g.O.Write.contents c.print_text.new.out in
-    let is_so : DecodesText script c.args.json given trace c.in-Ok.decoded = rw c.as_bytes.ensures.value at c.in-Ok.ensures.decoded in
+    let is_so : DecodesText script c.args.form given trace c.in-Ok.decoded = rw c.as_bytes.ensures.value at c.in-Ok.ensures.decoded in
     let items : c.as_slice.result.now ≡ c.in-Ok.decoded.text.items = search rules in
     let was : PrintsText c.as_slice.result.now (Some c.in_err-print_text.field-0.0) before after =
     subst (λ (r : Result (Unit {0}) Fault). PrintsText c.as_slice.result.now (outcome_of r) before after) c.in_err-print_text.was c.print_text.ensures in
-    failed (λ outcome. Reports (IsDecoding c.args.json script trace given) (IsUntold script) outcome before after) _ c.from_residual.result
+    failed (λ outcome. Reports (IsDecoding c.args.form script trace given) (IsUntold script) outcome before after) _ c.from_residual.result
     c.from_residual.ensures.1
-    (in_part before after (IsDecoding c.args.json script trace given) (IsUntold script) _ c.as_slice.result.now c.in_err-print_text.field-0.0
+    (in_part before after (IsDecoding c.args.form script trace given) (IsUntold script) _ c.as_slice.result.now c.in_err-print_text.field-0.0
     (c.in-Ok.decoded, is_so, refl, items) was)
 
 pub returns-in-None : goal.returns-in-None
@@ -31,7 +31,7 @@ returns-in-None g c =
     let given : Option (List ℕ) = option_map (λ bytes. bytes.now) c.args.given in
     let before = g.O.Write.contents c.args.out.now in
     let after = g.O.Write.contents c.print_text.new.out in
-    let is_so : DecodesText script c.args.json given trace c.in-Ok.decoded = rw c.as_bytes.ensures.value at c.in-Ok.ensures.decoded in
+    let is_so : DecodesText script c.args.form given trace c.in-Ok.decoded = rw c.as_bytes.ensures.value at c.in-Ok.ensures.decoded in
     let items : c.as_slice.result.now ≡ c.in-Ok.decoded.text.items = search rules in
     let none : None ≡ option_map fault_of_off c.in-Ok.decoded.off = search rules in
     let was : PrintsText c.as_slice.result.now None before after =
@@ -45,11 +45,11 @@ returns g c =
     let given : Option (List ℕ) = option_map (λ bytes. bytes.now) c.args.given in
     let before = g.O.Write.contents c.args.out.now in
     let after = g.O.Write.contents c.print_text.new.out in
-    let is_so : DecodesText script c.args.json given trace c.in-Ok.decoded = rw c.as_bytes.ensures.value at c.in-Ok.ensures.decoded in
+    let is_so : DecodesText script c.args.form given trace c.in-Ok.decoded = rw c.as_bytes.ensures.value at c.in-Ok.ensures.decoded in
     let items : c.as_slice.result.now ≡ c.in-Ok.decoded.text.items = search rules in
     let told : Some (fault_of_off c.in-Some.off) ≡ option_map fault_of_off c.in-Ok.decoded.off = search rules in
     let was : PrintsText c.as_slice.result.now None before after =
     subst (λ (r : Result (Unit {0}) Fault). PrintsText c.as_slice.result.now (outcome_of r) before after) c.in_ok-print_text.was c.print_text.ensures in
-    subst (λ (f : Fault). Reports (IsDecoding c.args.json script trace given) (IsUntold script) (Some f) before after) (sym c.fault_of_off.ensures)
-    (told_off (IsDecoding c.args.json script trace given) (IsUntold script) before after c.in-Some.off c.as_slice.result.now
+    subst (λ (f : Fault). Reports (IsDecoding c.args.form script trace given) (IsUntold script) (Some f) before after) (sym c.fault_of_off.ensures)
+    (told_off (IsDecoding c.args.form script trace given) (IsUntold script) before after c.in-Some.off c.as_slice.result.now
     (c.in-Ok.decoded, is_so, told, items) was)

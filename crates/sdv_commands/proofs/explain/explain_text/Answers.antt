@@ -7,7 +7,7 @@ use Rattle.sdv_files.proofs.StartLaws.{keeps_same}
 use Rattle.sdv_commands.proofs.ReportLaws.{in_part, reports_too}
 use Rattle.sdv_explain.specs.Explained.{Explains, Unexplained}
 use Rattle.sdv_explain.specs.declared.fault.ExplainFault.TheVariants as explains
-use Rattle.sdv_commands.specs.Explain.{HasNoAnswer, IsExplanation, IsFaultPage, IsUnexplained, refused_by, shown_of}
+use Rattle.sdv_commands.specs.Explain.{HasNoAnswer, IsExplanation, IsFaultPage, IsUnexplained, MayShowRun, refused_by, shown_of}
 use Rattle.sdv_commands.proofs.explain.explain_text.Goals as goal
 
 pub returns-in-Err-TooMany : goal.returns-in-Err-TooMany
@@ -18,19 +18,26 @@ returns-in-Err-TooMany g c =
 pub returns-in-Err-Memory : goal.returns-in-Err-Memory
 returns-in-Err-Memory g c = keeps_same _
 
+pub returns-in_err-page : goal.returns-in_err-page
+returns-in_err-page g c =
+    let script = c.args.script.now in
+    let known = g.O.Write.contents c.args.out.now in
+    failed (λ outcome. Reports (IsExplanation c.args.only_why script) (IsUnexplained script) outcome known known) _ c.from_residual.result
+    c.from_residual.ensures.1 (keeps_same known)
+
 pub returns-in_err-print_text : goal.returns-in_err-print_text
 returns-in_err-print_text g c =
     let script = c.args.script.now in
     let before = g.O.Write.contents c.args.out.now in
     let after = g.O.Write.contents c.print_text.new.out in
     let is_so : Explains script c.in-Ok.explanation = search rules in
-    let items : c.as_slice.result.now ≡ shown_of c.args.only_why c.in-Ok.explanation = search rules in
+    let shown : MayShowRun script c.in-Ok.explanation.refusal (shown_of c.args.only_why c.in-Ok.explanation) c.as_slice.result.now = search rules in
     let was : PrintsText c.as_slice.result.now (Some c.in_err-print_text.field-0.0) before after =
     subst (λ (r : Result (Unit {0}) Fault). PrintsText c.as_slice.result.now (outcome_of r) before after) c.in_err-print_text.was c.print_text.ensures in
-    failed (λ outcome. Reports (IsExplanation c.args.only_why script) (IsUnexplained script) outcome before after) _ c.from_residual.result
-    c.from_residual.ensures.1
+    failed (λ outcome. Reports (IsExplanation c.args.only_why script) (IsUnexplained script) outcome before after) _ c.from_residual-in_err-print_text.result
+    c.from_residual-in_err-print_text.ensures.1
     (in_part before after (IsExplanation c.args.only_why script) (IsUnexplained script) _ c.as_slice.result.now c.in_err-print_text.field-0.0
-    (inl (c.in-Ok.explanation, is_so, refl, items)) was)
+    (inl (c.in-Ok.explanation, is_so, refl, shown)) was)
 
 pub returns-in-None : goal.returns-in-None
 returns-in-None g c =
@@ -38,11 +45,11 @@ returns-in-None g c =
     let before = g.O.Write.contents c.args.out.now in
     let after = g.O.Write.contents c.print_text.new.out in
     let is_so : Explains script c.in-Ok.explanation = search rules in
-    let items : c.as_slice.result.now ≡ shown_of c.args.only_why c.in-Ok.explanation = search rules in
+    let shown : MayShowRun script c.in-Ok.explanation.refusal (shown_of c.args.only_why c.in-Ok.explanation) c.as_slice.result.now = search rules in
     let none : None ≡ refused_by c.in-Ok.explanation = search rules in
     let was : PrintsText c.as_slice.result.now None before after =
     subst (λ (r : Result (Unit {0}) Fault). PrintsText c.as_slice.result.now (outcome_of r) before after) c.in_ok-print_text.was c.print_text.ensures in
-    (c.as_slice.result.now, inl (c.in-Ok.explanation, is_so, none, items), was)
+    (c.as_slice.result.now, inl (c.in-Ok.explanation, is_so, none, shown), was)
 
 pub returns : goal.returns
 returns g c =
@@ -50,11 +57,11 @@ returns g c =
     let before = g.O.Write.contents c.args.out.now in
     let after = g.O.Write.contents c.print_text.new.out in
     let is_so : Explains script c.in-Ok.explanation = search rules in
-    let items : c.as_slice.result.now ≡ shown_of c.args.only_why c.in-Ok.explanation = search rules in
+    let shown : MayShowRun script c.in-Ok.explanation.refusal (shown_of c.args.only_why c.in-Ok.explanation) c.as_slice.result.now = search rules in
     let told : Some (Uncertified c.in-Some.refusal.fault) ≡ refused_by c.in-Ok.explanation = search rules in
     let was : PrintsText c.as_slice.result.now None before after =
     subst (λ (r : Result (Unit {0}) Fault). PrintsText c.as_slice.result.now (outcome_of r) before after) c.in_ok-print_text.was c.print_text.ensures in
-    inl (c.as_slice.result.now, inl (c.in-Ok.explanation, is_so, told, items), was)
+    inl (c.as_slice.result.now, inl (c.in-Ok.explanation, is_so, told, shown), was)
 
 pub returns-in-Err-Script : goal.returns-in-Err-Script
 returns-in-Err-Script g c =

@@ -1,0 +1,194 @@
+Schedules by name: which mishap comes at which event of a run. Each line does what its digit does at the number of the event.
+
+  $ card=$EXAMPLES/sd_block.card; image=new:1024; script=$EXAMPLES/hosts/linux_read.sdv
+  $ as() {
+  >   printf "$1" > names; printf "$2" > digits; sdv try $script $card $image names > named 2>&1
+  >   sdv try $script $card $image digits > told 2>&1; cmp named told && tail -n 1 named
+  > }
+  $ as 'CMD8: command lost' 01; as 'CMD8: lost' 01
+  fault unready
+  fault unready
+  $ as 'CMD41: answer lost' 0002
+  line 14: CMD55 comes to a card in ready state, where it is not legal
+  $ as 'CMD41: not ready' 0003; grep -c CMD41 named
+  done
+  2
+  $ as 'CMD3: error shown' 000004
+  done
+  $ as 'CMD7: refused' 00000005
+  line 28: CMD51 comes to a card in stby state, where it is not legal
+  $ as '2nd line 33: phase cut' 000000000000006; as '2nd line 33: cut' 000000000000006; grep cut named
+  done
+  done
+  IN 1 cut
+  $ script=$EXAMPLES/emmc_eight_lines.sdv card=$EXAMPLES/emmc_block.card image=new:2048; as 'CMD6: switch fails' 0000000007
+  fault sw
+
+Events by line, by command and by application command, with an ordinal where it is not the first.
+
+  $ card=$EXAMPLES/sd_block.card; image=new:1024; script=$EXAMPLES/hosts/linux_read.sdv
+  $ as 'line 28: lost' 000000001; as '1st line 28: lost' 000000001; as '2nd CMD55: lost' 000000001
+  fault noscr
+  fault noscr
+  fault noscr
+  $ as '3rd line 28: cut' 00000000006
+  fault noscr
+  $ as '3rd CMD55: refused' 000000000005
+  fault nolines
+  $ as 'ACMD6: refused' 0000000000005; as 'CMD6: refused' 0000000000005
+  line 33: IN 1 comes to a card in data state that uses other data lines than the host
+  line 33: IN 1 comes to a card in data state that uses other data lines than the host
+  $ as 'ACMD17: lost' ''; as 'CMD17: lost' 00000000000001
+  done
+  done
+
+Several lines, in any order. The first one that names an event counts. A mishap may make the event that another names.
+
+  $ as '2nd CMD41: answer lost\nCMD41: not ready\n' 000302; as 'CMD41: not ready\n2nd line 16: answer lost\n' 000302
+  line 14: CMD55 comes to a card in ready state, where it is not legal
+  line 14: CMD55 comes to a card in ready state, where it is not legal
+  $ as '2nd CMD41: answer lost\n' ''
+  done
+  $ as 'CMD41: answer lost\nline 16: not ready\n' 0002; as 'line 16: not ready\nCMD41: answer lost\n' 0003
+  line 14: CMD55 comes to a card in ready state, where it is not legal
+  done
+  $ i=1; while [ $i -le 30 ]; do case $i in 21) s=st;; 22) s=nd;; 23) s=rd;; 1) s=st;; 2) s=nd;; 3) s=rd;; *) s=th;; esac; echo "$i$s CMD41: not ready"; i=$((i + 1)); done > names
+  $ sdv try $script $card $image names > named; grep -c CMD41 named; tail -n 1 named
+  31
+  done
+
+A line whose event does not come has no effect. Comments, blank lines, blanks and ends of lines of either sort may stand there.
+
+  $ as 'CMD25: lost\nline 1: lost\nline 4294967295: lost\n4294967294th CMD0: lost\n111th CMD0: cut\n' ''
+  done
+  $ as '# CMD8 alone\r\n\r\n \t\n\tCMD8:\t lost # the first\r\n' 01; as 'CMD008:lost' 01; as '# none\n' ''
+  fault unready
+  fault unready
+  done
+  $ as '' ''; as ' \r\n\n' ''
+  done
+  done
+
+Files with a letter are read by name, and others as digits.
+
+  $ for text in 0a1 1: '#' '2nd' 012; do printf "$text" > names; sdv try $script $card $image names > named 2>&1; echo "$? $(tail -n 1 named)"; done
+  1 schedule fault: no event (CMD18, 2nd CMD18, line 31) with a colon in line 1
+  1 card fault Description
+  1 card fault Description
+  1 schedule fault: no event (CMD18, 2nd CMD18, line 31) with a colon in line 1
+  1 fault unready
+  $ printf '# n\xc3\xa4chste\nCMD8: lost' > names; sdv try $script $card $image names | tail -n 1; printf 'CMD8: lost\377' > names; sdv try $script $card $image names
+  fault unready
+  schedule fault: no mishap (command lost, answer lost, not ready, error shown, refused, phase cut, switch fails) in line 1
+  [1]
+
+Lines that name no event.
+
+  $ for line in 'CMD64: lost' 'ACMD64: lost' 'CMD: lost' 'CMD55 lost' 'CMD55 : lost' '0th CMD55: lost' '1th CMD55: lost' '2st CMD55: lost' '11st CMD55: lost' '2ndCMD55: lost' '2nd' 'line: lost' 'line x: lost' 'line 4294967296: lost' '4294967296th CMD55: lost' '99999999999999999999999th CMD55: lost' 'cmd55: lost' 'WAIT: not ready' 'done: lost' ': lost'; do
+  >   printf "$line" > names; sdv try $script $card $image names 2>&1 | grep -v 'no event (CMD18, 2nd CMD18, line 31) with a colon in line 1$'
+  > done; echo all of them
+  all of them
+  $ printf 'CMD55: lost\n\n# more\nCMD: lost\nCMD55: none\n' > names; sdv try $script $card $image names
+  schedule fault: no event (CMD18, 2nd CMD18, line 31) with a colon in line 4
+  [1]
+
+Lines that name no mishap.
+
+  $ for line in 'CMD55: late' 'CMD55:' 'CMD55: lost twice' 'CMD55: lostly' 'CMD55: 1' 'CMD55: Lost' 'CMD55: answer  lost' 'CMD55: lost; CMD41: lost'; do
+  >   printf "$line" > names; sdv try $script $card $image names 2>&1 | sed 's/(.*) //'
+  > done
+  schedule fault: no mishap in line 1
+  schedule fault: no mishap in line 1
+  schedule fault: no mishap in line 1
+  schedule fault: no mishap in line 1
+  schedule fault: no mishap in line 1
+  schedule fault: no mishap in line 1
+  schedule fault: no mishap in line 1
+  schedule fault: no mishap in line 1
+  $ printf '\r\nCMD55: is lost\r\n' > names; sdv try $script $card $image names
+  schedule fault: no mishap (command lost, answer lost, not ready, error shown, refused, phase cut, switch fails) in line 2
+  [1]
+
+At most 64 lines name a mishap.
+
+  $ for i in 1 2 3 4 5 6 7 8; do for j in 1 2 3 4 5 6 7 8; do echo 'CMD8: lost'; done; done > names; sdv try $script $card $image names | tail -n 1
+  fault unready
+  $ echo >> names; echo '# one more' >> names; sdv try $script $card $image names | tail -n 1
+  fault unready
+  $ echo 'CMD9: lost' >> names; sdv try $script $card $image names
+  schedule fault: more than 64 mishaps
+  [1]
+
+A wrong line is told once the file is read, before anything is said of the others but that they can be read. Nothing is written.
+
+  $ printf 'CMD55: none' > names; printf 'card\n' > none.sdv; head -c 511 /dev/zero > odd; sdv try none.sdv none.sdv odd names --in nofile
+  schedule fault: no mishap (command lost, answer lost, not ready, error shown, refused, phase cut, switch fails) in line 1
+  [1]
+  $ sdv try $script nofile odd names
+  cannot use nofile
+  [2]
+  $ printf x > out; sdv try $script $card $image names --out out || wc -c < out
+  schedule fault: no mishap (command lost, answer lost, not ready, error shown, refused, phase cut, switch fails) in line 1
+  1
+  $ printf 'CMD8: lost' > names; sdv try none.sdv none.sdv odd names
+  card fault ImageLength
+  [1]
+  $ sdv try none.sdv none.sdv new:16 names
+  script fault Syntax line 2
+  [1]
+  $ sdv try $script none.sdv new:16 names
+  card fault Description
+  [1]
+  $ sdv try $script $EXAMPLES/emmc_block.card new:16 names
+  the script is for another kind of card
+  [1]
+  $ sdv try $script $card new:16 names
+  card fault ImageLength
+  [1]
+
+Where blocks are given, read or written, the run that is printed alone changes files.
+
+  $ head -c 4096 /dev/zero | tr '\0' x > blocks; head -c 524288 /dev/zero > image; script=$EXAMPLES/hosts/linux_write_many.sdv
+  $ printf 'CMD12: answer lost' > names; sdv try $script $card image names --in blocks > named; tail -n 2 named; tr -d '\0' < image | wc -c
+  run fault Input
+  CMD13 12340000 R1 00000900
+  CMD25 00000008 R1 00000900
+  4096
+  $ printf 000000000000000020 > digits; head -c 524288 /dev/zero > other; sdv try $script $card other digits --in blocks | cmp - named; cmp image other
+  run fault Input
+  $ printf 'CMD18: lost' > names; sdv try $EXAMPLES/hosts/linux_read_many.sdv $card image names --out read | tail -n 1; wc -c < read
+  done
+  4096
+
+What `refute` tells of a run, written as names, shows the same run. On line 31 of the second script CMD12 is not the first event.
+
+  $ head -c 1048576 /dev/zero > zeros
+  $ again() {
+  >   sdv refute $EXAMPLES/hosts/$1.sdv --card card > told; sed -n '/^mishaps/,/^wrong/p' told | sed '1d;$d'; printf "$2" > names
+  >   sdv try $EXAMPLES/hosts/$1.sdv card $(sed -n 's/^card over //p' told) names --in zeros > named; sed '1,/^trace/d' told | cmp - named
+  > }
+  $ again linux_erase 'line 30: refused\n'
+  line 30: the card refuses CMD32 with an error
+  line 31: CMD33 comes to a card in tran state whose erase sequence is not so far
+  $ again linux_write_many 'CMD12: answer lost\nline 32: not ready\n'
+  line 31: the answer to CMD12 is lost
+  line 32: the card is not ready at CMD13
+  line 32: CMD12 comes to a card in prg state, where it is not legal
+  $ again uboot 'line 13: refused\n'
+  line 13: the card refuses CMD55 with an error
+  line 14: CMD41 comes to a card in idle state without the application flag
+  $ again uboot_read_many 'line 24: answer lost\n'
+  line 24: the answer to CMD18 is lost
+  line 23: CMD16 comes to a card in data state, where it is not legal
+
+Names are for `try` alone.
+
+  $ printf 'CMD8: lost' > names; sdv run $EXAMPLES/sd_bring_up.sdv $EXAMPLES/sd_bring_up.cert $card new:1024 names
+  card fault Description
+  [1]
+  $ sdv card $card new:1024 names < /dev/null
+  card fault Description
+  [1]
+  $ sdv describe $card names | tail -n 1
+  card fault Description
+  the schedule is wrong, line 1: here is to stand a digit from 0 to 7
