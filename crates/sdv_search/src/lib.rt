@@ -26,4 +26,4 @@ pub use brief::shown_run;
 pub use refuting::{Found, Refutation, refute};
 pub use reporting::{report, schedule_digits};
 pub use sweeping::{Row, RunEnd, SweepGiven, SweepTable, sweep};
-pub use table::{Tally, has_wrong, put_table, tally_of};
+pub use table::{Tally, has_wrong, put_table};

@@ -68,7 +68,7 @@ pub struct Row {
 
 impl Row {
     /// What the runs come to, in the order of the values of a schedule from 1 on.
-    pub fn ends(&self) -> [RunEnd; 7] {
+    pub(crate) fn ends(&self) -> [RunEnd; 7] {
         [
             self.command_lost,
             self.answer_lost,

@@ -42,7 +42,7 @@ impl Tally {
 }
 
 /// How the runs with one mishap ended.
-pub fn tally_of(table: &SweepTable) -> Tally {
+pub(crate) fn tally_of(table: &SweepTable) -> Tally {
     let mut tally = Tally::default();
     for row in &table.rows {
         for end in &row.ends() {
