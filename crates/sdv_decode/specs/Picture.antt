@@ -67,7 +67,7 @@ mark_front Fault = codes "<text x=\"75\" y=\"5.6\" text-anchor=\"middle\" font-s
 abbrev pub marked : Mark → (words : Text) → Text
 marked mark words = mark_words mark ++ element (mark_front mark) 38 words
 
--- A ROW begins with the number of its line, and that of the script
+-- A ROW has the number of its line in the trace, and then the number of the script's line
 abbrev pub row_place : (number : ℕ) → Text
 row_place number = codes "<g transform=\"translate(0 " ++ (decimal number ++ codes "0)\">\n")
 

@@ -4,7 +4,7 @@ ghost use Rattle.std.specs.Prelude.{None};
 
 use sdv_image::{Image, ImageFault};
 
-/// Blocks of zeros that stay zeros, whatever is written: for runs of which nobody reads the blocks.
+/// An image whose blocks are always zeros. A write changes nothing. It serves runs whose blocks nobody reads.
 #[derive(Drop)]
 pub struct BlankImage {
     /// How many blocks it has.

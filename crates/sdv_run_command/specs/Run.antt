@@ -369,8 +369,8 @@ abbrev pub EndsApart : Files → RunNames → Ending
 EndsApart files names None trace trace' = EndsRun files names ends.Done trace trace'
 EndsApart files names (Some fault) trace trace' = RunFails files names fault trace trace'
 
--- NO FILE IS LOST BY A SLIP: the file of the output is none of those that are read, and that of the registers is none of the
--- others
+-- NO FILE IS LOST BY A SLIP. The file of the output differs from each file that is read. The file of the registers differs
+-- from all of these
 
 abbrev pub IsSameImage : Files → (image output : Text) → Type 0
 IsSameImage files image output = IsOfFile image × files.same image output
