@@ -62,13 +62,13 @@ A write that a clean status in transfer state confirms, one that nothing confirm
 
 A write that was cut, and given up for a done; and one that was left for another place.
 
-  $ up() { grep -v '^done' $EXAMPLES/sd_bring_up.sdv; echo 'if cap >= 16 { } else { fault small }'; cat; }
-  > up << 'END' > cut.sdv
+  $ for kind in sd emmc; do up() { grep -v '^done' $EXAMPLES/${kind}_bring_up.sdv; echo 'if cap >= 16 { } else { fault small }'; cat; }
+  >   up << 'END' > cut.sdv
   > send 24 at by hc 8 { clean { give { ok { } else { } }
   >   loop 1000 { send 13 { state=rcv { send 12 { else { } } } clean & state=tran { done } else { } } } else { fault stuck }
   > } else { fault lost } }
   > END
-  > up << 'END' > other.sdv
+  >   up << 'END' > other.sdv
   > send 24 at by hc 8 { clean { give { ok { } else { } }
   >   loop 1000 { send 13 { state=rcv { send 12 { else { } } } state=tran { break } else { } } } else { fault stuck }
   > } else { fault lost } }
@@ -76,28 +76,77 @@ A write that was cut, and given up for a done; and one that was left for another
   >   send 13 { clean & state=tran { done } else { fault write } } } else { fault cut } } } else { fault lost } }
   > fault write
   > END
-  > sdv review cut.sdv; sdv review --json other.sdv
+  >   sdv review cut.sdv; sdv review --json other.sdv
+  > done
   line 16: done may come where the write of line 15 was cut, or its error passed over
   gives at most 1 block
   {"line":20,"kind":"unreached","text":"no run comes to fault write"}
   {"line":19,"kind":"write","text":"done may come where line 18 left the write of line 15, which may have failed"}
   {"kind":"blocks","text":"gives at most 2 blocks"}
+  line 15: done may come where the write of line 14 was cut, or its error passed over
+  gives at most 1 block
+  {"line":19,"kind":"unreached","text":"no run comes to fault write"}
+  {"line":18,"kind":"write","text":"done may come where line 17 left the write of line 14, which may have failed"}
+  {"kind":"blocks","text":"gives at most 2 blocks"}
   [1]
+
+A write that comes again after a number changed is another one.
+
+  $ { sed '/^done/d; s/^nums cap/nums cap b/' $EXAMPLES/sd_bring_up.sdv; cat << 'END'; } > again.sdv
+  > if cap >= 16 { } else { fault small }
+  > let b = 8
+  > loop 3 {
+  >   send 24 at by hc b { clean { give { ok { loop 1000 { wait { ok { break } else { } } } else { fault busy }
+  >     send 13 { clean & state=tran { done } else { } } } else { fault cut } } } else { fault lost } }
+  >   let b = 8
+  > } else { fault unwritten }
+  > END
+  $ sdv review again.sdv; sed '19d' again.sdv | sdv review -
+  line 18: done may come where line 19 left the write of line 17, which may have failed
+  gives at most 3 blocks
+  nothing found
+  gives at most 3 blocks
+
+A number that is set between a command and its blocks, and more writes open at once than a review keeps apart.
+
+  $ up() { sed '/^done/d; s/^nums cap/nums cap b/' $EXAMPLES/sd_bring_up.sdv; echo 'if cap >= 16 { } else { fault small }'; cat; }
+  > up << 'END' > set.sdv
+  > let b = 8
+  > send 24 at by hc b { clean { let b = 9 give { ok { loop 1000 { wait { ok { break } else { } } } else { fault busy }
+  >   send 13 { clean & state=tran { done } else { fault write } } } else { fault cut } } } else { fault lost } }
+  > END
+  $ sdv review set.sdv | head -1
+  line 17: it is not known whether each write is stored
+  $ for most in 8 9; do
+  >   awk -v most=$most 'BEGIN {
+  >     printf "loop 1 {"
+  >     for (i = 1; i <= most; i++) printf " if cap < %d00 { send 24 at by hc %d { clean { give { ok { break } else { fault c } } } else { fault l } } } else {", i, i
+  >     printf " fault big"; for (i = 1; i <= most; i++) printf " }"; print " } else { fault o }"
+  >     print "loop 9 { wait { ok { break } else { } } } else { fault b }"
+  >     print "send 13 { clean & state=tran { done } else { fault d } }" }' | up > $most.sdv; sdv review $most.sdv | grep -v never
+  > done
+  gives at most 1 block
+  line 17: it is not known whether each write is stored
+  gives at most 1 block
 
 An erase, confirmed and not.
 
-  $ up() { grep -v '^done' $EXAMPLES/sd_bring_up.sdv; echo 'if cap >= 16 { } else { fault small }'; cat; }
+  $ for kind in sd emmc; do up() { grep -v '^done' $EXAMPLES/${kind}_bring_up.sdv; echo 'if cap >= 16 { } else { fault small }'; cat; }
+  > case $kind in sd) first=32 last=33 erase=38;; *) first=35 last=36 erase='38 0';; esac
   > for end in 'send 13 { clean & state=tran { done } else { fault erase } }' done; do
   > up << END > erase.sdv
-  > send 32 at by hc 8 { clean { send 33 at by hc 9 { clean { send 38 { clean {
+  > send $first at by hc 8 { clean { send $last at by hc 9 { clean { send $erase { clean {
   >   loop 1000 { wait { ok { break } else { } } } else { fault busy } $end
   > } else { fault erase } } } else { fault erase } } } else { fault erase } }
   > fault erase
   > END
-  > sdv review erase.sdv; done
+  > sdv review erase.sdv; done; done
   line 18: no run comes to fault erase
   line 18: no run comes to fault erase
   line 16: done may come before the erase of line 15 is confirmed
+  line 17: no run comes to fault erase
+  line 17: no run comes to fault erase
+  line 15: done may come before the erase of line 14 is confirmed
   [1]
 
 A CMD6 that was lost leaves open which partition a write reaches.
@@ -132,7 +181,13 @@ A write into another partition than the script may have asked for, as it seems b
 
 Statements that no run reaches, tests that come out one way, and names that are never read.
 
-  $ printf 'card sd\nflags a\nnums n\nsend 0 { else { } }\nif n < 1 { fault end } else { }\nset a\nfault end\n' | sdv review -
+  $ for kind in sd emmc; do
+  >   printf "card $kind\nflags a\nnums n\nsend 0 { else { } }\nif n < 1 { fault end } else { }\nset a\nfault end\n" | sdv review -
+  > done
+  line 5: this test always holds
+  line 6: no run comes to set a
+  line 7: no run comes to fault end
+  line 6: a is never read
   line 5: this test always holds
   line 6: no run comes to set a
   line 7: no run comes to fault end
@@ -141,10 +196,44 @@ Statements that no run reaches, tests that come out one way, and names that are 
   $ printf 'card sd\nsend 0 { else { } }\nfault end\n' | sdv review -
   nothing found
 
-A script of 4,000 commands is reviewed in some seconds at the most.
+A script at the limits is reviewed within a second of processor time: one of 4,000 commands, and one with writes that are open at
+3,200 points, of which each has many shapes and loops lead back to them.
 
   $ awk 'BEGIN { print "card sd"; for (i = 0; i < 4000; i++) print "send 0{else{}}"; print "fault stop" }' > many.sdv
-  $ (ulimit -t 10; sdv review many.sdv)
+  $ (ulimit -t 1; sdv review many.sdv)
+  nothing found
+  $ for kind in sd emmc; do { grep -v '^done' $EXAMPLES/${kind}_bring_up.sdv; awk 'BEGIN {
+  >   print "if cap >= 16 { } else { fault small }"
+  >   for (i = 0; i < 4; i++)
+  >     print "send 24 at by hc " i "{clean{give{ok{loop 9{wait{ok{break}else{}}}else{fault b}send 13{state=tran{}else{}}}else{fault c}}}else{fault l}}"
+  >   print "send 24 at by hc 8{clean{give{ok{}else{}}}else{}}"
+  >   print "loop 3{loop 3{loop 3{loop 3{"
+  >   for (i = 0; i < 3200; i++) print "send 13{else{}}"
+  >   print "}else{}}else{}}else{}}else{}"
+  >   print "fault x" }'; } > shapes.sdv; (ulimit -t 1; sdv review shapes.sdv); done
+  nothing found
+  gives at most 5 blocks
+  nothing found
+  gives at most 5 blocks
+
+A number of blocks above 64 bits is not told.
+
+  $ { grep -v '^done' $EXAMPLES/sd_bring_up.sdv; cat << 'END'; } | sdv review -
+  > if cap >= 70000 { } else { fault small }
+  > loop 65535 { loop 65535 { loop 65535 {
+  >   send 25 at by hc 8 count 65535 { else { fault lost } }
+  > } else { } } else { } } else { }
+  > fault end
+  > END
+  nothing found
+  gives at most 18445618199572250625 blocks
+  $ { grep -v '^done' $EXAMPLES/sd_bring_up.sdv; cat << 'END'; } | sdv review -
+  > if cap >= 70000 { } else { fault small }
+  > loop 65535 { loop 65535 { loop 65535 { loop 65535 {
+  >   send 25 at by hc 8 count 65535 { else { fault lost } }
+  > } else { } } else { } } else { } } else { }
+  > fault end
+  > END
   nothing found
 
 What certify refuses.

@@ -1,6 +1,8 @@
 -- THAT THE DATA IS THERE where a run is done: of each write phase the blocks stand on the card as they were given, in
--- the place that the script asked for, unless a later write phase or an erase of the run reaches one of them.
-use Rattle.std.specs.Prelude.{◌≡◌, ◌⊎◌, ◌+◌, ◌<◌, ℕ, Bool, List, [], ◌∷◌, length, take, drop, if◌then◌else◌}
+-- the place that the script asked for, unless a later write phase reaches one of them or an erase follows in their
+-- partition.
+use Rattle.std.specs.Prelude.{◌≡◌, ◌⊎◌, ◌+◌, ◌<◌, ℕ, Bool, true, List, [], ◌∷◌, length, take, drop, if◌then◌else◌}
+use Rattle.sdv_card.specs.declared.event.Ask.{Ask}
 use Rattle.sdv_card.specs.declared.state.Partition.{Partition}
 use Rattle.sdv_card.specs.declared.state.Partition.TheVariants.{User}
 use Rattle.sdv_card.specs.declared.command.Row.TheVariants.{Cmd38}
@@ -14,7 +16,7 @@ use Rattle.sdv_graph.specs.Graph.{Graph, begin}
 use Rattle.sdv_graph.specs.Path.{Path}
 use Rattle.sdv_graph.specs.Walk.{Pair, Finished}
 use Rattle.sdv_review.specs.Moves.{asked_by}
-use Rattle.sdv_review.specs.Statuses.{is_write}
+use Rattle.sdv_review.specs.Statuses.{is_erase, is_write}
 
 -- blocks that were given, from a first block of a partition on
 pub record Given : Type 0 where
@@ -32,8 +34,9 @@ pub record Overlaps (g : Given) (partition : Partition) (first count : ℕ) : Ty
   pub below : first < g.first + length g.blocks
   pub above : g.first < first + count
 
--- the card took an erase, which may leave anything in any block of the partition in access
-pub record Erases (g : Given) (c u : Card) : Type 0 where
+-- the card took a CMD38, which may leave anything in any block of the partition in access, whichever blocks it names
+pub record Erases (g : Given) (ask : Ask) (c u : Card) : Type 0 where
+  pub asks : is_erase ask ≡ true
   pub settled_card : Card
   pub settled : Settled c settled_card
   pub argument : ℕ
@@ -44,7 +47,7 @@ pub record Erases (g : Given) (c u : Card) : Type 0 where
 -- what an event does to a card reaches one of the blocks
 abbrev pub Reaches : Given → ScriptEvent → (c u : Card) → Type 0
 Reaches g (GiveBlocks lines blocks) c u = Overlaps g c.mode.partition c.next_block c.announced
-Reaches g (SendCommand ask position argument) c u = Erases g c u
+Reaches g (SendCommand ask position argument) c u = Erases g ask c u
 Reaches g event c u = ⊥
 
 -- some event of a run does

@@ -1,7 +1,7 @@
 -- THE MOST BLOCKS that a run gives, by the statements alone. A command that begins a write counts the blocks that it
 -- announces, since a write phase needs a command of its own. Of the ways of a statement the one with the most counts, and
 -- a loop counts for each of its turns.
-use Rattle.std.specs.Prelude.{ℕ, zero, suc, ◌+◌, ◌*◌, max, List, [], ◌++◌, Option, Some, None, codes, decimal, if◌then◌else◌}
+use Rattle.std.specs.Prelude.{ℕ, zero, suc, ◌+◌, ◌*◌, max, [], ◌++◌, Option, Some, None, codes, decimal, if◌then◌else◌}
 use Rattle.sdv_card.specs.declared.event.Ask.{Ask}
 use Rattle.sdv_graph.specs.Tree.{Statements, nothing, first, Ways, otherwise, way, Statement, send, phase, setting, choice, set, clear, bus_lines, turns, break, done, fault}
 use Rattle.sdv_telling.specs.Statements.{Text}
