@@ -24,6 +24,7 @@ use Rattle.sdv_card.specs.Takes.{matches}
 use Rattle.sdv_card.specs.CommandTable.{order_of, addressed_blocks}
 use Rattle.sdv_card.specs.Card.{Card, IsCard, IsByte, IsRegister, AreBlocks, DataRegisters, AddressFits, capacity_of, blocks_of, transfer_fits, kind_fits, length_fits}
 use Rattle.sdv_card.specs.Host.{Host}
+use Rattle.sdv_card.specs.ScriptEvent.{event_of}
 use Rattle.sdv_card.specs.Code.{code_of, digits, fields_of}
 use Rattle.sdv_card.specs.Shapes.{view, pair_code, is_shape, match_fits}
 use Rattle.sdv_card.specs.LegalShapes.{ask_legal, event_legal, legal_at, legal_code}
@@ -33,12 +34,12 @@ use Rattle.sdv_card.proofs.Digits.{same_fields}
 use Rattle.sdv_card.proofs.Members.{and_left, and_right}
 use Rattle.sdv_card.proofs.RowsOfOrders.{order_count}
 use Rattle.sdv_card.proofs.OrdersOfAsks.{of_ask}
-use Rattle.sdv_card.proofs.TableLaws.{asks_address}
+use Rattle.sdv_card.proofs.TableLaws.{asks_address, legal_is_exact}
 use Rattle.sdv_outcomes.specs.OpenGuards.{OpenGuards}
 use Rattle.sdv_outcomes.specs.Representative.{IsRepresentativePair}
 use Rattle.sdv_outcomes.specs.Histories.{Entry, Happens, is_impossible_by, is_impossible_match, IsHistory, EntryWithin, IsWithin}
-use Rattle.sdv_outcomes.specs.EachShape.{CardWithOutcome, EachOutcomeHasCard}
-use Rattle.sdv_outcomes.proofs.MadeEvents.{block, block_fits}
+use Rattle.sdv_outcomes.specs.EachShape.{CardWithOutcome, EachOutcomeHasCard, EachIllegalShapeHasCard}
+use Rattle.sdv_outcomes.proofs.MadeEvents.{block, block_fits, event_for, event_is, event_made}
 use Rattle.sdv_outcomes.proofs.HistoryRuns.{histories_have_runs}
 
 -- THE CARD, with n blocks in each partition, and its host
@@ -301,3 +302,29 @@ has_card k code event position o guards (Some f) e l legal m =
 pub each_outcome_has_card : (k : Kind) → EachOutcomeHasCard k
 each_outcome_has_card k code event position o guards legal m =
     has_card k code event position o guards (fields_of code) refl legal legal m
+
+-- AN ILLEGAL EVENT
+
+pub each_illegal_shape_has_card : (k : Kind) → EachIllegalShapeHasCard k
+each_illegal_shape_has_card k code f event position e shape illegal =
+    let is : Shown code f = shown code f e in
+    let c : Card = card_for k 1 f in
+    let h : Host = host_for f in
+    let s : ShapeFits k f = shape_fits k f shape in
+    let pair : IsRepresentativePair k c h = pair_for k 1 f s is.flags is.preset (lit< tt) in
+    let same : pair_code c h ≡ code = ap code_of (view_for k 1 f s) ∙ is.same in
+    record {
+      card = c;
+      host = h;
+      pair = pair;
+      same = same;
+      event_made = event_for k event position c h;
+      is = event_is k event position c h;
+      made = event_made k event position c h;
+      illegal = λ x is_event made legal.
+          let yes : legal_code k (pair_code c h) (event_of x) ≡ true = (legal_is_exact k x c h pair.pair made).0 legal in
+          let here : legal_code k code event ≡ true =
+          subst (λ v. legal_code k v event ≡ true) same (subst (λ v. legal_code k (pair_code c h) v ≡ true) is_event yes) in
+          let bad : true ≡ false = sym here ∙ illegal in
+          cc;
+    }

@@ -3,7 +3,7 @@
 ghost use Rattle.sdv_registers.specs.declared.kind.Kind.{Kind};
 ghost use Rattle.sdv_outcomes.specs.OpenGuards.{OnlyTheseAreOpen};
 ghost use Rattle.sdv_outcomes.specs.OutcomeSteps.{OutcomesAreSteps, ImpossibleMatchesAreNoSteps};
-ghost use Rattle.sdv_outcomes.specs.EachShape.{EachOutcomeHasCard};
+ghost use Rattle.sdv_outcomes.specs.EachShape.{EachOutcomeHasCard, EachIllegalShapeHasCard};
 ghost use Rattle.sdv_outcomes.specs.Runs.{HistoriesHaveRuns, RunsHaveHistories, StartRunsAreHistories};
 ghost use Rattle.sdv_outcomes.specs.StartCards.{NoneHasMore, EachStartHasCard, SomeCardRuns};
 ghost use Rattle.sdv_outcomes.specs.IllegalShapes.{IllegalShapesAreReal};
@@ -27,6 +27,12 @@ pub fn impossible_matches_are_no_steps()
 /// Each outcome of a legal event is of a step of some card with that code, with no exception.
 pub fn each_outcome_has_card()
     ensures { (k : Kind) → EachOutcomeHasCard k }
+{}
+
+/// Where an event is not legal at a shape, there is a representative card of that shape at which it is not legal, however its
+/// host makes it; and the host can make it.
+pub fn each_illegal_shape_has_card()
+    ensures { (k : Kind) → EachIllegalShapeHasCard k }
 {}
 
 /// Each history is that of a run of each representative card which has the blocks that its commands address.
