@@ -1,32 +1,33 @@
 Audits of traces.
 
   $ printf 'CMD0 00000000 -\nCMD8 000001aa R7 000001aa\n' > a.trace; sdv audit sd a.trace
-  2 lines, 0 reckless, 0 that no card answers, 0 beyond the capacity, 0 outside
+  2 lines, 0 reckless, 0 that no card answers, 0 of another length, 0 beyond the capacity, 0 outside
   $ sdv audit sd - --json < a.trace
-  {"lines":2,"reckless":0,"unanswered":0,"beyond":0,"outside":0}
+  {"lines":2,"reckless":0,"unanswered":0,"lengths":0,"beyond":0,"outside":0}
   $ sdv audit sd --annotate a.trace
-  line 1: CMD0 00000000: in idle
-  line 2: CMD8 000001aa: in idle
-  2 lines, 0 reckless, 0 that no card answers, 0 beyond the capacity, 0 outside
+  line 1: CMD0 00000000 -: in idle
+  line 2: CMD8 000001aa R7 000001aa: in idle
+  at the end: in idle
+  2 lines, 0 reckless, 0 that no card answers, 0 of another length, 0 beyond the capacity, 0 outside
 
 A command that is not legal in a state that the card may be in.
 
   $ printf 'CMD0 00000000 -\nCMD17 00000000 R1 00000900\n' > b.trace; sdv audit sd b.trace
   line 2: CMD17 00000000: a card that answered so may be in idle: byte addresses, block length not 512
-  2 lines, 1 reckless, 0 that no card answers, 0 beyond the capacity, 0 outside
+  2 lines, 1 reckless, 0 that no card answers, 0 of another length, 0 beyond the capacity, 0 outside
   [1]
   $ sdv audit --json sd b.trace
   {"line":2,"told":"CMD17 00000000","finding":"reckless","text":"a card that answered so may be in idle: byte addresses, block length not 512"}
-  {"lines":2,"reckless":1,"unanswered":0,"beyond":0,"outside":0}
+  {"lines":2,"reckless":1,"unanswered":0,"lengths":0,"beyond":0,"outside":0}
   [1]
 
 Lines outside the tables alone are no finding, and a trace may have no line.
 
   $ printf 'CMD0 00000000 -\nCMD5 00000000 timeout\n' | sdv audit sd -
   line 2: CMD5 00000000: outside the tables; the audit goes on as if it had not come
-  2 lines, 0 reckless, 0 that no card answers, 0 beyond the capacity, 1 outside
+  2 lines, 0 reckless, 0 that no card answers, 0 of another length, 0 beyond the capacity, 1 outside
   $ sdv audit emmc - < /dev/null
-  0 lines, 0 reckless, 0 that no card answers, 0 beyond the capacity, 0 outside
+  0 lines, 0 reckless, 0 that no card answers, 0 of another length, 0 beyond the capacity, 0 outside
 
 A text that is no trace, a kind that is none, a file that cannot be used, and an output that fails.
 
@@ -34,7 +35,7 @@ A text that is no trace, a kind that is none, a file that cannot be used, and an
   trace fault Index line 2
   [1]
   $ sdv audit mmc a.trace 2> said; echo $? $(cut -c 1-26 said)
-  2 usage: mmc is no KIND: sdv
+  2 usage: mmc is no KIND (sd
   $ sdv audit sd none.trace
   cannot use none.trace
   [2]
@@ -55,3 +56,48 @@ A line has at most 1,024 bytes; a trace is read line by line.
   $ sdv audit sd /dev/zero
   trace fault Length line 1
   [1]
+
+No line of CMD18 and CMD25 tells how many blocks they announce; the next phase does, however far it is.
+
+  $ printf '%s\n' 'CMD0 00000000 -' 'CMD8 000001aa R7 000001aa' 'CMD55 00000000 R1 00000120' 'CMD41 40ff8000 R3 c0ff8000' > up
+  $ printf '%s\n' 'CMD2 00000000 R2 00aa585951454d552101deadbeef00' 'CMD3 00000000 R6 45670500' >> up
+  $ printf '%s\n' 'CMD9 45670000 R2 400e00325b5900001fff7f800a4000' 'CMD7 45670000 R1 00000700' >> up
+  $ printf '%s\n' 'CMD18 00000008 R1 00000900' 'CMD13 45670000 R1 00000b00' 'IN 4 ok' 'CMD12 00000000 R1 00000b00' | cat up - | sdv audit sd -
+  12 lines, 0 reckless, 0 that no card answers, 0 of another length, 0 beyond the capacity, 0 outside
+
+A phase that no host makes, whatever the card answers.
+
+  $ printf '%s\n' 'CMD24 00000008 R1 00000900' 'OUT 2 cut' | cat up - | sdv audit sd -
+  line 10: OUT 2 cut: no host of the tables makes this phase: 1 due
+  10 lines, 0 reckless, 0 that no card answers, 1 of another length, 0 beyond the capacity, 0 outside
+  [1]
+  $ printf '%s\n' 'CMD24 00000008 R1 00000900' 'OUT 2 cut' | cat up - | sdv audit sd - --json
+  {"line":10,"told":"OUT 2 cut","finding":"length","text":"no host of the tables makes this phase: 1 due"}
+  {"lines":10,"reckless":0,"unanswered":0,"lengths":1,"beyond":0,"outside":0}
+  [1]
+
+Answers that no card gives in any state.
+
+  $ printf 'CMD0 00000000 -\nCMD8 000001aa R7 000001ab\n' | sdv audit sd -
+  line 2: CMD8 000001aa: no card answers so: R7 000001ab
+  2 lines, 0 reckless, 1 that no card answers, 0 of another length, 0 beyond the capacity, 0 outside
+  [1]
+  $ (head -n 5 up; echo 'CMD3 00000000 R6 00000500') | sdv audit sd -
+  line 6: CMD3 00000000: no card answers so: R6 00000500
+  6 lines, 0 reckless, 1 that no card answers, 0 of another length, 0 beyond the capacity, 0 outside
+  [1]
+  $ (head -n 7 up; echo 'CMD9 45670000 R2 400e00325b5900001fff7f800a4001') | sdv audit sd -
+  line 8: CMD9 45670000: no card answers so: R2 400e00325b5900001fff7f800a4001
+  8 lines, 0 reckless, 1 that no card answers, 0 of another length, 0 beyond the capacity, 0 outside
+  [1]
+
+A host that is reckless behind an address that lies on no card.
+
+  $ printf '%s\n' 'CMD0 00000000 -' 'CMD1 40ff8080 R3 c0ff8080' 'CMD2 00000000 R2 00aa585951454d552101deadbeef00' 'CMD3 00010000 R1 00000500' > e
+  $ printf '%s\n' 'CMD7 00010000 R1 00000700' 'CMD24 ffffffff R1 00000900' 'OUT 1 ok' 'CMD17 00000000 R1 00000900' | cat e - | sdv audit emmc -
+  line 8: CMD17 00000000: a card that answered so may be in prg: block addresses (an address before it may lie on no card, or a count before it is not told)
+  8 lines, 1 reckless, 0 that no card answers, 0 of another length, 0 beyond the capacity, 0 outside
+  [1]
+  $ printf '%s\n' 'CMD7 00010000 R1 00000700' | cat e - | sdv audit emmc - --annotate --json | tail -n 2
+  {"line":5,"told":"","finding":"end","text":"in tran"}
+  {"lines":5,"reckless":0,"unanswered":0,"lengths":0,"beyond":0,"outside":0}

@@ -13,14 +13,14 @@ use Rattle.sdv_audit.specs.declared.audit.Audit.{Audit}
 use Rattle.sdv_audit.specs.declared.audit.Findings.{Findings}
 use Rattle.sdv_audit.specs.declared.fault.AuditFault.{AuditFault}
 use Rattle.sdv_audit.specs.Turns.{turn_of, known_after}
-use Rattle.sdv_audit.specs.Carried.{has_address, Follows}
+use Rattle.sdv_audit.specs.Carried.{Follows}
 use Rattle.sdv_audit.specs.Standing.{known_of, turn_behind, Covers, NoneAnswers}
 use Rattle.sdv_audit.specs.Audited.{is_empty, Stands, AllBeyond, AllLegal, IsIllegalAt, is_unanswered, lines_told, Behind}
-use Rattle.sdv_audit.specs.Lived.{turn_within, Lived, IsReckless}
+use Rattle.sdv_audit.specs.Lived.{turn_within, LivedFor, IsReckless}
 use Rattle.sdv_audit.specs.Beyond.{is_beyond, NoneInBounds}
 use Rattle.sdv_audit.proofs.Bounded.{none_in_bounds}
 use Rattle.sdv_audit.proofs.Sound.{covers_more}
-use Rattle.sdv_audit.proofs.Living.{lives_on, reckless_is_real}
+use Rattle.sdv_audit.proofs.Living.{lives_on, some_lived, does_recklessly}
 
 -- what is known, and the shapes, fit one line more
 pub record FitsMore (k : Kind) (known : HostKnown) (shapes : List Shape) (past : List Told) : Type 0 where
@@ -29,15 +29,15 @@ pub record FitsMore (k : Kind) (known : HostKnown) (shapes : List Shape) (past :
 
 -- shapes of real cards lead to those of real cards
 pub lived_more : (k : Kind) (known : HostKnown) (shapes after : List Shape) (turn : Turn) (told : Told) (past : List Told) →
-    known ≡ known_of k past → turn ≡ turn_of k known told → ((s : Shape) → May after s ↔ Follows k turn told.line (has_address known) shapes s) →
-    ((s : Shape) → May shapes s → Lived k past s) → ((s : Shape) → May shapes s → turn_within k turn told.line s.0 ≡ true) →
-    (s : Shape) → May after s → Lived k (told ∷ past) s
+    known ≡ known_of k past → turn ≡ turn_of k known told → ((s : Shape) → May after s ↔ Follows k turn told.line known shapes s) →
+    ((s : Shape) → May shapes s → LivedFor k past known.announced s) → ((s : Shape) → May shapes s → turn_within k turn told.line s.0 ≡ true) →
+    (s : Shape) → May after s → LivedFor k (told ∷ past) (known_of k (told ∷ past)).announced s
 lived_more k known shapes after turn told past is_known is_turn members lived in_bounds s m =
     let same_turn : turn ≡ turn_behind k past told = is_turn ∙ ap (λ v. turn_of k v told) is_known in
-    lives_on k past told shapes s lived
+    lives_on k past told shapes s (λ t n. subst (λ v. LivedFor k past v.announced t) is_known (lived t n))
     (λ t n. subst (λ v. turn_within k v told.line t.0 ≡ true) same_turn (in_bounds t n))
-    (subst (λ t. Follows k t told.line (has_address (known_of k past)) shapes s) same_turn
-    (subst (λ v. Follows k turn told.line (has_address v) shapes s) is_known ((members s).0 m)))
+    (subst (λ t. Follows k t told.line (known_of k past) shapes s) same_turn
+    (subst (λ v. Follows k turn told.line v shapes s) is_known ((members s).0 m)))
 
 -- where the address is beyond the CSD's blocks
 pub no_bounds : (old : Audit) (turn : Turn) (told : Told) (past : List Told) → turn ≡ turn_of old.kind old.known told → AllBeyond old turn told.line →
@@ -51,9 +51,8 @@ no_bounds old turn told past is_turn all stands =
 -- where the host is reckless
 pub real_reckless : (old : Audit) (turn : Turn) (s : Shape) (past : List Told) → IsIllegalAt old turn s → Stands old past → old.bounded ≡ true →
     IsReckless old.kind past turn s
-real_reckless old (Does event) s past x stands bounded = λ position.
-    let l : Lived old.kind past s = stands.lived bounded s x.0 in
-    record { lived = l; run = reckless_is_real old.kind past s event position l x.1 }
+real_reckless old (Does deed) s past x stands bounded =
+    does_recklessly old.kind past deed s (some_lived old.kind past old.known.announced s (stands.lived bounded s x.0)) x.1
 real_reckless old (Uses width) s past x stands bounded = absurd x
 real_reckless old (OtherLength due) s past x stands bounded = absurd x
 real_reckless old Ends s past x stands bounded = absurd x
@@ -66,15 +65,15 @@ some_reckless old turn (Some s) x = λ past stands bounded. real_reckless old tu
 
 pub one_more : (k : Kind) (known after_known : HostKnown) (shapes after : List Shape) (turn : Turn) (told : Told) (past : List Told) →
     known ≡ known_of k past → Covers k past shapes → turn ≡ turn_of k known told → after_known ≡ known_after k turn told.line known →
-    ((s : Shape) → May after s ↔ Follows k turn told.line (has_address known) shapes s) →
+    ((s : Shape) → May after s ↔ Follows k turn told.line known shapes s) →
     FitsMore k after_known after (told ∷ past)
 one_more k known after_known shapes after turn told past is_known covers is_turn is_after members =
     let same_turn : turn ≡ turn_behind k past told = is_turn ∙ ap (λ v. turn_of k v told) is_known in
     record {
       known_is = is_after ∙ (ap (λ t. known_after k t told.line known) same_turn ∙ ap (λ v. known_after k (turn_behind k past told) told.line v) is_known);
       covers = covers_more k past told shapes after covers
-          (λ s f. (members s).1 (subst (λ t. Follows k t told.line (has_address known) shapes s) (sym same_turn)
-          (subst (λ v. Follows k (turn_behind k past told) told.line (has_address v) shapes s) (sym is_known) f)));
+          (λ s f. (members s).1 (subst (λ t. Follows k t told.line known shapes s) (sym same_turn)
+          (subst (λ v. Follows k (turn_behind k past told) told.line v shapes s) (sym is_known) f)));
     }
 
 -- where no shape is left, no card answers so

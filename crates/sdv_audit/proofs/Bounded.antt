@@ -1,5 +1,5 @@
 -- Where an address is beyond what the CSD tells at each shape, the command is in bounds at no card.
-use Rattle.std.proofs.Common.{◌≡◌, ℕ, ◌+◌, ◌*◌, ◌%◌, ◌≤◌, ◌&&◌, nat_le, refl, ap, subst, sym, ◌∙◌, Bool, true, false, not, List, [], ◌∷◌, Option, Some, None, arith, if◌then◌else◌, eq-eqb}
+use Rattle.std.proofs.Common.{◌≡◌, ℕ, ◌+◌, ◌*◌, ◌%◌, ◌≤◌, ◌&&◌, nat_le, refl, ap, subst, sym, ◌∙◌, Bool, true, false, not, List, Option, Some, None, arith, if◌then◌else◌, eq-eqb}
 use Rattle.std.specs.Prelude.{is_none}
 use Rattle.std.proofs.lemmas.Bool.{le-leb}
 use Rattle.sdv_frames.specs.Bits.{bits_of}
@@ -7,82 +7,41 @@ use Rattle.sdv_frames.specs.declared.command.Command.{Command}
 use Rattle.sdv_registers.specs.declared.kind.Kind.{Kind}
 use Rattle.sdv_registers.specs.declared.kind.Kind.TheVariants.{Sd, Emmc}
 use Rattle.sdv_registers.specs.Csd.{fault, blocks}
-use Rattle.sdv_card.specs.declared.state.Width.{Width}
 use Rattle.sdv_card.specs.declared.state.Partition.{Partition}
 use Rattle.sdv_card.specs.declared.state.Partition.TheVariants.{User, Boot1, Boot2}
 use Rattle.sdv_card.specs.declared.shape.Shape.{Shape}
 use Rattle.sdv_card.specs.declared.fields.Fields.{Fields}
 use Rattle.sdv_card.specs.declared.event.Ask.{Ask}
 use Rattle.sdv_card.specs.declared.event.Event.TheVariants.{Send}
+use Rattle.sdv_card.specs.declared.answer.Answer.{Answer}
 use Rattle.sdv_card.specs.Lists.{May}
 use Rattle.sdv_card.specs.CommandTable.{addressed_blocks}
 use Rattle.sdv_card.specs.ScriptEvent.{SendCommand}
 use Rattle.sdv_card.specs.Card.{Card, capacity_of}
 use Rattle.sdv_card.specs.Host.{Host}
 use Rattle.sdv_card.specs.Legal.{InBounds, BlocksWithin}
-use Rattle.sdv_card.specs.Taken.{SameCard}
 use Rattle.sdv_card.specs.Code.{digits}
 use Rattle.sdv_card.specs.Shapes.{view, pair_code, IsPair}
-use Rattle.sdv_card.specs.Profile.{told_blocks, host_at_start}
-use Rattle.sdv_card.specs.Laws.{Sound, StartHolds}
+use Rattle.sdv_card.specs.Profile.{told_blocks}
 use Rattle.sdv_card.proofs.Digits.{digits_law}
-use Rattle.sdv_card.proofs.TableLaws.{steps_keep_same, steps_keep_sound, starts_hold}
 use Rattle.sdv_audit.specs.declared.line.TraceLine.{TraceLine}
 use Rattle.sdv_audit.specs.declared.line.TraceLine.TheVariants.{Exchange, BlocksIn, RegisterIn, BlocksOut, Wait, Lines, End}
 use Rattle.sdv_audit.specs.declared.known.HostKnown.{HostKnown}
 use Rattle.sdv_audit.specs.declared.turn.Told.{Told}
+use Rattle.sdv_audit.specs.declared.turn.Deed.TheVariants.{Known, Begins}
 use Rattle.sdv_audit.specs.declared.turn.Turn.{Turn}
 use Rattle.sdv_audit.specs.declared.turn.Turn.TheVariants.{Ends, Outside, Uses, OtherLength, Does}
-use Rattle.sdv_audit.specs.Standing.{StepTold, Goes, known_of, turn_behind, StartPair, Stood, shape_of, Covers}
+use Rattle.sdv_audit.specs.Standing.{known_of, turn_behind, shape_of, Covers}
 use Rattle.sdv_audit.specs.Lived.{block_named, names_block}
-use Rattle.sdv_audit.specs.Beyond.{if_readable, readable_blocks, told_capacity, beyond_capacity, beyond_by, is_beyond, Sends, NoneInBounds}
-use Rattle.sdv_audit.proofs.Sound.{StillKnown, stood_known}
-
--- WHAT A CARD TELLS of its capacity, and its host of it
-
-record Tells (c : Card) (h : Host) : Type 0 where
-  sound : Sound c h
-  told : told_blocks c.kind c.block_unit c.csd c.ext_csd ≡ c.capacity
-
-still_told : (c u : Card) → SameCard c u → told_blocks c.kind c.block_unit c.csd c.ext_csd ≡ c.capacity →
-    told_blocks u.kind u.block_unit u.csd u.ext_csd ≡ u.capacity
-still_told c u same told =
-    sym (ap (λ k. told_blocks k c.block_unit c.csd c.ext_csd) same.kind
-    ∙ (ap (λ b. told_blocks u.kind b c.csd c.ext_csd) same.block_unit
-    ∙ (ap (λ r. told_blocks u.kind u.block_unit r c.ext_csd) same.csd ∙ ap (λ r. told_blocks u.kind u.block_unit u.csd r) same.ext_csd)))
-    ∙ (told ∙ same.capacity)
-
-same_tells : (c u : Card) (h g : Host) → c ≡ u → h ≡ g → Tells c h → Tells u g
-same_tells c u h g e f t = subst (λ v. Tells v g) e (subst (λ v. Tells c v) f t)
-
-other_lines : (c : Card) (h : Host) (width : Width) → Tells c h → Tells c (record h { lines = width })
-other_lines c h width t = record {
-  sound = record { csd = t.sound.csd; ext_csd = t.sound.ext_csd; blocks = t.sound.blocks; register = t.sound.register };
-  told = t.told;
-}
-
-goes_tells : (k : Kind) (turn : Turn) (line : TraceLine) (c : Card) (h : Host) (u : Card) (g : Host) → IsPair k c h → Goes k turn line c h u g → Tells c h → Tells u g
-goes_tells k (Does event) line c h u g pair goes t =
-    let s : StepTold k event line c h u g = goes in
-    record {
-      sound = subst (λ v. Sound u v) s.host (steps_keep_sound k s.made_event c h s.returned u pair s.made s.legal s.step t.sound);
-      told = still_told c u (steps_keep_same k s.made_event c s.returned u pair.kind s.step) t.told;
-    }
-goes_tells k (Uses width) line c h u g pair goes t = same_tells c u (record h { lines = width }) g goes.0 goes.1 (other_lines c h width t)
-goes_tells k (OtherLength due) line c h u g pair goes t = absurd goes
-goes_tells k Ends line c h u g pair goes t = same_tells c u h g goes.0 goes.1 t
-goes_tells k Outside line c h u g pair goes t = same_tells c u h g goes.0 goes.1 t
-
-stood_tells : (k : Kind) (past : List Told) (c : Card) (h : Host) → Stood k past c h → Tells c h
-stood_tells k [] c h s =
-    let start : StartPair k c h = s in
-    let holds : StartHolds k c (host_at_start 0) = starts_hold k c 0 start.kind start.start in
-    subst (λ v. Tells c v) (sym start.host) (record { sound = holds.sound; told = start.start.profile.told })
-stood_tells k (told ∷ past) u g (c, h, stood, goes) =
-    let known : StillKnown k (known_of k past) c h = stood_known k past c h stood in
-    goes_tells k (turn_behind k past told) told.line c h u g known.pair goes (stood_tells k past c h stood)
+use Rattle.sdv_audit.specs.Beyond.{if_readable, readable_blocks, told_capacity, beyond_capacity, beyond_by, blocks_for_sure, is_beyond, IsAskOf, Sends, NoneInBounds}
+use Rattle.sdv_audit.proofs.Sound.{StillKnown, stood_known, Tells, stood_tells}
 
 -- IN BOUNDS, what the CSD tells is not passed
+
+-- the blocks that a turn addresses for sure
+abbrev sure_of : Turn → Option ℕ
+sure_of (Does deed) = blocks_for_sure deed
+sure_of turn = None
 
 in_readable : (b : Bool) (blocks_told unit_blocks argument count : ℕ) (unit : Bool) → names_block unit argument ≡ true →
     nat_le (block_named unit argument + count) blocks_told ≡ true → beyond_capacity (if_readable b blocks_told) unit argument count ≡ true → ⊥
@@ -141,22 +100,43 @@ card_beyond k csd (Some count) c h position argument kind tells is within e =
     ap (λ v. told_blocks v c.block_unit bytes c.ext_csd) kind ∙ (ap (λ v. told_blocks c.kind c.block_unit v c.ext_csd) same ∙ tells.told))
     within.unit within.room e
 
-at_code : (k : Kind) (known : HostKnown) (ask : Ask) (command : Command) (c : Card) (h : Host) → IsPair k c h →
-    beyond_by (told_capacity k known.csd (digits (pair_code c h)).block_unit (digits (pair_code c h)).mode.partition) (addressed_blocks ask)
+at_code : (k : Kind) (known : HostKnown) (addressed : Option ℕ) (command : Command) (c : Card) (h : Host) → IsPair k c h →
+    beyond_by (told_capacity k known.csd (digits (pair_code c h)).block_unit (digits (pair_code c h)).mode.partition) addressed
     (digits (pair_code c h)).block_unit command.argument ≡ true →
-    beyond_by (told_capacity k known.csd c.block_unit c.mode.partition) (addressed_blocks ask) c.block_unit command.argument ≡ true
-at_code k known ask command c h pair e =
-    subst (λ (f : Fields). beyond_by (told_capacity k known.csd f.block_unit f.mode.partition) (addressed_blocks ask) f.block_unit command.argument ≡ true)
+    beyond_by (told_capacity k known.csd c.block_unit c.mode.partition) addressed c.block_unit command.argument ≡ true
+at_code k known addressed command c h pair e =
+    subst (λ (f : Fields). beyond_by (told_capacity k known.csd f.block_unit f.mode.partition) addressed f.block_unit command.argument ≡ true)
     (digits_law (view c h) pair.flags pair.card.preset) e
 
+-- what is addressed for sure is no more than is addressed
+fewer : (c : Card) (position argument count n : ℕ) → count ≤ n → BlocksWithin (Some n) c position argument → BlocksWithin (Some count) c position argument
+fewer c position argument count n le within = record { unit = within.unit; room = omega (arith, le, within.room) }
+
+sure_blocks : (turn : Turn) (ask : Ask) (c : Card) (position argument : ℕ) → IsAskOf turn ask → InBounds (SendCommand ask position argument) c →
+    BlocksWithin (sure_of turn) c position argument
+sure_blocks (Does (Known (Send sent))) ask c position argument is within = subst (λ v. BlocksWithin (addressed_blocks v) c position argument) (sym is) within
+sure_blocks (Does (Begins true)) ask c position argument is within =
+    fewer c position argument 1 ask.count is.1 (subst (λ v. BlocksWithin (addressed_blocks v) c position argument) (sym is.0) within)
+sure_blocks (Does (Begins false)) ask c position argument is within =
+    fewer c position argument 1 ask.count is.1 (subst (λ v. BlocksWithin (addressed_blocks v) c position argument) (sym is.0) within)
+sure_blocks turn ask c position argument is within = absurd is
+
+beyond_there : (k : Kind) (known : HostKnown) (turn : Turn) (command : Command) (answer : Answer) (code : ℕ) →
+    is_beyond k known turn (Exchange command answer) code ≡ true →
+    beyond_by (told_capacity k known.csd (digits code).block_unit (digits code).mode.partition) (sure_of turn) (digits code).block_unit command.argument ≡ true
+beyond_there k known (Does deed) command answer code e = e
+beyond_there k known Ends command answer code e = absurd (let f : false ≡ true = e in cc)
+beyond_there k known Outside command answer code e = absurd (let f : false ≡ true = e in cc)
+beyond_there k known (Uses width) command answer code e = absurd (let f : false ≡ true = e in cc)
+beyond_there k known (OtherLength due) command answer code e = absurd (let f : false ≡ true = e in cc)
+
 line_beyond : (k : Kind) (known : HostKnown) (turn : Turn) (line : TraceLine) (ask : Ask) (c : Card) (h : Host) (position argument : ℕ) → StillKnown k known c h →
-    Tells c h → turn ≡ Does (Send ask) → Sends line argument → is_beyond k known turn line (pair_code c h) ≡ true →
+    Tells c h → IsAskOf turn ask → Sends line argument → is_beyond k known turn line (pair_code c h) ≡ true →
     InBounds (SendCommand ask position argument) c → ⊥
 line_beyond k known turn (Exchange command answer) ask c h position argument i tells is sent e within =
-    let here : is_beyond k known (Does (Send ask)) (Exchange command answer) (pair_code c h) ≡ true =
-    subst (λ t. is_beyond k known t (Exchange command answer) (pair_code c h) ≡ true) is e in
-    card_beyond k known.csd (addressed_blocks ask) c h position command.argument i.pair.kind tells i.is_known.csd
-    (subst (λ n. BlocksWithin (addressed_blocks ask) c position n) (sym sent) within) (at_code k known ask command c h i.pair here)
+    card_beyond k known.csd (sure_of turn) c h position command.argument i.pair.kind tells i.is_known.csd
+    (subst (λ n. BlocksWithin (sure_of turn) c position n) (sym sent) (sure_blocks turn ask c position argument is within))
+    (at_code k known (sure_of turn) command c h i.pair (beyond_there k known turn command answer (pair_code c h) e))
 line_beyond k known turn (BlocksIn count end) ask c h position argument i tells is sent e within = sent
 line_beyond k known turn (RegisterIn count end) ask c h position argument i tells is sent e within = sent
 line_beyond k known turn (BlocksOut count end) ask c h position argument i tells is sent e within = sent

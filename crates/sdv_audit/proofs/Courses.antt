@@ -19,16 +19,18 @@ use Rattle.sdv_audit.proofs.ShapeSets.{more}
 use Rattle.sdv_audit.specs.declared.line.TraceLine.{TraceLine}
 use Rattle.sdv_audit.specs.declared.known.HostKnown.{HostKnown}
 use Rattle.sdv_audit.specs.declared.turn.Told.{Told}
+use Rattle.sdv_audit.specs.declared.turn.Deed.{Deed}
 use Rattle.sdv_audit.specs.declared.turn.Turn.{Turn}
 use Rattle.sdv_audit.specs.declared.turn.Turn.TheVariants.{Ends, Outside, Uses, OtherLength, Does}
 use Rattle.sdv_audit.specs.declared.audit.Audit.{Audit}
 use Rattle.sdv_audit.specs.declared.audit.Findings.{Findings}
-use Rattle.sdv_audit.specs.Turns.{turn_of, known_after, line_seen, is_expected}
+use Rattle.sdv_audit.specs.Turns.{turn_of, known_after, line_seen, event_at, is_expected}
 use Rattle.sdv_audit.specs.Carried.{has_address, pending_at, Fits, CarriedFrom, Carried, CarriedBy, WithLines, Follows}
 use Rattle.sdv_audit.specs.Standing.{shape_with}
 use Rattle.sdv_audit.specs.Audited.{is_empty, AllLegal, IsIllegalAt, AllBeyond, is_unanswered, is_reset, restarts, lines_told}
 use Rattle.sdv_audit.specs.Beyond.{is_beyond}
-use Rattle.sdv_audit.specs.Course.{Course, IsAt, turn_at, goes_on, restarts_at, goes_anew, course_after, begun, found_on, found_anew, found_at, least_illegal, seen_sort, SeenParts, seen_parts, same_bit, same_flag, same_parts, same_seen, outcome_fits, shape_if, shapes_if, led_to, shapes_after, lesser_if, least, IsLeast, SameMembers}
+use Rattle.sdv_audit.specs.Lived.{turn_within}
+use Rattle.sdv_audit.specs.Course.{Course, IsAt, turn_at, goes_on, restarts_at, goes_anew, course_after, begun, found_on, found_anew, found_at, least_illegal, seen_sort, SeenParts, seen_parts, same_bit, same_flag, same_parts, same_seen, outcome_fits, shape_if, shapes_if, led_by, led_to, shapes_after, lesser_if, least, IsLeast, SameMembers}
 
 -- THE SAME IS SEEN
 
@@ -162,7 +164,7 @@ so_fits : (k : Kind) (event : Event) (line : TraceLine) (address : Bool) (code :
     outcome_fits k event line address code o ≡ true
 so_fits k event line address code o f = both _ _ (seen_itself o.seen (line_seen k (pending_at code) line) f.seen) (is_not (is_impossible_match k event o address) f.possible)
 
-led_so : (k : Kind) (event : Event) (line : TraceLine) (address : Bool) (source to : Shape) → May (led_to k event line address source) to →
+led_so : (k : Kind) (event : Event) (line : TraceLine) (address : Bool) (source to : Shape) → May (led_by k event line address source) to →
     CarriedFrom k event line address source to
 led_so k event line address source to m =
     let f : Outcome → List Shape = λ o. shape_if (outcome_fits k event line address source.0 o) o.shape in
@@ -172,46 +174,48 @@ led_so k event line address source to m =
     record { legal = x.0; one = record { outcome = r.source; may = r.among; fits = fits_so k event line address source.0 r.source y.0; leads = y.1 } }
 
 so_led : (k : Kind) (event : Event) (line : TraceLine) (address : Bool) (source to : Shape) → CarriedFrom k event line address source to →
-    May (led_to k event line address source) to
+    May (led_by k event line address source) to
 so_led k event line address source to c =
     to_shapes_if (legal_code k source.0 event) _ to c.legal
     (May-each (λ o. shape_if (outcome_fits k event line address source.0 o) o.shape) c.one.outcome c.one.may
     (to_shape_if (outcome_fits k event line address source.0 c.one.outcome) c.one.outcome.shape to (so_fits k event line address source.0 c.one.outcome c.one.fits) c.one.leads))
 
-carried_so : (b : Bool) (k : Kind) (event : Event) (line : TraceLine) (address : Bool) (xs ys : List Shape) (to : Shape) → ((s : Shape) → May ys s → May xs s) →
-    May (shapes_if b (each ys (led_to k event line address))) to → CarriedBy b k event line address xs to
-carried_so true k event line address xs ys to has m =
-    let r : MadeOf ys (led_to k event line address) to = from_each ys (led_to k event line address) to m in
-    record { source = r.source; among = has r.source r.among; from = led_so k event line address r.source to r.made }
-carried_so false k event line address xs ys to has m = absurd m.one
+carried_so : (b : Bool) (k : Kind) (deed : Deed) (line : TraceLine) (address : Bool) (xs ys : List Shape) (to : Shape) → ((s : Shape) → May ys s → May xs s) →
+    May (shapes_if b (each ys (led_to k deed line address))) to → CarriedBy b k deed line address xs to
+carried_so true k deed line address xs ys to has m =
+    let r : MadeOf ys (led_to k deed line address) to = from_each ys (led_to k deed line address) to m in
+    record { source = r.source; among = has r.source r.among; from = led_so k (event_at deed r.source.0) line address r.source to r.made }
+carried_so false k deed line address xs ys to has m = absurd m.one
 
-so_carried : (b : Bool) (k : Kind) (event : Event) (line : TraceLine) (address : Bool) (xs ys : List Shape) (to : Shape) → ((s : Shape) → May xs s → May ys s) →
-    CarriedBy b k event line address xs to → May (shapes_if b (each ys (led_to k event line address))) to
-so_carried true k event line address xs ys to has c =
-    let x : Carried k event line address xs to = c in
-    May-each (led_to k event line address) x.source (has x.source x.among) (so_led k event line address x.source to x.from)
-so_carried false k event line address xs ys to has c = absurd c
+so_carried : (b : Bool) (k : Kind) (deed : Deed) (line : TraceLine) (address : Bool) (xs ys : List Shape) (to : Shape) → ((s : Shape) → May xs s → May ys s) →
+    CarriedBy b k deed line address xs to → May (shapes_if b (each ys (led_to k deed line address))) to
+so_carried true k deed line address xs ys to has c =
+    let x : Carried k deed line address xs to = c in
+    May-each (led_to k deed line address) x.source (has x.source x.among) (so_led k (event_at deed x.source.0) line address x.source to x.from)
+so_carried false k deed line address xs ys to has c = absurd c
 
 -- the shapes that are computed from others with the same members are those that follow
-pub after_follows : (k : Kind) (turn : Turn) (line : TraceLine) (address : Bool) (xs ys : List Shape) (s : Shape) → SameMembers xs ys →
-    May (shapes_after k turn line address ys) s → Follows k turn line address xs s
-after_follows k (Does event) line address xs ys s same m = carried_so (is_expected k event line) k event line address xs ys s (λ t. (same t).1) m
-after_follows k (Uses width) line address xs ys s same m =
+pub after_follows : (k : Kind) (turn : Turn) (line : TraceLine) (known : HostKnown) (xs ys : List Shape) (s : Shape) → SameMembers xs ys →
+    May (shapes_after k turn line known ys) s → Follows k turn line known xs s
+after_follows k (Does deed) line known xs ys s same m =
+    carried_so (is_expected k known.csd deed line) k deed line (has_address known) xs ys s (λ t. (same t).1) m
+after_follows k (Uses width) line known xs ys s same m =
     let r = map_cases (λ t. with_lines_shown t width) ys s m.one in
     record { source = r.0; among = (same r.0).1 r.1; leads = r.2 }
-after_follows k (OtherLength due) line address xs ys s same m = m.one
-after_follows k Ends line address xs ys s same m = (same s).1 m
-after_follows k Outside line address xs ys s same m = (same s).1 m
+after_follows k (OtherLength due) line known xs ys s same m = m.one
+after_follows k Ends line known xs ys s same m = (same s).1 m
+after_follows k Outside line known xs ys s same m = (same s).1 m
 
-pub follows_after : (k : Kind) (turn : Turn) (line : TraceLine) (address : Bool) (xs ys : List Shape) (s : Shape) → SameMembers xs ys →
-    Follows k turn line address xs s → May (shapes_after k turn line address ys) s
-follows_after k (Does event) line address xs ys s same f = so_carried (is_expected k event line) k event line address xs ys s (λ t. (same t).0) f
-follows_after k (Uses width) line address xs ys s same f =
+pub follows_after : (k : Kind) (turn : Turn) (line : TraceLine) (known : HostKnown) (xs ys : List Shape) (s : Shape) → SameMembers xs ys →
+    Follows k turn line known xs s → May (shapes_after k turn line known ys) s
+follows_after k (Does deed) line known xs ys s same f =
+    so_carried (is_expected k known.csd deed line) k deed line (has_address known) xs ys s (λ t. (same t).0) f
+follows_after k (Uses width) line known xs ys s same f =
     let x : WithLines width xs s = f in
     subst (λ v. May (map (λ t. with_lines_shown t width) ys) v) x.leads (May-map (λ t. with_lines_shown t width) ((same x.source).0 x.among))
-follows_after k (OtherLength due) line address xs ys s same f = absurd f
-follows_after k Ends line address xs ys s same f = (same s).0 f
-follows_after k Outside line address xs ys s same f = (same s).0 f
+follows_after k (OtherLength due) line known xs ys s same f = absurd f
+follows_after k Ends line known xs ys s same f = (same s).0 f
+follows_after k Outside line known xs ys s same f = (same s).0 f
 
 -- THE LEAST SHAPE
 
@@ -267,10 +271,10 @@ least_members test xs ys None same l = λ s m. l s ((same s).1 m)
 least_members test xs ys (Some t) same l = ((same t).0 l.0, l.1, (λ s m e. l.2 s ((same s).1 m) e))
 
 -- what was found, from the members alone
-pub illegal_is : (audit : Audit) (event : Event) (o : Option Shape) → IsLeast (λ s. not (legal_code audit.kind s.0 event)) audit.shapes.items o →
-    MatchOption o (AllLegal audit (Does event)) (IsIllegalAt audit (Does event))
-illegal_is audit event None l = λ s m. not-false (legal_code audit.kind s.0 event) (l s m)
-illegal_is audit event (Some t) l = (l.0, not_is (legal_code audit.kind t.0 event) l.1)
+pub illegal_is : (audit : Audit) (deed : Deed) (o : Option Shape) → IsLeast (λ s. not (legal_code audit.kind s.0 (event_at deed s.0))) audit.shapes.items o →
+    MatchOption o (AllLegal audit (Does deed)) (IsIllegalAt audit (Does deed))
+illegal_is audit deed None l = λ s m. not-false (legal_code audit.kind s.0 (event_at deed s.0)) (l s m)
+illegal_is audit deed (Some t) l = (l.0, not_is (legal_code audit.kind t.0 (event_at deed t.0)) l.1)
 
 -- one shape more at the end
 pub least_push : (test : Shape → Bool) (xs : List Shape) (i : ℕ) (d : Shape) (b : Bool) (o : Option Shape) → i < length xs → test (get_or xs i d) ≡ b →
@@ -282,6 +286,14 @@ least_push test xs i d b o lt e l =
       (λ m. elim ((more xs i d s lt).0 m) [ inl n ↦ there n | inr f ↦ here f ]),
     ))
     (least_more test (get_or xs i d) (take i xs) b o e l)
+
+-- so it is with the event at that shape
+pub least_event : (k : Kind) (deed : Deed) (event : Event) (xs : List Shape) (i : ℕ) (d : Shape) (b : Bool) (o : Option Shape) → i < length xs →
+    event ≡ event_at deed (get_or xs i d).0 → not (legal_code k (get_or xs i d).0 event) ≡ b →
+    IsLeast (λ s. not (legal_code k s.0 (event_at deed s.0))) (take i xs) o →
+    IsLeast (λ s. not (legal_code k s.0 (event_at deed s.0))) (take (i + 1) xs) (lesser_if b (get_or xs i d) o)
+least_event k deed event xs i d b o lt is e l =
+    least_push (λ s. not (legal_code k s.0 (event_at deed s.0))) xs i d b o lt (subst (λ v. not (legal_code k (get_or xs i d).0 v) ≡ b) is e) l
 
 -- WHAT DEPENDS ON THE MEMBERS ALONE
 
@@ -312,6 +324,23 @@ some_and_all b p q xs ys same agree decides =
       (λ s m. agree s ∙ all-May q (and_right (not (is_empty ys)) (all q ys) e) ((same s).0 m)),
     ))
 
+-- a test of each member
+pub all_same : (p : Shape → Bool) (xs ys : List Shape) → SameMembers xs ys → all p xs ≡ all p ys
+all_same p xs ys same =
+    alike (all p xs) (all p ys) (λ e. all_true p ys (λ s m. all-May p e ((same s).1 m))) (λ e. all_true p xs (λ s m. all-May p e ((same s).0 m)))
+
+-- a test of each, as it was decided
+pub all_decided : (b : Bool) (p : Shape → Bool) (xs : List Shape) → (IsTrue b ↔ ((s : Shape) → May xs s → p s ≡ true)) → b ≡ all p xs
+all_decided b p xs decides = alike b (all p xs) (λ e. all_true p xs (decides.0 e)) (λ e. decides.1 (λ s m. all-May p e m))
+
+pub bounded_then : (b old : Bool) (p : Shape → Bool) (xs slice : List Shape) → old ≡ true → slice ≡ xs → (IsTrue b ↔ ((s : Shape) → May slice s → p s ≡ true)) →
+    b ≡ (old && all p xs)
+bounded_then b old p xs slice e f decides =
+    all_decided b p slice decides ∙ (ap (all p) f ∙ ap (λ v. v && all p xs) (sym e))
+
+pub bounded_else : (b old rest : Bool) → old ≡ false → b ≡ false → b ≡ (old && rest)
+bounded_else b old rest e f = f ∙ ap (λ v. v && rest) (sym e)
+
 -- ONE LINE FURTHER
 
 -- findings with the same fields
@@ -327,11 +356,12 @@ findings_are a b t r u y s =
 pub record Advanced (old new : Audit) (told : Told) (found : Findings) : Type 0 where
   pub turn : found.turn ≡ turn_of old.kind old.known told
   pub known : new.known ≡ known_after old.kind found.turn told.line old.known
-  pub shapes : (s : Shape) → May new.shapes.items s ↔ Follows old.kind found.turn told.line (has_address old.known) old.shapes.items s
+  pub shapes : (s : Shape) → May new.shapes.items s ↔ Follows old.kind found.turn told.line old.known old.shapes.items s
   pub reckless : (shapes : List Shape) → SameMembers old.shapes.items shapes → found.reckless ≡ least_illegal old.kind found.turn shapes
   pub unanswered : found.unanswered ≡ is_unanswered found.reckless old.shapes.items new.shapes.items
   pub beyond : IsTrue found.beyond ↔ ((is_empty old.shapes.items ≡ false) × AllBeyond old found.turn told.line)
   pub restarted : found.restarted ≡ false
+  pub bounded : new.bounded ≡ (old.bounded && all (λ s. turn_within old.kind found.turn told.line s.0) old.shapes.items)
 
 pub turn_is : (old new : Audit) (told : Told) (found : Findings) (c : Course) → Advanced old new told found → IsAt old c → found.turn ≡ turn_at old.kind told c
 turn_is old new told found c a at = a.turn ∙ ap (λ v. turn_of old.kind v told) at.known
@@ -340,11 +370,11 @@ pub shapes_are : (old new : Audit) (told : Told) (found : Findings) (c : Course)
     SameMembers new.shapes.items (goes_on old.kind told c).shapes
 shapes_are old new told found c a at s =
     let turn : found.turn ≡ turn_at old.kind told c = turn_is old new told found c a at in
-    let follows : May new.shapes.items s ↔ Follows old.kind (turn_at old.kind told c) told.line (has_address c.known) old.shapes.items s =
-    subst (λ v. May new.shapes.items s ↔ Follows old.kind v told.line (has_address c.known) old.shapes.items s) turn
-    (subst (λ v. May new.shapes.items s ↔ Follows old.kind found.turn told.line (has_address v) old.shapes.items s) at.known (a.shapes s)) in (
-      (λ m. follows_after old.kind (turn_at old.kind told c) told.line (has_address c.known) old.shapes.items c.shapes s at.shapes (follows.0 m)),
-      (λ m. follows.1 (after_follows old.kind (turn_at old.kind told c) told.line (has_address c.known) old.shapes.items c.shapes s at.shapes m)),
+    let follows : May new.shapes.items s ↔ Follows old.kind (turn_at old.kind told c) told.line c.known old.shapes.items s =
+    subst (λ v. May new.shapes.items s ↔ Follows old.kind v told.line c.known old.shapes.items s) turn
+    (subst (λ v. May new.shapes.items s ↔ Follows old.kind found.turn told.line v old.shapes.items s) at.known (a.shapes s)) in (
+      (λ m. follows_after old.kind (turn_at old.kind told c) told.line c.known old.shapes.items c.shapes s at.shapes (follows.0 m)),
+      (λ m. follows.1 (after_follows old.kind (turn_at old.kind told c) told.line c.known old.shapes.items c.shapes s at.shapes m)),
     )
 
 pub is_at_next : (old new : Audit) (told : Told) (found : Findings) (c : Course) → Advanced old new told found → IsAt old c → IsAt new (goes_on old.kind told c)
@@ -352,6 +382,9 @@ is_at_next old new told found c a at = record {
   known = a.known ∙ (ap (λ v. known_after old.kind v told.line old.known) (turn_is old new told found c a at)
       ∙ ap (λ v. known_after old.kind (turn_at old.kind told c) told.line v) at.known);
   shapes = shapes_are old new told found c a at;
+  bounded = a.bounded ∙ (ap (λ v. v && all (λ s. turn_within old.kind found.turn told.line s.0) old.shapes.items) at.bounded
+      ∙ (ap (λ v. c.bounded && all (λ s. turn_within old.kind v told.line s.0) old.shapes.items) (turn_is old new told found c a at)
+      ∙ ap (λ v. c.bounded && v) (all_same (λ s. turn_within old.kind (turn_at old.kind told c) told.line s.0) old.shapes.items c.shapes at.shapes)));
 }
 
 unanswered_same : (o p : Option Shape) (before before' after after' : List Shape) → o ≡ p → is_empty before ≡ is_empty before' → is_empty after ≡ is_empty after' →

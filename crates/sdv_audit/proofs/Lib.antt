@@ -1,5 +1,7 @@
 pub mod Printed
 pub mod ShapeSets
+pub mod Counts
+pub mod Possibles
 pub mod Sound
 pub mod Audits
 pub mod Living

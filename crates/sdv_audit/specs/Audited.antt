@@ -8,11 +8,12 @@ use Rattle.sdv_card.specs.LegalShapes.{legal_code}
 use Rattle.sdv_audit.specs.declared.line.TraceLine.{TraceLine}
 use Rattle.sdv_audit.specs.declared.line.TraceLine.TheVariants.{Lines}
 use Rattle.sdv_audit.specs.declared.turn.Told.{Told}
+use Rattle.sdv_audit.specs.declared.turn.Deed.TheVariants.{Known}
 use Rattle.sdv_audit.specs.declared.turn.Turn.{Turn}
 use Rattle.sdv_audit.specs.declared.turn.Turn.TheVariants.{Does}
 use Rattle.sdv_audit.specs.declared.audit.Audit.{Audit}
-use Rattle.sdv_audit.specs.Turns.{turn_of}
-use Rattle.sdv_audit.specs.Lived.{Lived, IsReckless}
+use Rattle.sdv_audit.specs.Turns.{turn_of, event_at}
+use Rattle.sdv_audit.specs.Lived.{LivedFor, IsReckless}
 use Rattle.sdv_audit.specs.Beyond.{is_beyond}
 use Rattle.sdv_audit.specs.Standing.{known_of, Covers, NoneAnswers}
 
@@ -24,8 +25,9 @@ is_empty (s ∷ rest) = false
 pub record Stands (audit : Audit) (past : List Told) : Type 0 where
   pub known : audit.known ≡ known_of audit.kind past
   pub covers : Covers audit.kind past audit.shapes.items
-  -- as long as each address lay on some card, each shape is that of a real card
-  pub lived : audit.bounded ≡ true → (s : Shape) → May audit.shapes.items s → Lived audit.kind past s
+  -- as long as it is bounded, each shape is that of a real card, whatever blocks may have been announced
+  pub lived : audit.bounded ≡ true → (s : Shape) → May audit.shapes.items s →
+      LivedFor audit.kind past audit.known.announced s
 
 -- where the audit stood after some lines, so does the new one after this line behind them
 abbrev pub StandsOn : (old new : Audit) → Told → Type 0
@@ -35,19 +37,20 @@ StandsOn old new told = (past : List Told) → Stands old past → Stands new (t
 abbrev pub NoneAnswersThere : Audit → Told → Type 0
 NoneAnswersThere audit told = (past : List Told) → Stands audit past → NoneAnswers audit.kind (told ∷ past)
 
--- after any such lines, if each address lay on some card: the turn is reckless beside a real card of this shape
+-- after any such lines, if the audit is bounded: the turn is reckless beside a real card of this shape
 abbrev pub IsRecklessThere : Audit → Turn → Shape → Type 0
 IsRecklessThere audit turn s =
     (past : List Told) → Stands audit past → audit.bounded ≡ true → IsReckless audit.kind past turn s
 
 -- the event that a turn makes is legal at each shape
 abbrev pub AllLegal : Audit → Turn → Type 0
-AllLegal audit (Does event) = (s : Shape) → May audit.shapes.items s → IsTrue (legal_code audit.kind s.0 event)
+AllLegal audit (Does deed) =
+    (s : Shape) → May audit.shapes.items s → IsTrue (legal_code audit.kind s.0 (event_at deed s.0))
 AllLegal audit turn = Unit {0}
 
 -- the shape is one of the audit's, and the event is not legal there
 abbrev pub IsIllegalAt : Audit → Turn → Shape → Type 0
-IsIllegalAt audit (Does event) s = May audit.shapes.items s × (legal_code audit.kind s.0 event ≡ false)
+IsIllegalAt audit (Does deed) s = May audit.shapes.items s × (legal_code audit.kind s.0 (event_at deed s.0) ≡ false)
 IsIllegalAt audit turn s = ⊥
 
 -- at each shape the address is beyond what the CSD tells
@@ -62,7 +65,7 @@ is_unanswered reckless before after = is_empty after && is_none reckless && not 
 -- WHERE AN AUDIT BEGINS ANEW: at a CMD0, where no shape is left
 
 abbrev pub is_reset : Turn → Bool
-is_reset (Does (Send ask)) = ask.index == 0
+is_reset (Does (Known (Send ask))) = ask.index == 0
 is_reset turn = false
 
 abbrev pub restarts : Audit → Told → Bool

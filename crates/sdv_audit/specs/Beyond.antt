@@ -1,6 +1,6 @@
 -- Addresses beyond the blocks that the CSD tells, at each card that may stand there.
 -- SD Physical Layer Simplified Specification, section 5.3; JESD84-B51, section 7.3.
-use Rattle.std.specs.Prelude.{◌≡◌, ◌+◌, ◌&&◌, not, nat_le, Bool, true, false, ℕ, List, Option, Some, None, is_none, if◌then◌else◌}
+use Rattle.std.specs.Prelude.{◌≡◌, ◌<◌, ◌+◌, ◌&&◌, not, nat_le, Bool, true, false, ℕ, List, Option, Some, None, is_none, if◌then◌else◌}
 use Rattle.sdv_frames.specs.Bits.{bits_of}
 use Rattle.sdv_registers.specs.declared.kind.Kind.{Kind}
 use Rattle.sdv_registers.specs.declared.kind.Kind.TheVariants.{Emmc}
@@ -19,8 +19,11 @@ use Rattle.sdv_audit.specs.declared.line.TraceLine.{TraceLine}
 use Rattle.sdv_audit.specs.declared.line.TraceLine.TheVariants.{Exchange}
 use Rattle.sdv_audit.specs.declared.known.HostKnown.{HostKnown}
 use Rattle.sdv_audit.specs.declared.turn.Told.{Told}
+use Rattle.sdv_audit.specs.declared.turn.Deed.{Deed}
+use Rattle.sdv_audit.specs.declared.turn.Deed.TheVariants.{Known, Begins}
 use Rattle.sdv_audit.specs.declared.turn.Turn.{Turn}
 use Rattle.sdv_audit.specs.declared.turn.Turn.TheVariants.{Does}
+use Rattle.sdv_audit.specs.Turns.{transfer_ask}
 use Rattle.sdv_audit.specs.Standing.{Stood, turn_behind}
 use Rattle.sdv_audit.specs.Lived.{block_named, names_block}
 
@@ -48,10 +51,16 @@ abbrev pub beyond_by : Option ℕ → (blocks : Option ℕ) → (unit : Bool) �
 beyond_by capacity None unit argument = false
 beyond_by capacity (Some count) unit argument = beyond_capacity capacity unit argument count
 
+-- The blocks that are addressed for sure: an untold count is one or more.
+abbrev pub blocks_for_sure : Deed → Option ℕ
+blocks_for_sure (Known (Send ask)) = addressed_blocks ask
+blocks_for_sure (Known event) = None
+blocks_for_sure (Begins write) = Some 1
+
 -- so it is at a code
 abbrev pub is_beyond : Kind → HostKnown → Turn → TraceLine → (code : ℕ) → Bool
-is_beyond k known (Does (Send ask)) (Exchange command answer) code =
-    beyond_by (told_capacity k known.csd (digits code).block_unit (digits code).mode.partition) (addressed_blocks ask)
+is_beyond k known (Does deed) (Exchange command answer) code =
+    beyond_by (told_capacity k known.csd (digits code).block_unit (digits code).mode.partition) (blocks_for_sure deed)
     (digits code).block_unit command.argument
 is_beyond k known turn line code = false
 
@@ -60,9 +69,15 @@ abbrev pub Sends : TraceLine → (argument : ℕ) → Type 0
 Sends (Exchange command answer) argument = command.argument ≡ argument
 Sends line argument = ⊥
 
+-- the command is that of a turn, with some count where none is told
+abbrev pub IsAskOf : Turn → Ask → Type 0
+IsAskOf (Does (Known (Send sent))) ask = sent ≡ ask
+IsAskOf (Does (Begins write)) ask = (transfer_ask write ask.count ≡ ask) × (0 < ask.count)
+IsAskOf turn ask = ⊥
+
 -- the command is in bounds at no card that may stand there, whatever block it is to name
 abbrev pub NoneInBounds : Kind → List Told → Told → Type 0
 NoneInBounds k past told =
     (c : Card) (h : Host) (ask : Ask) (position argument : ℕ) → Stood k past c h →
-    turn_behind k past told ≡ Does (Send ask) → Sends told.line argument
+    IsAskOf (turn_behind k past told) ask → Sends told.line argument
     → InBounds (SendCommand ask position argument) c → ⊥

@@ -15,12 +15,13 @@ use Rattle.sdv_outcomes.specs.Histories.{is_impossible_match}
 use Rattle.sdv_audit.specs.declared.line.TraceLine.{TraceLine}
 use Rattle.sdv_audit.specs.declared.known.HostKnown.{HostKnown}
 use Rattle.sdv_audit.specs.declared.turn.Told.{Told}
+use Rattle.sdv_audit.specs.declared.turn.Deed.{Deed}
 use Rattle.sdv_audit.specs.declared.turn.Turn.{Turn}
 use Rattle.sdv_audit.specs.declared.turn.Turn.TheVariants.{Uses, OtherLength, Does}
 use Rattle.sdv_audit.specs.declared.audit.Audit.{Audit}
 use Rattle.sdv_audit.specs.declared.audit.Findings.{Findings}
 use Rattle.sdv_audit.specs.Known.{nothing_known}
-use Rattle.sdv_audit.specs.Turns.{turn_of, known_after, line_seen, is_expected}
+use Rattle.sdv_audit.specs.Turns.{turn_of, known_after, line_seen, event_at, is_expected}
 use Rattle.sdv_audit.specs.Carried.{has_address, pending_at}
 use Rattle.sdv_audit.specs.Standing.{start_set, NoneAnswers}
 use Rattle.sdv_audit.specs.Lived.{turn_within, IsReckless}
@@ -81,17 +82,20 @@ abbrev pub shapes_if : Bool → List Shape → List Shape
 shapes_if legal shapes = if legal then shapes else []
 
 -- from one shape, by the outcomes that fit
-abbrev pub led_to : Kind → Event → TraceLine → (address : Bool) → Shape → List Shape
-led_to k event line address s =
+abbrev pub led_by : Kind → Event → TraceLine → (address : Bool) → Shape → List Shape
+led_by k event line address s =
     shapes_if (legal_code k s.0 event)
     (each (outcomes_code k s.0 event) (λ o. shape_if (outcome_fits k event line address s.0 o) o.shape))
 
-abbrev pub shapes_after : Kind → Turn → TraceLine → (address : Bool) → List Shape → List Shape
-shapes_after k (Does event) line address shapes =
-    shapes_if (is_expected k event line) (each shapes (led_to k event line address))
-shapes_after k (Uses width) line address shapes = map (λ s. with_lines_shown s width) shapes
-shapes_after k (OtherLength due) line address shapes = []
-shapes_after k turn line address shapes = shapes
+abbrev pub led_to : Kind → Deed → TraceLine → (address : Bool) → Shape → List Shape
+led_to k deed line address s = led_by k (event_at deed s.0) line address s
+
+abbrev pub shapes_after : Kind → Turn → TraceLine → HostKnown → List Shape → List Shape
+shapes_after k (Does deed) line known shapes =
+    shapes_if (is_expected k known.csd deed line) (each shapes (led_to k deed line (has_address known)))
+shapes_after k (Uses width) line known shapes = map (λ s. with_lines_shown s width) shapes
+shapes_after k (OtherLength due) line known shapes = []
+shapes_after k turn line known shapes = shapes
 
 -- THE SHAPE THAT A RECKLESS LINE NAMES: the least one at which the event is not legal
 
@@ -112,7 +116,7 @@ IsLeast test xs None = (s : Shape) → May xs s → test s ≡ false
 IsLeast test xs (Some t) = May xs t × (test t ≡ true) × ((s : Shape) → May xs s → test s ≡ true → t.0 ≤ s.0)
 
 abbrev pub least_illegal : Kind → Turn → List Shape → Option Shape
-least_illegal k (Does event) shapes = least (λ s. not (legal_code k s.0 event)) shapes
+least_illegal k (Does deed) shapes = least (λ s. not (legal_code k s.0 (event_at deed s.0))) shapes
 least_illegal k turn shapes = None
 
 -- THE COURSE
@@ -122,7 +126,8 @@ pub record Course : Type 0 where
   pub known : HostKnown
   -- where a card may stand
   pub shapes : List Shape
-  -- each address so far is that of blocks of some card of the profile, at each shape
+  -- at each shape, each address so far is that of blocks of some card of the profile, also with the greatest count
+  -- where no line told it, and no count was untold that a preset count demands
   pub bounded : Bool
   -- the lines by which the next one is judged, the last one first
   pub past : List Told
@@ -138,7 +143,7 @@ turn_at k told c = turn_of k c.known told
 abbrev pub goes_on : Kind → Told → Course → Course
 goes_on k told c = record {
   known = known_after k (turn_at k told c) told.line c.known;
-  shapes = shapes_after k (turn_at k told c) told.line (has_address c.known) c.shapes;
+  shapes = shapes_after k (turn_at k told c) told.line c.known c.shapes;
   bounded = c.bounded && all (λ s. turn_within k (turn_at k told c) told.line s.0) c.shapes;
   past = told ∷ c.past;
 }
@@ -185,6 +190,7 @@ SameMembers xs ys = (s : Shape) → May xs s ↔ May ys s
 pub record IsAt (audit : Audit) (c : Course) : Type 0 where
   pub known : audit.known ≡ c.known
   pub shapes : SameMembers audit.shapes.items c.shapes
+  pub bounded : audit.bounded ≡ c.bounded
 
 -- one line further, without and with a new beginning
 abbrev pub GoesOn : (old new : Audit) → Told → Type 0

@@ -3,9 +3,9 @@
 use Rattle.std.specs.Prelude.{◌≡◌, ℕ, Option, Some, None}
 use Rattle.sdv_card.specs.declared.state.Width.TheVariants.{One}
 use Rattle.sdv_card.specs.declared.command.Order.{Order}
-use Rattle.sdv_card.specs.declared.command.Order.TheVariants.{GoIdleState, SetBlockCount}
+use Rattle.sdv_card.specs.declared.command.Order.TheVariants.{ReadSingleBlock, ReadMultipleBlock, WriteBlock, WriteMultipleBlock}
 use Rattle.sdv_card.specs.declared.answer.Answer.{Answer}
-use Rattle.sdv_card.specs.Host.{Host, rca_known, csd_known, announced_by, register_length_by}
+use Rattle.sdv_card.specs.Host.{Host, rca_known, csd_known, register_length_by}
 use Rattle.sdv_audit.specs.declared.known.HostKnown.{HostKnown}
 
 -- before the first line
@@ -14,25 +14,31 @@ nothing_known = record {
   rca = 0;
   lines = One;
   csd = None;
-  announced = 0;
+  announced = Some 0;
   register_length = 0;
-  preset = 0;
 }
+
+-- a number is what is known of it, if it is known
+abbrev pub IsIfKnown : Option ℕ → ℕ → Type 0
+IsIfKnown None n = Unit {0}
+IsIfKnown (Some known) n = n ≡ known
 
 -- what is known of the host, which has no flags
 pub record IsKnown (known : HostKnown) (h : Host) : Type 0 where
   pub rca : h.rca ≡ known.rca
   pub lines : h.lines ≡ known.lines
   pub csd : h.csd ≡ known.csd
-  pub announced : h.announced ≡ known.announced
+  pub announced : IsIfKnown known.announced h.announced
   pub register_length : h.register_length ≡ known.register_length
   pub flags : h.flags ≡ 0
 
--- the blocks that CMD23 announced last, since CMD0
-abbrev pub preset_by : Order → ℕ → ℕ
-preset_by GoIdleState before = 0
-preset_by (SetBlockCount n) before = n
-preset_by order before = before
+-- the blocks that were announced last, if they are known
+abbrev pub announced_told : Order → Option ℕ → Option ℕ
+announced_told ReadSingleBlock before = Some 1
+announced_told (ReadMultipleBlock n) before = Some n
+announced_told WriteBlock before = Some 1
+announced_told (WriteMultipleBlock n) before = Some n
+announced_told order before = before
 
 -- after a command and what came of it
 abbrev pub known_after_order : Option Order → Answer → HostKnown → HostKnown
@@ -41,7 +47,6 @@ known_after_order (Some order) answer known = record {
   rca = rca_known order answer known.rca;
   lines = known.lines;
   csd = csd_known order answer known.csd;
-  announced = announced_by order known.announced;
+  announced = announced_told order known.announced;
   register_length = register_length_by order known.register_length;
-  preset = preset_by order known.preset;
 }

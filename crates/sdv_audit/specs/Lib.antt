@@ -2,6 +2,7 @@ pub mod ReadParts
 pub mod Reading
 pub mod Spelling
 pub mod Known
+pub mod Possible
 pub mod Turns
 pub mod Carried
 pub mod Standing

@@ -5,11 +5,13 @@ use Rattle.sdv_registers.specs.declared.kind.Kind.{Kind}
 use Rattle.sdv_card.specs.declared.shape.Shape.{Shape}
 use Rattle.sdv_card.specs.declared.state.Partition.{Partition}
 use Rattle.sdv_card.specs.declared.guard.Guard.TheVariants.{Clean, Ready as ReadyForData, OcrBlock}
+use Rattle.sdv_card.specs.declared.command.Order.{Order}
 use Rattle.sdv_card.specs.declared.event.Event.{Event}
 use Rattle.sdv_card.specs.declared.event.Event.TheVariants.{Send}
 use Rattle.sdv_card.specs.declared.event.Outcome.{Outcome}
 use Rattle.sdv_card.specs.Lists.{May}
-use Rattle.sdv_card.specs.CommandTable.{addressed_blocks}
+use Rattle.sdv_card.specs.CommandTable.{order_of, addressed_blocks}
+use Rattle.sdv_card.specs.Host.{announced_by}
 use Rattle.sdv_card.specs.ScriptEvent.{Answered}
 use Rattle.sdv_card.specs.Guards.{passes}
 use Rattle.sdv_card.specs.Card.{capacity_of}
@@ -22,11 +24,13 @@ use Rattle.sdv_outcomes.specs.Histories.{Entry, HostSets, Happens, code_after, I
 use Rattle.sdv_outcomes.specs.StartCards.{most_boot_blocks, IsWithinMost}
 use Rattle.sdv_outcomes.specs.IllegalShapes.{IllegalRun}
 use Rattle.sdv_audit.specs.declared.line.TraceLine.{TraceLine}
-use Rattle.sdv_audit.specs.declared.line.TraceLine.TheVariants.{Exchange}
+use Rattle.sdv_audit.specs.declared.line.TraceLine.TheVariants.{Exchange, BlocksIn, BlocksOut}
 use Rattle.sdv_audit.specs.declared.turn.Told.{Told}
+use Rattle.sdv_audit.specs.declared.turn.Deed.{Deed}
+use Rattle.sdv_audit.specs.declared.turn.Deed.TheVariants.{Known, Begins}
 use Rattle.sdv_audit.specs.declared.turn.Turn.{Turn}
 use Rattle.sdv_audit.specs.declared.turn.Turn.TheVariants.{Uses, OtherLength, Does}
-use Rattle.sdv_audit.specs.Turns.{line_seen}
+use Rattle.sdv_audit.specs.Turns.{is_count, transfer_ask, line_seen}
 use Rattle.sdv_audit.specs.Carried.{pending_at}
 use Rattle.sdv_audit.specs.Standing.{turn_behind}
 
@@ -67,11 +71,40 @@ line_within k (Send ask) (Exchange command answer) code =
     blocks_within k (addressed_blocks ask) command.argument (digits code).block_unit (digits code).mode.partition
 line_within k event line code = true
 
+-- an untold count is any that a command can announce, where no preset count allows only one
+abbrev pub deed_within : Kind → Deed → TraceLine → (code : ℕ) → Bool
+deed_within k (Known event) line code = line_within k event line code
+deed_within k (Begins write) line code =
+    ((digits code).preset == 0) && line_within k (Send (transfer_ask write 65535)) line code
+
 abbrev pub turn_within : Kind → Turn → TraceLine → (code : ℕ) → Bool
-turn_within k (Does event) line code = line_within k event line code
+turn_within k (Does deed) line code = deed_within k deed line code
 turn_within k turn line code = true
 
 -- THE ENTRIES OF A HISTORY that lines tell
+
+-- the blocks that commands announced last
+abbrev pub announced_of : Option Order → ℕ → ℕ
+announced_of None before = before
+announced_of (Some order) before = announced_by order before
+
+abbrev pub announced_at : Kind → Event → ℕ → ℕ
+announced_at k (Send ask) before = announced_of (order_of k ask) before
+announced_at k event before = before
+
+abbrev pub announced_after : Kind → Entry → ℕ → ℕ
+announced_after k (HostSets numbers flags lines) before = before
+announced_after k (Happens event position outcome guards) before = announced_at k event before
+
+abbrev pub announced_in : Kind → List Entry → ℕ → ℕ
+announced_in k [] before = before
+announced_in k (entry ∷ rest) before = announced_in k rest (announced_after k entry before)
+
+-- a data phase of blocks is as long as was announced
+abbrev pub IsAsLong : TraceLine → (announced : ℕ) → Type 0
+IsAsLong (BlocksIn count end) announced = announced ≡ count
+IsAsLong (BlocksOut count end) announced = announced ≡ count
+IsAsLong line announced = Unit {0}
 
 -- one more: an event at the last code
 pub record AddsEvent (k : Kind) (event : Event) (line : TraceLine) (code : ℕ) (before entries : List Entry)
@@ -80,10 +113,17 @@ pub record AddsEvent (k : Kind) (event : Event) (line : TraceLine) (code : ℕ) 
   pub outcome : Outcome
   pub entries_are : entries ≡ before ++ Happens event position outcome (guards_told k line) ∷ []
   pub seen : outcome.seen ≡ line_seen k (pending_at (code_after code before)) line
+  pub long : IsAsLong line (announced_in k before 0)
+
+-- what the host does, with some count where none is told
+abbrev pub AddsDeed : Kind → Deed → TraceLine → (code : ℕ) → (before entries : List Entry) → Type 0
+AddsDeed k (Known event) line code before entries = AddsEvent k event line code before entries
+AddsDeed k (Begins write) line code before entries =
+    (count : ℕ) × AddsEvent k (Send (transfer_ask write count)) line code before entries
 
 -- the host sets its data lines, and no flag; no line shows its numbers
 abbrev pub Adds : Kind → Turn → TraceLine → (code : ℕ) → (before entries : List Entry) → Type 0
-Adds k (Does event) line code before entries = AddsEvent k event line code before entries
+Adds k (Does deed) line code before entries = AddsDeed k deed line code before entries
 Adds k (Uses width) line code before entries =
     entries ≡ before ++ HostSets [] (digits (code_after code before)).flags width ∷ []
 Adds k (OtherLength due) line code before entries = ⊥
@@ -115,7 +155,27 @@ pub record RecklessRun (k : Kind) (past : List Told) (event : Event) (s : Shape)
   pub lived : Lived k past s
   pub run : IllegalRun k lived.start_code lived.entries event position 0
 
--- so it is of the event of a turn, whatever the position that the event names
+-- so it is of what the host does, whatever the position that the event names, and whatever the count if none is told
+abbrev pub DoesRecklessly : Kind → List Told → Deed → Shape → Type 0
+DoesRecklessly k past (Known event) s = (position : ℕ) → RecklessRun k past event s position
+DoesRecklessly k past (Begins write) s =
+    (count position : ℕ) → RecklessRun k past (Send (transfer_ask write count)) s position
+
 abbrev pub IsReckless : Kind → List Told → Turn → Shape → Type 0
-IsReckless k past (Does event) s = (position : ℕ) → RecklessRun k past event s position
+IsReckless k past (Does deed) s = DoesRecklessly k past deed s
 IsReckless k past turn s = ⊥
+
+-- THE BLOCKS ANNOUNCED LAST, where they are not known: any number of blocks may have been
+
+abbrev pub MayAnnounce : Option ℕ → ℕ → Type 0
+MayAnnounce None n = is_count n ≡ true
+MayAnnounce (Some known) n = known ≡ n
+
+-- a history with these blocks announced last
+pub record LivedWith (k : Kind) (past : List Told) (s : Shape) (n : ℕ) : Type 0 where
+  pub lived : Lived k past s
+  pub announced : announced_in k lived.entries 0 ≡ n
+
+-- one with each number that may be
+abbrev pub LivedFor : Kind → List Told → Option ℕ → Shape → Type 0
+LivedFor k past announced s = (n : ℕ) → MayAnnounce announced n → LivedWith k past s n

@@ -3,6 +3,7 @@ use Rattle.std.specs.Prelude.{◌≡◌, IsTrue, ℕ, List, [], ◌∷◌, lengt
 use Rattle.sdv_registers.specs.declared.kind.Kind.{Kind}
 use Rattle.sdv_card.specs.declared.shape.Shape.{Shape}
 use Rattle.sdv_card.specs.declared.event.Event.{Event}
+use Rattle.sdv_card.specs.declared.event.Event.TheVariants.{Send}
 use Rattle.sdv_card.specs.Lists.{May}
 use Rattle.sdv_card.specs.Modes.{has_width}
 use Rattle.sdv_card.specs.Port.{command_of}
@@ -18,10 +19,12 @@ use Rattle.sdv_audit.specs.declared.line.TraceLine.{TraceLine}
 use Rattle.sdv_audit.specs.declared.line.TraceLine.TheVariants.{Exchange, BlocksIn, RegisterIn, BlocksOut, Wait}
 use Rattle.sdv_audit.specs.declared.known.HostKnown.{HostKnown}
 use Rattle.sdv_audit.specs.declared.turn.Told.{Told}
+use Rattle.sdv_audit.specs.declared.turn.Deed.{Deed}
+use Rattle.sdv_audit.specs.declared.turn.Deed.TheVariants.{Known, Begins}
 use Rattle.sdv_audit.specs.declared.turn.Turn.{Turn}
 use Rattle.sdv_audit.specs.declared.turn.Turn.TheVariants.{Uses, OtherLength, Does}
 use Rattle.sdv_audit.specs.Known.{nothing_known}
-use Rattle.sdv_audit.specs.Turns.{turn_of, known_after}
+use Rattle.sdv_audit.specs.Turns.{turn_of, known_after, transfer_ask}
 
 -- AN EVENT AND WHAT IT RETURNED, as a line tells them. Blocks and the bytes of registers that go over the data lines are
 -- in no line.
@@ -46,9 +49,14 @@ pub record StepTold (k : Kind) (event : Event) (line : TraceLine) (c : Card) (h 
   pub step : Step made_event c returned u
   pub host : host_after k made_event returned h ≡ g
 
+-- so it is of what the host does, with some count where none is told
+abbrev pub DeedTold : Kind → Deed → TraceLine → Card → Host → Card → Host → Type 0
+DeedTold k (Known event) line c h u g = StepTold k event line c h u g
+DeedTold k (Begins write) line c h u g = (count : ℕ) × StepTold k (Send (transfer_ask write count)) line c h u g
+
 -- from a card beside its host to another one, by one line; a data phase of another length is none that the host makes
 abbrev pub Goes : Kind → Turn → TraceLine → Card → Host → Card → Host → Type 0
-Goes k (Does event) line c h u g = StepTold k event line c h u g
+Goes k (Does deed) line c h u g = DeedTold k deed line c h u g
 Goes k (Uses width) line c h u g = (c ≡ u) × (record h { lines = width } ≡ g) × IsTrue (has_width k width)
 Goes k (OtherLength due) line c h u g = ⊥
 Goes k turn line c h u g = (c ≡ u) × (h ≡ g)

@@ -5,7 +5,7 @@ ghost use Rattle.sdv_card.specs.declared.shape.Shape.{Shape as CardShape};
 ghost use Rattle.sdv_card.specs.Lists.{May};
 ghost use Rattle.sdv_audit.specs.declared.turn.Told.{Told as TraceTold};
 ghost use Rattle.sdv_audit.specs.Turns.{turn_of, known_after};
-ghost use Rattle.sdv_audit.specs.Carried.{has_address, Follows};
+ghost use Rattle.sdv_audit.specs.Carried.{Follows};
 ghost use Rattle.sdv_audit.specs.Beyond.{NoneInBounds};
 ghost use Rattle.sdv_audit.specs.Standing.{start_set, NoneAnswers};
 ghost use Rattle.sdv_audit.specs.Course.{Course, IsAt, SameMembers, GoesOn, GoesAnew, FindsOn, Finds, begun, least_illegal, goes_on, goes_anew, course_after};
@@ -17,7 +17,7 @@ use crate::fault::AuditFault;
 use crate::known::HostKnown;
 use crate::line::TraceLine;
 use crate::shapes::{Evidence, carried, least_illegal, with_lines};
-use crate::turn::{Told, Turn, is_expected};
+use crate::turn::{Deed, Told, Turn, is_expected};
 use sdv_card::{Event, START_SHAPES, Shape};
 use sdv_registers::Kind;
 use std::alloc::Global;
@@ -48,7 +48,8 @@ pub struct Audit {
     kind: Kind,
     known: HostKnown,
     shapes: Vec<Shape>,
-    // Each address so far is that of blocks of some card of the profile, at each shape.
+    // At each shape, each address so far is that of blocks of some card of the profile, also with the greatest count where no
+    // line told it, and no count was untold that a preset count demands.
     bounded: bool,
 }
 
@@ -87,7 +88,8 @@ impl Audit {
         &self.known
     }
 
-    /// Whether each address so far is that of blocks of some card of the profile. Then each shape is that of a real card.
+    /// Whether each address so far is that of blocks of some card of the profile, also with the greatest count where no line
+    /// told it, and no count was untold that a preset count demands. Then each shape is that of a real card.
     pub fn is_bounded(&self) -> bool
         ensures { result ≡ self.now.bounded }
     {
@@ -97,22 +99,21 @@ impl Audit {
     /// The shapes after a line.
     fn after(&self, turn: &Turn, line: &TraceLine) -> Result<Vec<Shape>, AuditFault>
         ensures members { IfOk result (λ all. (s : CardShape) → May all.items s ↔
-            Follows self.now.kind turn.now line.now (has_address self.now.known) self.now.shapes.items s) }
+            Follows self.now.kind turn.now line.now self.now.known self.now.shapes.items s) }
         ensures room { IfErr result (λ fault. fault ≡ AuditFault.Room → AreMany
-            (Follows self.now.kind turn.now line.now (has_address self.now.known) self.now.shapes.items)) }
+            (Follows self.now.kind turn.now line.now self.now.known self.now.shapes.items)) }
     {
         match turn {
-            Turn::Does(event) => {
-                if !is_expected(self.kind, event, line) {
+            Turn::Does(deed) => {
+                if !is_expected(self.kind, self.known.csd, deed, line) {
                     return Ok(Vec::new(self.alloc));
                 }
                 let at = Evidence {
                     kind: self.kind,
-                    event,
                     line,
                     address: self.known.rca != 0,
                 };
-                carried(self.alloc, self.shapes.as_slice(), at)
+                carried(self.alloc, self.shapes.as_slice(), at, deed)
             }
             Turn::Uses(width) => with_lines(self.alloc, self.shapes.as_slice(), *width),
             Turn::OtherLength { .. } => Ok(Vec::new(self.alloc)),
@@ -127,7 +128,7 @@ impl Audit {
             result ≡ least_illegal self.now.kind turn.now shapes }
     {
         match turn {
-            Turn::Does(event) => least_illegal(self.kind, self.shapes.as_slice(), event),
+            Turn::Does(deed) => least_illegal(self.kind, self.shapes.as_slice(), deed),
             _ => None,
         }
     }
@@ -275,7 +276,7 @@ fn is_reset(turn: &Turn) -> bool
     ensures { result ≡ is_reset turn.now }
 {
     match turn {
-        Turn::Does(Event::Send(ask)) => ask.index == 0,
+        Turn::Does(Deed::Known(Event::Send(ask))) => ask.index == 0,
         _ => false,
     }
 }

@@ -1,7 +1,7 @@
 //! What a trace tells of its host.
 
 ghost use Rattle.std.specs.Prelude.{◌≡◌};
-ghost use Rattle.sdv_audit.specs.Known.{nothing_known, preset_by, known_after_order};
+ghost use Rattle.sdv_audit.specs.Known.{nothing_known, announced_told, known_after_order};
 
 use sdv_card::{Answer, Order, Width};
 
@@ -14,12 +14,10 @@ pub struct HostKnown {
     pub lines: Width,
     /// The last CSD that it read: bits 127..8, the highest byte first.
     pub csd: Option<[u8; 15]>,
-    /// The blocks that it announced last.
-    pub announced: u16,
+    /// The blocks that it announced last, if a line tells how many.
+    pub announced: Option<u16>,
     /// The bytes of the register that it asked for last.
     pub register_length: u16,
-    /// The blocks that it announced last by CMD23, since CMD0; 0 for none.
-    pub preset: u16,
 }
 
 impl HostKnown {
@@ -31,9 +29,8 @@ impl HostKnown {
             rca: 0,
             lines: Width::One,
             csd: None,
-            announced: 0,
+            announced: Some(0),
             register_length: 0,
-            preset: 0,
         }
     }
 
@@ -48,19 +45,19 @@ impl HostKnown {
             rca: order.rca_after(answer, self.rca),
             lines: self.lines,
             csd: order.csd_after(answer, self.csd),
-            announced: order.announced_after(self.announced),
+            announced: announced_told(order, self.announced),
             register_length: order.register_length_after(self.register_length),
-            preset: preset_after(order, self.preset),
         }
     }
 }
 
-fn preset_after(order: Order, before: u16) -> u16
-    ensures { result ≡ preset_by order before }
+/// The blocks that were announced last, if they are known.
+fn announced_told(order: Order, before: Option<u16>) -> Option<u16>
+    ensures { result ≡ announced_told order before }
 {
     match order {
-        Order::GoIdleState => 0,
-        Order::SetBlockCount { count } => count,
+        Order::ReadSingleBlock | Order::WriteBlock => Some(1),
+        Order::ReadMultipleBlock { count } | Order::WriteMultipleBlock { count } => Some(count),
         _ => before,
     }
 }

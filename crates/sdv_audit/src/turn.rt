@@ -1,13 +1,14 @@
 //! How a line of a trace is understood.
 
 ghost use Rattle.std.specs.Prelude.{◌≡◌};
-ghost use Rattle.sdv_card.specs.CommandTable.{order_argument, argument_or_none};
-ghost use Rattle.sdv_audit.specs.Turns.{blocks_behind, count_told, is_sent, ask_told, turn_of_ask, turn_of_phase, turn_of, known_after, is_expected};
+ghost use Rattle.sdv_card.specs.CommandTable.{order_argument, argument_or_none, expect_of};
+ghost use Rattle.sdv_audit.specs.Turns.{phase_count, is_counted, count_or_one, count_told, begins, is_count, is_sent, ask_told, transfer_ask, count_at, event_at, turn_of_ask, turn_of_phase, turn_of, known_after_phase, known_after_deed, known_after, is_expected_answer, is_expected};
 
 use crate::known::HostKnown;
 use crate::line::TraceLine;
+use crate::possible::is_possible;
 use sdv_card::state_table::{has_width, order};
-use sdv_card::{Aim, Ask, Event, Width, argument as sent_argument, expect};
+use sdv_card::{Aim, Ask, Event, Shape, Width, argument as sent_argument, expect};
 use sdv_frames::Command;
 use sdv_registers::Kind;
 
@@ -20,12 +21,24 @@ pub struct Told {
     pub next: Option<TraceLine>,
 }
 
+/// What the host does, as far as lines tell.
+#[derive(Clone, Copy, Debug, PartialEq, Eq)]
+pub enum Deed {
+    /// An event of the tables.
+    Known(Event),
+    /// CMD18, or CMD25 where it writes, of which no line tells yet how many blocks it announces.
+    Begins {
+        /// It is CMD25.
+        write: bool,
+    },
+}
+
 /// How a line is understood.
 #[derive(Clone, Copy, Debug, PartialEq, Eq)]
 pub enum Turn {
     /// The run ended.
     Ends,
-    /// The host of the tables sends no such command, or has no such data lines.
+    /// The host of the tables sends no such command, or has no such data lines or data phase.
     Outside,
     /// The host uses these data lines from here on.
     Uses(Width),
@@ -34,33 +47,80 @@ pub enum Turn {
         /// The blocks or bytes that were announced.
         due: u16,
     },
-    /// An event of the tables.
-    Does(Event),
+    /// The host does this.
+    Does(Deed),
 }
 
-/// The blocks that CMD18 or CMD25 announces.
-fn blocks_behind(preset: u16, next: Option<TraceLine>) -> u16
-    ensures { result ≡ blocks_behind preset next }
+/// The blocks of a data phase.
+fn phase_count(next: Option<TraceLine>) -> Option<u16>
+    ensures { result ≡ phase_count next }
 {
     match next {
-        Some(TraceLine::BlocksIn { count, .. }) => count,
-        Some(TraceLine::BlocksOut { count, .. }) => count,
-        _ => { if preset == 0 { 1 } else { preset } }
+        Some(TraceLine::BlocksIn { count, .. }) => Some(count),
+        Some(TraceLine::BlocksOut { count, .. }) => Some(count),
+        _ => None,
     }
 }
 
-/// The blocks that a command announces.
-fn count_told(command: Command, preset: u16, next: Option<TraceLine>) -> u16
-    ensures { result ≡ count_told command.index command.argument preset next }
+/// The command is CMD18 or CMD25.
+fn is_counted(index: u8) -> bool
+    ensures { result ≡ is_counted index }
+{
+    index == 18 || index == 25
+}
+
+/// The blocks that a command announces, or 1 where no line tells them.
+fn count_told(command: Command, next: Option<TraceLine>) -> u16
+    ensures { result ≡ count_told command.index command.argument next }
 {
     if command.index == 17 || command.index == 24 {
         1
-    } else if command.index == 18 || command.index == 25 {
-        blocks_behind(preset, next)
+    } else if is_counted(command.index) {
+        phase_count(next).unwrap_or(1)
     } else if command.index == 23 && command.argument < 65_536 {
         command.argument as u16
     } else {
         0
+    }
+}
+
+/// The command announces blocks, and no line tells yet how many.
+fn begins(index: u8, next: Option<TraceLine>) -> bool
+    ensures { result ≡ begins index next }
+{
+    is_counted(index) && phase_count(next).is_none()
+}
+
+/// CMD18 or CMD25 with a count.
+pub(crate) fn transfer_ask(write: bool, count: u16) -> Ask
+    ensures { result ≡ transfer_ask write count }
+{
+    Ask {
+        index: if write { 25 } else { 18 },
+        aim: Aim::Plain,
+        argument: 0,
+        count,
+    }
+}
+
+/// The count that the preset count of a shape demands, or 1.
+#[tactic(auto, unfolding(sdv_card::specs::Code::digits))]
+fn count_at(shape: Shape) -> u16
+    ensures { result ≡ count_at shape.0 }
+{
+    let preset = (shape.0 / (1 << 32) % 65_536) as u16;
+    if preset == 0 { 1 } else { preset }
+}
+
+impl Deed {
+    /// The event at a shape; of those with an untold count, the one that is legal if any is.
+    pub(crate) fn event_at(&self, shape: Shape) -> Event
+        ensures { result ≡ event_at self.now shape.0 }
+    {
+        match self {
+            Deed::Known(event) => *event,
+            Deed::Begins { write } => Event::Send(transfer_ask(*write, count_at(shape))),
+        }
     }
 }
 
@@ -79,13 +139,13 @@ fn is_sent(kind: Kind, rca: u16, argument: u32, ask: &Ask) -> bool
 
 /// The line of the command table by which the host sends the command, if there is one.
 fn ask_told(kind: Kind, known: &HostKnown, command: Command, next: Option<TraceLine>) -> Option<Ask>
-    ensures { result ≡ ask_told kind known.now.rca known.now.preset command next }
+    ensures { result ≡ ask_told kind known.now.rca command next }
 {
     let counted = Ask {
         index: command.index,
         aim: Aim::Plain,
         argument: 0,
-        count: count_told(command, known.preset, next),
+        count: count_told(command, next),
     };
     if is_sent(kind, known.rca, command.argument, &counted) {
         return Some(counted);
@@ -111,13 +171,24 @@ fn ask_told(kind: Kind, known: &HostKnown, command: Command, next: Option<TraceL
     None
 }
 
-fn turn_of_phase(event: Event, count: u16, due: u16) -> Turn
+fn turn_of_ask(untold: bool, write: bool, ask: Option<Ask>) -> Turn
+    ensures { result ≡ turn_of_ask untold write ask }
+{
+    match ask {
+        None => Turn::Outside,
+        Some(_) if untold => Turn::Does(Deed::Begins { write }),
+        Some(ask) => Turn::Does(Deed::Known(Event::Send(ask))),
+    }
+}
+
+fn turn_of_phase(event: Event, count: u16, due: Option<u16>) -> Turn
     ensures { result ≡ turn_of_phase event count due }
 {
-    if count == due {
-        Turn::Does(event)
-    } else {
-        Turn::OtherLength { due }
+    match due {
+        None if count >= 1 => Turn::Does(Deed::Known(event)),
+        None => Turn::Outside,
+        Some(due) if count == due => Turn::Does(Deed::Known(event)),
+        Some(due) => Turn::OtherLength { due },
     }
 }
 
@@ -127,22 +198,20 @@ impl Told {
         ensures { result ≡ turn_of kind known.now self.now }
     {
         match self.line {
-            TraceLine::Exchange { command, .. } => match ask_told(kind, known, command, self.next) {
-                Some(ask) => Turn::Does(Event::Send(ask)),
-                None => Turn::Outside,
-            },
+            TraceLine::Exchange { command, .. } => {
+                let ask = ask_told(kind, known, command, self.next);
+                turn_of_ask(begins(command.index, self.next), command.index == 25, ask)
+            }
             TraceLine::BlocksIn { count, .. } => {
                 turn_of_phase(Event::RecvBlocks, count, known.announced)
             }
             TraceLine::RegisterIn { count, .. } => {
-                turn_of_phase(Event::RecvReg, count, known.register_length)
+                turn_of_phase(Event::RecvReg, count, Some(known.register_length))
             }
-            TraceLine::BlocksOut { count, .. } => turn_of_phase(
-                Event::Give,
-                count,
-                known.announced,
-            ),
-            TraceLine::Wait { .. } => Turn::Does(Event::Wait),
+            TraceLine::BlocksOut { count, .. } => {
+                turn_of_phase(Event::Give, count, known.announced)
+            }
+            TraceLine::Wait { .. } => Turn::Does(Deed::Known(Event::Wait)),
             TraceLine::Lines { width } => {
                 if has_width(kind, width) {
                     Turn::Uses(width)
@@ -156,15 +225,41 @@ impl Told {
 }
 
 impl HostKnown {
+    fn after_phase(&self, line: &TraceLine) -> HostKnown
+        ensures { result ≡ known_after_phase line.now self.now }
+    {
+        match line {
+            TraceLine::BlocksIn { count, .. } | TraceLine::BlocksOut { count, .. } => HostKnown {
+                announced: Some(*count),
+                ..*self
+            },
+            _ => *self,
+        }
+    }
+
+    fn after_deed(&self, kind: Kind, deed: &Deed, line: &TraceLine) -> HostKnown
+        ensures { result ≡ known_after_deed kind deed.now line.now self.now }
+    {
+        match (deed, line) {
+            (Deed::Known(Event::Send(ask)), TraceLine::Exchange { answer, .. }) => {
+                self.after(order(kind, ask), answer)
+            }
+            (Deed::Known(Event::Send(_)), _) => *self,
+            (Deed::Known(_), _) => self.after_phase(line),
+            (Deed::Begins { .. }, _) => HostKnown {
+                announced: None,
+                ..*self
+            },
+        }
+    }
+
     /// What is known of the host after a line.
     pub fn after_line(&self, kind: Kind, turn: &Turn, line: &TraceLine) -> HostKnown
         ensures { result ≡ known_after kind turn.now line.now self.now }
     {
-        match (turn, line) {
-            (Turn::Does(Event::Send(ask)), TraceLine::Exchange { answer, .. }) => {
-                self.after(order(kind, ask), answer)
-            }
-            (Turn::Uses(width), _) => HostKnown {
+        match turn {
+            Turn::Does(deed) => self.after_deed(kind, deed, line),
+            Turn::Uses(width) => HostKnown {
                 lines: *width,
                 ..*self
             },
@@ -173,14 +268,27 @@ impl HostKnown {
     }
 }
 
-/// What came of the event is of the format that the host waits for.
-pub(crate) fn is_expected(kind: Kind, event: &Event, line: &TraceLine) -> bool
-    ensures { result ≡ is_expected kind event.now line.now }
+/// What comes of the ask is of the format that the host waits for.
+fn has_format(kind: Kind, ask: &Ask, line: &TraceLine) -> bool
+    ensures { result ≡ is_expected_answer (expect_of kind ask.now) line.now }
 {
-    match (event, line) {
-        (Event::Send(ask), TraceLine::Exchange { answer, .. }) => {
+    match line {
+        TraceLine::Exchange { answer, .. } => {
             answer.is_of_kind(expect(order(kind, ask), ask.index))
         }
         _ => true,
+    }
+}
+
+/// What came of it is of the format that the host waits for, and some card may answer so, beside a host that knows this CSD.
+pub(crate) fn is_expected(kind: Kind, csd: Option<[u8; 15]>, deed: &Deed, line: &TraceLine) -> bool
+    ensures { result ≡ is_expected kind csd deed.now line.now }
+{
+    match deed {
+        Deed::Known(Event::Send(ask)) => {
+            has_format(kind, ask, line) && is_possible(kind, csd, order(kind, ask), line)
+        }
+        Deed::Known(_) => true,
+        Deed::Begins { write } => has_format(kind, &transfer_ask(*write, 1), line),
     }
 }

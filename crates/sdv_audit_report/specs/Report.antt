@@ -8,7 +8,7 @@ use Rattle.sdv_audit.specs.Course.{Course, IsAt, begun, course_after, found_at}
 use Rattle.sdv_audit_report.specs.declared.style.Style.{Style}
 use Rattle.sdv_audit_report.specs.declared.style.Tally.{Tally}
 use Rattle.sdv_audit_report.specs.declared.report.Report.{Report}
-use Rattle.sdv_audit_report.specs.Notes.{standing_note, notes_taken, notes_found, counted, tally_after, no_tally, csd_line_after, summary}
+use Rattle.sdv_audit_report.specs.Notes.{standing_note, notes_taken, notes_found, counted, tally_after, no_tally, csd_line_after, ending}
 
 -- how far a report is
 pub record Progress : Type 0 where
@@ -28,7 +28,8 @@ abbrev pub line_notes : Kind → Style → Progress → Told → Text
 line_notes k style p told =
     standing_note style (number_at p) told.line p.course.shapes
     ++ (notes_taken style (number_at p) told.line (found_at k told p.course)
-    ++ notes_found style (number_at p) told.line (found_at k told p.course) k p.course.known.csd p.csd_line)
+    ++ notes_found style (number_at p) told.line (found_at k told p.course) p.course.bounded k p.course.known.csd
+    p.csd_line)
 
 abbrev pub progress_after : Kind → Progress → Told → Progress
 progress_after k p told = record {
@@ -58,9 +59,13 @@ progress_from k p (line ∷ rest) = progress_from k (progress_after k p (told_of
 abbrev pub tally_of : Kind → List TraceLine → Tally
 tally_of k lines = (progress_from k at_start lines).tally
 
+-- what is printed behind the notes on all lines
+abbrev pub ending_at : Style → Progress → Text
+ending_at style p = ending style p.course.shapes p.tally
+
 -- what is printed of a trace
 abbrev pub audit_text : Kind → Style → List TraceLine → Text
-audit_text k style lines = notes k style at_start lines ++ summary style (tally_of k lines)
+audit_text k style lines = notes k style at_start lines ++ ending_at style (progress_from k at_start lines)
 
 -- A REPORT is so far
 pub record ReportAt (report : Report) (p : Progress) : Type 0 where

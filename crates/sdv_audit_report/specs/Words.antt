@@ -20,31 +20,45 @@ told_words (Exchange command answer) =
     codes "CMD" ++ (decimal command.index ++ (codes " " ++ word_text command.argument))
 told_words line = line_text line
 
+-- a line as it stands in the trace, or without its answer
+abbrev pub shown_words : (whole : Bool) → TraceLine → Text
+shown_words whole line = if whole then line_text line else told_words line
+
 -- THE HOST WAS RECKLESS
 
 abbrev pub fields_words : Option Fields → Text
 fields_words None = codes "no state of a card"
 fields_words (Some fields) = card_words fields
 
-abbrev pub reckless_words : Shape → Text
-reckless_words s = codes "a card that answered so may be in " ++ fields_words (fields_of s.0)
+-- of some real card it is so as long as the audit is bounded
+abbrev pub bounded_words : (bounded : Bool) → Text
+bounded_words bounded =
+    if bounded then [] else codes " (an address before it may lie on no card, or a count before it is not told)"
+
+abbrev pub reckless_words : (bounded : Bool) → Shape → Text
+reckless_words bounded s =
+    codes "a card that answered so may be in " ++ (fields_words (fields_of s.0) ++ bounded_words bounded)
 
 -- NO CARD ANSWERS SO
-
--- an announced length
-abbrev pub due_words : ℕ → Text
-due_words due = codes ": " ++ (decimal due ++ codes " announced")
 
 abbrev pub line_answer_words : TraceLine → Text
 line_answer_words (Exchange command answer) = codes ": " ++ answer_text answer
 line_answer_words line = []
 
-abbrev pub turn_words : Turn → TraceLine → Text
-turn_words (OtherLength due) line = due_words due
-turn_words turn line = line_answer_words line
+abbrev pub no_card_words : TraceLine → Text
+no_card_words line = codes "no card answers so" ++ line_answer_words line
+
+-- A DATA PHASE OF ANOTHER LENGTH is one that no host makes, whatever card answers
+abbrev pub length_words : (due : ℕ) → Text
+length_words due = codes "no host of the tables makes this phase: " ++ (decimal due ++ codes " due")
 
 abbrev pub unanswered_words : Turn → TraceLine → Text
-unanswered_words turn line = codes "no card answers so" ++ turn_words turn line
+unanswered_words (OtherLength due) line = length_words due
+unanswered_words turn line = no_card_words line
+
+abbrev pub unanswered_name : Turn → Text
+unanswered_name (OtherLength due) = codes "length"
+unanswered_name turn = codes "unanswered"
 
 -- AN ADDRESS
 

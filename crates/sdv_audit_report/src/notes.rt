@@ -1,10 +1,12 @@
 //! The notes on a line of a trace.
 
 ghost use Rattle.std.specs.Prelude.{◌≡◌, ◌++◌, OnOk};
-ghost use Rattle.sdv_audit_report.specs.Notes.{plain_front, json_front, note_front, note_end, note, standing_note, anew_note, outside_note, reckless_note, unanswered_note, beyond_note, notes_taken, notes_found, count_and, plain_summary, json_summary, summary};
+ghost use Rattle.sdv_audit_report.specs.Notes.{plain_front, json_front, note_front, note_end, note, standing_note, anew_note, outside_note, reckless_note, unanswered_note, beyond_note, notes_taken, notes_found, count_and, plain_summary, json_summary, summary, end_front, end_note, ending};
 
 use crate::style::{Style, Tally, is_outside};
-use crate::words::{put_beyond, put_reckless, put_standing, put_told, put_unanswered};
+use crate::words::{
+    put_beyond, put_reckless, put_shown, put_standing, put_unanswered, unanswered_name,
+};
 use sdv_audit::{Findings, TraceLine};
 use sdv_card::Shape;
 use sdv_registers::Kind;
@@ -22,24 +24,31 @@ pub struct Place<'a> {
     pub line: &'a TraceLine,
 }
 
-/// The CSD that the host read last.
+/// What is known before the line.
 #[derive(Clone, Copy)]
-pub struct LastCsd {
+pub struct Before {
     /// The kind of card.
     pub kind: Kind,
-    /// The CSD.
+    /// The CSD that the host read last.
     pub csd: Option<[u8; 15]>,
     /// The number of its line.
-    pub line: u64,
+    pub csd_line: u64,
+    /// Each shape at which a card may stand is that of a real card.
+    pub bounded: bool,
 }
 
-fn put_plain_front(text: &mut Text, number: u64, line: &TraceLine) -> Result<(), AllocError>
-    ensures { OnOk result (text.new.items ≡ text.old.items ++ plain_front number line.now) }
+fn put_plain_front(
+    text: &mut Text,
+    number: u64,
+    line: &TraceLine,
+    whole: bool,
+) -> Result<(), AllocError>
+    ensures { OnOk result (text.new.items ≡ text.old.items ++ plain_front number whole line.now) }
 {
     put(text, "line ")?;
     put_number(text, number)?;
     put(text, ": ")?;
-    put_told(text, line)?;
+    put_shown(text, line, whole)?;
     put(text, ": ")
 }
 
@@ -48,27 +57,28 @@ fn put_json_front(
     number: u64,
     line: &TraceLine,
     name: &str,
+    whole: bool,
 ) -> Result<(), AllocError>
-    ensures { OnOk result (text.new.items ≡ text.old.items ++ json_front number line.now name.now) }
+    ensures { OnOk result (text.new.items ≡ text.old.items ++ json_front number whole line.now name.now) }
 {
     put(text, "{\"line\":")?;
     put_number(text, number)?;
     put(text, ",\"told\":\"")?;
-    put_told(text, line)?;
+    put_shown(text, line, whole)?;
     put(text, "\",\"finding\":\"")?;
     put(text, name)?;
     put(text, "\",\"text\":\"")
 }
 
-/// Adds what stands before the words of a note.
-fn put_front(text: &mut Text, at: Place<'_>, name: &str) -> Result<(), AllocError>
+/// Adds what stands before the words of a note, with the whole line or without its answer.
+fn put_front(text: &mut Text, at: Place<'_>, name: &str, whole: bool) -> Result<(), AllocError>
     ensures { OnOk result (text.new.items ≡ text.old.items ++
-        note_front at.entry.style at.entry.number at.entry.line.now name.now) }
+        note_front at.entry.style at.entry.number whole at.entry.line.now name.now) }
 {
     if at.style.json {
-        put_json_front(text, at.number, at.line, name)
+        put_json_front(text, at.number, at.line, name, whole)
     } else {
-        put_plain_front(text, at.number, at.line)
+        put_plain_front(text, at.number, at.line, whole)
     }
 }
 
@@ -91,7 +101,7 @@ pub fn put_standing_note(text: &mut Text, at: Place<'_>, shapes: &[Shape]) -> Re
     if !at.style.annotate {
         return Ok(());
     }
-    put_front(text, at, "states")?;
+    put_front(text, at, "states", true)?;
     put_standing(text, shapes)?;
     put_end(text, at.style)
 }
@@ -101,7 +111,7 @@ fn put_note(text: &mut Text, at: Place<'_>, name: &str, words: &str) -> Result<(
     ensures { OnOk result (text.new.items ≡ text.old.items ++
         note at.entry.style at.entry.number at.entry.line.now name.now words.now) }
 {
-    put_front(text, at, name)?;
+    put_front(text, at, name, false)?;
     put(text, words)?;
     put_end(text, at.style)
 }
@@ -133,15 +143,16 @@ fn put_reckless_note(
     text: &mut Text,
     at: Place<'_>,
     reckless: Option<Shape>,
+    bounded: bool,
 ) -> Result<(), AllocError>
     ensures { OnOk result (text.new.items ≡ text.old.items ++
-        reckless_note at.entry.style at.entry.number at.entry.line.now reckless) }
+        reckless_note at.entry.style at.entry.number at.entry.line.now reckless bounded) }
 {
     let Some(shape) = reckless else {
         return Ok(());
     };
-    put_front(text, at, "reckless")?;
-    put_reckless(text, shape)?;
+    put_front(text, at, "reckless", false)?;
+    put_reckless(text, bounded, shape)?;
     put_end(text, at.style)
 }
 
@@ -152,7 +163,7 @@ fn put_unanswered_note(text: &mut Text, at: Place<'_>, found: &Findings) -> Resu
     if !found.unanswered {
         return Ok(());
     }
-    put_front(text, at, "unanswered")?;
+    put_front(text, at, unanswered_name(&found.turn), false)?;
     put_unanswered(text, &found.turn, at.line)?;
     put_end(text, at.style)
 }
@@ -161,16 +172,16 @@ fn put_beyond_note(
     text: &mut Text,
     at: Place<'_>,
     found: &Findings,
-    last: LastCsd,
+    before: Before,
 ) -> Result<(), AllocError>
     ensures { OnOk result (text.new.items ≡ text.old.items ++
-        beyond_note at.entry.style at.entry.number at.entry.line.now found.now last.kind last.csd last.line) }
+        beyond_note at.entry.style at.entry.number at.entry.line.now found.now before.kind before.csd before.csd_line) }
 {
     if !found.beyond {
         return Ok(());
     }
-    put_front(text, at, "beyond")?;
-    put_beyond(text, last.kind, last.csd, last.line)?;
+    put_front(text, at, "beyond", false)?;
+    put_beyond(text, before.kind, before.csd, before.csd_line)?;
     put_end(text, at.style)
 }
 
@@ -188,14 +199,15 @@ pub fn put_notes_found(
     text: &mut Text,
     at: Place<'_>,
     found: &Findings,
-    last: LastCsd,
+    before: Before,
 ) -> Result<(), AllocError>
     ensures { OnOk result (text.new.items ≡ text.old.items ++
-        notes_found at.entry.style at.entry.number at.entry.line.now found.now last.kind last.csd last.line) }
+        notes_found at.entry.style at.entry.number at.entry.line.now found.now
+        before.bounded before.kind before.csd before.csd_line) }
 {
-    put_reckless_note(text, at, found.reckless)?;
+    put_reckless_note(text, at, found.reckless, before.bounded)?;
     put_unanswered_note(text, at, found)?;
-    put_beyond_note(text, at, found, last)
+    put_beyond_note(text, at, found, before)
 }
 
 /// Adds a number and words.
@@ -212,6 +224,7 @@ fn put_plain_summary(text: &mut Text, tally: Tally) -> Result<(), AllocError>
     put_counted(text, tally.lines, " lines, ")?;
     put_counted(text, tally.reckless, " reckless, ")?;
     put_counted(text, tally.unanswered, " that no card answers, ")?;
+    put_counted(text, tally.lengths, " of another length, ")?;
     put_counted(text, tally.beyond, " beyond the capacity, ")?;
     put_counted(text, tally.outside, " outside\n")
 }
@@ -222,13 +235,14 @@ fn put_json_summary(text: &mut Text, tally: Tally) -> Result<(), AllocError>
     put(text, "{\"lines\":")?;
     put_counted(text, tally.lines, ",\"reckless\":")?;
     put_counted(text, tally.reckless, ",\"unanswered\":")?;
-    put_counted(text, tally.unanswered, ",\"beyond\":")?;
+    put_counted(text, tally.unanswered, ",\"lengths\":")?;
+    put_counted(text, tally.lengths, ",\"beyond\":")?;
     put_counted(text, tally.beyond, ",\"outside\":")?;
     put_counted(text, tally.outside, "}\n")
 }
 
 /// Adds the summary.
-pub fn put_summary(text: &mut Text, style: Style, tally: Tally) -> Result<(), AllocError>
+fn put_summary(text: &mut Text, style: Style, tally: Tally) -> Result<(), AllocError>
     ensures { OnOk result (text.new.items ≡ text.old.items ++ summary style tally) }
 {
     if style.json {
@@ -236,4 +250,46 @@ pub fn put_summary(text: &mut Text, style: Style, tally: Tally) -> Result<(), Al
     } else {
         put_plain_summary(text, tally)
     }
+}
+
+/// Adds what stands before the states behind the last line.
+fn put_end_front(text: &mut Text, style: Style, lines: u64) -> Result<(), AllocError>
+    ensures { OnOk result (text.new.items ≡ text.old.items ++ end_front style lines) }
+{
+    if !style.json {
+        return put(text, "at the end: ");
+    }
+    put(text, "{\"line\":")?;
+    put_number(text, lines)?;
+    put(text, ",\"told\":\"\",\"finding\":\"end\",\"text\":\"")
+}
+
+/// Adds the states behind the last line, where states are asked for.
+fn put_end_note(
+    text: &mut Text,
+    style: Style,
+    lines: u64,
+    shapes: &[Shape],
+) -> Result<(), AllocError>
+    ensures { OnOk result (text.new.items ≡ text.old.items ++ end_note style lines shapes.now) }
+{
+    if !style.annotate {
+        return Ok(());
+    }
+    put_end_front(text, style, lines)?;
+    put_standing(text, shapes)?;
+    put_end(text, style)
+}
+
+/// Adds what stands behind the notes on all lines.
+pub fn put_ending(
+    text: &mut Text,
+    style: Style,
+    shapes: &[Shape],
+    tally: Tally,
+) -> Result<(), AllocError>
+    ensures { OnOk result (text.new.items ≡ text.old.items ++ ending style shapes.now tally) }
+{
+    put_end_note(text, style, tally.lines, shapes)?;
+    put_summary(text, style, tally)
 }

@@ -1,16 +1,18 @@
 //! A report, line by line.
 
-ghost use Rattle.std.specs.Prelude.{◌≡◌, ◌++◌, IfErr, IfOk, OnOk};
+ghost use Rattle.std.specs.Prelude.{◌≡◌, ◌≢◌, ◌++◌, IfErr, IfOk, OnOk};
 ghost use Rattle.std.specs.Io.KnownBytes.{Appends};
 ghost use Rattle.sdv_card.specs.Lists.{May};
 ghost use Rattle.sdv_audit.specs.Room.{AreMany};
 ghost use Rattle.sdv_audit_report.specs.Notes.{csd_line_after};
-ghost use Rattle.sdv_audit_report.specs.Report.{Progress, at_start, ReportAt, line_notes, progress_after};
+ghost use Rattle.sdv_audit_report.specs.Report.{Progress, at_start, ReportAt, line_notes, progress_after, ending_at};
 
 use crate::fault::NoteFault;
-use crate::notes::{LastCsd, Place, put_notes_found, put_notes_taken, put_standing_note};
+use crate::notes::{
+    Before, Place, put_ending, put_notes_found, put_notes_taken, put_standing_note,
+};
 use crate::style::{Style, Tally, counted};
-use sdv_audit::{Audit, Findings, Told, TraceLine, Turn};
+use sdv_audit::{Audit, Deed, Findings, Told, TraceLine, Turn};
 use sdv_card::{Answer, Event};
 use sdv_frames::Reply;
 use sdv_registers::Kind;
@@ -64,18 +66,33 @@ impl Report {
             number: counted(true, self.tally.lines),
             line: &told.line,
         };
-        let last = LastCsd {
+        let before = Before {
             kind: self.kind,
             csd: self.audit.known().csd,
-            line: self.csd_line,
+            csd_line: self.csd_line,
+            bounded: self.audit.is_bounded(),
         };
         let mut text = Vec::new(self.alloc);
         put_standing_note(&mut text, at, self.audit.shapes())?;
         let found = self.audit.next(told)?;
         put_notes_taken(&mut text, at, &found)?;
-        put_notes_found(&mut text, at, &found, last)?;
+        put_notes_found(&mut text, at, &found, before)?;
         self.csd_line = csd_line_after(at.number, &found, &told.line, self.csd_line);
         self.tally = self.tally.after(&found);
+        match write_text(out, text.as_slice()) {
+            Ok(()) => Ok(()),
+            Err(_) => Err(NoteFault::Write),
+        }
+    }
+
+    /// Writes what stands behind the notes on all lines.
+    pub fn finish<W: Write>(&self, out: &mut W) -> Result<(), NoteFault>
+        ensures written { OnOk result ((p : Progress) → ReportAt self.now p →
+            Appends (W.contents out.old) (W.contents out.new) (ending_at self.now.style p)) }
+        ensures room { IfErr result (λ fault. fault ≢ NoteFault.Room) }
+    {
+        let mut text = Vec::new(self.alloc);
+        put_ending(&mut text, self.style, self.audit.shapes(), self.tally)?;
         match write_text(out, text.as_slice()) {
             Ok(()) => Ok(()),
             Err(_) => Err(NoteFault::Write),
@@ -89,7 +106,7 @@ fn csd_line_after(number: u64, found: &Findings, line: &TraceLine, before: u64) 
 {
     match (found.turn, line) {
         (
-            Turn::Does(Event::Send(ask)),
+            Turn::Does(Deed::Known(Event::Send(ask))),
             TraceLine::Exchange {
                 answer: Answer::Reply(Reply::R2(_)),
                 ..

@@ -1,7 +1,7 @@
 //! How a report is printed, and what it counts.
 
 ghost use Rattle.std.specs.Prelude.{◌≡◌};
-ghost use Rattle.sdv_audit_report.specs.Notes.{is_reckless, is_outside, counted, tally_after, no_tally, has_findings};
+ghost use Rattle.sdv_audit_report.specs.Notes.{is_reckless, is_outside, is_other_length, counted, tally_after, no_tally, has_findings};
 
 use sdv_audit::{Findings, Turn};
 
@@ -23,6 +23,8 @@ pub struct Tally {
     pub reckless: u64,
     /// Those to which no card answers so.
     pub unanswered: u64,
+    /// Data phases of another length than was due.
+    pub lengths: u64,
     /// Those with an address beyond the capacity that the CSD gives.
     pub beyond: u64,
     /// Those outside the tables.
@@ -38,6 +40,7 @@ impl Tally {
             lines: 0,
             reckless: 0,
             unanswered: 0,
+            lengths: 0,
             beyond: 0,
             outside: 0,
         }
@@ -50,7 +53,14 @@ impl Tally {
         Tally {
             lines: counted(true, self.lines),
             reckless: counted(found.reckless.is_some(), self.reckless),
-            unanswered: counted(found.unanswered, self.unanswered),
+            unanswered: counted(
+                found.unanswered && !is_other_length(&found.turn),
+                self.unanswered,
+            ),
+            lengths: counted(
+                found.unanswered && is_other_length(&found.turn),
+                self.lengths,
+            ),
             beyond: counted(found.beyond, self.beyond),
             outside: counted(is_outside(&found.turn), self.outside),
         }
@@ -60,7 +70,7 @@ impl Tally {
     pub fn has_findings(&self) -> bool
         ensures { result ≡ has_findings self.now }
     {
-        self.reckless != 0 || self.unanswered != 0 || self.beyond != 0
+        self.reckless != 0 || self.unanswered != 0 || self.lengths != 0 || self.beyond != 0
     }
 }
 
@@ -71,7 +81,17 @@ pub fn counted(more: bool, count: u64) -> u64
     if more { count.saturating_add(1) } else { count }
 }
 
-/// The host of the tables sends no such command, or has no such data lines.
+/// A data phase has another length than was due.
+fn is_other_length(turn: &Turn) -> bool
+    ensures { result ≡ is_other_length turn.now }
+{
+    match turn {
+        Turn::OtherLength { .. } => true,
+        _ => false,
+    }
+}
+
+/// The host of the tables sends no such command, or has no such data lines or data phase.
 pub fn is_outside(turn: &Turn) -> bool
     ensures { result ≡ is_outside turn.now }
 {

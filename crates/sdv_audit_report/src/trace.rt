@@ -1,21 +1,17 @@
 //! The audit of a trace from a reader.
 
-ghost use Rattle.std.specs.Prelude.{◌≡◌, ◌≢◌, ◌++◌, ℕ, List, [], ◌∷◌, IfErr, OnOk, Option, None, Some};
+ghost use Rattle.std.specs.Prelude.{◌≡◌, ◌++◌, ℕ, List, [], ◌∷◌, IfErr, OnOk, Option, None, Some};
 ghost use Rattle.sdv_registers.specs.declared.kind.Kind.{Kind as CardKind};
 ghost use Rattle.sdv_audit.specs.declared.line.TraceLine.{TraceLine as Line};
 ghost use Rattle.sdv_audit_report.specs.declared.style.Style.{Style as ReportStyle};
-ghost use Rattle.std.specs.Io.KnownBytes.{Appends};
-ghost use Rattle.sdv_audit_report.specs.Notes.{summary};
 ghost use Rattle.sdv_audit_report.specs.Audited.{Written, Finished, StopsAt, StopsReading, EndsReport, NoRoom, Audits};
 
 use crate::fault::{NoteFault, TraceFault};
 use crate::input::{LineBytes, TextEnd, TextFault, read_text};
-use crate::notes::put_summary;
 use crate::report::Report;
 use crate::style::{Style, Tally, counted};
 use sdv_audit::{LineFault, Told, TraceLine, read_line};
 use sdv_registers::Kind;
-use sdv_text::write_text;
 use std::alloc::Global;
 use std::io::{Read, Write};
 
@@ -108,38 +104,15 @@ fn stop_reading<W: Write>(
     }
 }
 
-/// Writes a summary.
-fn write_summary<W: Write>(
-    alloc: Global,
-    style: Style,
-    tally: Tally,
-    out: &mut W,
-) -> Result<(), NoteFault>
-    ensures written { OnOk result (Appends (W.contents out.old) (W.contents out.new) (summary style tally)) }
-    ensures room { IfErr result (λ fault. fault ≢ NoteFault.Room) }
-{
-    let mut text = Vec::new(alloc);
-    put_summary(&mut text, style, tally)?;
-    match write_text(out, text.as_slice()) {
-        Ok(()) => Ok(()),
-        Err(_) => Err(NoteFault::Write),
-    }
-}
-
-/// Writes the notes on the last line, and the summary.
-fn end_report<W: Write>(
-    alloc: Global,
-    pending: &mut Pending,
-    out: &mut W,
-) -> Result<Tally, TraceFault>
+/// Writes the notes on the last line, and what stands behind them.
+fn end_report<W: Write>(pending: &mut Pending, out: &mut W) -> Result<Tally, TraceFault>
     ensures { (k : CardKind) (style : ReportStyle) (read : List Line) (old : Option (List ℕ)) →
         Written pending.old.report pending.old.held k style read old (W.contents out.old) →
         EndsReport k style read old (W.contents out.new) result }
 {
     pending.finish(out)?;
-    let tally = pending.report.tally;
-    write_summary(alloc, pending.report.style, tally, out)?;
-    Ok(tally)
+    pending.report.finish(out)?;
+    Ok(pending.report.tally)
 }
 
 /// Audits the trace of a host beside a card of this kind, line by line, and writes a note for each thing that is found, and
@@ -171,7 +144,7 @@ pub fn audit_trace<R: Read, W: Write>(
             Err(fault) => return stop_reading(&mut pending, fault, out),
         };
         match end {
-            TextEnd::End if text.is_empty() => return end_report(alloc, &mut pending, out),
+            TextEnd::End if text.is_empty() => return end_report(&mut pending, out),
             _ => {}
         }
         match read_line(text.as_slice()) {
@@ -179,7 +152,7 @@ pub fn audit_trace<R: Read, W: Write>(
             Err(fault) => return stop_at(&mut pending, fault, out),
         }
         match end {
-            TextEnd::End => return end_report(alloc, &mut pending, out),
+            TextEnd::End => return end_report(&mut pending, out),
             TextEnd::Feed => {}
         }
     }

@@ -4,7 +4,7 @@ ghost use Rattle.std.specs.Prelude.{◌≡◌, ◌++◌, OnOk, true, codes, deci
 ghost use Rattle.sdv_telling.specs.Cards.{numbered_state_word};
 ghost use Rattle.hex.specs.Hex.{encode_lower};
 ghost use Rattle.sdv_audit.specs.Spelling.{word_text, reply_text, answer_text, end_text, phase_text, wait_text, line_text};
-ghost use Rattle.sdv_audit_report.specs.Words.{told_words, reckless_words, fields_words, due_words, line_answer_words, turn_words, unanswered_words, csd_words, count_words, told_blocks, beyond_words, some_is, is_in, sign_words, states_words, standing_words};
+ghost use Rattle.sdv_audit_report.specs.Words.{told_words, shown_words, bounded_words, reckless_words, fields_words, line_answer_words, no_card_words, length_words, unanswered_words, unanswered_name, csd_words, count_words, told_blocks, beyond_words, some_is, is_in, sign_words, states_words, standing_words};
 
 use sdv_audit::{TraceLine, Turn};
 use sdv_card::{Answer, DataEnd, Fields, Shape, WaitEnd};
@@ -109,6 +109,31 @@ pub fn put_told(text: &mut Text, line: &TraceLine) -> Result<(), AllocError>
     }
 }
 
+/// Adds a line of a trace as it stands there.
+fn put_line(text: &mut Text, line: &TraceLine) -> Result<(), AllocError>
+    ensures { OnOk result (text.new.items ≡ text.old.items ++ line_text line.now) }
+{
+    match line {
+        TraceLine::Exchange { command, answer } => {
+            put_command(text, *command)?;
+            put(text, " ")?;
+            put_answer(text, answer)
+        }
+        _ => put_told(text, line),
+    }
+}
+
+/// Adds a line of a trace as it stands there, or without its answer.
+pub fn put_shown(text: &mut Text, line: &TraceLine, whole: bool) -> Result<(), AllocError>
+    ensures { OnOk result (text.new.items ≡ text.old.items ++ shown_words whole line.now) }
+{
+    if whole {
+        put_line(text, line)
+    } else {
+        put_told(text, line)
+    }
+}
+
 /// Adds the fields of a shape, if it has any.
 fn put_fields(text: &mut Text, fields: Option<Fields>) -> Result<(), AllocError>
     ensures { OnOk result (text.new.items ≡ text.old.items ++ fields_words fields) }
@@ -119,25 +144,35 @@ fn put_fields(text: &mut Text, fields: Option<Fields>) -> Result<(), AllocError>
     }
 }
 
-/// Adds that the host was reckless: a card of this shape may be there.
-pub fn put_reckless(text: &mut Text, shape: Shape) -> Result<(), AllocError>
-    ensures { OnOk result (text.new.items ≡ text.old.items ++ reckless_words shape) }
+/// Adds what a verdict that the host was reckless rests on, where it is not sure.
+fn put_bounded(text: &mut Text, bounded: bool) -> Result<(), AllocError>
+    ensures { OnOk result (text.new.items ≡ text.old.items ++ bounded_words bounded) }
 {
-    put(text, "a card that answered so may be in ")?;
-    put_fields(text, shape.decode())
+    if bounded {
+        Ok(())
+    } else {
+        put(
+            text,
+            " (an address before it may lie on no card, or a count before it is not told)",
+        )
+    }
 }
 
-/// Adds how long a data phase was to be, where it was of another length, or else the answer.
-fn put_turn(text: &mut Text, turn: &Turn, line: &TraceLine) -> Result<(), AllocError>
-    ensures { OnOk result (text.new.items ≡ text.old.items ++ turn_words turn.now line.now) }
+/// Adds that the host was reckless: a card of this shape may be there.
+pub fn put_reckless(text: &mut Text, bounded: bool, shape: Shape) -> Result<(), AllocError>
+    ensures { OnOk result (text.new.items ≡ text.old.items ++ reckless_words bounded shape) }
 {
-    match (turn, line) {
-        (Turn::OtherLength { due }, _) => {
-            put(text, ": ")?;
-            put_number(text, u64::from(*due))?;
-            put(text, " announced")
-        }
-        (_, TraceLine::Exchange { answer, .. }) => {
+    put(text, "a card that answered so may be in ")?;
+    put_fields(text, shape.decode())?;
+    put_bounded(text, bounded)
+}
+
+/// Adds the answer of a line, if it has one.
+fn put_line_answer(text: &mut Text, line: &TraceLine) -> Result<(), AllocError>
+    ensures { OnOk result (text.new.items ≡ text.old.items ++ line_answer_words line.now) }
+{
+    match line {
+        TraceLine::Exchange { answer, .. } => {
             put(text, ": ")?;
             put_answer(text, answer)
         }
@@ -146,11 +181,40 @@ fn put_turn(text: &mut Text, turn: &Turn, line: &TraceLine) -> Result<(), AllocE
 }
 
 /// Adds that no card answers so.
+fn put_no_card(text: &mut Text, line: &TraceLine) -> Result<(), AllocError>
+    ensures { OnOk result (text.new.items ≡ text.old.items ++ no_card_words line.now) }
+{
+    put(text, "no card answers so")?;
+    put_line_answer(text, line)
+}
+
+/// Adds how long a data phase was to be.
+fn put_length(text: &mut Text, due: u16) -> Result<(), AllocError>
+    ensures { OnOk result (text.new.items ≡ text.old.items ++ length_words due) }
+{
+    put(text, "no host of the tables makes this phase: ")?;
+    put_number(text, u64::from(due))?;
+    put(text, " due")
+}
+
+/// Adds that no card answers so, or that no host makes a data phase of this length.
 pub fn put_unanswered(text: &mut Text, turn: &Turn, line: &TraceLine) -> Result<(), AllocError>
     ensures { OnOk result (text.new.items ≡ text.old.items ++ unanswered_words turn.now line.now) }
 {
-    put(text, "no card answers so")?;
-    put_turn(text, turn, line)
+    match turn {
+        Turn::OtherLength { due } => put_length(text, *due),
+        _ => put_no_card(text, line),
+    }
+}
+
+/// The name of that finding.
+pub fn unanswered_name(turn: &Turn) -> &'static str
+    ensures { result.now ≡ unanswered_name turn.now }
+{
+    match turn {
+        Turn::OtherLength { .. } => "length",
+        _ => "unanswered",
+    }
 }
 
 /// The blocks of the user area that a CSD tells.

@@ -71,6 +71,69 @@ CMD2 00000000 R2 00aa585951454d552101deadbeef00
 CMD3 00010000 timeout
 CMD9 00010000 R2 400e00325b5900001fff7f800a4000";
 
+/// Counts that a later phase tells, or none: CMD25 and CMD18 with CMD13 before the phase, and CMD18 without one at the last
+/// block and beyond it.
+const UNTOLD: &str = "CMD25 00000008 R1 00000900
+CMD13 45670000 R1 00000d00
+OUT 4 ok
+CMD12 00000000 R1 00000d00
+WAIT ok
+CMD18 00000008 R1 00000900
+CMD13 45670000 R1 00000b00
+IN 4 ok
+CMD12 00000000 R1 00000b00
+CMD18 007fffff R1 00000900
+CMD12 00000000 R1 00000b00
+CMD18 00800000 timeout";
+
+/// An e.MMC device, up to transfer state; a read with CMD23, and one of the last block without, of which the answer is lost.
+const PRESET: &str = "CMD0 00000000 -
+CMD1 40ff8080 R3 80ff8080
+CMD2 00000000 R2 000158534456455249100000000117
+CMD3 00010000 R1 00000500
+CMD9 00010000 R2 0000000000090000c0000000000000
+CMD7 00010000 R1 00000700
+CMD16 00000200 R1 00000900
+CMD23 00000008 R1 00000900
+CMD18 00000000 R1 00000900
+CMD13 00010000 R1 00000b00
+IN 8 ok
+CMD13 00010000 R1 00000900
+CMD18 00001e00 timeout";
+
+/// Answers that no card gives in any state: to CMD8 with another pattern, to ACMD41 without a voltage window, to CMD3 with the
+/// address 0, and to CMD9 with a CSD that tells no capacity, or with another one than before.
+const OTHER_ECHO: &str = "CMD0 00000000 -
+CMD8 000001aa R7 000001ab";
+
+const NO_WINDOWS: &str = "CMD0 00000000 -
+CMD55 00000000 R1 00000120
+CMD41 40ff8000 R3 c0000000";
+
+const NO_ADDRESS: &str = "CMD0 00000000 -
+CMD8 000001aa R7 000001aa
+CMD55 00000000 R1 00000120
+CMD41 40ff8000 R3 c0ff8000
+CMD2 00000000 R2 00aa585951454d552101deadbeef00
+CMD3 00000000 R6 00000500";
+
+const NO_CSD: &str = "CMD0 00000000 -
+CMD8 000001aa R7 000001aa
+CMD55 00000000 R1 00000120
+CMD41 40ff8000 R3 c0ff8000
+CMD2 00000000 R2 00aa585951454d552101deadbeef00
+CMD3 00000000 R6 45670500
+CMD9 45670000 R2 c00e00325b5900001fff7f800a4000";
+
+const OTHER_CSD: &str = "CMD0 00000000 -
+CMD8 000001aa R7 000001aa
+CMD55 00000000 R1 00000120
+CMD41 40ff8000 R3 c0ff8000
+CMD2 00000000 R2 00aa585951454d552101deadbeef00
+CMD3 00000000 R6 45670500
+CMD9 45670000 R2 400e00325b5900001fff7f800a4000
+CMD9 45670000 R2 400e00325b5900001fff7f800a4001";
+
 /// A letter for what is found at a line.
 fn mark(found: &Findings) -> u8 {
     match found.turn {
@@ -180,6 +243,30 @@ fn a_device_has_the_address_of_a_lost_cmd3(rt: HostRuntime) {
         from_start(&rt, rt.alloc(), Kind::Emmc, LOST_CMD3).as_slice(),
         b"....R".as_slice()
     );
+}
+
+#[test]
+fn a_phase_tells_the_count_however_far_it_is(rt: HostRuntime) {
+    assert_eq!(rt;
+        after_up(&rt, rt.alloc(), UNTOLD).as_slice(),
+        b"...........B".as_slice()
+    );
+}
+
+#[test]
+fn a_preset_count_ends_with_its_transfer(rt: HostRuntime) {
+    assert_eq!(rt;
+        from_start(&rt, rt.alloc(), Kind::Emmc, PRESET).as_slice(),
+        b".............".as_slice()
+    );
+}
+
+#[test]
+fn no_card_answers_so_in_any_state(rt: HostRuntime) {
+    for text in [OTHER_ECHO, NO_WINDOWS, NO_ADDRESS, NO_CSD, OTHER_CSD] {
+        let marks = from_start(&rt, rt.alloc(), Kind::Sd, text);
+        assert_eq!(rt; marks.last().copied(), Some(b'U'));
+    }
 }
 
 /// The fault of a line.

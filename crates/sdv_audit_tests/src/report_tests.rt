@@ -32,12 +32,14 @@ line 11: CMD24 00000000: a card that answered so may be in data, a read is due: 
 line 13: CMD17 00000000: a card that answered so may be in prg: block addresses
 line 14: CMD0 00000000: the audit begins anew
 line 15: CMD55 00000000: no card answers so: R1 00000d20
-16 lines, 2 reckless, 1 that no card answers, 1 beyond the capacity, 1 outside
+16 lines, 2 reckless, 1 that no card answers, 0 of another length, 1 beyond the capacity, 1 outside
 ";
 
-const OBJECTS: &str = r#"{"line":1,"told":"CMD5 00000000","finding":"states","text":"in idle"}
+const OBJECTS: &str =
+    r#"{"line":1,"told":"CMD5 00000000 timeout","finding":"states","text":"in idle"}
 {"line":1,"told":"CMD5 00000000","finding":"outside","text":"outside the tables; the audit goes on as if it had not come"}
-{"lines":1,"reckless":0,"unanswered":0,"beyond":0,"outside":1}
+{"line":1,"told":"","finding":"end","text":"in idle"}
+{"lines":1,"reckless":0,"unanswered":0,"lengths":0,"beyond":0,"outside":1}
 "#;
 
 /// What is printed of a trace, and why it is no trace if it is none.
@@ -84,5 +86,5 @@ fn what_is_printed_before_a_fault_stays(rt: HostRuntime) {
                 line: 2
             })
     );
-    assert!(rt; out.as_slice() == b"line 1: CMD0 00000000: in idle\n".as_slice());
+    assert!(rt; out.as_slice() == b"line 1: CMD0 00000000 -: in idle\n".as_slice());
 }

@@ -1,10 +1,11 @@
 use Rattle.std.proofs.Common.{Err, rules, false, ◌≡◌, ap, refl, subst, sym, ◌∙◌, ◌∷◌, true}
-use Rattle.sdv_card.specs.Lists.{May}
+use Rattle.sdv_card.specs.Lists.{May, all}
 use Rattle.sdv_audit.specs.declared.audit.Audit.{Audit}
 use Rattle.sdv_audit.specs.declared.audit.Findings.{Findings}
 use Rattle.sdv_audit.specs.Audited.{is_empty, is_unanswered}
+use Rattle.sdv_audit.specs.Lived.{LivedFor, turn_within}
 use Rattle.sdv_audit.proofs.Audits.{no_bounds, some_reckless, lived_more, one_more, none_left, left_empty}
-use Rattle.sdv_audit.proofs.Courses.{Advanced, found_so, is_at_next}
+use Rattle.sdv_audit.proofs.Courses.{Advanced, found_so, is_at_next, bounded_then, bounded_else}
 use Rattle.sdv_audit.proofs.RoomLaws.{room_on}
 use Rattle.sdv_audit.proofs.audit.Audit.advance.Goals as goal
 use Rattle.sdv_audit.proofs.audit.Audit.advance.Goals.{then-self, else-self}
@@ -18,9 +19,11 @@ returns-clause-stands c past s =
       covers = more.covers;
       lived = λ e t m.
           elim c.if-self.branch [
-            | then-self w ↦ lived_more c.args.self.now.kind c.args.self.now.known c.args.self.now.shapes.items c.in_ok-shapes.shapes.items c.turn-turn.result
+            | then-self w ↦
+                subst (λ v. LivedFor c.args.self.now.kind (c.args.told.now ∷ past) v.announced t) (sym more.known_is)
+                (lived_more c.args.self.now.kind c.args.self.now.known c.args.self.now.shapes.items c.in_ok-shapes.shapes.items c.turn-turn.result
                 c.args.told.now past s.known c.turn-turn.ensures c.in_ok-shapes.ensures.members (s.lived w.if-self.true)
-                (λ v n. w.all_within-self.ensures.0 (sym w.self-is ∙ e) v (subst (λ xs. May xs v) (sym w.as_slice-then-self.ensures.value) n)) t m
+                (λ v n. w.all_within-self.ensures.0 (sym w.self-is ∙ e) v (subst (λ xs. May xs v) (sym w.as_slice-then-self.ensures.value) n)) t m)
             | else-self w ↦ absurd (let f : false ≡ true = cc in cc)
           ];
     }
@@ -70,6 +73,16 @@ advanced c = record {
       ∙ ap (λ v. is_unanswered c.reckless-reckless.result c.args.self.now.shapes.items v) c.as_slice-2.ensures.value);
   beyond = c.beyond-beyond.ensures;
   restarted = refl;
+  bounded = elim c.if-self.branch [
+    | then-self w ↦
+        w.self-is ∙ bounded_then w.all_within-self.result c.args.self.now.bounded
+        (λ s. turn_within c.args.self.now.kind c.turn-turn.result c.args.told.now.line s.0) c.args.self.now.shapes.items w.as_slice-then-self.result.now
+        w.if-self.true w.as_slice-then-self.ensures.value w.all_within-self.ensures
+    | else-self w ↦
+        bounded_else c.if-self.self c.args.self.now.bounded
+        (all (λ s. turn_within c.args.self.now.kind c.turn-turn.result c.args.told.now.line s.0) c.args.self.now.shapes.items) w.if-self.false
+        (w.self-is ∙ w.if-self.false)
+  ];
 }
 
 pub returns-clause-found : goal.returns-clause-found
