@@ -1,5 +1,5 @@
--- WHAT STANDS BEFORE a place, by the tokens up to it: the names that the script declares, the line of the last token, and
--- the braces that are open.
+-- WHAT STANDS BEFORE a place, by the tokens up to it: the names that the script declares, the last token and its line,
+-- and the braces that are open.
 use Rattle.std.specs.Prelude.{ℕ, ◌-◌, Bool, true, false, List, [], ◌∷◌, ◌++◌, length, take, drop}
 use Rattle.sdv_script.specs.Tokens.{Token, Key, Name, Mark, tokens}
 use Rattle.sdv_script.specs.declared.keyword.Keyword.TheVariants as word
@@ -24,6 +24,17 @@ declared (t ∷ ts) = []
 -- declarations stand behind the first two words
 abbrev pub names_of : Text → List Text
 names_of text = declared (drop 2 (tokens text))
+
+-- the sign between the numbers of a comparison
+abbrev pub is_comparison : Token → Bool
+is_comparison (Mark sign.AtLeast) = true
+is_comparison (Mark sign.Below) = true
+is_comparison token = false
+
+-- the last token is one, or the one before if there is none
+abbrev pub compares : (before : Bool) → List Token → Bool
+compares before [] = before
+compares before (t ∷ ts) = compares (is_comparison t) ts
 
 -- the last line, or the one before if there is none
 abbrev pub last_line : (before : ℕ) → (lines : List ℕ) → ℕ

@@ -71,8 +71,9 @@ abbrev pub stray_byte_hint : Text → Option Text
 stray_byte_hint [] = None
 stray_byte_hint (b ∷ bs) =
     if b == 62 then Some (hint_words hint.Comparison)
+    else (if b == 47 then Some (hint_words hint.Comment)
     else (if nat_le 48 b && nat_le b 57 then Some (hint_words hint.NoNumber)
-    else (if nat_le 65 b && nat_le b 90 then Some (hint_words hint.Capitals) else None))
+    else (if nat_le 65 b && nat_le b 90 then Some (hint_words hint.Capitals) else None)))
 
 abbrev pub stray_hint : Text → Option Text
 stray_hint written = or_else (command_hint written) (stray_byte_hint written)
@@ -81,6 +82,13 @@ stray_hint written = or_else (command_hint written) (stray_byte_hint written)
 abbrev pub is_of_devices : Text → Bool
 is_of_devices written =
     is_word (codes "ext.blocks") written || is_word (codes "ext.boot") written || is_word (codes "part.access") written
+
+-- a word of declarations behind them, where a statement can stand
+abbrev pub declares : (written : Text) → Bool
+declares written = is_word (codes "flags") written || is_word (codes "nums") written
+
+abbrev pub is_late : (written : Text) → List Offer → Bool
+is_late written offers = declares written && offers_word (codes "done") offers
 
 abbrev pub name_hint : Found → Text
 name_hint found.Key = hint_words hint.Reserved
@@ -99,7 +107,9 @@ written_hint clue =
     else rule_hint clue.kind clue.found clue.written.now)
 
 abbrev pub word_hint : Clue → List Offer → Option Text
-word_hint clue offers = or_else (option_map meant_words (meant clue.written.now offers)) (written_hint clue)
+word_hint clue offers =
+    if is_late clue.written.now offers then Some (hint_words hint.HeadFirst)
+    else or_else (option_map meant_words (meant clue.written.now offers)) (written_hint clue)
 
 -- WHAT CAN STAND THERE
 
@@ -107,28 +117,90 @@ word_hint clue offers = or_else (option_map meant_words (meant clue.written.now 
 abbrev pub innermost : List ℕ → Option ℕ
 innermost lines = slice_get lines (length lines - 1)
 
--- the innermost brace is not closed
-abbrev pub unclosed_hint : Found → List Offer → List ℕ → Option Text
-unclosed_hint found.End offers unclosed =
-    if offers_word (codes "}") offers then option_map (λ line. hint_words (hint.Unclosed line)) (innermost unclosed) else None
-unclosed_hint other offers unclosed = None
+-- it is not closed
+abbrev pub innermost_hint : List ℕ → Option Text
+innermost_hint unclosed = option_map (λ line. hint_words (hint.Unclosed line)) (innermost unclosed)
 
-abbrev pub offer_hint : Found → List Offer → Before → Option Text
-offer_hint what offers before =
+-- this can stand there, and nothing else
+abbrev pub is_only : (wanted : Text) → List Offer → Bool
+is_only wanted offers = (length offers == 1) && offers_word wanted offers
+
+-- a word with which a statement begins
+abbrev pub begins_phase : (written : Text) → Bool
+begins_phase written =
+    is_word (codes "send") written || is_word (codes "recv") written || is_word (codes "give") written
+    || is_word (codes "wait") written
+
+abbrev pub begins_setting : (written : Text) → Bool
+begins_setting written =
+    is_word (codes "set") written || is_word (codes "clear") written || is_word (codes "let") written
+    || is_word (codes "bus.lines") written
+
+abbrev pub begins_flow : (written : Text) → Bool
+begins_flow written =
+    is_word (codes "if") written || is_word (codes "loop") written || is_word (codes "break") written
+    || is_word (codes "done") written || is_word (codes "fault") written
+
+abbrev pub begins_statement : (written : Text) → Bool
+begins_statement written = begins_phase written || begins_setting written || begins_flow written
+
+-- the braces before this word are not all closed: a statement, where only `}` can stand, or `else`, where `}` can
+abbrev pub lacks_brace : (written : Text) → List Offer → Bool
+lacks_brace written offers =
+    (begins_statement written && is_only (codes "}") offers)
+    || (is_word (codes "else") written && offers_word (codes "}") offers)
+
+-- at what follows the sign of a comparison
+abbrev pub compared_hint : Found → Option Text
+compared_hint found.Sign = Some (hint_words hint.Comparison)
+compared_hint found.Name = Some (hint_words hint.WrittenNumber)
+compared_hint found.Key = Some (hint_words hint.WrittenNumber)
+compared_hint other = None
+
+-- what stands before the place says more than the word there
+abbrev pub before_hint : Clue → List Offer → Before → Option Text
+before_hint clue offers before =
+    if lacks_brace clue.written.now offers then innermost_hint before.unclosed.items
+    else (if before.compares then compared_hint clue.found else None)
+
+-- the end of the text, where the innermost brace can be closed, and a brace that closes none
+abbrev pub unclosed_hint : Clue → Found → List Offer → (unclosed : List ℕ) → Option Text
+unclosed_hint clue found.End offers unclosed =
+    if offers_word (codes "}") offers then innermost_hint unclosed else None
+unclosed_hint clue found.Sign offers unclosed =
+    if is_word (codes "}") clue.written.now && (length unclosed == 0) then Some (hint_words hint.NoOpen) else None
+unclosed_hint clue other offers unclosed = None
+
+-- nothing but `else` can stand there; or it can, and the cases end, by `}` or with the text
+abbrev pub lacks_else : Found → (written : Text) → List Offer → Bool
+lacks_else found.Stray written offers = false
+lacks_else found.End written offers = offers_word (codes "else") offers
+lacks_else other written offers =
+    is_only (codes "else") offers || (is_word (codes "}") written && offers_word (codes "else") offers)
+
+abbrev pub offer_hint : Clue → List Offer → Before → Option Text
+offer_hint clue offers before =
     if offers_word (codes ">=") offers then Some (hint_words hint.Comparison)
     else (if offers_word (codes "at") offers || offers_word (codes "block") offers then Some (hint_words hint.Address)
-    else (if offers_word (codes "else") offers then Some (hint_words (hint.NoElse before.last))
-    else unclosed_hint what offers before.unclosed.items))
+    else (if lacks_else clue.found clue.written.now offers then Some (hint_words (hint.NoElse before.last))
+    else unclosed_hint clue clue.found offers before.unclosed.items))
+
+-- a number where only a brace can stand
+abbrev pub number_hint : List Offer → Option Text
+number_hint offers = if is_only (codes "{") offers then Some (hint_words hint.NoOperand) else None
 
 abbrev pub found_hint : Clue → List Offer → Found → Option Text
 found_hint clue offers found.Stray = stray_hint clue.written.now
 found_hint clue offers found.Key = word_hint clue offers
 found_hint clue offers found.Name = word_hint clue offers
 found_hint clue offers found.Dotted = word_hint clue offers
+found_hint clue offers found.Number = number_hint offers
 found_hint clue offers other = None
 
 abbrev pub place_hint : Clue → List Offer → Before → Option Text
-place_hint clue offers before = or_else (found_hint clue offers clue.found) (offer_hint clue.found offers before)
+place_hint clue offers before =
+    or_else (before_hint clue offers before)
+    (or_else (found_hint clue offers clue.found) (offer_hint clue offers before))
 
 -- THE HINT, in words
 

@@ -1,6 +1,7 @@
 -- The LINES of a text, and how one is shown: no control character reaches the screen, and a long line is cut on both
 -- sides of a place.
 use Rattle.std.specs.Prelude.{ℕ, zero, suc, ◌+◌, ◌-◌, List, [], ◌∷◌, ◌++◌, length, take, drop, flat_map, take_while, count_by, Bool, ◌&&◌, ◌||◌, ◌==◌, nat_lt, nat_le, not, codes, if◌then◌else◌}
+use Rattle.std.specs.Str.{bytes_eq}
 
 -- LINES
 
@@ -24,6 +25,13 @@ front_line text = take (line_len text) text
 -- the line with a number, counted from 1; behind the last line feed stands one more line, which may be empty
 abbrev pub line_at : ℕ → List ℕ → List ℕ
 line_at number text = front_line (from_line (number - 1) text)
+
+-- a line without the carriage return before its line feed, if there is one
+abbrev pub ends_in_return : List ℕ → Bool
+ends_in_return line = bytes_eq (drop (length line - 1) line) (13 ∷ [])
+
+abbrev pub without_return : List ℕ → List ℕ
+without_return line = if ends_in_return line then take (length line - 1) line else line
 
 -- CHARACTERS, in UTF-8
 

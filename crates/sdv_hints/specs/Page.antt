@@ -2,7 +2,7 @@
 -- there, and a hint.
 use Rattle.std.specs.Prelude.{◌≡◌, ℕ, List, [], ◌∷◌, ◌++◌, Option, Some, None, codes, decimal, flat_map}
 use Rattle.sdv_script.specs.declared.fault.ScriptFault.{ScriptFault}
-use Rattle.sdv_hints.specs.Lines.{line_at, shown_front, shown_back, blanks}
+use Rattle.sdv_hints.specs.Lines.{line_at, shown_front, shown_back, without_return, blanks}
 use Rattle.sdv_hints.specs.Places.{IsPlaceIn}
 use Rattle.sdv_hints.specs.declared.hint.Hint.{Hint}
 use Rattle.sdv_hints.specs.declared.hint.Hint.TheVariants as hint
@@ -25,7 +25,7 @@ unfoldable pub caret_words : (shown : Text) → Text
 caret_words shown = codes "\n    " ++ (blanks shown ++ codes "^\n")
 
 abbrev pub shown_words : (number : ℕ) → (front rest : Text) → Text
-shown_words number front rest = top_words number ++ (front ++ (shown_back rest ++ caret_words front))
+shown_words number front rest = top_words number ++ (front ++ (shown_back (without_return rest) ++ caret_words front))
 
 abbrev pub line_words : ℕ → Place → Text
 line_words number place = shown_words number (shown_front place.front.now) place.rest.now
@@ -84,6 +84,11 @@ limit_words sort = codes "a script has at most 65536 bytes"
 -- a hint without a part of its own
 abbrev pub plain_words : Hint → Text
 plain_words hint.Reserved = codes "the word is reserved: a name has to be another one"
+plain_words hint.HeadFirst = codes "`flags` stands before `nums`, and both stand before the first statement"
+plain_words hint.NoOperand = codes "no number stands here: what follows stands in braces"
+plain_words hint.WrittenNumber = codes "a number variable is compared with a written number"
+plain_words hint.Comment = codes "a comment begins with `#`"
+plain_words hint.NoOpen = codes "no `{` is open here"
 plain_words hint.Address = codes "an address is `at block`, `at byte` or `at by FLAG`, and then a position"
 plain_words hint.Comparison = codes "a number is compared by `>=` or `<`"
 plain_words hint.NoLoop = codes "`break` can stand only in the body of a loop"

@@ -3,8 +3,8 @@
 ghost use Rattle.std.specs.Prelude.{◌≡◌, ◌++◌, OnOk, decimal, drop, option_map};
 ghost use Rattle.std.specs.List.{list_all};
 ghost use Rattle.sdv_text.specs.Fronts.{is_digit};
-ghost use Rattle.sdv_hints.specs.Hints.{near_word, meant, is_offer, offers_word, is_cmd, behind_cmd, behind_acmd, digits_of_command, command_digits, command_hint, stray_byte_hint, stray_hint, is_of_devices, name_hint, rule_hint, written_hint, word_hint, unclosed_hint, offer_hint, found_hint, place_hint, hint_for};
-ghost use Rattle.sdv_hints.specs.Near.{common_len, is_near};
+ghost use Rattle.sdv_hints.specs.Hints.{near_word, meant, is_offer, offers_word, is_cmd, behind_cmd, behind_acmd, digits_of_command, command_digits, command_hint, stray_byte_hint, stray_hint, declares, is_late, is_of_devices, name_hint, rule_hint, written_hint, word_hint, innermost_hint, is_only, begins_phase, begins_setting, begins_flow, begins_statement, lacks_brace, compared_hint, before_hint, unclosed_hint, lacks_else, offer_hint, number_hint, found_hint, place_hint, hint_for};
+ghost use Rattle.sdv_hints.specs.Near.{common_len, is_near, swaps_first};
 ghost use Rattle.sdv_hints.specs.Page.{hint_line, hint_words, limit_words, plain_words};
 
 use crate::before::Before;
@@ -32,6 +32,16 @@ pub enum Hint<'a> {
     Unclosed(u32),
     /// How a number is compared.
     Comparison,
+    /// With what it is compared.
+    WrittenNumber,
+    /// `flags` or `nums` behind the first statement, or `flags` behind `nums`.
+    HeadFirst,
+    /// A number where a brace was to stand.
+    NoOperand,
+    /// How a comment begins.
+    Comment,
+    /// A brace that closes none.
+    NoOpen,
     /// `break` outside a loop.
     NoLoop,
     /// A name that is not declared, or declared twice.
@@ -100,14 +110,24 @@ fn behind(text: &[u8], len: usize) -> &[u8]
     text.get(len..).unwrap_or(&[])
 }
 
-/// The texts are the same but for one byte that is changed, added or left out.
+/// The first two bytes are exchanged.
+fn swaps_first(xs: &[u8], ys: &[u8]) -> bool
+    ensures { result ≡ swaps_first xs.now ys.now }
+{
+    match (xs, ys) {
+        ([a, b, others @ ..], [c, d, wanted @ ..]) => a == d && b == c && others == wanted,
+        _ => false,
+    }
+}
+
+/// The texts are the same but for one byte that is changed, added or left out, or for the order of two neighbours.
 fn is_near(found: &[u8], meant: &[u8]) -> bool
     ensures { result ≡ is_near found.now meant.now }
 {
     let len = common_len(found, meant);
     let (xs, ys) = (behind(found, len), behind(meant, len));
     let (others, wanted) = (behind(xs, 1), behind(ys, 1));
-    others == wanted || xs == wanted || others == ys
+    others == wanted || xs == wanted || others == ys || swaps_first(xs, ys)
 }
 
 /// The word of an offer, if it has more than one byte and is spelled almost as what was found.
@@ -225,6 +245,7 @@ fn stray_byte_hint(written: &[u8]) -> Option<Hint<'static>>
 {
     match written {
         [b'>', ..] => Some(Hint::Comparison),
+        [b'/', ..] => Some(Hint::Comment),
         [b'0'..=b'9', ..] => Some(Hint::NoNumber),
         [b'A'..=b'Z', ..] => Some(Hint::Capitals),
         _ => None,
@@ -239,6 +260,20 @@ fn stray_hint(written: &[u8]) -> Option<Hint<'_>>
         Some(hint) => Some(hint),
         None => stray_byte_hint(written),
     }
+}
+
+/// A word of declarations.
+fn declares(written: &[u8]) -> bool
+    ensures { result ≡ declares written.now }
+{
+    is_word(written, b"flags") || is_word(written, b"nums")
+}
+
+/// It stands where a statement can stand.
+fn is_late(written: &[u8], offers: &[Offer<'_>]) -> bool
+    ensures { result ≡ is_late written.now offers.now }
+{
+    declares(written) && offers_word(offers, "done")
 }
 
 /// The hint at a word that was to be a name.
@@ -296,37 +331,133 @@ fn written_hint<'a>(clue: &Clue<'a>) -> Option<Hint<'a>>
 fn word_hint<'a>(clue: &Clue<'a>, offers: &[Offer<'a>]) -> Option<Hint<'a>>
     ensures { option_map hint_words result ≡ word_hint clue.now offers.now }
 {
+    if is_late(clue.written, offers) {
+        return Some(Hint::HeadFirst);
+    }
     match meant(clue.written, offers) {
         Some(word) => Some(Hint::Meant(word)),
         None => written_hint(clue),
     }
 }
 
-/// The hint at the end of the text, where the innermost brace that is open can be closed.
-fn unclosed_hint(found: Found, offers: &[Offer<'_>], unclosed: &[u32]) -> Option<Hint<'static>>
-    ensures { option_map hint_words result ≡ unclosed_hint found offers.now unclosed.now }
+/// The innermost brace that is open is not closed.
+fn innermost_hint(unclosed: &[u32]) -> Option<Hint<'static>>
+    ensures { option_map hint_words result ≡ innermost_hint unclosed.now }
+{
+    match unclosed.last() {
+        Some(line) => Some(Hint::Unclosed(*line)),
+        None => None,
+    }
+}
+
+/// This word can stand at the place, and nothing else.
+fn is_only(offers: &[Offer<'_>], wanted: &str) -> bool
+    ensures { result ≡ is_only wanted.now offers.now }
+{
+    offers.len() == 1 && offers_word(offers, wanted)
+}
+
+fn begins_phase(written: &[u8]) -> bool
+    ensures { result ≡ begins_phase written.now }
+{
+    is_word(written, b"send")
+        || is_word(written, b"recv")
+        || is_word(written, b"give")
+        || is_word(written, b"wait")
+}
+
+fn begins_setting(written: &[u8]) -> bool
+    ensures { result ≡ begins_setting written.now }
+{
+    is_word(written, b"set")
+        || is_word(written, b"clear")
+        || is_word(written, b"let")
+        || is_word(written, b"bus.lines")
+}
+
+fn begins_flow(written: &[u8]) -> bool
+    ensures { result ≡ begins_flow written.now }
+{
+    is_word(written, b"if")
+        || is_word(written, b"loop")
+        || is_word(written, b"break")
+        || is_word(written, b"done")
+        || is_word(written, b"fault")
+}
+
+/// A word with which a statement begins.
+fn begins_statement(written: &[u8]) -> bool
+    ensures { result ≡ begins_statement written.now }
+{
+    begins_phase(written) || begins_setting(written) || begins_flow(written)
+}
+
+/// The braces before this word are not all closed.
+fn lacks_brace(written: &[u8], offers: &[Offer<'_>]) -> bool
+    ensures { result ≡ lacks_brace written.now offers.now }
+{
+    (begins_statement(written) && is_only(offers, "}"))
+        || (is_word(written, b"else") && offers_word(offers, "}"))
+}
+
+/// The hint at what follows the sign of a comparison.
+fn compared_hint(found: Found) -> Option<Hint<'static>>
+    ensures { option_map hint_words result ≡ compared_hint found }
 {
     match found {
-        Found::End if offers_word(offers, "}") => match unclosed.last() {
-            Some(line) => Some(Hint::Unclosed(*line)),
-            None => None,
-        },
+        Found::Sign => Some(Hint::Comparison),
+        Found::Name | Found::Key => Some(Hint::WrittenNumber),
+        Found::Dotted | Found::Number | Found::Stray | Found::End | Found::Long => None,
+    }
+}
+
+/// The hint by what stands before the place, where that says more than the word there.
+fn before_hint(clue: &Clue<'_>, offers: &[Offer<'_>], before: &Before<'_>) -> Option<Hint<'static>>
+    ensures { option_map hint_words result ≡ before_hint clue.now offers.now before.now }
+{
+    if lacks_brace(clue.written, offers) {
+        innermost_hint(before.unclosed.as_slice())
+    } else if before.compares {
+        compared_hint(clue.found)
+    } else {
+        None
+    }
+}
+
+/// The hint by the braces: at the end of the text, and at one that closes none.
+fn unclosed_hint(clue: &Clue<'_>, offers: &[Offer<'_>], unclosed: &[u32]) -> Option<Hint<'static>>
+    ensures { option_map hint_words result ≡ unclosed_hint clue.now clue.now.found offers.now unclosed.now }
+{
+    match clue.found {
+        Found::End if offers_word(offers, "}") => innermost_hint(unclosed),
+        Found::Sign if is_word(clue.written, b"}") && unclosed.is_empty() => Some(Hint::NoOpen),
         _ => None,
     }
 }
 
+/// The cases before the place end without `else`.
+fn lacks_else(found: Found, written: &[u8], offers: &[Offer<'_>]) -> bool
+    ensures { result ≡ lacks_else found written.now offers.now }
+{
+    match found {
+        Found::Stray => false,
+        Found::End => offers_word(offers, "else"),
+        _ => is_only(offers, "else") || (is_word(written, b"}") && offers_word(offers, "else")),
+    }
+}
+
 /// The hint by what can stand at the place.
-fn offer_hint(found: Found, offers: &[Offer<'_>], before: &Before<'_>) -> Option<Hint<'static>>
-    ensures { option_map hint_words result ≡ offer_hint found offers.now before.now }
+fn offer_hint(clue: &Clue<'_>, offers: &[Offer<'_>], before: &Before<'_>) -> Option<Hint<'static>>
+    ensures { option_map hint_words result ≡ offer_hint clue.now offers.now before.now }
 {
     if offers_word(offers, ">=") {
         Some(Hint::Comparison)
     } else if offers_word(offers, "at") || offers_word(offers, "block") {
         Some(Hint::Address)
-    } else if offers_word(offers, "else") {
+    } else if lacks_else(clue.found, clue.written, offers) {
         Some(Hint::NoElse(before.last))
     } else {
-        unclosed_hint(found, offers, before.unclosed.as_slice())
+        unclosed_hint(clue, offers, before.unclosed.as_slice())
     }
 }
 
@@ -337,7 +468,19 @@ fn found_hint<'a>(clue: &Clue<'a>, offers: &[Offer<'a>]) -> Option<Hint<'a>>
     match clue.found {
         Found::Stray => stray_hint(clue.written),
         Found::Key | Found::Name | Found::Dotted => word_hint(clue, offers),
-        Found::Number | Found::Sign | Found::End | Found::Long => None,
+        Found::Number => number_hint(offers),
+        Found::Sign | Found::End | Found::Long => None,
+    }
+}
+
+/// The hint at a number.
+fn number_hint(offers: &[Offer<'_>]) -> Option<Hint<'static>>
+    ensures { option_map hint_words result ≡ number_hint offers.now }
+{
+    if is_only(offers, "{") {
+        Some(Hint::NoOperand)
+    } else {
+        None
     }
 }
 
@@ -345,9 +488,12 @@ fn found_hint<'a>(clue: &Clue<'a>, offers: &[Offer<'a>]) -> Option<Hint<'a>>
 fn place_hint<'a>(clue: &Clue<'a>, offers: &[Offer<'a>], before: &Before<'_>) -> Option<Hint<'a>>
     ensures { option_map hint_words result ≡ place_hint clue.now offers.now before.now }
 {
+    if let Some(hint) = before_hint(clue, offers, before) {
+        return Some(hint);
+    }
     match found_hint(clue, offers) {
         Some(hint) => Some(hint),
-        None => offer_hint(clue.found, offers, before),
+        None => offer_hint(clue, offers, before),
     }
 }
 
@@ -392,6 +538,13 @@ fn plain_words(hint: &Hint<'_>) -> &'static str
 {
     match hint {
         Hint::Reserved => "the word is reserved: a name has to be another one",
+        Hint::HeadFirst => {
+            "`flags` stands before `nums`, and both stand before the first statement"
+        }
+        Hint::NoOperand => "no number stands here: what follows stands in braces",
+        Hint::WrittenNumber => "a number variable is compared with a written number",
+        Hint::Comment => "a comment begins with `#`",
+        Hint::NoOpen => "no `{` is open here",
         Hint::Address => "an address is `at block`, `at byte` or `at by FLAG`, and then a position",
         Hint::Comparison => "a number is compared by `>=` or `<`",
         Hint::NoLoop => "`break` can stand only in the body of a loop",

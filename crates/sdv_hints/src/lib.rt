@@ -13,4 +13,5 @@ mod page;
 mod place;
 mod tries;
 
+pub use lines::from_line;
 pub use page::fault_page;

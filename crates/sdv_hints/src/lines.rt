@@ -1,7 +1,7 @@
 //! The lines of a text, as they are shown.
 
 ghost use Rattle.std.specs.Prelude.{◌≡◌, ◌++◌, ◌-◌, ◌≤◌, OnOk, IfOk, length};
-ghost use Rattle.sdv_hints.specs.Lines.{behind_chars, behind_line, blank, blanks, char_count, first_chars, from_line, is_control, is_direction, is_further, is_isolate, is_second_control, line_len, safe, safe_byte, shown_back, shown_front};
+ghost use Rattle.sdv_hints.specs.Lines.{behind_chars, behind_line, blank, blanks, char_count, first_chars, from_line, is_control, is_direction, is_further, is_isolate, is_second_control, line_len, safe, safe_byte, shown_back, shown_front, without_return};
 
 use std::alloc::{AllocError, Global};
 
@@ -40,6 +40,16 @@ pub fn from_line(text: &[u8], line: u32) -> &[u8]
         rest = behind_line(rest);
     }
     rest
+}
+
+/// A line without the carriage return before its line feed, if there is one.
+pub fn without_return(line: &[u8]) -> &[u8]
+    ensures { result.now ≡ without_return line.now }
+{
+    match line.strip_suffix(b"\r") {
+        Some(rest) => rest,
+        None => line,
+    }
 }
 
 /// A byte that does not begin a character.

@@ -7,7 +7,7 @@ ghost use Rattle.sdv_hints.specs.Page.{Tells, caret_words, found_words, line_wor
 
 use crate::before::before_of;
 use crate::hint::{Clue, Hint, hint_of, put_hint};
-use crate::lines::{from_line, line_len, put_back, put_blanks, shown_front};
+use crate::lines::{from_line, line_len, put_back, put_blanks, shown_front, without_return};
 use crate::offers::{Offer, offers_at, put_offers};
 use crate::place::{Found, LONG, Place, Spot, place_at, stop_in};
 use crate::tries::Front;
@@ -161,7 +161,7 @@ fn put_shown(page: &mut Vec<u8>, line: u32, front: &[u8], rest: &[u8]) -> Result
 {
     put_top(page, line)?;
     page.extend_from_slice(front)?;
-    put_back(page, rest)?;
+    put_back(page, without_return(rest))?;
     put_caret(page, front)
 }
 

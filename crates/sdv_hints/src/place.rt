@@ -2,6 +2,7 @@
 
 ghost use Rattle.sdv_hints.specs.Places.{IsPlaceIn};
 
+use crate::lines::without_return;
 use crate::tries::{Front, stops};
 use sdv_script::{Cursor, Token};
 use std::alloc::{AllocError, Global};
@@ -80,9 +81,10 @@ fn spots_of(alloc: Global, line: &str) -> Result<Vec<Spot>, AllocError> {
 /// Where the parser stops in the line that follows a front: before the first token behind which it does not go on, or
 /// at the end of the line.
 pub fn stop_in(alloc: Global, before: &Front<'_>, line: &[u8]) -> Result<Spot, AllocError> {
+    let len = without_return(line).len();
     let end = Spot {
-        start: line.len(),
-        end: line.len(),
+        start: len,
+        end: len,
         found: Found::End,
     };
     let Ok(words) = str::from_utf8(line) else {

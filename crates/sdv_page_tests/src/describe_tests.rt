@@ -6,43 +6,44 @@ use std::process::Abort;
 use std::str;
 
 /// Texts that are no descriptions, and the pages.
-static WRONG: [(&str, &str); 10] = [
-    ("", "line 1: here is to stand `card sd` or `card emmc`\n"),
-    (
-        "card mmc\n",
-        "line 1: here is to stand `card sd` or `card emmc`\n",
-    ),
+static WRONG: [(&str, &str); 11] = [
+    ("", "line 1: expected `card sd` or `card emmc`\n"),
+    ("card mmc\n", "line 1: expected `card sd` or `card emmc`\n"),
     (
         "card sd\nversion 3\n",
-        "line 2: here is to stand `version` and 1 or 2\n",
+        "line 2: expected `version` and 1 or 2\n",
     ),
     (
         "card sd\nversion 1\nunit block\n",
-        "line 3: here is to stand `unit byte`: a card of version 1 has byte addresses\n",
+        "line 3: expected `unit byte`: a card of version 1 has byte addresses\n",
     ),
     (
         "card sd\nversion 2\nunit block\ncsize 4194304\nrca 1\n",
-        "line 4: here is to stand `csize` and a number from 0 to 4194303\n",
+        "line 4: expected `csize` and a number from 0 to 4194303\n",
     ),
     (
         "card sd\nversion 2\nunit block\ncsize 0\nrca 0\n",
-        "line 5: here is to stand `rca` and a number from 1 to 65535\n",
+        "line 5: expected `rca` and a number from 1 to 65535\n",
     ),
     (
         "card sd\nversion 2\nunit block\ncsize 0\nrca 1",
-        "line 5: here is to stand `rca` and a number from 1 to 65535\n",
+        "line 5: expected `rca` and a number from 1 to 65535\n",
     ),
     (
         "card emmc\nunit byte\ncsize 1\ncmult 1\nrbl 12\n",
-        "line 5: here is to stand `rbl` and a number from 9 to 11\n",
+        "line 5: expected `rbl` and a number from 9 to 11\n",
     ),
     (
         "card emmc\nunit block\nsectors 1\nboot 256\n",
-        "line 4: here is to stand `boot` and a number from 0 to 255, or the end of the text\n",
+        "line 4: expected `boot` and a number from 0 to 255, or the end of the text\n",
     ),
     (
         "card emmc\nunit block\nsectors 1\nboot 1\n\n",
-        "line 5: here is to stand the end of the text\n",
+        "line 5: expected the end of the text\n",
+    ),
+    (
+        "card sd\r\nversion 2\r\n",
+        "line 1: expected `card sd` or `card emmc`\nthe line ends in CR LF; lines end in LF\n",
     ),
 ];
 
@@ -60,8 +61,9 @@ CSD, bits 127 to 8: 00000000000903ffc0038000000000
     READ_BL_LEN 9
     C_SIZE 4095
     C_SIZE_MULT 7
-EXT_CSD:
+EXT_CSD, bytes 215 to 212: 00000800
     SEC_COUNT 2048
+EXT_CSD, byte 226: 01
     BOOT_SIZE_MULT 1
 ";
 

@@ -7,7 +7,7 @@ use std::process::Abort;
 use std::str;
 
 /// Texts that are no scripts, and the lines of their pages, but for the line of the text.
-static PAGES: [(&str, &[&str]); 19] = [
+static PAGES: [(&str, &[&str]); 34] = [
     (
         "card sd\nsend 16 { clen { } else { fault blen } }\ndone\n",
         &[
@@ -154,6 +154,93 @@ static PAGES: [(&str, &[&str]); 19] = [
             "hint: a number is decimal digits, or 0x and hexadecimal digits",
         ],
     ),
+    (
+        "card sd\nloop 3 {\nsend 3 {\n answer { }\n else { }\nbreak\n} else { }\ndone\n",
+        &[
+            "line 6",
+            "can stand here: `}`",
+            "hint: the `{` of line 3 is not closed",
+        ],
+    ),
+    (
+        "card sd\nsend 3 {\n answer { }\n else { }\nsend 0 { else { } }\ndone\n",
+        &["line 5", "hint: the `{` of line 2 is not closed"],
+    ),
+    (
+        "card sd\nsend 3 {\n answer {\n  send 13 { else { } }\n else { fault x }\n}\ndone\n",
+        &["line 5", "hint: the `{` of line 3 is not closed"],
+    ),
+    (
+        "card sd\nnums x\nflags hc\ndone\n",
+        &["hint: `flags` stands before `nums`, and both stand before the first statement"],
+    ),
+    (
+        "card sd\nnums n\nif n <= 3 { } else { }\ndone\n",
+        &["          ^", "hint: a number is compared by `>=` or `<`"],
+    ),
+    (
+        "card sd\nnums m n\nif n >= m { } else { }\ndone\n",
+        &[
+            "            ^",
+            "hint: a number variable is compared with a written number",
+        ],
+    ),
+    (
+        "card sd\nsned 3 { else { } }\ndone\n",
+        &["hint: did you mean `send`?"],
+    ),
+    (
+        "card sd\n// a comment\ndone\n",
+        &[
+            "found: `/`, no token of the language",
+            "hint: a comment begins with `#`",
+        ],
+    ),
+    (
+        "card sd\nsend 16 512 { else { } }\ndone\n",
+        &[
+            "can stand here: `{`",
+            "hint: no number stands here: what follows stands in braces",
+        ],
+    ),
+    (
+        "card sd\nwait 100 { ok { } else { } }\ndone\n",
+        &["hint: no number stands here: what follows stands in braces"],
+    ),
+    (
+        "card sd\r\nsend 0 { }\r\ndone\r\n",
+        &[
+            "    send 0 { }",
+            "             ^",
+            "hint: `else` is missing after line 2",
+        ],
+    ),
+    (
+        "card sd\nsend 0 { else { } } }\ndone\n",
+        &["                        ^", "hint: no `{` is open here"],
+    ),
+    (
+        "card sd\nloop 3 { } done\n",
+        &[
+            "can stand here: `else`",
+            "hint: `else` is missing after line 2",
+        ],
+    ),
+    (
+        "card sd\nsend 3 { clean { }\n",
+        &["hint: `else` is missing after line 2"],
+    ),
+    (
+        "card sd\nsend 0 {\n",
+        &["line 3", "hint: `else` is missing after line 2"],
+    ),
+];
+
+/// Texts at which no hint is likely to help.
+static PLAIN: [&str; 3] = [
+    "card sd\nsend 0 { é { } else { } }\ndone\n",
+    "card sd\nsend 0 { foo { } else { } }\ndone\n",
+    "card sd\nsend 0 { else { } timeout { } }\ndone\n",
 ];
 
 /// The page of a text that is no script.
@@ -173,6 +260,15 @@ fn pages(rt: HostRuntime) {
                 "{text}: {line} is not in\n{words}"
             );
         }
+    }
+}
+
+#[test]
+fn no_hints(rt: HostRuntime) {
+    for text in &PLAIN {
+        let page = page_of(&rt, rt.alloc(), text);
+        let words = str::from_utf8(&page).ok().expect(&rt, "a text");
+        assert!(rt; !words.contains("hint: "), "{text}: {words}");
     }
 }
 
