@@ -23,14 +23,21 @@ Descriptions of cards.
       READ_BL_LEN 9
       C_SIZE 4095
       C_SIZE_MULT 7
-  EXT_CSD:
+  EXT_CSD, bytes 215 to 212: 00000800
       SEC_COUNT 2048
+  EXT_CSD, byte 226: 01
       BOOT_SIZE_MULT 1
 
 A text that is none.
 
+  $ printf 'card sd\r\nversion 2\r\n' | sdv describe -
+  line 1: expected `card sd` or `card emmc`
+  the line ends in CR LF; lines end in LF
+  card fault Description
+  [1]
+
   $ printf 'card sd\nversion 3\n' | sdv describe -
-  line 2: here is to stand `version` and 1 or 2
+  line 2: expected `version` and 1 or 2
   card fault Description
   [1]
   $ sdv describe none.card
@@ -42,12 +49,14 @@ A schedule beside a card.
   $ printf '0 0\r\n02\n' > good; sdv describe $EXAMPLES/sd_byte.card good | tail -n 1
   schedule: digits from 0 to 7, as `run` wants them
   $ printf '01\n08\n' > wrong; sdv describe $EXAMPLES/sd_byte.card wrong 2> said | tail -n 1
-  the schedule is wrong, line 2: here is to stand a digit from 0 to 7
+  the schedule is wrong, line 2: expected a digit from 0 to 7; `try` alone takes a schedule by name
   $ sdv describe $EXAMPLES/sd_byte.card wrong > page; echo $?
   card fault Description
   1
+  $ printf '2nd CMD17 timeout\n' > named; sdv describe $EXAMPLES/sd_byte.card named 2> said | tail -n 1
+  the schedule is wrong, line 1: expected a digit from 0 to 7; `try` alone takes a schedule by name
   $ printf 'card sd\nversion 3\n' | sdv describe - wrong
-  line 2: here is to stand `version` and 1 or 2
+  line 2: expected `version` and 1 or 2
   card fault Description
   [1]
   $ sdv describe $EXAMPLES/sd_byte.card none

@@ -2,7 +2,7 @@
 use Rattle.std.proofs.Common.{◌≡◌, ℕ, zero, suc, ◌+◌, ◌-◌, ◌<◌, Some, refl, ap, sym, ◌∙◌, arith}
 use Rattle.sdv_describe.specs.declared.field.Field.{Field}
 use Rattle.sdv_describe.specs.LineWords.{Text}
-use Rattle.sdv_describe.specs.Misfits.{misfit_from, step}
+use Rattle.sdv_describe.specs.Misfits.{misfit_at, misfit_from, step}
 
 more : (lines number : ℕ) (f next : Field) (text rest : Text) → step f text ≡ Some (next, rest) →
     misfit_from (suc lines) number f text ≡ misfit_from lines (number + 1) next rest
@@ -18,6 +18,6 @@ goes_on (suc lines) number f next text rest lt e =
 
 -- no line is left
 pub stops : (lines number last : ℕ) (f : Field) (text : Text) → lines ≡ 0 → number ≡ last →
-    record { line = last; field = f } ≡ misfit_from lines number f text
+    misfit_at last f text ≡ misfit_from lines number f text
 stops lines number last f text none is =
-    ap (λ n. record { line = n; field = f }) (sym is) ∙ ap (λ n. misfit_from n number f text) (sym none)
+    ap (λ n. misfit_at n f text) (sym is) ∙ ap (λ n. misfit_from n number f text) (sym none)

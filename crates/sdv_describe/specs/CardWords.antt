@@ -1,5 +1,6 @@
 -- A CARD IN WORDS, by its description: what it is, its capacity, the image that a run beside it wants, and its registers.
 use Rattle.std.specs.Prelude.{ℕ, ◌*◌, List, [], ◌∷◌, ◌++◌, Bool, true, false, Option, Some, None, codes}
+use Rattle.std.specs.Int.{w32, to_be_bytes}
 use Rattle.hex.specs.Hex.{encode_lower}
 use Rattle.sdv_frames.specs.Bits.{Bits, bits_of}
 use Rattle.sdv_registers.specs.declared.kind.Kind.{Kind}
@@ -71,12 +72,25 @@ abbrev pub csd_words : Kind → List ℕ → Text
 csd_words kind register =
     csd_head register ++ fields_if_read (fault kind (bits_of register)) kind (bits_of register)
 
-unfoldable pub ext_csd_head : Text
-ext_csd_head = codes "EXT_CSD:\n"
+unfoldable pub sectors_label : Text
+sectors_label = codes "EXT_CSD, bytes 215 to 212: "
+
+unfoldable pub boot_label : Text
+boot_label = codes "EXT_CSD, byte 226: "
+
+-- the bytes of a field, the highest first
+abbrev pub digits_line : (bytes : List ℕ) → Text
+digits_line bytes = encode_lower bytes ++ 10 ∷ []
+
+abbrev pub sectors_field : (sectors : ℕ) → Text
+sectors_field sectors = sectors_label ++ (digits_line (to_be_bytes w32 sectors) ++ line_words line.SecCount sectors)
+
+abbrev pub boot_field : (boot_size_mult : ℕ) → Text
+boot_field boot_size_mult =
+    boot_label ++ (digits_line (boot_size_mult ∷ []) ++ line_words line.BootSizeMult boot_size_mult)
 
 abbrev pub device_fields : (sectors boot_size_mult : ℕ) → Text
-device_fields sectors boot_size_mult =
-    ext_csd_head ++ (line_words line.SecCount sectors ++ line_words line.BootSizeMult boot_size_mult)
+device_fields sectors boot_size_mult = sectors_field sectors ++ boot_field boot_size_mult
 
 abbrev pub ext_csd_words : Kind → (sectors boot_size_mult : ℕ) → Text
 ext_csd_words Sd sectors boot_size_mult = []

@@ -30,8 +30,8 @@ after_words line.Boot = codes " blocks, "
 after_words line.Image = codes " blocks, "
 after_words line.Bytes = codes " bytes\n"
 after_words line.Length = codes " bytes\n"
-after_words line.Wrong = codes ": here is to stand "
-after_words line.Schedule = codes ": here is to stand a digit from 0 to 7\n"
+after_words line.Wrong = codes ": expected "
+after_words line.Schedule = codes ": expected a digit from 0 to 7; `try` alone takes a schedule by name\n"
 after_words other = codes "\n"
 
 unfoldable pub line_words : Line → ℕ → Text

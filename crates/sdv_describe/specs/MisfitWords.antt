@@ -1,5 +1,5 @@
 -- A TEXT THAT IS NO DESCRIPTION, in words: the line that is wrong, and what is to stand there.
-use Rattle.std.specs.Prelude.{◌++◌, codes}
+use Rattle.std.specs.Prelude.{[], ◌++◌, Bool, true, false, codes}
 use Rattle.sdv_describe.specs.LineWords.{Text, line_words}
 use Rattle.sdv_describe.specs.declared.line.Line.TheVariants as line
 use Rattle.sdv_describe.specs.declared.field.Field.{Field}
@@ -29,8 +29,13 @@ wanted_words field.End = codes "the end of the text"
 unfoldable pub wanted_line : Field → Text
 wanted_line f = wanted_words f ++ codes "\n"
 
+-- an end of line that no description has
+unfoldable pub return_words : (returns : Bool) → Text
+return_words true = codes "the line ends in CR LF; lines end in LF\n"
+return_words false = []
+
 abbrev pub misfit_words : Misfit → Text
-misfit_words m = line_words line.Wrong m.line ++ wanted_line m.field
+misfit_words m = line_words line.Wrong m.line ++ (wanted_line m.field ++ return_words m.returns)
 
 abbrev pub capacity_words : Text
 capacity_words = codes "an e.MMC device with byte addresses has at most 4194304 blocks: make csize, cmult or rbl smaller, or write `unit block` and `sectors`\n"

@@ -1,6 +1,7 @@
 -- THE LINE THAT IS WRONG in a text that is no description: the first one that does not say what it is to, or that has no
 -- end of line (10).
-use Rattle.std.specs.Prelude.{ℕ, zero, suc, ◌+◌, ◌==◌, not, [], ◌∷◌, length, take, drop, take_while, Option, Some, None}
+use Rattle.std.specs.Prelude.{ℕ, zero, suc, ◌+◌, ◌-◌, ◌==◌, Bool, not, [], ◌∷◌, length, take, drop, take_while, Option, Some, None}
+use Rattle.std.specs.Str.{bytes_eq}
 use Rattle.sdv_text.specs.Fronts.{◌>>=◌}
 use Rattle.sdv_describe.specs.declared.field.Field.{Field}
 use Rattle.sdv_describe.specs.declared.field.Field.TheVariants as field
@@ -27,11 +28,19 @@ behind_line text = behind_first (drop (line_len text) text)
 abbrev pub step : Field → Text → Option (Field × Text)
 step f text = behind_line text >>= λ rest. next_field f (front_line text) >>= λ next. Some (next, rest)
 
+-- the line ends in a carriage return, which stands before its line feed
+abbrev pub ends_in_return : Text → Bool
+ends_in_return line = bytes_eq (drop (length line - 1) line) (13 ∷ [])
+
+-- the line with this number, at the front of a text, does not say this
+abbrev pub misfit_at : (number : ℕ) → Field → Text → Misfit
+misfit_at number f text = record { line = number; field = f; returns = ends_in_return (front_line text) }
+
 -- the line with this number is wrong, unless it says what it is to; then the next one is, for so many lines
 abbrev pub misfit_from : (lines number : ℕ) → Field → Text → Misfit
-misfit_from zero number f text = record { line = number; field = f }
+misfit_from zero number f text = misfit_at number f text
 misfit_from (suc lines) number f text = elim (step f text) [
-  | None ↦ record { line = number; field = f }
+  | None ↦ misfit_at number f text
   | (Some next) ↦ misfit_from lines (number + 1) next.0 next.1
 ]
 

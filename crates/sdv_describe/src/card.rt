@@ -2,7 +2,7 @@
 
 ghost use Rattle.std.specs.Prelude.{◌≡◌, ◌++◌, ◌<◌, ◌^◌, OnOk};
 ghost use Rattle.sdv_frames.specs.Bits.{bits_of};
-ghost use Rattle.sdv_describe.specs.CardWords.{blocks_words, boot_words, card_words, csd_fields, csd_head, csd_label, csd_words, device_fields, device_head, ext_csd_head, ext_csd_words, head_words, mult_words, sizes_words, start_words, unit_words};
+ghost use Rattle.sdv_describe.specs.CardWords.{blocks_words, boot_field, boot_label, boot_words, card_words, csd_fields, csd_head, csd_label, csd_words, device_fields, device_head, ext_csd_words, head_words, mult_words, sectors_field, sectors_label, sizes_words, start_words, unit_words};
 ghost use Rattle.sdv_description.specs.Layout.{image_size};
 
 use crate::line::{Line, put_line};
@@ -145,11 +145,42 @@ fn put_csd(
     }
 }
 
-#[tactic(auto, unfolding(crate::specs::CardWords::ext_csd_head))]
-fn put_ext_head(words: &mut Vec<u8>) -> Result<(), AllocError>
-    ensures { OnOk result (words.new.items ≡ words.old.items ++ ext_csd_head) }
+#[tactic(auto, unfolding(crate::specs::CardWords::sectors_label))]
+fn put_sectors_label(words: &mut Vec<u8>) -> Result<(), AllocError>
+    ensures { OnOk result (words.new.items ≡ words.old.items ++ sectors_label) }
 {
-    words.extend_from_slice(b"EXT_CSD:\n")
+    words.extend_from_slice(b"EXT_CSD, bytes 215 to 212: ")
+}
+
+#[tactic(auto, unfolding(crate::specs::CardWords::boot_label))]
+fn put_boot_label(words: &mut Vec<u8>) -> Result<(), AllocError>
+    ensures { OnOk result (words.new.items ≡ words.old.items ++ boot_label) }
+{
+    words.extend_from_slice(b"EXT_CSD, byte 226: ")
+}
+
+/// Adds SEC_COUNT, with its bytes.
+fn put_sectors(words: &mut Vec<u8>, sectors: u32) -> Result<(), AllocError>
+    ensures { OnOk result (words.new.items ≡ words.old.items ++ sectors_field sectors) }
+{
+    let mut digits = [0; 8];
+    hex::encode_to_slice(sectors.to_be_bytes(), &mut digits).unwrap();
+    put_sectors_label(words)?;
+    words.extend_from_slice(&digits)?;
+    words.extend_from_slice(b"\n")?;
+    put_line(words, Line::SecCount, u64::from(sectors))
+}
+
+/// Adds BOOT_SIZE_MULT, with its byte.
+fn put_boot_size(words: &mut Vec<u8>, boot_size_mult: u8) -> Result<(), AllocError>
+    ensures { OnOk result (words.new.items ≡ words.old.items ++ boot_field boot_size_mult) }
+{
+    let mut digits = [0; 2];
+    hex::encode_to_slice([boot_size_mult], &mut digits).unwrap();
+    put_boot_label(words)?;
+    words.extend_from_slice(&digits)?;
+    words.extend_from_slice(b"\n")?;
+    put_line(words, Line::BootSizeMult, u64::from(boot_size_mult))
 }
 
 /// Adds what the EXT_CSD of a device tells.
@@ -174,9 +205,8 @@ fn put_device_fields(
 ) -> Result<(), AllocError>
     ensures { OnOk result (words.new.items ≡ words.old.items ++ device_fields sectors boot_size_mult) }
 {
-    put_ext_head(words)?;
-    put_line(words, Line::SecCount, u64::from(sectors))?;
-    put_line(words, Line::BootSizeMult, u64::from(boot_size_mult))
+    put_sectors(words, sectors)?;
+    put_boot_size(words, boot_size_mult)
 }
 
 /// Adds all that is told of a card.

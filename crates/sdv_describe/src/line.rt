@@ -70,8 +70,10 @@ fn after_words(line: Line) -> &'static str
         Line::Version => "",
         Line::Capacity | Line::Boot | Line::Image => " blocks, ",
         Line::Bytes | Line::Length => " bytes\n",
-        Line::Wrong => ": here is to stand ",
-        Line::Schedule => ": here is to stand a digit from 0 to 7\n",
+        Line::Wrong => ": expected ",
+        Line::Schedule => {
+            ": expected a digit from 0 to 7; `try` alone takes a schedule by name\n"
+        }
         _ => "\n",
     }
 }

@@ -1,8 +1,8 @@
 //! The first line of a text that no description has there.
 
 ghost use Rattle.std.specs.Prelude.{◌≡◌, ◌++◌, OnOk, option_map};
-ghost use Rattle.sdv_describe.specs.Misfits.{behind_line, line_len, misfit_of, step};
-ghost use Rattle.sdv_describe.specs.MisfitWords.{misfit_words, wanted_line, wanted_words};
+ghost use Rattle.sdv_describe.specs.Misfits.{behind_line, line_len, misfit_at, misfit_of, step};
+ghost use Rattle.sdv_describe.specs.MisfitWords.{misfit_words, return_words, wanted_line, wanted_words};
 
 use crate::field::Field;
 use crate::line::{Line, put_line};
@@ -15,6 +15,8 @@ pub struct Misfit {
     pub line: u32,
     /// What it is to say.
     pub field: Field,
+    /// It ends in a carriage return, which stands before its line feed.
+    pub returns: bool,
 }
 
 /// How many bytes the first line of a text has.
@@ -47,6 +49,17 @@ fn step(field: Field, text: &[u8]) -> Option<(Field, &[u8])>
     }
 }
 
+/// The line with this number, at the front of a text, which does not say this.
+fn misfit_at(line: u32, field: Field, text: &[u8]) -> Misfit
+    ensures { result ≡ misfit_at line field text.now }
+{
+    Misfit {
+        line,
+        field,
+        returns: text[..line_len(text)].ends_with(b"\r"),
+    }
+}
+
 /// The first line that does not say what it is to. A description has seven lines at most.
 pub fn misfit_in(text: &[u8]) -> Misfit
     ensures { result ≡ misfit_of text.now }
@@ -55,12 +68,12 @@ pub fn misfit_in(text: &[u8]) -> Misfit
     let mut field = Field::Card;
     for line in 1..10 {
         let Some((next, behind)) = step(field, rest) else {
-            return Misfit { line, field };
+            return misfit_at(line, field, rest);
         };
         field = next;
         rest = behind;
     }
-    Misfit { line: 10, field }
+    misfit_at(10, field, rest)
 }
 
 fn wanted_words(field: Field) -> &'static str
@@ -87,7 +100,19 @@ pub fn put_misfit(words: &mut Vec<u8>, misfit: &Misfit) -> Result<(), AllocError
     ensures { OnOk result (words.new.items ≡ words.old.items ++ misfit_words misfit.now) }
 {
     put_line(words, Line::Wrong, u64::from(misfit.line))?;
-    put_wanted(words, misfit.field)
+    put_wanted(words, misfit.field)?;
+    words.extend_from_slice(return_words(misfit.returns).as_bytes())
+}
+
+#[tactic(auto, unfolding(crate::specs::MisfitWords::return_words))]
+fn return_words(returns: bool) -> &'static str
+    ensures { result.now ≡ return_words returns }
+{
+    if returns {
+        "the line ends in CR LF; lines end in LF\n"
+    } else {
+        ""
+    }
 }
 
 #[tactic(auto, unfolding(crate::specs::MisfitWords::wanted_line))]

@@ -18,4 +18,5 @@ loop-line-preserved c =
 
 pub returns : goal.returns
 returns c =
-    stops (10 - c.loop-line.line) c.loop-line.line 10 c.loop-line.field c.loop-line.rest.now (omega arith) (omega arith) ∙ c.loop-line.invariant.same
+    c.misfit_at-2.ensures
+    ∙ (stops (10 - c.loop-line.line) c.loop-line.line 10 c.loop-line.field c.loop-line.rest.now (omega arith) (omega arith) ∙ c.loop-line.invariant.same)

@@ -1,6 +1,5 @@
-use Rattle.std.proofs.Common.{◌≡◌, IfOk, Some, rules}
+use Rattle.std.proofs.Common.{rules}
 use Rattle.sdv_describe.specs.Described.{Tells}
-use Rattle.sdv_describe.specs.Schedules.{TellsGiven}
 use Rattle.sdv_describe.proofs.ScheduleLaws.{both_told}
 use Rattle.sdv_describe.proofs.schedule.describe_given.Goals as goal
 
