@@ -51,6 +51,22 @@ A register, whose bytes may be given. Without them its capacity is the greatest.
   line 10, script line 13: the end: the script does not come here; it stands at done
   $ head -c 512 /dev/zero > register; sdv decode large.sdv small.trace --registers register | tail -n 1
   line 10, script line 13: fault small: the run ends
+
+What the bytes say that are given: the capacities in an EXT_CSD, and the bytes of other registers in hexadecimal.
+
+  $ sdv run $device device.cert $EXAMPLES/emmc_boot.card new:2560 --registers bytes > device.trace
+  $ sdv decode $device device.trace --registers bytes | sed -n 9p; sdv decode $device device.trace --registers - --json < bytes | sed -n 9p
+  line 9, script line 12: REG 512 ok: EXT_CSD, SEC_COUNT 2048, BOOT_SIZE_MULT 1
+  {"line":9,"script":12,"told":"REG 512 ok","text":"EXT_CSD, SEC_COUNT 2048, BOOT_SIZE_MULT 1"}
+  $ sdv decode $device device.trace --registers bytes --svg | grep EXT_CSD
+  <text x="124" y="5.6" font-size="2.8">EXT_CSD, SEC_COUNT 2048, BOOT_SIZE_MULT 1</text>
+  $ head -c 100 bytes > few; sdv decode $device device.trace --registers few | sed -n 9p
+  line 9, script line 12: REG 512 ok: EXT_CSD, of which only 100 bytes are given
+  $ cat bytes bytes > more; sdv decode $device device.trace --registers more | sed -n 9p
+  line 9, script line 12: REG 512 ok: EXT_CSD, SEC_COUNT 2048, BOOT_SIZE_MULT 1
+  $ sed 's/REG 512 ok/REG 512 cut/' device.trace | head -n 9 | sdv decode $device - --registers bytes | sed -n 9p
+  line 9, script line 12: REG 512 cut: EXT_CSD, cut: the card may be in tran or data
+  $ sdv run $device device.cert $EXAMPLES/emmc_block.card new:2048 > device.trace
   $ sdv decode $device device.trace --registers none
   cannot use none
   [2]
@@ -259,7 +275,7 @@ A picture of a trace that is off is whole, with the lines that are told. A line 
 A trace is told in one form, which is looked at before the files.
 
   $ sdv decode none none --json --svg
-  usage: a word does not fit: sdv decode SCRIPT TRACE [--registers FILE] [--json] [--svg]
+  usage: --json and --svg exclude each other: sdv decode SCRIPT TRACE [--registers FILE] [--json] [--svg]
   [2]
 
   $ sdv decode --help
@@ -267,6 +283,6 @@ A trace is told in one form, which is looked at before the files.
       prints which statement of the script each line of a trace is of, and what it means
       SCRIPT: a file with a script
       TRACE: a file with a trace, as sdv run prints it
-      --registers FILE: the bytes of the registers that came, one after another
+      --registers FILE: the file with the bytes of the registers that came, as sdv run keeps them
       --json: prints an object of JSON a line
       --svg: prints a sequence diagram of host and card, as a picture in SVG

@@ -1,5 +1,5 @@
 -- Words of shapes depend only on which shapes there are.
-use Rattle.std.proofs.Common.{◌≡◌, ◌++◌, Bool, List, [], ◌∷◌, refl, ap}
+use Rattle.std.proofs.Common.{◌≡◌, ◌++◌, ℕ, Bool, List, [], ◌∷◌, Option, refl, ap}
 use Rattle.std.specs.Prelude.{codes}
 use Rattle.sdv_registers.specs.declared.kind.Kind.{Kind}
 use Rattle.sdv_card.specs.declared.answer.Answer.TheVariants.{Sent, TimeOut, Damaged, Reply as Replied}
@@ -14,7 +14,8 @@ use Rattle.sdv_audit.specs.declared.line.TraceLine.{TraceLine}
 use Rattle.sdv_audit.specs.declared.line.TraceLine.TheVariants.{Exchange, BlocksIn, RegisterIn, BlocksOut, Wait, Lines, End}
 use Rattle.sdv_audit_report.proofs.ReportLaws.{standing_same}
 use Rattle.sdv_decode.specs.LineWords.{Spot}
-use Rattle.sdv_decode.specs.Meaning.{meaning, open_words, phase_meaning}
+use Rattle.sdv_decode.specs.Meaning.{meaning, open_words, phase_meaning, register_meaning}
+use Rattle.sdv_decode.specs.Registers.{register_name}
 use Rattle.sdv_decode.specs.Rows.{event_in, event_line}
 
 open_same : (xs ys : List Shape) → SameMembers xs ys → open_words xs ≡ open_words ys
@@ -27,19 +28,26 @@ phase_same : (what : Text) (end : DataEnd) (xs ys : List Shape) → SameMembers 
 phase_same what Whole xs ys same = refl
 phase_same what Cut xs ys same = ap (λ (words : Text). what ++ (codes ", cut: " ++ words)) (open_same xs ys same)
 
-meaning_same : (k : Kind) (line : TraceLine) (xs ys : List Shape) → SameMembers xs ys → meaning k line xs ≡ meaning k line ys
-meaning_same k (Exchange command Sent) xs ys same = refl
-meaning_same k (Exchange command TimeOut) xs ys same = ap (λ (words : Text). codes "no answer: " ++ words) (open_same xs ys same)
-meaning_same k (Exchange command (Replied reply)) xs ys same = refl
-meaning_same k (Exchange command (Damaged fault)) xs ys same = refl
-meaning_same k (BlocksIn count end) xs ys same = phase_same (codes "blocks from the card") end xs ys same
-meaning_same k (RegisterIn count end) xs ys same = phase_same _ end xs ys same
-meaning_same k (BlocksOut count end) xs ys same = phase_same (codes "blocks to the card") end xs ys same
-meaning_same k (Wait InTime) xs ys same = refl
-meaning_same k (Wait Late) xs ys same = ap (λ (words : Text). codes "still busy: " ++ words) (open_same xs ys same)
-meaning_same k (Lines width) xs ys same = refl
-meaning_same k End xs ys same = refl
+register_same : (count : ℕ) (end : DataEnd) (xs ys : List Shape) (came : Option (List ℕ)) → SameMembers xs ys
+    → register_meaning count end xs came ≡ register_meaning count end ys came
+register_same count Whole xs ys came same = refl
+register_same count Cut xs ys came same = phase_same (register_name count) Cut xs ys same
 
-pub event_line_same : (at : Spot) (app : Bool) (line : TraceLine) (xs ys : List Shape) → SameMembers xs ys → event_line at app line xs ≡ event_line at app line ys
-event_line_same at app line xs ys same =
-    ap (event_in at.form at app line) (meaning_same at.graph.kind line xs ys same)
+meaning_same : (k : Kind) (line : TraceLine) (xs ys : List Shape) (came : Option (List ℕ)) → SameMembers xs ys
+    → meaning k line xs came ≡ meaning k line ys came
+meaning_same k (Exchange command Sent) xs ys came same = refl
+meaning_same k (Exchange command TimeOut) xs ys came same = ap (λ (words : Text). codes "no answer: " ++ words) (open_same xs ys same)
+meaning_same k (Exchange command (Replied reply)) xs ys came same = refl
+meaning_same k (Exchange command (Damaged fault)) xs ys came same = refl
+meaning_same k (BlocksIn count end) xs ys came same = phase_same (codes "blocks from the card") end xs ys same
+meaning_same k (RegisterIn count end) xs ys came same = register_same count end xs ys came same
+meaning_same k (BlocksOut count end) xs ys came same = phase_same (codes "blocks to the card") end xs ys same
+meaning_same k (Wait InTime) xs ys came same = refl
+meaning_same k (Wait Late) xs ys came same = ap (λ (words : Text). codes "still busy: " ++ words) (open_same xs ys same)
+meaning_same k (Lines width) xs ys came same = refl
+meaning_same k End xs ys came same = refl
+
+pub event_line_same : (at : Spot) (app : Bool) (line : TraceLine) (xs ys : List Shape) (came : Option (List ℕ)) → SameMembers xs ys
+    → event_line at app line xs came ≡ event_line at app line ys came
+event_line_same at app line xs ys came same =
+    ap (event_in at.form at app line) (meaning_same at.graph.kind line xs ys came same)

@@ -17,7 +17,7 @@ use Rattle.sdv_run.specs.declared.returned.Returned.{Returned}
 use Rattle.sdv_trace.specs.declared.end.End.{End}
 use Rattle.sdv_decode.specs.Decoded.{Misfits, Place, Strays, course_before, line_behind, off_behind, place_after, spot_of, told_with}
 use Rattle.sdv_decode.specs.LineWords.{Spot, announces}
-use Rattle.sdv_decode.specs.Matches.{given_after, is_end, is_of, register_told, returned_of}
+use Rattle.sdv_decode.specs.Matches.{came_in, given_after, is_end, is_of, register_told, returned_of}
 use Rattle.sdv_decode.specs.Rows.{event_line, last_line, stray_line}
 use Rattle.sdv_decode.specs.declared.form.Form.{Form}
 use Rattle.sdv_graph.specs.Graph.{Graph}
@@ -99,12 +99,12 @@ module _ (r : Reading) (at : Place) (asked : IsAsked r at) (text : Text) (behind
   -- the line of an event
   pub passed_by : (event : NextEvent) (line : TraceLine) (r' : Reading) → read_line text ≡ Ok line → Asked r.runner (Ok (nexts.Event event))
       → is_of event line ≡ true → GoesOn r event line (line_behind behind) r' true → (old new : Text)
-      → new ≡ old ++ event_line (spot_at r) r.app line r'.audit.shapes.items → Steps r.form at text behind old new r' Passed
+      → new ≡ old ++ event_line (spot_at r) r.app line r'.audit.shapes.items (came_in (given_of r) line) → Steps r.form at text behind old new r' Passed
   passed_by event line r' read next fits on old new words =
       let went = on at asked in
       let at' : Place = place_after at went.0 event line (line_behind behind) in
       let stands : IsPlace r' at' = went.2 in (
-        event_line (spot_at r) r.app line r'.audit.shapes.items,
+        event_line (spot_at r) r.app line r'.audit.shapes.items (came_in (given_of r) line),
         words,
         (
           at',
@@ -119,9 +119,11 @@ module _ (r : Reading) (at : Place) (asked : IsAsked r at) (text : Text) (behind
             after = went.0;
             went = subst (λ (given : Option (List ℕ)). Went r.runner (returned_of line (register_told given line)) went.0) asked.beside.given went.1;
             leads = refl;
-            told = event_line_same (spot_at r) r.app line r'.audit.shapes.items at'.course.shapes stands.beside.course.shapes
-                ∙ (ap (λ (spot : Spot). event_line spot r.app line at'.course.shapes) spot_is
-                ∙ ap (λ (app : Bool). event_line (spot_of r.form at r.runner) app line at'.course.shapes) asked.beside.app);
+            told = event_line_same (spot_at r) r.app line r'.audit.shapes.items at'.course.shapes (came_in (given_of r) line) stands.beside.course.shapes
+                ∙ (ap (λ (spot : Spot). event_line spot r.app line at'.course.shapes (came_in (given_of r) line)) spot_is
+                ∙ (ap (λ (app : Bool). event_line (spot_of r.form at r.runner) app line at'.course.shapes (came_in (given_of r) line)) asked.beside.app
+                ∙ ap (λ (given : Option (List ℕ)). event_line (spot_of r.form at r.runner) at.app line at'.course.shapes (came_in given line))
+                asked.beside.given));
           },
           stands,
         ),

@@ -20,7 +20,7 @@ use Rattle.sdv_run.specs.declared.next_event.NextEvent.TheVariants as events
 use Rattle.sdv_run.specs.Machine.{Machine, Asked, Came, TookOn, Went, at_start}
 use Rattle.sdv_decode.specs.LineWords.{Spot, announces}
 use Rattle.sdv_decode.specs.Lines.{lines_in}
-use Rattle.sdv_decode.specs.Matches.{given_after, is_end, is_of, register_told, returned_of}
+use Rattle.sdv_decode.specs.Matches.{came_in, given_after, is_end, is_of, register_told, returned_of}
 use Rattle.sdv_decode.specs.Picture.{whole}
 use Rattle.sdv_decode.specs.Rows.{event_line, last_line, stray_line}
 use Rattle.sdv_decode.specs.declared.fault.TraceOff.{TraceOff}
@@ -95,7 +95,7 @@ pub record Passes (form : Form) (at : Place) (text : Text) (next : Option TraceL
   pub after : Machine
   pub went : Went here (returned_of line (register_told at.given line)) after
   pub leads : at' ≡ place_after at after event line next
-  pub told : words ≡ event_line (spot_of form at here) at.app line at'.course.shapes
+  pub told : words ≡ event_line (spot_of form at here) at.app line at'.course.shapes (came_in at.given line)
 
 -- it is that of the end of the run
 pub record IsLast (form : Form) (at : Place) (text words : Text) : Type 0 where

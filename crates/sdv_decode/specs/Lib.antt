@@ -1,6 +1,7 @@
 pub mod Faults
 pub mod Lines
 pub mod Matches
+pub mod Registers
 pub mod Meaning
 pub mod LineWords
 pub mod Picture

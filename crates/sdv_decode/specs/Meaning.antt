@@ -19,6 +19,7 @@ use Rattle.sdv_audit.specs.Beyond.{readable_blocks}
 use Rattle.sdv_audit.specs.declared.line.TraceLine.{TraceLine}
 use Rattle.sdv_audit.specs.declared.line.TraceLine.TheVariants.{Exchange, BlocksIn, RegisterIn, BlocksOut, Wait}
 use Rattle.sdv_audit_report.specs.Words.{standing_words}
+use Rattle.sdv_decode.specs.Registers.{register_came, register_name}
 
 -- THE CARD STATUS
 
@@ -119,20 +120,21 @@ abbrev pub phase_meaning : Text → DataEnd → List Shape → Text
 phase_meaning what Whole shapes = what
 phase_meaning what Cut shapes = what ++ (codes ", cut: " ++ open_words shapes)
 
-abbrev pub register_name : (count : ℕ) → Text
-register_name count =
-    if count == 8 then codes "SCR" else if count == 64 then codes "SD status"
-    else if count == 512 then codes "EXT_CSD" else codes "register"
+-- a register, with what its bytes say where they are given
+abbrev pub register_meaning : (count : ℕ) → DataEnd → List Shape → (came : Option (List ℕ)) → Text
+register_meaning count Whole shapes came = register_came count came
+register_meaning count Cut shapes came = phase_meaning (register_name count) Cut shapes
 
 abbrev pub wait_meaning : WaitEnd → List Shape → Text
 wait_meaning InTime shapes = codes "no longer busy"
 wait_meaning Late shapes = codes "still busy: " ++ open_words shapes
 
--- what a line of an event says, where a card may stand at these shapes after it
-abbrev pub meaning : Kind → TraceLine → List Shape → Text
-meaning k (Exchange command answer) shapes = answer_meaning k command.index answer shapes
-meaning k (BlocksIn count end) shapes = phase_meaning (codes "blocks from the card") end shapes
-meaning k (RegisterIn count end) shapes = phase_meaning (register_name count) end shapes
-meaning k (BlocksOut count end) shapes = phase_meaning (codes "blocks to the card") end shapes
-meaning k (Wait end) shapes = wait_meaning end shapes
-meaning k line shapes = codes "the end of the run"
+-- what a line of an event says, where a card may stand at these shapes after it, and where these bytes of the register
+-- that came are given
+abbrev pub meaning : Kind → TraceLine → List Shape → (came : Option (List ℕ)) → Text
+meaning k (Exchange command answer) shapes came = answer_meaning k command.index answer shapes
+meaning k (BlocksIn count end) shapes came = phase_meaning (codes "blocks from the card") end shapes
+meaning k (RegisterIn count end) shapes came = register_meaning count end shapes came
+meaning k (BlocksOut count end) shapes came = phase_meaning (codes "blocks to the card") end shapes
+meaning k (Wait end) shapes came = wait_meaning end shapes
+meaning k line shapes came = codes "the end of the run"

@@ -1,5 +1,5 @@
 -- What is printed of a line of a trace, in each form; in a picture it is a ROW.
-use Rattle.std.specs.Prelude.{[], ◌++◌, Bool, true, false, List, codes}
+use Rattle.std.specs.Prelude.{ℕ, [], ◌++◌, Bool, true, false, List, Option, codes}
 use Rattle.sdv_card.specs.declared.answer.Answer.{Answer}
 use Rattle.sdv_card.specs.declared.answer.Answer.TheVariants.{Sent, TimeOut, Damaged, Reply as Replied}
 use Rattle.sdv_card.specs.declared.answer.DataEnd.{DataEnd}
@@ -95,8 +95,8 @@ abbrev pub event_in : Form → Spot → (app : Bool) → TraceLine → (meant : 
 event_in Picture at app line meant = event_row at app line meant
 event_in form at app line meant = event_words at app line meant
 
-abbrev pub event_line : Spot → (app : Bool) → TraceLine → List Shape → Text
-event_line at app line shapes = event_in at.form at app line (meaning at.graph.kind line shapes)
+abbrev pub event_line : Spot → (app : Bool) → TraceLine → List Shape → (came : Option (List ℕ)) → Text
+event_line at app line shapes came = event_in at.form at app line (meaning at.graph.kind line shapes came)
 
 -- of the end of the run
 abbrev pub last_in : Form → Spot → RunEnd → Text

@@ -14,6 +14,7 @@ mod matches;
 mod meaning;
 mod picture;
 mod reading;
+mod registers;
 mod rows;
 
 pub use decoding::{Decoding, decode};

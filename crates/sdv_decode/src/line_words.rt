@@ -3,13 +3,13 @@
 ghost use Rattle.std.specs.Prelude.{◌≡◌, ◌<◌, ◌++◌, OnOk, length};
 ghost use Rattle.sdv_decode.specs.LineWords.{announces, between, end_told, event_words, has_other_meaning, json_front, last_words, line_end, mark, plain_front, spot_front, stray_words, strayed_words, told};
 ghost use Rattle.sdv_decode.specs.Meaning.{meaning};
-ghost use Rattle.sdv_decode.specs.Spots.{spot_seen};
+ghost use Rattle.sdv_decode.specs.Spots.{came_of, spot_seen};
 
 use crate::form::Form;
-use crate::meaning::put_meaning;
+use crate::meaning::{Behind, put_meaning};
 use sdv_audit::TraceLine;
 use sdv_audit_report::{put_answer, put_told};
-use sdv_card::{Answer, Shape};
+use sdv_card::Answer;
 use sdv_frames::Reply;
 use sdv_graph::Graph;
 use sdv_registers::Status;
@@ -147,16 +147,16 @@ pub fn put_event_words(
     at: &Spot<'_, '_>,
     app: bool,
     line: &TraceLine,
-    shapes: &[Shape],
+    behind: &Behind<'_>,
 ) -> Result<(), AllocError>
     requires { at.now.point < length at.now.graph.now.points }
     ensures { OnOk result (text.new.items ≡ text.old.items ++ event_words (spot_seen at.now) app line.now
-        (meaning at.now.graph.now.kind line.now shapes.now)) }
+        (meaning at.now.graph.now.kind line.now behind.now.shapes.now (came_of behind.now))) }
 {
     put_front(text, at)?;
     put_line_told(text, app, line)?;
     put(text, between(at.form))?;
-    put_meaning(text, at.graph.kind(), line, shapes)?;
+    put_meaning(text, at.graph.kind(), line, behind)?;
     put(text, line_end(at.form))
 }
 

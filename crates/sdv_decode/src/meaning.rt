@@ -1,9 +1,11 @@
 //! What the lines of a trace mean, in words.
 
 ghost use Rattle.std.specs.Prelude.{◌≡◌, ◌++◌, OnOk, codes};
-ghost use Rattle.sdv_decode.specs.Meaning.{address_error_words, address_words, addressing_words, answer_meaning, bit_words, capacity_words, card_error_words, earlier_error_words, echo_words, error_words, flag_words, lock_error_words, meaning, ocr_words, open_words, phase_meaning, published_error_words, published_words, register_name, register_words, reply_words, status_state_words, status_words, wait_meaning};
+ghost use Rattle.sdv_decode.specs.Meaning.{address_error_words, address_words, addressing_words, answer_meaning, bit_words, capacity_words, card_error_words, earlier_error_words, echo_words, error_words, flag_words, lock_error_words, meaning, ocr_words, open_words, phase_meaning, published_error_words, published_words, register_meaning, register_words, reply_words, status_state_words, status_words, wait_meaning};
+ghost use Rattle.sdv_decode.specs.Spots.{came_of};
 ghost use Rattle.sdv_audit.specs.Beyond.{readable_blocks};
 
+use crate::registers::{put_register_came, register_name};
 use sdv_audit::TraceLine;
 use sdv_audit_report::put_standing;
 use sdv_card::{Answer, DataEnd, Shape, WaitEnd};
@@ -244,14 +246,18 @@ fn put_phase(text: &mut Text, what: &str, end: DataEnd, shapes: &[Shape]) -> Res
     }
 }
 
-fn register_name(count: u16) -> &'static str
-    ensures { result.now ≡ register_name count }
+fn put_register_meaning(
+    text: &mut Text,
+    count: u16,
+    end: DataEnd,
+    behind: &Behind<'_>,
+) -> Result<(), AllocError>
+    ensures { OnOk result (text.new.items ≡ text.old.items ++ register_meaning count end behind.now.shapes.now
+        (came_of behind.now)) }
 {
-    match count {
-        8 => "SCR",
-        64 => "SD status",
-        512 => "EXT_CSD",
-        _ => "register",
+    match end {
+        DataEnd::Ok => put_register_came(text, count, behind.came),
+        DataEnd::Cut => put_phase(text, register_name(count), end, behind.shapes),
     }
 }
 
@@ -267,23 +273,32 @@ fn put_wait(text: &mut Text, end: WaitEnd, shapes: &[Shape]) -> Result<(), Alloc
     }
 }
 
-/// Adds what a line of an event says, where a card may stand at these shapes after it.
+/// What is known behind the line of an event.
+#[derive(Clone, Copy)]
+pub struct Behind<'s> {
+    /// The shapes at which a card may stand.
+    pub shapes: &'s [Shape],
+    /// The bytes of the register that came, where they are given.
+    pub came: Option<&'s [u8]>,
+}
+
+/// Adds what the line of an event says, by what is known behind it.
 pub fn put_meaning(
     text: &mut Text,
     kind: Kind,
     line: &TraceLine,
-    shapes: &[Shape],
+    behind: &Behind<'_>,
 ) -> Result<(), AllocError>
-    ensures { OnOk result (text.new.items ≡ text.old.items ++ meaning kind line.now shapes.now) }
+    ensures { OnOk result (text.new.items ≡ text.old.items ++ meaning kind line.now behind.now.shapes.now
+        (came_of behind.now)) }
 {
+    let shapes = behind.shapes;
     match line {
         TraceLine::Exchange { command, answer } => {
             put_answer_meaning(text, kind, command.index, answer, shapes)
         }
         TraceLine::BlocksIn { end, .. } => put_phase(text, "blocks from the card", *end, shapes),
-        TraceLine::RegisterIn { count, end } => {
-            put_phase(text, register_name(*count), *end, shapes)
-        }
+        TraceLine::RegisterIn { count, end } => { put_register_meaning(text, *count, *end, behind) }
         TraceLine::BlocksOut { end, .. } => put_phase(text, "blocks to the card", *end, shapes),
         TraceLine::Wait { end } => put_wait(text, *end, shapes),
         TraceLine::Lines { .. } | TraceLine::End => put(text, "the end of the run"),

@@ -13,7 +13,8 @@ ghost use Rattle.sdv_decode.specs.Steps.{GoesOn, IsAsked, IsPlace, Steps};
 use crate::fault::TraceOff;
 use crate::form::Form;
 use crate::line_words::{Spot, announces};
-use crate::matches::{given_after, is_end, is_of, register_told, returned_of};
+use crate::matches::{came_in, given_after, is_end, is_of, register_told, returned_of};
+use crate::meaning::Behind;
 use crate::rows::{put_event, put_last, put_stray};
 use sdv_audit::{Audit, AuditFault, Told, TraceLine, read_line};
 use sdv_card::Width;
@@ -195,8 +196,10 @@ impl<'g, 'a, 'r> Reading<'g, 'a, 'r> {
         }
         let spot = self.spot();
         let app = self.app;
+        let came = came_in(self.given, &line);
         if self.go_on(event, line, line_behind(behind))? {
-            put_event(out, &spot, app, &line, self.audit.shapes())?;
+            let shapes = self.audit.shapes();
+            put_event(out, &spot, app, &line, &Behind { shapes, came })?;
             Ok(Step::Passed)
         } else {
             self.stray(&line, out)

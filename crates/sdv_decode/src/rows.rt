@@ -6,7 +6,7 @@ ghost use Rattle.sdv_decode.specs.LineWords.{end_told, stray_words, told};
 ghost use Rattle.sdv_decode.specs.Meaning.{meaning};
 ghost use Rattle.sdv_decode.specs.Picture.{beside, marked};
 ghost use Rattle.sdv_decode.specs.Rows.{answer_drawn, answer_of, box_row, drawn, end_mark, event_line, event_row, in_mark, is_answered, label, last_line, mark_of, out_mark, spot_row, stray_line, wait_mark};
-ghost use Rattle.sdv_decode.specs.Spots.{spot_seen};
+ghost use Rattle.sdv_decode.specs.Spots.{came_of, spot_seen};
 ghost use Rattle.sdv_audit.specs.Spelling.{answer_text};
 ghost use Rattle.sdv_decode.specs.declared.picture.Mark.TheVariants.{Fault};
 
@@ -15,11 +15,11 @@ use crate::line_words::{
     Spot, put_end_told, put_event_words, put_last_words, put_line_told, put_mark, put_stray_words,
     put_strayed_words,
 };
-use crate::meaning::put_meaning;
+use crate::meaning::{Behind, put_meaning};
 use crate::picture::{Mark, put_beside, put_marked, put_row_front};
 use sdv_audit::TraceLine;
 use sdv_audit_report::{put_answer, put_told};
-use sdv_card::{Answer, DataEnd, Shape, WaitEnd};
+use sdv_card::{Answer, DataEnd, WaitEnd};
 use sdv_run::End;
 use sdv_telling::{Text, put};
 use std::alloc::{AllocError, Global};
@@ -138,13 +138,13 @@ fn put_meant(
     text: &mut Text,
     at: &Spot<'_, '_>,
     line: &TraceLine,
-    shapes: &[Shape],
+    behind: &Behind<'_>,
 ) -> Result<(), AllocError>
-    ensures { OnOk result (text.new.items ≡ text.old.items
-        ++ beside (is_answered line.now) (meaning at.now.graph.now.kind line.now shapes.now)) }
+    ensures { OnOk result (text.new.items ≡ text.old.items ++ beside (is_answered line.now)
+        (meaning at.now.graph.now.kind line.now behind.now.shapes.now (came_of behind.now))) }
 {
     let mut words = Vec::new(at.alloc);
-    put_meaning(&mut words, at.graph.kind(), line, shapes)?;
+    put_meaning(&mut words, at.graph.kind(), line, behind)?;
     put_beside(text, is_answered(line), words.as_slice())
 }
 
@@ -153,15 +153,15 @@ fn put_event_row(
     at: &Spot<'_, '_>,
     app: bool,
     line: &TraceLine,
-    shapes: &[Shape],
+    behind: &Behind<'_>,
 ) -> Result<(), AllocError>
     requires { at.now.point < length at.now.graph.now.points }
     ensures { OnOk result (text.new.items ≡ text.old.items ++ event_row (spot_seen at.now) app line.now
-        (meaning at.now.graph.now.kind line.now shapes.now)) }
+        (meaning at.now.graph.now.kind line.now behind.now.shapes.now (came_of behind.now))) }
 {
     put_spot_row(text, at)?;
     put_drawn(text, at.alloc, app, line)?;
-    put_meant(text, at, line, shapes)?;
+    put_meant(text, at, line, behind)?;
     put(text, "</g>\n")
 }
 
@@ -220,14 +220,15 @@ pub fn put_event(
     at: &Spot<'_, '_>,
     app: bool,
     line: &TraceLine,
-    shapes: &[Shape],
+    behind: &Behind<'_>,
 ) -> Result<(), AllocError>
     requires { at.now.point < length at.now.graph.now.points }
-    ensures { OnOk result (text.new.items ≡ text.old.items ++ event_line (spot_seen at.now) app line.now shapes.now) }
+    ensures { OnOk result (text.new.items ≡ text.old.items ++ event_line (spot_seen at.now) app line.now
+        behind.now.shapes.now (came_of behind.now)) }
 {
     match at.form {
-        Form::Picture => put_event_row(text, at, app, line, shapes),
-        Form::Words | Form::Json => put_event_words(text, at, app, line, shapes),
+        Form::Picture => put_event_row(text, at, app, line, behind),
+        Form::Words | Form::Json => put_event_words(text, at, app, line, behind),
     }
 }
 

@@ -1,4 +1,4 @@
-use Rattle.std.proofs.Common.{◌≡◌, ◌∙◌, ◌++◌, false, true, inl, inr, ap, subst, rules, List, Option, Bool, OnOk}
+use Rattle.std.proofs.Common.{◌≡◌, ◌∙◌, ◌++◌, false, true, inl, inr, ap, subst, rules, ℕ, List, Option, Bool, OnOk, option_map}
 use Rattle.sdv_audit.specs.declared.line.TraceLine.{TraceLine}
 use Rattle.sdv_card.specs.declared.shape.Shape.{Shape}
 use Rattle.sdv_decode.specs.LineWords.{Spot}
@@ -21,14 +21,16 @@ returns-in_ok-put_event-clause-steps c = λ at text read asked next.
     let event = c.args.event.now in
     let line = c.args.line in
     let r' = c.go_on.new.self in
+    let came = option_map (λ bytes. bytes.now) c.came_in-came.result in
     let fits : is_of event line ≡ true = search rules in
     let on = subst (λ (n : Option TraceLine). GoesOn r event line n r' true) c.line_behind.ensures
     (subst (λ (b : Bool). GoesOn r event line c.line_behind.result r' b) c.if-branch.true c.in_ok-go_on.ensures.on) in
     let spot = spot_same c.spot-spot.result r c.spot-spot.ensures.graph c.spot-spot.ensures.form c.spot-spot.ensures.number c.spot-spot.ensures.point in
     passed_by r at asked text _ event line r' read next fits on _ _
     (c.in_ok-put_event.ensures
-    ∙ (ap (λ (s : Spot). c.args.out.now.items ++ event_line s r.app line c.shapes.result.now) spot
-    ∙ ap (λ (shapes : List Shape). c.args.out.now.items ++ event_line (spot_at r) r.app line shapes) c.shapes.ensures))
+    ∙ (ap (λ (s : Spot). c.args.out.now.items ++ event_line s r.app line c.shapes-shapes.result.now came) spot
+    ∙ (ap (λ (shapes : List Shape). c.args.out.now.items ++ event_line (spot_at r) r.app line shapes came) c.shapes-shapes.ensures
+    ∙ ap (λ (bytes : Option (List ℕ)). c.args.out.now.items ++ event_line (spot_at r) r.app line r'.audit.shapes.items bytes) c.came_in-came.ensures)))
 
 pub returns-else-branch-clause-steps : goal.returns-else-branch-clause-steps
 returns-else-branch-clause-steps c =
