@@ -191,4 +191,4 @@ Names are for `try` alone.
   [1]
   $ sdv describe $card names | tail -n 1
   card fault Description
-  the schedule is wrong, line 1: here is to stand a digit from 0 to 7
+  the schedule is wrong, line 1: expected a digit from 0 to 7; `try` alone takes a schedule by name

@@ -58,8 +58,41 @@ Which word is wrong.
   usage: --out needs FILE: sdv run SCRIPT CERT CARD IMAGE [SCHEDULE] [--in FILE] [--out FILE] [--registers FILE]
   usage: --ot is no option: sdv run SCRIPT CERT CARD IMAGE [SCHEDULE] [--in FILE] [--out FILE] [--registers FILE]
   usage: --no-fault is no option: sdv graph SCRIPT [--no-faults]
-  usage: mmc is no KIND: sdv batch KIND REQUESTS
+  usage: mmc is no KIND (sd or emmc): sdv batch KIND REQUESTS
+  usage: 64 is no INDEX (from 0 to 63): sdv frame INDEX ARG
+  [2]
+  $ for words in "frame x 0" "frame 0 4294967296" "frame 0x40 0" "frame 0 0x1 0" "try a b c --out e --out f" "decode a b --svg --svg" \
+  >     "decode a b --json --svg" "decode a b --json --svg --json" "decode a --json --svg" "run a b c d --in --in"; do
+  >     sdv $words
+  > done
+  usage: x is no INDEX (from 0 to 63): sdv frame INDEX ARG
+  usage: 4294967296 is no ARG (from 0 to 4294967295): sdv frame INDEX ARG
   usage: a word does not fit: sdv frame INDEX ARG
+  usage: 0 is one word too many: sdv frame INDEX ARG
+  usage: --out stands twice: sdv try SCRIPT CARD IMAGE [SCHEDULE] [--in FILE] [--out FILE]
+  usage: --svg stands twice: sdv decode SCRIPT TRACE [--registers FILE] [--json] [--svg]
+  usage: --json and --svg exclude each other: sdv decode SCRIPT TRACE [--registers FILE] [--json] [--svg]
+  usage: --json stands twice: sdv decode SCRIPT TRACE [--registers FILE] [--json] [--svg]
+  usage: TRACE is missing: sdv decode SCRIPT TRACE [--registers FILE] [--json] [--svg]
+  usage: --in stands twice: sdv run SCRIPT CERT CARD IMAGE [SCHEDULE] [--in FILE] [--out FILE] [--registers FILE]
+  [2]
+  $ up=$EXAMPLES/sd_bring_up.sdv cert=$EXAMPLES/sd_bring_up.cert
+  $ sdv emit $up $cert 9x; sdv emit $up $cert for; sdv emit $up $cert a-b; sdv batch sd "erase 0 1"; sdv batch sd "read 0"
+  usage: 9x is no NAME (an identifier of C): sdv emit SCRIPT CERT NAME [--binary FILE]
+  usage: a word does not fit: sdv emit SCRIPT CERT NAME [--binary FILE]
+  usage: a-b is no NAME (an identifier of C): sdv emit SCRIPT CERT NAME [--binary FILE]
+  usage: erase 0 1 is no REQUESTS (read FIRST COUNT and write FIRST COUNT): sdv batch KIND REQUESTS
+  usage: a word does not fit: sdv batch KIND REQUESTS
+  [2]
+
+Help is asked for behind the name of a command.
+
+  $ sdv --help run; sdv -h frame; sdv help decode; sdv --help runs; sdv help
+  usage: write sdv run --help
+  usage: write sdv frame --help
+  usage: write sdv decode --help
+  usage: --help is no command; sdv --help lists them
+  usage: help is no command; sdv --help lists them
   [2]
 
 The page of a command.
@@ -71,10 +104,18 @@ The page of a command.
       CERT: a file with a certificate
       CARD: a file with the description of a card
       IMAGE: a file with the blocks of the card, or new: and a number of blocks of zeros
-      SCHEDULE: a file with a digit from 0 to 7 for each event: what the card does there; for try also with mishaps by name
+      SCHEDULE: a file with a digit from 0 to 7 for each event: what the card does there
       --in FILE: the blocks that the script gives, a whole number of them
       --out FILE: the file that takes the blocks that the script receives
-      --registers FILE: the bytes of the registers that came, one after another
+      --registers FILE: the file that takes the bytes of the registers that come, one after another
+  $ sdv try -h | tail -n 3; sdv drive -h | tail -n 3; sdv card -h | tail -n 1
+      SCHEDULE: a file with a digit from 0 to 7 for each event, or with mishaps by name: what the card does there
+      --in FILE: the blocks that the script gives, a whole number of them
+      --out FILE: the file that takes the blocks that the script receives
+      --in FILE: the blocks that the script gives, a whole number of them
+      --out FILE: the file that takes the blocks that the script receives
+      --trace FILE: the file that takes the trace of the run
+      SCHEDULE: a file with a digit from 0 to 7 for each event: what the card does there
   $ sdv explain -h
   sdv explain SCRIPT [CERT] [--why]
       prints what is known at each statement, and why the script or the certificate is refused

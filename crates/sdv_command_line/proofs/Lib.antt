@@ -1,2 +1,3 @@
 pub mod CommandLineLaws
 pub mod WordsGiven
+mod MistakeLaws

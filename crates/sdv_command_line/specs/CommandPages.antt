@@ -29,8 +29,8 @@ abbrev pub told_word : Word → (meaning : Text) → Text
 told_word word [] = []
 told_word word (b ∷ bs) = codes "    " ++ (written word ++ (codes ": " ++ ((b ∷ bs) ++ codes "\n")))
 
-abbrev pub word_line : Word → Text
-word_line word = told_word word (meaning (name_of word))
+abbrev pub word_line : (command : Text) → Word → Text
+word_line command word = told_word word (meaning command (name_of word))
 
 abbrev pub command_page : Command → Text
-command_page c = form c ++ (codes "\n    " ++ (c.help ++ (codes "\n" ++ flat_map word_line c.words)))
+command_page c = form c ++ (codes "\n    " ++ (c.help ++ (codes "\n" ++ flat_map (word_line c.name) c.words)))

@@ -103,7 +103,7 @@ abbrev pub commands : List Command
 commands =
     command (codes "frame") (required (codes "INDEX") ∷ required (codes "ARG") ∷ []) (codes "prints the frame of a command")
     ∷ command (codes "certify") of_script (codes "prints the certificate of a script")
-    ∷ command (codes "check") of_script_and_certificate (codes "prints the most commands that a run of the script sends")
+    ∷ command (codes "check") of_script_and_certificate (codes "prints the certified bound on the commands of a run")
     ∷ command (codes "run") of_run (codes "runs the script beside a simulated card")
     ∷ command (codes "batch") (required (codes "KIND") ∷ required (codes "REQUESTS") ∷ []) (codes "prints a script that serves requests")
     ∷ command (codes "explain") of_explain (codes "prints what is known at each statement, and why the script or the certificate is refused")

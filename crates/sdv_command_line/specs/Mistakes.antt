@@ -1,9 +1,10 @@
 -- WHAT IS WRONG with words that are no request of the program: the first word that is wrong, or the one that is missing.
 use Rattle.std.specs.Prelude.{ℕ, Bool, false, true, [], ◌∷◌, ◌++◌, ◌+◌, ◌==◌, ◌&&◌, ◌||◌, List, Option, Some, None, codes, find, fold}
-use Rattle.std.specs.Prelude.{if◌then◌else◌, option_and_then, slice_get}
-use Rattle.std.specs.List.{list_any}
+use Rattle.std.specs.Prelude.{if◌then◌else◌, is_some, length, nat_le, nat_lt, not, option_and_then, slice_get}
+use Rattle.std.specs.List.{list_all, list_any}
 use Rattle.std.specs.Str.{bytes_eq}
 use Rattle.clap.specs.Words.{Text}
+use Rattle.sdv_text.specs.Fronts.{after, is_digit, number_after}
 use Rattle.sdv_command_line.specs.Commands.{Command, Word, flag, form, optional, required, with_value}
 use Rattle.sdv_command_line.specs.CommandPages.{command_named}
 use Rattle.sdv_command_line.specs.declared.mistake.Mistake.{Mistake as CodeMistake}
@@ -16,9 +17,14 @@ pub data Mistake : Type 0 where
   unknown : Mistake
   one_too_many : (word : Text) → Mistake
   no_option : (word : Text) → Mistake
-  no_kind : (word : Text) → Mistake
+  -- the word is none for the place of this name
+  misfit : (name word : Text) → Mistake
   missing : (name : Text) → Mistake
   no_value : (name value : Text) → Mistake
+  -- the option is named more than once
+  twice : (word : Text) → Mistake
+  -- `--json` and `--svg` are both named
+  two_forms : Mistake
 
 -- how far the words of a command were read
 pub data Reading : Type 0 where
@@ -70,12 +76,44 @@ place_name (Some (required name)) = Some name
 place_name (Some (optional name)) = Some name
 place_name _ = None
 
+-- a number up to this one; one of hexadecimal digits is left to the command
+abbrev pub is_decimal : (most : ℕ) → Text → Bool
+is_decimal most word = nat_lt 0 (length word) && list_all is_digit word && nat_le (number_after 0 word) most
+
+abbrev pub is_within : (most : ℕ) → Text → Bool
+is_within most word = is_some (after (codes "0x") word) || is_decimal most word
+
+-- a letter or `_`
+abbrev pub is_letter : (byte : ℕ) → Bool
+is_letter byte = (nat_le 65 byte && nat_le byte 90) || (nat_le 97 byte && nat_le byte 122) || (byte == 95)
+
+abbrev pub is_further : (byte : ℕ) → Bool
+is_further byte = is_letter byte || is_digit byte
+
+-- letters, digits and `_`, of which the first is no digit; a word of C itself is left to the command
+abbrev pub is_name : Text → Bool
+is_name [] = false
+is_name (byte ∷ bytes) = is_letter byte && list_all is_further bytes
+
+-- the first word of requests; one of another byte than a letter is left to the command
+abbrev pub are_requests : Text → Bool
+are_requests [] = true
+are_requests (byte ∷ bytes) =
+    not (is_letter byte)
+    || (is_some (after (codes "read") (byte ∷ bytes)) || is_some (after (codes "write") (byte ∷ bytes)))
+
 abbrev pub fits : (name word : Text) → Bool
-fits name word = if bytes_eq name (codes "KIND") then is_kind word else true
+fits name word =
+    if bytes_eq name (codes "KIND") then is_kind word
+    else if bytes_eq name (codes "INDEX") then is_within 63 word
+    else if bytes_eq name (codes "ARG") then is_within 4294967295 word
+    else if bytes_eq name (codes "NAME") then is_name word
+    else if bytes_eq name (codes "REQUESTS") then are_requests word
+    else true
 
 abbrev pub after_place : (place : ℕ) → (word : Text) → (name : Option Text) → Reading
 after_place place word None = wrong (one_too_many word)
-after_place place word (Some name) = if fits name word then at_place (place + 1) else wrong (no_kind word)
+after_place place word (Some name) = if fits name word then at_place (place + 1) else wrong (misfit name word)
 
 -- ALL WORDS behind the name of a command
 
@@ -95,21 +133,77 @@ mistake_at c (at_place place) = missing_at (slice_get c.words place)
 mistake_at c (at_value place name value) = no_value name value
 mistake_at c (wrong mistake) = mistake
 
+-- what each word for itself says
+abbrev pub mistake_by_words : Command → List Text → Mistake
+mistake_by_words c words = mistake_at c (fold (after_word c) (at_place 0) words)
+
+-- MORE THAN ONE OPTION: looked at where no word for itself is wrong
+
+abbrev pub is_same : (word other : Text) → Bool
+is_same word other = bytes_eq other word
+
+abbrev pub is_among : List Text → Text → Bool
+is_among words word = list_any (is_same word) words
+
+-- the first option that is named again
+abbrev pub repeated : List Text → Option Text
+repeated [] = None
+repeated (word ∷ words) = if is_option word && is_among words word then Some word else repeated words
+
+abbrev pub asks_two_forms : List Text → Bool
+asks_two_forms words = is_among words (codes "--json") && is_among words (codes "--svg")
+
+abbrev pub mistake_of_options : List Text → (again : Option Text) → Mistake
+mistake_of_options words (Some word) = twice word
+mistake_of_options words None = if asks_two_forms words then two_forms else unknown
+
+abbrev pub mistake_or_options : Mistake → List Text → Mistake
+mistake_or_options unknown words = mistake_of_options words (repeated words)
+mistake_or_options mistake words = mistake
+
 abbrev pub mistake_in : Command → List Text → Mistake
-mistake_in c words = mistake_at c (fold (after_word c) (at_place 0) words)
+mistake_in c words = mistake_or_options (mistake_by_words c words) words
 
 -- WHAT IS SAID of them, on one line
+
+-- what can stand in a place, by its name
+abbrev pub range_words : (name : Text) → Text
+range_words name =
+    if bytes_eq name (codes "KIND") then codes " (sd or emmc): "
+    else if bytes_eq name (codes "INDEX") then codes " (from 0 to 63): "
+    else if bytes_eq name (codes "ARG") then codes " (from 0 to 4294967295): "
+    else if bytes_eq name (codes "NAME") then codes " (an identifier of C): "
+    else codes " (read FIRST COUNT and write FIRST COUNT): "
 
 abbrev pub mistake_words : Mistake → Text
 mistake_words unknown = codes "a word does not fit: "
 mistake_words (one_too_many word) = word ++ codes " is one word too many: "
 mistake_words (no_option word) = word ++ codes " is no option: "
-mistake_words (no_kind word) = word ++ codes " is no KIND: "
+mistake_words (misfit name word) = word ++ (codes " is no " ++ (name ++ range_words name))
 mistake_words (missing name) = name ++ codes " is missing: "
 mistake_words (no_value name value) = codes "--" ++ (name ++ (codes " needs " ++ (value ++ codes ": ")))
+mistake_words (twice word) = word ++ codes " stands twice: "
+mistake_words two_forms = codes "--json and --svg exclude each other: "
+
+-- a name that asks for help
+abbrev pub asks_help : (name : Text) → Bool
+asks_help name = bytes_eq name (codes "--help") || (bytes_eq name (codes "-h") || bytes_eq name (codes "help"))
+
+-- the one word behind it that is the name of a command
+abbrev pub helped : List Text → Option Text
+helped [] = None
+helped (word ∷ []) = if is_some (command_named word) then Some word else None
+helped (word ∷ other ∷ words) = None
+
+abbrev pub help_words : (name : Text) → (helped : Option Text) → Text
+help_words name (Some command) = codes "write sdv " ++ (command ++ codes " --help\n")
+help_words name None = name ++ codes " is no command; sdv --help lists them\n"
+
+abbrev pub no_command_words : (name : Text) → List Text → Text
+no_command_words name words = help_words name (if asks_help name then helped words else None)
 
 abbrev pub command_line_words : (name : Text) → List Text → Option Command → Text
-command_line_words name words None = name ++ codes " is no command; sdv --help lists them\n"
+command_line_words name words None = no_command_words name words
 command_line_words name words (Some c) = mistake_words (mistake_in c words) ++ (form c ++ codes "\n")
 
 abbrev pub wrong_words : List Text → Text
@@ -125,9 +219,11 @@ abbrev pub seen_mistake : CodeMistake → Mistake
 seen_mistake mistakes.Unknown = unknown
 seen_mistake (mistakes.OneTooMany word) = one_too_many word.now
 seen_mistake (mistakes.NoOption word) = no_option word.now
-seen_mistake (mistakes.NoKind word) = no_kind word.now
+seen_mistake (mistakes.Misfit name word) = misfit name.now word.now
 seen_mistake (mistakes.Missing name) = missing name.now
 seen_mistake (mistakes.NoValue name value) = no_value name.now value.now
+seen_mistake (mistakes.Twice word) = twice word.now
+seen_mistake mistakes.TwoForms = two_forms
 
 abbrev pub seen_reading : CodeReading → Reading
 seen_reading (readings.AtPlace place) = at_place place

@@ -3,7 +3,7 @@ ghost use Rattle.std.specs.Prelude.{◌≡◌, ◌++◌, IfOk, OnOk, flat_map, m
 ghost use Rattle.std.specs.Borrow.{Bor};
 ghost use Rattle.sdv_command_line.specs.Commands.{form, seen_command, seen_word, word_form};
 ghost use Rattle.sdv_command_line.specs.CommandPages.{command_in, command_named, command_page, name_of, told_word, word_line, written};
-ghost use Rattle.sdv_command_line.specs.Meanings.{meaning};
+ghost use Rattle.sdv_command_line.specs.Meanings.{meaning, registers_meaning, schedule_meaning};
 ghost use Rattle.sdv_command_line.specs.declared.table.CommandEntry.{CommandEntry as Entry};
 
 use crate::table::{COMMANDS, CommandEntry, Word};
@@ -41,7 +41,7 @@ pub fn command_page(alloc: Global, entry: &CommandEntry) -> Result<Vec<u8>, Allo
     put(&mut page, "\n    ")?;
     put(&mut page, entry.help)?;
     put(&mut page, "\n")?;
-    put_words(&mut page, entry.words)?;
+    put_words(&mut page, entry.name, entry.words)?;
     Ok(page)
 }
 
@@ -92,11 +92,12 @@ fn put_pieces(page: &mut Vec<u8>, front: &str, name: &str, back: &str) -> Result
     put(page, back)
 }
 
-fn put_words(page: &mut Vec<u8>, words: &[Word]) -> Result<(), AllocError>
-    ensures { OnOk result (page.new.items ≡ page.old.items ++ flat_map word_line (map seen_word words.now)) }
+fn put_words(page: &mut Vec<u8>, command: &str, words: &[Word]) -> Result<(), AllocError>
+    ensures { OnOk result (page.new.items
+        ≡ page.old.items ++ flat_map (word_line command.now) (map seen_word words.now)) }
 {
     for word in words {
-        put_word_line(page, *word)?;
+        put_word_line(page, command, *word)?;
     }
     Ok(())
 }
@@ -111,10 +112,10 @@ fn name_of(word: Word) -> &'static str
 }
 
 /// Adds what a word stands for, if its name has a meaning.
-fn put_word_line(page: &mut Vec<u8>, word: Word) -> Result<(), AllocError>
-    ensures { OnOk result (page.new.items ≡ page.old.items ++ word_line (seen_word word)) }
+fn put_word_line(page: &mut Vec<u8>, command: &str, word: Word) -> Result<(), AllocError>
+    ensures { OnOk result (page.new.items ≡ page.old.items ++ word_line command.now (seen_word word)) }
 {
-    put_told(page, word, meaning(name_of(word)))
+    put_told(page, word, meaning(command, name_of(word)))
 }
 
 fn put_told(page: &mut Vec<u8>, word: Word, meaning: &str) -> Result<(), AllocError>
@@ -141,9 +142,28 @@ fn put_written(page: &mut Vec<u8>, word: Word) -> Result<(), AllocError>
     }
 }
 
-/// What a word of a command stands for, by its name; nothing where the name has no meaning here.
-fn meaning(name: &str) -> &'static str
-    ensures { result.now ≡ meaning name.now }
+fn schedule_meaning(command: &str) -> &'static str
+    ensures { result.now ≡ schedule_meaning command.now }
+{
+    match command {
+        "try" =>
+            "a file with a digit from 0 to 7 for each event, or with mishaps by name: what the card does there",
+        _ => "a file with a digit from 0 to 7 for each event: what the card does there",
+    }
+}
+
+fn registers_meaning(command: &str) -> &'static str
+    ensures { result.now ≡ registers_meaning command.now }
+{
+    match command {
+        "run" => "the file that takes the bytes of the registers that come, one after another",
+        _ => "the file with the bytes of the registers that came, as sdv run keeps them",
+    }
+}
+
+/// What a word of a command stands for, by their names; nothing where the name has no meaning here.
+fn meaning(command: &str, name: &str) -> &'static str
+    ensures { result.now ≡ meaning command.now name.now }
 {
     match name {
         "INDEX" => "the index of a command, from 0 to 63",
@@ -152,8 +172,7 @@ fn meaning(name: &str) -> &'static str
         "CERT" => "a file with a certificate",
         "CARD" => "a file with the description of a card",
         "IMAGE" => "a file with the blocks of the card, or new: and a number of blocks of zeros",
-        "SCHEDULE" =>
-            "a file with a digit from 0 to 7 for each event: what the card does there; for try also with mishaps by name",
+        "SCHEDULE" => schedule_meaning(command),
         "in" => "the blocks that the script gives, a whole number of them",
         "out" => "the file that takes the blocks that the script receives",
         "card" => "the file that takes the description of the card",
@@ -163,7 +182,8 @@ fn meaning(name: &str) -> &'static str
         "NAME" => "an identifier of C, the name of the array",
         "binary" => "the file that takes the words of the table as bytes",
         "TRACE" => "a file with a trace, as sdv run prints it",
-        "registers" => "the bytes of the registers that came, one after another",
+        "registers" => registers_meaning(command),
+        "trace" => "the file that takes the trace of the run",
         "json" => "prints an object of JSON a line",
         "svg" => "prints a sequence diagram of host and card, as a picture in SVG",
         "annotate" => "prints each line of the trace too",

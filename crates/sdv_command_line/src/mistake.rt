@@ -1,5 +1,5 @@
 //! What is wrong with words that are no request of the program.
-ghost use Rattle.std.specs.Prelude.{◌≡◌, ◌++◌, ◌<◌, IfOk, IfSome, List, OnOk, length, map, option_map, slice_get, ℕ};
+ghost use Rattle.std.specs.Prelude.{◌≡◌, ◌++◌, ◌<◌, ◌≤◌, IfOk, IfSome, List, OnOk, length, map, option_map, slice_get, ℕ};
 ghost use Rattle.std.specs.Borrow.{Bor};
 ghost use Rattle.clap.specs.Walk.{texts};
 ghost use Rattle.sdv_command_line.specs.Commands.{seen_command, seen_word};
@@ -7,11 +7,16 @@ ghost use Rattle.sdv_command_line.specs.CommandPages.{command_named};
 ghost use Rattle.sdv_command_line.specs.declared.table.CommandEntry.{CommandEntry as Entry};
 ghost use Rattle.sdv_command_line.specs.Mistakes.{after_option, after_place, after_word, has_option, is_kind, is_left, is_option};
 ghost use Rattle.sdv_command_line.specs.Mistakes.{command_line_words, mistake_at, mistake_in, mistake_words};
+ghost use Rattle.std.specs.List.{list_all};
+ghost use Rattle.sdv_text.specs.Fronts.{is_digit};
+ghost use Rattle.sdv_command_line.specs.Mistakes.{are_requests, asks_help, help_words, helped, is_among, is_decimal, is_further, is_letter, is_name, is_within};
+ghost use Rattle.sdv_command_line.specs.Mistakes.{mistake_by_words, mistake_of_options, no_command_words, range_words, repeated};
 ghost use Rattle.sdv_command_line.specs.Mistakes.{fits, option_in, option_name, place_name, seen_mistake, seen_reading};
 ghost use Rattle.sdv_command_line.specs.Mistakes.{usage_line, wrong_words};
 
 use crate::help_page::{command_named, put, put_form};
 use crate::table::{CommandEntry, Word};
+use sdv_text::{after, capped_value};
 use std::alloc::{AllocError, Global};
 
 /// What is wrong with the words behind the name of a command.
@@ -21,12 +26,20 @@ pub enum Mistake<'a> {
     Unknown,
     OneTooMany(&'a str),
     NoOption(&'a str),
-    NoKind(&'a str),
+    /// The word is none for the place of this name.
+    Misfit {
+        name: &'static str,
+        word: &'a str,
+    },
     Missing(&'static str),
     NoValue {
         name: &'static str,
         value: &'static str,
     },
+    /// The option is named more than once.
+    Twice(&'a str),
+    /// `--json` and `--svg` are both named.
+    TwoForms,
 }
 
 /// How far the words of a command were read.
@@ -85,15 +98,73 @@ fn put_line_of(
         (option_map (λ (entry : Bor Entry). seen_command entry.now) found.entry)) }
 {
     match found {
-        None => {
-            put(line, name)?;
-            put(line, " is no command; sdv --help lists them\n")
-        }
+        None => put_no_command(line, name, words),
         Some(entry) => {
             put_mistake(line, mistake_in(entry, words))?;
             put_form(line, entry)?;
             put(line, "\n")
         }
+    }
+}
+
+/// A name that asks for help.
+fn asks_help(name: &str) -> bool
+    ensures { result ≡ asks_help name.now }
+{
+    name == "--help" || name == "-h" || name == "help"
+}
+
+/// The one word that is the name of a command.
+fn helped<'a>(words: &[&'a str]) -> Option<&'a str>
+    ensures { option_map (λ (word : Bor (List ℕ)). word.now) result ≡ helped (texts words.now) }
+{
+    match words {
+        [] => None,
+        [word] => {
+            if command_named(word).is_some() {
+                Some(word)
+            } else {
+                None
+            }
+        }
+        [_, _, ..] => None,
+    }
+}
+
+/// The rest of the line where the name is that of no command.
+fn put_no_command(line: &mut Vec<u8>, name: &str, words: &[&str]) -> Result<(), AllocError>
+    ensures { OnOk result (line.new.items ≡ line.old.items ++ no_command_words name.now (texts words.now)) }
+{
+    put_help(
+        line,
+        name,
+        if asks_help(name) { helped(words) } else { None },
+    )
+}
+
+fn put_help(line: &mut Vec<u8>, name: &str, helped: Option<&str>) -> Result<(), AllocError>
+    ensures { OnOk result (line.new.items ≡ line.old.items
+        ++ help_words name.now (option_map (λ (word : Bor (List ℕ)). word.now) helped.entry)) }
+{
+    match helped {
+        Some(command) => {
+            put(line, "write sdv ")?;
+            put_both(line, command, " --help\n")
+        }
+        None => put_both(line, name, " is no command; sdv --help lists them\n"),
+    }
+}
+
+/// What can stand in a place, by its name.
+fn range_words(name: &str) -> &'static str
+    ensures { result.now ≡ range_words name.now }
+{
+    match name {
+        "KIND" => " (sd or emmc): ",
+        "INDEX" => " (from 0 to 63): ",
+        "ARG" => " (from 0 to 4294967295): ",
+        "NAME" => " (an identifier of C): ",
+        _ => " (read FIRST COUNT and write FIRST COUNT): ",
     }
 }
 
@@ -104,7 +175,10 @@ fn put_mistake(line: &mut Vec<u8>, mistake: Mistake<'_>) -> Result<(), AllocErro
         Mistake::Unknown => put(line, "a word does not fit: "),
         Mistake::OneTooMany(word) => put_both(line, word, " is one word too many: "),
         Mistake::NoOption(word) => put_both(line, word, " is no option: "),
-        Mistake::NoKind(word) => put_both(line, word, " is no KIND: "),
+        Mistake::Misfit { name, word } => {
+            put_both(line, word, " is no ")?;
+            put_both(line, name, range_words(name))
+        }
         Mistake::Missing(name) => put_both(line, name, " is missing: "),
         Mistake::NoValue { name, value } => {
             put(line, "--")?;
@@ -112,6 +186,8 @@ fn put_mistake(line: &mut Vec<u8>, mistake: Mistake<'_>) -> Result<(), AllocErro
             put_both(line, " needs ", value)?;
             put(line, ": ")
         }
+        Mistake::Twice(word) => put_both(line, word, " stands twice: "),
+        Mistake::TwoForms => put(line, "--json and --svg exclude each other: "),
     }
 }
 
@@ -125,6 +201,59 @@ fn put_both(line: &mut Vec<u8>, first: &str, second: &str) -> Result<(), AllocEr
 /// What is wrong with the words behind the name of a command.
 fn mistake_in<'a>(entry: &CommandEntry, words: &[&'a str]) -> Mistake<'a>
     ensures { seen_mistake result ≡ mistake_in (seen_command entry.now) (texts words.now) }
+{
+    match mistake_by_words(entry, words) {
+        Mistake::Unknown => mistake_of_options(words),
+        mistake => mistake,
+    }
+}
+
+/// What is wrong with the options, where no word for itself is wrong.
+fn mistake_of_options<'a>(words: &[&'a str]) -> Mistake<'a>
+    ensures { seen_mistake result ≡ mistake_of_options (texts words.now) (repeated (texts words.now)) }
+{
+    match repeated(words) {
+        Some(word) => Mistake::Twice(word),
+        None => {
+            if is_among(words, "--json") && is_among(words, "--svg") {
+                Mistake::TwoForms
+            } else {
+                Mistake::Unknown
+            }
+        }
+    }
+}
+
+fn is_among(words: &[&str], word: &str) -> bool
+    ensures { result ≡ is_among (texts words.now) word.now }
+{
+    for other in words {
+        if *other == word {
+            return true;
+        }
+    }
+    false
+}
+
+/// The first option that is named again.
+fn repeated<'a>(words: &[&'a str]) -> Option<&'a str>
+    ensures { option_map (λ (word : Bor (List ℕ)). word.now) result ≡ repeated (texts words.now) }
+{
+    match words {
+        [] => None,
+        [word, rest @ ..] => {
+            if is_option(word) && is_among(rest, word) {
+                Some(word)
+            } else {
+                repeated(rest)
+            }
+        }
+    }
+}
+
+/// What is wrong by each word for itself.
+fn mistake_by_words<'a>(entry: &CommandEntry, words: &[&'a str]) -> Mistake<'a>
+    ensures { seen_mistake result ≡ mistake_by_words (seen_command entry.now) (texts words.now) }
 {
     let mut reading = Reading::AtPlace(0);
     for word in words {
@@ -230,10 +359,80 @@ fn is_kind(word: &str) -> bool
     word == "sd" || word == "emmc"
 }
 
+fn are_digits(text: &[u8]) -> bool
+    ensures { result ≡ list_all is_digit text.now }
+{
+    text.iter().all(|byte| byte.is_ascii_digit())
+}
+
+fn is_decimal(most: u64, word: &[u8]) -> bool
+    requires { most ≤ 4294967295 }
+    ensures { result ≡ is_decimal most word.now }
+{
+    !word.is_empty() && are_digits(word) && capped_value(word, 1 << 32) <= most
+}
+
+/// A number up to this one; one of hexadecimal digits is left to the command.
+fn is_within(most: u64, word: &[u8]) -> bool
+    requires { most ≤ 4294967295 }
+    ensures { result ≡ is_within most word.now }
+{
+    after(word, b"0x").is_some() || is_decimal(most, word)
+}
+
+/// A letter or `_`.
+fn is_letter(byte: u8) -> bool
+    ensures { result ≡ is_letter byte }
+{
+    byte.is_ascii_uppercase() || byte.is_ascii_lowercase() || byte == b'_'
+}
+
+/// A letter, a digit or `_`.
+fn is_further(byte: u8) -> bool
+    ensures { result ≡ is_further byte }
+{
+    is_letter(byte) || byte.is_ascii_digit()
+}
+
+fn are_further(text: &[u8]) -> bool
+    ensures { result ≡ list_all is_further text.now }
+{
+    text.iter().all(|byte| is_further(*byte))
+}
+
+/// Letters, digits and `_`, of which the first is no digit.
+fn is_name(word: &[u8]) -> bool
+    ensures { result ≡ is_name word.now }
+{
+    match word {
+        [first, further @ ..] => is_letter(*first) && are_further(further),
+        [] => false,
+    }
+}
+
+/// The first word of requests fits; one of another byte than a letter is left to the command.
+fn are_requests(word: &[u8]) -> bool
+    ensures { result ≡ are_requests word.now }
+{
+    match word {
+        [first, ..] => {
+            !is_letter(*first) || after(word, b"read").is_some() || after(word, b"write").is_some()
+        }
+        [] => true,
+    }
+}
+
 fn fits(name: &str, word: &str) -> bool
     ensures { result ≡ fits name.now word.now }
 {
-    name != "KIND" || is_kind(word)
+    match name {
+        "KIND" => is_kind(word),
+        "INDEX" => is_within(63, word.as_bytes()),
+        "ARG" => is_within(0xffff_ffff, word.as_bytes()),
+        "NAME" => is_name(word.as_bytes()),
+        "REQUESTS" => are_requests(word.as_bytes()),
+        _ => true,
+    }
 }
 
 fn after_place<'a>(entry: &CommandEntry, place: usize, word: &'a str) -> Reading<'a>
@@ -243,7 +442,7 @@ fn after_place<'a>(entry: &CommandEntry, place: usize, word: &'a str) -> Reading
     match place_name(entry, place) {
         None => Reading::Wrong(Mistake::OneTooMany(word)),
         Some(name) if fits(name, word) => Reading::AtPlace(place + 1),
-        Some(_) => Reading::Wrong(Mistake::NoKind(word)),
+        Some(name) => Reading::Wrong(Mistake::Misfit { name, word }),
     }
 }
 

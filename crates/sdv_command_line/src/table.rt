@@ -40,7 +40,7 @@ pub static COMMANDS: [CommandEntry; 18] = [
     CommandEntry {
         name: "check",
         words: &[Word::Required("SCRIPT"), Word::Required("CERT")],
-        help: "prints the most commands that a run of the script sends",
+        help: "prints the certified bound on the commands of a run",
     },
     CommandEntry {
         name: "run",

@@ -2,7 +2,7 @@ use Rattle.std.proofs.Common.{◌≡◌, drop, fold}
 use Rattle.clap.specs.Walk.{texts}
 use Rattle.sdv_command_line.specs.Commands.{seen_command}
 use Rattle.sdv_command_line.specs.Mistakes.{after_word, at_place, seen_reading}
-use Rattle.sdv_command_line.proofs.mistake.mistake_in.Given as goal
+use Rattle.sdv_command_line.proofs.mistake.mistake_by_words.Given as goal
 
 -- what was read, and then the rest, is all
 abbrev pub invariant-loop-word : goal.invariant-loop-word
