@@ -116,16 +116,15 @@ Each refused script of the examples, but linux_write, of which the search finds 
   line 23: CMD16 comes to a card in data state, where it is not legal
 
   $ sdv refute $EXAMPLES/hosts/linux_write.sdv
-  no run found (1800 runs of at most 4 mishaps)
+  no run found (1800 runs of at most 2002 mishaps)
   [1]
 
 Scripts that have a certificate: there is none.
 
-  $ for script in $EXAMPLES/smallest.sdv $EXAMPLES/sd_bring_up.sdv $EXAMPLES/emmc_bring_up.sdv; do sdv refute $script; done
+  $ for script in $EXAMPLES/*.sdv $EXAMPLES/hosts/*_mended.sdv $EXAMPLES/hosts/linux_read_many.sdv $EXAMPLES/production/*.sdv; do
+  >   case $script in */refused_*) ;; *) sdv refute $script;; esac
+  > done 2>&1 | sort -u
   no run found (no path of the state tables breaks the script)
-  no run found (no path of the state tables breaks the script)
-  no run found (no path of the state tables breaks the script)
-  [1]
 
 A script that is refused out of caution: an answer that is not taken by the case `clean` is not taken by `clean & ready` either.
 
@@ -142,10 +141,58 @@ The same where the second case can be taken.
   line 14: the answer to CMD13 shows an error
   wrong
 
+The run with the fewest mishaps, though the first loop breaks the script where it goes wrong in each of its 1,000 turns.
+
+  $ sed 's/^done$/loop 1000 { send 13 { clean { break } else { } } } else { send 2 { else { } } }\nsend 13 { clean { } else { send 13 { clean { } else { send 13 { clean { } else { send 13 { clean { } else { send 2 { else { } } } } } } } } } }\ndone/' $EXAMPLES/sd_bring_up.sdv > fewest.sdv
+  $ sdv refute fewest.sdv | sed -n '/^mishaps/,/^card/p'
+  mishaps
+  line 15: CMD13 is lost
+  line 15: CMD13 is lost
+  line 15: CMD13 is lost
+  line 15: CMD13 is lost
+  wrong
+  line 15: CMD2 comes to a card in tran state, where it is not legal
+  card over new:1024
+
+Runs may be long, or each may take much memory. The search counts that, and ends in time.
+
+  $ printf 'card sd\nflags f\nsend 0 { else { } }\nloop 65535 { loop 65535 { loop 65535 { set f } else { } } else { } } else { }\ndone\n' > quiet.sdv; timeout 9 sdv refute quiet.sdv
+  no run found (0 runs of at most 0 mishaps, then the search was ended)
+  [1]
+  $ sed 's/loop 65535 { \(.*\) } else { } } else { }$/\1 } else { }/' quiet.sdv > two.sdv; tail -n 2 two.sdv; timeout 9 sdv refute two.sdv
+  loop 65535 { loop 65535 { set f } else { } } else { }
+  done
+  no run found (0 runs of at most 0 mishaps, then the search was ended)
+  [1]
+  $ sed 's/loop 65535 { loop/loop 300 { loop/' two.sdv > shorter.sdv; timeout 9 sdv refute shorter.sdv
+  no run found (0 runs of at most 0 mishaps, then the search was ended)
+  [1]
+  $ sed 's/loop 65535 { loop 65535/loop 300 { loop 300/' two.sdv > short.sdv; timeout 9 sdv refute short.sdv | tail -n 1
+  wrong done
+  $ (printf 'card sd\nflags f\nsend 0 { else { } }\nloop 65535 {\n'; for n in $(seq 4000); do echo set f; done; printf 'send 0 { else { } }\n} else { }\ndone\n') > sets.sdv; timeout 9 sdv refute sets.sdv
+  no run found (8 runs of at most 0 mishaps)
+  [1]
+  $ (sed '/^done$/d' $EXAMPLES/sd_bring_up.sdv; printf 'send 13 { clean { } else { send 25 at by hc 0 count 65535 { else { } } } }\nloop 65535 { send 13 { else { } } } else { }\ndone\n') > room.sdv; timeout 9 sdv refute room.sdv | sed -n '/^mishaps/,/^card/p'
+  mishaps
+  line 14: CMD13 is lost
+  wrong
+  line 14: CMD25 comes to a card in tran state, which has not so many blocks
+  card over new:1024
+  $ timeout 9 sdv explain --why room.sdv 2>&1 | sed -n '4,9p'
+  why: the card may not have all blocks at by hc 0; what is known: the card has 1 block or more; cap is from 1 to 4294967296, not beyond the card's end
+  a run that breaks the script, beside a simulated card:
+      mishap   line 14: CMD13 is lost
+      wrong    line 14: CMD25 comes to a card in tran state, which has not so many blocks
+      `sdv refute` prints its card, its schedule and its trace
+  a run that gets there:
+  $ (sed '/^done$/d' $EXAMPLES/sd_bring_up.sdv; printf 'loop 65535 { send 18 at by hc 0 count 256 { clean { recv { ok { } else { fault cut } } } else { fault unread } } send 12 { clean { } else { fault unstopped } } } else { }\nsend 2 { else { } }\ndone\n') > blocks.sdv; timeout 9 sdv refute blocks.sdv
+  no run found (485 runs of at most 2001 mishaps)
+  [1]
+
 What breaks this script is an answer of CMD55 without an error and without the application flag, which no simulated card gives.
 
   $ sed 's/ app { send 41/ clean { send 41/' $EXAMPLES/sd_bring_up.sdv > unasked.sdv; sdv refute unasked.sdv
-  no run found (352 runs of at most 2 mishaps)
+  no run found (352 runs of at most 2000 mishaps)
   [1]
 
 Nothing is written where no run was found, and nothing is printed where a file cannot be written.
@@ -210,7 +257,7 @@ The pages of the three commands.
       SCRIPT: a file with a script
       CARD: a file with the description of a card
       IMAGE: a file with the blocks of the card, or new: and a number of blocks of zeros
-      SCHEDULE: a file with a digit from 0 to 7 for each event: what the card does there; for try also with mishaps by name
+      SCHEDULE: a file with a digit from 0 to 7 for each event, or with mishaps by name: what the card does there
       --in FILE: the blocks that the script gives, a whole number of them
       --out FILE: the file that takes the blocks that the script receives
   sdv refute SCRIPT [--card FILE] [--schedule FILE]

@@ -54,7 +54,7 @@ Blocks that the script gives, and the image of a file, which stays as it was.
   89 done, 0 faults, 0 wrong, 9 stopped
   $ sdv sweep $EXAMPLES/production/sd_write_many.sdv $EXAMPLES/sd_block.card image | tail -n 2
   without a mishap: stopped
-  0 done, 0 faults, 0 wrong, 77 stopped
+  0 done, 0 faults, 0 wrong, 70 stopped
 
 What is given is refused.
 

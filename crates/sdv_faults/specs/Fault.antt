@@ -1,5 +1,5 @@
 -- The faults of the program: what is said of them on standard error, and the exit status.
-use Rattle.std.specs.Prelude.{◌⊎◌, ℕ, List, [], ◌∷◌, ◌++◌, Option, codes, decimal}
+use Rattle.std.specs.Prelude.{◌==◌, ◌⊎◌, Bool, ℕ, List, [], ◌∷◌, ◌++◌, Option, codes, decimal, if◌then◌else◌}
 use Rattle.std.specs.Io.KnownBytes.{Appends}
 use Rattle.sdv_text.specs.Written.{AppendsPart}
 use Rattle.std.specs.Int.{w64, to_be_bytes}
@@ -44,7 +44,6 @@ use Rattle.sdv_named_schedules.specs.declared.fault.ScheduleFault.{ScheduleFault
 use Rattle.sdv_named_schedules.specs.declared.fault.ScheduleFault.TheVariants as schedules
 use Rattle.sdv_refute.specs.declared.simulated.TryFault.{TryFault}
 use Rattle.sdv_refute.specs.declared.simulated.TryFault.TheVariants as tries
-use Rattle.sdv_wrong_words.specs.declared.event.WrongEvent.{WrongEvent}
 use Rattle.sdv_wrong_words.specs.WrongEvent.{wrong_event_text}
 use Rattle.sdv_command_line.specs.Commands.{usage}
 use Rattle.sdv_command_line.specs.declared.request.RequestFault.{RequestFault}
@@ -182,9 +181,18 @@ abbrev pub no_path_line : Text
 no_path_line = plain_line (codes "no run found (no path of the state tables breaks the script)")
 
 -- no run that refutes a script was found
-abbrev pub no_run_line : (runs mishaps : ℕ) → Text
-no_run_line runs mishaps = codes "no run found ("
-    ++ (decimal runs ++ (codes " runs of at most " ++ (decimal mishaps ++ codes " mishaps)\n")))
+abbrev pub of_runs : (runs : ℕ) → Text
+of_runs runs = if runs == 1 then codes " run of at most " else codes " runs of at most "
+
+abbrev pub of_mishaps : (mishaps : ℕ) → Text
+of_mishaps mishaps = if mishaps == 1 then codes " mishap" else codes " mishaps"
+
+abbrev pub of_end : (ended : Bool) → Text
+of_end ended = if ended then codes ", then the search was ended)" else codes ")"
+
+abbrev pub no_run_line : (runs mishaps : ℕ) → (ended : Bool) → Text
+no_run_line runs mishaps ended = codes "no run found ("
+    ++ (decimal runs ++ (of_runs runs ++ (decimal mishaps ++ (of_mishaps mishaps ++ (of_end ended ++ 10 ∷ [])))))
 
 abbrev pub named_line : (words name : Text) → Text
 named_line words name = words ++ (name ++ 10 ∷ [])
@@ -208,7 +216,7 @@ fault_line (Schedule fault) = schedule_line fault
 fault_line (Run fault) = named_line (codes "run fault ") (run_fault_name fault)
 fault_line OtherKind = plain_line (codes "the script is for another kind of card")
 fault_line (Wrong event) = wrong_event_text event
-fault_line (NoRun runs mishaps) = no_run_line runs mishaps
+fault_line (NoRun runs mishaps ended) = no_run_line runs mishaps ended
 fault_line NoPath = no_path_line
 fault_line (Request fault) = request_line fault
 fault_line Named = []
@@ -239,7 +247,7 @@ status_of (Schedule fault) = 1
 status_of (Run fault) = 1
 status_of OtherKind = 1
 status_of (Wrong event) = 1
-status_of (NoRun runs mishaps) = 1
+status_of (NoRun runs mishaps ended) = 1
 status_of NoPath = 1
 status_of (Request fault) = 2
 status_of Named = 1

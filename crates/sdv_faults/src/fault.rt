@@ -6,7 +6,7 @@ ghost use Rattle.sdv_text.specs.Written.{Writes};
 ghost use Rattle.sdv_faults.specs.Fault.{Says, certificate_line, fault_line, illegal_line, kind_name, numbered_line, plain_line};
 ghost use Rattle.sdv_faults.specs.Fault.{block_fault_name, named_line, refusal_line, run_fault_name, sim_fault_name, status_of};
 ghost use Rattle.sdv_faults.specs.Fault.{line_fault_name, stray_line, trace_fault_line, trace_line, uncertified_line, wide_line};
-ghost use Rattle.sdv_faults.specs.Fault.{no_run_line, no_path_line, request_fault_name, request_line, schedule_line};
+ghost use Rattle.sdv_faults.specs.Fault.{no_run_line, no_path_line, of_end, of_mishaps, of_runs, request_fault_name, request_line, schedule_line};
 ghost use Rattle.sdv_wrong_words.specs.WrongEvent.{wrong_event_text};
 
 use itoa::Buffer;
@@ -72,8 +72,13 @@ pub enum Fault<'a> {
     OtherKind,
     /// What comes next in the run of a script is not allowed at the card.
     Wrong(WrongEvent),
-    /// No run that refutes a script was found, among so many that had so many mishaps at most.
-    NoRun { runs: u64, mishaps: u64 },
+    /// No run that refutes a script was found, among so many that had so many mishaps at most. Then the search was ended, or it
+    /// had come to its end.
+    NoRun {
+        runs: u64,
+        mishaps: u64,
+        ended: bool,
+    },
     /// No run that refutes a script was found, and no path of the state tables breaks the script.
     NoPath,
     /// A request in lines was not answered.
@@ -319,7 +324,11 @@ impl<'a> Fault<'a> {
             Fault::Run(fault) => say_named("run fault ", run_fault_name(fault), err),
             Fault::OtherKind => say_plain("the script is for another kind of card", err),
             Fault::Wrong(event) => write_wrong_event(event, err),
-            Fault::NoRun { runs, mishaps } => say_no_run(runs, mishaps, err),
+            Fault::NoRun {
+                runs,
+                mishaps,
+                ended,
+            } => say_no_run(runs, mishaps, ended, err),
             Fault::NoPath => say_no_path(err),
             Fault::Request(fault) => say_request(fault, err),
             Fault::Named | Fault::Found | Fault::Output => Ok(()),
@@ -448,21 +457,56 @@ fn say_no_path<E: Write>(err: &mut E) -> io::Result<()>
     )
 }
 
-fn say_no_run<E: Write>(runs: u64, mishaps: u64, err: &mut E) -> io::Result<()>
-    ensures { Writes (E.contents err.old) (E.contents err.new) result (no_run_line runs mishaps) }
+/// What stands behind a number of runs.
+fn of_runs(runs: u64) -> &'static str
+    ensures { result.now ≡ of_runs runs }
+{
+    match runs {
+        1 => " run of at most ",
+        _ => " runs of at most ",
+    }
+}
+
+/// What stands behind a number of mishaps.
+fn of_mishaps(mishaps: u64) -> &'static str
+    ensures { result.now ≡ of_mishaps mishaps }
+{
+    match mishaps {
+        1 => " mishap",
+        _ => " mishaps",
+    }
+}
+
+/// Whether the search was ended.
+fn of_end(ended: bool) -> &'static str
+    ensures { result.now ≡ of_end ended }
+{
+    match ended {
+        true => ", then the search was ended)",
+        false => ")",
+    }
+}
+
+fn say_no_run<E: Write>(runs: u64, mishaps: u64, ended: bool, err: &mut E) -> io::Result<()>
+    ensures { Writes (E.contents err.old) (E.contents err.new) result (no_run_line runs mishaps ended) }
 {
     let mut tried = Buffer::new();
     let mut most = Buffer::new();
-    let runs = tried.format(runs).as_bytes();
-    let mishaps = most.format(mishaps).as_bytes();
+    let count = tried.format(runs).as_bytes();
+    let number = most.format(mishaps).as_bytes();
+    let behind_count = of_runs(runs).as_bytes();
+    let behind_number = of_mishaps(mishaps).as_bytes();
+    let end = of_end(ended).as_bytes();
     write_texts(
         err,
         &[
             b"no run found (",
-            runs,
-            b" runs of at most ",
-            mishaps,
-            b" mishaps)\n",
+            count,
+            behind_count,
+            number,
+            behind_number,
+            end,
+            b"\n",
         ],
     )
 }

@@ -1,5 +1,5 @@
 -- What a file of a schedule gives, and why it gives none.
-use Rattle.std.proofs.Common.{◌≡◌, ◌⊎◌, ◌∙◌, refl, inl, inr, Some, None, ℕ, List, ◌∷◌, [], Option, Result, Ok, Err, IfErr, IsErrAnd, option_map}
+use Rattle.std.proofs.Common.{◌≡◌, ◌∙◌, refl, inl, inr, Some, None, ℕ, List, Option, Result, Ok, Err, IfErr, IsErrAnd, option_map}
 use Rattle.std.specs.Prelude.{◌≢◌}
 use Rattle.std.specs.Borrow.{Bor}
 use Rattle.std.specs.List.{AllByRecursion}
@@ -9,7 +9,7 @@ use Rattle.sdv_named_schedules.specs.declared.fault.ScheduleFault.TheVariants as
 use Rattle.sdv_command_line.specs.Requests.{TryNames}
 use Rattle.sdv_faults.specs.Fault.{fault_of_schedule}
 use Rattle.sdv_faults.specs.declared.fault.Fault.{Fault}
-use Rattle.sdv_faults.specs.declared.fault.Fault.TheVariants.{Schedule as Unscheduled, Memory}
+use Rattle.sdv_faults.specs.declared.fault.Fault.TheVariants.{Memory}
 use Rattle.sdv_files.specs.Files.{Files}
 use Rattle.sdv_run_command.specs.Run.{IsOptional, IsUnread, IsUsed, as_schedule, schedule_codes, some_use}
 use Rattle.sdv_refute_commands.specs.declared.schedules.Schedule.{Schedule}

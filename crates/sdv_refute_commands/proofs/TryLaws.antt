@@ -1,11 +1,10 @@
 -- What a run without a certificate leaves, and why there is none.
-use Rattle.std.proofs.Common.{◌≡◌, ◌⊎◌, ◌/◌, refl, ap, subst, inl, inr, Some, None, ℕ, List, ◌∷◌, ◌++◌, [], Option, Result, Ok, Err, IfErr, IsErrAnd}
+use Rattle.std.proofs.Common.{◌≡◌, ◌/◌, refl, ap, inl, inr, Some, None, ℕ, List, ◌∷◌, ◌++◌, [], Option, Result, Ok, Err, IfErr, IsErrAnd}
 use Rattle.std.specs.Prelude.{◌≢◌, string_bytes}
 use Rattle.std.specs.Borrow.{Bor}
 use Rattle.std.specs.Io.KnownBytes.{Appends, Keeps}
 use Rattle.std.specs.List.{AllByRecursion}
 use Rattle.clap.specs.Words.{Text}
-use Rattle.sdv_card.specs.Card.{Block}
 use Rattle.sdv_file_image.specs.Refused.{IsRefused as IsNoImage}
 use Rattle.sdv_image.specs.declared.fault.SimFault.{SimFault}
 use Rattle.sdv_image.specs.declared.fault.SimFault.TheVariants.{Description, Capacity, ImageLength, ImageRead, Memory}
@@ -23,9 +22,9 @@ use Rattle.sdv_refute.specs.declared.wrong.Watched.TheVariants.{Ended, Stopped}
 use Rattle.sdv_refute.specs.Tries.{HasNoCard, TryRefuses}
 use Rattle.sdv_command_line.specs.Requests.{TryNames}
 use Rattle.sdv_named_schedules.specs.declared.fault.ScheduleFault.{ScheduleFault}
-use Rattle.sdv_faults.specs.Fault.{fault_of_card, fault_of_run, fault_of_script, fault_of_try}
+use Rattle.sdv_faults.specs.Fault.{fault_of_card, fault_of_script, fault_of_try}
 use Rattle.sdv_faults.specs.declared.fault.Fault.{Fault}
-use Rattle.sdv_faults.specs.declared.fault.Fault.TheVariants.{File, Script, Card, Schedule as Unscheduled, OtherKind, Wrong, Named, Memory as NoMemory}
+use Rattle.sdv_faults.specs.declared.fault.Fault.TheVariants.{File, Script, Card, Schedule as Unscheduled, OtherKind, Memory as NoMemory}
 use Rattle.sdv_files.specs.Files.{CardImage, Files}
 use Rattle.sdv_files.specs.Outcomes.{outcome_of}
 use Rattle.sdv_files.proofs.StartLaws.{keeps_same}

@@ -1,8 +1,7 @@
 -- Searches and sweeps that were not made, and what they left.
-use Rattle.std.proofs.Common.{◌≡◌, ◌∙◌, refl, sym, ap, subst, inl, inr, Some, None, ℕ, List, Option, Result, Ok, Err, IfErr, IsErrAnd, option_map}
+use Rattle.std.proofs.Common.{◌≡◌, refl, sym, ap, subst, inl, inr, Some, None, ℕ, List, Option, Result, Ok, Err, IfErr, IsErrAnd, option_map}
 use Rattle.std.specs.Prelude.{◌≢◌, if◌then◌else◌}
 use Rattle.std.specs.Borrow.{Bor}
-use Rattle.std.specs.Io.KnownBytes.{Keeps}
 use Rattle.clap.specs.Words.{Text}
 use Rattle.sdv_card.specs.Card.{Block}
 use Rattle.sdv_image.specs.declared.fault.SimFault.{SimFault}
@@ -24,7 +23,7 @@ use Rattle.sdv_search.specs.declared.refuting.Refutation.{Refutation}
 use Rattle.sdv_command_line.specs.Requests.{RefuteNames}
 use Rattle.sdv_faults.specs.Fault.{fault_of_card, fault_of_script, fault_of_try}
 use Rattle.sdv_faults.specs.declared.fault.Fault.{Fault}
-use Rattle.sdv_faults.specs.declared.fault.Fault.TheVariants.{File, Script, NoRun, NoPath, Found, Output, Memory}
+use Rattle.sdv_faults.specs.declared.fault.Fault.TheVariants.{Script, NoRun, NoPath, Found, Output, Memory}
 use Rattle.sdv_files.specs.Files.{Files}
 use Rattle.sdv_files.specs.Left.{IsLeft, LeavesFault}
 use Rattle.sdv_files.specs.Outcomes.{Ending, Prints, PrintsText, Reports, outcome_of}
@@ -69,7 +68,7 @@ module _ (files : Files) (names : RefuteNames) (script : Text) where
 
   untold : (known : Option (List ℕ)) (fault : Fault) → IsNoRefutation script fault → told_ends (Some fault) known known
   untold known (Script fault) none = (none, keeps_same known)
-  untold known (NoRun runs mishaps) none = (none, keeps_same known)
+  untold known (NoRun runs mishaps ended) none = (none, keeps_same known)
   untold known NoPath none = (none, keeps_same known)
   untold known Memory none = keeps_same known
   untold known _ none = absurd none

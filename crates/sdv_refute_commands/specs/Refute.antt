@@ -1,6 +1,6 @@
 -- `refute SCRIPT [--card FILE] [--schedule FILE]`: a run that refutes the script of a file, with its card and its schedule in
 -- two files, neither of which is that of the script.
-use Rattle.std.specs.Prelude.{◌≡◌, ◌⊎◌, ◌≢◌, Option, Some, ℕ, List}
+use Rattle.std.specs.Prelude.{◌≡◌, ◌⊎◌, Option, Some}
 use Rattle.std.specs.Io.KnownBytes.{Keeps}
 use Rattle.clap.specs.Words.{Text}
 use Rattle.sdv_check.specs.Verified.{IsNoScript}
@@ -36,7 +36,7 @@ pub record IsUnwritten (files : Files) (names : RefuteNames) (script file : Text
 -- why there is no run: the text is no script, or none was found, which says nothing of the script; nor does want of memory
 abbrev pub IsNoRefutation : (script : Text) → Fault → Type 0
 IsNoRefutation script (Script fault) = IsNoScript script
-IsNoRefutation script (NoRun runs mishaps) = Unit {0}
+IsNoRefutation script (NoRun runs mishaps ended) = Unit {0}
 IsNoRefutation script NoPath = Unit {0}
 IsNoRefutation script Memory = Unit {0}
 IsNoRefutation script fault = ⊥

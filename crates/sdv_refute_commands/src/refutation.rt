@@ -12,7 +12,7 @@ use sdv_search::{Refutation, refute, report, schedule_digits};
 use std::alloc::Global;
 use std::io::Write;
 
-/// So many events the runs of a search have at most, one after another.
+/// The runs of a search count so much at most.
 const BUDGET: u64 = 1_000_000;
 
 /// Looks for a run that refutes the script of a file, and prints what is told of it: its mishaps, why it stops, the card, the
@@ -125,6 +125,7 @@ fn run_against(alloc: Global, script: &str) -> Result<Refutation, Fault<'static>
         None => Err(Fault::NoRun {
             runs: found.runs,
             mishaps: found.mishaps,
+            ended: !found.complete,
         }),
     }
 }

@@ -1,5 +1,8 @@
 -- Why no run of a sweep was made, and the blocks of an image in memory.
-use Rattle.std.proofs.Common.{arith, ◌≡◌, ◌/◌, inl, inr, ap, subst, ℕ, List, [], length, Some, Result, Ok, Err, IfErr, IsErrAnd}
+use Rattle.std.proofs.Common.{arith, ◌≡◌, ◌/◌, ◌+◌, ◌++◌, ◌∷◌, inl, inr, ap, subst, ℕ, suc, List, [], length, Some, Result, Ok, Err, IfErr, IsErrAnd}
+use Rattle.std.proofs.lemmas.List.{length_push}
+use Rattle.std.proofs.lemmas.List.Elements.{All-push}
+use Rattle.sdv_card.specs.Card.{Block}
 use Rattle.sdv_check.specs.Verified.{IsGraphOfText}
 use Rattle.sdv_description.specs.declared.card_desc.CardDesc.{CardDesc}
 use Rattle.sdv_description.specs.Gives.{Describes}
@@ -14,7 +17,8 @@ use Rattle.sdv_refute.specs.declared.simulated.TryFault.TheVariants.{Script, Kin
 use Rattle.sdv_refute.specs.Tries.{NotTried}
 use Rattle.sdv_refute.proofs.SimShown.{refuses_text}
 use Rattle.sdv_sim.specs.Made.{IsRefused, IsUnread}
-use Rattle.sdv_search.specs.Swept.{NoEnd, NotSwept, blocks_of}
+use Rattle.sdv_search.specs.Swept.{AreNumbered, AreRows, IsRow, NoEnd, NotSwept, blocks_of}
+use Rattle.sdv_search.specs.declared.sweeping.Row.{Row}
 
 pub image_shown : (image : MemImage) (bytes : List ℕ) → bytes_of image ≡ bytes → shown_of image ≡ blocks_of bytes
 image_shown image bytes is = ap (λ (b : List ℕ). blocks_in (length b / 512) b) is
@@ -66,3 +70,19 @@ pub passed : {T : Type 0} (text card bytes : List ℕ) (fault : TryFault) (r : R
     → NotSwept text card bytes fault → IfErr r (NotSwept text card bytes)
 passed text card bytes fault (Ok x) is not = absurd is
 passed text card bytes fault (Err f) is not = rw is not
+
+-- THE ROWS so far, and one more
+
+numbered_push : (from : ℕ) (rows : List Row) (row : Row) → AreNumbered from rows → row.event ≡ from + length rows → AreNumbered from (rows ++ row ∷ [])
+numbered_push from [] row numbered is = (omega (arith, is), tt)
+numbered_push from (first ∷ rows) row numbered is = (numbered.0, numbered_push (suc from) rows row numbered.1 (omega (arith, is)))
+
+pub rows_push : (g : Graph) (desc : CardDesc) (image : List ℕ) (input : List Block) (events : ℕ) (rows : List Row) (row : Row)
+    → AreRows g desc image input events rows → IsRow g desc image input row → row.event ≡ events → AreRows g desc image input (events + 1) (rows ++ row ∷ [])
+rows_push g desc image input events rows row so is at =
+    let count : length rows ≡ events = so.count in
+    record {
+      numbered = numbered_push 0 rows row so.numbered (omega (arith, at, count));
+      count = omega (arith, length_push rows row, count);
+      each = All-push (IsRow g desc image input) rows row so.each is;
+    }

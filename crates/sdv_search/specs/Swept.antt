@@ -1,5 +1,6 @@
 -- Every run with one mishap.
-use Rattle.std.specs.Prelude.{◌≡◌, ◌≢◌, ◌/◌, ◌%◌, ◌⊎◌, ℕ, List, [], ◌∷◌, ◌++◌, All, Option, Some, Result, Ok, Err, length, replicate}
+use Rattle.std.specs.Prelude.{◌≡◌, ◌≢◌, ◌==◌, ◌-◌, ◌/◌, ◌%◌, ◌⊎◌, ℕ, suc, List, [], ◌∷◌, ◌++◌, All, Option, Some, Result, Ok, Err, if◌then◌else◌, length, replicate}
+use Rattle.std.specs.List.{slice_get}
 use Rattle.sdv_card.specs.Card.{Block}
 use Rattle.sdv_image.specs.MemBlocks.{blocks_in}
 use Rattle.sdv_image.specs.declared.fault.SimFault.TheVariants.{ImageLength}
@@ -30,23 +31,26 @@ EndsAs end result = ⊥
 abbrev pub blocks_of : (bytes : List ℕ) → List Block
 blocks_of bytes = blocks_in (length bytes / 512) bytes
 
--- a run with the schedule comes to this, beside the card over the image
-pub record HasEnd (g : Graph) (desc : CardDesc) (image : List ℕ) (input : List Block) (codes : List ℕ)
-    (end : RunEnd) : Type 0 where
+-- a run with the schedule comes to this, beside the card over the image; it adds to what is known of a trace
+pub record RunsTo (g : Graph) (desc : CardDesc) (image : List ℕ) (input : List Block) (codes : List ℕ)
+    (trace trace' : Option (List ℕ)) (end : RunEnd) : Type 0 where
   pub result : Result Watched RunFault
   pub ends_as : EndsAs end result
   pub blocks' : Option (List Block)
   pub out : Option (List ℕ)
   pub out' : Option (List ℕ)
-  pub trace : Option (List ℕ)
-  pub trace' : Option (List ℕ)
   pub tries : Tries g desc codes input (Some (blocks_of image)) blocks' out out' trace trace' result
+
+abbrev pub HasEnd : Graph → CardDesc → (image : List ℕ) → (input : List Block) → (codes : List ℕ) → RunEnd → Type 0
+HasEnd g desc image input codes end =
+    (trace : Option (List ℕ)) × (trace' : Option (List ℕ)) × RunsTo g desc image input codes trace trace' end
 
 -- with one mishap, at an event
 abbrev pub mishap_at : (event code : ℕ) → List ℕ
 mishap_at event code = replicate event 0 ++ code ∷ []
 
 pub record IsRow (g : Graph) (desc : CardDesc) (image : List ℕ) (input : List Block) (row : Row) : Type 0 where
+  pub line : slice_get g.lines row.point ≡ Some row.line
   pub command_lost : HasEnd g desc image input (mishap_at row.event 1) row.command_lost
   pub answer_lost : HasEnd g desc image input (mishap_at row.event 2) row.answer_lost
   pub slow : HasEnd g desc image input (mishap_at row.event 3) row.slow
@@ -55,14 +59,37 @@ pub record IsRow (g : Graph) (desc : CardDesc) (image : List ℕ) (input : List 
   pub cut : HasEnd g desc image input (mishap_at row.event 6) row.cut
   pub switch_fails : HasEnd g desc image input (mishap_at row.event 7) row.switch_fails
 
--- The script ran beside the card without a mishap, and then with each one. A row's runs have a mishap at its event.
+-- THE EVENTS OF A RUN: its trace has a line for each, and, where the run was not cut short, one for its end
+
+abbrev pub line_count : List ℕ → ℕ
+line_count [] = 0
+line_count (byte ∷ bytes) = if byte == 10 then suc (line_count bytes) else line_count bytes
+
+abbrev pub events_in : (trace : List ℕ) → RunEnd → ℕ
+events_in trace (ends.Stopped fault) = line_count trace
+events_in trace end = line_count trace - 1
+
+-- the rows are of the events from this one on, one after another
+abbrev pub AreNumbered : (event : ℕ) → List Row → Type 0
+AreNumbered event [] = Unit {0}
+AreNumbered event (row ∷ rows) = (row.event ≡ event) × AreNumbered (suc event) rows
+
+-- a row for each of so many events
+pub record AreRows (g : Graph) (desc : CardDesc) (image : List ℕ) (input : List Block) (events : ℕ) (rows : List Row)
+    : Type 0 where
+  pub numbered : AreNumbered 0 rows
+  pub count : length rows ≡ events
+  pub each : All (IsRow g desc image input) rows
+
+-- The script ran beside the card without a mishap, and then with each one at each event of that run.
 pub record IsSweep (text card image : List ℕ) (input : List Block) (s : SweepTable) : Type 0 where
   pub graph : Graph
   pub of_text : IsGraphOfText text graph
   pub desc : CardDesc
   pub described : Describes card desc
-  pub plain : HasEnd graph desc image input [] s.plain
-  pub rows : All (IsRow graph desc image input) s.rows.items
+  pub trace : List ℕ
+  pub plain : RunsTo graph desc image input [] (Some []) (Some trace) s.plain
+  pub rows : AreRows graph desc image input (events_in trace s.plain) s.rows.items
 
 -- WHY NO RUN WAS MADE
 

@@ -1,5 +1,5 @@
 -- THE TABLE of a sweep, as a text: a line for each event, with what the run comes to with each mishap there.
-use Rattle.std.specs.Prelude.{◌≡◌, ◌-◌, ◌+◌, ◌||◌, Bool, true, false, ℕ, List, ◌++◌, codes, decimal, flat_map, length, replicate}
+use Rattle.std.specs.Prelude.{◌≡◌, ◌-◌, ◌+◌, ◌^◌, ◌||◌, Bool, true, false, ℕ, List, [], ◌∷◌, ◌++◌, codes, decimal, flat_map, length, min, replicate}
 use Rattle.std.specs.List.{list_any}
 use Rattle.sdv_refute.specs.WrongLine.{name_text}
 use Rattle.sdv_search.specs.declared.sweeping.Row.{Row}
@@ -39,6 +39,30 @@ row_text row = padded 11 (line_text row.line) ++ (padded 12 (name_text row.next)
 abbrev pub rows_text : List Row → List ℕ
 rows_text rows = flat_map row_text rows
 
+-- THE TALLY: how many runs with one mishap ended so, up to the greatest number
+
+abbrev pub one_more : ℕ → ℕ
+one_more n = min (n + 1) (2 ^ 64 - 1)
+
+abbrev pub added : Tally → RunEnd → Tally
+added t ends.Done = record { done = one_more t.done; faults = t.faults; wrong = t.wrong; stopped = t.stopped }
+added t ends.Fault = record { done = t.done; faults = one_more t.faults; wrong = t.wrong; stopped = t.stopped }
+added t (ends.Wrong point) = record { done = t.done; faults = t.faults; wrong = one_more t.wrong; stopped = t.stopped }
+added t (ends.Stopped fault) =
+    record { done = t.done; faults = t.faults; wrong = t.wrong; stopped = one_more t.stopped }
+
+abbrev pub row_added : Tally → Row → Tally
+row_added t row =
+    added (added (added (added (added (added (added t row.command_lost) row.answer_lost) row.slow) row.error) row.refused)
+    row.cut) row.switch_fails
+
+abbrev pub rows_added : Tally → List Row → Tally
+rows_added t [] = t
+rows_added t (row ∷ rows) = rows_added (row_added t row) rows
+
+abbrev pub tally_of : SweepTable → Tally
+tally_of s = rows_added (record { done = 0; faults = 0; wrong = 0; stopped = 0 }) s.rows.items
+
 -- THE WHOLE
 
 abbrev pub head : List ℕ
@@ -55,10 +79,8 @@ plain_text end = codes "without a mishap: " ++ (end_word end ++ codes "\n")
 abbrev pub table_text : SweepTable → Tally → List ℕ
 table_text s t = head ++ (rows_text s.rows.items ++ (plain_text s.plain ++ tally_text t))
 
--- the counts are not said
-pub record IsTable (s : SweepTable) (text : List ℕ) : Type 0 where
-  pub tally : Tally
-  pub same : text ≡ table_text s tally
+abbrev pub IsTable : SweepTable → (text : List ℕ) → Type 0
+IsTable s text = text ≡ table_text s (tally_of s)
 
 -- WHETHER A RUN comes to what is not allowed at the card
 

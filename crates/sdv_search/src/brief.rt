@@ -5,7 +5,6 @@ ghost use Rattle.sdv_search.specs.Brief.{IsBrief, IsShownRun, brief_text, elsewh
 ghost use Rattle.sdv_search.specs.Refuted.{IsRefutation};
 
 use crate::mishaps::mishaps_in_words;
-use crate::quiet::turns_without_event;
 use crate::refuting::{Refutation, refute};
 use crate::reporting::why;
 use sdv_refute::graph_of_text;
@@ -13,15 +12,14 @@ use sdv_script::FaultKind;
 use sdv_telling::{put, put_numbered};
 use std::alloc::{AllocError, Global};
 
-/// So many events the runs of a search have at most, one after another.
+/// The runs of a search count so much at most.
 const BUDGET: u64 = 250_000;
 
 /// A run is looked for only where no run of the script makes more moves from point to point.
 const MOST_MOVES: u128 = 500_000;
 
 /// What an explanation of a script that is refused at a point shows of a run that refutes it: its mishaps, why it stops, and
-/// what prints it whole. Nothing where no run was found, or where a run of the script may take long: it may make many moves, or
-/// a loop may turn without an event.
+/// what prints it whole. Nothing where no run was found, or where a run of the script may make many moves.
 ///
 /// # Errors
 ///
@@ -51,15 +49,14 @@ fn run_of(alloc: Global, script: &str) -> Result<Option<Refutation>, AllocError>
     }
 }
 
-/// The text is a script, no run of which makes many moves, or turns without an event.
+/// The text is a script, no run of which makes many moves.
 fn has_short_runs(alloc: Global, script: &str) -> Result<bool, AllocError> {
     let graph = match graph_of_text(alloc, script) {
         Ok(graph) => graph,
         Err(fault) if fault.kind == FaultKind::Memory => return Err(AllocError),
         Err(_) => return Ok(false),
     };
-    let turns = turns_without_event(alloc, &graph)?;
-    Ok(graph.steps() <= MOST_MOVES && !turns)
+    Ok(graph.steps() <= MOST_MOVES)
 }
 
 /// The words for a run that refutes a script, which is refused at a point.

@@ -6,6 +6,7 @@
 #![tactic(auto)]
 
 mod brief;
+mod budget;
 mod cards;
 mod exits;
 mod exploring;

@@ -35,6 +35,7 @@ struct Recorder<'s> {
 }
 
 impl Recorder<'_> {
+    /// Keeps a mishap; one that comes again at once is counted.
     fn record(&mut self, point: usize, next: &Next, code: u8) -> Result<(), AllocError> {
         if let Some(last) = self.mishaps.last_mut() {
             if last.point == point && last.code == code {

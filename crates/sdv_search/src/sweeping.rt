@@ -1,8 +1,9 @@
 //! Every run with one mishap.
 
-ghost use Rattle.std.specs.Prelude.{◌≡◌, ◌/◌, All, IfErr, IfOk, length};
+ghost use Rattle.std.specs.Prelude.{◌≡◌, ◌/◌, IfErr, IfOk, length};
 ghost use Rattle.sdv_image.specs.MemBlocks.{shown_of, size_of};
-ghost use Rattle.sdv_search.specs.Swept.{EndsAs, HasEnd, IsNoImage, IsRow, IsSweep, NoEnd, NotSwept, blocks_of, mishap_at};
+ghost use Rattle.sdv_search.specs.Swept.{AreRows, EndsAs, HasEnd, IsNoImage, IsRow, IsSweep, NoEnd, NotSwept, RunsTo};
+ghost use Rattle.sdv_search.specs.Swept.{blocks_of, events_in, line_count, mishap_at};
 
 use sdv_controller::Controller;
 use sdv_description::CardDesc;
@@ -12,7 +13,7 @@ use sdv_refute::{Beside, Next, Nobody, Onlooker, TryFault, Watched, graph_of_tex
 use sdv_run::{End, RunFault, Standing};
 use sdv_sim::Sim;
 use std::alloc::{AllocError, Global};
-use std::io;
+use std::io::{self, Write};
 
 /// What a run comes to.
 #[derive(Clone, Copy)]
@@ -66,27 +67,12 @@ pub struct Row {
     pub switch_fails: RunEnd,
 }
 
-impl Row {
-    /// What the runs come to, in the order of the values of a schedule from 1 on.
-    pub(crate) fn ends(&self) -> [RunEnd; 7] {
-        [
-            self.command_lost,
-            self.answer_lost,
-            self.slow,
-            self.error,
-            self.refused,
-            self.cut,
-            self.switch_fails,
-        ]
-    }
-}
-
 /// All runs with one mishap.
 #[derive(Drop)]
 pub struct SweepTable {
     /// What the run without a mishap comes to.
     pub plain: RunEnd,
-    /// A row for each event of the run without a mishap.
+    /// A row for each event that the run without a mishap made.
     pub rows: Vec<Row>,
 }
 
@@ -152,14 +138,16 @@ fn image_of(alloc: Global, bytes: &[u8]) -> Result<MemImage, TryFault>
 
 impl Common<'_, '_, '_> {
     /// What a run comes to with the values of a schedule.
-    fn end<L: Onlooker<Controller<Sim<MemImage>>>>(
+    fn end<L: Onlooker<Controller<Sim<MemImage>>>, T: Write>(
         &self,
         alloc: Global,
         schedule: &[u8],
         onlooker: &mut L,
+        trace: &mut T,
     ) -> Result<RunEnd, TryFault>
         ensures end { IfOk result
-            (HasEnd self.now.graph.now self.now.desc self.now.image.now self.now.input.now schedule.now) }
+            (RunsTo self.now.graph.now self.now.desc self.now.image.now self.now.input.now schedule.now
+            (T.contents trace.old) (T.contents trace.new)) }
         ensures refused { IfErr result (NoEnd self.now.graph.now self.now.desc self.now.image.now schedule.now) }
     {
         let beside = Beside {
@@ -168,12 +156,11 @@ impl Common<'_, '_, '_> {
             input: self.input,
         };
         let image = image_of(alloc, self.image)?;
-        let (mut out, mut trace) = (io::sink(), io::sink());
-        let tried = try_graph(
-            alloc, self.graph, beside, image, &mut out, &mut trace, onlooker,
-        )?;
+        let mut out = io::sink();
+        let tried = try_graph(alloc, self.graph, beside, image, &mut out, trace, onlooker)?;
         match tried.result {
-            Err(RunFault::Memory) => Err(TryFault::Memory),
+            // the trace is in memory, or not kept
+            Err(RunFault::Memory | RunFault::Trace) => Err(TryFault::Memory),
             end => Ok(end_of(end)),
         }
     }
@@ -185,7 +172,8 @@ impl Common<'_, '_, '_> {
     {
         let mut schedule = vec![in alloc; 0; event]?;
         schedule.push(code)?;
-        match self.end(alloc, schedule.as_slice(), &mut Nobody) {
+        let mut trace = io::sink();
+        match self.end(alloc, schedule.as_slice(), &mut Nobody, &mut trace) {
             Ok(end) => Ok(end),
             Err(_) => Err(AllocError),
         }
@@ -193,12 +181,16 @@ impl Common<'_, '_, '_> {
 
     /// The row of an event.
     fn row(&self, alloc: Global, number: usize, event: Event) -> Result<Row, AllocError>
-        ensures { IfOk result (IsRow self.now.graph.now self.now.desc self.now.image.now self.now.input.now) }
+        ensures row { IfOk result (IsRow self.now.graph.now self.now.desc self.now.image.now self.now.input.now) }
+        ensures event { IfOk result (λ row. row.event ≡ number) }
     {
+        if self.graph.len() <= event.point {
+            return Err(AllocError);
+        }
         Ok(Row {
             event: number,
             point: event.point,
-            line: self.graph.lines().get(event.point).copied().unwrap_or(0),
+            line: self.graph.line(event.point),
             next: event.next,
             command_lost: self.end_with(alloc, number, 1)?,
             answer_lost: self.end_with(alloc, number, 2)?,
@@ -210,16 +202,43 @@ impl Common<'_, '_, '_> {
         })
     }
 
-    /// The rows of events.
-    fn rows(&self, alloc: Global, events: &[Event]) -> Result<Vec<Row>, AllocError>
+    /// The rows of so many events, which were all seen.
+    fn rows(&self, alloc: Global, seen: &[Event], count: usize) -> Result<Vec<Row>, AllocError>
         ensures { IfOk result (λ rows.
-            All (IsRow self.now.graph.now self.now.desc self.now.image.now self.now.input.now) rows.items) }
+            AreRows self.now.graph.now self.now.desc self.now.image.now self.now.input.now count rows.items) }
     {
         let mut rows = Vec::new(alloc);
-        for number in 0..events.len() {
-            rows.push(self.row(alloc, number, events[number])?)?;
+        for number in 0..count {
+            let Some(event) = seen.get(number) else {
+                return Err(AllocError);
+            };
+            rows.push(self.row(alloc, number, *event)?)?;
         }
         Ok(rows)
+    }
+}
+
+/// How many lines a text has.
+fn line_count(text: &[u8]) -> usize
+    ensures { result ≡ line_count text.now }
+{
+    let mut count = 0;
+    for byte in text {
+        if *byte == b'\n' {
+            count += 1;
+        }
+    }
+    count
+}
+
+/// How many events a run made, by its trace.
+fn events_in(trace: &[u8], end: &RunEnd) -> usize
+    ensures { result ≡ events_in trace.now end.now }
+{
+    let lines = line_count(trace);
+    match end {
+        RunEnd::Stopped(_) => lines,
+        _ => lines.saturating_sub(1),
     }
 }
 
@@ -254,10 +273,12 @@ pub fn sweep(alloc: Global, given: &SweepGiven<'_>) -> Result<SweepTable, TryFau
         events: Vec::new(alloc),
         failed: false,
     };
-    let plain = common.end(alloc, &[], &mut seen)?;
+    let mut trace = Vec::new(alloc);
+    let plain = common.end(alloc, &[], &mut seen, &mut trace)?;
     if seen.failed {
         return Err(TryFault::Memory);
     }
-    let rows = common.rows(alloc, seen.events.as_slice())?;
+    let events = events_in(&trace, &plain);
+    let rows = common.rows(alloc, &seen.events, events)?;
     Ok(SweepTable { plain, rows })
 }

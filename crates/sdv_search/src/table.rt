@@ -3,7 +3,7 @@
 ghost use Rattle.std.specs.Prelude.{◌≡◌, ◌++◌, IfOk, OnOk};
 ghost use Rattle.std.specs.List.{list_any};
 ghost use Rattle.sdv_search.specs.Table.{IsTable, are_wrong, end_word, has_wrong, is_wrong, line_text, padded, plain_text};
-ghost use Rattle.sdv_search.specs.Table.{failures_text, losses_text, row_text, rows_text, table_text, tally_text};
+ghost use Rattle.sdv_search.specs.Table.{added, failures_text, losses_text, row_added, row_text, rows_text, table_text, tally_of, tally_text};
 
 use crate::sweeping::{Row, RunEnd, SweepTable};
 use sdv_refute::name_of;
@@ -31,7 +31,10 @@ pub struct Tally {
 }
 
 impl Tally {
-    fn add(&mut self, end: &RunEnd) {
+    /// Counts the end of a run.
+    fn add(&mut self, end: RunEnd)
+        ensures { self.new ≡ added self.old end }
+    {
         match end {
             RunEnd::Done => self.done = self.done.saturating_add(1),
             RunEnd::Fault => self.faults = self.faults.saturating_add(1),
@@ -39,15 +42,33 @@ impl Tally {
             RunEnd::Stopped(_) => self.stopped = self.stopped.saturating_add(1),
         }
     }
+
+    /// Counts the ends of the runs of a row.
+    fn add_row(&mut self, row: &Row)
+        ensures { self.new ≡ row_added self.old row.now }
+    {
+        self.add(row.command_lost);
+        self.add(row.answer_lost);
+        self.add(row.slow);
+        self.add(row.error);
+        self.add(row.refused);
+        self.add(row.cut);
+        self.add(row.switch_fails);
+    }
 }
 
 /// How the runs with one mishap ended.
-pub(crate) fn tally_of(table: &SweepTable) -> Tally {
-    let mut tally = Tally::default();
-    for row in &table.rows {
-        for end in &row.ends() {
-            tally.add(end);
-        }
+fn tally_of(table: &SweepTable) -> Tally
+    ensures { result ≡ tally_of table.now }
+{
+    let mut tally = Tally {
+        done: 0,
+        faults: 0,
+        wrong: 0,
+        stopped: 0,
+    };
+    for row in table.rows.as_slice() {
+        tally.add_row(row);
     }
     tally
 }

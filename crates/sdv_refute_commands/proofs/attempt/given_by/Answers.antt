@@ -5,7 +5,7 @@ use Rattle.sdv_run_command.specs.Run.{GivesNoInput, as_image, as_input, as_outpu
 use Rattle.sdv_run_command.specs.RunImages.{image_given}
 use Rattle.sdv_run_command.proofs.GivenLaws.{optional_unread, text_gave, unread}
 use Rattle.sdv_refute_commands.specs.Try.{uses_of}
-use Rattle.sdv_refute_commands.proofs.ScheduleLaws.{no_memory, schedule_unread, schedule_used, unread_for, values_given}
+use Rattle.sdv_refute_commands.proofs.ScheduleLaws.{schedule_unread, schedule_used, unread_for}
 use Rattle.sdv_refute_commands.proofs.TryLaws.{input_place, three, three_used}
 use Rattle.sdv_refute_commands.proofs.attempt.given_by.Goals as goal
 

@@ -2,7 +2,7 @@ use Rattle.std.proofs.Common.{◌≡◌, ◌∙◌, ◌/◌, ap, subst, ℕ, Lis
 use Rattle.std.specs.Prelude.{string_bytes}
 use Rattle.sdv_file_image.specs.FileImages.{failed_of, shown_of, size_of}
 use Rattle.sdv_sim.specs.Made.{IsUnread}
-use Rattle.sdv_refute.specs.Tries.{TriesText, TryRefuses}
+use Rattle.sdv_refute.specs.Tries.{TryRefuses}
 use Rattle.sdv_files.specs.Files.{CardImage, image_of}
 use Rattle.sdv_run_command.specs.Run.{blocks_of}
 use Rattle.sdv_run_command.specs.RunImages.{MayHaveFailed}

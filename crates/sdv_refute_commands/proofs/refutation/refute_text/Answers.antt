@@ -1,7 +1,6 @@
-use Rattle.std.proofs.Common.{◌≡◌, ◌∙◌, ap, refl, ℕ, List, Option}
-use Rattle.sdv_command_line.specs.Requests.{RefuteNames, refute_names_of}
+use Rattle.std.proofs.Common.{◌≡◌, ◌∙◌, ap, refl}
+use Rattle.sdv_command_line.specs.Requests.{refute_names_of}
 use Rattle.sdv_faults.specs.declared.fault.Fault.TheVariants.{Memory}
-use Rattle.sdv_files.specs.Files.{Files}
 use Rattle.sdv_files.proofs.OutcomeLaws.{failed}
 use Rattle.sdv_files.proofs.StartLaws.{keeps_same}
 use Rattle.sdv_search.specs.Report.{schedule_text}
