@@ -168,10 +168,10 @@ The registers that came, as `sdv decode` takes them: of an e.MMC device its EXT_
   $ sdv run both.sdv both.cert $card new:1024 --registers r > both.trace; sdv decode both.sdv both.trace --registers r | tail -n 7
   line 10, script line 14: CMD55 12340000 R1 00000920: tran, ready, APP_CMD
   line 11, script line 14: ACMD51 00000000 R1 00000920: tran, ready, APP_CMD
-  line 12, script line 14: REG 8 ok: SCR
+  line 12, script line 14: REG 8 ok: SCR 0205000000000000
   line 13, script line 15: CMD55 12340000 R1 00000920: tran, ready, APP_CMD
   line 14, script line 15: ACMD13 12340000 R1 00000920: tran, ready, APP_CMD
-  line 15, script line 15: REG 64 ok: SD status
+  line 15, script line 15: REG 64 ok: SD status 00000000000000000000000000000000000000000000000000000000000000000000000000000000000000000000000000000000000000000000000000000000
   line 16, script line 16: done: the run ends
 
 Where the second is cut, it is not there; of a script that reads none the file is empty.
@@ -214,6 +214,14 @@ A file of the registers that is one of the other files, by its name or by links,
   cannot use o
   cannot use up.cert
   [2]
+  $ mkdir -p under; for file in ./o under/../o $PWD/o; do sdv run up.sdv up.cert up.card up.img --out o --registers $file; done 2>&1 | sed "s|$PWD|HERE|"; [ -e o ] || echo no output
+  cannot use ./o
+  cannot use under/../o
+  cannot use HERE/o
+  no output
+  $ sdv run up.sdv up.cert up.card up.img --out o --registers under/o | tail -n 1; sdv run up.sdv up.cert up.card up.img --out a --registers b | tail -n 1
+  done
+  done
 
 One that cannot be used, and one that takes nothing: then the run took place.
 

@@ -6,9 +6,9 @@ use Rattle.std.specs.Io.KnownBytes.{Keeps}
 use Rattle.clap.specs.Words.{Text}
 use Rattle.sdv_text.specs.Written.{Writes}
 use Rattle.sdv_faults.specs.declared.fault.Fault.{Fault}
-use Rattle.sdv_faults.specs.declared.fault.Fault.TheVariants.{Usage, File, Script, Certificate, Refused, Uncertified, Unserved, Card, Run, Named, Output, Memory}
+use Rattle.sdv_faults.specs.declared.fault.Fault.TheVariants.{File, Output, Memory}
 use Rattle.sdv_files.specs.Files.{Files, GivesNoText}
-use Rattle.sdv_files.specs.Outcomes.{Ending, NoText, OverText, Prints, PrintsText, Reports, outcome_of}
+use Rattle.sdv_files.specs.Outcomes.{Ending, NoText, OverText, Prints, PrintsText, outcome_of}
 use Rattle.sdv_files.proofs.StartLaws.{keeps_same}
 
 -- a `?` passes a fault on

@@ -9,8 +9,9 @@ use sdv_faults::Fault;
 use sdv_file_image::BlockFile;
 use std::alloc::{AllocError, Global};
 use std::fs::{self, Metadata, OpenOptions};
-use std::io::{ErrorKind, Read, Write};
+use std::io::{self, ErrorKind, Read, Write};
 use std::os::unix::fs::{FileTypeExt, MetadataExt};
+use std::path::Path;
 use std::rt::Files;
 
 /// Files that are known by their names.
@@ -134,11 +135,13 @@ impl<'a, R: Files> Store for MachineFiles<'a, R> {
 
     ghost opened = { λ _. any_sink };
 
-    // By what the file system says of them, and else by the names. A pipe or a terminal loses nothing by being written.
+    // By what the file system says of them; of files that are yet to be made, by their folders and names. A pipe or a
+    // terminal loses nothing by being written.
     fn is_same(&self, a: &str, b: &str) -> bool {
         match (fs::metadata(self.0, a), fs::metadata(self.0, b)) {
-            (Ok(a), Ok(b)) => keeps_bytes(&a) && a.dev() == b.dev() && a.ino() == b.ino(),
-            _ => a == b,
+            (Ok(a), Ok(b)) => keeps_bytes(&a) && is_same_node(&a, &b),
+            (Err(_), Err(_)) => a == b || is_same_entry(self.0, Path::new(a), Path::new(b)),
+            _ => false,
         }
     }
 
@@ -181,6 +184,27 @@ impl<'a, R: Files> Store for MachineFiles<'a, R> {
 
     fn finish(&self, _file: &str, mut sink: R::File) -> bool {
         sink.flush().is_ok()
+    }
+}
+
+/// What two paths lead to is one file or folder.
+fn is_same_node(a: &Metadata, b: &Metadata) -> bool {
+    a.dev() == b.dev() && a.ino() == b.ino()
+}
+
+/// Two paths are of the same name in the same folder.
+fn is_same_entry(files: &impl Files, a: Path<'_>, b: Path<'_>) -> bool {
+    match (folder_of(files, a), folder_of(files, b)) {
+        (Ok(in_a), Ok(in_b)) => a.file_name() == b.file_name() && is_same_node(&in_a, &in_b),
+        _ => false,
+    }
+}
+
+/// The folder in which a file is made.
+fn folder_of(files: &impl Files, file: Path<'_>) -> io::Result<Metadata> {
+    match file.parent() {
+        Some(folder) if !folder.as_str().is_empty() => fs::metadata(files, folder),
+        _ => fs::metadata(files, "."),
     }
 }
 

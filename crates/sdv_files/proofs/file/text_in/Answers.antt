@@ -1,6 +1,6 @@
 use Rattle.std.proofs.Common.{◌≡◌, inr, ℕ, List, Result, Ok, Err, IfErr}
 use Rattle.std.specs.Prelude.{IsOk, IsUtf8, is_ok}
-use Rattle.sdv_files.specs.Files.{Files, GivesNoText}
+use Rattle.sdv_files.specs.Files.{Files}
 use Rattle.sdv_files.proofs.file.text_in.Goals as goal
 
 -- bytes that were not read as a text
