@@ -130,3 +130,37 @@ Nothing is asked where the script is not accepted, or a file cannot be used.
   $ sdv drive $up $cert --trace - < /dev/null
   cannot use -
   [2]
+
+A file that is made and is one of the other files, by its name or by links, loses nothing.
+
+  $ cp $up up.sdv; cp $cert up.cert; ln -s up.sdv link; ln up.cert hard; head -c 512 /dev/zero > up.in
+  $ for file in up.sdv ./up.cert up.in link hard; do
+  >     sdv drive up.sdv up.cert --in up.in --out $file < /dev/null; echo $?
+  >     sdv drive up.sdv up.cert --in up.in --out o --trace $file < /dev/null; echo $?
+  > done
+  cannot use up.sdv
+  2
+  cannot use up.sdv
+  2
+  cannot use ./up.cert
+  2
+  cannot use ./up.cert
+  2
+  cannot use up.in
+  2
+  cannot use up.in
+  2
+  cannot use link
+  2
+  cannot use link
+  2
+  cannot use hard
+  2
+  cannot use hard
+  2
+  $ cmp up.sdv $up && cmp up.cert $cert && wc -c < up.in; [ -e o ] || echo no output
+  512
+  no output
+  $ sdv drive up.sdv up.cert --out o --trace ./o < /dev/null; [ -e o ] || echo no output
+  cannot use ./o
+  no output

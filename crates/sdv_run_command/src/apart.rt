@@ -74,7 +74,7 @@ fn is_image<S: Store>(files: &S, image: &str, output: &str) -> bool
 }
 
 /// A file was named, and is this one.
-fn is_given<S: Store>(files: &S, name: Option<&str>, output: &str) -> bool
+pub fn is_given<S: Store>(files: &S, name: Option<&str>, output: &str) -> bool
     ensures same { result ≡ true
         → IsSameGiven (S.known files.now) (option_map (λ file. file.now) name.entry) output.now }
     ensures apart { result ≡ false → (file : List ℕ) → option_map (λ file. file.now) name.entry ≡ Some file

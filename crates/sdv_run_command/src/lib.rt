@@ -11,7 +11,7 @@ mod new_image;
 mod registers;
 mod run;
 
-pub use apart::{taken_file, taken_output};
+pub use apart::{is_given, taken_file, taken_output};
 pub use given::{Given, GivenImage, codes_in, codes_of, given_by, image_in, input_in, new_blocks};
 pub use named::Named;
 pub use new_image::NewImage;

@@ -1,23 +1,27 @@
 -- A run over lines is a run of the other side, by what its answers tell.
-use Rattle.std.proofs.Common.{◌≡◌, refl, ℕ, List, [], ◌∷◌, Option, None, Result, Ok, Err}
+use Rattle.std.proofs.Common.{◌≡◌, refl, sym, subst, ℕ, List, [], ◌∷◌, Option, None, Result, Ok, Err}
 use Rattle.sdv_registers.specs.declared.kind.Kind.{Kind}
 use Rattle.sdv_card.specs.Card.{Card}
 use Rattle.sdv_card.specs.Port.{Call, Kept, KeepsTables, Shows}
 use Rattle.sdv_card.specs.ScriptEvent.{Return}
 use Rattle.sdv_graph.specs.Graph.{Graph}
 use Rattle.sdv_graph.specs.Walk.{Pair}
+use Rattle.sdv_facts.specs.Beside.{IsGood}
+use Rattle.sdv_facts.specs.Stands.{EachIsMade}
+use Rattle.sdv_facts.proofs.Headline.{each_event, each_path}
+use Rattle.sdv_facts.proofs.StepLaws.{laws_of}
 use Rattle.sdv_trace.specs.declared.end.End.{End}
 use Rattle.sdv_run.specs.declared.fault.RunFault.{RunFault}
-use Rattle.sdv_run.specs.Run.{RunMoved}
+use Rattle.sdv_run.specs.Run.{RunMoved, ending_of}
 use Rattle.sdv_run.specs.Step.{World}
 use Rattle.sdv_run.specs.Ran.{Ran}
-use Rattle.sdv_run.proofs.OnCard.{HasCertificate, ran_beside}
+use Rattle.sdv_run.proofs.OnCard.{Beside, HasCertificate, beside, ran_beside}
 use Rattle.sdv_run_command.proofs.RunMaps.{moved_because}
 use Rattle.sdv_lines.specs.Streams.{Streams, LineSteps}
 use Rattle.sdv_lines.specs.Partner.{Both, other_card}
 use Rattle.sdv_lines.proofs.PartnerLaws.{shows_other}
 use Rattle.sdv_streams.specs.Talk.{AreAnswers, events_of}
-use Rattle.sdv_streams.specs.BesideCard.{AnswersAs, RunsBesideOther, ToldSteps, at_other}
+use Rattle.sdv_streams.specs.BesideCard.{AnswersAs, DrivesBesideOther, RunsBesideOther, ToldSteps, at_other}
 
 module _ {S : Type 0} (steps : S → Call → Return → S → Type 0) (card : S → Option Card) (keeps : KeepsTables steps card) where
   -- nothing is known of the streams
@@ -85,3 +89,23 @@ module _ {S : Type 0} (steps : S → Call → Return → S → Type 0) (card : S
       let has : HasCertificate a.graph a.bound = record { points = accepted.facts.points; closed = accepted.closed; bound = accepted.bound } in
       ran_beside (ToldSteps steps) card told_keeps a.graph a.bound accepted.graph.graph.sound ∣ has ∣₁ (at_other o w) (at_other o' w') result
       (told_ran a.graph w w' answers o o' result ran are does)
+
+  pub drives_beside : DrivesBesideOther steps card
+  drives_beside script certificate a end es answers o o' c accepted walk are does start =
+      let g = a.graph in
+      let ps = accepted.facts.points in
+      let laws = laws_of g.kind in
+      let sound = accepted.graph.graph.sound in
+      let made : EachIsMade g.kind es c = each_event g ps laws sound accepted.closed c start.kind start.start (ending_of end) es walk.path in
+      let on : Beside card es c o' = beside (ToldSteps steps) card told_keeps g.kind es c o o' made start.shown
+      (told_moved g.kind es answers o o' are does) in
+      let good : IsGood a.bound (ending_of end) es c = subst (λ n. IsGood n (ending_of end) es c) (sym accepted.bound)
+      ((each_path g ps laws sound accepted.closed).good c start.kind start.start (ending_of end) es walk.path) in
+      ∣ record {
+        last = on.last;
+        steps = on.steps;
+        shown = on.shown;
+        good = good;
+        sent = good.sent on.last on.steps;
+        ends = good.ends on.last on.steps;
+      } ∣₁

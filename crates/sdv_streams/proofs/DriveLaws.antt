@@ -36,7 +36,8 @@ use Rattle.sdv_streams.specs.declared.drive.Outcome.{Outcome}
 use Rattle.sdv_streams.specs.declared.drive.Outcome.TheVariants.{Lost, Ended, Stopped}
 use Rattle.sdv_streams.proofs.TalkLaws.{said, talks}
 use Rattle.sdv_streams.specs.Talk.{Talked, Talks, answer_lines, events_of, requests}
-use Rattle.sdv_streams.specs.Drive.{AnswersOutcome, AreGiven, ComesOut, DriveFails, EndsDrive, FailsToTrace, IsDrive, IsTraced, Takes, TellsIfEnded, outcome_of, uses_of}
+use Rattle.sdv_files.specs.Outcomes.{outcome_of as ended_as}
+use Rattle.sdv_streams.specs.Drive.{AnswersOutcome, AreGiven, ComesOut, DriveFails, DrivesApart, EndsDrive, FailsToTrace, IsDrive, IsTraced, Takes, TellsIfEnded, outcome_of, uses_of}
 
 -- THE RUN over the streams of a port
 
@@ -300,3 +301,9 @@ module _ (files : Files) (names : DriveNames) (s s' : Streams) where
         → (fault : Fault) → fault ≡ File file → (r : Result T Fault) → IsErrAnd r (λ f. f ≡ fault) → IfErr r (λ f. DriveFails files names f s s')
     unmade_fails file output uncreated quiet fault of (Ok x) is = absurd is
     unmade_fails file output uncreated quiet fault of (Err f) is = rw (is, of) (inl (output_unusable file.now output uncreated, quiet))
+
+-- THE COMMAND, by the answer of its function
+pub drives_apart : (files : Files) (names : DriveNames) (s s' : Streams) (r : Result (Unit {0}) Fault) → OnOk r (EndsDrive files names ends.Done s s')
+    → IfErr r (λ fault. DriveFails files names fault s s') → DrivesApart files names s s' (ended_as r)
+drives_apart files names s s' (Ok done) ended fails = ended
+drives_apart files names s s' (Err fault) ended fails = fails

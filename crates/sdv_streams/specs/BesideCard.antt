@@ -8,9 +8,10 @@ use Rattle.sdv_graph.specs.Walk.{Pair}
 use Rattle.sdv_check.specs.Verified.{Acceptance, IsAccepted}
 use Rattle.sdv_trace.specs.declared.end.End.{End}
 use Rattle.sdv_run.specs.declared.fault.RunFault.{RunFault}
+use Rattle.sdv_run.specs.Run.{ending_of}
 use Rattle.sdv_run.specs.Step.{World}
-use Rattle.sdv_run.specs.Ran.{Ran}
-use Rattle.sdv_run.specs.OnCard.{RanBeside}
+use Rattle.sdv_run.specs.Ran.{IsWalk, Ran}
+use Rattle.sdv_run.specs.OnCard.{OnCard, RanBeside, ShowsStart}
 use Rattle.sdv_lines.specs.Answers.{Answers, IsAnswer}
 use Rattle.sdv_lines.specs.Streams.{Streams, LineSteps}
 use Rattle.sdv_streams.specs.Talk.{AreAnswers, events_of}
@@ -50,3 +51,13 @@ RunsBesideOther {S} steps card =
     → AreAnswers a.graph.kind (events_of LineSteps a.graph w w' result ran) answers
     → AnswersAs steps a.graph.kind (events_of LineSteps a.graph w w' result ran) answers o o'
     → RanBeside (ToldSteps steps) card a.graph a.bound (at_other o w) (at_other o' w') result
+
+-- A run of the command `drive` that came to its end, by what `EndsDrive` says of it: where the answers tell what the other
+-- side did, its events moved the card that the other side shows, each legal and in bounds, and no more commands were sent
+-- than were certified.
+abbrev pub DrivesBesideOther : {S : Type 0} → (S → Call → Return → S → Type 0) → (S → Option Card) → Type 0
+DrivesBesideOther {S} steps card =
+    (script certificate : List ℕ) (a : Acceptance) (end : End) (es : List Pair) (answers : List (List (List ℕ)))
+    (o o' : S) (c : Card) → IsAccepted script certificate a → IsWalk a.graph (ending_of end) es
+    → AreAnswers a.graph.kind es answers → AnswersAs steps a.graph.kind es answers o o'
+    → ShowsStart card a.graph.kind o c → ∥ OnCard card a.bound (ending_of end) es c o' ∥₁

@@ -1,6 +1,5 @@
 -- What the program does at `card`: which card answers, and that its image is kept.
 use Rattle.std.specs.Prelude.{◌≡◌, ◌⊎◌, ℕ, List, ◌∷◌, Option, Some, None, Result, Ok, Err, string_bytes}
-use Rattle.clap.specs.Words.{Text}
 use Rattle.sdv_card.specs.Card.{Block}
 use Rattle.sdv_behavior.specs.SimSteps.{SimState, SimSteps}
 use Rattle.sdv_controller.specs.Controlled.{ControllerSteps}

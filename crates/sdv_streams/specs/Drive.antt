@@ -1,5 +1,5 @@
 -- What the program does at `drive`: which script it runs, what it asks and hears, and what its files take.
-use Rattle.std.specs.Prelude.{◌≡◌, ◌≢◌, ◌⊎◌, ℕ, List, ◌∷◌, ◌++◌, Option, Some, None, Result, Ok, Err, codes, option_map, string_bytes}
+use Rattle.std.specs.Prelude.{◌≡◌, ◌≢◌, ◌⊎◌, ℕ, List, ◌∷◌, ◌++◌, Option, Some, None, Result, Ok, Err, codes, string_bytes}
 use Rattle.std.specs.Borrow.{Bor}
 use Rattle.std.specs.Io.KnownBytes.{Appends, Consumes}
 use Rattle.clap.specs.Words.{Text}
@@ -21,7 +21,7 @@ use Rattle.sdv_faults.specs.Fault.{fault_of_run}
 use Rattle.sdv_command_line.specs.Requests.{DriveNames}
 use Rattle.sdv_files.specs.Files.{Files}
 use Rattle.sdv_faults.specs.Refused.{Refuses}
-use Rattle.sdv_run_command.specs.Run.{FileUse, GivesInput, IsUnusable, Receives, as_input, as_output, as_text, blocks_of, some_use}
+use Rattle.sdv_run_command.specs.Run.{FileUse, GivesInput, IsSameGiven, IsUnusable, Receives, as_input, as_output, as_text, blocks_of, some_use}
 use Rattle.sdv_streams.specs.declared.drive.Given.{Given}
 use Rattle.sdv_streams.specs.declared.drive.Outcome.{Outcome}
 use Rattle.sdv_streams.specs.declared.drive.Outcome.TheVariants.{Lost, Ended, Stopped}
@@ -172,7 +172,50 @@ DriveFails files names Named s s' = (end : End) × (end ≢ ends.Done) × EndsDr
 DriveFails files names Memory s s' = s' ≡ s
 DriveFails files names fault s s' = HasNoDrive files names fault s s'
 
+-- the command where no file that it makes is one that it uses otherwise
+abbrev pub DrivesApart : Files → DriveNames → (s s' : Streams) → Option Fault → Type 0
+DrivesApart files names s s' None = EndsDrive files names ends.Done s s'
+DrivesApart files names s s' (Some fault) = DriveFails files names fault s s'
+
+-- NO FILE IS LOST BY A SLIP: the files of the output and of the trace are two, and none of those that are read
+
+abbrev pub IsRead : Files → DriveNames → (file : Text) → Type 0
+IsRead files names file =
+    files.same names.script file ⊎ (files.same names.certificate file ⊎ IsSameGiven files names.input file)
+
+-- it is none of them
+pub record IsOther (files : Files) (names : DriveNames) (file : Text) : Type 0 where
+  pub script : files.apart names.script file
+  pub certificate : files.apart names.certificate file
+  pub input : (input : Text) → names.input ≡ Some input → files.apart input file
+
+-- the file of the output is read
+abbrev pub IsOutputTaken : Files → DriveNames → (file : Text) → Type 0
+IsOutputTaken files names file = (names.output ≡ Some file) × IsRead files names file
+
+-- the file of the trace is read, or it is that of the output
+abbrev pub IsTraceTaken : Files → DriveNames → (file : Text) → Type 0
+IsTraceTaken files names file =
+    (names.trace ≡ Some file) × (IsRead files names file ⊎ IsSameGiven files names.output file)
+
+abbrev pub IsOutputApart : Files → DriveNames → Type 0
+IsOutputApart files names = (file : Text) → names.output ≡ Some file → IsOther files names file
+
+-- it is not read, and not that of the output
+pub record IsAlone (files : Files) (names : DriveNames) (file : Text) : Type 0 where
+  pub read : IsOther files names file
+  pub output : (output : Text) → names.output ≡ Some output → files.apart output file
+
+abbrev pub IsTraceAlone : Files → DriveNames → Type 0
+IsTraceAlone files names = (file : Text) → names.trace ≡ Some file → IsAlone files names file
+
+-- a file that would be made cannot be used
+abbrev pub TakesOther : Files → DriveNames → Option Fault → Type 0
+TakesOther files names (Some (File file)) = IsOutputTaken files names file.now ⊎ IsTraceTaken files names file.now
+TakesOther files names outcome = ⊥
+
 -- THE COMMAND
 abbrev pub DriveEnds : Files → DriveNames → (s s' : Streams) → Option Fault → Type 0
-DriveEnds files names s s' None = EndsDrive files names ends.Done s s'
-DriveEnds files names s s' (Some fault) = DriveFails files names fault s s'
+DriveEnds files names s s' outcome =
+    (TakesOther files names outcome × (s' ≡ s))
+    ⊎ (IsOutputApart files names × IsTraceAlone files names × DrivesApart files names s s' outcome)

@@ -6,8 +6,10 @@ ghost use Rattle.sdv_faults.specs.declared.fault.Fault.{Fault};
 ghost use Rattle.sdv_command_line.specs.Requests.{drive_names_of};
 ghost use Rattle.sdv_lines.specs.Streams.{streams_of};
 ghost use Rattle.sdv_run_command.specs.Run.{IsUnread};
-ghost use Rattle.sdv_streams.specs.Drive.{AreGiven, DriveFails, EndsDrive, FailsToTrace, IsDrive, IsTraced, RefusesTexts, TellsIfEnded, AnswersOutcome, outcome_of, uses_of};
+ghost use Rattle.sdv_files.specs.Outcomes.{outcome_of as ended_as};
+ghost use Rattle.sdv_streams.specs.Drive.{AnswersOutcome, AreGiven, DriveEnds, DriveFails, EndsDrive, FailsToTrace, IsDrive, IsTraced, RefusesTexts, TellsIfEnded, outcome_of, uses_of};
 
+use crate::apart::taken_file;
 use sdv_check::verify;
 use sdv_command_line::DriveFiles;
 use sdv_faults::Fault;
@@ -44,14 +46,33 @@ pub enum Outcome {
 ///
 /// # Errors
 ///
-/// - [`Fault::File`]: a file cannot be used, and each one before it was; then nothing was asked. Or the file of the output or
-///   of the trace did not take all that it had to. The name `-` stands for the other side: it could not be asked, or did not
-///   answer, and nothing more was asked.
+/// - [`Fault::File`]: the file of the output or of the trace is one that is read, or both are one; then no file was opened.
+///   Or a file cannot be used, and each one before it was; then nothing was asked. Or the file of the output or of the trace
+///   did not take all that it had to. The name `-` stands for the other side: it could not be asked, or did not answer, and
+///   nothing more was asked.
 /// - [`Fault::Script`], [`Fault::Certificate`], [`Fault::Refused`]: the script is not accepted. Nothing was asked.
 /// - [`Fault::Named`]: the script ended in a fault that it names, or in `number`. The other side was told.
 /// - [`Fault::Run`]: the run stopped before its end, and the other side was told no end.
 /// - [`Fault::Memory`]: memory was refused. Nothing was asked.
 pub fn drive_files<'a, S: Store, R: Read, W: Write>(
+    alloc: Global,
+    files: &S,
+    names: DriveFiles<'a>,
+    port: &mut LinePort<R, W>,
+) -> Result<(), Fault<'a>>
+    requires { (streams_of R.remaining W.contents port.old).fault ≡ None }
+    ensures { DriveEnds (S.known files.now) (drive_names_of names.entry)
+        (streams_of R.remaining W.contents port.old) (streams_of R.remaining W.contents port.new)
+        (ended_as result) }
+{
+    if let Some(file) = taken_file(files, &names) {
+        return Err(Fault::File(file));
+    }
+    drive_apart(alloc, files, names, port)
+}
+
+/// The same where the files that are made are others.
+fn drive_apart<'a, S: Store, R: Read, W: Write>(
     alloc: Global,
     files: &S,
     names: DriveFiles<'a>,

@@ -1,6 +1,6 @@
 //! The law of both sides.
 
-ghost use Rattle.sdv_streams.specs.BesideCard.{RunsBesideOther};
+ghost use Rattle.sdv_streams.specs.BesideCard.{DrivesBesideOther, RunsBesideOther};
 
 use sdv_card::CardPort;
 
@@ -9,4 +9,10 @@ use sdv_card::CardPort;
 /// and in bounds, no more commands than were certified are sent, and no answer is refused.
 pub fn runs_beside_the_card_of_the_other_side<P: CardPort>()
     ensures { RunsBesideOther P.steps P.card }
+{}
+
+/// The same of the command `drive`, for a run that came to its end: the premises are what `drive_files` then says of the
+/// events and their answers.
+pub fn drives_beside_the_card_of_the_other_side<P: CardPort>()
+    ensures { DrivesBesideOther P.steps P.card }
 {}

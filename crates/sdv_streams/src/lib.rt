@@ -5,6 +5,7 @@
 //! where the other side answers as a card of the profile, the run is beside that card.
 #![tactic(auto)]
 
+mod apart;
 mod card;
 mod drive;
 pub mod laws;
