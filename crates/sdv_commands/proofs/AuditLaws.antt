@@ -11,7 +11,7 @@ use Rattle.sdv_audit_report.specs.declared.style.Style.{Style}
 use Rattle.sdv_audit_report.specs.declared.style.Tally.{Tally}
 use Rattle.sdv_faults.specs.Fault.{fault_of_trace}
 use Rattle.sdv_faults.specs.declared.fault.Fault.{Fault}
-use Rattle.sdv_faults.specs.declared.fault.Fault.TheVariants.{File, Found, Memory}
+use Rattle.sdv_faults.specs.declared.fault.Fault.TheVariants.{File, Found}
 use Rattle.sdv_command_line.specs.Requests.{AuditNames}
 use Rattle.sdv_files.specs.Files.{Files}
 use Rattle.sdv_files.specs.Outcomes.{outcome_of}

@@ -1,12 +1,12 @@
 -- What the end of a request says of standard output.
-use Rattle.std.proofs.Common.{◌≡◌, ◌≢◌, ◌∙◌, inl, inr, refl, sym, ap, ℕ, Bor, IfErr, IsErrAnd, List, OnOk, Option, Result, Ok, Err, Some, None, option_map}
+use Rattle.std.proofs.Common.{◌≡◌, ◌≢◌, ◌∙◌, inl, inr, refl, sym, ap, ℕ, IfErr, IsErrAnd, List, OnOk, Option, Result, Ok, Err, Some, None, option_map}
 use Rattle.std.specs.Io.KnownBytes.{Keeps}
 use Rattle.clap.specs.Words.{Text}
 use Rattle.sdv_refute_commands.specs.Refute.{IsToldRun, RefuteEnds, Untold}
 use Rattle.sdv_refute_commands.specs.Sweep.{ImageEnds, InputEnds}
 use Rattle.sdv_refute_commands.specs.Try.{TryEnds}
 use Rattle.sdv_run_command.specs.Run.{RunEnds}
-use Rattle.sdv_command_line.specs.Requests.{CardNames, DecodeNames, DriveNames, EmitNames, ExplainNames, RefuteNames, RunNames, SweepNames, TryNames, Request, frame, certify, check, run, batch, explain, graph, print, emit, audit, describe, drive, serve, review, attempt, refute, sweep, decode}
+use Rattle.sdv_command_line.specs.Requests.{CardNames, DecodeNames, EmitNames, ExplainNames, RefuteNames, RunNames, SweepNames, TryNames, Request, frame, certify, check, run, batch, explain, graph, print, emit, audit, describe, drive, serve, review, attempt, refute, sweep, decode}
 use Rattle.sdv_command_line.specs.CommandLine.{meaning_of}
 use Rattle.sdv_command_line.specs.declared.request.RequestFault.{RequestFault}
 use Rattle.sdv_command_line.specs.declared.request.RequestFault.TheVariants as requests
@@ -23,8 +23,6 @@ use Rattle.sdv_faults.specs.Refused.{Refuses}
 use Rattle.sdv_lines.specs.Streams.{Streams}
 use Rattle.sdv_emit_command.specs.Emit.{EmitEnds, IsTableText, TableEnds, Unemitted}
 use Rattle.sdv_streams.specs.CardSide.{CardEnds, CardFails, EndsCard}
-use Rattle.sdv_streams.specs.Drive.{DriveEnds, DriveFails, EndsDrive}
-use Rattle.sdv_trace.specs.declared.end.End.TheVariants.{Done}
 use Rattle.sdv_commands.specs.Batch.{HasNoBatch, IsBatchText}
 use Rattle.sdv_commands.specs.Certify.{HasNone, IsCertificate}
 use Rattle.sdv_commands.specs.Check.{IsBoundLine}
@@ -219,12 +217,7 @@ module _ (files : Files) (s s' : Streams) (words : List Text) (known : Option (L
       → IsErrAnd r (λ f. f ≡ fault_of_request fault) → EndsWords files s s' words (outcome_of r) known known
   no_request fault none r is = failed (λ outcome. EndsWords files s s' words outcome known known) _ r is (unread fault none)
 
--- THE COMMANDS that speak in lines, by the answers of their functions
-pub drive_ends : (files : Files) (names : DriveNames) (s s' : Streams) (r : Result (Unit {0}) Fault) → OnOk r (EndsDrive files names Done s s')
-    → IfErr r (λ fault. DriveFails files names fault s s') → DriveEnds files names s s' (outcome_of r)
-drive_ends files names s s' (Ok done) ends fails = ends
-drive_ends files names s s' (Err fault) ends fails = fails
-
+-- THE COMMAND that answers in lines, by the answer of its function
 pub card_ends : (files : Files) (names : CardNames) (a a' q q' : Option (List ℕ)) (r : Result (Unit {0}) Fault) → OnOk r (EndsCard files names a a' q q')
     → IfErr r (λ fault. CardFails files names fault a a' q q') → CardEnds files names a a' q q' (outcome_of r)
 card_ends files names a a' q q' (Ok done) ends fails = ends

@@ -17,7 +17,7 @@ use Rattle.sdv_check_words.specs.declared.judging.Verdict.{Verdict}
 use Rattle.sdv_check_words.specs.Judged.{Judges}
 use Rattle.sdv_command_line.specs.Requests.{ExplainNames}
 use Rattle.sdv_script.specs.declared.fault.ScriptFault.{ScriptFault}
-use Rattle.sdv_hints.specs.Lines.{behind_line}
+use Rattle.sdv_hints.specs.Lines.{from_line}
 use Rattle.sdv_hints.specs.Page.{Tells}
 use Rattle.sdv_files.specs.Files.{Files}
 use Rattle.sdv_files.specs.Outcomes.{Ending, OverText, Reports}
@@ -36,7 +36,7 @@ shown_of only_why explanation = if only_why then explanation.why.items else expl
 
 -- the reason takes four lines: the clause that fails, its statement, such a card, and why it fails
 abbrev pub behind_reason : (shown : Text) → Text
-behind_reason shown = behind_line (behind_line (behind_line (behind_line shown)))
+behind_reason shown = from_line 4 shown
 
 abbrev pub put_behind_reason : (words shown : Text) → Text
 put_behind_reason words shown =

@@ -1,13 +1,12 @@
 //! `explain SCRIPT [CERT] [--why]`: what is known at each point of a script, and why it is refused where it is, with a run that
 //! refutes it; of a text that is no script, where it is wrong; of a certificate, why the checker refuses it.
-ghost use Rattle.std.specs.Prelude.{◌≡◌, ◌≢◌, ◌≤◌, length, IfOk, IfSome, if◌then◌else◌};
+ghost use Rattle.std.specs.Prelude.{◌≡◌, ◌≢◌, IfOk, IfSome, if◌then◌else◌};
 ghost use Rattle.sdv_check.specs.Verified.{IsNoScript};
 ghost use Rattle.sdv_command_line.specs.Requests.{explain_names_of};
 ghost use Rattle.sdv_files.specs.Outcomes.{OverText, Reports, outcome_of};
 ghost use Rattle.sdv_commands.specs.Explain.{ExplainEnds, ExplainsText, HasNoAnswer, IsExplanation, IsFaultPage, IsJudgement};
 ghost use Rattle.sdv_commands.specs.Explain.{IsRefusedAt, IsUnexplained, IsVerdict, MayShowRun, fault_of_refusal};
 ghost use Rattle.sdv_commands.specs.Explain.{behind_reason, put_behind_reason};
-ghost use Rattle.sdv_hints.specs.Lines.{behind_line, line_len};
 
 use sdv_certify::CertifyFault;
 use sdv_check_words::{Refusal, Verdict, judge};
@@ -15,7 +14,7 @@ use sdv_command_line::ExplainWords;
 use sdv_explain::{ExplainFault, Explanation, Refusal as ScriptRefusal, explain};
 use sdv_faults::Fault;
 use sdv_files::{Store, print_text, text_in};
-use sdv_hints::fault_page;
+use sdv_hints::{fault_page, from_line};
 use sdv_script::{FaultKind, ScriptFault};
 use sdv_search::shown_run;
 use std::alloc::{AllocError, Global};
@@ -148,31 +147,11 @@ fn refused_point(refusal: &Option<ScriptRefusal>) -> Option<usize>
     }
 }
 
-/// How many bytes the first line has, without its line feed.
-fn line_len(text: &[u8]) -> usize
-    ensures len { result ≡ line_len text.now }
-    ensures within { result ≤ length text.now }
-{
-    text.iter().take_while(|byte| **byte != b'\n').count()
-}
-
-/// What follows the first line.
-fn behind_line(text: &[u8]) -> &[u8]
-    ensures { result.now ≡ behind_line text.now }
-{
-    let len = line_len(text);
-    if len < text.len() {
-        &text[len + 1..]
-    } else {
-        &[]
-    }
-}
-
-/// What follows the reason of a refusal.
+/// What follows the reason of a refusal, which has four lines.
 fn behind_reason(shown: &[u8]) -> &[u8]
     ensures { result.now ≡ behind_reason shown.now }
 {
-    behind_line(behind_line(behind_line(behind_line(shown))))
+    from_line(shown, 5)
 }
 
 /// What is shown, with words behind the reason.

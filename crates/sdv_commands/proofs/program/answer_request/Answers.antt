@@ -1,11 +1,11 @@
 use Rattle.std.proofs.Common.{subst, sym}
-use Rattle.sdv_command_line.specs.Requests.{card_names_of, drive_names_of, seen}
+use Rattle.sdv_command_line.specs.Requests.{card_names_of, seen}
 use Rattle.sdv_files.proofs.StartLaws.{keeps_same}
 use Rattle.sdv_command_line.specs.declared.request.Request.{Request}
 use Rattle.sdv_files.specs.Outcomes.{outcome_of}
 use Rattle.sdv_lines.specs.Streams.{Streams, streams_of}
 use Rattle.sdv_commands.specs.Ends.{EndsRequest}
-use Rattle.sdv_commands.proofs.EndsLaws.{card_ends, drive_ends}
+use Rattle.sdv_commands.proofs.EndsLaws.{card_ends}
 use Rattle.sdv_commands.proofs.program.answer_request.Goals as goal
 
 pub returns-in-Frame : goal.returns-in-Frame
@@ -25,11 +25,7 @@ returns-in-Drive g c =
     let s = streams_of g.I.Read.remaining g.L.Write.contents c.args.lines.now in
     let s' = streams_of g.I.Read.remaining g.L.Write.contents c.drive_files.new.port in
     subst (λ (request : Request). EndsRequest (g.S.Store.known c.args.files.now) s s' (seen request) (outcome_of c.drive_files.result)
-    (g.O.Write.contents c.args.out.now) (g.O.Write.contents c.args.out.now)) (sym c.in-Drive.is) (
-      drive_ends (g.S.Store.known c.args.files.now) (drive_names_of c.in-Drive.names) s s' c.drive_files.result
-          c.drive_files.ensures.done c.drive_files.ensures.fails,
-      keeps_same _,
-    )
+    (g.O.Write.contents c.args.out.now) (g.O.Write.contents c.args.out.now)) (sym c.in-Drive.is) (c.drive_files.ensures, keeps_same _)
 
 pub returns-in-Card : goal.returns-in-Card
 returns-in-Card g c =
