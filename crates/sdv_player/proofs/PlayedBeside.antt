@@ -1,30 +1,38 @@
 -- What is played by the table of an accepted script, beside a card.
-use Rattle.std.proofs.Common.{◌≡◌, ◌<◌, ◌≤◌, ◌^◌, ℕ, List, [], ◌∷◌, ◌++◌, Err, refl, sym, ◌∙◌, subst, inr, arith}
+use Rattle.std.proofs.Common.{◌≡◌, ◌+◌, ◌<◌, ◌≤◌, ◌^◌, ℕ, zero, suc, List, [], ◌∷◌, ◌++◌, Err, refl, sym, ap, ◌∙◌, subst, inr, arith, add_assoc, length}
 use Rattle.std.specs.Prelude.{true, false, Some, Ok}
 use Rattle.sdv_card.specs.declared.answer.Answer.{Answer}
 use Rattle.sdv_card.specs.declared.answer.Answer.TheVariants.{Sent}
+use Rattle.sdv_card.specs.declared.answer.DataEnd.TheVariants as ends
+use Rattle.sdv_card.specs.declared.answer.WaitEnd.TheVariants as waits
 use Rattle.sdv_card.specs.Step.{Step}
 use Rattle.sdv_card.specs.declared.event.Ask.{Ask}
 use Rattle.sdv_card.specs.Card.{Card}
 use Rattle.sdv_card.specs.Host.{Host, host_after}
 use Rattle.sdv_card.specs.Profile.{IsAtStart}
-use Rattle.sdv_card.specs.ScriptEvent.{ScriptEvent, SendCommand, ReceiveBlocks, ReceiveRegister, GiveBlocks, AwaitReady, Return, Answered}
+use Rattle.sdv_card.specs.Expected.{Expected}
+use Rattle.sdv_card.specs.Laws.{SomeStep}
+use Rattle.sdv_card.specs.ScriptEvent.{ScriptEvent, SendCommand, ReceiveBlocks, ReceiveRegister, GiveBlocks, AwaitReady, Return, Answered, BlocksIn, RegisterIn, BlocksOut, Waited, MayReturn}
+use Rattle.sdv_registers.specs.declared.kind.Kind.{Kind}
 use Rattle.sdv_graph.specs.Walk.{Pair, Open, Deed, IsDeed, exactly, giving}
 use Rattle.sdv_graph.specs.Path.{Stand, Path, Follows, Move, Goes, Does, Halts, move_from}
 use Rattle.sdv_graph.specs.Graph.{Graph, begin}
 use Rattle.sdv_graph.specs.GraphOf.{IsSound}
 use Rattle.sdv_graph.proofs.Paths.{roll}
 use Rattle.sdv_facts.specs.Facts.{PointFacts}
-use Rattle.sdv_facts.specs.Beside.{StepsOf, IsGood}
+use Rattle.sdv_facts.specs.Beside.{StepsOf, IsAllowed, IsGood, commands, commands_in}
+use Rattle.sdv_facts.specs.Bounds.{bound_of}
+use Rattle.sdv_facts.specs.Stands.{IsMade}
 use Rattle.sdv_facts.specs.Closed.{Closed}
 use Rattle.sdv_facts.proofs.ArgumentLaws.{narrow}
 use Rattle.sdv_facts.proofs.Headline.{each_path, each_event}
 use Rattle.sdv_facts.proofs.StepLaws.{Laws, laws_of}
 use Rattle.sdv_run.specs.declared.fault.RunFault.TheVariants.{Reply}
+use Rattle.sdv_run.specs.declared.next_event.NextEvent.{NextEvent}
 use Rattle.sdv_run.specs.declared.next_event.NextEvent.TheVariants as events
 use Rattle.sdv_run.specs.declared.returned.Returned.TheVariants as told
 use Rattle.sdv_run.specs.Answers.{is_taken}
-use Rattle.sdv_run.specs.Asks.{AsksFor, IsTooWide}
+use Rattle.sdv_run.specs.Asks.{AsksFor, IsTooWide, deed_of}
 use Rattle.sdv_run.specs.Takes.{Took}
 use Rattle.sdv_run.specs.Machine.{LeadsBy, now}
 use Rattle.sdv_run.proofs.OnCard.{taken}
@@ -33,6 +41,42 @@ use Rattle.sdv_player.specs.Plays.{PlaysAreGood}
 use Rattle.sdv_player.specs.Seen.{stand_of}
 use Rattle.sdv_player.specs.StandsFor.{run_of}
 use Rattle.sdv_player.proofs.Played.{open_here, from_start, plays_are_walks}
+
+-- LISTS of events
+
+commands_more : (es : List Pair) (made : ScriptEvent) (returned : Return) → commands (es ++ (made, returned) ∷ []) ≡ commands es + commands_in made
+commands_more [] made returned = omega arith
+commands_more (p ∷ es) made returned = ap (λ n. commands_in p.0 + n) (commands_more es made returned) ∙ sym (add_assoc (commands_in p.0) (commands es) (commands_in made))
+
+steps_more : (es : List Pair) (c last u : Card) (made : ScriptEvent) (returned : Return) → StepsOf c es last → Step made last returned u →
+    StepsOf c (es ++ (made, returned) ∷ []) u
+steps_more [] c last u made returned on step = (u, subst (λ v. Step made v returned u) (sym on) step, refl)
+steps_more (p ∷ es) c last u made returned (v, one, more) step = (v, one, steps_more es v last u made returned more step)
+
+-- RETURNS
+
+blanks : {A : Type 0} (a : A) (n : ℕ) → (xs : List A) × (length xs ≡ n)
+blanks a zero = ([], refl)
+blanks a (suc n) = let rest = blanks a n in (a ∷ rest.0, ap suc rest.1)
+
+-- each event may return something
+some_return : (event : ScriptEvent) → (returned : Return) × MayReturn event returned
+some_return (SendCommand ask position argument) = (Answered Sent, tt)
+some_return (ReceiveBlocks lines count) = let blocks = blanks [] count in (BlocksIn ends.Ok blocks.0, blocks.1)
+some_return (ReceiveRegister lines count) = let bytes = blanks 0 count in (RegisterIn ends.Ok bytes.0, bytes.1)
+some_return (GiveBlocks lines blocks) = (BlocksOut ends.Ok, tt)
+some_return AwaitReady = (Waited waits.Ok, tt)
+
+may_return : (k : Kind) (event : ScriptEvent) (returned : Return) → Expected k event returned → MayReturn event returned
+may_return k (SendCommand ask position argument) (Answered answer) e = tt
+may_return k (SendCommand ask position argument) (BlocksIn end blocks) e = absurd e
+may_return k (SendCommand ask position argument) (RegisterIn end bytes) e = absurd e
+may_return k (SendCommand ask position argument) (BlocksOut end) e = absurd e
+may_return k (SendCommand ask position argument) (Waited end) e = absurd e
+may_return k (ReceiveBlocks lines count) returned e = e
+may_return k (ReceiveRegister lines count) returned e = e
+may_return k (GiveBlocks lines blocks) returned e = e
+may_return k AwaitReady returned e = e
 
 -- a command that cannot be sent, where a run stands
 record Wide (g : Graph) (s : Stand) : Type 0 where
@@ -66,21 +110,23 @@ module _ (g : Graph) (s : Stand) where
   wide_here (Does deed before next) asks at = wide_deed deed before next asks at
   wide_here (Halts last) asks at = absurd asks
 
+-- AN EVENT that is asked for where a run stands, and what it returned
+module _ (g : Graph) (s : Stand) (event : NextEvent) (made : ScriptEvent) (returned : Return) (may : MayReturn made returned)
+    (is : IsDeed (deed_of event) made) where
+  made_here : (m : Move) → AsksFor m (Ok (Some event)) → move_from g.kind g.points s ≡ m → Path g.kind g.points Open s ((made, returned) ∷ [])
+  made_here (Goes next) asks at = absurd asks
+  made_here (Does deed before next) asks at =
+      let there = next returned (host_after g.kind made returned before) in
+      let is_deed : IsDeed deed made = subst (λ d. IsDeed d made) (sym asks) is in
+      roll g.kind g.points Open s ((made, returned) ∷ [])
+      (inr (subst (λ m. Follows g.kind Open (Path g.kind g.points Open) m ((made, returned) ∷ [])) (sym at)
+      (made, returned, [], is_deed, may, refl, open_here g there)))
+  made_here (Halts last) asks at = absurd asks
+
 -- A COMMAND AND ITS ANSWER, where a run stands
 module _ (g : Graph) (s : Stand) (ask : Ask) (position argument : ℕ) (answer : Answer) where
   abbrev event : ScriptEvent
   event = SendCommand ask position argument
-
-  sent_here : (m : Move) → AsksFor m (Ok (Some (events.Send ask position argument))) → move_from g.kind g.points s ≡ m →
-      Path g.kind g.points Open s ((event, Answered answer) ∷ [])
-  sent_here (Goes next) asks at = absurd asks
-  sent_here (Does deed before next) asks at =
-      let there = next (Answered answer) (host_after g.kind event (Answered answer) before) in
-      let is : IsDeed deed event = subst (λ d. IsDeed d event) (sym asks) refl in
-      roll g.kind g.points Open s ((event, Answered answer) ∷ [])
-      (inr (subst (λ m. Follows g.kind Open (Path g.kind g.points Open) m ((event, Answered answer) ∷ [])) (sym at)
-      (event, Answered answer, [], is, tt, refl, open_here g there)))
-  sent_here (Halts last) asks at = absurd asks
 
   -- one that is refused is none that a run goes on with
   refused_by : (stand : Stand) (m : Move) → AsksFor m (Ok (Some (events.Send ask position argument))) →
@@ -117,6 +163,42 @@ module _ (g : Graph) (ps : List PointFacts) (laws : Laws g.kind) (sound : IsSoun
       let clash : true ≡ false = sym takes ∙ refused in
       absurd (cc)
 
+  -- THE EVENT THAT COMES NEXT
+
+  comes : (es : List Pair) (s : Stand) → LeadsBy g (begin g) es s → (made : ScriptEvent) (returned : Return) →
+      Path g.kind g.points Open s ((made, returned) ∷ []) → Path g.kind g.points Open (begin g) (es ++ (made, returned) ∷ [])
+  comes es s leads made returned path = leads Open ((made, returned) ∷ []) path
+
+  is_made : (es : List Pair) (c last : Card) → g.kind ≡ c.kind → IsAtStart c → StepsOf c es last → (made : ScriptEvent) (returned : Return) →
+      Path g.kind g.points Open (begin g) (es ++ (made, returned) ∷ []) → IsMade g.kind made last
+  is_made es c last kind start steps made returned path =
+      each_event g ps laws sound closed c kind start Open (es ++ (made, returned) ∷ []) path es made returned [] last refl steps
+
+  -- it is one more command, or none
+  counted : (es : List Pair) (c last : Card) → g.kind ≡ c.kind → IsAtStart c → StepsOf c es last → (made : ScriptEvent) → IsMade g.kind made last →
+      ((returned : Return) → MayReturn made returned → Path g.kind g.points Open (begin g) (es ++ (made, returned) ∷ [])) →
+      commands es + commands_in made ≤ bound_of g ps
+  counted es c last kind start steps made is path =
+      let step : SomeStep made last = laws.has_step made last is.host is.honest.pair is.fine.legal in
+      let may : MayReturn made step.returned =
+      may_return g.kind made step.returned (laws.steps_are_expected made last step.returned step.after is.honest.pair.kind step.step) in
+      let all : List Pair = es ++ (made, step.returned) ∷ [] in
+      let good = (each_path g ps laws sound closed).good c kind start Open all (path step.returned may) in
+      subst (λ n. n ≤ bound_of g ps) (commands_more es made step.returned)
+      (good.sent step.after (steps_more es c last step.after made step.returned steps step.step))
+
+  next_is_good : (es : List Pair) (s : Stand) (c last : Card) → g.kind ≡ c.kind → IsAtStart c → StepsOf c es last → LeadsBy g (begin g) es s →
+      (event : NextEvent) (made : ScriptEvent) (m : Move) → AsksFor m (Ok (Some event)) → move_from g.kind g.points s ≡ m → IsDeed (deed_of event) made →
+      IsAllowed made last × (commands es + commands_in made ≤ bound_of g ps)
+  next_is_good es s c last kind start steps leads event made m asks at is =
+      let some = some_return made in
+      let path : (returned : Return) → MayReturn made returned → Path g.kind g.points Open (begin g) (es ++ (made, returned) ∷ []) =
+      λ returned may. comes es s leads made returned (made_here g s event made returned may is m asks at) in
+      let is_made_there = is_made es c last kind start steps made some.0 (path some.0 some.1) in (
+        record { legal = is_made_there.fine.legal; bounds = is_made_there.fine.bounds },
+        counted es c last kind start steps made is_made_there path,
+      )
+
 pub plays_are_good : PlaysAreGood
 plays_are_good script certificate a ws es s said c last accepted table played kind start steps =
     let g = a.graph in
@@ -134,6 +216,10 @@ plays_are_good script certificate a ws es s said c last accepted table played ki
       good = good;
       sent = good.sent last steps;
       ends = good.ends last steps;
+      next = λ event made is deed.
+          let asks : AsksFor (now m) (Ok (Some event)) = subst (λ v. Says m v) is all.says in
+          subst (λ n. IsAllowed made last × (commands es + commands_in made ≤ n)) (sym accepted.bound)
+          (next_is_good g ps laws sound accepted.closed es (stand_of s all.registers) c last kind start steps all.leads event made (now m) asks refl deed);
       sends = λ is.
           let asks : AsksFor (now m) (Err Reply) = subst (λ v. Says m v) is all.says in
           never_wide g ps laws sound accepted.closed es (stand_of s all.registers) c last kind start steps all.leads
@@ -142,7 +228,8 @@ plays_are_good script certificate a ws es s said c last accepted table played ki
           let asks : AsksFor (now m) (Ok (Some (events.Send ask position argument))) = subst (λ v. Says m v) is all.says in
           let asked : s.asked ≡ 0 → ⊥ = subst (λ v. IsAsked v s.asked) is all.asked in
           let refused = takes g all.registers all.stands asked in
-          let path = sent_here g (stand_of s all.registers) ask position argument answer (now m) asks refl in
+          let path = made_here g (stand_of s all.registers) (events.Send ask position argument) (SendCommand ask position argument) (Answered answer) tt refl
+          (now m) asks refl in
           never_refused g ps laws sound accepted.closed es (stand_of s all.registers) c last after kind start steps all.leads ask position argument answer
           path step (refused_by g (stand_of s all.registers) ask position argument answer m.stand (now m) asks refused);
     }

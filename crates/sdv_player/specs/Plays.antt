@@ -1,16 +1,17 @@
 -- A player that is asked and told, one event after another, whatever the events return.
-use Rattle.std.specs.Prelude.{◌≡◌, ◌≤◌, ℕ, List, [], ◌∷◌, length, map, true, false}
+use Rattle.std.specs.Prelude.{◌≡◌, ◌+◌, ◌≤◌, ℕ, List, [], ◌∷◌, length, map, true, false}
 use Rattle.sdv_card.specs.declared.answer.Answer.{Answer}
 use Rattle.sdv_card.specs.declared.event.Ask.{Ask}
 use Rattle.sdv_card.specs.Card.{Card, Block}
 use Rattle.sdv_card.specs.Profile.{IsAtStart}
 use Rattle.sdv_card.specs.ScriptEvent.{ScriptEvent, SendCommand, GiveBlocks, Return, Answered}
 use Rattle.sdv_card.specs.Step.{Step}
-use Rattle.sdv_graph.specs.Walk.{Pair, Ending, Open, Deed, exactly, giving}
+use Rattle.sdv_graph.specs.Walk.{Pair, Ending, Open, Deed, IsDeed, exactly, giving}
 use Rattle.sdv_graph.specs.Graph.{Graph}
 use Rattle.sdv_graph.specs.GraphOf.{IsSound}
-use Rattle.sdv_facts.specs.Beside.{StepsOf, commands, IsOver, EndsWell, IsGood}
+use Rattle.sdv_facts.specs.Beside.{StepsOf, IsAllowed, commands, commands_in, IsOver, EndsWell, IsGood}
 use Rattle.sdv_check.specs.Verified.{Acceptance, IsAccepted}
+use Rattle.sdv_run.specs.declared.next_event.NextEvent.{NextEvent}
 use Rattle.sdv_run.specs.declared.next_event.NextEvent.TheVariants as events
 use Rattle.sdv_run.specs.declared.returned.Returned.{Returned}
 use Rattle.sdv_run.specs.declared.returned.Returned.TheVariants as told
@@ -64,14 +65,18 @@ PlaysAreWalks =
     → PlaysFromStart words es s said → IsRun g es said
 
 -- BESIDE A CARD whose steps these are, by the table of an accepted script: each event is legal and in bounds, at most
--- the certified number of commands is sent, and the run ends in `done` only with the card in the transfer state. The
--- player does not stop: it can send each command, and takes what the card answers.
+-- the certified number of commands is sent, and the run ends in `done` only with the card in the transfer state. The same
+-- holds of the event that is said, before anything is told of it. The player does not stop: it can send each command, and
+-- takes what the card answers.
 pub record IsGoodRun (words : List ℕ) (most : ℕ) (es : List Pair) (s : State) (said : Next) (c last : Card) :
     Type 0 where
   pub end : Ending
   pub how : IsEnding said end
   pub good : IsGood most end es c
   pub sent : commands es ≤ most
+  -- whichever blocks a phase to the card gives
+  pub next : (event : NextEvent) (made : ScriptEvent) → said ≡ nexts.Event event → IsDeed (deed_of event) made →
+      IsAllowed made last × (commands es + commands_in made ≤ most)
   pub ends : EndsWell end last
   pub sends : said ≡ nexts.Stopped → ⊥
   pub takes : (ask : Ask) (position argument : ℕ) (answer : Answer) (after : Card) (s' : State) →

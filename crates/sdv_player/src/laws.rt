@@ -9,8 +9,8 @@ pub fn plays_are_walks()
 {}
 
 /// By the table of an accepted script, beside a card of the profile whose steps these events are, each is legal and in
-/// bounds, at most the certified number of commands is sent, `done` comes only with the card in the transfer state, and
-/// no command is too wide to be sent.
+/// bounds, also the one that was just said; at most the certified number of commands is sent, that one counted; `done` comes
+/// only with the card in the transfer state, and no command is too wide to be sent.
 pub fn plays_are_good()
     ensures { PlaysAreGood }
 {}
