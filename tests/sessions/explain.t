@@ -98,6 +98,24 @@ What is no script.
   hint: `else` is missing after line 3
   script fault Syntax line 3
   [1]
+  $ printf 'card sd\nloop 2 {\nsend 3 {\n  clean { }\n  else { }\nbreak\n} else { }\ndone\n' | sdv explain -
+  line 6
+      break
+      ^
+  found: `break`, a reserved word
+  can stand here: `}`
+  hint: the `{` of line 3 is not closed
+  script fault Syntax line 6
+  [1]
+  $ printf 'card sd\r\nsned 3 { else { } }\r\ndone\r\n' | sdv explain -
+  line 2
+      sned 3 { else { } }
+      ^
+  found: `sned`, a name
+  can stand here: `flags`, `nums`, `send`, `recv`, `give`, `wait`, `let`, `if`, `set`, `clear`, `bus.lines`, `loop`, `done`, `fault`
+  hint: did you mean `send`?
+  script fault Syntax line 2
+  [1]
   $ sdv explain missing.sdv
   cannot use missing.sdv
   [2]
@@ -182,7 +200,7 @@ Where none is found, nothing is added; nor where a run may be long, or where the
   refused EndState point 5
   line 3, point 5: done, if the card is
       idle: byte addresses, block length not 512
-  why: at done the card has to be in tran state
+  why: at done the card has to be in tran state; CMD12 ends a transfer, and a wait the busy time
   a run that gets there:
       before the first command    idle: byte addresses, block length not 512
       line 2   CMD0                    -                                    then idle: byte addresses, block length not 512

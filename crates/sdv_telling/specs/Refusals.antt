@@ -134,7 +134,7 @@ illegality_if_any names action (Some i) = illegality_words names action i
 abbrev pub why_words : Declared → Action → Numbers → Shape → Why → Text
 why_words names action ns s (why.Illegal illegality) = illegality_if_any names action illegality
 why_words names action ns s why.Address = misfit_of names (address_of action) ns s
-why_words names action ns s why.EndState = codes "at done the card has to be in tran state"
+why_words names action ns s why.EndState = codes "at done the card has to be in tran state; CMD12 ends a transfer, and a wait the busy time"
 
 abbrev pub fault_word : Why → Text
 fault_word (why.Illegal illegality) = codes "Illegal"

@@ -183,7 +183,10 @@ fn put_why(
     match why {
         Why::Illegal(illegality) => put_illegality_if_any(text, illegality, action, names),
         Why::Address => put_misfit(text, action, beside, names),
-        Why::EndState => put(text, "at done the card has to be in tran state"),
+        Why::EndState => put(
+            text,
+            "at done the card has to be in tran state; CMD12 ends a transfer, and a wait the busy time",
+        ),
     }
 }
 
