@@ -1,5 +1,5 @@
 -- The DRAWING of a graph, in the language of Graphviz: a line for each point, in their order, and then a line for each
--- edge, point by point in the order of the edges of each.
+-- edge that leads to a point, point by point in the order of the edges of each. An edge past the last point has none.
 use Rattle.std.specs.Prelude.{ℕ, List, [], ◌∷◌, ◌++◌, flat_map, Bool, true, false, ◌==◌, ◌||◌, ◌&&◌, not, nat_lt, nat_le, length, slice_get, Option, Some, None, codes, decimal, if◌then◌else◌}
 use Rattle.sdv_graph.specs.declared.graph.Target.{Target}
 use Rattle.sdv_graph.specs.Walk.{Finished, Failed}

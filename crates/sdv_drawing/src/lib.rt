@@ -1,6 +1,7 @@
 //! The graph of a script as a drawing, in the language of Graphviz.
 //!
-//! Begin at `draw`, and at `specs/Drawing.antt`, which has the drawing's text: a line for each point, and a line for each edge.
+//! Begin at `draw`, and at `specs/Drawing.antt`, which has the drawing's text: a line for each point, and a line
+//! for each edge that leads to a point.
 #![tactic(auto)]
 
 mod drawing;

@@ -42,7 +42,7 @@ pub struct Explanation {
     /// Why the script is refused where it is, and then what is known at each point, in words.
     pub text: Vec<u8>,
     /// Why the script is refused, by itself: each point that fails, and a way to the first. It is empty where the script has
-    /// a certificate.
+    /// a certificate. No clause says which words these are.
     pub why: Vec<u8>,
     /// Why the script is refused, if it is.
     pub refusal: Option<Refusal>,

@@ -26,7 +26,7 @@ pub record SharedFacts : Type 0 where
 pub record PointFacts : Type 0 where
   -- what is known there
   pub facts : Facts
-  -- the most commands that are sent from there on, where no loop round the point has a turn left
+  -- no more commands are sent from there on, where no loop round the point has a turn left
   pub base : ℕ
   -- the commands that each turn left adds, of each loop round the point, the outermost first
   pub turns : ArrayVec ℕ

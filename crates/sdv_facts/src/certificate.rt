@@ -17,7 +17,7 @@ pub const MAX_SHAPES: usize = 65_536;
 pub struct PointFacts {
     /// What is known there.
     pub facts: Facts,
-    /// The most commands that are sent from there on, where no loop round the point has a turn left.
+    /// No more commands are sent from there on, where no loop round the point has a turn left.
     pub base: u64,
     /// The commands that each turn left adds, of each loop round the point, the outermost first.
     pub turns: ArrayVec<u64, 4>,

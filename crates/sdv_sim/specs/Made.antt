@@ -28,14 +28,15 @@ pub record IsOtherSize (codes : List ℕ) (size wanted : ℕ) : Type 0 where
   pub known : are_codes codes ≡ true
   pub other : size ≢ wanted
 
--- A read of the image failed. It left an image of the same size, which shows the same blocks and counts the failure.
+-- Some image of the same size shows the same blocks and counts more failures, or both counts stand at their greatest: that is
+-- all that is known of an image that is gone, of which a read failed.
 pub record IsUnread {I : Type 0} (size : I → ℕ) (shown : I → Option (List Block)) (failed : I → ℕ) (image : I) : Type 0 where
   pub after : I
   pub same_size : size after ≡ size image
   pub same_blocks : shown after ≡ shown image
   pub counted : HasFailed (failed image) (failed after)
 
--- each refusal comes where none before it is due, and that of a read where one failed
+-- each refusal comes where none before it is due; that of a read only where there is an image as a failed read leaves it
 abbrev pub IsRefused : (codes : List ℕ) → (size wanted : ℕ) → (unread : Type 0) → SimFault → Type 0
 IsRefused codes size wanted unread faults.Description = are_codes codes ≡ false
 IsRefused codes size wanted unread faults.ImageLength = IsOtherSize codes size wanted

@@ -41,7 +41,7 @@ fn registers_fit(csd: &[u8; 15], sectors: u32) -> usize
 impl<I: Image + Drop> Sim<I> {
     /// A card of a description before its first command, over an image of its blocks, with the values of a schedule,
     /// one for each event. The image has the blocks of the user area, and behind them those of each boot partition. No
-    /// call of it has failed. Later calls take no memory.
+    /// call of it failed here. Later calls take no memory.
     ///
     /// # Errors
     ///
