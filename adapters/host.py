@@ -45,21 +45,20 @@ class Card:
 
 def bring_up(card):
     """The relative card address, in its place in an argument, and whether addresses count blocks."""
-    card.command(0, 0, "-")
-    card.command(8, 0x1AA, "R7")
-    for _ in range(1000):
-        status = card.command(55, 0)
-        ocr = card.command(41, 0x40FF8000, "R3") if status is not None and status >> 5 & 1 else None
-        if ocr is None:
-            card.command(0, 0, "-")  # the card may be in ready state: begin anew
-            card.command(8, 0x1AA, "R7")
-        elif ocr >> 31:
-            break
-    card.command(2, 0, "R2")
-    rca = card.command(3, 0, "R6") & 0xFFFF0000
-    card.command(7, rca)
-    card.command(16, 512)
-    return rca, bool(ocr >> 30 & 1)
+    for _ in range(100):  # begins anew where an answer is lost: the card may have taken the command or not
+        card.command(0, 0, "-")
+        card.command(8, 0x1AA, "R7")
+        for _ in range(100):
+            status = card.command(55, 0)
+            ocr = card.command(41, 0x40FF8000, "R3") if status is not None and status >> 5 & 1 else None
+            if ocr is None or ocr >> 31:
+                break
+        if ocr is None or not ocr >> 31 or card.command(2, 0, "R2") is None:
+            continue
+        rca = card.command(3, 0, "R6")
+        if rca is not None and card.command(7, rca & 0xFFFF0000) is not None and card.command(16, 512) is not None:
+            return rca & 0xFFFF0000, bool(ocr >> 30 & 1)
+    sys.exit("host.py: the card does not come up")
 
 
 def until_transfer(card, rca):

@@ -57,8 +57,11 @@ if [ $# -gt 0 ]; then
     done
     exit
 fi
+failed=0
 for name in sd_bring_up sd_read_retry sd_write_poll sd_erase sd_four_lines production/sd_write_verify production/sd_read_many; do
     image "$top/examples/$name.sdv"
     played > "$work/trace"
     echo "$name: $(grep -c '^CMD' "$work/trace") commands, $(tail -n 2 "$work/trace" | paste -s -d ' ' -)"
+    tail -n 2 "$work/trace" | head -n 1 | grep -qx done || failed=1
 done
+exit "$failed"

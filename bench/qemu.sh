@@ -6,7 +6,7 @@
 # over the same controller and a fresh card, and has to have the trace of `sdv drive`, to the letter.
 #
 # It installs qemu-system-x86 with apt-get where it is not there. At its end it prints how the answers of the two cards differ,
-# and why.
+# and why, and runs bench/bare.sh: the player in C on QEMU's board virt, without an operating system.
 set -euo pipefail
 top=$(cd "$(dirname "$0")/.." && pwd)
 export PATH="/opt/rattle/bin:$PATH" LC_ALL=C
@@ -103,4 +103,7 @@ sort differences | uniq -c | sort -k3,3V -k4,4 -k2,2 | awk '{ $1 = sprintf("%4d"
 cut -d ' ' -f 2 differences | sort -uV | while read -r command; do echo "$command: $(why "$command")"; done
 echo
 echo "qemu: $passed ended as beside the simulated card, $played were played with the same trace, $failed otherwise"
+echo
+echo "the player in C on the board virt, without an operating system:"
+sh "$top/bench/bare.sh" || failed=$((failed + 1))
 [ "$failed" -eq 0 ]
