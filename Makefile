@@ -9,7 +9,7 @@ program := crates/sdv/out/sdv
 .PHONY: help quick build firmware check install uninstall
 
 help:
-	@echo "make quick       a first look in two minutes, without proofs"
+	@echo "make quick       a first look in two minutes, without proofs; with SCRIPT=FILE at a script of yours"
 	@echo "make build       proves what changed, with JOBS=$(JOBS) crates side by side, and builds $(program)"
 	@echo "make firmware    builds the player of script tables as a static library, for x86-64 and aarch64"
 	@echo "make check       the gate: every proof from nothing, must-fail edits, tests and examples"
@@ -18,7 +18,7 @@ help:
 	@echo "make uninstall   removes what make install copied"
 
 quick:
-	sh examples/quick.sh
+	sh examples/quick.sh $(if $(SCRIPT),"$(SCRIPT)")
 
 build:
 	rt all check --jobs $(JOBS)

@@ -1,13 +1,14 @@
 #!/bin/sh
-# sh examples/quick.sh
+# sh examples/quick.sh [SCRIPT]
 #
 # A first look, in about two minutes on a new machine. It compiles the program without proving anything, and shows a script
 # that is refused, with the reason; the script with the mend, which is accepted; and a run of it beside a simulated card.
+# With SCRIPT it tells of that script instead: why it is refused, a run that breaks it, or what it leaves open.
 # `make build` proves the program.
 set -eu
 top=$(cd "$(dirname "$0")/.." && pwd)
 export PATH="/opt/rattle/bin:$PATH"
-command -v rt > /dev/null || { echo "rt is not on the path: README.md says where the toolchain comes from" >&2; exit 2; }
+command -v rt > /dev/null || { echo "rt is not in /opt/rattle/bin: see Install in README.md" >&2; exit 2; }
 
 cases=$(mktemp -d)
 mended=$(mktemp)
@@ -18,24 +19,53 @@ words() {
     : > "$cases/$1"
     printf '%s\n' "$2" $3 > "$cases/$1.args"
 }
-words 1 explain "--why refused_block_address.sdv"
-words 2 check "mended.sdv mended.cert"
-words 3 run "mended.sdv mended.cert sd_byte.card new:16"
 
-sed 's/at block 8/at by hc 8/' "$top/examples/refused_block_address.sdv" > "$mended"
-data="--data mended.sdv=$mended --data mended.cert=$top/examples/quick/mended.cert"
-for name in refused_block_address.sdv sd_byte.card; do
-    data="$data --data $name=$top/examples/$name"
-done
-
-echo "Compiling the program. Nothing is proved on the way. This takes about two minutes."
-# shellcheck disable=SC2086
-(cd "$top/crates/sdv" && rt try --cases "$cases" $data) > "$cases/said" 2>&1 || true
+# run_cases WORD..: the program in each case, with these files
+run_cases() {
+    echo "Compiling the program. Nothing is proved on the way. This takes about two minutes."
+    (cd "$top/crates/sdv" && rt try --cases "$cases" "$@") > "$cases/said" 2>&1 || true
+}
 
 # part NUMBER: what the program printed in this case
 part() {
     sed -n "/^== $1\$/,/^case=$1 /p" "$cases/said" | sed '1d;$d'
 }
+
+# shown NUMBER: the same, set off
+shown() {
+    part "$1" | sed 's/^/    /'
+}
+
+if [ $# -gt 0 ]; then
+    [ -r "$1" ] || { echo "cannot use $1" >&2; exit 2; }
+    words 1 explain "--why script.sdv"
+    words 2 refute script.sdv
+    words 3 review script.sdv
+    run_cases --data script.sdv="$(cd "$(dirname "$1")" && pwd)/$(basename "$1")"
+    grep -q '^case=3 ' "$cases/said" || { cat "$cases/said"; exit 1; }
+    echo
+    echo "Why it is refused, if it is:"
+    echo "  sdv explain --why $1"
+    shown 1
+    echo
+    echo "A run that breaks it, if one is found:"
+    echo "  sdv refute $1"
+    shown 2
+    echo
+    echo "What it leaves open for the data, if it is accepted:"
+    echo "  sdv review $1"
+    shown 3
+    echo
+    echo "Nothing was proved. 'make build' proves the program and leaves it as crates/sdv/out/sdv."
+    exit
+fi
+
+words 1 explain "--why refused_block_address.sdv"
+words 2 check "mended.sdv mended.cert"
+words 3 run "mended.sdv mended.cert sd_byte.card new:16"
+sed 's/at block 8/at by hc 8/' "$top/examples/refused_block_address.sdv" > "$mended"
+run_cases --data mended.sdv="$mended" --data mended.cert="$top/examples/quick/mended.cert" \
+    --data refused_block_address.sdv="$top/examples/refused_block_address.sdv" --data sd_byte.card="$top/examples/sd_byte.card"
 part 3 | grep -q '^done$' || { cat "$cases/said"; exit 1; }
 
 echo
@@ -46,10 +76,10 @@ echo
 echo "With 'at by hc 8' the unit is that of the card, and the script is accepted: no run of it sends more than 2,008 commands."
 echo "  sed 's/at block 8/at by hc 8/' examples/refused_block_address.sdv > mended.sdv"
 echo "  sdv check mended.sdv examples/quick/mended.cert"
-part 2 | sed 's/^/    /'
+shown 2
 echo
 echo "It runs beside a simulated card of 16 blocks with byte addresses, and reads block 8 at byte 4096, which is 1000 in hexadecimal:"
 echo "  sdv run mended.sdv examples/quick/mended.cert examples/sd_byte.card new:16"
-part 3 | sed 's/^/    /'
+shown 3
 echo
 echo "Nothing was proved. 'make build' proves the program and leaves it as crates/sdv/out/sdv."
