@@ -2,8 +2,9 @@
  * A driver for a host controller of the SD Host Controller Simplified Specification, version 2.00 or later, by programmed I/O.
  * It is a sample: it was tried on QEMU's controller, and no proof covers it. It needs no heap and no C library.
  *
- * The caller gives the two functions that reach the controller's registers, and has done the platform's part: the controller's
- * memory is mapped, and a card has power 74 clocks after sdhci_start at the latest.
+ * The caller gives the two functions that reach the controller's registers, and does the platform's part: the controller's memory
+ * is mapped, and a millisecond passes between sdhci_start and the first command, in which the card gets power and 74 clocks. The
+ * clock stays at the base clock divided by 256, which is at most 400 kHz for base clocks up to 102 MHz.
  */
 #ifndef SDHCI_H
 #define SDHCI_H
