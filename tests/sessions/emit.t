@@ -31,8 +31,8 @@ A name that could end the comment does not.
 
 Why there is none; nothing is printed, and no file is made, then.
 
-  $ sdv emit a.sdv a.cert while 2>&1 | cut -c 1-18
-  usage: a word does
+  $ sdv emit a.sdv a.cert while 2>&1 | cut -c 1-27
+  usage: NAME is a keyword of
   $ sdv emit a.sdv a.cert 2b --binary c.bin 2>&1 > c.c | cut -c 1-18
   usage: 2b is no NA
   $ sdv emit a.sdv $EXAMPLES/sd_bring_up.cert table --binary c.bin > c.c

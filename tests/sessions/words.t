@@ -67,7 +67,7 @@ Which word is wrong.
   > done
   usage: x is no INDEX (from 0 to 63): sdv frame INDEX ARG
   usage: 4294967296 is no ARG (from 0 to 4294967295): sdv frame INDEX ARG
-  usage: a word does not fit: sdv frame INDEX ARG
+  usage: 0x40 is no INDEX (from 0 to 63): sdv frame INDEX ARG
   usage: 0 is one word too many: sdv frame INDEX ARG
   usage: --out stands twice: sdv try SCRIPT CARD IMAGE [SCHEDULE] [--in FILE] [--out FILE]
   usage: --svg stands twice: sdv decode SCRIPT TRACE [--registers FILE] [--json] [--svg]
@@ -76,13 +76,23 @@ Which word is wrong.
   usage: TRACE is missing: sdv decode SCRIPT TRACE [--registers FILE] [--json] [--svg]
   usage: --in stands twice: sdv run SCRIPT CERT CARD IMAGE [SCHEDULE] [--in FILE] [--out FILE] [--registers FILE]
   [2]
+  $ for words in "frame 0x3f 0x100000000" "graph --no-fault=x a" "review a --json=x" "try a b c --in=e --in f" "sweep a b c d --in=e"; do
+  >     sdv $words
+  > done
+  usage: 0x100000000 is no ARG (from 0 to 4294967295): sdv frame INDEX ARG
+  usage: --no-fault=x is no option: sdv graph SCRIPT [--no-faults]
+  usage: --json=x is no option: sdv review SCRIPT [--json]
+  usage: --in=e stands twice: sdv try SCRIPT CARD IMAGE [SCHEDULE] [--in FILE] [--out FILE]
+  usage: d is one word too many: sdv sweep SCRIPT CARD IMAGE [--in FILE]
+  [2]
   $ up=$EXAMPLES/sd_bring_up.sdv cert=$EXAMPLES/sd_bring_up.cert
-  $ sdv emit $up $cert 9x; sdv emit $up $cert for; sdv emit $up $cert a-b; sdv batch sd "erase 0 1"; sdv batch sd "read 0"
+  $ sdv emit $up $cert 9x; sdv emit $up $cert for; sdv emit $up $cert a-b; sdv emit -- $up $cert for; sdv batch sd "erase 0 1"; sdv batch sd "read 0"
   usage: 9x is no NAME (an identifier of C): sdv emit SCRIPT CERT NAME [--binary FILE]
-  usage: a word does not fit: sdv emit SCRIPT CERT NAME [--binary FILE]
+  usage: NAME is a keyword of C: sdv emit SCRIPT CERT NAME [--binary FILE]
   usage: a-b is no NAME (an identifier of C): sdv emit SCRIPT CERT NAME [--binary FILE]
+  usage: a word does not fit: sdv emit SCRIPT CERT NAME [--binary FILE]
   usage: erase 0 1 is no REQUESTS (read FIRST COUNT and write FIRST COUNT): sdv batch KIND REQUESTS
-  usage: a word does not fit: sdv batch KIND REQUESTS
+  usage: REQUESTS are not read FIRST COUNT and write FIRST COUNT: sdv batch KIND REQUESTS
   [2]
 
 Help is asked for behind the name of a command.

@@ -1,10 +1,12 @@
 -- WHAT IS WRONG with words that are no request of the program: the first word that is wrong, or the one that is missing.
 use Rattle.std.specs.Prelude.{ℕ, Bool, false, true, [], ◌∷◌, ◌++◌, ◌+◌, ◌==◌, ◌&&◌, ◌||◌, List, Option, Some, None, codes, find, fold}
-use Rattle.std.specs.Prelude.{if◌then◌else◌, is_some, length, nat_le, nat_lt, not, option_and_then, slice_get}
+use Rattle.std.specs.Prelude.{if◌then◌else◌, is_some, length, nat_le, nat_lt, not, option_and_then, slice_get, take}
 use Rattle.std.specs.List.{list_all, list_any}
+use Rattle.std.specs.Char.{is_digit as is_digit_of}
 use Rattle.std.specs.Str.{bytes_eq}
 use Rattle.clap.specs.Words.{Text}
-use Rattle.sdv_text.specs.Fronts.{after, is_digit, number_after}
+use Rattle.sdv_text.specs.Fronts.{after, is_digit, run}
+use Rattle.sdv_text.specs.Number.{base_of, digits_of, value_of}
 use Rattle.sdv_command_line.specs.Commands.{Command, Word, flag, form, optional, required, with_value}
 use Rattle.sdv_command_line.specs.CommandPages.{command_named}
 use Rattle.sdv_command_line.specs.declared.mistake.Mistake.{Mistake as CodeMistake}
@@ -25,6 +27,10 @@ pub data Mistake : Type 0 where
   twice : (word : Text) → Mistake
   -- `--json` and `--svg` are both named
   two_forms : Mistake
+  -- the name of an array is a keyword of C
+  keyword : Mistake
+  -- the requests of a batch are none
+  no_requests : Mistake
 
 -- how far the words of a command were read
 pub data Reading : Type 0 where
@@ -34,23 +40,31 @@ pub data Reading : Type 0 where
   at_value : (place : ℕ) (name value : Text) → Reading
   wrong : Mistake → Reading
 
--- OPTIONS: words that begin with `-`, but `-` itself, which is a file; `--` and `--NAME=VALUE` are left to clap
+-- OPTIONS: words that begin with `-`, but `-` itself, which is a file; `--` is left to clap
 
 abbrev pub is_option : Text → Bool
 is_option [] = false
 is_option (b ∷ []) = false
 is_option (b ∷ c ∷ bs) = b == 45
 
--- the name behind `--`
+abbrev pub is_equals : (byte : ℕ) → Bool
+is_equals byte = byte == 61
+
+abbrev pub is_in_name : (byte : ℕ) → Bool
+is_in_name byte = not (is_equals byte)
+
+abbrev pub before_equals : Text → Text
+before_equals text = take (run is_in_name text) text
+
+-- the name behind `--`, before a value
 abbrev pub option_name : Text → Option Text
 option_name [] = None
 option_name (b ∷ []) = None
-option_name (b ∷ c ∷ name) = if (b == 45) && (c == 45) then Some name else None
+option_name (b ∷ c ∷ name) = if (b == 45) && (c == 45) then Some (before_equals name) else None
 
-abbrev pub is_left : (name : Option Text) → Bool
-is_left None = false
-is_left (Some []) = true
-is_left (Some (b ∷ bs)) = list_any (λ byte. byte == 61) (b ∷ bs)
+-- the word is `--NAME=VALUE`
+abbrev pub has_value : Text → Bool
+has_value word = list_any is_equals word
 
 abbrev pub has_option : (name : Text) → Word → Bool
 has_option name (with_value n value) = bytes_eq n name
@@ -61,9 +75,10 @@ abbrev pub option_in : List Word → (name : Option Text) → Option Word
 option_in words name = option_and_then (λ name. find (has_option name) words) name
 
 abbrev pub after_option : (place : ℕ) → (word : Text) → Option Word → Reading
-after_option place word None = if is_left (option_name word) then at_place place else wrong (no_option word)
-after_option place word (Some (with_value name value)) = at_value place name value
-after_option place word (Some w) = at_place place
+after_option place word None = if bytes_eq word (codes "--") then at_place place else wrong (no_option word)
+after_option place word (Some (with_value name value)) =
+    if has_value word then at_place place else at_value place name value
+after_option place word (Some w) = if has_value word then wrong (no_option word) else at_place place
 
 -- WORDS IN A PLACE
 
@@ -76,12 +91,14 @@ place_name (Some (required name)) = Some name
 place_name (Some (optional name)) = Some name
 place_name _ = None
 
--- a number up to this one; one of hexadecimal digits is left to the command
-abbrev pub is_decimal : (most : ℕ) → Text → Bool
-is_decimal most word = nat_lt 0 (length word) && list_all is_digit word && nat_le (number_after 0 word) most
+-- a number as texts write it
+abbrev pub is_number : Text → Bool
+is_number word =
+    nat_lt 0 (length (digits_of word)) && list_all (λ byte. is_digit_of byte (base_of word)) (digits_of word)
 
+-- up to this one
 abbrev pub is_within : (most : ℕ) → Text → Bool
-is_within most word = is_some (after (codes "0x") word) || is_decimal most word
+is_within most word = is_number word && nat_le (value_of word) most
 
 -- a letter or `_`
 abbrev pub is_letter : (byte : ℕ) → Bool
@@ -90,12 +107,12 @@ is_letter byte = (nat_le 65 byte && nat_le byte 90) || (nat_le 97 byte && nat_le
 abbrev pub is_further : (byte : ℕ) → Bool
 is_further byte = is_letter byte || is_digit byte
 
--- letters, digits and `_`, of which the first is no digit; a word of C itself is left to the command
+-- letters, digits and `_`, of which the first is no digit; a keyword of C is left to the command
 abbrev pub is_name : Text → Bool
 is_name [] = false
 is_name (byte ∷ bytes) = is_letter byte && list_all is_further bytes
 
--- the first word of requests; one of another byte than a letter is left to the command
+-- the first word of requests; the others, and one of another byte than a letter, are left to the command
 abbrev pub are_requests : Text → Bool
 are_requests [] = true
 are_requests (byte ∷ bytes) =
@@ -145,24 +162,47 @@ is_same word other = bytes_eq other word
 abbrev pub is_among : List Text → Text → Bool
 is_among words word = list_any (is_same word) words
 
+abbrev pub is_named : (name : Text) → (other : Option Text) → Bool
+is_named name None = false
+is_named name (Some other) = bytes_eq other name
+
+-- one of the words is the option of this name
+abbrev pub names_option : List Text → (name : Option Text) → Bool
+names_option words None = false
+names_option words (Some name) = list_any (λ word. is_named name (option_name word)) words
+
 -- the first option that is named again
 abbrev pub repeated : List Text → Option Text
 repeated [] = None
-repeated (word ∷ words) = if is_option word && is_among words word then Some word else repeated words
+repeated (word ∷ words) = if names_option words (option_name word) then Some word else repeated words
 
 abbrev pub asks_two_forms : List Text → Bool
 asks_two_forms words = is_among words (codes "--json") && is_among words (codes "--svg")
 
-abbrev pub mistake_of_options : List Text → (again : Option Text) → Mistake
-mistake_of_options words (Some word) = twice word
-mistake_of_options words None = if asks_two_forms words then two_forms else unknown
+-- WHAT THE COMMAND ITSELF FINDS: looked at where nothing else is wrong
 
-abbrev pub mistake_or_options : Mistake → List Text → Mistake
-mistake_or_options unknown words = mistake_of_options words (repeated words)
-mistake_or_options mistake words = mistake
+abbrev pub mistake_of_command : (command : Text) → Mistake
+mistake_of_command command =
+    if bytes_eq command (codes "emit") then keyword
+    else if bytes_eq command (codes "batch") then no_requests
+    else unknown
+
+abbrev pub mistake_of_words : (command : Text) → List Text → Mistake
+mistake_of_words command words =
+    if asks_two_forms words then two_forms
+    else if is_among words (codes "--") then unknown
+    else mistake_of_command command
+
+abbrev pub mistake_of_all : (command : Text) → List Text → (again : Option Text) → Mistake
+mistake_of_all command words (Some word) = twice word
+mistake_of_all command words None = mistake_of_words command words
+
+abbrev pub mistake_or : (command : Text) → Mistake → List Text → Mistake
+mistake_or command unknown words = mistake_of_all command words (repeated words)
+mistake_or command mistake words = mistake
 
 abbrev pub mistake_in : Command → List Text → Mistake
-mistake_in c words = mistake_or_options (mistake_by_words c words) words
+mistake_in c words = mistake_or c.name (mistake_by_words c words) words
 
 -- WHAT IS SAID of them, on one line
 
@@ -184,6 +224,8 @@ mistake_words (missing name) = name ++ codes " is missing: "
 mistake_words (no_value name value) = codes "--" ++ (name ++ (codes " needs " ++ (value ++ codes ": ")))
 mistake_words (twice word) = word ++ codes " stands twice: "
 mistake_words two_forms = codes "--json and --svg exclude each other: "
+mistake_words keyword = codes "NAME is a keyword of C: "
+mistake_words no_requests = codes "REQUESTS are not read FIRST COUNT and write FIRST COUNT: "
 
 -- a name that asks for help
 abbrev pub asks_help : (name : Text) → Bool
@@ -224,6 +266,8 @@ seen_mistake (mistakes.Missing name) = missing name.now
 seen_mistake (mistakes.NoValue name value) = no_value name.now value.now
 seen_mistake (mistakes.Twice word) = twice word.now
 seen_mistake mistakes.TwoForms = two_forms
+seen_mistake mistakes.Keyword = keyword
+seen_mistake mistakes.NoRequests = no_requests
 
 abbrev pub seen_reading : CodeReading → Reading
 seen_reading (readings.AtPlace place) = at_place place

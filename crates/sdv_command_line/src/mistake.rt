@@ -5,18 +5,19 @@ ghost use Rattle.clap.specs.Walk.{texts};
 ghost use Rattle.sdv_command_line.specs.Commands.{seen_command, seen_word};
 ghost use Rattle.sdv_command_line.specs.CommandPages.{command_named};
 ghost use Rattle.sdv_command_line.specs.declared.table.CommandEntry.{CommandEntry as Entry};
-ghost use Rattle.sdv_command_line.specs.Mistakes.{after_option, after_place, after_word, has_option, is_kind, is_left, is_option};
-ghost use Rattle.sdv_command_line.specs.Mistakes.{command_line_words, mistake_at, mistake_in, mistake_words};
+ghost use Rattle.sdv_command_line.specs.Mistakes.{after_option, after_place, after_word, before_equals, has_option, has_value, is_kind};
+ghost use Rattle.sdv_command_line.specs.Mistakes.{command_line_words, is_named, is_option, mistake_at, mistake_in, mistake_of_all};
+ghost use Rattle.sdv_command_line.specs.Mistakes.{mistake_of_command, mistake_of_words, mistake_words, names_option};
 ghost use Rattle.std.specs.List.{list_all};
-ghost use Rattle.sdv_text.specs.Fronts.{is_digit};
-ghost use Rattle.sdv_command_line.specs.Mistakes.{are_requests, asks_help, help_words, helped, is_among, is_decimal, is_further, is_letter, is_name, is_within};
-ghost use Rattle.sdv_command_line.specs.Mistakes.{mistake_by_words, mistake_of_options, no_command_words, range_words, repeated};
-ghost use Rattle.sdv_command_line.specs.Mistakes.{fits, option_in, option_name, place_name, seen_mistake, seen_reading};
+ghost use Rattle.sdv_text.specs.Fronts.{run};
+ghost use Rattle.sdv_command_line.specs.Mistakes.{are_requests, asks_help, help_words, helped, is_among, is_further, is_letter, is_name, is_within};
+ghost use Rattle.sdv_command_line.specs.Mistakes.{mistake_by_words, no_command_words, range_words, repeated};
+ghost use Rattle.sdv_command_line.specs.Mistakes.{fits, is_in_name, option_in, option_name, place_name, seen_mistake, seen_reading};
 ghost use Rattle.sdv_command_line.specs.Mistakes.{usage_line, wrong_words};
 
 use crate::help_page::{command_named, put, put_form};
 use crate::table::{CommandEntry, Word};
-use sdv_text::{after, capped_value};
+use sdv_text::{after, number_of};
 use std::alloc::{AllocError, Global};
 
 /// What is wrong with the words behind the name of a command.
@@ -40,6 +41,10 @@ pub enum Mistake<'a> {
     Twice(&'a str),
     /// `--json` and `--svg` are both named.
     TwoForms,
+    /// The name of an array is a keyword of C.
+    Keyword,
+    /// The requests of a batch are none.
+    NoRequests,
 }
 
 /// How far the words of a command were read.
@@ -188,6 +193,13 @@ fn put_mistake(line: &mut Vec<u8>, mistake: Mistake<'_>) -> Result<(), AllocErro
         }
         Mistake::Twice(word) => put_both(line, word, " stands twice: "),
         Mistake::TwoForms => put(line, "--json and --svg exclude each other: "),
+        Mistake::Keyword => put(line, "NAME is a keyword of C: "),
+        Mistake::NoRequests => {
+            put(
+                line,
+                "REQUESTS are not read FIRST COUNT and write FIRST COUNT: ",
+            )
+        }
     }
 }
 
@@ -203,24 +215,42 @@ fn mistake_in<'a>(entry: &CommandEntry, words: &[&'a str]) -> Mistake<'a>
     ensures { seen_mistake result ≡ mistake_in (seen_command entry.now) (texts words.now) }
 {
     match mistake_by_words(entry, words) {
-        Mistake::Unknown => mistake_of_options(words),
+        Mistake::Unknown => mistake_of_all(entry.name, words),
         mistake => mistake,
     }
 }
 
-/// What is wrong with the options, where no word for itself is wrong.
-fn mistake_of_options<'a>(words: &[&'a str]) -> Mistake<'a>
-    ensures { seen_mistake result ≡ mistake_of_options (texts words.now) (repeated (texts words.now)) }
+/// What is wrong with the words together, where none for itself is.
+fn mistake_of_all<'a>(command: &str, words: &[&'a str]) -> Mistake<'a>
+    ensures { seen_mistake result ≡ mistake_of_all command.now (texts words.now) (repeated (texts words.now)) }
 {
     match repeated(words) {
         Some(word) => Mistake::Twice(word),
-        None => {
-            if is_among(words, "--json") && is_among(words, "--svg") {
-                Mistake::TwoForms
-            } else {
-                Mistake::Unknown
-            }
-        }
+        None => mistake_of_words(command, words),
+    }
+}
+
+/// The same where no option is named again.
+fn mistake_of_words<'a>(command: &str, words: &[&'a str]) -> Mistake<'a>
+    ensures { seen_mistake result ≡ mistake_of_words command.now (texts words.now) }
+{
+    if is_among(words, "--json") && is_among(words, "--svg") {
+        Mistake::TwoForms
+    } else if is_among(words, "--") {
+        Mistake::Unknown
+    } else {
+        mistake_of_command(command)
+    }
+}
+
+/// What a command refuses that takes its words otherwise.
+fn mistake_of_command<'a>(command: &str) -> Mistake<'a>
+    ensures { seen_mistake result ≡ mistake_of_command command.now }
+{
+    match command {
+        "emit" => Mistake::Keyword,
+        "batch" => Mistake::NoRequests,
+        _ => Mistake::Unknown,
     }
 }
 
@@ -235,6 +265,30 @@ fn is_among(words: &[&str], word: &str) -> bool
     false
 }
 
+/// One of the words is the option of this name.
+fn names_option(words: &[&str], name: Option<&[u8]>) -> bool
+    ensures { result ≡ names_option (texts words.now) (option_map (λ (name : Bor (List ℕ)). name.now) name.entry) }
+{
+    let Some(name) = name else {
+        return false;
+    };
+    for word in words {
+        if is_named(name, option_name(word)) {
+            return true;
+        }
+    }
+    false
+}
+
+fn is_named(name: &[u8], other: Option<&[u8]>) -> bool
+    ensures { result ≡ is_named name.now (option_map (λ (name : Bor (List ℕ)). name.now) other.entry) }
+{
+    match other {
+        Some(other) => other == name,
+        None => false,
+    }
+}
+
 /// The first option that is named again.
 fn repeated<'a>(words: &[&'a str]) -> Option<&'a str>
     ensures { option_map (λ (word : Bor (List ℕ)). word.now) result ≡ repeated (texts words.now) }
@@ -242,7 +296,7 @@ fn repeated<'a>(words: &[&'a str]) -> Option<&'a str>
     match words {
         [] => None,
         [word, rest @ ..] => {
-            if is_option(word) && is_among(rest, word) {
+            if names_option(rest, option_name(word)) {
                 Some(word)
             } else {
                 repeated(rest)
@@ -287,24 +341,38 @@ fn is_option(word: &str) -> bool
     }
 }
 
-/// The name behind `--`.
+/// The name behind `--`, before a value.
 fn option_name(word: &str) -> Option<&[u8]>
     ensures { option_map (λ (name : Bor (List ℕ)). name.now) result ≡ option_name word.now }
 {
     match word.as_bytes() {
-        [first, second, name @ ..] if *first == b'-' && *second == b'-' => Some(name),
+        [first, second, name @ ..] if *first == b'-' && *second == b'-' => {
+            Some(before_equals(name))
+        }
         _ => None,
     }
 }
 
-/// The word is left to `clap`: it is `--` or `--NAME=VALUE`.
-fn is_left(name: Option<&[u8]>) -> bool
-    ensures { result ≡ is_left (option_map (λ (name : Bor (List ℕ)). name.now) name.entry) }
+fn before_equals(text: &[u8]) -> &[u8]
+    ensures { result.now ≡ before_equals text.now }
 {
-    match name {
-        Some(name) => name.is_empty() || name.contains(&b'='),
-        None => false,
-    }
+    &text[..name_len(text)]
+}
+
+/// How many bytes stand before `=`.
+fn name_len(text: &[u8]) -> usize
+    ensures { result ≡ run is_in_name text.now }
+{
+    text.iter()
+        .take_while(|byte| !matches!(**byte, b'='))
+        .count()
+}
+
+/// The word is `--NAME=VALUE`.
+fn has_value(word: &str) -> bool
+    ensures { result ≡ has_value word.now }
+{
+    word.as_bytes().contains(&b'=')
 }
 
 fn has_option(name: &[u8], word: Word) -> bool
@@ -334,10 +402,12 @@ fn after_option<'a>(place: usize, word: &'a str, option: Option<Word>) -> Readin
     ensures { seen_reading result ≡ after_option place word.now (option_map seen_word option) }
 {
     match option {
-        Some(Word::WithValue { name, value }) => Reading::AtValue { place, name, value },
-        Some(_) => Reading::AtPlace(place),
-        None if is_left(option_name(word)) => Reading::AtPlace(place),
+        None if word == "--" => Reading::AtPlace(place),
         None => Reading::Wrong(Mistake::NoOption(word)),
+        Some(Word::WithValue { .. }) if has_value(word) => Reading::AtPlace(place),
+        Some(Word::WithValue { name, value }) => Reading::AtValue { place, name, value },
+        Some(_) if has_value(word) => Reading::Wrong(Mistake::NoOption(word)),
+        Some(_) => Reading::AtPlace(place),
     }
 }
 
@@ -359,25 +429,14 @@ fn is_kind(word: &str) -> bool
     word == "sd" || word == "emmc"
 }
 
-fn are_digits(text: &[u8]) -> bool
-    ensures { result ≡ list_all is_digit text.now }
-{
-    text.iter().all(|byte| byte.is_ascii_digit())
-}
-
-fn is_decimal(most: u64, word: &[u8]) -> bool
-    requires { most ≤ 4294967295 }
-    ensures { result ≡ is_decimal most word.now }
-{
-    !word.is_empty() && are_digits(word) && capped_value(word, 1 << 32) <= most
-}
-
-/// A number up to this one; one of hexadecimal digits is left to the command.
-fn is_within(most: u64, word: &[u8]) -> bool
-    requires { most ≤ 4294967295 }
+/// A number up to this one.
+fn is_within(most: u32, word: &str) -> bool
     ensures { result ≡ is_within most word.now }
 {
-    after(word, b"0x").is_some() || is_decimal(most, word)
+    match number_of(word) {
+        Some(number) => number <= most,
+        None => false,
+    }
 }
 
 /// A letter or `_`.
@@ -410,7 +469,7 @@ fn is_name(word: &[u8]) -> bool
     }
 }
 
-/// The first word of requests fits; one of another byte than a letter is left to the command.
+/// The first word of requests fits; the others, and one of another byte than a letter, are left to the command.
 fn are_requests(word: &[u8]) -> bool
     ensures { result ≡ are_requests word.now }
 {
@@ -427,8 +486,8 @@ fn fits(name: &str, word: &str) -> bool
 {
     match name {
         "KIND" => is_kind(word),
-        "INDEX" => is_within(63, word.as_bytes()),
-        "ARG" => is_within(0xffff_ffff, word.as_bytes()),
+        "INDEX" => is_within(63, word),
+        "ARG" => is_within(u32::MAX, word),
         "NAME" => is_name(word.as_bytes()),
         "REQUESTS" => are_requests(word.as_bytes()),
         _ => true,
