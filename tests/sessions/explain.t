@@ -40,6 +40,8 @@ Explanations of scripts in files.
 A script that needs too many commands or shapes has no listing.
 
   $ printf 'card sd\nsend 0 { else { } } loop 257 { loop 65535 { loop 65535 { send 0 { else { } } } else { } } else { } } else { }\nfault stop' | sdv explain -
+  why: a run may send more than 1099511627776 commands, or its statements meet more than 65536 shapes of cards in all
+  hint: give loops fewer turns, or make two scripts of it, each with a bring-up of its own
   refused TooMany
   [1]
 

@@ -1,7 +1,7 @@
 -- `explain SCRIPT [CERT] [--why]`: what is known at each point of the script of a file is printed, and why the script is
 -- refused, with a run that refutes it, if one was found; of a text that is no script, the page of its fault; of a
 -- certificate, what the checker says of it.
-use Rattle.std.specs.Prelude.{◌≡◌, ◌⊎◌, ◌-◌, Bool, ℕ, Option, Some, None, if◌then◌else◌, length, option_map, take}
+use Rattle.std.specs.Prelude.{◌≡◌, ◌⊎◌, ◌-◌, Bool, ℕ, Option, Some, None, codes, if◌then◌else◌, length, option_map, take}
 use Rattle.clap.specs.Words.{Text}
 use Rattle.sdv_certify.specs.declared.fault.CertifyFault.TheVariants as certifies
 use Rattle.sdv_explain.specs.declared.explaining.Explanation.{Explanation}
@@ -70,13 +70,18 @@ abbrev pub IsFaultPage : (script : Text) → (told : Option Fault) → (text : T
 IsFaultPage script told text =
     (fault : ScriptFault) × (told ≡ Some (Script fault)) × IsNoScript script × Tells script fault text
 
-abbrev pub IsExplanation : (only_why : Bool) → (script : Text) → (told : Option Fault) → (text : Text) → Type 0
-IsExplanation only_why script told text = IsExplained only_why script told text ⊎ IsFaultPage script told text
+-- what is said where too many commands may be sent, or there are too many shapes
+abbrev pub too_many_words : Text
+too_many_words = codes "why: a run may send more than 1099511627776 commands, or its statements meet more than 65536 shapes of cards in all\nhint: give loops fewer turns, or make two scripts of it, each with a bring-up of its own\n"
 
--- why there is none: too much is known of the script
-abbrev pub IsUnexplained : (script : Text) → Fault → Type 0
-IsUnexplained script (Uncertified fault) = (fault ≡ certifies.TooMany) × Unexplained script explains.TooMany
-IsUnexplained script fault = ⊥
+abbrev pub IsTooMany : (told : Option Fault) → (text : Text) → Type 0
+IsTooMany told text = (told ≡ Some (Uncertified certifies.TooMany)) × (text ≡ too_many_words)
+
+-- the text is the script's explanation, or the page of what is no script, or too much is known of the script
+abbrev pub IsExplanation : (only_why : Bool) → (script : Text) → (told : Option Fault) → (text : Text) → Type 0
+IsExplanation only_why script told text =
+    IsExplained only_why script told text
+    ⊎ (IsFaultPage script told text ⊎ (Unexplained script explains.TooMany × IsTooMany told text))
 
 -- what the checker answers by a verdict
 abbrev pub fault_of_refusal : Option Refuses → Option Fault
@@ -100,7 +105,7 @@ HasNoAnswer fault = ⊥
 
 -- the file of the certificate is read only where that of the script gave a text
 abbrev pub ExplainsText : Files → ExplainNames → (script : Text) → Option Text → Ending
-ExplainsText files names script None = Reports (IsExplanation names.why script) (IsUnexplained script)
+ExplainsText files names script None = Reports (IsExplanation names.why script) HasNoAnswer
 ExplainsText files names script (Some file) =
     OverText files file (λ certificate. Reports (IsJudgement script certificate) HasNoAnswer)
 

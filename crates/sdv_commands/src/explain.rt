@@ -5,7 +5,7 @@ ghost use Rattle.sdv_check.specs.Verified.{IsNoScript};
 ghost use Rattle.sdv_command_line.specs.Requests.{explain_names_of};
 ghost use Rattle.sdv_files.specs.Outcomes.{OverText, Reports, outcome_of};
 ghost use Rattle.sdv_commands.specs.Explain.{ExplainEnds, ExplainsText, HasNoAnswer, IsExplanation, IsFaultPage, IsJudgement};
-ghost use Rattle.sdv_commands.specs.Explain.{IsRefusedAt, IsUnexplained, IsVerdict, MayShowRun, fault_of_refusal};
+ghost use Rattle.sdv_commands.specs.Explain.{IsRefusedAt, IsTooMany, IsVerdict, MayShowRun, fault_of_refusal};
 ghost use Rattle.sdv_commands.specs.Explain.{behind_reason, put_behind_reason};
 
 use sdv_certify::CertifyFault;
@@ -78,8 +78,7 @@ fn judge_file<'a, S: Store, O: Write>(
 ///
 /// # Errors
 ///
-/// - [`Fault::Uncertified`]: the script has no certificate, and the explanation was printed, which says why; or too much is
-///   known of it, and nothing was printed.
+/// - [`Fault::Uncertified`]: the script has no certificate, and the explanation was printed, which says why.
 /// - [`Fault::Script`]: the text is no script. The page of the fault was printed.
 /// - [`Fault::Output`]: the output failed. A part of the explanation or of the page was printed.
 /// - [`Fault::Memory`]: memory was refused. Nothing was printed.
@@ -89,13 +88,13 @@ pub fn explain_text<'a, O: Write>(
     only_why: bool,
     out: &mut O,
 ) -> Result<(), Fault<'a>>
-    ensures { Reports (IsExplanation only_why script.now) (IsUnexplained script.now)
+    ensures { Reports (IsExplanation only_why script.now) HasNoAnswer
         (outcome_of result) (O.contents out.old) (O.contents out.new) }
 {
     let Explanation { text, why, refusal } = match explain(alloc, script) {
         Ok(explanation) => explanation,
         Err(ExplainFault::Script(fault)) => return print_page(alloc, script, fault, out),
-        Err(ExplainFault::TooMany) => return Err(Fault::Uncertified(CertifyFault::TooMany)),
+        Err(ExplainFault::TooMany) => return print_too_many(out),
         Err(ExplainFault::Memory) => return Err(Fault::Memory),
     };
     let shown = shown_of(only_why, text, why);
@@ -105,6 +104,18 @@ pub fn explain_text<'a, O: Write>(
         None => Ok(()),
         Some(refusal) => Err(Fault::Uncertified(refusal.fault)),
     }
+}
+
+/// What is said where too many commands may be sent, or there are too many shapes.
+const TOO_MANY: &str =
+    "why: a run may send more than 1099511627776 commands, or its statements meet more than 65536 shapes of cards in all\nhint: give loops fewer turns, or make two scripts of it, each with a bring-up of its own\n";
+
+/// Says so.
+fn print_too_many<'a, O: Write>(out: &mut O) -> Result<(), Fault<'a>>
+    ensures { Reports IsTooMany HasNoAnswer (outcome_of result) (O.contents out.old) (O.contents out.new) }
+{
+    print_text(TOO_MANY.as_bytes(), out)?;
+    Err(Fault::Uncertified(CertifyFault::TooMany))
 }
 
 /// What is shown of an explanation.
