@@ -26,7 +26,7 @@ pub struct Told {
 pub enum Deed {
     /// An event of the tables.
     Known(Event),
-    /// CMD18, or CMD25 where it writes, of which no line tells yet how many blocks it announces.
+    /// CMD18 or CMD25, as long as no line has told how many blocks it announces.
     Begins {
         /// It is CMD25.
         write: bool,
