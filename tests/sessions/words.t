@@ -74,7 +74,7 @@ Which word is wrong.
   usage: --json and --svg exclude each other: sdv decode SCRIPT TRACE [--registers FILE] [--json] [--svg]
   usage: --json stands twice: sdv decode SCRIPT TRACE [--registers FILE] [--json] [--svg]
   usage: TRACE is missing: sdv decode SCRIPT TRACE [--registers FILE] [--json] [--svg]
-  usage: --in stands twice: sdv run SCRIPT CERT CARD IMAGE [SCHEDULE] [--in FILE] [--out FILE] [--registers FILE]
+  usage: --in needs FILE: sdv run SCRIPT CERT CARD IMAGE [SCHEDULE] [--in FILE] [--out FILE] [--registers FILE]
   [2]
   $ for words in "frame 0x3f 0x100000000" "graph --no-fault=x a" "review a --json=x" "try a b c --in=e --in f" "sweep a b c d --in=e"; do
   >     sdv $words
@@ -90,9 +90,18 @@ Which word is wrong.
   usage: 9x is no NAME (an identifier of C): sdv emit SCRIPT CERT NAME [--binary FILE]
   usage: NAME is a keyword of C: sdv emit SCRIPT CERT NAME [--binary FILE]
   usage: a-b is no NAME (an identifier of C): sdv emit SCRIPT CERT NAME [--binary FILE]
-  usage: a word does not fit: sdv emit SCRIPT CERT NAME [--binary FILE]
+  usage: NAME is a keyword of C: sdv emit SCRIPT CERT NAME [--binary FILE]
   usage: erase 0 1 is no REQUESTS (read FIRST COUNT and write FIRST COUNT): sdv batch KIND REQUESTS
   usage: REQUESTS are not read FIRST COUNT and write FIRST COUNT: sdv batch KIND REQUESTS
+  [2]
+
+An option is no value, and behind `--` there is none.
+
+  $ sdv drive $up $cert --in --out o; sdv frame -- -1 0; sdv explain -- --why a b; sdv review -- --json --json
+  usage: --in needs FILE: sdv drive SCRIPT CERT [--in FILE] [--out FILE] [--trace FILE]
+  usage: -1 is no INDEX (from 0 to 63): sdv frame INDEX ARG
+  usage: b is one word too many: sdv explain SCRIPT [CERT] [--why]
+  usage: --json is one word too many: sdv review SCRIPT [--json]
   [2]
 
 Help is asked for behind the name of a command.

@@ -1,6 +1,6 @@
 -- WHAT IS WRONG with words that are no request of the program: the first word that is wrong, or the one that is missing.
 use Rattle.std.specs.Prelude.{ℕ, Bool, false, true, [], ◌∷◌, ◌++◌, ◌+◌, ◌==◌, ◌&&◌, ◌||◌, List, Option, Some, None, codes, find, fold}
-use Rattle.std.specs.Prelude.{if◌then◌else◌, is_some, length, nat_le, nat_lt, not, option_and_then, slice_get, take}
+use Rattle.std.specs.Prelude.{if◌then◌else◌, is_some, length, nat_le, nat_lt, not, option_and_then, slice_get, take, take_while}
 use Rattle.std.specs.List.{list_all, list_any}
 use Rattle.std.specs.Char.{is_digit as is_digit_of}
 use Rattle.std.specs.Str.{bytes_eq}
@@ -34,13 +34,13 @@ pub data Mistake : Type 0 where
 
 -- how far the words of a command were read
 pub data Reading : Type 0 where
-  -- the next word in a place is that of this place
-  at_place : (place : ℕ) → Reading
+  -- the next word in a place is that of this place; behind `--` each word is one in a place
+  at_place : (place : ℕ) (trailing : Bool) → Reading
   -- the next word is the value of this option
   at_value : (place : ℕ) (name value : Text) → Reading
   wrong : Mistake → Reading
 
--- OPTIONS: words that begin with `-`, but `-` itself, which is a file; `--` is left to clap
+-- OPTIONS: words that begin with `-`, but `-` itself, which is a file; behind `--` there are none
 
 abbrev pub is_option : Text → Bool
 is_option [] = false
@@ -75,10 +75,12 @@ abbrev pub option_in : List Word → (name : Option Text) → Option Word
 option_in words name = option_and_then (λ name. find (has_option name) words) name
 
 abbrev pub after_option : (place : ℕ) → (word : Text) → Option Word → Reading
-after_option place word None = if bytes_eq word (codes "--") then at_place place else wrong (no_option word)
+after_option place word None = if bytes_eq word (codes "--") then at_place place true else wrong (no_option word)
 after_option place word (Some (with_value name value)) =
-    if has_value word then at_place place else at_value place name value
-after_option place word (Some w) = if has_value word then wrong (no_option word) else at_place place
+    if has_value word then at_place place false else at_value place name value
+after_option place word (Some (flag name)) =
+    if has_value word then wrong (no_option word) else at_place place false
+after_option place word (Some w) = at_place place false
 
 -- WORDS IN A PLACE
 
@@ -128,17 +130,19 @@ fits name word =
     else if bytes_eq name (codes "REQUESTS") then are_requests word
     else true
 
-abbrev pub after_place : (place : ℕ) → (word : Text) → (name : Option Text) → Reading
-after_place place word None = wrong (one_too_many word)
-after_place place word (Some name) = if fits name word then at_place (place + 1) else wrong (misfit name word)
+abbrev pub after_place : (place : ℕ) (trailing : Bool) → (word : Text) → (name : Option Text) → Reading
+after_place place trailing word None = wrong (one_too_many word)
+after_place place trailing word (Some name) =
+    if fits name word then at_place (place + 1) trailing else wrong (misfit name word)
 
 -- ALL WORDS behind the name of a command
 
 abbrev pub after_word : Command → Reading → (word : Text) → Reading
-after_word c (at_place place) word =
-    if is_option word then after_option place word (option_in c.words (option_name word))
-    else after_place place word (place_name (slice_get c.words place))
-after_word c (at_value place name value) word = at_place place
+after_word c (at_place place trailing) word =
+    if not trailing && is_option word then after_option place word (option_in c.words (option_name word))
+    else after_place place trailing word (place_name (slice_get c.words place))
+after_word c (at_value place name value) word =
+    if is_option word then wrong (no_value name value) else at_place place false
 after_word c (wrong mistake) word = wrong mistake
 
 abbrev pub missing_at : Option Word → Mistake
@@ -146,15 +150,22 @@ missing_at (Some (required name)) = missing name
 missing_at _ = unknown
 
 abbrev pub mistake_at : Command → Reading → Mistake
-mistake_at c (at_place place) = missing_at (slice_get c.words place)
+mistake_at c (at_place place trailing) = missing_at (slice_get c.words place)
 mistake_at c (at_value place name value) = no_value name value
 mistake_at c (wrong mistake) = mistake
 
 -- what each word for itself says
 abbrev pub mistake_by_words : Command → List Text → Mistake
-mistake_by_words c words = mistake_at c (fold (after_word c) (at_place 0) words)
+mistake_by_words c words = mistake_at c (fold (after_word c) (at_place 0 false) words)
 
 -- MORE THAN ONE OPTION: looked at where no word for itself is wrong
+
+abbrev pub is_before_dashes : Text → Bool
+is_before_dashes word = not (bytes_eq word (codes "--"))
+
+-- the words among which the options are
+abbrev pub before_dashes : List Text → List Text
+before_dashes words = take_while is_before_dashes words
 
 abbrev pub is_same : (word other : Text) → Bool
 is_same word other = bytes_eq other word
@@ -189,20 +200,18 @@ mistake_of_command command =
 
 abbrev pub mistake_of_words : (command : Text) → List Text → Mistake
 mistake_of_words command words =
-    if asks_two_forms words then two_forms
-    else if is_among words (codes "--") then unknown
-    else mistake_of_command command
+    if asks_two_forms words then two_forms else mistake_of_command command
 
 abbrev pub mistake_of_all : (command : Text) → List Text → (again : Option Text) → Mistake
 mistake_of_all command words (Some word) = twice word
 mistake_of_all command words None = mistake_of_words command words
 
 abbrev pub mistake_or : (command : Text) → Mistake → List Text → Mistake
-mistake_or command unknown words = mistake_of_all command words (repeated words)
-mistake_or command mistake words = mistake
+mistake_or command unknown options = mistake_of_all command options (repeated options)
+mistake_or command mistake options = mistake
 
 abbrev pub mistake_in : Command → List Text → Mistake
-mistake_in c words = mistake_or c.name (mistake_by_words c words) words
+mistake_in c words = mistake_or c.name (mistake_by_words c words) (before_dashes words)
 
 -- WHAT IS SAID of them, on one line
 
@@ -270,6 +279,6 @@ seen_mistake mistakes.Keyword = keyword
 seen_mistake mistakes.NoRequests = no_requests
 
 abbrev pub seen_reading : CodeReading → Reading
-seen_reading (readings.AtPlace place) = at_place place
+seen_reading (readings.AtPlace place trailing) = at_place place trailing
 seen_reading (readings.AtValue place name value) = at_value place name.now value.now
 seen_reading (readings.Wrong mistake) = wrong (seen_mistake mistake)

@@ -5,10 +5,10 @@ ghost use Rattle.clap.specs.Walk.{texts};
 ghost use Rattle.sdv_command_line.specs.Commands.{seen_command, seen_word};
 ghost use Rattle.sdv_command_line.specs.CommandPages.{command_named};
 ghost use Rattle.sdv_command_line.specs.declared.table.CommandEntry.{CommandEntry as Entry};
-ghost use Rattle.sdv_command_line.specs.Mistakes.{after_option, after_place, after_word, before_equals, has_option, has_value, is_kind};
+ghost use Rattle.sdv_command_line.specs.Mistakes.{after_option, after_place, after_word, before_dashes, before_equals, has_option, has_value, is_before_dashes, is_kind};
 ghost use Rattle.sdv_command_line.specs.Mistakes.{command_line_words, is_named, is_option, mistake_at, mistake_in, mistake_of_all};
 ghost use Rattle.sdv_command_line.specs.Mistakes.{mistake_of_command, mistake_of_words, mistake_words, names_option};
-ghost use Rattle.std.specs.List.{list_all};
+ghost use Rattle.std.specs.List.{list_all, prefix_len};
 ghost use Rattle.sdv_text.specs.Fronts.{run};
 ghost use Rattle.sdv_command_line.specs.Mistakes.{are_requests, asks_help, help_words, helped, is_among, is_further, is_letter, is_name, is_within};
 ghost use Rattle.sdv_command_line.specs.Mistakes.{mistake_by_words, no_command_words, range_words, repeated};
@@ -50,8 +50,11 @@ pub enum Mistake<'a> {
 /// How far the words of a command were read.
 #[derive(Clone, Copy)]
 pub enum Reading<'a> {
-    /// The next word in a place is that of this place.
-    AtPlace(usize),
+    /// The next word in a place is that of this place. Behind `--` each word is one in a place.
+    AtPlace {
+        place: usize,
+        trailing: bool,
+    },
     /// The next word is the value of this option.
     AtValue {
         place: usize,
@@ -215,12 +218,26 @@ fn mistake_in<'a>(entry: &CommandEntry, words: &[&'a str]) -> Mistake<'a>
     ensures { seen_mistake result ≡ mistake_in (seen_command entry.now) (texts words.now) }
 {
     match mistake_by_words(entry, words) {
-        Mistake::Unknown => mistake_of_all(entry.name, words),
+        Mistake::Unknown => mistake_of_all(entry.name, before_dashes(words)),
         mistake => mistake,
     }
 }
 
-/// What is wrong with the words together, where none for itself is.
+/// The words before `--`, among which the options are.
+fn before_dashes<'w, 'a>(words: &'w [&'a str]) -> &'w [&'a str]
+    ensures { texts result.now ≡ before_dashes (texts words.now) }
+{
+    &words[..dashes_at(words)]
+}
+
+/// How many words stand before `--`.
+fn dashes_at(words: &[&str]) -> usize
+    ensures { result ≡ prefix_len (λ (word : Bor (List ℕ)). is_before_dashes word.now) words.now }
+{
+    words.iter().take_while(|word| **word != "--").count()
+}
+
+/// What is wrong with these words together, where none for itself is.
 fn mistake_of_all<'a>(command: &str, words: &[&'a str]) -> Mistake<'a>
     ensures { seen_mistake result ≡ mistake_of_all command.now (texts words.now) (repeated (texts words.now)) }
 {
@@ -236,8 +253,6 @@ fn mistake_of_words<'a>(command: &str, words: &[&'a str]) -> Mistake<'a>
 {
     if is_among(words, "--json") && is_among(words, "--svg") {
         Mistake::TwoForms
-    } else if is_among(words, "--") {
-        Mistake::Unknown
     } else {
         mistake_of_command(command)
     }
@@ -309,7 +324,10 @@ fn repeated<'a>(words: &[&'a str]) -> Option<&'a str>
 fn mistake_by_words<'a>(entry: &CommandEntry, words: &[&'a str]) -> Mistake<'a>
     ensures { seen_mistake result ≡ mistake_by_words (seen_command entry.now) (texts words.now) }
 {
-    let mut reading = Reading::AtPlace(0);
+    let mut reading = Reading::AtPlace {
+        place: 0,
+        trailing: false,
+    };
     for word in words {
         reading = after_word(entry, reading, word);
     }
@@ -320,13 +338,22 @@ fn after_word<'a>(entry: &CommandEntry, reading: Reading<'a>, word: &'a str) -> 
     ensures { seen_reading result ≡ after_word (seen_command entry.now) (seen_reading reading.entry) word.entry.now }
 {
     match reading {
-        Reading::AtPlace(place) if is_option(word) => after_option(
+        Reading::AtPlace {
+            place,
+            trailing: false,
+        } if is_option(word) => after_option(
             place,
             word,
             option_in(entry.words, option_name(word)),
         ),
-        Reading::AtPlace(place) => after_place(entry, place, word),
-        Reading::AtValue { place, .. } => Reading::AtPlace(place),
+        Reading::AtPlace { place, trailing } => after_place(entry, place, trailing, word),
+        Reading::AtValue { name, value, .. } if is_option(word) => {
+            Reading::Wrong(Mistake::NoValue { name, value })
+        }
+        Reading::AtValue { place, .. } => Reading::AtPlace {
+            place,
+            trailing: false,
+        },
         Reading::Wrong(mistake) => Reading::Wrong(mistake),
     }
 }
@@ -402,12 +429,19 @@ fn after_option<'a>(place: usize, word: &'a str, option: Option<Word>) -> Readin
     ensures { seen_reading result ≡ after_option place word.now (option_map seen_word option) }
 {
     match option {
-        None if word == "--" => Reading::AtPlace(place),
+        None if word == "--" => Reading::AtPlace {
+            place,
+            trailing: true,
+        },
         None => Reading::Wrong(Mistake::NoOption(word)),
-        Some(Word::WithValue { .. }) if has_value(word) => Reading::AtPlace(place),
-        Some(Word::WithValue { name, value }) => Reading::AtValue { place, name, value },
-        Some(_) if has_value(word) => Reading::Wrong(Mistake::NoOption(word)),
-        Some(_) => Reading::AtPlace(place),
+        Some(Word::WithValue { name, value }) if !has_value(word) => {
+            Reading::AtValue { place, name, value }
+        }
+        Some(Word::Flag(_)) if has_value(word) => Reading::Wrong(Mistake::NoOption(word)),
+        Some(_) => Reading::AtPlace {
+            place,
+            trailing: false,
+        },
     }
 }
 
@@ -494,13 +528,16 @@ fn fits(name: &str, word: &str) -> bool
     }
 }
 
-fn after_place<'a>(entry: &CommandEntry, place: usize, word: &'a str) -> Reading<'a>
+fn after_place<'a>(entry: &CommandEntry, place: usize, trailing: bool, word: &'a str) -> Reading<'a>
     ensures { seen_reading result
-        ≡ after_place place word.entry.now (place_name (slice_get (seen_command entry.now).words place)) }
+        ≡ after_place place trailing word.entry.now (place_name (slice_get (seen_command entry.now).words place)) }
 {
     match place_name(entry, place) {
         None => Reading::Wrong(Mistake::OneTooMany(word)),
-        Some(name) if fits(name, word) => Reading::AtPlace(place + 1),
+        Some(name) if fits(name, word) => Reading::AtPlace {
+            place: place + 1,
+            trailing,
+        },
         Some(name) => Reading::Wrong(Mistake::Misfit { name, word }),
     }
 }
@@ -509,7 +546,7 @@ fn mistake_at<'a>(entry: &CommandEntry, reading: Reading<'a>) -> Mistake<'a>
     ensures { seen_mistake result ≡ mistake_at (seen_command entry.now) (seen_reading reading.entry) }
 {
     match reading {
-        Reading::AtPlace(place) => match entry.words.get(place) {
+        Reading::AtPlace { place, .. } => match entry.words.get(place) {
             Some(Word::Required(name)) => Mistake::Missing(name),
             _ => Mistake::Unknown,
         },
