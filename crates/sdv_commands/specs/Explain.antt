@@ -1,7 +1,7 @@
 -- `explain SCRIPT [CERT] [--why]`: what is known at each point of the script of a file is printed, and why the script is
 -- refused, with a run that refutes it, if one was found; of a text that is no script, the page of its fault; of a
 -- certificate, what the checker says of it.
-use Rattle.std.specs.Prelude.{◌≡◌, ◌⊎◌, ◌-◌, Bool, ℕ, Option, Some, None, codes, if◌then◌else◌, length, option_map, take}
+use Rattle.std.specs.Prelude.{◌≡◌, ◌⊎◌, ◌-◌, ◌++◌, Bool, ℕ, Option, Some, None, codes, if◌then◌else◌, length, option_map, take}
 use Rattle.clap.specs.Words.{Text}
 use Rattle.sdv_certify.specs.declared.fault.CertifyFault.TheVariants as certifies
 use Rattle.sdv_explain.specs.declared.explaining.Explanation.{Explanation}
@@ -72,7 +72,9 @@ IsFaultPage script told text =
 
 -- what is said where too many commands may be sent, or there are too many shapes
 abbrev pub too_many_words : Text
-too_many_words = codes "why: a run may send more than 1099511627776 commands, or its statements meet more than 65536 shapes of cards in all\nhint: give loops fewer turns, or make two scripts of it, each with a bring-up of its own\n"
+too_many_words =
+    codes "why: a run may send more than 1099511627776 commands, or its statements meet more than 65536 shapes of cards in all\n"
+    ++ codes "hint: give loops fewer turns, or make two scripts of it, each with a bring-up of its own\n"
 
 abbrev pub IsTooMany : (told : Option Fault) → (text : Text) → Type 0
 IsTooMany told text = (told ≡ Some (Uncertified certifies.TooMany)) × (text ≡ too_many_words)

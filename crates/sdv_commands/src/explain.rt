@@ -108,7 +108,8 @@ pub fn explain_text<'a, O: Write>(
 
 /// What is said where too many commands may be sent, or there are too many shapes.
 const TOO_MANY: &str =
-    "why: a run may send more than 1099511627776 commands, or its statements meet more than 65536 shapes of cards in all\nhint: give loops fewer turns, or make two scripts of it, each with a bring-up of its own\n";
+    "why: a run may send more than 1099511627776 commands, or its statements meet more than 65536 shapes of cards in all\n\
+     hint: give loops fewer turns, or make two scripts of it, each with a bring-up of its own\n";
 
 /// Says so.
 fn print_too_many<'a, O: Write>(out: &mut O) -> Result<(), Fault<'a>>
