@@ -20,7 +20,7 @@ use Rattle.sdv_card.specs.ShapeBits.{has_flag}
 use Rattle.sdv_facts.specs.AfterLet.{after_let}
 use Rattle.sdv_facts.specs.AfterTest.{after_test}
 use Rattle.sdv_facts.specs.Bounds.{BoundFalls, commands_of}
-use Rattle.sdv_facts.specs.Closed.{ShapeRule, NumberRule, BoundRule, PointClosed}
+use Rattle.sdv_facts.specs.Closed.{ShapeRule, NumberRule, BoundRule, ClosedAt}
 use Rattle.sdv_facts.specs.Covers.{Covers}
 use Rattle.sdv_facts.specs.Edges.{EachWay, well_or, event_of_phase, Rule, EachOutcome, EachTest, EachCondition, EachEdge}
 
@@ -166,10 +166,10 @@ gathers places ps place p pass t s ns None e a b c l = absurd a
 gathers places ps place p pass t s ns (Some q) e a b c l = record { facts = q; known = e; shape = a; numbers = b; bounds = c; lands = l }
 
 -- the clauses of a point, as one thing known of each edge
-pub edges : (k : Kind) (places : List Point) (ps : List PointFacts) (place : Point) (p : PointFacts) (s : Shape) → PointClosed k ps place p
-    → EachTarget place.action (Lands places place.most) → May p.facts.shapes s →
+pub edges : (k : Kind) (places : List Point) (ps : List PointFacts) (place : Point) (p : PointFacts) (s : Shape) → ClosedAt k ps place p s
+    → EachTarget place.action (Lands places place.most) →
     EachEdge k p.facts place.action s (Reaches places ps place p)
-edges k places ps place p s closed lands m =
+edges k places ps place p s closed lands =
     let A : Rule = ShapeRule ps in
     let B : Rule = NumberRule ps in
     let C : Rule = BoundRule ps place p in
@@ -180,5 +180,5 @@ edges k places ps place p s closed lands m =
     (λ pass t s n r. gathers places ps place p pass t s n (slice_get ps t.to) refl r.0.0 r.0.1 r.1.0 r.1.1)
     k p.facts place.action s
     (edges_both k p.facts place.action s AB CL
-    (edges_both k p.facts place.action s A B (closed.shape s m) (closed.number s m))
-    (edges_both k p.facts place.action s C L (closed.bound s m) (edges_targets (Lands places place.most) k p.facts place.action s lands)))
+    (edges_both k p.facts place.action s A B closed.shape closed.number)
+    (edges_both k p.facts place.action s C L closed.bound (edges_targets (Lands places place.most) k p.facts place.action s lands)))

@@ -25,10 +25,10 @@ use Rattle.sdv_graph.proofs.FewEvents.{few_events}
 use Rattle.sdv_facts.specs.Facts.{PointFacts}
 use Rattle.sdv_facts.specs.Beside.{StepsOf, commands_in, commands, Walks, IsOver, EndsWell, IsGood, RunsEnd, RunsWell}
 use Rattle.sdv_facts.specs.Bounds.{bound, bound_at, bound_of}
-use Rattle.sdv_facts.specs.Closed.{StartsAt, Closed}
+use Rattle.sdv_facts.specs.Closed.{StartsAt, StartCovers, PointsMatch, Closed}
 use Rattle.sdv_facts.specs.Keeps.{IsHonest}
 use Rattle.sdv_facts.specs.Start.{start_numbers, start_var}
-use Rattle.sdv_facts.specs.Stands.{EachActionSuits, Stands, Arrived, HaltsWell, MovesWell, IsMade, EachIsMade, StepsWell}
+use Rattle.sdv_facts.specs.Stands.{EachActionSuits, Stands, Arrived, HaltsWell, MovesWell, IsMade, EachIsMade, IsKeptBy, StepsWell, StepsWellWhere}
 use Rattle.sdv_facts.proofs.StartLaws.{start_holds}
 use Rattle.sdv_facts.proofs.StepLaws.{Laws, has_point, steps_well}
 use Rattle.sdv_facts.proofs.TestLaws.{target_holds}
@@ -97,13 +97,13 @@ may_return k (ReceiveRegister lines count) returned e = e
 may_return k (GiveBlocks lines blocks) returned e = e
 may_return k AwaitReady returned e = e
 
--- EVERY RUN
+-- EVERY RUN, where an invariant holds
 
-module _ (g : Graph) (ps : List PointFacts) (laws : Laws g.kind) (well : StepsWell g ps) where
+module _ (g : Graph) (ps : List PointFacts) (laws : Laws g.kind) (Inv : Stand → Card → Type 0) (well : StepsWellWhere Inv g ps) where
   -- what holds of each run from where it stands
   abbrev Later : (n j : ℕ) → Ending → Type 0
-  Later n j e = (s : Stand) (es : List Pair) (c : Card) (at : Stands g ps s c) → PathWithin g.kind g.points e n s es → Lasts g.kind g.points j s
-      → WellMade g.kind (bound at.facts s.turns) e es c
+  Later n j e = (s : Stand) (es : List Pair) (c : Card) (at : Stands g ps s c) → Inv s c → PathWithin g.kind g.points e n s es
+      → Lasts g.kind g.points j s → WellMade g.kind (bound at.facts s.turns) e es c
 
   came : (most : ℕ) (e : Ending) (event : ScriptEvent) (returned : Return) (rest : List Pair) (c : Card) (h : Host) (next : Return → Host → Stand)
       → IsFine g.kind event c h → IsHonest g.kind c h →
@@ -162,22 +162,26 @@ module _ (g : Graph) (ps : List PointFacts) (laws : Laws g.kind) (well : StepsWe
   honest_at s c at = subst (λ o. HonestMove (move g.kind o s.turns s.host) c) (sym at.here) (honest_action at.place.action s.turns s.host c at.honest)
 
   followed : (m : Move) (most n j : ℕ) (e : Ending) (es : List Pair) (c : Card) → HonestMove m c → MovesWell g ps most m c
-      → WhereverTo (Lasts g.kind g.points j) m → Follows g.kind e (PathWithin g.kind g.points e n) m es → Later n j e → WellMade g.kind most e es c
-  followed (Goes next) most n j e es c hon a w f later = more_room g.kind (bound a.stands.facts next.turns) most e es c a.falls (later next es c a.stands f w)
-  followed (Does deed h next) most n j e es c hon a w (event, returned, rest, is, may, same, on) later =
+      → IsKeptBy Inv g.kind m c → WhereverTo (Lasts g.kind g.points j) m → Follows g.kind e (PathWithin g.kind g.points e n) m es → Later n j e → WellMade g.kind most e es c
+  followed (Goes next) most n j e es c hon a i w f later = more_room g.kind (bound a.stands.facts next.turns) most e es c a.falls (later next es c a.stands i f w)
+  followed (Does deed h next) most n j e es c hon a i w (event, returned, rest, is, may, same, on) later =
       let good = a event is in
       subst (λ es. WellMade g.kind most e es c) (sym same)
       (came most e event returned rest c h next good.0 hon (λ u step.
-      let b = good.1 returned u step in
-      (b, later (next returned (host_after g.kind event returned h)) rest u b.stands on (w returned (host_after g.kind event returned h)))))
-  followed (Halts last) most n j e es c hon a w f later = stopped g.kind most e last es c f (halts last c a (halting last (Lasts g.kind g.points j) w))
+      let b = good.1 returned u step in (
+        b,
+        later (next returned (host_after g.kind event returned h)) rest u b.stands (i event is returned u step) on
+            (w returned (host_after g.kind event returned h)),
+      )))
+  followed (Halts last) most n j e es c hon a i w f later = stopped g.kind most e last es c f (halts last c a (halting last (Lasts g.kind g.points j) w))
 
   each_run : (n j : ℕ) (e : Ending) → Later n j e
-  each_run zero j e s es c at path lasts = absurd path
-  each_run (suc n) j e s es c at (inl o) lasts = stopped g.kind (bound at.facts s.turns) e Open es c o tt
-  each_run (suc n) zero e s es c at (inr f) lasts = absurd lasts
-  each_run (suc n) (suc j) e s es c at (inr f) lasts =
-      followed (move_from g.kind g.points s) (bound at.facts s.turns) n j e es c (honest_at s c at) (well s c at) lasts f (each_run n j e)
+  each_run zero j e s es c at i path lasts = absurd path
+  each_run (suc n) j e s es c at i (inl o) lasts = stopped g.kind (bound at.facts s.turns) e Open es c o tt
+  each_run (suc n) zero e s es c at i (inr f) lasts = absurd lasts
+  each_run (suc n) (suc j) e s es c at i (inr f) lasts =
+      let m = well s c at i in
+      followed (move_from g.kind g.points s) (bound at.facts s.turns) n j e es c (honest_at s c at) m.0 m.1 lasts f (each_run n j e)
 
   -- OPEN RUNS GO ON
 
@@ -196,10 +200,11 @@ module _ (g : Graph) (ps : List PointFacts) (laws : Laws g.kind) (well : StepsWe
   some_event (exactly wanted) = (wanted, refl)
   some_event (giving lines count) = let blocks : List Block = replicate count [] in (GiveBlocks lines blocks, (blocks, length-replicate count [], refl))
 
-  ending : (m : Move) (most j : ℕ) (s : Stand) (c : Card) → move_from g.kind g.points s ≡ m → MovesWell g ps most m c → WhereverTo (Lasts g.kind g.points j) m →
-      ((s : Stand) (c : Card) → Stands g ps s c → Lasts g.kind g.points j s → Whole s c) → Whole s c
-  ending (Goes next) most j s c is a w later =
-      let l = later next c a.stands w in
+  ending : (m : Move) (most j : ℕ) (s : Stand) (c : Card) → move_from g.kind g.points s ≡ m → MovesWell g ps most m c
+      → IsKeptBy Inv g.kind m c → WhereverTo (Lasts g.kind g.points j) m →
+      ((s : Stand) (c : Card) → Stands g ps s c → Inv s c → Lasts g.kind g.points j s → Whole s c) → Whole s c
+  ending (Goes next) most j s c is a i w later =
+      let l = later next c a.stands i w in
       record {
         end = l.end;
         over = l.over;
@@ -209,14 +214,14 @@ module _ (g : Graph) (ps : List PointFacts) (laws : Laws g.kind) (well : StepsWe
         moves = suc l.moves;
         path = inr (subst (λ m. Follows g.kind l.end (PathWithin g.kind g.points l.end l.moves) m l.more) (sym is) l.path);
       }
-  ending (Does deed h next) most j s c is a w later =
+  ending (Does deed h next) most j s c is a i w later =
       let some = some_event deed in
       let event = some.0 in
       let good = a event some.1 in
       let step = laws.has_step event c h good.0.pair good.0.legal in
       let h' = host_after g.kind event step.returned h in
       let b = good.1 step.returned step.after step.step in
-      let l = later (next step.returned h') step.after b.stands (w step.returned h') in
+      let l = later (next step.returned h') step.after b.stands (i event some.1 step.returned step.after step.step) (w step.returned h') in
       record {
         end = l.end;
         over = l.over;
@@ -235,7 +240,7 @@ module _ (g : Graph) (ps : List PointFacts) (laws : Laws g.kind) (well : StepsWe
           l.path,
         ));
       }
-  ending (Halts last) most j s c is a w later =
+  ending (Halts last) most j s c is a i w later =
       record {
         end = last;
         over = is_over last (Lasts g.kind g.points j) w;
@@ -246,9 +251,11 @@ module _ (g : Graph) (ps : List PointFacts) (laws : Laws g.kind) (well : StepsWe
         path = inr (subst (λ m. Follows g.kind last (PathWithin g.kind g.points last 0) m []) (sym is) (refl, refl));
       }
 
-  whole_from : (j : ℕ) (s : Stand) (c : Card) → Stands g ps s c → Lasts g.kind g.points j s → Whole s c
-  whole_from zero s c at lasts = absurd lasts
-  whole_from (suc j) s c at lasts = ending (move_from g.kind g.points s) (bound at.facts s.turns) j s c refl (well s c at) lasts (whole_from j)
+  whole_from : (j : ℕ) (s : Stand) (c : Card) → Stands g ps s c → Inv s c → Lasts g.kind g.points j s → Whole s c
+  whole_from zero s c at i lasts = absurd lasts
+  whole_from (suc j) s c at i lasts =
+      let m = well s c at i in
+      ending (move_from g.kind g.points s) (bound at.facts s.turns) j s c refl m.0 m.1 lasts (whole_from j)
 
   -- an open run from there, carried on to its end
   record CarriedOn (s : Stand) (es : List Pair) (c : Card) : Type 0 where
@@ -261,14 +268,14 @@ module _ (g : Graph) (ps : List PointFacts) (laws : Laws g.kind) (well : StepsWe
     path : PathWithin g.kind g.points end moves s (es ++ more)
 
   abbrev Carries : (n j : ℕ) → Type 0
-  Carries n j = (s : Stand) (es : List Pair) (c last : Card) → Stands g ps s c → PathWithin g.kind g.points Open n s es → Lasts g.kind g.points j s
-      → StepsOf c es last → CarriedOn s es last
+  Carries n j = (s : Stand) (es : List Pair) (c last : Card) → Stands g ps s c → Inv s c → PathWithin g.kind g.points Open n s es
+      → Lasts g.kind g.points j s → StepsOf c es last → CarriedOn s es last
 
   carrying : (m : Move) (most n j : ℕ) (s : Stand) (es : List Pair) (c last : Card) → move_from g.kind g.points s ≡ m → MovesWell g ps most m c
-      → WhereverTo (Lasts g.kind g.points j) m →
+      → IsKeptBy Inv g.kind m c → WhereverTo (Lasts g.kind g.points j) m →
       Follows g.kind Open (PathWithin g.kind g.points Open n) m es → StepsOf c es last → Carries n j → CarriedOn s es last
-  carrying (Goes next) most n j s es c last is a w f steps later =
-      let l = later next es c last a.stands f w steps in
+  carrying (Goes next) most n j s es c last is a i w f steps later =
+      let l = later next es c last a.stands i f w steps in
       record {
         end = l.end;
         over = l.over;
@@ -278,12 +285,12 @@ module _ (g : Graph) (ps : List PointFacts) (laws : Laws g.kind) (well : StepsWe
         moves = suc l.moves;
         path = inr (subst (λ m. Follows g.kind l.end (PathWithin g.kind g.points l.end l.moves) m (es ++ l.more)) (sym is) l.path);
       }
-  carrying (Does deed h next) most n j s es c last is a w (event, returned, rest, ev, may, same, on) steps later =
+  carrying (Does deed h next) most n j s es c last is a i w (event, returned, rest, ev, may, same, on) steps later =
       let good = a event ev in
       let these : StepsOf c ((event, returned) ∷ rest) last = subst (λ es. StepsOf c es last) same steps in
       let b = good.1 returned these.0 these.1 in
       let h' = host_after g.kind event returned h in
-      let l = later (next returned h') rest these.0 last b.stands on (w returned h') these.2 in
+      let l = later (next returned h') rest these.0 last b.stands (i event ev returned these.0 these.1) on (w returned h') these.2 in
       record {
         end = l.end;
         over = l.over;
@@ -294,7 +301,7 @@ module _ (g : Graph) (ps : List PointFacts) (laws : Laws g.kind) (well : StepsWe
         path = inr (subst (λ m. Follows g.kind l.end (PathWithin g.kind g.points l.end l.moves) m (es ++ l.more)) (sym is)
             (event, returned, rest ++ l.more, ev, may, ap (λ es. es ++ l.more) same, l.path));
       }
-  carrying (Halts end) most n j s es c last is a w f steps later = absurd (open_end end (sym f.1) w)
+  carrying (Halts end) most n j s es c last is a i w f steps later = absurd (open_end end (sym f.1) w)
     where
       open_end : (end : Ending) → end ≡ Open → WhereverTo (Lasts g.kind g.points j) (Halts end) → ⊥
       open_end Open e w = w
@@ -304,10 +311,10 @@ module _ (g : Graph) (ps : List PointFacts) (laws : Laws g.kind) (well : StepsWe
       open_end (Failed name) e w = cc
 
   carries_on : (n j : ℕ) → Carries n j
-  carries_on zero j s es c last at path lasts steps = absurd path
-  carries_on (suc n) j s es c last at (inl o) lasts steps =
+  carries_on zero j s es c last at i path lasts steps = absurd path
+  carries_on (suc n) j s es c last at i (inl o) lasts steps =
       let here : c ≡ last = subst (λ es. StepsOf c es last) o.0 steps in
-      let l = whole_from j s c at lasts in
+      let l = whole_from j s c at i lasts in
       record {
         end = l.end;
         over = l.over;
@@ -317,9 +324,10 @@ module _ (g : Graph) (ps : List PointFacts) (laws : Laws g.kind) (well : StepsWe
         moves = l.moves;
         path = subst (λ es. PathWithin g.kind g.points l.end l.moves s (es ++ l.more)) (sym o.0) l.path;
       }
-  carries_on (suc n) zero s es c last at (inr f) lasts steps = absurd lasts
-  carries_on (suc n) (suc j) s es c last at (inr f) lasts steps =
-      carrying (move_from g.kind g.points s) (bound at.facts s.turns) n j s es c last refl (well s c at) lasts f steps (carries_on n j)
+  carries_on (suc n) zero s es c last at i (inr f) lasts steps = absurd lasts
+  carries_on (suc n) (suc j) s es c last at i (inr f) lasts steps =
+      let m = well s c at i in
+      carrying (move_from g.kind g.points s) (bound at.facts s.turns) n j s es c last refl m.0 m.1 lasts f steps (carries_on n j)
 
 -- THE START
 
@@ -337,13 +345,14 @@ record Begins (g : Graph) (ps : List PointFacts) (c : Card) : Type 0 where
   stands : Stands g ps (begin g) c
   bound_is : bound stands.facts (begin g).turns ≡ bound_of g ps
 
-begins : (g : Graph) (ps : List PointFacts) → Laws g.kind → Nested g → Closed g ps → (c : Card) → g.kind ≡ c.kind → IsAtStart c → Begins g ps c
-begins g ps laws nested closed c kind start =
-    let f : First g ps = first_of g ps (slice_get ps 0) refl closed.start in
-    let there = has_point g.points 0 (subst (λ n. 0 < n) closed.points.count (slice_get_within ps 0 f.facts f.known)) in
+begins : (g : Graph) (ps : List PointFacts) → Laws g.kind → Nested g → PointsMatch g ps → StartCovers g ps → (c : Card) → g.kind ≡ c.kind → IsAtStart c
+    → Begins g ps c
+begins g ps laws nested points covers c kind start =
+    let f : First g ps = first_of g ps (slice_get ps 0) refl covers in
+    let there = has_point g.points 0 (subst (λ n. 0 < n) points.count (slice_get_within ps 0 f.facts f.known)) in
     let h : Host = host_at_start g.numbers in
     let s : StartHolds g.kind c h = laws.starts_hold c g.numbers kind start in
-    let matches = closed.points.each 0 there.0 f.facts there.1 f.known in
+    let matches = points.each 0 there.0 f.facts there.1 f.known in
     record {
       stands = record {
         place = there.0;
@@ -362,28 +371,48 @@ begins g ps laws nested closed c kind start =
       bound_is = ap (λ o. bound_at o (turns_at g.first [])) (sym f.known);
     }
 
+-- EVERY RUN OVER THE PATHS OF A GRAPH, where an invariant holds at the start, and each move keeps it
+pub runs_well_where : (g : Graph) (ps : List PointFacts) (Inv : Stand → Card → Type 0) → Laws g.kind → EachRunEnds g → Nested g → PointsMatch g ps
+    → StartCovers g ps → ((c : Card) → g.kind ≡ c.kind → IsAtStart c → Inv (begin g) c) → StepsWellWhere Inv g ps
+    → RunsWell g.kind (λ e es. Path g.kind g.points e (begin g) es) (bound_of g ps)
+runs_well_where g ps Inv laws ends nested points covers first well =
+    record {
+      good = λ c kind start e es path. (
+          let b = begins g ps laws nested points covers c kind start in
+          subst (λ n. IsGood n e es c) b.bound_is
+          (good_of g.kind _ e es c (each_run g ps laws Inv well path.0 g.steps e (begin g) es c b.stands (first c kind start) path.1 ends)));
+      goes_on = λ c kind start es last path steps. (
+          let b = begins g ps laws nested points covers c kind start in
+          let l = carries_on g ps laws Inv well path.0 g.steps (begin g) es c last b.stands (first c kind start) path.1 ends steps in
+          record { end = l.end; over = l.over; more = l.more; last = l.last; steps = l.steps; walk = (l.moves, l.path) });
+    }
+
+-- no invariant is asked for
+abbrev Always : Stand → Card → Type 0
+Always s c = Unit {0}
+
+always_kept : (k : Kind) (m : Move) (c : Card) → IsKeptBy Always k m c
+always_kept k (Goes next) c = tt
+always_kept k (Does deed h next) c = λ event is returned u step. tt
+always_kept k (Halts e) c = tt
+
+always_well : (g : Graph) (ps : List PointFacts) → StepsWell g ps → StepsWellWhere Always g ps
+always_well g ps well s c at i = (well s c at, always_kept g.kind (move_from g.kind g.points s) c)
+
 -- THE HEADLINE, over the paths of a graph
 pub runs_well : (g : Graph) (ps : List PointFacts) → Laws g.kind → EachRunEnds g → Nested g → EachActionSuits g → Closed g ps
     → RunsWell g.kind (λ e es. Path g.kind g.points e (begin g) es) (bound_of g ps)
 runs_well g ps laws ends nested suits closed =
-    let well = steps_well g ps laws nested suits closed in
-    record {
-      good = λ c kind start e es path. (
-          let b = begins g ps laws nested closed c kind start in
-          subst (λ n. IsGood n e es c) b.bound_is (good_of g.kind _ e es c (each_run g ps laws well path.0 g.steps e (begin g) es c b.stands path.1 ends)));
-      goes_on = λ c kind start es last path steps. (
-          let b = begins g ps laws nested closed c kind start in
-          let l = carries_on g ps laws well path.0 g.steps (begin g) es c last b.stands path.1 ends steps in
-          record { end = l.end; over = l.over; more = l.more; last = l.last; steps = l.steps; walk = (l.moves, l.path) });
-    }
+    runs_well_where g ps Always laws ends nested closed.points closed.start (λ c kind start. tt)
+    (always_well g ps (steps_well g ps laws nested suits closed))
 
 -- each event of a run is made by a host that knows nothing wrong of the card
 pub each_is_made : (g : Graph) (ps : List PointFacts) → Laws g.kind → EachRunEnds g → Nested g → EachActionSuits g → Closed g ps → (c : Card) → g.kind ≡ c.kind
     → IsAtStart c →
     (e : Ending) (es : List Pair) → Path g.kind g.points e (begin g) es → EachIsMade g.kind es c
 each_is_made g ps laws ends nested suits closed c kind start e es path =
-    let b = begins g ps laws nested closed c kind start in
-    (each_run g ps laws (steps_well g ps laws nested suits closed) path.0 g.steps e (begin g) es c b.stands path.1 ends).made
+    let b = begins g ps laws nested closed.points closed.start c kind start in
+    (each_run g ps laws Always (always_well g ps (steps_well g ps laws nested suits closed)) path.0 g.steps e (begin g) es c b.stands tt path.1 ends).made
 
 -- every path is over within the moves of the graph
 pub runs_end : (g : Graph) → EachRunEnds g → RunsEnd (λ e es. Path g.kind g.points e (begin g) es) g.steps

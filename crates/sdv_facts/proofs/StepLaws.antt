@@ -1,9 +1,10 @@
 -- Where the facts of a closed certificate hold, each event is legal and in bounds, and after it the facts of the target hold.
-use Rattle.std.proofs.Common.{◌≡◌, ℕ, zero, suc, ◌<◌, ◌≤◌, ◌%◌, refl, sym, ap, ◌∙◌, subst, arith, Bool, true, false, List, [], ◌∷◌, Option, Some, None, length}
+use Rattle.std.proofs.Common.{◌≡◌, ℕ, zero, suc, ◌<◌, ◌≤◌, ◌%◌, refl, sym, ap, ◌∙◌, subst, arith, Bool, true, false, not, List, [], ◌∷◌, Option, Some, None, length}
 use Rattle.std.specs.Prelude.{slice_get, IfSome, if◌then◌else◌, ◌&&◌, nat_lt, nat_le, slice_index}
 use Rattle.std.proofs.lemmas.List.{length-set}
 use Rattle.std.proofs.lemmas.Option.{slice_get_within}
 use Rattle.std.proofs.lemmas.Bool.{ltb-true, ltb-false, leb-true, leb-false}
+use mathlib.Core.Bool.{beq}
 use Rattle.sdv_registers.specs.declared.kind.Kind.{Kind}
 use Rattle.sdv_card.specs.declared.answer.Answer.{Answer}
 use Rattle.sdv_card.specs.declared.command.Order.{Order}
@@ -38,6 +39,7 @@ use Rattle.sdv_card.specs.Shapes.{view, pair_code, IsPair}
 use Rattle.sdv_card.specs.Step.{Step}
 use Rattle.sdv_card.specs.Taken.{SameCard}
 use Rattle.sdv_card.proofs.Digits.{digits_law}
+use Rattle.sdv_card.proofs.Members.{here}
 use Rattle.sdv_card.proofs.TableLaws.{legal_is_exact, has_step, steps_are_outcomes, steps_are_expected, steps_keep_pairs, steps_keep_same, steps_keep_sound, steps_keep_on_card, asks_address, starts_hold, verdicts_hold}
 use Rattle.sdv_graph.specs.declared.graph.Target.{Target}
 use Rattle.sdv_graph.specs.declared.tree.Address.{Address}
@@ -47,8 +49,10 @@ use Rattle.sdv_graph.specs.declared.tree.Condition.TheVariants as conditions
 use Rattle.sdv_graph.specs.declared.tree.Let.{Let}
 use Rattle.sdv_graph.specs.declared.tree.Phase.{Phase}
 use Rattle.sdv_graph.specs.declared.tree.Phase.TheVariants as kinds
+use Rattle.sdv_graph.specs.declared.tree.Unit.{Unit as AddressUnit}
+use Rattle.sdv_graph.specs.declared.tree.Unit.TheVariants.{Block, Byte, By}
 use Rattle.sdv_graph.specs.AddressSent.{position_of_command, address_of_command, address_sent, position_of}
-use Rattle.sdv_card.specs.ShapeBits.{is_flag_set, with_flag_shown, with_lines_shown}
+use Rattle.sdv_card.specs.ShapeBits.{has_block_addresses, has_flag, is_flag_set, partition_shown, with_flag_shown, with_lines_shown}
 use Rattle.sdv_graph.specs.Conditions.{condition_holds, with_flag, with_lines}
 use Rattle.sdv_graph.specs.Graph.{Graph}
 use Rattle.sdv_graph.specs.Nested.{Pass, Same, Again, Over, InBox, Turned, Nested}
@@ -60,12 +64,13 @@ use Rattle.sdv_facts.specs.declared.numbers.VarFacts.{VarFacts}
 use Rattle.sdv_facts.specs.declared.numbers.Numbers.{Numbers}
 use Rattle.sdv_facts.specs.declared.test.Test.{Test}
 use Rattle.sdv_facts.specs.declared.test.Test.TheVariants.{AtLeast, Below}
-use Rattle.sdv_facts.specs.Facts.{var, PointFacts}
+use Rattle.sdv_facts.specs.AddressFits.{unit_fits, position_fits, each_fits, address_fits}
+use Rattle.sdv_facts.specs.Facts.{Facts, var, PointFacts}
 use Rattle.sdv_facts.specs.AfterLet.{after_let}
 use Rattle.sdv_facts.specs.AfterTest.{after_test, TestHolds}
 use Rattle.sdv_facts.specs.Beside.{commands_in}
 use Rattle.sdv_facts.specs.Bounds.{bound, commands_of}
-use Rattle.sdv_facts.specs.Closed.{PointsMatch, PointClosed, Closed, AddressKnown, EndsAt}
+use Rattle.sdv_facts.specs.Closed.{PointsMatch, PointClosed, Closed, ClosedAt, AddressAt, AddressKnown, EndsAt, known_of_shape}
 use Rattle.sdv_facts.specs.Edges.{EachOutcome, EachTest, EachCondition, EachEdge, event_of_phase, well_or}
 use Rattle.sdv_facts.specs.FactsHold.{GapHolds, VarHolds, NumbersHold, FactsHold, Carries}
 use Rattle.sdv_facts.specs.Keeps.{MayStandIn, IsHonest}
@@ -76,7 +81,7 @@ use Rattle.sdv_card.proofs.ShapeLines.{pair_with_lines}
 use Rattle.sdv_facts.proofs.FlagLaws.{pair_with_flag, flags_kept}
 use Rattle.sdv_facts.proofs.LetLaws.{let_keeps}
 use Rattle.sdv_facts.proofs.TestLaws.{test_keeps, target_holds}
-use Rattle.sdv_facts.proofs.UnitLaws.{both, flag_shown}
+use Rattle.sdv_facts.proofs.UnitLaws.{all-member, both, flag_shown}
 use Rattle.sdv_facts.proofs.WayLaws.{AllHold, CasesHold, way_taken}
 
 -- THE LAWS OF A TABLE, and nothing else of it
@@ -307,7 +312,7 @@ module _ (g : Graph) (ps : List PointFacts) (laws : Laws g.kind) (points : Point
 
   -- COMMANDS
 
-  cases_hold : (e : ScriptEvent) (c : Card) (h : Host) (returned : Return) (u : Card) (ask : Ask) (position argument : ℕ) (ways : List Case)
+  pub cases_hold : (e : ScriptEvent) (c : Card) (h : Host) (returned : Return) (u : Card) (ask : Ask) (position argument : ℕ) (ways : List Case)
       → e ≡ SendCommand ask position argument → IsPair g.kind c h → Step e c returned u → CasesSuit g.kind ask ways
       → CasesHold g.kind c.mode.error returned ways
   cases_hold e c h returned u ask position argument [] is pair step suit = tt
@@ -319,26 +324,26 @@ module _ (g : Graph) (ps : List PointFacts) (laws : Laws g.kind) (points : Point
       guards (x ∷ xs) s = (laws.verdicts_hold x e c h returned u pair (subst (λ e. FitsEvent g.kind x e) (sym is) s.0) step, guards xs s.1)
 
   -- a legal command has a line in the command table
-  command_in_bounds : (p : PointFacts) (command : ScriptCommand) (c : Card) (h : Host) (position argument : ℕ) (a : Option Address) → FactsHold p.facts c h
+  command_in_bounds : (known : Facts) (command : ScriptCommand) (c : Card) (h : Host) (position argument : ℕ) (a : Option Address) → FactsHold known c h
       → IsPair g.kind c h →
       argument ≡ argument_of g.kind command.ask h.rca (address_of_command h a position) →
-      (o : Option ℕ) → addressed_blocks command.ask ≡ o → position_of_command h a ≡ Some position → IfSome o (λ blocks. AddressKnown p.facts a blocks) →
+      (o : Option ℕ) → addressed_blocks command.ask ≡ o → position_of_command h a ≡ Some position → IfSome o (λ blocks. AddressKnown known a blocks) →
       EventLegal (SendCommand command.ask position argument) c → BlocksWithin o c position argument
-  command_in_bounds p command c h position argument a holds pair made None is at known legal = tt
-  command_in_bounds p command c h position argument None holds pair made (Some n) is at known legal = absurd known
-  command_in_bounds p command c h position argument (Some a) holds pair made (Some n) is at known legal =
+  command_in_bounds known command c h position argument a holds pair made None is at fits legal = tt
+  command_in_bounds known command c h position argument None holds pair made (Some n) is at fits legal = absurd fits
+  command_in_bounds known command c h position argument (Some a) holds pair made (Some n) is at fits legal =
       let line : order_of g.kind command.ask ≡ Some legal.order = subst (λ k. order_of k command.ask ≡ Some legal.order) (sym pair.kind) legal.asks.line in
       let blocks : order_blocks legal.order ≡ Some n = laws.asks_address command.ask legal.order line ∙ is in
       let address = address_sent h a.unit position in
       let same : argument ≡ address = made ∙ ap (λ o. argument_or_none o command.ask.argument h.rca address) line
       ∙ argument_is legal.order n command.ask.argument h.rca address blocks in
       let here : position_of h a.position ≡ position = position_at (nat_le (position_of h a.position) max_number) (position_of h a.position) position at in
-      subst (λ v. Within c position v n) (sym same) (subst (λ v. Within c v (address_sent h a.unit v) n) here (on_card p.facts a n known g.kind c h pair holds))
+      subst (λ v. Within c position v n) (sym same) (subst (λ v. Within c v (address_sent h a.unit v) n) here (on_card known a n fits g.kind c h pair holds))
 
   sends_well : (place : Point) (p : PointFacts) (ts : List ℕ) (command : ScriptCommand) (ways : List Case) (other : Target) (c : Card) (h : Host)
       → Here place p ts c h → commands_of place.action ≡ 1 → CasesSuit g.kind command.ask ways →
       legal_code g.kind (pair_code c h) (Send command.ask) ≡ true
-      → IfSome (addressed_blocks command.ask) (λ blocks. AddressKnown p.facts command.address blocks) →
+      → AddressAt (known_of_shape p.facts (shape c h)) (sends command ways other) →
       EachOutcome g.kind (Send command.ask) ways other p.facts.numbers (shape c h) (Reaches g.points ps place p) →
       (o : Option ℕ) → position_of_command h command.address ≡ o →
       MovesWell g ps (bound p ts) (move_with o (λ position. Does (command_deed g.kind command h position) h
@@ -350,7 +355,8 @@ module _ (g : Graph) (ps : List PointFacts) (laws : Laws g.kind) (points : Point
       let e = SendCommand command.ask position argument in
       λ event deed. subst (λ e. Goes-well p ts ways other e c h) (sym deed)
       (does place p ts e ways other c h at cost (record { address = address; same = refl }) legal
-      (command_in_bounds p command c h position argument command.address at.holds at.honest.pair refl (addressed_blocks command.ask) refl is known)
+      (command_in_bounds (known_of_shape p.facts (shape c h)) command c h position argument command.address
+      (record { shape = here refl; numbers = at.holds.numbers }) at.honest.pair refl (addressed_blocks command.ask) refl is known)
       (λ returned u step. cases_hold e c h returned u command.ask position argument ways refl at.honest.pair step suit) edge)
 
   -- PHASES
@@ -365,7 +371,7 @@ module _ (g : Graph) (ps : List PointFacts) (laws : Laws g.kind) (points : Point
         (arrive (if b then well else other) ts (host_after g.kind e returned h)) u) (and_last (passes g.kind WentWell returned)) (goes.1 returned u step),
   )
 
-  phase_holds : (well : Target) (e : ScriptEvent) (c : Card) (h : Host) (returned : Return) (u : Card) → FitsEvent g.kind WentWell e → IsPair g.kind c h
+  pub phase_holds : (well : Target) (e : ScriptEvent) (c : Card) (h : Host) (returned : Return) (u : Card) → FitsEvent g.kind WentWell e → IsPair g.kind c h
       → Step e c returned u → CasesHold g.kind c.mode.error returned (well_or well)
   phase_holds well e c h returned u fits pair step = ((laws.verdicts_hold WentWell e c h returned u pair fits step, tt), tt)
 
@@ -477,25 +483,24 @@ module _ (g : Graph) (ps : List PointFacts) (laws : Laws g.kind) (points : Point
   head_well place p (zero ∷ ts) body other c h at cost edge = plainly place p (zero ∷ ts) (zero ∷ ts) Over other c h at cost refl edge.1
   head_well place p (suc t ∷ ts) body other c h at cost edge = plainly place p (suc t ∷ ts) (t ∷ ts) Again body c h at cost refl edge.0
 
-  halts_well : (last : Ending) (place : Point) (p : PointFacts) (c : Card) (h : Host) → place.action ≡ stops last → PointClosed g.kind ps place p
-      → FactsHold p.facts c h → IsPair g.kind c h → HaltsWell last c
-  halts_well Finished place p c h is closed holds pair =
-      in_tran g.kind c h pair (subst (λ n. EndsAt n (shape c h)) is (closed.end_state (shape c h) holds.shape))
-  halts_well Fell place p c h is closed holds pair = tt
-  halts_well Broke place p c h is closed holds pair = tt
-  halts_well (Failed name) place p c h is closed holds pair = tt
-  halts_well Open place p c h is closed holds pair = tt
+  halts_well : (last : Ending) (place : Point) (p : PointFacts) (c : Card) (h : Host) → place.action ≡ stops last
+      → ClosedAt g.kind ps place p (shape c h) → IsPair g.kind c h → HaltsWell last c
+  halts_well Finished place p c h is closed pair = in_tran g.kind c h pair (subst (λ n. EndsAt n (shape c h)) is closed.end_state)
+  halts_well Fell place p c h is closed pair = tt
+  halts_well Broke place p c h is closed pair = tt
+  halts_well (Failed name) place p c h is closed pair = tt
+  halts_well Open place p c h is closed pair = tt
 
   action_well : (action : Action) (most : List ℕ) (p : PointFacts) (ts : List ℕ) (c : Card) (h : Host)
-      → PointClosed g.kind ps (record { action = action; most = most }) p
+      → ClosedAt g.kind ps (record { action = action; most = most }) p (shape c h)
       → ActionSuits g.kind action → Here (record { action = action; most = most }) p ts c h →
       EachEdge g.kind p.facts action (shape c h) (Reaches g.points ps (record { action = action; most = most }) p)
       → MovesWell g ps (bound p ts) (action_move g.kind action ts h) c
   action_well (sends command ways other) most p ts c h closed suit at edge =
-      sends_well (record { action = sends command ways other; most = most }) p ts command ways other c h at refl suit (closed.legal (shape c h) at.holds.shape)
-      (closed.address (shape c h) at.holds.shape) edge (position_of_command h command.address) refl
+      sends_well (record { action = sends command ways other; most = most }) p ts command ways other c h at refl suit closed.legal
+      closed.address edge (position_of_command h command.address) refl
   action_well (phases phase well other) most p ts c h closed suit at edge =
-      phases_well phase (record { action = phases phase well other; most = most }) p ts well other c h at refl (closed.legal (shape c h) at.holds.shape) edge
+      phases_well phase (record { action = phases phase well other; most = most }) p ts well other c h at refl closed.legal edge
   action_well (lets l t) most p ts c h closed suit at edge =
       lets_well (record { action = lets l t; most = most }) p ts l t c h at refl suit edge (value_of_let g.kind h l) refl
   action_well (tests x met unmet) most p ts c h closed suit at edge =
@@ -540,18 +545,65 @@ module _ (g : Graph) (ps : List PointFacts) (laws : Laws g.kind) (points : Point
       head_well (record { action = heads n body other; most = most }) p ts body other c h at refl edge
   action_well (jumps t) most p ts c h closed suit at edge = plainly (record { action = jumps t; most = most }) p ts ts Same t c h at refl refl edge
   action_well (stops last) most p ts c h closed suit at edge =
-      halts_well last (record { action = stops last; most = most }) p c h refl closed at.holds at.honest.pair
+      halts_well last (record { action = stops last; most = most }) p c h refl closed at.honest.pair
 
--- THE STEP: each move from where the facts of a point hold is as it should be, if the point's clauses hold
+-- THE STEP: each move from where the facts of a point hold is as it should be, if the point's clauses hold at the shape
 pub points_step_well : (g : Graph) (ps : List PointFacts) → Laws g.kind → Nested g → EachActionSuits g → PointsMatch g ps → PointsStepWell g ps
 points_step_well g ps laws nested suits points s c at pc =
     let variables = (points.each s.point at.place at.facts at.here at.known).variables in
     subst (λ o. MovesWell g ps (bound at.facts s.turns) (move g.kind o s.turns s.host) c) (sym at.here)
     (action_well g ps laws points at.place.action at.place.most at.facts s.turns c s.host pc (suits s.point at.place at.here)
     (record { box = at.box; holds = at.holds; honest = at.honest; on_card = at.on_card; variables = variables })
-    (edges g.kind g.points ps at.place at.facts (record { 0 = pair_code c s.host }) pc (nested.lands s.point at.place at.here) at.holds.shape))
+    (edges g.kind g.points ps at.place at.facts (record { 0 = pair_code c s.host }) pc (nested.lands s.point at.place at.here)))
+
+-- AT ONE SHAPE
+
+unit_one : (shapes : List Shape) (s : Shape) (unit : AddressUnit) → May shapes s → unit_fits shapes unit ≡ true → unit_fits (s ∷ []) unit ≡ true
+unit_one shapes s Block m e = rw (all-member has_block_addresses shapes s e m) refl
+unit_one shapes s Byte m e = rw (all-member (λ s. not (has_block_addresses s)) shapes s e m) refl
+unit_one shapes s (By flag) m e = rw (all-member (λ s. beq (has_flag s flag) (has_block_addresses s)) shapes s e m) refl
+
+address_one : (known : Facts) (s : Shape) (a : Address) (n : ℕ) → May known.shapes s → address_fits known a n ≡ true
+    → address_fits (known_of_shape known s) a n ≡ true
+address_one known s a n m e =
+    let parts = both (unit_fits known.shapes a.unit) (each_fits known a.position n) e in
+    rw (
+      unit_one known.shapes s a.unit m parts.0,
+      all-member (λ s. position_fits (partition_shown s) known.numbers a.position n) known.shapes s parts.1 m,
+    ) refl
+
+known_one : (known : Facts) (s : Shape) (a : Option Address) (o : Option ℕ) → May known.shapes s → IfSome o (λ blocks. AddressKnown known a blocks)
+    → IfSome o (λ blocks. AddressKnown (known_of_shape known s) a blocks)
+known_one known s a None m k = tt
+known_one known s None (Some n) m k = absurd k
+known_one known s (Some a) (Some n) m k = address_one known s a n m k
+
+-- an address that fits at each shape of a point fits at one of them
+at_one : (known : Facts) (action : Action) (s : Shape) → May known.shapes s → AddressAt known action → AddressAt (known_of_shape known s) action
+at_one known (sends c ways other) s m k = known_one known s c.address (addressed_blocks c.ask) m k
+at_one known (phases phase well other) s m k = tt
+at_one known (lets l t) s m k = tt
+at_one known (tests x met unmet) s m k = tt
+at_one known (flags flag on t) s m k = tt
+at_one known (widths width t) s m k = tt
+at_one known (heads n body other) s m k = tt
+at_one known (jumps t) s m k = tt
+at_one known (stops last) s m k = tt
+
+-- the clauses of a point, at one of its shapes
+closed_at : (k : Kind) (ps : List PointFacts) (place : Point) (p : PointFacts) (s : Shape) → PointClosed k ps place p → May p.facts.shapes s
+    → ClosedAt k ps place p s
+closed_at k ps place p s closed m = record {
+  legal = closed.legal s m;
+  address = at_one p.facts place.action s m (closed.address s m);
+  shape = closed.shape s m;
+  number = closed.number s m;
+  bound = closed.bound s m;
+  end_state = closed.end_state s m;
+}
 
 -- so they do where the certificate is closed
 pub steps_well : (g : Graph) (ps : List PointFacts) → Laws g.kind → Nested g → EachActionSuits g → Closed g ps → StepsWell g ps
 steps_well g ps laws nested suits closed s c at =
-    points_step_well g ps laws nested suits closed.points s c at (closed.each s.point at.place at.facts at.here at.known)
+    points_step_well g ps laws nested suits closed.points s c at
+    (closed_at g.kind ps at.place at.facts (record { 0 = pair_code c s.host }) (closed.each s.point at.place at.facts at.here at.known) at.holds.shape)

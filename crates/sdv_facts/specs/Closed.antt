@@ -1,7 +1,7 @@
 -- When a certificate is CLOSED for a graph: what it says of each point holds at the start, and goes along each edge.
 --
 -- Each clause has a name, and is asked of each shape of a point: a point without shapes is one that no run reaches.
-use Rattle.std.specs.Prelude.{◌≡◌, ◌%◌, ◌<◌, ℕ, List, IsTrue, IfSome, length, slice_get, MatchOption, Option, Some, None}
+use Rattle.std.specs.Prelude.{◌≡◌, ◌%◌, ◌<◌, ℕ, List, [], ◌∷◌, IsTrue, IfSome, length, slice_get, MatchOption, Option, Some, None}
 use Rattle.sdv_registers.specs.declared.kind.Kind.{Kind}
 use Rattle.sdv_card.specs.declared.event.Event.TheVariants.{Send}
 use Rattle.sdv_card.specs.declared.shape.Shape.{Shape}
@@ -64,6 +64,19 @@ HoldsAt ShapeMissing k ps place p s = EachEdge k p.facts place.action s (ShapeRu
 HoldsAt Number k ps place p s = EachEdge k p.facts place.action s (NumberRule ps)
 HoldsAt Bound k ps place p s = EachEdge k p.facts place.action s (BoundRule ps place p)
 HoldsAt EndState k ps place p s = EndsAt place.action s
+
+-- what is known of a card of this shape
+abbrev pub known_of_shape : Facts → Shape → Facts
+known_of_shape known s = record known { shapes = s ∷ [] }
+
+-- all clauses of a point hold of cards of one shape
+pub record ClosedAt (k : Kind) (ps : List PointFacts) (place : Point) (p : PointFacts) (s : Shape) : Type 0 where
+  pub legal : LegalAt k place.action s
+  pub address : AddressAt (known_of_shape p.facts s) place.action
+  pub shape : EachEdge k p.facts place.action s (ShapeRule ps)
+  pub number : EachEdge k p.facts place.action s (NumberRule ps)
+  pub bound : EachEdge k p.facts place.action s (BoundRule ps place p)
+  pub end_state : EndsAt place.action s
 
 -- a clause of a point holds: at each of its shapes
 abbrev pub ClauseHolds : Clause → Kind → List PointFacts → Point → PointFacts → Type 0

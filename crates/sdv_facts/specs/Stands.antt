@@ -12,6 +12,7 @@ use Rattle.sdv_card.specs.Legal.{TransferOnCard}
 use Rattle.sdv_card.specs.Modes.{has_width}
 use Rattle.sdv_card.specs.Port.{IsFine}
 use Rattle.sdv_card.specs.ScriptEvent.{ScriptEvent, Return}
+use Rattle.sdv_card.specs.Shapes.{pair_code}
 use Rattle.sdv_card.specs.Step.{Step}
 use Rattle.sdv_graph.specs.Graph.{Graph}
 use Rattle.sdv_graph.specs.Nested.{InBox}
@@ -20,7 +21,7 @@ use Rattle.sdv_graph.specs.Walk.{Pair, Ending, Finished, IsDeed}
 use Rattle.sdv_facts.specs.Facts.{PointFacts}
 use Rattle.sdv_facts.specs.Beside.{StepsOf, commands_in}
 use Rattle.sdv_facts.specs.Bounds.{bound}
-use Rattle.sdv_facts.specs.Closed.{PointClosed}
+use Rattle.sdv_facts.specs.Closed.{ClosedAt}
 use Rattle.sdv_facts.specs.FactsHold.{FactsHold}
 use Rattle.sdv_facts.specs.Keeps.{MayStandIn, IsHonest}
 
@@ -91,9 +92,24 @@ EachIsMade k es c =
     (front : List Pair) (event : ScriptEvent) (returned : Return) (back : List Pair) (u : Card) →
     es ≡ front ++ (event, returned) ∷ back → StepsOf c front u → IsMade k event u
 
--- so it is at each point whose own clauses hold, whatever the certificate says of the others
+-- an invariant of where a run stands beside the card is kept by a move
+abbrev pub IsKeptBy : (Stand → Card → Type 0) → Kind → Move → Card → Type 0
+IsKeptBy Inv k (Goes next) c = Inv next c
+IsKeptBy Inv k (Does deed h next) c = (event : ScriptEvent) → IsDeed deed event → (returned : Return) (u : Card) →
+    Step event c returned u → Inv (next returned (host_after k event returned h)) u
+IsKeptBy Inv k (Halts e) c = Unit {0}
+
+-- where an invariant holds, each move is as it should be, and keeps it
+abbrev pub StepsWellWhere : (Stand → Card → Type 0) → Graph → List PointFacts → Type 0
+StepsWellWhere Inv g ps = (s : Stand) (c : Card) (at : Stands g ps s c) → Inv s c →
+    MovesWell g ps (bound at.facts s.turns) (move_from g.kind g.points s) c
+    × IsKeptBy Inv g.kind (move_from g.kind g.points s) c
+
+-- so it is wherever the clauses of a point hold of cards of this shape, whatever the certificate says of others and of
+-- other points
 abbrev pub PointsStepWell : Graph → List PointFacts → Type 0
-PointsStepWell g ps = (s : Stand) (c : Card) (at : Stands g ps s c) → PointClosed g.kind ps at.place at.facts →
+PointsStepWell g ps = (s : Stand) (c : Card) (at : Stands g ps s c) →
+    ClosedAt g.kind ps at.place at.facts (record { 0 = pair_code c s.host }) →
     MovesWell g ps (bound at.facts s.turns) (move_from g.kind g.points s) c
 
 -- and so at each point of a graph for which the certificate is closed

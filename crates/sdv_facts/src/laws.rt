@@ -7,9 +7,10 @@ ghost use Rattle.sdv_facts.specs.Facts.{PointFacts};
 ghost use Rattle.sdv_facts.specs.Closed.{PointsMatch};
 ghost use Rattle.sdv_facts.specs.Stands.{PointsStepWell};
 
-/// From wherever what a certificate says of a point holds, and the clauses of that point hold, the point's event is legal
-/// and in bounds, and after each step of the card what it says of the next point holds, and the bound has fallen. Of the
-/// rest of the certificate it is asked that its points are the graph's, with as many variables and loops.
+/// From wherever what a certificate says of a point holds, and the clauses of that point hold at the card's shape, the
+/// point's event is legal and in bounds, and after each step of the card what it says of the next point holds, and the
+/// bound has fallen. Of the rest of the certificate it is asked that its points are the graph's, with as many variables and
+/// loops.
 pub fn each_point_steps_well()
     ensures { (g : Graph) (ps : List PointFacts) → IsSound g → PointsMatch g ps → PointsStepWell g ps }
 {}
