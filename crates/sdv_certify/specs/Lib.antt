@@ -17,6 +17,7 @@ pub mod OneAnswer
 pub mod Kept
 pub mod Lives
 pub mod Assembled
+pub mod Carried
 pub mod Points
 pub mod NumberTests
 pub mod ShapeSets
