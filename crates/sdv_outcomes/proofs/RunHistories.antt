@@ -74,7 +74,7 @@ match_is k (ReceiveRegister lines count) h o has_address g e = absurd (let f : f
 match_is k (GiveBlocks lines blocks) h o has_address g e = absurd (let f : false ≡ true = e in cc)
 match_is k AwaitReady h o has_address g e = absurd (let f : false ≡ true = e in cc)
 
-not_true : (b : Bool) → (b ≡ true → ⊥) → b ≡ false
+pub not_true : (b : Bool) → (b ≡ true → ⊥) → b ≡ false
 not_true true f = absurd (f refl)
 not_true false f = refl
 
@@ -95,7 +95,7 @@ order_none (Some SendRelativeAddress) k pending (Replied (R6 word)) h has_addres
 order_none (Some SendRelativeAddress) k pending (Replied (R7 word)) h has_address g e = g e
 order_none (Some order) k pending answer h has_address g e = g e
 
-still_none : (k : Kind) (event : ScriptEvent) (c u : Card) (h : Host) (returned : Return) (has_address : Bool) → Step event c returned u →
+pub still_none : (k : Kind) (event : ScriptEvent) (c u : Card) (h : Host) (returned : Return) (has_address : Bool) → Step event c returned u →
     (has_address ≡ false → h.rca ≡ 0) → has_address_after k (event_of event) (seen_of k c.mode.error returned) has_address ≡ false →
     (host_after k event returned h).rca ≡ 0
 still_none k (SendCommand ask position argument) c u h (Answered answer) has_address s g e =
