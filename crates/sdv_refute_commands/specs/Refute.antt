@@ -4,6 +4,7 @@ use Rattle.std.specs.Prelude.{◌≡◌, ◌⊎◌, Option, Some}
 use Rattle.std.specs.Io.KnownBytes.{Keeps}
 use Rattle.clap.specs.Words.{Text}
 use Rattle.sdv_check.specs.Verified.{IsNoScript}
+use Rattle.sdv_paths.specs.ClosedSpots.{RunsOfTextAreGood}
 use Rattle.sdv_refute.specs.Tries.{IsRefused}
 use Rattle.sdv_search.specs.Refuted.{IsRefutation}
 use Rattle.sdv_search.specs.Report.{IsReport, schedule_text}
@@ -33,11 +34,12 @@ pub record IsUnwritten (files : Files) (names : RefuteNames) (script file : Text
   pub lost : ((names.description ≡ Some file) × LosesFile files file run.card.now)
       ⊎ ((names.schedule ≡ Some file) × LosesFile files file (schedule_text run.schedule.items))
 
--- why there is no run: the text is no script, or none was found, which says nothing of the script; nor does want of memory
+-- why there is no run: the text is no script; or no path of the state tables breaks the script, and each run of it is as
+-- that of an accepted one; or none was found, which says nothing of the script; nor does want of memory
 abbrev pub IsNoRefutation : (script : Text) → Fault → Type 0
 IsNoRefutation script (Script fault) = IsNoScript script
 IsNoRefutation script (NoRun runs mishaps ended) = Unit {0}
-IsNoRefutation script NoPath = Unit {0}
+IsNoRefutation script NoPath = RunsOfTextAreGood script
 IsNoRefutation script Memory = Unit {0}
 IsNoRefutation script fault = ⊥
 
