@@ -10,13 +10,12 @@ use Rattle.clap.specs.Simple.{entered, filled_from, help_rule, index_after, labe
 use Rattle.clap.specs.Faults.{entered_fault, level_fault}
 use Rattle.clap.specs.Words.{App, app_of, HasKind, Kinds, Row, Shape, Text, built, fault_of, first_of, is_simple, is_simple_and_free, kind_of, matches_of, subcommand_of, takes}
 use Rattle.clap.specs.declared.error.Error.{Error}
-use Rattle.clap.specs.declared.error.kind.ErrorKind.TheVariants.{OutOfMemory}
 use Rattle.sdv_command_line.specs.Commands.{Command, Word, of_emit, of_run, of_script, of_script_and_certificate, of_explain, of_graph, required, optional, with_value, flag, of_audit, of_card, of_drive, of_served_card, of_review, of_try, of_refute, of_sweep, of_decode}
 use Rattle.sdv_command_line.specs.Requests.{Request, by_emit_words, by_run_words, by_script, by_two_words, run, frame, certify, check, batch, emit, explain, graph, print, request_in, seen, by_audit_words, by_card_words, by_decode_words, by_describe_words, by_drive_words, by_explain_words, by_graph_words, is_set, audit, describe, drive, serve, review, attempt, refute, sweep, by_refute_words, by_sweep_words, by_try_words, decode}
-use Rattle.sdv_command_line.specs.CommandLine.{app_for, command_line, meaning_of, request_without, rule_for, with_word}
+use Rattle.sdv_command_line.specs.CommandLine.{app_for, command_line, fault_of_clap, meaning_of, request_without, rule_for, with_word}
 use Rattle.sdv_command_line.specs.declared.request.Request.{Request as CodeRequest}
 use Rattle.sdv_command_line.specs.declared.request.RequestFault.{RequestFault}
-use Rattle.sdv_command_line.specs.declared.request.RequestFault.TheVariants.{Usage, Memory}
+use Rattle.sdv_command_line.specs.declared.request.RequestFault.TheVariants.{Usage}
 use Rattle.sdv_command_line.proofs.WordsGiven.{TakesOneWord, leaf_required, subcommand_given}
 
 -- ---- the table as clap knows it
@@ -63,11 +62,11 @@ no_fault-parsed app words is faults = rw is at faults command_line_is_free
 
 -- a parse by the command line that does not fail for memory fails only where clap finds a fault
 pub usage-parsed : (app : App) (words : List Text) (error : Error) → app ≡ command_line
-    → (is_simple_and_free app ≡ true → HasKind (fault_of app words) error) → (kind_of error ≡ OutOfMemory → Usage ≡ Memory) → fault_of command_line words ≢ []
+    → (is_simple_and_free app ≡ true → HasKind (fault_of app words) error) → Usage ≡ fault_of_clap (kind_of error) → fault_of command_line words ≢ []
 usage-parsed app words error is fails becomes empty = go (rw is at fails command_line_is_free)
   where
     go : HasKind (fault_of command_line words) error → ⊥
-    go (inl memory) = let same = becomes memory in absurd (cc same)
+    go (inl memory) = let same = rw memory at becomes in absurd (cc same)
     go (inr among) = rw empty at among
 
 -- what a parse by the command line promises of words that clap takes

@@ -3,8 +3,12 @@ use Rattle.std.specs.Prelude.{List, [], ◌∷◌, Option, Some, None, codes, fo
 use Rattle.clap.specs.Words.{App, Kinds, Row, Rule, Shape, Text, fault_of, new_app}
 use Rattle.clap.specs.Words.{new_rule, subcommand_of, with_rule, with_subcommand}
 use Rattle.clap.specs.declared.builder.action.ArgAction.TheVariants.{SetTrue}
+use Rattle.clap.specs.declared.error.kind.ErrorKind.{ErrorKind}
+use Rattle.clap.specs.declared.error.kind.ErrorKind.TheVariants.{OutOfMemory}
 use Rattle.sdv_command_line.specs.Commands.{Command, Word, commands, required, optional, with_value, flag}
 use Rattle.sdv_command_line.specs.Requests.{Request, request_in}
+use Rattle.sdv_command_line.specs.declared.request.RequestFault.{RequestFault}
+use Rattle.sdv_command_line.specs.declared.request.RequestFault.TheVariants.{Usage, Memory}
 
 -- what clap is told of a word
 abbrev pub rule_for : Word → Rule
@@ -44,3 +48,8 @@ request_without (kind ∷ kinds) used = None
 -- the request that words mean
 abbrev pub meaning_of : List Text → Option Request
 meaning_of words = request_without (fault_of command_line words) (subcommand_of command_line words)
+
+-- why the words are no request, by the kind of clap's error
+abbrev pub fault_of_clap : ErrorKind → RequestFault
+fault_of_clap OutOfMemory = Memory
+fault_of_clap kind = Usage

@@ -3,7 +3,6 @@ ghost use Rattle.std.specs.Prelude.{◌≡◌, ◌≢◌, [], codes, true, Some,
 ghost use Rattle.std.specs.Prelude.{option_and_then, option_map};
 ghost use Rattle.clap.specs.Words.{fault_of, first_of, found_of, kind_of, rows_of, subcommand_rows_of, takes};
 ghost use Rattle.clap.specs.Walk.{texts};
-ghost use Rattle.clap.specs.declared.error.kind.ErrorKind.TheVariants.{OutOfMemory};
 ghost use Rattle.sdv_command_line.specs.CommandLine.{command_line, meaning_of};
 ghost use Rattle.sdv_command_line.specs.Requests.{by_emit_words, by_run_words, by_script, by_two_words, request_in, seen, by_audit_words, by_describe_words, by_review_words, is_set};
 ghost use Rattle.sdv_command_line.specs.Requests.{batch, by_explain_words, by_graph_words, certify, check, frame, print};
@@ -234,9 +233,9 @@ impl From<AllocError> for RequestFault {
 }
 
 impl From<clap::Error> for RequestFault {
-    ghost use Rattle.sdv_command_line.specs.declared.request.RequestFault.TheVariants.{Memory};
+    ghost use Rattle.sdv_command_line.specs.CommandLine.{fault_of_clap};
 
-    ghost from_gives = { λ error fault. kind_of error ≡ OutOfMemory → fault ≡ Memory };
+    ghost from_gives = { λ error fault. fault ≡ fault_of_clap (kind_of error) };
 
     fn from(error: clap::Error) -> RequestFault {
         match error.kind() {

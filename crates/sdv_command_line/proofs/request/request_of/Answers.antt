@@ -1,8 +1,8 @@
-use Rattle.std.proofs.Common.{◌≡◌, ◌∙◌, [], Err, Ok, Result, IfErr, IsErrAnd, option_map, sym}
+use Rattle.std.proofs.Common.{◌≡◌, ◌∙◌, [], Err, Ok, Result, IfErr, IsErrAnd, ap, option_map, sym}
 use Rattle.clap.specs.Words.{app_of, fault_of, found_of, kind_of, rows_of, subcommand_rows_of}
 use Rattle.clap.specs.Walk.{texts}
 use Rattle.clap.specs.declared.error.kind.ErrorKind.TheVariants.{OutOfMemory}
-use Rattle.sdv_command_line.specs.CommandLine.{command_line, meaning_of}
+use Rattle.sdv_command_line.specs.CommandLine.{command_line, fault_of_clap, meaning_of}
 use Rattle.sdv_command_line.specs.Requests.{seen}
 use Rattle.sdv_command_line.specs.declared.request.Request.{Request}
 use Rattle.sdv_command_line.specs.declared.request.RequestFault.{RequestFault}
@@ -19,13 +19,13 @@ returns-in_err-matches-clause-taken c = λ taken.
     let error = c.in_err-matches.field-0.0 in
     let memory = taken-parsed (app_of c.in_ok-program_command.field-0) (texts c.args.words.now) (kind_of error ≡ OutOfMemory)
     c.in_ok-program_command.ensures c.in_err-matches.ensures.passes taken in
-    refused_as c.from_residual-in_err-matches.result (λ fault. kind_of error ≡ OutOfMemory → fault ≡ Memory) (λ fault. fault ≡ Memory)
-    c.from_residual-in_err-matches.ensures.1 (λ fault becomes. becomes memory)
+    refused_as c.from_residual-in_err-matches.result (λ fault. fault ≡ fault_of_clap (kind_of error)) (λ fault. fault ≡ Memory)
+    c.from_residual-in_err-matches.ensures.1 (λ fault becomes. becomes ∙ ap fault_of_clap memory)
 
 pub returns-in_err-matches-clause-usage : goal.returns-in_err-matches-clause-usage
 returns-in_err-matches-clause-usage c = λ refused.
     let error = c.in_err-matches.field-0.0 in
-    let becomes : IsErrAnd {T = Request} (Err Usage) (λ fault. kind_of error ≡ OutOfMemory → fault ≡ Memory) =
+    let becomes : Usage ≡ fault_of_clap (kind_of error) =
     rw refused at c.from_residual-in_err-matches.ensures.1 in
     usage-parsed (app_of c.in_ok-program_command.field-0) (texts c.args.words.now) error c.in_ok-program_command.ensures
     c.in_err-matches.ensures.kinds becomes
