@@ -1,5 +1,5 @@
 -- What is REVIEWED of a text: what is found in its script, in words and as objects, and what that means.
-use Rattle.std.specs.Prelude.{◌≡◌, ◌++◌, ℕ, List, [], Bool, true, false, IfSome}
+use Rattle.std.specs.Prelude.{◌≡◌, ◌<◌, ◌^◌, ◌++◌, ℕ, List, [], Bool, true, false, SomeIff}
 use Rattle.sdv_script.specs.OneGraph.{IsGraphOfScript}
 use Rattle.sdv_script.specs.declared.fault.FaultKind.{FaultKind}
 use Rattle.sdv_script.specs.declared.fault.FaultKind.TheVariants as kinds
@@ -32,8 +32,8 @@ pub record ReviewsScript (s : Tree) (r : Report) : Type 0 where
   pub found : r.found.items ≡ findings_of graph points
   pub lines : r.lines.items ≡ lines_of graph r.found.items r.writes.items ++ given_line r.given
   pub objects : r.objects.items ≡ objects_of graph r.found.items r.writes.items ++ given_object r.given
-  -- the most blocks that a run gives, by the statements
-  pub given : IfSome r.given (λ most. most ≡ most_of_statements (shown s).body)
+  -- the most blocks that a run gives, by the statements, exactly where the number has 64 bits
+  pub given : SomeIff r.given (most_of_statements (shown s).body < 2 ^ 64) (most_of_statements (shown s).body)
   -- what is found of writes, erases and places, by sets that are carried along the edges
   pub writes : WritesFound graph points r.writes.items
   -- where nothing is, and each partition is certain, the data is there in each run that is done

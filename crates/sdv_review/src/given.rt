@@ -1,6 +1,6 @@
 //! The most blocks that a run gives.
 
-ghost use Rattle.std.specs.Prelude.{◌≡◌, ◌++◌, IfSome, OnOk, max};
+ghost use Rattle.std.specs.Prelude.{◌≡◌, ◌++◌, ◌<◌, ◌^◌, OnOk, SomeIff, max};
 ghost use Rattle.sdv_graph.specs.Tree.{statements_of, ways_of, statement_of};
 ghost use Rattle.sdv_review.specs.Given.{announced_by, block_word, count_object, count_words, given_line, given_object, most_of_statement, most_of_statements, most_of_ways};
 
@@ -25,7 +25,8 @@ fn announced_by(ask: &Ask) -> u64
 /// The most blocks that a run of these statements gives; none where the number has more than 64 bits.
 #[cycle(given)]
 pub fn most_of_block(block: &Block<'_>) -> Option<u64>
-    ensures { IfSome result (λ most. most ≡ most_of_statements (statements_of block.now)) }
+    ensures { SomeIff result (most_of_statements (statements_of block.now) < 2 ^ 64)
+        (most_of_statements (statements_of block.now)) }
 {
     match block {
         Block::Empty => Some(0),
@@ -39,7 +40,7 @@ pub fn most_of_block(block: &Block<'_>) -> Option<u64>
 // A text of the size limit may have 13,000 cases, too many for a recursion.
 #[cycle(given)]
 fn most_of_cases(cases: &Cases<'_>) -> Option<u64>
-    ensures { IfSome result (λ most. most ≡ most_of_ways (ways_of cases.now)) }
+    ensures { SomeIff result (most_of_ways (ways_of cases.now) < 2 ^ 64) (most_of_ways (ways_of cases.now)) }
 {
     let mut most = 0;
     let mut rest = cases;
@@ -57,8 +58,8 @@ fn most_of_cases(cases: &Cases<'_>) -> Option<u64>
 /// The most of one of two blocks.
 #[cycle(given)]
 fn most_of_both(a: &Block<'_>, b: &Block<'_>) -> Option<u64>
-    ensures { IfSome result (λ most.
-        most ≡ max (most_of_statements (statements_of a.now)) (most_of_statements (statements_of b.now))) }
+    ensures { let most = max (most_of_statements (statements_of a.now)) (most_of_statements (statements_of b.now)) in
+        SomeIff result (most < 2 ^ 64) most }
 {
     let first = most_of_block(a)?;
     Some(max(first, most_of_block(b)?))
@@ -66,11 +67,14 @@ fn most_of_both(a: &Block<'_>, b: &Block<'_>) -> Option<u64>
 
 #[cycle(given)]
 fn most_of_stmt(stmt: &Stmt<'_>) -> Option<u64>
-    ensures { IfSome result (λ most. most ≡ most_of_statement (statement_of stmt.now)) }
+    ensures { SomeIff result (most_of_statement (statement_of stmt.now) < 2 ^ 64)
+        (most_of_statement (statement_of stmt.now)) }
 {
     match stmt {
         Stmt::Send(command, cases) => announced_by(&command.ask).checked_add(most_of_cases(cases)?),
         Stmt::Phase(_, a, b) | Stmt::If(_, a, b) => most_of_both(a, b),
+        // A loop of no turn gives nothing by its body, however much that would give.
+        Stmt::Loop(0, _, b) => most_of_block(b),
         Stmt::Loop(turns, a, b) => {
             let body = u64::from(*turns).checked_mul(most_of_block(a)?)?;
             body.checked_add(most_of_block(b)?)
