@@ -18,7 +18,7 @@ use Rattle.sdv_run.specs.OnCard.{ShowsStart}
 use Rattle.sdv_refute.specs.declared.wrong.Watched.{Watched}
 use Rattle.sdv_refute.specs.declared.wrong.Watched.TheVariants as comes
 use Rattle.sdv_refute.specs.declared.wrong.Wrong.{Wrong}
-use Rattle.sdv_refute.specs.Watched.{Halted, StopsBefore, EndsAllowed, WrongLineBrokeOff, CutShort, Watches}
+use Rattle.sdv_refute.specs.Watched.{Halted, CutShort, Watches}
 
 module _ {S T : Type 0} (f : S → T) where
   abbrev pub seen : World S → World T
@@ -132,7 +132,11 @@ module _ {S T : Type 0} (f : S → T) (steps : Steps S) (steps' : Steps T)
       halted = seen_halted g wrong.point w w' ran.halted;
       trace = ran.trace;
       kind = ran.kind;
+      here = ran.here;
+      at = ran.at;
       line = ran.line;
+      next = ran.next;
+      not_allowed = ran.not_allowed;
       shape = ran.shape;
       refutes = λ c start. ran.refutes c (seen_start g.kind w.port c start);
     }

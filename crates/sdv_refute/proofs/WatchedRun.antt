@@ -290,7 +290,11 @@ module _ {S : Type 0} (steps : Steps S) (card : S → Option Card) (g : Graph) w
       halted = halted wrong.point is.at t;
       trace = appends_more start.trace w.trace t (lines so.events) (wrong_line wrong.next) so.written.trace printed;
       kind = is.kind;
+      here = p;
+      at = subst (λ n. slice_get g.points n ≡ Some p) is.at here;
       line = is.line;
+      next = is.next;
+      not_allowed = is.not_allowed;
       shape = is.shape;
       refutes = λ c shows. (
           let b = so.beside c shows in

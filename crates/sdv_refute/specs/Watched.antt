@@ -1,6 +1,6 @@
 -- A WATCHED RUN of a graph over a port: it ends, or is cut short, as any run, or it stops before what is not allowed at
 -- the card that the port shows.
-use Rattle.std.specs.Prelude.{◌≡◌, ◌++◌, ◌⊎◌, true, false, ℕ, List, [], Option, Result, Ok, Err, Some, length, slice_get}
+use Rattle.std.specs.Prelude.{◌≡◌, ◌++◌, ◌⊎◌, true, false, ℕ, List, Option, Result, Ok, Err, Some, length, slice_get}
 use Rattle.std.specs.Io.KnownBytes.{Appends}
 use Rattle.sdv_text.specs.Written.{AppendsPart}
 use Rattle.sdv_registers.specs.declared.kind.Kind.{Kind}
@@ -89,12 +89,17 @@ pub record RefutesGraph (g : Graph) (c : Card) (es : List Pair) (wrong : Wrong) 
   pub named : Names wrong.next coming
   pub refutes : (s : Parsed) → IsGraphOfScript s g → (r : Refutes s c es coming) × (wrong.sight ≡ sight_of r.last)
 
+-- It stands at a statement whose event, or `done`, is not allowed at what is seen. Beside a card, that refutes scripts.
 pub record StopsBefore {S : Type 0} (steps : Steps S) (card : S → Option Card) (g : Graph) (wrong : Wrong)
     (w w' : World S) : Type 0 where
   pub halted : Halted steps g wrong.point w w'
   pub trace : Appends w.trace w'.trace (lines halted.events ++ wrong_line wrong.next)
   pub kind : wrong.kind ≡ g.kind
+  pub here : Point
+  pub at : slice_get g.points wrong.point ≡ Some here
   pub line : slice_get g.lines wrong.point ≡ Some wrong.line
+  pub next : next_of g.kind here.action halted.leads.stand.host ≡ Some wrong.next
+  pub not_allowed : allows g.kind halted.leads.stand.host wrong.sight wrong.next ≡ false
   pub shape : wrong.shape.0 ≡ code_of (fields_seen wrong.sight halted.leads.stand.host)
   pub refutes : (c : Card) → ShowsStart card g.kind w.port c → RefutesGraph g c halted.events wrong
 
