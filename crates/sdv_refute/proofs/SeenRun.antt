@@ -1,8 +1,8 @@
 -- A watched run over a port is one over what is seen of the port, where each step of the port is one of what is seen.
-use Rattle.std.proofs.Common.{◌≡◌, ◌∙◌, ap, sym, inl, inr, ℕ, Option, List, [], ◌∷◌, Result, Ok, Err}
+use Rattle.std.proofs.Common.{◌≡◌, ◌∙◌, ap, inl, inr, ℕ, Option, List, [], ◌∷◌, Result, Ok, Err}
 use Rattle.sdv_registers.specs.declared.kind.Kind.{Kind}
 use Rattle.sdv_card.specs.Card.{Card}
-use Rattle.sdv_card.specs.Port.{Call, Shows, call_of, Exchange, DataIn, DataInRegister, DataOut, WaitWhileBusy}
+use Rattle.sdv_card.specs.Port.{Call, call_of, Exchange, DataIn, DataInRegister, DataOut, WaitWhileBusy}
 use Rattle.sdv_card.specs.ScriptEvent.{Return, Answered, BlocksIn, RegisterIn, BlocksOut, Waited}
 use Rattle.sdv_graph.specs.Graph.{Graph}
 use Rattle.sdv_graph.specs.Walk.{Pair}
@@ -18,7 +18,7 @@ use Rattle.sdv_run.specs.OnCard.{ShowsStart}
 use Rattle.sdv_refute.specs.declared.wrong.Watched.{Watched}
 use Rattle.sdv_refute.specs.declared.wrong.Watched.TheVariants as comes
 use Rattle.sdv_refute.specs.declared.wrong.Wrong.{Wrong}
-use Rattle.sdv_refute.specs.Watched.{Halted, CutShort, Watches}
+use Rattle.sdv_refute.specs.Watched.{AllowsNext, CutShort, Halted, StandsBefore, StopsAllowed, Watches}
 
 module _ {S T : Type 0} (f : S → T) where
   abbrev pub seen : World S → World T
@@ -69,6 +69,17 @@ module _ {S T : Type 0} (f : S → T) where
   seen_because Trace g es w w' (inr broken) = inr (record { end = broken.end; walk = broken.walk; output = broken.output; trace = broken.trace })
   seen_because Memory g es w w' nothing = record { none = nothing.none; same = ap seen nothing.same }
 
+  -- what of the run's end is allowed at a card
+  seen_next : (fault : RunFault) (g : Graph) (es : List Pair) (w w' : World S) (because : Because fault g es w w') (last : Card) →
+      AllowsNext fault g es w w' because last → AllowsNext fault g es (seen w) (seen w') (seen_because fault g es w w' because) last
+  unfolding seen_because
+  seen_next Input g es w w' short last next = next
+  seen_next Trace g es w w' (inl broken) last next = tt
+  seen_next Trace g es w w' (inr broken) last next = next
+  seen_next Reply g es w w' because last next = tt
+  seen_next Output g es w w' because last next = tt
+  seen_next Memory g es w w' because last next = tt
+
 module _ {S T : Type 0} (f : S → T) (steps : Steps S) (steps' : Steps T)
     (step : (s : S) (c : Call) (r : Return) (s' : S) → steps s c r s' → steps' (f s) c r (f s')) where
   seen_moved : (k : Kind) (es : List Pair) (s s' : S) → RunMoved k steps s es s' → RunMoved k steps' (f s) es (f s')
@@ -104,15 +115,6 @@ module _ {S T : Type 0} (f : S → T) (steps : Steps S) (steps' : Steps T)
     output = h.output;
   }
 
-  seen_cut : (g : Graph) (fault : RunFault) (w w' : World S) → CutShort steps g fault w w' → CutShort steps' g fault (seen f w) (seen f w')
-  unfolding seen_halted
-  seen_cut g Trace w w' (inl stopped) = inl (seen_stopped g Trace w w' stopped)
-  seen_cut g Trace w w' (inr broke) = inr (record { point = broke.point; next = broke.next; halted = seen_halted g broke.point w w' broke.halted; trace = broke.trace })
-  seen_cut g Reply w w' cut = seen_stopped g Reply w w' cut
-  seen_cut g Input w w' cut = seen_stopped g Input w w' cut
-  seen_cut g Output w w' cut = seen_stopped g Output w w' cut
-  seen_cut g Memory w w' cut = seen_stopped g Memory w w' cut
-
   module _ (card : S → Option Card) (card' : T → Option Card) (same : (s : S) → card s ≡ card' (f s)) where
     seen_start : (k : Kind) (s : S) (c : Card) → ShowsStart card' k (f s) c → ShowsStart card k s c
     seen_start k s c start = record {
@@ -121,25 +123,51 @@ module _ {S T : Type 0} (f : S → T) (steps : Steps S) (steps' : Steps T)
       start = start.start;
     }
 
+    seen_stands : (g : Graph) (wrong : Wrong) (w w' : World S) → StandsBefore steps card g wrong w w' → StandsBefore steps' card' g wrong (seen f w) (seen f w')
+    unfolding seen_halted
+    seen_stands g wrong w w' stands = record {
+      halted = seen_halted g wrong.point w w' stands.halted;
+      kind = stands.kind;
+      here = stands.here;
+      at = stands.at;
+      line = stands.line;
+      next = stands.next;
+      not_allowed = stands.not_allowed;
+      shape = stands.shape;
+      refutes = λ c start. stands.refutes c (seen_start g.kind w.port c start);
+    }
+
+    seen_allowed : (g : Graph) (fault : RunFault) (w w' : World S) → StopsAllowed steps card g fault w w' → StopsAllowed steps' card' g fault (seen f w) (seen f w')
+    unfolding seen_stopped
+    seen_allowed g fault w w' stops = record {
+      ran = seen_stopped g fault w w' stops.ran;
+      allowed = λ c start. (
+          let until = stops.allowed c (seen_start g.kind w.port c start) in
+          record {
+            last = until.last;
+            steps = until.steps;
+            next = seen_next f fault g stops.ran.events w w' stops.ran.because until.last until.next;
+            no_reply = until.no_reply;
+          });
+    }
+
+    seen_cut : (g : Graph) (fault : RunFault) (w w' : World S) → CutShort steps card g fault w w' → CutShort steps' card' g fault (seen f w) (seen f w')
+    unfolding seen_stands seen_halted
+    seen_cut g Trace w w' (inl stops) = inl (seen_allowed g Trace w w' stops)
+    seen_cut g Trace w w' (inr broke) = inr (record { wrong = broke.wrong; stands = seen_stands g broke.wrong w w' broke.stands; trace = broke.trace })
+    seen_cut g Reply w w' stops = seen_allowed g Reply w w' stops
+    seen_cut g Input w w' stops = seen_allowed g Input w w' stops
+    seen_cut g Output w w' stops = seen_allowed g Output w w' stops
+    seen_cut g Memory w w' stops = seen_allowed g Memory w w' stops
+
     pub seen_watched : (g : Graph) (w w' : World S) (result : Result Watched RunFault) → Watches steps card g w w' result →
         Watches steps' card' g (seen f w) (seen f w') result
-    unfolding seen_ended seen_halted
+    unfolding seen_ended seen_stands seen_halted
     seen_watched g w w' (Ok (comes.Ended end)) ran = record {
       ran = seen_ended g end w w' ran.ran;
       allowed = λ c start. ran.allowed c (seen_start g.kind w.port c start);
     }
-    seen_watched g w w' (Ok (comes.Stopped wrong)) ran = record {
-      halted = seen_halted g wrong.point w w' ran.halted;
-      trace = ran.trace;
-      kind = ran.kind;
-      here = ran.here;
-      at = ran.at;
-      line = ran.line;
-      next = ran.next;
-      not_allowed = ran.not_allowed;
-      shape = ran.shape;
-      refutes = λ c start. ran.refutes c (seen_start g.kind w.port c start);
-    }
+    seen_watched g w w' (Ok (comes.Stopped wrong)) ran = record { stands = seen_stands g wrong w w' ran.stands; trace = ran.trace }
     seen_watched g w w' (Err fault) cut = seen_cut g fault w w' cut
 
 -- a controller steps as one over what is seen of its wire

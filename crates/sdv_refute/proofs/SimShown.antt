@@ -71,18 +71,18 @@ pub refutes_text : (text : List ℕ) (g : Graph) (desc : CardDesc) (codes : List
 refutes_text text g desc codes input blocks blocks' out out' trace trace' (Ok (comes.Ended end)) of tries = tt
 refutes_text text g desc codes input blocks blocks' out out' trace trace' (Ok (comes.Stopped wrong)) of tries = λ shown is. (
     let c = card_of desc (at_start desc) shown in
-    let by = tries.watched.refutes c (shows_made desc codes shown blocks tries.card g.kind is tries.kind tries.made) in
+    let by = tries.watched.stands.refutes c (shows_made desc codes shown blocks tries.card g.kind is tries.kind tries.made) in
     let refutes = (by.refutes of.script of.graph).0 in
     record {
       script = of.script;
       same = of.same;
       is_script = of.is_script;
-      events = tries.watched.halted.events;
+      events = tries.watched.stands.halted.events;
       coming = by.coming;
       named = by.named;
       refutes = refutes;
       refused = λ certificate a accepted.
-          none_is_accepted of.script c tries.watched.halted.events by.coming certificate a of.is_script refutes
+          none_is_accepted of.script c tries.watched.stands.halted.events by.coming certificate a of.is_script refutes
           (subst (λ t. IsAccepted t certificate a) (sym of.same) accepted);
     })
 refutes_text text g desc codes input blocks blocks' out out' trace trace' (Err fault) of tries = tt

@@ -1,50 +1,57 @@
 -- A watched run, from its start to where it stands, beside the card that the port showed at its start.
-use Rattle.std.proofs.Common.{◌≡◌, ℕ, ◌-◌, List, [], ◌∷◌, ◌++◌, Bool, true, false, Option, Some, inl, inr, refl, sym, ap, ◌∙◌, subst, append_assoc, replicate}
+use Rattle.std.proofs.Common.{◌≡◌, ℕ, ◌-◌, ◌<◌, ◌≤◌, length, arith, List, [], ◌∷◌, ◌++◌, Bool, true, false, Option, Some, inl, inr, refl, sym, ap, ◌∙◌, subst, append_assoc, replicate}
 use Rattle.std.proofs.lemmas.List.{append-nil, length-replicate}
-use Rattle.std.specs.Prelude.{slice_get, Result, Ok, Err}
+use Rattle.std.specs.Prelude.{◌^◌, slice_get, Result, Ok, Err}
+use Rattle.std.specs.List.{concat}
 use Rattle.std.specs.Io.KnownBytes.{Appends}
 use Rattle.sdv_text.specs.Written.{AppendsPart}
 use Rattle.sdv_text.proofs.WrittenLaws.{appends_more}
+use Rattle.sdv_card.specs.declared.answer.DataEnd.TheVariants as phase_ends
+use Rattle.sdv_card.specs.declared.event.Ask.{Ask}
+use Rattle.sdv_card.specs.declared.state.Width.{Width}
 use Rattle.sdv_card.specs.Card.{Card, Block}
 use Rattle.sdv_card.specs.Host.{Host, host_after}
+use Rattle.sdv_card.specs.HostEvents.{Makes}
 use Rattle.sdv_card.specs.Legal.{TransferOnCard}
-use Rattle.sdv_card.specs.Port.{Shows, Kept, IsFine, KeepsTables}
-use Rattle.sdv_card.specs.ScriptEvent.{ScriptEvent, GiveBlocks, Return}
+use Rattle.sdv_card.specs.Port.{Shows, Kept, IsFine, KeepsTables, call_of}
+use Rattle.sdv_card.specs.ScriptEvent.{ScriptEvent, SendCommand, ReceiveBlocks, ReceiveRegister, GiveBlocks, AwaitReady, Return, Answered, BlocksIn, BlocksOut, MayReturn}
 use Rattle.sdv_card.specs.Step.{Step}
 use Rattle.sdv_graph.specs.Graph.{Graph, begin}
-use Rattle.sdv_graph.specs.GraphOf.{IsGraphOf, IsSound}
+use Rattle.sdv_graph.specs.GraphOf.{IsSound}
 use Rattle.sdv_graph.specs.Path.{Point, Stand, Move, Goes, Does, Halts, Follows, Path, action_move, move, move_from}
-use Rattle.sdv_graph.specs.Walk.{Pair, Ending, Finished, Failed, Fell, Broke, Open, Walk, Deed, exactly, giving, IsDeed}
+use Rattle.sdv_graph.specs.Walk.{Pair, Ending, Finished, Failed, Fell, Broke, Open, Walk, Deed, exactly, giving, IsDeed, given_by}
 use Rattle.sdv_graph.proofs.Paths.{roll}
 use Rattle.sdv_script.specs.OneGraph.{IsGraphOfScript}
 use Rattle.sdv_script.specs.Script.{Parsed}
 use Rattle.sdv_facts.specs.Beside.{IsAllowed, EndsWell}
 use Rattle.sdv_facts.specs.Keeps.{IsHonest}
-use Rattle.sdv_facts.proofs.StepLaws.{Laws, laws_of, honest_after}
+use Rattle.sdv_facts.proofs.ArgumentLaws.{narrow}
+use Rattle.sdv_facts.proofs.StepLaws.{laws_of, honest_after}
 use Rattle.sdv_facts.proofs.SuitLaws.{each_action_suits}
 use Rattle.sdv_run.specs.declared.fault.RunFault.{RunFault}
-use Rattle.sdv_run.specs.declared.fault.RunFault.TheVariants.{Trace}
+use Rattle.sdv_run.specs.declared.fault.RunFault.TheVariants.{Reply, Input, Output, Trace, Memory}
 use Rattle.sdv_trace.specs.declared.end.End.{End}
 use Rattle.sdv_trace.specs.declared.end.End.TheVariants.{Done, Fault}
 use Rattle.sdv_run.specs.Announced.{AnnounceAtMost}
+use Rattle.sdv_run.specs.Answers.{is_taken}
 use Rattle.sdv_run.specs.OnCard.{ShowsStart}
-use Rattle.sdv_run.specs.Ran.{Happened, IsWalk, Written, Ended, Stopped}
-use Rattle.sdv_run.specs.Run.{Steps, received, ending_of}
-use Rattle.sdv_trace.specs.Trace.{lines}
-use Rattle.sdv_run.specs.Step.{World, Leads}
-use Rattle.sdv_trace.specs.Trace.{end_line}
+use Rattle.sdv_run.specs.Ran.{Happened, IsWalk, Written}
+use Rattle.sdv_run.specs.Run.{Steps, received, received_by, ending_of}
+use Rattle.sdv_trace.specs.Trace.{end_line, line_of, lines}
+use Rattle.sdv_run.specs.Step.{World, Leads, CutDeed}
+use Rattle.sdv_run.specs.Step.{CutShort as IsCut}
 use Rattle.sdv_run.proofs.Known.{breaks_off}
-use Rattle.sdv_run.proofs.Made.{happened_more, written_more, none_happened, none_written, one_happened, one_written}
+use Rattle.sdv_run.proofs.Made.{happened_more, received_more, written_more, none_happened, none_written, one_happened, one_written}
+use Rattle.sdv_run.proofs.OnCard.{taken}
 use Rattle.sdv_run.proofs.Runs.{SoFar, begins_at, goes_on}
-use Rattle.sdv_refute.specs.declared.next.Next.{Next}
-use Rattle.sdv_refute.specs.declared.sight.Sight.{Sight}
+use Rattle.sdv_run.proofs.Runs.{no_memory as nothing_ran, stops as cut_so}
 use Rattle.sdv_refute.specs.declared.wrong.Watched.{Watched}
 use Rattle.sdv_refute.specs.declared.wrong.Wrong.{Wrong}
 use Rattle.sdv_refute.specs.Sight.{sight_of}
 use Rattle.sdv_refute.specs.Allows.{allows, allows_next}
 use Rattle.sdv_refute.specs.Next.{next_of}
-use Rattle.sdv_refute.specs.Refutes.{WalkOf, AllowedStepsOf, Coming, an_event, the_end, Refutes}
-use Rattle.sdv_refute.specs.Watched.{Names, LeadsTo, Halted, RefutesGraph, StopsBefore, EndsAllowed, WrongLineBrokeOff, CutShort, IsAllowedAt, IsWrongHere, StopsWith, Watches}
+use Rattle.sdv_refute.specs.Refutes.{WalkOf, AllowedStepsOf, an_event, the_end}
+use Rattle.sdv_refute.specs.Watched.{Halted, RefutesGraph, StandsBefore, StopsBefore, EndsAllowed, StopsAllowed, WrongLineBrokeOff, CutShort, IsAllowedAt, IsWrongHere, StopsWith, Watches}
 use Rattle.sdv_refute.specs.WrongLine.{wrong_line}
 use Rattle.sdv_refute.proofs.Judged.{MayMove, allows_exactly, Moves, moves}
 use Rattle.sdv_refute.proofs.Named.{NamesMove, named}
@@ -80,6 +87,12 @@ module _ {S : Type 0} (steps : Steps S) (card : S → Option Card) (g : Graph) w
         honest = subst (λ s. IsHonest g.kind c s.host) (sym at) honest;
         on_card = held.on_card;
       }
+
+  -- an event that the host makes is one of those that the card takes by the tables, if it is allowed
+  fine_of : (es : List Pair) (s : Stand) (w : World S) (c : Card) (b : Beside es s w c) (event : ScriptEvent) → Makes g.kind event s.host →
+      IsAllowed event b.last → IsFine g.kind event b.last s.host
+  fine_of es s w c b event makes allowed =
+      record { pair = b.honest.pair; made = makes; legal = allowed.legal; bounds = allowed.bounds; on_card = b.on_card }
 
   -- the event that a move made, if it made one
   abbrev pub events_of : (m : Move) (w w' : World S) (s' : Stand) → Leads g.kind steps m w w' s' → List Pair
@@ -120,8 +133,7 @@ module _ {S : Type 0} (steps : Steps S) (card : S → Option Card) (g : Graph) w
       let laws = laws_of k in
       let h = s.host in
       let allowed = may event is in
-      let fine : IsFine k event b.last h =
-      record { pair = b.honest.pair; made = known.1 event is; legal = allowed.legal; bounds = allowed.bounds; on_card = b.on_card } in
+      let fine = fine_of es s w c b event (known.1 event is) allowed in
       let kept : Kept card event b.last returned w'.port = keeps w.port w'.port k event b.last h returned b.shown fine made.step in
       let honest = honest_after k laws event b.last h returned kept.after fine b.honest kept.step in
       let host_is : s'.host ≡ host_after k event returned h =
@@ -226,13 +238,17 @@ module _ {S : Type 0} (steps : Steps S) (card : S → Option Card) (g : Graph) w
               (b.last, b.on, ends_well end b.last (subst (λ m. MayMove true m b.last) halts.0 (may_move s b.last b.honest p true (allowed b.last b.shown)))));
         }
 
+    -- it has come so far
+    open_walk : IsWalk g Open so.events
+    open_walk = is_walk Open so.events
+        (subst (λ es. Path g.kind g.points Open (begin g) es) (append-nil so.events) (so.leads Open [] (open_at s)))
+
     -- IT STOPS
     halted : (point : ℕ) → s.point ≡ point → (t : Option (List ℕ)) → Halted steps g point start (record w { trace = t })
     halted point at t = record {
       events = so.events;
       happened = record { port = so.happened.port; input = so.happened.input };
-      walk = is_walk Open so.events
-          (subst (λ es. Path g.kind g.points Open (begin g) es) (append-nil so.events) (so.leads Open [] (open_at s)));
+      walk = open_walk;
       leads = record { stand = s; at = at; onward = so.leads };
       output = so.written.output;
     }
@@ -283,12 +299,10 @@ module _ {S : Type 0} (steps : Steps S) (card : S → Option Card) (g : Graph) w
     refutes_by c b wrong seen (Halts Broke) is may names shows = absurd may
     refutes_by c b wrong seen (Halts Open) is may names shows = absurd may
 
-    stops_before : (wrong : Wrong) (t : Option (List ℕ)) → IsWrongHere card g.lines g.kind s w.port p wrong → Appends w.trace t (wrong_line wrong.next) →
-        StopsBefore steps card g wrong start (record w { trace = t })
+    stands_before : (wrong : Wrong) (t : Option (List ℕ)) → IsWrongHere card g.lines g.kind s w.port p wrong → StandsBefore steps card g wrong start (record w { trace = t })
     unfolding halted
-    stops_before wrong t is printed = record {
+    stands_before wrong t is = record {
       halted = halted wrong.point is.at t;
-      trace = appends_more start.trace w.trace t (lines so.events) (wrong_line wrong.next) so.written.trace printed;
       kind = is.kind;
       here = p;
       at = subst (λ n. slice_get g.points n ≡ Some p) is.at here;
@@ -305,13 +319,20 @@ module _ {S : Type 0} (steps : Steps S) (card : S → Option Card) (g : Graph) w
           (may_move s b.last b.honest p false no) (named g.kind p.action s.turns s.host wrong.next is.next) shows);
     }
 
+    stops_before : (wrong : Wrong) (t : Option (List ℕ)) → IsWrongHere card g.lines g.kind s w.port p wrong → Appends w.trace t (wrong_line wrong.next) →
+        StopsBefore steps card g wrong start (record w { trace = t })
+    unfolding stands_before halted
+    stops_before wrong t is printed = record {
+      stands = stands_before wrong t is;
+      trace = appends_more start.trace w.trace t (lines so.events) (wrong_line wrong.next) so.written.trace printed;
+    }
+
     line_breaks_off : (wrong : Wrong) (t : Option (List ℕ)) → IsWrongHere card g.lines g.kind s w.port p wrong → AppendsPart w.trace t (wrong_line wrong.next) →
-        WrongLineBrokeOff steps g start (record w { trace = t })
-    unfolding halted
+        WrongLineBrokeOff steps card g start (record w { trace = t })
+    unfolding stands_before halted
     line_breaks_off wrong t is part = record {
-      point = wrong.point;
-      next = wrong.next;
-      halted = halted wrong.point is.at t;
+      wrong = wrong;
+      stands = stands_before wrong t is;
       trace = breaks_off start.trace w.trace t (lines so.events) (wrong_line wrong.next) so.written.trace part;
     }
 
@@ -322,7 +343,215 @@ module _ {S : Type 0} (steps : Steps S) (card : S → Option Card) (g : Graph) w
     stops wrong t (Err fault) is (same, part) =
         subst (λ f. Watches steps card g start (record w { trace = t }) (Err f)) (sym same) (inr (line_breaks_off wrong t is part))
 
-  -- A RUN THAT IS CUT SHORT
-  pub cuts : (fault : RunFault) (w w' : World S) → Stopped steps g fault w w' → CutShort steps g fault w w'
-  cuts Trace w w' stopped = inl stopped
-  cuts fault w w' stopped = stopped
+    -- IT IS CUT SHORT
+    module _ (allowed : IsAllowedHere s w p) where
+      -- at its end
+      pub cut_at_end : (w' : World S) (end : End) (t : Option (List ℕ)) → (action_move g.kind p.action s.turns s.host ≡ Halts (ending_of end)) × (w' ≡ w) →
+          AppendsPart w'.trace t (end_line end) → CutShort steps card g Trace start (record { port = w'.port; input = w'.input; out = w'.out; trace = t })
+      cut_at_end w' end t halts part =
+          let happened = subst (λ (w : World S). Happened g.kind steps so.events start w) (sym halts.1) so.happened in
+          inl (record {
+            ran = record {
+              events = so.events;
+              happened = record { port = happened.port; input = happened.input };
+              walk = open_walk;
+              because = inr (record {
+                end = end;
+                walk = is_walk (ending_of end) so.events (halts_with (Halts (ending_of end)) (ending_of end) halts.0 (refl, refl));
+                output = subst (λ (w : World S). Appends start.out w.out (received so.events)) (sym halts.1) so.written.output;
+                trace = breaks_off start.trace w'.trace t (lines so.events) (end_line end)
+                    (subst (λ (w : World S). Appends start.trace w.trace (lines so.events)) (sym halts.1) so.written.trace) part;
+              });
+            };
+            allowed = λ c shows. (
+                let b = so.beside c shows in
+                record {
+                  last = b.last;
+                  steps = b.on;
+                  next = ends_well end b.last (subst (λ m. MayMove true m b.last) halts.0 (may_move s b.last b.honest p true (allowed b.last b.shown)));
+                  no_reply = λ is. absurd (cc);
+                });
+          })
+
+      module _ (w' : World S) (deed : Deed) (before : Host) (next : Return → Host → Stand)
+          (is : action_move g.kind p.action s.turns s.host ≡ Does deed before next) where
+        may_make : (c : Card) (b : Beside so.events s w c) (event : ScriptEvent) → IsDeed deed event → IsAllowed event b.last
+        may_make c b = subst (λ m. MayMove true m b.last) is (may_move s b.last b.honest p true (allowed b.last b.shown))
+
+        makes_fine : (c : Card) (b : Beside so.events s w c) (event : ScriptEvent) → IsDeed deed event → IsFine g.kind event b.last s.host
+        makes_fine c b event of =
+            let known = subst (Moves g.kind (laws_of g.kind) b.last s.host b.honest) is
+            (moves g.kind (laws_of g.kind) b.last s.host b.honest p.action s.turns (each_action_suits g sound s.point p here)) in
+            fine_of so.events s w c b event (known.1 event of) (may_make c b event of)
+
+        kept_by : (c : Card) (b : Beside so.events s w c) (event : ScriptEvent) (returned : Return) → IsDeed deed event →
+            steps w.port (call_of g.kind event) returned w'.port → Kept card event b.last returned w'.port
+        kept_by c b event returned of step = keeps w.port w'.port g.kind event b.last s.host returned b.shown (makes_fine c b event of) step
+
+        comes_next : (event : ScriptEvent) (returned : Return) → IsDeed deed event → MayReturn event returned →
+            Path g.kind g.points Open (begin g) (so.events ++ (event, returned) ∷ [])
+        comes_next event returned of fits = onward (Does deed before next) Open ((event, returned) ∷ []) is
+            (event, returned, [], of, fits, refl, open_at (next returned (host_after g.kind event returned before)))
+
+        -- one more event was made
+        one_more : (event : ScriptEvent) (returned : Return) → steps w.port (call_of g.kind event) returned w'.port → w.input ≡ given_by event ++ w'.input →
+            Happened g.kind steps (so.events ++ (event, returned) ∷ []) start w'
+        one_more event returned step input =
+            happened_more g.kind steps so.events ((event, returned) ∷ []) start w w' so.happened
+            (record { port = (w'.port, step, refl); input = input ∙ ap (λ l. l ++ w'.input) (sym (append-nil (given_by event))) })
+
+        -- A CARD'S ANSWERS are taken, and the arguments of its commands have 32 bits
+        no_reply : (ask : Ask) (position argument : ℕ) → IsDeed deed (SendCommand ask position argument) →
+            CutDeed Reply g.kind steps (exactly (SendCommand ask position argument)) w w' → (c : Card) → ShowsStart card g.kind start.port c → ⊥
+        no_reply ask position argument of (inl wide) c shows =
+            let b = so.beside c shows in
+            let event = SendCommand ask position argument in
+            let small : argument < 2 ^ 32 =
+            narrow g.kind ask position argument b.last s.host (laws_of g.kind).asks_address (makes_fine c b event of) b.honest.profile in
+            let big : 2 ^ 32 ≤ argument = wide.0 in
+            absurd (omega (arith, small, big))
+        no_reply ask position argument of (inr refused) c shows =
+            let b = so.beside c shows in
+            let event = SendCommand ask position argument in
+            let kept = kept_by c b event (Answered refused.0) of refused.1 in
+            let t : is_taken g.kind ask refused.0 ≡ true =
+            taken g.kind (laws_of g.kind) ask position argument b.last refused.0 kept.after
+            (record { host = s.host; fine = makes_fine c b event of; honest = b.honest }) kept.step in
+            let clash : true ≡ false = sym t ∙ refused.2 in
+            absurd (cc)
+
+        -- THE INPUT has too few blocks
+        too_short : (width : Width) (count : ℕ) → ((blocks : List Block) → length blocks ≡ count → IsDeed deed (GiveBlocks width blocks)) →
+            (length w.input < count) × (w' ≡ w) → StopsAllowed steps card g Input start w'
+        too_short width count of cut = record {
+          ran = record {
+            events = so.events;
+            happened = subst (λ w. Happened g.kind steps so.events start w) (sym cut.1) so.happened;
+            walk = open_walk;
+            because = record {
+              width = width;
+              count = count;
+              short = subst (λ w. length w.input < count) (sym cut.1) cut.0;
+              next = λ blocks len end. comes_next (GiveBlocks width blocks) (BlocksOut end) (of blocks len) tt;
+              written = subst (λ w. Written so.events start w) (sym cut.1) so.written;
+            };
+          };
+          allowed = λ c shows. (
+              let b = so.beside c shows in
+              record {
+                last = b.last;
+                steps = b.on;
+                next = λ blocks len. may_make c b (GiveBlocks width blocks) (of blocks len);
+                no_reply = λ is. absurd (cc);
+              });
+        }
+
+        -- THE OUTPUT broke off behind the last event
+        output_fails : (width : Width) (count : ℕ) → IsDeed deed (ReceiveBlocks width count) → CutDeed Output g.kind steps (exactly (ReceiveBlocks width count)) w w'
+            → StopsAllowed steps card g Output start w'
+        output_fails width count of (blocks, len, stepped, part, same) =
+            let event = ReceiveBlocks width (length blocks) in
+            let returned = BlocksIn phase_ends.Ok blocks in
+            let step = subst (λ n. steps w.port (call_of g.kind (ReceiveBlocks width n)) returned w'.port) (sym len) stepped in
+            let is_deed = subst (λ n. IsDeed deed (ReceiveBlocks width n)) (sym len) of in
+            record {
+              ran = record {
+                events = so.events ++ (event, returned) ∷ [];
+                happened = one_more event returned step (sym (ap (λ w. w.input) same));
+                walk = is_walk Open (so.events ++ (event, returned) ∷ []) (comes_next event returned is_deed refl);
+                because = record {
+                  earlier = so.events;
+                  width = width;
+                  blocks = blocks;
+                  last = refl;
+                  output = breaks_off start.out w.out w'.out (received so.events) (concat blocks) so.written.output part;
+                  trace = subst (λ t. Appends start.trace t (lines so.events)) (sym (ap (λ w. w.trace) same)) so.written.trace;
+                };
+              };
+              allowed = λ c shows. (
+                  let b = so.beside c shows in
+                  let kept = kept_by c b event returned is_deed step in
+                  record {
+                    last = kept.after;
+                    steps = steps_more so.events c b.last kept.after event returned b.on (may_make c b event is_deed) kept.step;
+                    next = tt;
+                    no_reply = λ is. absurd (cc);
+                  });
+            }
+
+        -- THE TRACE broke off at the line of the last event
+        trace_fails : CutDeed Trace g.kind steps deed w w' → StopsAllowed steps card g Trace start w'
+        trace_fails (event, returned, of, fits, step, input, output, part) =
+            let blocks = subst (λ l. Appends w.out w'.out l) (sym (append-nil (received_by returned))) output in
+            record {
+              ran = record {
+                events = so.events ++ (event, returned) ∷ [];
+                happened = one_more event returned step input;
+                walk = is_walk Open (so.events ++ (event, returned) ∷ []) (comes_next event returned of fits);
+                because = inl (record {
+                  earlier = so.events;
+                  event = event;
+                  returned = returned;
+                  last = refl;
+                  output = subst (λ l. Appends start.out w'.out l) (sym (received_more so.events ((event, returned) ∷ [])))
+                      (appends_more start.out w.out w'.out (received so.events) (received ((event, returned) ∷ [])) so.written.output blocks);
+                  trace = breaks_off start.trace w.trace w'.trace (lines so.events) (line_of event returned) so.written.trace part;
+                });
+              };
+              allowed = λ c shows. (
+                  let b = so.beside c shows in
+                  let kept = kept_by c b event returned of step in
+                  record {
+                    last = kept.after;
+                    steps = steps_more so.events c b.last kept.after event returned b.on (may_make c b event of) kept.step;
+                    next = tt;
+                    no_reply = λ is. absurd (cc);
+                  });
+            }
+
+      cut_move : (fault : RunFault) (w' : World S) (m : Move) → action_move g.kind p.action s.turns s.host ≡ m → IsCut fault g.kind steps m w w' →
+          StopsAllowed steps card g fault start w'
+      cut_move fault w' (Goes next) is cut = absurd cut
+      cut_move fault w' (Halts last) is cut = absurd cut
+      cut_move Reply w' (Does (exactly (SendCommand ask position argument)) before next) is cut = record {
+        ran = cut_so steps g room start Reply n s w w' so.so_far (Does (exactly (SendCommand ask position argument)) before next) (here_is ∙ is) cut;
+        allowed = λ c shows. absurd (no_reply w' (exactly (SendCommand ask position argument)) before next is ask position argument refl cut c shows);
+      }
+      cut_move Reply w' (Does (exactly (ReceiveBlocks width count)) before next) is cut = absurd cut
+      cut_move Reply w' (Does (exactly (ReceiveRegister width count)) before next) is cut = absurd cut
+      cut_move Reply w' (Does (exactly (GiveBlocks width blocks)) before next) is cut = absurd cut
+      cut_move Reply w' (Does (exactly AwaitReady) before next) is cut = absurd cut
+      cut_move Reply w' (Does (giving width count) before next) is cut = absurd cut
+      cut_move Input w' (Does (exactly event) before next) is cut = absurd cut
+      cut_move Input w' (Does (giving width count) before next) is cut =
+          too_short w' (giving width count) before next is width count (λ blocks len. (blocks, len, refl)) cut
+      cut_move Output w' (Does (exactly (ReceiveBlocks width count)) before next) is cut =
+          output_fails w' (exactly (ReceiveBlocks width count)) before next is width count refl cut
+      cut_move Output w' (Does (exactly (SendCommand ask position argument)) before next) is cut = absurd cut
+      cut_move Output w' (Does (exactly (ReceiveRegister width count)) before next) is cut = absurd cut
+      cut_move Output w' (Does (exactly (GiveBlocks width blocks)) before next) is cut = absurd cut
+      cut_move Output w' (Does (exactly AwaitReady) before next) is cut = absurd cut
+      cut_move Output w' (Does (giving width count) before next) is cut = absurd cut
+      cut_move Trace w' (Does deed before next) is cut = trace_fails w' deed before next is cut
+      cut_move Memory w' (Does deed before next) is cut = absurd cut
+
+      pub cuts : (fault : RunFault) (w' : World S) → IsCut fault g.kind steps (action_move g.kind p.action s.turns s.host) w w' → CutShort steps card g fault start w'
+      cuts Trace w' cut = inl (cut_move Trace w' (action_move g.kind p.action s.turns s.host) refl cut)
+      cuts Reply w' cut = cut_move Reply w' (action_move g.kind p.action s.turns s.host) refl cut
+      cuts Input w' cut = cut_move Input w' (action_move g.kind p.action s.turns s.host) refl cut
+      cuts Output w' cut = cut_move Output w' (action_move g.kind p.action s.turns s.host) refl cut
+      cuts Memory w' cut = cut_move Memory w' (action_move g.kind p.action s.turns s.host) refl cut
+
+  -- without memory nothing happens
+  pub no_memory : (w : World S) → StopsAllowed steps card g Memory w w
+  no_memory w =
+      let ran = nothing_ran steps g w in
+      record {
+        ran = ran;
+        allowed = λ c shows. record {
+          last = c;
+          steps = subst (λ es. AllowedStepsOf c es c) (sym ran.because.none) refl;
+          next = tt;
+          no_reply = λ is. absurd (cc);
+        };
+      }

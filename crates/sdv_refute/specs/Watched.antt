@@ -1,10 +1,12 @@
 -- A WATCHED RUN of a graph over a port: it ends, or is cut short, as any run, or it stops before what is not allowed at
 -- the card that the port shows.
-use Rattle.std.specs.Prelude.{◌≡◌, ◌++◌, ◌⊎◌, true, false, ℕ, List, Option, Result, Ok, Err, Some, length, slice_get}
+use mathlib.Core.Logic.{inr}
+use Rattle.std.specs.Prelude.{◌≡◌, ◌≢◌, ◌++◌, ◌⊎◌, true, false, ℕ, List, Option, Result, Ok, Err, Some, length}
+use Rattle.std.specs.List.{slice_get}
 use Rattle.std.specs.Io.KnownBytes.{Appends}
 use Rattle.sdv_text.specs.Written.{AppendsPart}
 use Rattle.sdv_registers.specs.declared.kind.Kind.{Kind}
-use Rattle.sdv_card.specs.Card.{Card}
+use Rattle.sdv_card.specs.Card.{Card, Block}
 use Rattle.sdv_card.specs.Code.{code_of}
 use Rattle.sdv_card.specs.Port.{Shows}
 use Rattle.sdv_card.specs.ScriptEvent.{SendCommand, ReceiveBlocks, ReceiveRegister, GiveBlocks, AwaitReady}
@@ -13,16 +15,15 @@ use Rattle.sdv_graph.specs.Path.{Path, Point, Stand}
 use Rattle.sdv_graph.specs.Walk.{Pair, Ending, Open}
 use Rattle.sdv_script.specs.OneGraph.{IsGraphOfScript}
 use Rattle.sdv_script.specs.Script.{Parsed}
-use Rattle.sdv_facts.specs.Beside.{EndsWell}
+use Rattle.sdv_facts.specs.Beside.{EndsWell, IsAllowed}
 use Rattle.sdv_trace.specs.declared.end.End.{End}
 use Rattle.sdv_run.specs.declared.fault.RunFault.{RunFault}
-use Rattle.sdv_run.specs.declared.fault.RunFault.TheVariants.{Trace}
+use Rattle.sdv_run.specs.declared.fault.RunFault.TheVariants.{Reply, Input, Trace}
 use Rattle.sdv_run.specs.OnCard.{ShowsStart}
-use Rattle.sdv_run.specs.Ran.{Happened, IsWalk, Ended, Stopped}
+use Rattle.sdv_run.specs.Ran.{Because, BreaksOff, Happened, IsWalk, Ended, Stopped}
 use Rattle.sdv_run.specs.Run.{Steps, received, ending_of}
 use Rattle.sdv_trace.specs.Trace.{lines}
 use Rattle.sdv_run.specs.Step.{World}
-use Rattle.sdv_run.specs.Ran.{BreaksOff}
 use Rattle.sdv_refute.specs.declared.next.Next.{Next}
 use Rattle.sdv_refute.specs.declared.next.Next.TheVariants.{Send, Receive, ReceiveRegister as Register, Give, Wait, Done}
 use Rattle.sdv_refute.specs.declared.wrong.Watched.{Watched}
@@ -90,10 +91,9 @@ pub record RefutesGraph (g : Graph) (c : Card) (es : List Pair) (wrong : Wrong) 
   pub refutes : (s : Parsed) → IsGraphOfScript s g → (r : Refutes s c es coming) × (wrong.sight ≡ sight_of r.last)
 
 -- It stands at a statement whose event, or `done`, is not allowed at what is seen. Beside a card, that refutes scripts.
-pub record StopsBefore {S : Type 0} (steps : Steps S) (card : S → Option Card) (g : Graph) (wrong : Wrong)
+pub record StandsBefore {S : Type 0} (steps : Steps S) (card : S → Option Card) (g : Graph) (wrong : Wrong)
     (w w' : World S) : Type 0 where
   pub halted : Halted steps g wrong.point w w'
-  pub trace : Appends w.trace w'.trace (lines halted.events ++ wrong_line wrong.next)
   pub kind : wrong.kind ≡ g.kind
   pub here : Point
   pub at : slice_get g.points wrong.point ≡ Some here
@@ -103,6 +103,11 @@ pub record StopsBefore {S : Type 0} (steps : Steps S) (card : S → Option Card)
   pub shape : wrong.shape.0 ≡ code_of (fields_seen wrong.sight halted.leads.stand.host)
   pub refutes : (c : Card) → ShowsStart card g.kind w.port c → RefutesGraph g c halted.events wrong
 
+pub record StopsBefore {S : Type 0} (steps : Steps S) (card : S → Option Card) (g : Graph) (wrong : Wrong)
+    (w w' : World S) : Type 0 where
+  pub stands : StandsBefore steps card g wrong w w'
+  pub trace : Appends w.trace w'.trace (lines stands.halted.events ++ wrong_line wrong.next)
+
 -- THE RUN THAT ENDED: beside a card each event was allowed, and in `done` the card is in the transfer state.
 pub record EndsAllowed {S : Type 0} (steps : Steps S) (card : S → Option Card) (g : Graph) (end : End)
     (w w' : World S) : Type 0 where
@@ -110,19 +115,41 @@ pub record EndsAllowed {S : Type 0} (steps : Steps S) (card : S → Option Card)
   pub allowed : (c : Card) → ShowsStart card g.kind w.port c →
       (last : Card) × AllowedStepsOf c ran.events last × EndsWell (ending_of end) last
 
--- the trace failed at the last line
-pub record WrongLineBrokeOff {S : Type 0} (steps : Steps S) (g : Graph) (w w' : World S) : Type 0 where
-  pub point : ℕ
-  pub next : Next
-  pub halted : Halted steps g point w w'
-  pub trace : BreaksOff w.trace w'.trace (lines halted.events) (wrong_line next)
+-- THE RUN THAT WAS CUT SHORT: beside a card each event was allowed, the last one too, and no answer is refused.
 
-abbrev pub CutShort : {S : Type 0} → Steps S → Graph → RunFault → (w w' : World S) → Type 0
-CutShort steps g Trace w w' = Stopped steps g Trace w w' ⊎ WrongLineBrokeOff steps g w w'
-CutShort steps g fault w w' = Stopped steps g fault w w'
+-- the blocks that the input does not have were allowed, and so was the end whose line broke off
+abbrev pub AllowsNext : {S : Type 0} → (fault : RunFault) → (g : Graph) → (es : List Pair) → (w w' : World S) →
+    Because fault g es w w' → (last : Card) → Type 0
+AllowsNext Input g es w w' short last =
+    (blocks : List Block) → length blocks ≡ short.count → IsAllowed (GiveBlocks short.width blocks) last
+AllowsNext Trace g es w w' (inr broken) last = EndsWell (ending_of broken.end) last
+AllowsNext fault g es w w' because last = Unit {0}
+
+pub record IsAllowedUntil {S : Type 0} (fault : RunFault) (g : Graph) (es : List Pair) (w w' : World S)
+    (because : Because fault g es w w') (c : Card) : Type 0 where
+  pub last : Card
+  pub steps : AllowedStepsOf c es last
+  pub next : AllowsNext fault g es w w' because last
+  pub no_reply : fault ≢ Reply
+
+pub record StopsAllowed {S : Type 0} (steps : Steps S) (card : S → Option Card) (g : Graph) (fault : RunFault)
+    (w w' : World S) : Type 0 where
+  pub ran : Stopped steps g fault w w'
+  pub allowed : (c : Card) → ShowsStart card g.kind w.port c → IsAllowedUntil fault g ran.events w w' ran.because c
+
+-- the trace failed at the last line of a run that stops
+pub record WrongLineBrokeOff {S : Type 0} (steps : Steps S) (card : S → Option Card) (g : Graph)
+    (w w' : World S) : Type 0 where
+  pub wrong : Wrong
+  pub stands : StandsBefore steps card g wrong w w'
+  pub trace : BreaksOff w.trace w'.trace (lines stands.halted.events) (wrong_line wrong.next)
+
+abbrev pub CutShort : {S : Type 0} → Steps S → (S → Option Card) → Graph → RunFault → (w w' : World S) → Type 0
+CutShort steps card g Trace w w' = StopsAllowed steps card g Trace w w' ⊎ WrongLineBrokeOff steps card g w w'
+CutShort steps card g fault w w' = StopsAllowed steps card g fault w w'
 
 abbrev pub Watches : {S : Type 0} → Steps S → (S → Option Card) → Graph → (w w' : World S) → Result Watched RunFault →
     Type 0
 Watches steps card g w w' (Ok (comes.Ended end)) = EndsAllowed steps card g end w w'
 Watches steps card g w w' (Ok (comes.Stopped wrong)) = StopsBefore steps card g wrong w w'
-Watches steps card g w w' (Err fault) = CutShort steps g fault w w'
+Watches steps card g w w' (Err fault) = CutShort steps card g fault w w'

@@ -235,7 +235,7 @@ module _ (files : Files) (names : TryNames) (trace trace' : Option (List ℕ)) w
 
       -- a run that has no memory leaves all as it was
       unmoved : IsKept files names given image (Err runs.Memory) out out' trace trace' → Keeps trace trace'
-      unmoved kept = let same : trace' ≡ trace = ap (λ w. w.trace) kept.tried.tries.watched.because.same in rw same (keeps_same trace)
+      unmoved kept = let same : trace' ≡ trace = ap (λ w. w.trace) kept.tried.tries.watched.ran.because.same in rw same (keeps_same trace)
 
       pub ended : (end : Result Watched RunFault) (outcome : Option Fault) → Answers end outcome → IsKept files names given image end out out' trace trace'
           → EndsApart files names outcome trace trace'

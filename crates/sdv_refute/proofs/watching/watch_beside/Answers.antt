@@ -1,25 +1,25 @@
-use Rattle.std.proofs.Common.{◌≡◌, ℕ, ◌+◌, ◌-◌, length, refl, subst, sym, ◌∙◌, inl, arith, rules}
+use Rattle.std.proofs.Common.{◌≡◌, ℕ, ◌+◌, ◌-◌, length, refl, subst, sym, ◌∙◌, arith, rules}
 use Rattle.sdv_graph.specs.Graph.{seen_point}
 use Rattle.sdv_graph.specs.Path.{Point, Halts, action_move}
 use Rattle.sdv_run.specs.Announced.{AnnounceAtMost}
 use Rattle.sdv_run.specs.Run.{ending_of}
 use Rattle.sdv_run.specs.Standing.{host_of, stand_of}
-use Rattle.sdv_run.specs.Step.{World, Leads}
+use Rattle.sdv_run.specs.Step.{World, Leads, CutShort}
 use Rattle.sdv_run.proofs.AtPoints.{is_point, in_range}
-use Rattle.sdv_run.proofs.Runs.{may_move, finishes_cut, cut_short, no_memory}
+use Rattle.sdv_run.proofs.Runs.{may_move}
 use Rattle.sdv_refute.specs.Watched.{IsAllowedAt, IsWrongHere}
-use Rattle.sdv_refute.proofs.WatchedRun.{Watching, begins, goes, ends, stops, cuts}
+use Rattle.sdv_refute.proofs.WatchedRun.{Watching, begins, goes, ends, stops, cut_at_end, cuts, no_memory}
 use Rattle.sdv_refute.proofs.watching.watch_beside.Goals as goal
 
 pub returns-in_err-standing : goal.returns-in_err-standing
 returns-in_err-standing g c =
-    let none = no_memory g.P.CardPort.steps c.args.graph.now
+    let none = no_memory g.P.CardPort.steps g.P.CardPort.card c.args.graph.now
     (record { port = c.args.port.now; input = c.args.input.now; out = g.O.Write.contents c.args.out.now; trace = g.T.Write.contents c.args.trace.now }) in
     (c.args.input.now, search (rules, none))
 
 pub returns-in_err-buffer : goal.returns-in_err-buffer
 returns-in_err-buffer g c =
-    let none = no_memory g.P.CardPort.steps c.args.graph.now
+    let none = no_memory g.P.CardPort.steps g.P.CardPort.card c.args.graph.now
     (record { port = c.args.port.now; input = c.args.input.now; out = g.O.Write.contents c.args.out.now; trace = g.T.Write.contents c.args.trace.now }) in
     (c.args.input.now, search (rules, none))
 
@@ -83,22 +83,32 @@ returns-in-Some-2 g c =
 pub returns-in_err-write_end : goal.returns-in_err-write_end
 returns-in_err-write_end g c =
     let i = c.loop.invariant in
+    let p : Point = seen_point c.point.result.now in
+    let before : World g.row.P.Denot =
+    record { port = c.loop.port; input = c.loop.left.now; out = g.O.Write.contents c.loop.out; trace = g.T.Write.contents c.loop.trace } in
     let w : World g.row.P.Denot =
     record { port = c.step.new.world.0; input = c.step.new.world.1.0.now; out = g.O.Write.contents c.step.new.world.1.1.0; trace = g.T.Write.contents c.step.new.world.1.1.1.0 } in
+    let allowed = subst (λ k. IsAllowedAt g.P.CardPort.card k (stand_of c.loop.standing) c.loop.port p) i.kind (c.in_default.ensures.allowed p refl) in
     let halts = rw c.in-Some-2.is at c.in_ok-end.ensures.stepped in
-    let cut = finishes_cut _ _ _ _ _ _ _ i.so_far.so_far _ i.kind (seen_point c.point.result.now) c.point.ensures w c.in-Some-2.end
-    (g.T.Write.contents c.write_end.new.trace) halts c.in_err-write_end.ensures in
+    let cut = cut_at_end g.P.CardPort.steps g.P.CardPort.card c.args.graph.now g.met.P.CardPort.keeps_tables i.sound _ _ _ (stand_of c.loop.standing) before i.so_far
+    p c.point.ensures allowed w c.in-Some-2.end (g.T.Write.contents c.write_end.new.trace)
+    (subst (λ k. (action_move k p.action c.loop.standing.turns.items (host_of c.loop.standing.host) ≡ Halts (ending_of c.in-Some-2.end)) × (w ≡ before)) i.kind halts)
+    c.in_err-write_end.ensures in
     (c.step.new.world.1.0.now, search (rules, cut))
 
 pub returns-in_err-end : goal.returns-in_err-end
 returns-in_err-end g c =
     let i = c.loop.invariant in
-    let start : World g.row.P.Denot =
-    record { port = c.args.port.now; input = c.args.input.now; out = g.O.Write.contents c.args.out.now; trace = g.T.Write.contents c.args.trace.now } in
+    let p : Point = seen_point c.point.result.now in
+    let fault = c.in_err-end.field-0.0 in
+    let at = stand_of c.loop.standing in
+    let before : World g.row.P.Denot =
+    record { port = c.loop.port; input = c.loop.left.now; out = g.O.Write.contents c.loop.out; trace = g.T.Write.contents c.loop.trace } in
     let w : World g.row.P.Denot =
     record { port = c.step.new.world.0; input = c.step.new.world.1.0.now; out = g.O.Write.contents c.step.new.world.1.1.0; trace = g.T.Write.contents c.step.new.world.1.1.1.0 } in
-    let cut = cuts g.P.CardPort.steps g.P.CardPort.card c.args.graph.now c.in_err-end.field-0.0 start w
-    (cut_short _ _ _ _ _ _ _ i.so_far.so_far _ i.kind (seen_point c.point.result.now) c.point.ensures w c.in_err-end.field-0.0 c.in_err-end.ensures.stepped) in
+    let allowed = subst (λ k. IsAllowedAt g.P.CardPort.card k at c.loop.port p) i.kind (c.in_default.ensures.allowed p refl) in
+    let cut = cuts g.P.CardPort.steps g.P.CardPort.card c.args.graph.now g.met.P.CardPort.keeps_tables i.sound _ _ _ at before i.so_far p c.point.ensures allowed fault w
+    (subst (λ k. CutShort fault k g.P.CardPort.steps (action_move k p.action at.turns at.host) before w) i.kind c.in_err-end.ensures.stepped) in
     (c.step.new.world.1.0.now, search (rules, cut))
 
 pub loop-preserved : goal.loop-preserved
