@@ -3,7 +3,6 @@ use Rattle.std.proofs.Common.{◌≡◌, ℕ, List, Option, Some, None, inr, ref
 use Rattle.std.specs.Prelude.{Result, Ok, Err, IfErr, IfOk}
 use Rattle.sdv_registers.specs.declared.kind.Kind.{Kind}
 use Rattle.sdv_card.specs.Card.{Card, Block}
-use Rattle.sdv_card.specs.Profile.{IsAtStart}
 use Rattle.sdv_graph.specs.Graph.{Graph}
 use Rattle.sdv_description.specs.declared.card_desc.CardDesc.{CardDesc}
 use Rattle.sdv_description.specs.Gives.{Describes}
@@ -16,7 +15,7 @@ use Rattle.sdv_controller.specs.Controlled.{ControllerSteps, wire_of}
 use Rattle.sdv_sim.specs.declared.sim.Sim.{Sim}
 use Rattle.sdv_sim.specs.Made.{IsMade}
 use Rattle.sdv_sim.specs.SimOf.{state_of}
-use Rattle.sdv_check.specs.Verified.{Acceptance, IsAccepted, IsGraphOfText}
+use Rattle.sdv_check.specs.Verified.{IsAccepted, IsGraphOfText}
 use Rattle.sdv_run.specs.declared.fault.RunFault.{RunFault}
 use Rattle.sdv_run.specs.OnCard.{ShowsStart}
 use Rattle.sdv_run.specs.Step.{World}
@@ -25,7 +24,7 @@ use Rattle.sdv_refute.specs.declared.wrong.Watched.{Watched}
 use Rattle.sdv_refute.specs.declared.wrong.Watched.TheVariants as comes
 use Rattle.sdv_refute.specs.Sight.{sight_of}
 use Rattle.sdv_refute.specs.Watched.{Watches}
-use Rattle.sdv_refute.specs.Tries.{NotTried, Tries, TryRefuses, RefutesText, RefutesIfWrong}
+use Rattle.sdv_refute.specs.Tries.{NotTried, Tries, TryRefuses, RefutesIfWrong}
 use Rattle.sdv_refute.specs.declared.simulated.TryFault.{TryFault}
 use Rattle.sdv_refute.specs.declared.simulated.TryFault.TheVariants.{Script, Kind as OtherKind, Card as NoCard, Memory}
 use Rattle.sdv_refute.proofs.Refuted.{none_is_accepted}
@@ -98,7 +97,7 @@ pub refuses_text : (text card codes : List ℕ) (size : ℕ) (unread : Type 0) (
 refuses_text text card codes size unread g desc of described (Script fault) not = absurd not
 refuses_text text card codes size unread g desc of described OtherKind not =
     record { graph = g; of_text = of; desc = desc; described = described; other = not }
-refuses_text text card codes size unread g desc of described (NoCard fault) not = λ other. inr (desc, described, not other)
+refuses_text text card codes size unread g desc of described (NoCard fault) not = λ other. record { graph = g; of_text = of; none = inr (desc, described, not other) }
 refuses_text text card codes size unread g desc of described Memory not = tt
 
 pub if_err_more : {A E : Type 0} (r : Result A E) (P Q : E → Type 0) → ((e : E) → P e → Q e) → IfErr r P → IfErr r Q

@@ -80,21 +80,30 @@ pub record IsOtherKind (text card : List ℕ) : Type 0 where
   pub described : Describes card desc
   pub other : graph.kind ≢ desc.kind
 
--- the description gives no card, or there is none with the schedule over an image of so many blocks
-abbrev pub HasNoCard : (card : List ℕ) → (codes : List ℕ) → (size : ℕ) → (unread : Type 0) → SimFault → Type 0
-HasNoCard card codes size unread fault =
-    IsNoCard card fault ⊎ ((desc : CardDesc) × Describes card desc × IsUnmade codes size (image_size desc) unread fault)
+-- the description is of the script's kind, and there is no such card with the schedule over an image of so many blocks
+pub record IsUnmadeFor (g : Graph) (desc : CardDesc) (codes : List ℕ) (size : ℕ) (unread : Type 0) (fault : SimFault)
+    : Type 0 where
+  pub kind : g.kind ≡ desc.kind
+  pub unmade : IsUnmade codes size (image_size desc) unread fault
+
+-- the text is a script, and the description gives no card, or there is none
+pub record HasNoCard (text card : List ℕ) (codes : List ℕ) (size : ℕ) (unread : Type 0) (fault : SimFault)
+    : Type 0 where
+  pub graph : Graph
+  pub of_text : IsGraphOfText text graph
+  pub none : IsNoCard card fault
+      ⊎ ((desc : CardDesc) × Describes card desc × IsUnmadeFor graph desc codes size unread fault)
 
 -- want of memory says nothing
 
 abbrev pub NotTried : Graph → CardDesc → (codes : List ℕ) → (size : ℕ) → (unread : Type 0) → TryFault → Type 0
 NotTried g desc codes size unread (Script fault) = ⊥
 NotTried g desc codes size unread Kind = g.kind ≢ desc.kind
-NotTried g desc codes size unread (NoCard fault) = fault ≢ NoMemory → IsUnmade codes size (image_size desc) unread fault
+NotTried g desc codes size unread (NoCard fault) = fault ≢ NoMemory → IsUnmadeFor g desc codes size unread fault
 NotTried g desc codes size unread Memory = Unit {0}
 
 abbrev pub TryRefuses : (text card : List ℕ) → (codes : List ℕ) → (size : ℕ) → (unread : Type 0) → TryFault → Type 0
 TryRefuses text card codes size unread (Script fault) = fault.kind ≢ kinds.Memory → IsNoScript text
 TryRefuses text card codes size unread Kind = IsOtherKind text card
-TryRefuses text card codes size unread (NoCard fault) = fault ≢ NoMemory → HasNoCard card codes size unread fault
+TryRefuses text card codes size unread (NoCard fault) = fault ≢ NoMemory → HasNoCard text card codes size unread fault
 TryRefuses text card codes size unread Memory = Unit {0}

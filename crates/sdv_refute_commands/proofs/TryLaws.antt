@@ -1,11 +1,15 @@
 -- What a run without a certificate leaves, and why there is none.
 use Rattle.std.proofs.Common.{◌≡◌, ◌/◌, refl, ap, inl, inr, Some, None, ℕ, List, ◌∷◌, ◌++◌, [], Option, Result, Ok, Err, IfErr, IsErrAnd}
-use Rattle.std.specs.Prelude.{◌≢◌, string_bytes}
+use Rattle.std.specs.Prelude.{◌≢◌, ◌⊎◌, string_bytes}
 use Rattle.std.specs.Borrow.{Bor}
 use Rattle.std.specs.Io.KnownBytes.{Appends, Keeps}
 use Rattle.std.specs.List.{AllByRecursion}
 use Rattle.clap.specs.Words.{Text}
+use Rattle.sdv_description.specs.declared.card_desc.CardDesc.{CardDesc}
+use Rattle.sdv_description.specs.Gives.{Describes}
+use Rattle.sdv_description.specs.Gives.{Refuses as IsNoCard}
 use Rattle.sdv_file_image.specs.Refused.{IsRefused as IsNoImage}
+use Rattle.sdv_graph.specs.Graph.{Graph}
 use Rattle.sdv_image.specs.declared.fault.SimFault.{SimFault}
 use Rattle.sdv_image.specs.declared.fault.SimFault.TheVariants.{Description, Capacity, ImageLength, ImageRead, Memory}
 use Rattle.sdv_script.specs.declared.fault.FaultKind.{FaultKind}
@@ -19,7 +23,7 @@ use Rattle.sdv_refute.specs.declared.simulated.TryFault.{TryFault}
 use Rattle.sdv_refute.specs.declared.simulated.TryFault.TheVariants as tries
 use Rattle.sdv_refute.specs.declared.wrong.Watched.{Watched}
 use Rattle.sdv_refute.specs.declared.wrong.Watched.TheVariants.{Ended, Stopped}
-use Rattle.sdv_refute.specs.Tries.{HasNoCard, TryRefuses}
+use Rattle.sdv_refute.specs.Tries.{HasNoCard, IsUnmadeFor, TryRefuses}
 use Rattle.sdv_command_line.specs.Requests.{TryNames}
 use Rattle.sdv_named_schedules.specs.declared.fault.ScheduleFault.{ScheduleFault}
 use Rattle.sdv_faults.specs.Fault.{fault_of_card, fault_of_script, fault_of_try}
@@ -43,7 +47,7 @@ module _ (given : Given) (image : CardImage) (unread : Type 0) where
   Refused None = ⊥
   Refused (Some fault) = RefusesTry given image unread fault
 
-  no_card : (fault : SimFault) → (fault ≢ Memory → HasNoCardOver (string_bytes given.card) given.codes.items image unread fault)
+  no_card : (fault : SimFault) → (fault ≢ Memory → HasNoCardOver (string_bytes given.script) (string_bytes given.card) given.codes.items image unread fault)
       → RefusesTry given image unread (fault_of_card fault)
   no_card Memory has = tt
   no_card Description has = has (λ same. absurd (cc same))
@@ -86,24 +90,33 @@ module _ (given : Given) (image : CardImage) (unread : Type 0) where
 
 -- what a refusal says where a failed call says more
 module _ (U V : Type 0) (more : U → V) where
-  has_no_card_so : (card codes : List ℕ) (size : ℕ) (fault : SimFault) → HasNoCard card codes size U fault → HasNoCard card codes size V fault
-  has_no_card_so card codes size fault (inl none) = inl none
-  has_no_card_so card codes size fault (inr refused) = inr (refused.0, refused.1, refused_so U V more codes size _ fault refused.2)
+  none_so : (g : Graph) (card codes : List ℕ) (size : ℕ) (fault : SimFault)
+      → (IsNoCard card fault ⊎ ((desc : CardDesc) × Describes card desc × IsUnmadeFor g desc codes size U fault))
+      → IsNoCard card fault ⊎ ((desc : CardDesc) × Describes card desc × IsUnmadeFor g desc codes size V fault)
+  none_so g card codes size fault (inl none) = inl none
+  none_so g card codes size fault (inr (desc, described, none)) =
+      inr (desc, described, record { kind = none.kind; unmade = refused_so U V more codes size _ fault none.unmade })
+
+  has_no_card_so : (text card codes : List ℕ) (size : ℕ) (fault : SimFault) → HasNoCard text card codes size U fault
+      → HasNoCard text card codes size V fault
+  has_no_card_so text card codes size fault refused =
+      record { graph = refused.graph; of_text = refused.of_text; none = none_so refused.graph card codes size fault refused.none }
 
   pub try_refuses_so : (text card codes : List ℕ) (size : ℕ) (fault : TryFault) → TryRefuses text card codes size U fault → TryRefuses text card codes size V fault
   try_refuses_so text card codes size (tries.Script fault) refuses = refuses
   try_refuses_so text card codes size tries.Kind refuses = refuses
-  try_refuses_so text card codes size (tries.Card fault) refuses = λ other. has_no_card_so card codes size fault (refuses other)
+  try_refuses_so text card codes size (tries.Card fault) refuses = λ other. has_no_card_so text card codes size fault (refuses other)
   try_refuses_so text card codes size tries.Memory refuses = refuses
 
-  no_card_over_so : (card codes : List ℕ) (image : CardImage) (fault : SimFault) → HasNoCardOver card codes image U fault → HasNoCardOver card codes image V fault
-  no_card_over_so card codes image fault (inl part) = inl part
-  no_card_over_so card codes image fault (inr none) = inr (has_no_card_so card codes (image.bytes / 512) fault none)
+  no_card_over_so : (text card codes : List ℕ) (image : CardImage) (fault : SimFault) → HasNoCardOver text card codes image U fault
+      → HasNoCardOver text card codes image V fault
+  no_card_over_so text card codes image fault (inl part) = inl part
+  no_card_over_so text card codes image fault (inr none) = inr (has_no_card_so text card codes (image.bytes / 512) fault none)
 
   refuses_so : (given : Given) (image : CardImage) (fault : Fault) → RefusesTry given image U fault → RefusesTry given image V fault
   refuses_so given image (Script fault) refuses = refuses
   refuses_so given image OtherKind refuses = refuses
-  refuses_so given image (Card fault) refuses = no_card_over_so (string_bytes given.card) given.codes.items image fault refuses
+  refuses_so given image (Card fault) refuses = no_card_over_so (string_bytes given.script) (string_bytes given.card) given.codes.items image fault refuses
   refuses_so given image NoMemory refuses = refuses
   refuses_so given image _ refuses = absurd refuses
 

@@ -73,17 +73,18 @@ IsTried given image blocks' result out out' trace trace' =
     TriesText (string_bytes given.script) (string_bytes given.card) given.codes.items (blocks_of given.input.items)
     image.blocks blocks' out out' trace trace' result
 
--- the image is no whole number of blocks, or there is no card by the description over it with the schedule
-abbrev pub HasNoCardOver : (card : Text) → (codes : List ℕ) → CardImage → (unread : Type 0) → SimFault → Type 0
-HasNoCardOver card codes image unread fault =
-    ((image.bytes % 512 ≢ 0) × (fault ≡ cards.ImageLength)) ⊎ HasNoCard card codes (image.bytes / 512) unread fault
+-- the image is no whole number of blocks, or the text is a script, and by the description there is no card for it over
+-- the image with the schedule
+abbrev pub HasNoCardOver : (text card : Text) → (codes : List ℕ) → CardImage → (unread : Type 0) → SimFault → Type 0
+HasNoCardOver text card codes image unread fault =
+    ((image.bytes % 512 ≢ 0) × (fault ≡ cards.ImageLength)) ⊎ HasNoCard text card codes (image.bytes / 512) unread fault
 
 -- why nothing was run; want of memory says nothing
 abbrev pub RefusesTry : Given → CardImage → (unread : Type 0) → Fault → Type 0
 RefusesTry given image unread (Script fault) = IsNoScript (string_bytes given.script)
 RefusesTry given image unread OtherKind = IsOtherKind (string_bytes given.script) (string_bytes given.card)
 RefusesTry given image unread (Card fault) =
-    HasNoCardOver (string_bytes given.card) given.codes.items image unread fault
+    HasNoCardOver (string_bytes given.script) (string_bytes given.card) given.codes.items image unread fault
 RefusesTry given image unread Memory = Unit {0}
 RefusesTry given image unread fault = ⊥
 

@@ -50,7 +50,9 @@ module _ (g : Graph) (desc : CardDesc) where
       → NotTried g desc codes size ⊥ fault
   not_unread codes size image (Script fault) not = not
   not_unread codes size image Kind not = not
-  not_unread codes size image (Card fault) not = λ other. unmade codes size _ image fault (not other)
+  not_unread codes size image (Card fault) not = λ other. (
+      let none = not other in
+      record { kind = none.kind; unmade = unmade codes size _ image fault none.unmade })
   not_unread codes size image Memory not = tt
 
   -- a run over an image of these bytes was not made
