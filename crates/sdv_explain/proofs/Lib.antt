@@ -12,3 +12,4 @@ mod RefusedLaws
 mod KnownLaws
 mod HeadingLaws
 mod FailingLaws
+pub mod TellLaws

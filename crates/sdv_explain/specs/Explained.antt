@@ -1,5 +1,5 @@
 -- What is explained of a text: whether it is the text of a script that is refused, and the way to the point that is.
-use Rattle.std.specs.Prelude.{◌≡◌, ◌⊎◌, ℕ, List, [], slice_get, Some, IfSome, IfNone, None}
+use Rattle.std.specs.Prelude.{◌≡◌, ◌⊎◌, ℕ, List, [], ◌++◌, slice_get, Some, IfSome, IfNone, None}
 use Rattle.sdv_card.specs.declared.shape.Shape.{Shape}
 use Rattle.sdv_script.specs.OneGraph.{IsGraphOfScript}
 use Rattle.sdv_script.specs.declared.fault.FaultKind.{FaultKind}
@@ -19,9 +19,11 @@ use Rattle.sdv_explain.specs.declared.explaining.Refusal.{Refusal}
 use Rattle.sdv_explain.specs.declared.fault.ExplainFault.{ExplainFault}
 use Rattle.sdv_explain.specs.declared.fault.ExplainFault.TheVariants.{Script, TooMany, Memory}
 use Rattle.sdv_telling.specs.Begins.{BeginsWith}
+use Rattle.sdv_telling.specs.Statements.{Text}
 use Rattle.sdv_telling.specs.declared.visit.Visit.{Visit}
 use Rattle.sdv_explain.specs.Refused.{IsRefusedAt, IsRefusedNowhere}
 use Rattle.sdv_explain.specs.Failing.{AreFailures}
+use Rattle.sdv_explain.specs.Told.{all_further_words, refusal_words}
 use Rattle.sdv_explain.specs.Way.{IsWay, HasFewest, HasNoWay}
 
 -- want of memory says nothing of the text
@@ -37,54 +39,75 @@ NamesPoint (certifies.EndState number) point = number ≡ point
 NamesPoint certifies.TooMany point = ⊥
 NamesPoint certifies.Memory point = ⊥
 
--- the way leads to the point that a refusal names, by what is known of the points, and there to the shape that is
--- refused; no way there has fewer visits
-pub record LeadsThere (g : Graph) (ps : List PointFacts) (fault : CertifyFault) (way : List Visit) : Type 0 where
-  pub point : ℕ
+-- a shape is refused at the point that a refusal names, by what is known of the points; the words begin with which
+-- statement is refused there beside which card, and why
+pub record Refuses (g : Graph) (ps : List PointFacts) (fault : CertifyFault) (point : ℕ) (shape : Shape)
+    (words : Text) : Type 0 where
   pub named : NamesPoint fault point
   pub place : Point
   pub here : slice_get g.points point ≡ Some place
   pub facts : PointFacts
   pub known : slice_get ps point ≡ Some facts
-  pub shape : Shape
   pub refused : IsRefusedAt fault place.action facts.facts shape
+  pub told : BeginsWith (refusal_words g fault point facts.facts.numbers shape) words
+
+-- the way leads there, and no way there has fewer visits
+pub record LeadsThere (g : Graph) (ps : List PointFacts) (fault : CertifyFault) (way : List Visit)
+    (words : Text) : Type 0 where
+  pub point : ℕ
+  pub shape : Shape
+  pub refuses : Refuses g ps fault point shape words
   pub is_way : IsWay g ps way point shape
   pub fewest : HasFewest g ps way point shape
 
--- a shape is refused at the point, and there is no way to it
-pub record IsOutOfReach (g : Graph) (ps : List PointFacts) (fault : CertifyFault) (point : ℕ) (place : Point)
-    (facts : PointFacts) : Type 0 where
+-- there is no way there
+pub record IsOutOfReach (g : Graph) (ps : List PointFacts) (fault : CertifyFault) (way : List Visit)
+    (words : Text) : Type 0 where
+  pub point : ℕ
   pub shape : Shape
-  pub refused : IsRefusedAt fault place.action facts.facts shape
+  pub refuses : Refuses g ps fault point shape words
   pub no_way : HasNoWay g ps point shape
+  pub empty : way ≡ []
 
--- if the refusal names a point, of which something is known, then no shape is refused there, or there is no way to it
-abbrev pub LeadsNowhere : Graph → List PointFacts → CertifyFault → Type 0
-LeadsNowhere g ps fault =
+-- if the refusal names a point, of which something is known, then no shape is refused there
+abbrev pub RefusesNone : Graph → List PointFacts → CertifyFault → Type 0
+RefusesNone g ps fault =
     (point : ℕ) → NamesPoint fault point → (place : Point) → slice_get g.points point ≡ Some place
-    → (facts : PointFacts) → slice_get ps point ≡ Some facts
-    → IsRefusedNowhere fault place.action facts.facts ⊎ IsOutOfReach g ps fault point place facts
+    → (facts : PointFacts) → slice_get ps point ≡ Some facts → IsRefusedNowhere fault place.action facts.facts
+
+pub record LeadsNowhere (g : Graph) (ps : List PointFacts) (fault : CertifyFault) (way : List Visit)
+    (words : Text) : Type 0 where
+  pub none : RefusesNone g ps fault
+  pub empty : way ≡ []
+  pub quiet : words ≡ []
 
 -- it leads there, or it is empty and no way does
-abbrev pub EndsThere : Graph → List PointFacts → CertifyFault → (way : List Visit) → Type 0
-EndsThere g ps fault way = ((way ≡ []) × LeadsNowhere g ps fault) ⊎ LeadsThere g ps fault way
+abbrev pub EndsThere : Graph → List PointFacts → CertifyFault → (way : List Visit) → (words : Text) → Type 0
+EndsThere g ps fault way words =
+    LeadsThere g ps fault way words ⊎ (IsOutOfReach g ps fault way words ⊎ LeadsNowhere g ps fault way words)
 
--- so it is of the way of a refusal
-abbrev pub HasWay : Graph → List PointFacts → Refusal → Type 0
-HasWay g ps refusal = EndsThere g ps refusal.fault refusal.way.items
+-- THE WORDS of a refusal: those of the point that it names and of the way there, and then those of every further point
+pub record Tells (g : Graph) (ps : List PointFacts) (refusal : Refusal) (words : Text) : Type 0 where
+  pub first : Text
+  pub way : EndsThere g ps refusal.fault refusal.way.items first
+  pub same : words ≡ first ++ all_further_words g ps refusal.failures.items
+
+-- words were added
+abbrev pub Adds : (old new : Text) → (AreThese : Text → Type 0) → Type 0
+Adds old new AreThese = (words : Text) × (new ≡ old ++ words) × AreThese words
 
 -- so it is of the points that fail
 abbrev pub HasFailures : Graph → List PointFacts → Refusal → Type 0
 HasFailures g ps refusal = AreFailures g ps refusal.failures.items
 
--- a script is refused so
-pub record IsRefusal (s : Tree) (refusal : Refusal) : Type 0 where
+-- a script is refused so, in these words
+pub record IsRefusal (s : Tree) (why : Text) (refusal : Refusal) : Type 0 where
   pub refused : RefusedFor s refusal.fault
   pub graph : Graph
   pub is_graph : IsGraphOfScript (shown s) graph
   pub points : List PointFacts
   pub survey : SurveyOf s points
-  pub way : HasWay graph points refusal
+  pub told : Tells graph points refusal why
   pub failures : HasFailures graph points refusal
 
 -- the text is that of a script: one that has a certificate, or one that is refused so
@@ -96,7 +119,7 @@ pub record Explains (text : List ℕ) (explanation : Explanation) : Type 0 where
   -- nothing is said where the script is not refused
   pub quiet : IfNone explanation.refusal (explanation.why.items ≡ [])
   pub certified : explanation.refusal ≡ None → (ps : List PointFacts) × CertificateOf script ps
-  pub refused : IfSome explanation.refusal (IsRefusal script)
+  pub refused : IfSome explanation.refusal (IsRefusal script explanation.why.items)
 
 -- a text of which nothing is explained: it is no script, or too much is known of it; want of memory says nothing of it
 abbrev pub Unexplained : (text : List ℕ) → ExplainFault → Type 0

@@ -7,7 +7,7 @@ ghost use Rattle.sdv_script.specs.OneGraph.{IsGraphOfScript};
 ghost use Rattle.sdv_script.specs.Shown.{shown};
 ghost use Rattle.sdv_certify.specs.Assembled.{CertificateOf, RefusedFor, SurveyOf};
 ghost use Rattle.sdv_explain.specs.Failing.{AreFailures};
-ghost use Rattle.sdv_explain.specs.Explained.{EndsThere, Explains, HasFailures, HasWay, IsRefusal, NamesPoint, Unexplained};
+ghost use Rattle.sdv_explain.specs.Explained.{Adds, EndsThere, Explains, HasFailures, IsRefusal, NamesPoint, Tells, Unexplained};
 ghost use Rattle.sdv_explain.specs.Way.{HasNoWay, IsShortest};
 ghost use Rattle.sdv_telling.specs.Begins.{BeginsWith};
 
@@ -42,7 +42,7 @@ pub struct Explanation {
     /// Why the script is refused where it is, and then what is known at each point, in words.
     pub text: Vec<u8>,
     /// Why the script is refused, by itself: each point that fails, and a way to the first. It is empty where the script has
-    /// a certificate. No clause says which words these are.
+    /// a certificate. No clause says which words tell of the way.
     pub why: Vec<u8>,
     /// Why the script is refused, if it is.
     pub refusal: Option<Refusal>,
@@ -68,7 +68,7 @@ fn explain_script(alloc: Global, script: &Script<'_>) -> Result<Explanation, Exp
     ensures front { IfOk result (λ e. BeginsWith e.why.items e.text.items) }
     ensures quiet { IfOk result (λ e. IfNone e.refusal (e.why.items ≡ [])) }
     ensures certified { IfOk result (λ e. e.refusal ≡ None → (ps : List PointFacts) × CertificateOf script.now ps) }
-    ensures refused { IfOk result (λ e. IfSome e.refusal (IsRefusal script.now)) }
+    ensures refused { IfOk result (λ e. IfSome e.refusal (IsRefusal script.now e.why.items)) }
     ensures too_many { IfErr result (λ fault. fault ≡ ExplainFault.TooMany
         → RefusedFor script.now CertifyFault.TooMany) }
     ensures others { IfErr result (λ fault. fault ≢ ExplainFault.TooMany → fault ≡ ExplainFault.Memory) }
@@ -131,7 +131,8 @@ fn refusal_of(
     ensures none { IfOk result (λ refusal. IfNone refusal (survey.now.refusal ≡ None)) }
     ensures quiet { IfOk result (λ refusal. IfNone refusal (words.new.items ≡ words.old.items)) }
     ensures fault { IfOk result (λ refusal. IfSome refusal (λ r. survey.now.refusal ≡ Some r.fault)) }
-    ensures way { IfOk result (λ refusal. IfSome refusal (HasWay graph.now survey.now.known.points)) }
+    ensures told { IfOk result (λ refusal. IfSome refusal (λ r. Adds words.old.items words.new.items
+        (Tells graph.now survey.now.known.points r))) }
     ensures failures { IfOk result (λ refusal. IfSome refusal (HasFailures graph.now survey.now.known.points)) }
 {
     match survey.refusal {
@@ -165,7 +166,8 @@ fn refuse(
     fault: CertifyFault,
 ) -> Result<Refusal, AllocError>
     ensures fault { IfOk result (λ refusal. refusal.fault ≡ fault) }
-    ensures way { IfOk result (HasWay graph.now known.now.points) }
+    ensures told { IfOk result (λ refusal. Adds words.old.items words.new.items
+        (Tells graph.now known.now.points refusal)) }
     ensures failures { IfOk result (λ refusal. AreFailures graph.now known.now.points refusal.failures.items) }
 {
     let way = refuse_point(alloc, words, graph, known, fault)?;
@@ -186,7 +188,8 @@ fn refuse_point(
     known: &Certificate,
     fault: CertifyFault,
 ) -> Result<Vec<Visit>, AllocError>
-    ensures { IfOk result (λ way. EndsThere graph.now known.now.points fault way.items) }
+    ensures { IfOk result (λ way. Adds words.old.items words.new.items
+        (EndsThere graph.now known.now.points fault way.items)) }
 {
     let Some(number) = refused_point(fault) else {
         return Ok(Vec::new(alloc));

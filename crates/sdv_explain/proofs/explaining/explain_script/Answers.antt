@@ -9,5 +9,5 @@ returns-clause-certified c same =
 pub returns-clause-refused : goal.returns-clause-refused
 returns-clause-refused c =
     let known = c.in_ok-survey.survey in
-    refused_by c.args.script.now c.in_ok-graph.graph known.known.points known.refusal c.in_ok-refusal.refusal c.in_ok-graph.ensures
-    c.in_ok-survey.ensures.survey c.in_ok-survey.ensures.refusal c.in_ok-refusal.ensures.fault c.in_ok-refusal.ensures.way c.in_ok-refusal.ensures.failures
+    refused_by c.args.script.now c.in_ok-graph.graph known.known.points known.refusal c.in_ok-refusal.refusal _ _ c.in_ok-graph.ensures
+    c.in_ok-survey.ensures.survey c.in_ok-survey.ensures.refusal c.in_ok-refusal.ensures.fault c.new-why.ensures.items c.in_ok-refusal.ensures.told c.in_ok-refusal.ensures.failures
