@@ -1,6 +1,6 @@
 -- Searches and sweeps that were not made, and what they left.
-use Rattle.std.proofs.Common.{◌≡◌, refl, sym, ap, subst, inl, inr, Some, None, ℕ, List, Option, Result, Ok, Err, IfErr, IsErrAnd, option_map}
-use Rattle.std.specs.Prelude.{◌≢◌, if◌then◌else◌}
+use Rattle.std.proofs.Common.{◌≡◌, refl, sym, ap, subst, inl, inr, true, false, Some, None, ℕ, List, Option, Result, Ok, Err, IfErr, IfOk, IsErrAnd, option_map}
+use Rattle.std.specs.Prelude.{◌≢◌, IfSome, if◌then◌else◌}
 use Rattle.std.specs.Borrow.{Bor}
 use Rattle.clap.specs.Words.{Text}
 use Rattle.sdv_card.specs.Card.{Block}
@@ -11,6 +11,7 @@ use Rattle.sdv_script.specs.declared.fault.FaultKind.{FaultKind}
 use Rattle.sdv_script.specs.declared.fault.FaultKind.TheVariants as kinds
 use Rattle.sdv_script.specs.declared.fault.ScriptFault.{ScriptFault}
 use Rattle.sdv_check.specs.Verified.{IsNoScript}
+use Rattle.sdv_paths.specs.Answered.{IsUnbreakable, IsUncertifiedText}
 use Rattle.sdv_refute.specs.declared.simulated.TryFault.{TryFault}
 use Rattle.sdv_refute.specs.declared.simulated.TryFault.TheVariants as tries
 use Rattle.sdv_refute.specs.Tries.{IsRefused}
@@ -19,6 +20,7 @@ use Rattle.sdv_search.specs.Report.{IsReport, schedule_text}
 use Rattle.sdv_search.specs.Swept.{IsSweep, NotSwept}
 use Rattle.sdv_search.specs.Table.{IsTable, has_wrong}
 use Rattle.sdv_search.specs.declared.sweeping.SweepTable.{SweepTable}
+use Rattle.sdv_search.specs.declared.refuting.Found.{Found as SearchFound}
 use Rattle.sdv_search.specs.declared.refuting.Refutation.{Refutation}
 use Rattle.sdv_command_line.specs.Requests.{RefuteNames}
 use Rattle.sdv_faults.specs.Fault.{fault_of_card, fault_of_script, fault_of_try}
@@ -30,7 +32,7 @@ use Rattle.sdv_files.specs.Outcomes.{Ending, Prints, PrintsText, Reports, outcom
 use Rattle.sdv_files.proofs.OutcomeLaws.{prints}
 use Rattle.sdv_files.proofs.StartLaws.{keeps_same}
 use Rattle.sdv_run_command.specs.Run.{GivesNoInput, IsOptional}
-use Rattle.sdv_refute_commands.specs.Refute.{IsNoRefutation, IsToldRun, Untold}
+use Rattle.sdv_refute_commands.specs.Refute.{IsNoRefutation, IsToldOf, IsToldRun, Untold}
 use Rattle.sdv_refute_commands.specs.Sweep.{HasNoBytes, IsSwept, IsUnswept, NoImage, NoInput, Over}
 
 -- SEARCHES
@@ -57,6 +59,23 @@ pub unsearched : {T : Type 0} (script : Text) (fault : TryFault) → IsNoSearch 
     → IfErr r (IsNoRefutation script)
 unsearched script fault none (Ok x) is = absurd is
 unsearched script fault none (Err f) is = rw is (no_search script fault none)
+
+-- what a search found, as it is told
+module _ (script : Text) (found : SearchFound) where
+  pub run_found : (r : Result Refutation Fault) → IsToldOf found r → IfSome found.refutation (IsRefutation script) → IfOk r (IsRefutation script)
+  run_found (Ok run) is refutes = rw is at refutes
+  run_found (Err fault) is refutes = tt
+
+  none_found_as : (fault : Fault) → IsToldOf found (Err fault) → (found.unbreakable ≡ true → IsUnbreakable script)
+      → (found.unbreakable ≡ false → IsUncertifiedText script) → IsNoRefutation script fault
+  none_found_as (NoRun runs mishaps ended) is safe uncertified = uncertified is.breakable
+  none_found_as NoPath is safe uncertified = safe is.1
+  none_found_as _ is safe uncertified = absurd is
+
+  pub none_found : (r : Result Refutation Fault) → IsToldOf found r → (found.unbreakable ≡ true → IsUnbreakable script)
+      → (found.unbreakable ≡ false → IsUncertifiedText script) → IfErr r (IsNoRefutation script)
+  none_found (Ok run) is safe uncertified = tt
+  none_found (Err fault) is safe uncertified = none_found_as fault is safe uncertified
 
 -- no certificate is accepted with a script that a run refutes
 none_accepted : (script : Text) (run : Refutation) → IsRefutation script run → IsRefused script

@@ -1,13 +1,14 @@
 -- `refute SCRIPT [--card FILE] [--schedule FILE]`: a run that refutes the script of a file, with its card and its schedule in
 -- two files, neither of which is that of the script.
-use Rattle.std.specs.Prelude.{◌≡◌, ◌⊎◌, Option, Some}
+use Rattle.std.specs.Prelude.{◌≡◌, ◌⊎◌, ℕ, Bool, true, false, not, Option, Some, None, Result, Ok, Err}
 use Rattle.std.specs.Io.KnownBytes.{Keeps}
 use Rattle.clap.specs.Words.{Text}
 use Rattle.sdv_check.specs.Verified.{IsNoScript}
-use Rattle.sdv_paths.specs.ClosedSpots.{RunsOfTextAreGood}
+use Rattle.sdv_paths.specs.Answered.{IsUnbreakable, IsUncertifiedText}
 use Rattle.sdv_refute.specs.Tries.{IsRefused}
 use Rattle.sdv_search.specs.Refuted.{IsRefutation}
 use Rattle.sdv_search.specs.Report.{IsReport, schedule_text}
+use Rattle.sdv_search.specs.declared.refuting.Found.{Found}
 use Rattle.sdv_search.specs.declared.refuting.Refutation.{Refutation}
 use Rattle.sdv_command_line.specs.Requests.{RefuteNames}
 use Rattle.sdv_faults.specs.declared.fault.Fault.{Fault}
@@ -35,13 +36,28 @@ pub record IsUnwritten (files : Files) (names : RefuteNames) (script file : Text
       ⊎ ((names.schedule ≡ Some file) × LosesFile files file (schedule_text run.schedule.items))
 
 -- why there is no run: the text is no script; or no path of the state tables breaks the script, and each run of it is as
--- that of an accepted one; or none was found, which says nothing of the script; nor does want of memory
+-- that of an accepted one; or none was found, of a script for which no certificate is written. Want of memory says nothing
 abbrev pub IsNoRefutation : (script : Text) → Fault → Type 0
 IsNoRefutation script (Script fault) = IsNoScript script
-IsNoRefutation script (NoRun runs mishaps ended) = Unit {0}
-IsNoRefutation script NoPath = RunsOfTextAreGood script
+IsNoRefutation script (NoRun runs mishaps ended) = IsUncertifiedText script
+IsNoRefutation script NoPath = IsUnbreakable script
 IsNoRefutation script Memory = Unit {0}
 IsNoRefutation script fault = ⊥
+
+-- what is told where a search found no run: how many it tried, and whether it was ended
+pub record HasNoRun (found : Found) (runs mishaps : ℕ) (ended : Bool) : Type 0 where
+  pub none : found.refutation ≡ None
+  pub breakable : found.unbreakable ≡ false
+  pub runs_tried : runs ≡ found.runs
+  pub most : mishaps ≡ found.mishaps
+  pub ended_early : ended ≡ not found.complete
+
+-- what is told of what a search found
+abbrev pub IsToldOf : Found → Result Refutation Fault → Type 0
+IsToldOf found (Ok run) = found.refutation ≡ Some run
+IsToldOf found (Err (NoRun runs mishaps ended)) = HasNoRun found runs mishaps ended
+IsToldOf found (Err NoPath) = (found.refutation ≡ None) × (found.unbreakable ≡ true)
+IsToldOf found (Err fault) = ⊥
 
 -- why none is told
 abbrev pub Untold : Files → RefuteNames → (script : Text) → Fault → Type 0

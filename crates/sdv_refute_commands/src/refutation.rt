@@ -3,12 +3,12 @@ ghost use Rattle.std.specs.Prelude.{◌≡◌, option_map, IfErr, IfOk, IfSome, 
 ghost use Rattle.sdv_command_line.specs.Requests.{refute_names_of};
 ghost use Rattle.sdv_files.specs.Outcomes.{Prints, outcome_of};
 ghost use Rattle.sdv_search.specs.Refuted.{IsRefutation};
-ghost use Rattle.sdv_refute_commands.specs.Refute.{IsApart, IsNoRefutation, IsOver, IsTaken, IsToldRun, RefuteEnds, RefutesApart, StaysOff, Untold};
+ghost use Rattle.sdv_refute_commands.specs.Refute.{IsApart, IsNoRefutation, IsOver, IsTaken, IsToldOf, IsToldRun, RefuteEnds, RefutesApart, StaysOff, Untold};
 
 use sdv_command_line::RefuteFiles;
 use sdv_faults::Fault;
 use sdv_files::{Store, leave, print_text, text_in};
-use sdv_search::{Refutation, refute, report, schedule_digits};
+use sdv_search::{Found, Refutation, refute, report, schedule_digits};
 use std::alloc::Global;
 use std::io::Write;
 
@@ -119,6 +119,17 @@ fn run_against(alloc: Global, script: &str) -> Result<Refutation, Fault<'static>
     ensures none { IfErr result (IsNoRefutation script.now) }
 {
     let found = refute(alloc, script, BUDGET)?;
+    run_of(found)
+}
+
+/// The run that a search found, or that it found none.
+///
+/// # Errors
+///
+/// [`Fault::NoRun`] and [`Fault::NoPath`].
+fn run_of(found: Found) -> Result<Refutation, Fault<'static>>
+    ensures { IsToldOf found result }
+{
     match found.refutation {
         Some(run) => Ok(run),
         None if found.unbreakable => Err(Fault::NoPath),
