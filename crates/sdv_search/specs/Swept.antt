@@ -9,6 +9,7 @@ use Rattle.sdv_description.specs.declared.card_desc.CardDesc.{CardDesc}
 use Rattle.sdv_description.specs.Gives.{Describes}
 use Rattle.sdv_graph.specs.Graph.{Graph}
 use Rattle.sdv_run.specs.declared.fault.RunFault.{RunFault}
+use Rattle.sdv_run.specs.declared.fault.RunFault.TheVariants.{Input, Reply}
 use Rattle.sdv_trace.specs.declared.end.End.TheVariants.{Done, Fault}
 use Rattle.sdv_refute.specs.declared.wrong.Watched.{Watched}
 use Rattle.sdv_refute.specs.declared.wrong.Watched.TheVariants.{Ended, Stopped}
@@ -20,11 +21,17 @@ use Rattle.sdv_search.specs.declared.sweeping.RunEnd.{RunEnd}
 use Rattle.sdv_search.specs.declared.sweeping.RunEnd.TheVariants as ends
 use Rattle.sdv_search.specs.declared.sweeping.SweepTable.{SweepTable}
 
+-- a run stops so for a reason of its own: the input has too few blocks, or an answer or an address cannot be used
+abbrev pub IsOwnFault : RunFault → Type 0
+IsOwnFault Input = Unit {0}
+IsOwnFault Reply = Unit {0}
+IsOwnFault fault = ⊥
+
 abbrev pub EndsAs : RunEnd → Result Watched RunFault → Type 0
 EndsAs ends.Done (Ok (Ended Done)) = Unit {0}
 EndsAs ends.Fault (Ok (Ended (Fault name))) = Unit {0}
 EndsAs (ends.Wrong point) (Ok (Stopped wrong)) = point ≡ wrong.point
-EndsAs (ends.Stopped fault) (Err why) = fault ≡ why
+EndsAs (ends.Stopped fault) (Err why) = (fault ≡ why) × IsOwnFault fault
 EndsAs end result = ⊥
 
 -- the blocks that bytes are, one after another

@@ -24,19 +24,21 @@ pub enum RunEnd {
     Fault,
     /// It stops at this point, before what is not allowed at the card.
     Wrong(usize),
-    /// It stops before its end for another reason.
+    /// It stops before its end for another reason: the input has too few blocks, or an answer or an address cannot be used.
     Stopped(RunFault),
 }
 
-/// What a run that was watched comes to.
-fn end_of(watched: Result<Watched, RunFault>) -> RunEnd
-    ensures { EndsAs result watched }
+/// What a run that was watched comes to. What is received goes to a sink, and the trace too or to memory: so neither fails but
+/// for want of memory.
+fn end_of(watched: Result<Watched, RunFault>) -> Result<RunEnd, AllocError>
+    ensures { IfOk result (λ end. EndsAs end watched) }
 {
     match watched {
-        Ok(Watched::Ended(End::Done)) => RunEnd::Done,
-        Ok(Watched::Ended(End::Fault(_))) => RunEnd::Fault,
-        Ok(Watched::Stopped(wrong)) => RunEnd::Wrong(wrong.point),
-        Err(fault) => RunEnd::Stopped(fault),
+        Ok(Watched::Ended(End::Done)) => Ok(RunEnd::Done),
+        Ok(Watched::Ended(End::Fault(_))) => Ok(RunEnd::Fault),
+        Ok(Watched::Stopped(wrong)) => Ok(RunEnd::Wrong(wrong.point)),
+        Err(RunFault::Output | RunFault::Trace | RunFault::Memory) => Err(AllocError),
+        Err(fault) => Ok(RunEnd::Stopped(fault)),
     }
 }
 
@@ -158,10 +160,9 @@ impl Common<'_, '_, '_> {
         let image = image_of(alloc, self.image)?;
         let mut out = io::sink();
         let tried = try_graph(alloc, self.graph, beside, image, &mut out, trace, onlooker)?;
-        match tried.result {
-            // the trace is in memory, or not kept
-            Err(RunFault::Memory | RunFault::Trace) => Err(TryFault::Memory),
-            end => Ok(end_of(end)),
+        match end_of(tried.result) {
+            Ok(end) => Ok(end),
+            Err(_) => Err(TryFault::Memory),
         }
     }
 
