@@ -220,7 +220,7 @@ impl Common<'_, '_, '_> {
 }
 
 /// How many lines a text has.
-fn line_count(text: &[u8]) -> usize
+pub(crate) fn line_count(text: &[u8]) -> usize
     ensures { result ≡ line_count text.now }
 {
     let mut count = 0;
