@@ -124,7 +124,7 @@ module _ (files : Files) (names : RefuteNames) (script : Text) where
     schedule_fails name same fault leaves known (Ok x) e = absurd e
     schedule_fails name same fault leaves known (Err f) e = rw e (schedule_lost name same fault leaves known)
 
-    pub told : (text : Text) → IsReport run text → IsLeft files names.description run.card.now
+    pub told : (text : Text) → IsReport script run text → IsLeft files names.description run.card.now
         → IsLeft files names.schedule (schedule_text run.schedule.items) → (outcome : Option Fault) (before after : Option (List ℕ))
         → PrintsText text outcome before after → told_ends outcome before after
     told text report description schedule outcome before after printed =

@@ -24,7 +24,7 @@ pub record IsToldRun (files : Files) (names : RefuteNames) (script text : Text) 
   pub run : Refutation
   pub refutes : IsRefutation script run
   pub refused : IsRefused script
-  pub told : IsReport run text
+  pub told : IsReport script run text
   pub description : IsLeft files names.description run.card.now
   pub schedule : IsLeft files names.schedule (schedule_text run.schedule.items)
 

@@ -1,5 +1,6 @@
 -- WHAT AN EXPLANATION SHOWS of a run that refutes a script: its mishaps, why it stops, and what prints it whole.
 use Rattle.std.specs.Prelude.{◌≡◌, ◌==◌, ◌++◌, ℕ, List, [], codes, decimal, if◌then◌else◌}
+use Rattle.sdv_search.specs.Mishaps.{AreMishapsOf}
 use Rattle.sdv_search.specs.Refuted.{IsRefutation}
 use Rattle.sdv_search.specs.Report.{IsWhy, ◌before◌}
 use Rattle.sdv_search.specs.declared.refuting.Refutation.{Refutation}
@@ -17,9 +18,9 @@ brief_text mishaps why elsewhere =
     before codes "    wrong    " before why
     before codes "    `sdv refute` prints its card, its schedule and its trace\n" before elsewhere
 
--- the words of the mishaps are not said
-pub record IsBrief (refused : ℕ) (r : Refutation) (text : List ℕ) : Type 0 where
+pub record IsBrief (script : List ℕ) (refused : ℕ) (r : Refutation) (text : List ℕ) : Type 0 where
   pub mishaps : List ℕ
+  pub are_mishaps : AreMishapsOf script (codes "    mishap   ") mishaps
   pub why : List ℕ
   pub is_why : IsWhy r.wrong why
   pub same : text ≡ brief_text mishaps why (elsewhere_text refused r.wrong.point)
@@ -28,4 +29,4 @@ pub record IsBrief (refused : ℕ) (r : Refutation) (text : List ℕ) : Type 0 w
 pub record IsShownRun (script : List ℕ) (refused : ℕ) (text : List ℕ) : Type 0 where
   pub run : Refutation
   pub refutes : IsRefutation script run
-  pub told : IsBrief refused run text
+  pub told : IsBrief script refused run text

@@ -1,4 +1,5 @@
 pub mod Brief
+pub mod Mishaps
 pub mod Refuted
 pub mod Report
 pub mod Swept

@@ -1,8 +1,9 @@
 -- WHAT IS TOLD of a run that refutes a script.
-use Rattle.std.specs.Prelude.{◌≡◌, ◌+◌, ℕ, List, ◌++◌, codes, decimal, map, nat_le, if◌then◌else◌}
+use Rattle.std.specs.Prelude.{◌≡◌, ◌+◌, ℕ, List, [], ◌++◌, codes, decimal, map, nat_le, if◌then◌else◌}
 use Rattle.sdv_refute.specs.declared.wrong.Wrong.{Wrong}
 use Rattle.sdv_wrong_words.specs.declared.event.WrongEvent.{WrongEvent}
 use Rattle.sdv_wrong_words.specs.WrongEvent.{IsEventOf, wrong_event_text}
+use Rattle.sdv_search.specs.Mishaps.{AreMishapsOf}
 use Rattle.sdv_search.specs.declared.refuting.Refutation.{Refutation}
 
 -- the digits of a schedule; 9 is the digit of no value
@@ -29,9 +30,9 @@ report_text mishaps why schedule r =
     before codes "schedule\n" before schedule
     before codes "\ntrace\n" before r.trace.items
 
--- the words of the mishaps are not said
-pub record IsReport (r : Refutation) (text : List ℕ) : Type 0 where
+pub record IsReport (script : List ℕ) (r : Refutation) (text : List ℕ) : Type 0 where
   pub mishaps : List ℕ
+  pub are_mishaps : AreMishapsOf script [] mishaps
   pub why : List ℕ
   pub is_why : IsWhy r.wrong why
   pub same : text ≡ report_text mishaps why (schedule_text r.schedule.items) r

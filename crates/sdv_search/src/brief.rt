@@ -66,27 +66,12 @@ fn brief(
     refused: usize,
     run: &Refutation,
 ) -> Result<Vec<u8>, AllocError>
-    ensures { IfOk result (λ text. IsBrief refused run.now text.items) }
+    ensures { IfOk result (λ text. IsBrief script.now refused run.now text.items) }
 {
-    let lines = mishaps_in_words(alloc, script, run)?;
-    let mishaps = labelled(alloc, &lines)?;
+    let mishaps = mishaps_in_words(alloc, script, "    mishap   ", run)?;
     let why = why(alloc, &run.wrong)?;
     let elsewhere = elsewhere(alloc, refused, run.wrong.point)?;
     brief_of(alloc, &mishaps, &why, &elsewhere)
-}
-
-/// The lines of mishaps, each behind that word.
-fn labelled(alloc: Global, lines: &[u8]) -> Result<Vec<u8>, AllocError> {
-    let mut text = Vec::new(alloc);
-    let mut is_new = true;
-    for byte in lines {
-        if is_new {
-            put(&mut text, "    mishap   ")?;
-        }
-        text.push(*byte)?;
-        is_new = *byte == b'\n';
-    }
-    Ok(text)
 }
 
 /// That a run stops at another point than the one that is refused, if it does.

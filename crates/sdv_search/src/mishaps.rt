@@ -1,6 +1,10 @@
 //! The mishaps of a run in words, with the lines of the script.
 
+ghost use Rattle.std.specs.Prelude.{◌≡◌, ◌++◌, IfOk, OnOk, flat_map, slice_get};
+ghost use Rattle.sdv_search.specs.Mishaps.{AreMishapsOf, event_name, line_front, mishap_text, mishaps_text, times_text, words_after, words_before};
+
 use crate::refuting::{Refutation, image_blocks, input_of, zero_image};
+use sdv_behavior::Behavior;
 use sdv_controller::Controller;
 use sdv_description::CardDesc;
 use sdv_graph::Graph;
@@ -19,8 +23,8 @@ pub(crate) struct Mishap {
     pub point: usize,
     /// The event.
     pub next: Next,
-    /// The value of the schedule.
-    pub code: u8,
+    /// What the card makes of it.
+    pub behavior: Behavior,
     /// How many times it comes there, one after another.
     pub times: u64,
 }
@@ -36,9 +40,9 @@ struct Recorder<'s> {
 
 impl Recorder<'_> {
     /// Keeps a mishap; one that comes again at once is counted.
-    fn record(&mut self, point: usize, next: &Next, code: u8) -> Result<(), AllocError> {
+    fn record(&mut self, point: usize, next: &Next, behavior: Behavior) -> Result<(), AllocError> {
         if let Some(last) = self.mishaps.last_mut() {
-            if last.point == point && last.code == code {
+            if last.point == point && last.behavior == behavior {
                 last.times = last.times.saturating_add(1);
                 return Ok(());
             }
@@ -46,7 +50,7 @@ impl Recorder<'_> {
         self.mishaps.push(Mishap {
             point,
             next: *next,
-            code,
+            behavior,
             times: 1,
         })?;
         Ok(())
@@ -56,8 +60,11 @@ impl Recorder<'_> {
 impl Onlooker<Controller<Sim<MemImage>>> for Recorder<'_> {
     fn sees(&mut self, _: &Controller<Sim<MemImage>>, standing: &Standing, next: &Next) {
         let code = self.schedule.get(self.event).copied().unwrap_or(0);
-        if code > 0 && !self.failed {
-            self.failed = self.record(standing.point, next, code).is_err();
+        match Behavior::of_code(code) {
+            None | Some(Behavior::Prompt) => (),
+            Some(behavior) => {
+                self.failed |= self.record(standing.point, next, behavior).is_err();
+            }
         }
         self.event = self.event.saturating_add(1);
     }
@@ -111,7 +118,9 @@ fn is_short(end: &Result<Watched, RunFault>) -> bool {
 }
 
 /// Adds the name of an event.
-fn put_name(text: &mut Text, next: &Next) -> Result<(), AllocError> {
+fn put_name(text: &mut Text, next: &Next) -> Result<(), AllocError>
+    ensures { OnOk result (text.new.items ≡ text.old.items ++ event_name next.now) }
+{
     match next {
         Next::Send { ask, .. } => put_numbered(text, "CMD", u64::from(ask.index), ""),
         Next::Receive(count) => put_numbered(
@@ -132,36 +141,117 @@ fn put_name(text: &mut Text, next: &Next) -> Result<(), AllocError> {
     }
 }
 
-/// The words before and after the name of the event of a mishap.
-fn mishap_words(code: u8) -> (&'static str, &'static str) {
-    match code {
-        1 => ("", " is lost"),
-        2 => ("the answer to ", " is lost"),
-        3 => ("the card is not ready at ", ""),
-        4 => ("the answer to ", " shows an error"),
-        5 => ("the card refuses ", " with an error"),
-        6 => ("", " is cut"),
-        7 => ("the switch by ", " fails"),
-        _ => ("", " is as it should be"),
+/// The words before the name of an event with this mishap.
+fn words_before(behavior: Behavior) -> &'static str
+    ensures { result.now ≡ words_before behavior }
+{
+    match behavior {
+        Behavior::LosesAnswer | Behavior::ReportsError => "the answer to ",
+        Behavior::IsSlow => "the card is not ready at ",
+        Behavior::Refuses => "the card refuses ",
+        Behavior::FailsSwitch => "the switch by ",
+        Behavior::Prompt | Behavior::LosesCommand | Behavior::CutsPhase => "",
     }
 }
 
-/// Adds a mishap with its line.
-fn put_mishap(text: &mut Text, graph: &Graph<'_>, mishap: &Mishap) -> Result<(), AllocError> {
-    if mishap.point < graph.len() {
-        put_numbered(text, "line ", u64::from(graph.line(mishap.point)), ": ")?;
+/// The words after it.
+fn words_after(behavior: Behavior) -> &'static str
+    ensures { result.now ≡ words_after behavior }
+{
+    match behavior {
+        Behavior::LosesCommand | Behavior::LosesAnswer => " is lost",
+        Behavior::ReportsError => " shows an error",
+        Behavior::Refuses => " with an error",
+        Behavior::CutsPhase => " is cut",
+        Behavior::FailsSwitch => " fails",
+        Behavior::IsSlow => "",
+        Behavior::Prompt => " is as it should be",
     }
-    let (before, after) = mishap_words(mishap.code);
-    put(text, before)?;
+}
+
+/// Adds the line of a point, if there is one.
+fn put_line_front(text: &mut Text, graph: &Graph<'_>, point: usize) -> Result<(), AllocError>
+    ensures { OnOk result (text.new.items
+        ≡ text.old.items ++ line_front (slice_get graph.now.lines point)) }
+{
+    match graph.lines().get(point) {
+        Some(line) => put_numbered(text, "line ", u64::from(*line), ": "),
+        None => Ok(()),
+    }
+}
+
+/// Adds the event of a mishap, and what becomes of it.
+fn put_event(text: &mut Text, mishap: &Mishap) -> Result<(), AllocError>
+    ensures { OnOk result (text.new.items ≡ text.old.items
+        ++ (words_before mishap.now.behavior ++ (event_name mishap.now.next ++ words_after mishap.now.behavior))) }
+{
+    put(text, words_before(mishap.behavior))?;
     put_name(text, &mishap.next)?;
-    put(text, after)?;
-    if mishap.times > 1 {
-        put_numbered(text, ", ", mishap.times, " times")?;
-    }
-    put(text, "\n")
+    put(text, words_after(mishap.behavior))
 }
 
-/// The mishaps of a run that refutes a script, a line each, with the lines of the script.
+/// Adds how many times a mishap comes, if more than once, and ends the line.
+fn put_times(text: &mut Text, times: u64) -> Result<(), AllocError>
+    ensures { OnOk result (text.new.items ≡ text.old.items ++ times_text times) }
+{
+    if times > 1 {
+        put_numbered(text, ", ", times, " times\n")
+    } else {
+        put(text, "\n")
+    }
+}
+
+/// Adds a mishap with its line, behind a label.
+fn put_mishap(
+    text: &mut Text,
+    label: &str,
+    graph: &Graph<'_>,
+    mishap: &Mishap,
+) -> Result<(), AllocError>
+    ensures { OnOk result (text.new.items ≡ text.old.items ++ mishap_text label.now graph.now.lines mishap.now) }
+{
+    put(text, label)?;
+    put_line_front(text, graph, mishap.point)?;
+    put_event(text, mishap)?;
+    put_times(text, mishap.times)
+}
+
+/// Adds mishaps, each behind a label.
+fn put_each(
+    text: &mut Text,
+    label: &str,
+    graph: &Graph<'_>,
+    mishaps: &[Mishap],
+) -> Result<(), AllocError>
+    ensures { OnOk result (text.new.items
+        ≡ text.old.items ++ flat_map (mishap_text label.now graph.now.lines) mishaps.now) }
+{
+    for mishap in mishaps {
+        put_mishap(text, label, graph, mishap)?;
+    }
+    Ok(())
+}
+
+/// The mishaps in words, each behind a label; or, behind it, that there is none.
+fn text_of(
+    alloc: Global,
+    label: &str,
+    graph: &Graph<'_>,
+    mishaps: &[Mishap],
+) -> Result<Vec<u8>, AllocError>
+    ensures { IfOk result (λ text. text.items ≡ mishaps_text label.now graph.now.lines mishaps.now) }
+{
+    let mut text = Vec::new(alloc);
+    if mishaps.is_empty() {
+        put(&mut text, label)?;
+        put(&mut text, "none\n")?;
+    } else {
+        put_each(&mut text, label, graph, mishaps)?;
+    }
+    Ok(text)
+}
+
+/// The mishaps of a run that refutes a script, a line each behind a label, with the lines of the script.
 ///
 /// # Errors
 ///
@@ -169,18 +259,14 @@ fn put_mishap(text: &mut Text, graph: &Graph<'_>, mishap: &Mishap) -> Result<(),
 pub(crate) fn mishaps_in_words(
     alloc: Global,
     script: &str,
+    label: &str,
     refutation: &Refutation,
-) -> Result<Vec<u8>, AllocError> {
+) -> Result<Vec<u8>, AllocError>
+    ensures { IfOk result (λ text. AreMishapsOf script.now label.now text.items) }
+{
     let Ok(graph) = graph_of_text(alloc, script) else {
         return Err(AllocError);
     };
     let mishaps = mishaps_of(alloc, &graph, refutation)?;
-    let mut text = Vec::new(alloc);
-    if mishaps.is_empty() {
-        put(&mut text, "none\n")?;
-    }
-    for mishap in &mishaps {
-        put_mishap(&mut text, &graph, mishap)?;
-    }
-    Ok(text)
+    text_of(alloc, label, &graph, &mishaps)
 }

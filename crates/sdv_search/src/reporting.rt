@@ -49,9 +49,9 @@ pub fn why(alloc: Global, wrong: &Wrong) -> Result<Vec<u8>, AllocError>
 ///
 /// Memory was refused.
 pub fn report(alloc: Global, script: &str, refutation: &Refutation) -> Result<Vec<u8>, AllocError>
-    ensures { IfOk result (λ text. IsReport refutation.now text.items) }
+    ensures { IfOk result (λ text. IsReport script.now refutation.now text.items) }
 {
-    let Ok(mishaps) = mishaps_in_words(alloc, script, refutation) else {
+    let Ok(mishaps) = mishaps_in_words(alloc, script, "", refutation) else {
         return Err(AllocError);
     };
     let Ok(why) = why(alloc, &refutation.wrong) else {
