@@ -263,6 +263,7 @@ module _ (files : Files) (names : RunNames) (given : Given) (result : Result End
           is,
           inr (record {
             lost = record { blocks' = told.kept.blocks'; result = result; out = out; out' = out'; run = told.kept.run };
+            stored = told.kept.stored;
             loses = loses file.now failed (registers_of told.kept.run) told.registers why;
           }),
         ))
@@ -302,7 +303,7 @@ module _ (files : Files) (names : RunNames) (given : Given) (image : CardImage) 
   register_fails (File file) (inl fails) = fails_of (File file) fails
   register_fails (File file) (inr (is, inl (uncreated, kept))) = inl (registers_unusable files names given image are file.now (sym is) uncreated, kept)
   register_fails (File file) (inr (is, inr lost)) =
-      inr (record { given = given; image = image; are_given = are; lost = lost.lost; is_file = inr (inr (is, lost.loses)) })
+      inr (record { given = given; image = image; are_given = are; lost = lost.lost; is_file = inr (lost.stored, inl (is, lost.loses)) })
   register_fails (Script fault) fails = fails_of (Script fault) fails
   register_fails (Certificate fault) fails = fails_of (Certificate fault) fails
   register_fails (Refused fault) fails = fails_of (Refused fault) fails
@@ -331,7 +332,7 @@ module _ (files : Files) (names : RunNames) (given : Given) (image : CardImage) 
     image = image;
     are_given = are;
     lost = record { blocks' = told.kept.blocks'; result = end; out = out; out' = out'; run = told.kept.run };
-    is_file = inr (inl (output, unfinished));
+    is_file = inr (told.kept.stored, inr (output, unfinished, told.registers));
   })
 
   module _ (out out' : Option (List ℕ)) (takes : (bytes : List ℕ) → Appends out out' bytes → Receives files names.output bytes) where

@@ -240,15 +240,21 @@ pub record IsLost (given : Given) (image : CardImage) (trace trace' : Option (Li
 abbrev pub LosesRegisters : Files → (file : Text) → (bytes : List ℕ) → Type 0
 LosesRegisters files file bytes = files.unfinished file ⊎ ReceivesPart files file bytes
 
--- It was the file of the image, which did not take the card's blocks, or that of the output, or that of the registers.
+-- the file of the registers did not take all of these bytes, or it did, and then that of the output could not be ended
+abbrev pub LosesOutputs : Files → RunNames → (file : Text) → (registers : List ℕ) → Type 0
+LosesOutputs files names file registers =
+    ((Some file ≡ names.registers) × LosesRegisters files file registers)
+    ⊎ ((Some file ≡ names.output) × files.unfinished file × Receives files names.registers registers)
+
+-- It was the file of the image, which did not take the card's blocks. Or that file was closed with them, and it was
+-- that of the registers or of the output.
 pub record IsNotKept (files : Files) (names : RunNames) (file : Text) (trace trace' : Option (List ℕ)) : Type 0 where
   pub given : Given
   pub image : CardImage
   pub are_given : AreGiven files names given image
   pub lost : IsLost given image trace trace'
   pub is_file : ((file ≡ names.image) × LosesImage files names.image)
-      ⊎ (((Some file ≡ names.output) × files.unfinished file)
-      ⊎ ((Some file ≡ names.registers) × LosesRegisters files file (registers_of lost.run)))
+      ⊎ (StoresImage files names.image lost.blocks' × LosesOutputs files names file (registers_of lost.run))
 
 -- There was no run.
 pub record HasNoRun (files : Files) (names : RunNames) (fault : Fault) (trace trace' : Option (List ℕ)) : Type 0 where
@@ -271,10 +277,11 @@ FailsToKeep files names given image (File file) trace trace' =
 FailsToKeep files names given image fault trace trace' =
     RefusesRun given image (IsUnreadable files names.image) fault × Keeps trace trace'
 
--- the file of the registers did not take all that it had to
-pub record IsUnregistered (files : Files) (file : Text) (given : Given) (image : CardImage)
+-- the file of the image was closed with the card's blocks, and that of the registers did not take all that it had to
+pub record IsUnregistered (files : Files) (names : RunNames) (file : Text) (given : Given) (image : CardImage)
     (trace trace' : Option (List ℕ)) : Type 0 where
   pub lost : IsLost given image trace trace'
+  pub stored : StoresImage files names.image lost.blocks'
   pub loses : LosesRegisters files file (registers_of lost.run)
 
 -- the same, or the file of the registers could not be made or emptied, or did not take all that it had to
@@ -282,7 +289,7 @@ abbrev pub FailsToRegister : Files → RunNames → Given → CardImage → Faul
 FailsToRegister files names given image (File file) trace trace' =
     FailsToKeep files names given image (File file) trace trace'
     ⊎ ((Some file.now ≡ names.registers)
-    × ((files.uncreated file.now × Keeps trace trace') ⊎ IsUnregistered files file.now given image trace trace'))
+    × ((files.uncreated file.now × Keeps trace trace') ⊎ IsUnregistered files names file.now given image trace trace'))
 FailsToRegister files names given image fault trace trace' =
     FailsToKeep files names given image fault trace trace'
 
