@@ -363,10 +363,11 @@ abbrev pub IsOptional : (unusable : Text → Type 0) → Option (Bor Text) → F
 IsOptional unusable name fault =
     ((file : Bor Text) × (name ≡ Some file) × (fault ≡ File file) × unusable file.now) ⊎ (fault ≡ Memory)
 
--- FAULTS: what each says of a run, and of what was printed
+-- FAULTS: what each says of a run, and of what was printed. A run that has no memory is no run fault, but want of memory
 abbrev pub RunFails : Files → RunNames → Fault → (trace trace' : Option (List ℕ)) → Type 0
 RunFails files names (File file) trace trace' =
     (IsUnusable files (uses_of names) file.now × Keeps trace trace') ⊎ IsNotKept files names file.now trace trace'
+RunFails files names (Run runs.Memory) trace trace' = ⊥
 RunFails files names (Run fault) trace trace' = StopsRun files names fault trace trace'
 RunFails files names Named trace trace' = (end : End) × (end ≢ ends.Done) × EndsRun files names end trace trace'
 RunFails files names Memory trace trace' = Keeps trace trace'
