@@ -239,7 +239,7 @@ module _ (files : Files) (names : TryNames) (trace trace' : Option (List ℕ)) w
       image = image;
       are_given = are;
       lost = record { blocks' = kept.blocks'; result = end; out = out; out' = out'; tried = kept.tried };
-      is_file = inr (output, unfinished);
+      is_file = inr (output, unfinished, kept.stored);
     })
 
     module _ (out out' : Option (List ℕ)) (takes : (bytes : List ℕ) → Appends out out' bytes → Receives files names.output bytes) where

@@ -116,14 +116,15 @@ pub record IsLost (given : Given) (image : CardImage) (trace trace' : Option (Li
   pub out' : Option (List ℕ)
   pub tried : IsTried given image blocks' result out out' trace trace'
 
--- It was the file of the image, which did not take the card's blocks, or that of the output.
+-- It was the file of the image, which did not take the card's blocks. Or that file was closed with them, and it was
+-- that of the output.
 pub record IsNotKept (files : Files) (names : TryNames) (file : Text) (trace trace' : Option (List ℕ)) : Type 0 where
   pub given : Given
   pub image : CardImage
   pub are_given : AreGiven files names given image
   pub lost : IsLost given image trace trace'
   pub is_file : ((file ≡ names.image) × LosesImage files names.image)
-      ⊎ ((Some file ≡ names.output) × files.unfinished file)
+      ⊎ ((Some file ≡ names.output) × files.unfinished file × StoresImage files names.image lost.blocks')
 
 -- There was no run.
 pub record HasNoTry (files : Files) (names : TryNames) (fault : Fault) (trace trace' : Option (List ℕ)) : Type 0 where
