@@ -15,7 +15,7 @@ use Rattle.sdv_run_command.specs.Run.{IsOptional, IsUnread, IsUsed, as_schedule,
 use Rattle.sdv_refute_commands.specs.declared.schedules.Schedule.{Schedule}
 use Rattle.sdv_refute_commands.specs.declared.schedules.Schedule.TheVariants.{Values, Names}
 use Rattle.sdv_refute_commands.specs.Schedules.{AreValuesOf, GivesMishaps, GivesValues, HasValues, IsReadSo, IsUngiven, IsWrong, IsWrongFile}
-use Rattle.sdv_refute_commands.specs.Try.{IsUnreadFor, uses_of}
+use Rattle.sdv_refute_commands.specs.Try.{IsUnreadFor, first_uses, uses_of}
 
 -- THE FILE
 
@@ -61,12 +61,12 @@ module _ (files : Files) (names : TryNames) where
   unread_for (Err f) unread = inl unread
 
   pub schedule_unread : {T : Type 0} (name : Option (Bor Text)) → names.schedule ≡ option_map (λ file. file.now) name → (fault : Fault)
-      → IsUngiven files name fault → (r : Result T Fault) → IsErrAnd r (λ f. f ≡ fault)
+      → AllByRecursion (IsUsed files) (first_uses names) → IsUngiven files name fault → (r : Result T Fault) → IsErrAnd r (λ f. f ≡ fault)
       → (IsOptional files.unread name fault → IfErr r (IsUnread files (uses_of names))) → IfErr r (IsUnreadFor files names)
-  schedule_unread name same fault (inl optional) r is unread = unread_for r (unread optional)
-  schedule_unread name same fault (inr wrong) (Ok x) is unread = absurd is
-  schedule_unread name same fault (inr wrong) (Err f) is unread =
-      let of_names : IsWrongFile files names.schedule wrong.0 = rw same wrong.2 in rw is (inr (wrong.0, wrong.1, of_names))
+  schedule_unread name same fault used (inl optional) r is unread = unread_for r (unread optional)
+  schedule_unread name same fault used (inr wrong) (Ok x) is unread = absurd is
+  schedule_unread name same fault used (inr wrong) (Err f) is unread =
+      let of_names : IsWrongFile files names.schedule wrong.0 = rw same wrong.2 in rw is (inr (wrong.0, wrong.1, (used, of_names)))
 
   pub no_memory : {T : Type 0} (r : Result T Fault) → IsErrAnd r (λ f. f ≡ Memory) → IfErr r (IsUnreadFor files names)
   no_memory (Ok x) is = absurd is

@@ -37,8 +37,8 @@ use Rattle.sdv_run_command.specs.Run.{as_image, as_input, as_output, as_schedule
 use Rattle.sdv_run_command.proofs.GivenLaws.{both_used, input_gave, text_gave}
 use Rattle.sdv_run_command.proofs.RunLaws.{refused_so}
 use Rattle.sdv_refute_commands.specs.declared.attempt.Given.{Given}
-use Rattle.sdv_refute_commands.specs.Schedules.{GivesValues, IsWrongFile}
-use Rattle.sdv_refute_commands.specs.Try.{Answers, AreGiven, ComesTo, EndsApart, FailsToKeep, HasNoCardOver, IsKept, IsLost, IsUnreadFor, RefusesTry, TryFails, uses_of}
+use Rattle.sdv_refute_commands.specs.Schedules.{GivesValues}
+use Rattle.sdv_refute_commands.specs.Try.{Answers, AreGiven, ComesTo, EndsApart, FailsToKeep, HasNoCardOver, HasWrongSchedule, IsKept, IsLost, IsUnreadFor, RefusesTry, TryFails, uses_of}
 
 -- WHY NOTHING IS RUN
 
@@ -195,7 +195,7 @@ module _ (files : Files) (names : TryNames) (trace trace' : Option (List ℕ)) w
   unread_fails _ unread kept = absurd unread
 
   -- or that of the schedule is wrong
-  wrong_fails : (why : ScheduleFault) (fault : Fault) → fault ≡ Unscheduled why → IsWrongFile files names.schedule why → Keeps trace trace'
+  wrong_fails : (why : ScheduleFault) (fault : Fault) → fault ≡ Unscheduled why → HasWrongSchedule files names why → Keeps trace trace'
       → TryFails files names fault trace trace'
   wrong_fails why fault same wrong kept = rw same (wrong, kept)
 

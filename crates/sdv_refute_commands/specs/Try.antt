@@ -1,6 +1,7 @@
 -- What the program does at `try`: beside which card it runs which script, where it stops, and what its files take.
-use Rattle.std.specs.Prelude.{◌≡◌, ◌≢◌, ◌/◌, ◌%◌, ◌⊎◌, ℕ, List, ◌∷◌, ◌++◌, Option, Some, None, Result, Ok, Err, string_bytes}
+use Rattle.std.specs.Prelude.{◌≡◌, ◌≢◌, ◌/◌, ◌%◌, ◌⊎◌, ℕ, List, [], ◌∷◌, ◌++◌, Option, Some, None, Result, Ok, Err, string_bytes}
 use Rattle.std.specs.Io.KnownBytes.{Appends, Keeps}
+use Rattle.std.specs.List.{AllByRecursion}
 use Rattle.clap.specs.Words.{Text}
 use Rattle.sdv_card.specs.Card.{Block}
 use Rattle.sdv_image.specs.declared.fault.SimFault.{SimFault}
@@ -22,7 +23,7 @@ use Rattle.sdv_named_schedules.specs.declared.fault.ScheduleFault.{ScheduleFault
 use Rattle.sdv_faults.specs.Fault.{fault_of_run}
 use Rattle.sdv_files.specs.Files.{CardImage, Files}
 use Rattle.sdv_files.specs.Outcomes.{Ending}
-use Rattle.sdv_run_command.specs.Run.{FileUse, GivesImage, GivesInput, IsApart, IsUnread, IsUnreadable, IsUnusable, LosesImage, Receives, StoresImage, TakesOther}
+use Rattle.sdv_run_command.specs.Run.{FileUse, GivesImage, GivesInput, IsApart, IsUnread, IsUnreadable, IsUnusable, IsUsed, LosesImage, Receives, StoresImage, TakesOther}
 use Rattle.sdv_run_command.specs.Run.{as_image, as_input, as_output, as_schedule, as_text, blocks_of, some_use}
 use Rattle.sdv_refute_commands.specs.Schedules.{GivesValues, IsWrongFile}
 use Rattle.sdv_refute_commands.specs.declared.attempt.Given.{Given}
@@ -42,11 +43,15 @@ as_run names = record {
   registers = None;
 }
 
+-- those that are used before the schedule
+abbrev pub first_uses : TryNames → List FileUse
+first_uses names = as_text names.script ∷ as_text names.card ∷ as_image names.image ∷ []
+
 -- in the order in which they are used; that of the output is made or emptied after the others
 abbrev pub uses_of : TryNames → List FileUse
 uses_of names =
-    as_text names.script ∷ as_text names.card ∷ as_image names.image
-    ∷ (some_use as_schedule names.schedule ++ (some_use as_input names.input ++ some_use as_output names.output))
+    first_uses names
+    ++ (some_use as_schedule names.schedule ++ (some_use as_input names.input ++ some_use as_output names.output))
 
 -- the files of these names gave these texts and bytes, and this image
 pub record AreGiven (files : Files) (names : TryNames) (given : Given) (image : CardImage) : Type 0 where
@@ -56,11 +61,16 @@ pub record AreGiven (files : Files) (names : TryNames) (given : Given) (image : 
   pub schedule : GivesValues files names.schedule given.codes.items
   pub input : GivesInput files names.input given.input.items
 
+-- a line of the schedule is wrong, and each file before it was used
+abbrev pub HasWrongSchedule : Files → TryNames → ScheduleFault → Type 0
+HasWrongSchedule files names why =
+    AllByRecursion (IsUsed files) (first_uses names) × IsWrongFile files names.schedule why
+
 -- a file was not read, or a line of the schedule is wrong, or memory ran out
 abbrev pub IsUnreadFor : Files → TryNames → Fault → Type 0
 IsUnreadFor files names fault =
     IsUnread files (uses_of names) fault
-    ⊎ ((why : ScheduleFault) × (fault ≡ Schedule why) × IsWrongFile files names.schedule why)
+    ⊎ ((why : ScheduleFault) × (fault ≡ Schedule why) × HasWrongSchedule files names why)
 
 -- THE RUN
 
@@ -157,7 +167,7 @@ TryFails files names (Wrong event) trace trace' =
 TryFails files names Named trace trace' =
     (end : End) × (end ≢ ends.Done) × ComesTo files names (Ok (Ended end)) trace trace'
 TryFails files names (Run fault) trace trace' = ComesTo files names (Err fault) trace trace'
-TryFails files names (Schedule why) trace trace' = IsWrongFile files names.schedule why × Keeps trace trace'
+TryFails files names (Schedule why) trace trace' = HasWrongSchedule files names why × Keeps trace trace'
 TryFails files names Memory trace trace' = Keeps trace trace'
 TryFails files names fault trace trace' = HasNoTry files names fault trace trace'
 

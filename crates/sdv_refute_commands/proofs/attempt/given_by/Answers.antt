@@ -42,15 +42,15 @@ returns-in_err-schedule-clause-refused g c =
     let names = try_names_of c.args.names.now in
     let script = text_gave files names.script c.in_ok-script.script c.in_ok-script.ensures.given in
     let card = text_gave files names.card c.in_ok-card.card c.in_ok-card.ensures.given in
-    schedule_unread files names c.args.names.now.schedule refl c.in_err-schedule.field-0.0 c.in_err-schedule.ensures.refused
+    let used = three_used files names script card (image_given g.S.Image.BlockFile.byte_count g.S.Image.BlockFile.blocks c.in_ok-image.image)
+    c.in_ok-image.ensures.given [] tt in
+    schedule_unread files names c.args.names.now.schedule refl c.in_err-schedule.field-0.0 used c.in_err-schedule.ensures.refused
     c.from_residual-in_err-schedule.result c.from_residual-in_err-schedule.ensures.1
     (λ optional. optional_unread files (uses_of names) as_schedule (λ file. refl) files.unread (λ file unread. unread) c.args.names.now.schedule
     (three files names []) (some_use as_input names.input ++ some_use as_output names.output)
     (λ file is. ap (λ name. three files names (some_use as_schedule (option_map (λ f. f.now) name)
     ++ (some_use as_input names.input ++ some_use as_output names.output))) is)
-    (three_used files names script card (image_given g.S.Image.BlockFile.byte_count g.S.Image.BlockFile.blocks c.in_ok-image.image)
-    c.in_ok-image.ensures.given [] tt)
-    c.in_err-schedule.field-0.0 optional c.from_residual-in_err-schedule.result c.from_residual-in_err-schedule.ensures.1)
+    used c.in_err-schedule.field-0.0 optional c.from_residual-in_err-schedule.result c.from_residual-in_err-schedule.ensures.1)
 
 pub returns-in_err-input-clause-refused : goal.returns-in_err-input-clause-refused
 returns-in_err-input-clause-refused g c =
