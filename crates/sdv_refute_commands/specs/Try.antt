@@ -10,6 +10,7 @@ use Rattle.sdv_check.specs.Verified.{IsNoScript}
 use Rattle.sdv_trace.specs.declared.end.End.{End}
 use Rattle.sdv_trace.specs.declared.end.End.TheVariants as ends
 use Rattle.sdv_run.specs.declared.fault.RunFault.{RunFault}
+use Rattle.sdv_run.specs.declared.fault.RunFault.TheVariants as runs
 use Rattle.sdv_refute.specs.declared.wrong.Watched.{Watched}
 use Rattle.sdv_refute.specs.declared.wrong.Watched.TheVariants.{Ended, Stopped}
 use Rattle.sdv_refute.specs.declared.wrong.Wrong.{Wrong as WrongHere}
@@ -158,7 +159,7 @@ FailsToKeep files names given image (File file) trace trace' =
 FailsToKeep files names given image fault trace trace' =
     RefusesTry given image (IsUnreadable files names.image) fault × Keeps trace trace'
 
--- FAULTS: what each says of a run, and of what was printed
+-- FAULTS: what each says of a run, and of what was printed. A run that has no memory is no run fault, but want of memory
 abbrev pub TryFails : Files → TryNames → Fault → (trace trace' : Option (List ℕ)) → Type 0
 TryFails files names (File file) trace trace' =
     (IsUnusable files (uses_of names) file.now × Keeps trace trace') ⊎ IsNotKept files names file.now trace trace'
@@ -166,6 +167,7 @@ TryFails files names (Wrong event) trace trace' =
     (wrong : WrongHere) × IsEventOf wrong event × ComesTo files names (Ok (Stopped wrong)) trace trace'
 TryFails files names Named trace trace' =
     (end : End) × (end ≢ ends.Done) × ComesTo files names (Ok (Ended end)) trace trace'
+TryFails files names (Run runs.Memory) trace trace' = ⊥
 TryFails files names (Run fault) trace trace' = ComesTo files names (Err fault) trace trace'
 TryFails files names (Schedule why) trace trace' = HasWrongSchedule files names why × Keeps trace trace'
 TryFails files names Memory trace trace' = Keeps trace trace'
