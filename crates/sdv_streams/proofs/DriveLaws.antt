@@ -269,7 +269,7 @@ module _ (files : Files) (names : DriveNames) (s s' : Streams) where
     fails_of : (fault : Fault) → FailsToTrace files names given fault s s' → DriveFails files names fault s s'
     fails_of (File file) (is, inl (uncreated, quiet)) = inl (trace_unusable file.now is uncreated, quiet)
     fails_of (File file) (is, inr (unfinished, lost)) =
-        inr (inr (record { given = given; are_given = are; lost = lost; is_file = inr is; unfinished = unfinished }))
+        inr (inr (record { given = given; are_given = are; lost = lost; is_file = inl is; unfinished = unfinished }))
     fails_of (Script fault) (refuses, quiet) = record { given = given; are_given = are; refused = refuses; quiet = quiet }
     fails_of (Certificate fault) (refuses, quiet) = record { given = given; are_given = are; refused = refuses; quiet = quiet }
     fails_of (Refused fault) (refuses, quiet) = record { given = given; are_given = are; refused = refuses; quiet = quiet }
@@ -288,7 +288,7 @@ module _ (files : Files) (names : DriveNames) (s s' : Streams) where
       given = given;
       are_given = are;
       lost = record { outcome = outcome; out = out; out' = out'; trace = traced.trace; trace' = traced.trace'; drive = traced.drive };
-      is_file = inl output;
+      is_file = inr (output, traced.traced);
       unfinished = unfinished;
     }))
 

@@ -139,12 +139,14 @@ pub record ComesOut (files : Files) (names : DriveNames) (outcome : Outcome) (s 
   pub traced : IsTraced files names given outcome out out' s s'
   pub taken : Takes files names.output out out'
 
--- The run took place, and then the file of the output or of the trace did not take all that it had to.
+-- The run took place, and then the file of the trace did not take all that it had to, or it did, and that of the output
+-- did not.
 pub record IsNotKept (files : Files) (names : DriveNames) (file : Text) (s s' : Streams) : Type 0 where
   pub given : Given
   pub are_given : AreGiven files names given
   pub lost : IsLost given s s'
-  pub is_file : (Some file ≡ names.output) ⊎ (Some file ≡ names.trace)
+  pub is_file : (Some file ≡ names.trace)
+      ⊎ ((Some file ≡ names.output) × Takes files names.trace lost.trace lost.trace')
   pub unfinished : files.unfinished file
 
 -- There was no run.
