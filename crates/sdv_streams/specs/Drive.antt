@@ -9,6 +9,7 @@ use Rattle.sdv_check.specs.Verified.{Acceptance, IsAccepted}
 use Rattle.sdv_trace.specs.declared.end.End.{End}
 use Rattle.sdv_trace.specs.declared.end.End.TheVariants as ends
 use Rattle.sdv_run.specs.declared.fault.RunFault.{RunFault}
+use Rattle.sdv_run.specs.declared.fault.RunFault.TheVariants as runs
 use Rattle.sdv_trace.specs.Trace.{end_line}
 use Rattle.sdv_run.specs.Run.{received, ending_of}
 use Rattle.sdv_trace.specs.Trace.{lines}
@@ -163,12 +164,14 @@ AnswersOutcome (Ended ends.Done) r = r ≡ Ok tt
 AnswersOutcome (Ended (ends.Fault name)) r = r ≡ Err Named
 AnswersOutcome (Stopped fault) r = r ≡ Err (fault_of_run fault)
 
--- a file: it cannot be used, or it is the other side, which broke off, or it did not take all
+-- a file: it cannot be used, or it is the other side, which broke off, or it did not take all. A run that has no memory
+-- is no run fault, but want of memory
 abbrev pub DriveFails : Files → DriveNames → Fault → (s s' : Streams) → Type 0
 DriveFails files names (File file) s s' =
     (IsUnusable files (uses_of names) file.now × (s' ≡ s))
     ⊎ (((file.now ≡ codes "-") × (why : LineFault) × ComesOut files names (Lost why) s s')
     ⊎ IsNotKept files names file.now s s')
+DriveFails files names (Run runs.Memory) s s' = ⊥
 DriveFails files names (Run fault) s s' = ComesOut files names (Stopped fault) s s'
 DriveFails files names Named s s' = (end : End) × (end ≢ ends.Done) × EndsDrive files names end s s'
 DriveFails files names Memory s s' = s' ≡ s
