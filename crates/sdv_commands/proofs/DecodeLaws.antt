@@ -7,6 +7,7 @@ use Rattle.sdv_decode.specs.DecodedText.{IsUndecoded}
 use Rattle.sdv_decode.specs.declared.fault.DecodeFault.{DecodeFault}
 use Rattle.sdv_decode.specs.declared.fault.DecodeFault.TheVariants as decodes
 use Rattle.sdv_decode.specs.declared.fault.TraceOff.{TraceOff}
+use Rattle.sdv_decode.specs.declared.form.Form.{Form}
 use Rattle.sdv_decode.specs.declared.fault.TraceOff.TheVariants as offs
 use Rattle.sdv_faults.specs.declared.fault.Fault.{Fault}
 use Rattle.sdv_faults.specs.declared.fault.Fault.TheVariants.{File, Memory}
@@ -29,8 +30,9 @@ module _ {T : Type 0} (files : Files) (name : Bor Text) (Ends : Option (List ℕ
       none (inr memory) = subst (λ f. NoBytes files name.now (Some f)) (sym memory) tt
 
 -- nothing is told of a trace
-module _ (IsReport : Option Fault → Text → Type 0) (script : Text) (known : Option (List ℕ)) where
-  pub untold : (fault : DecodeFault) → IsUndecoded script fault → Reports IsReport (IsUntold script) (Some (fault_of_decode fault)) known known
+module _ (IsReport : Option Fault → Text → Type 0) (form : Form) (script trace : Text) (given : Option (List ℕ)) (known : Option (List ℕ)) where
+  pub untold : (fault : DecodeFault) → IsUndecoded script form given trace fault
+      → Reports IsReport (IsUntold form script trace given) (Some (fault_of_decode fault)) known known
   untold (decodes.Script fault) undecoded = inr ((decodes.Script fault, refl, undecoded), keeps_same known)
   untold decodes.Room undecoded = inr ((decodes.Room, refl, undecoded), keeps_same known)
   untold decodes.Memory undecoded = keeps_same known

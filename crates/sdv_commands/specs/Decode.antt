@@ -45,11 +45,13 @@ IsDecoding form script trace given told text =
     × (text ≡ decoding.text.items)
 
 -- why there is none
-abbrev pub IsUntold : (script : Text) → Fault → Type 0
-IsUntold script fault = (f : DecodeFault) × (fault ≡ fault_of_decode f) × IsUndecoded script f
+abbrev pub IsUntold : (form : Form) → (script trace : Text) → (given : Option (List ℕ)) → Fault → Type 0
+IsUntold form script trace given fault =
+    (f : DecodeFault) × (fault ≡ fault_of_decode f) × IsUndecoded script form given trace f
 
 abbrev pub DecodesTexts : (form : Form) → (script trace : Text) → (given : Option (List ℕ)) → Ending
-DecodesTexts form script trace given = Reports (IsDecoding form script trace given) (IsUntold script)
+DecodesTexts form script trace given =
+    Reports (IsDecoding form script trace given) (IsUntold form script trace given)
 
 -- the file of the registers is read only where those of the script and of the trace gave texts
 abbrev pub DecodesTrace : Files → DecodeNames → (script trace : Text) → Ending

@@ -4,7 +4,13 @@ use Rattle.std.proofs.lemmas.List.{append-nil, length-map}
 use Rattle.sdv_telling.specs.Statements.{Text}
 use Rattle.sdv_graph.specs.Graph.{Graph}
 use Rattle.sdv_decode.specs.Decoded.{Decodes, Passes, Place, Reads, StopsAt, at_first, framed, line_behind, rows_in}
+use Rattle.sdv_audit.specs.declared.fault.AuditFault.{AuditFault}
+use Rattle.sdv_audit.specs.declared.fault.AuditFault.TheVariants as audits
+use Rattle.sdv_check.specs.Verified.{IsGraphOfText}
+use Rattle.sdv_decode.specs.DecodedText.{IsUndecoded}
+use Rattle.sdv_decode.specs.Faults.{fault_of_audit}
 use Rattle.sdv_decode.specs.Lines.{lines_in}
+use Rattle.sdv_decode.specs.Room.{LacksRoom, StopsByRoom}
 use Rattle.sdv_decode.specs.Steps.{IsPlace, Steps}
 use Rattle.sdv_decode.specs.declared.reading.Step.{Step}
 use Rattle.sdv_decode.specs.declared.reading.Step.TheVariants.{Passed, Stopped}
@@ -19,9 +25,10 @@ pub record SoFar (form : Form) (first : Place) (all left : List Text) (text : Te
   pub at : Place
   pub stands : IsPlace r at
   pub reads : (words : Text) (off : Option TraceOff) → Reads form at left words off → Reads form first all (text ++ words) off
+  pub room : StopsByRoom form at left → StopsByRoom form first all
 
 pub begins : (form : Form) (first : Place) (all : List Text) (r : Reading) → IsPlace r first → SoFar form first all all [] r
-begins form first all r stands = record { at = first; stands = stands; reads = λ words off reads. reads }
+begins form first all r stands = record { at = first; stands = stands; reads = λ words off reads. reads; room = λ room. room }
 
 module _ (form : Form) (first : Place) (all : List Text) (text : Text) (r : Reading) (line : Text) (left : List Text)
     (so_far : SoFar form first all (line ∷ left) text r) where
@@ -33,6 +40,7 @@ module _ (form : Form) (first : Place) (all : List Text) (text : Text) (r : Read
     reads = λ rest off reads.
         subst (λ (t : Text). Reads form first all t off) (sym (append_assoc text words rest))
         (so_far.reads (words ++ rest) off (inl (at', words, rest, passes, refl, reads)));
+    room = λ room. so_far.room (inl (at', words, passes, room));
   }
 
   pub stops : (words : Text) (off : Option TraceOff) → StopsAt form so_far.at line left words off → Reads form first all (text ++ words) off
@@ -69,6 +77,16 @@ module _ (form : Form) (first : Place) (all lefts left behind : List Text) (text
   pub stopped_on : (off : Option TraceOff) → step ≡ Stopped off → Reads form first all new off
   stopped_on off is = stopped form first all text r line left from_here new r' off (steps_here (Stopped off) is)
 
+-- there are too many shapes at a line, whatever the place
+pub lacks_on : (form : Form) (first : Place) (all lefts left behind : List Text) (text line line' : Text) (r : Reading)
+    → SoFar form first all lefts text r → lefts ≡ line ∷ left → line' ≡ line → behind ≡ left
+    → ((at : Place) → IsPlace r at → LacksRoom at line' (line_behind behind)) → StopsByRoom form first all
+lacks_on form first all lefts left behind text line line' r so_far split same_line same_left lacks =
+    let here : SoFar form first all (line ∷ left) text r = subst (λ (l : List Text). SoFar form first all l text r) split so_far in
+    here.room (inr
+    (subst (λ (t : Text). LacksRoom here.at t (line_behind left)) same_line
+    (subst (λ (b : List Text). LacksRoom here.at line' (line_behind b)) same_left (lacks here.at here.stands))))
+
 -- the lines that are left, from a place on
 pub left_from : {A B : Type 0} (f : A → B) (xs : List A) (i : ℕ) (x : A) → i < length xs → x ≡ get_or xs i x
     → map f (drop i xs) ≡ f x ∷ map f (drop (i + 1) xs)
@@ -87,3 +105,9 @@ decodes_by g form given trace told words off lines f count split counted reads i
   reads = subst (λ (ls : List Text). Reads form (at_first g given) ls told off) split reads;
   printed = is ∙ ap (λ (n : ℕ). framed form (rows_in n off) told) (counted ∙ (sym (length-map lines f) ∙ ap length split));
 }
+
+-- why nothing is told of a trace, by the fault of an audit
+pub undecoded_by : (script : Text) (form : Form) (given : Option (List ℕ)) (trace : Text) (g : Graph) → IsGraphOfText script g → (fault : AuditFault)
+    → (fault ≡ audits.Room → StopsByRoom form (at_first g given) (lines_in trace)) → IsUndecoded script form given trace (fault_of_audit fault)
+undecoded_by script form given trace g is_graph audits.Memory stops = tt
+undecoded_by script form given trace g is_graph audits.Room stops = record { graph = g; is_graph = is_graph; stops = stops refl }

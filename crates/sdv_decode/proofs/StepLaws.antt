@@ -1,5 +1,5 @@
 -- One line more: where a reading stands after it, and what it is.
-use Rattle.std.proofs.Common.{◌≡◌, ◌∙◌, ℕ, Bool, true, List, ◌++◌, Option, Some, Result, Ok, Err, inl, inr, refl, sym, ap, subst, option_map}
+use Rattle.std.proofs.Common.{◌≡◌, ◌∙◌, ℕ, Bool, false, true, List, ◌++◌, Option, Some, Result, Ok, Err, inl, inr, refl, sym, ap, subst, option_map}
 use Rattle.std.specs.Prelude.{IfOk, OnOk, is_err}
 use Rattle.sdv_telling.specs.Statements.{Text}
 use Rattle.sdv_audit.specs.Course.{Course, IsAt, course_after}
@@ -18,12 +18,13 @@ use Rattle.sdv_trace.specs.declared.end.End.{End}
 use Rattle.sdv_decode.specs.Decoded.{Misfits, Place, Strays, course_before, line_behind, off_behind, place_after, spot_of, told_with}
 use Rattle.sdv_decode.specs.LineWords.{Spot, announces}
 use Rattle.sdv_decode.specs.Matches.{came_in, given_after, is_end, is_of, register_told, returned_of}
+use Rattle.sdv_decode.specs.Room.{AreTooMany, LacksRoom}
 use Rattle.sdv_decode.specs.Rows.{event_line, last_line, stray_line}
 use Rattle.sdv_decode.specs.declared.form.Form.{Form}
 use Rattle.sdv_graph.specs.Graph.{Graph}
 use Rattle.sdv_decode.specs.Spots.{spot_seen}
 use Rattle.sdv_decode.specs.declared.line_words.Spot.{Spot as CodeSpot}
-use Rattle.sdv_decode.specs.Steps.{GoesOn, IsAsked, IsPlace, Steps, given_of}
+use Rattle.sdv_decode.specs.Steps.{GoesOn, IsAsked, IsCrowded, IsPlace, Steps, given_of}
 use Rattle.sdv_decode.specs.declared.fault.TraceOff.TheVariants.{Script}
 use Rattle.sdv_decode.specs.declared.reading.Reading.{Reading}
 use Rattle.sdv_decode.specs.declared.reading.Step.{Step}
@@ -128,6 +129,37 @@ module _ (r : Reading) (at : Place) (asked : IsAsked r at) (text : Text) (behind
           stands,
         ),
       )
+
+-- the run goes on, and there are too many shapes
+pub went_by : (m m' : Machine) (returned : Returned) (result : Result (Unit {0}) RunFault) → is_err result ≡ false → TookOn m returned m' result
+    → Went m returned m'
+went_by m m' returned (Ok done) passed took = took
+went_by m m' returned (Err fault) passed took = absurd (cc)
+
+pub crowded_by : (r : Reading) (event : NextEvent) (line : TraceLine) (next : Option TraceLine) (after : Machine)
+    → Went r.runner (returned_of line (register_told (given_of r) line)) after
+    → ((c : Course) → IsAt r.audit c → AreTooMany r.audit.kind event (told_with line next) c) → IsCrowded r event line next
+crowded_by r event line next after went many at asked =
+    let same : r.audit.kind ≡ after.graph.kind = asked.beside.kind ∙ sym (ap (λ g. g.kind) went.same) in
+    (after, went, subst (λ (k : Kind). AreTooMany k event (told_with line next) at.course) same (many at.course asked.beside.course))
+
+-- the line of an event, at which there are too many shapes
+pub lacks_room : (r : Reading) (at : Place) (event : NextEvent) (line : TraceLine) (next next' : Option TraceLine) (text : Text)
+    → IsCrowded r event line next' → next' ≡ next → read_line text ≡ Ok line → IsAsked r at → Asked r.runner (Ok (nexts.Event event))
+    → is_of event line ≡ true → LacksRoom at text next
+lacks_room r at event line next next' text crowded same read asked event_next fits =
+    let went = subst (λ (n : Option TraceLine). IsCrowded r event line n) same crowded at asked in record {
+      line = line;
+      read = read;
+      here = r.runner;
+      came = asked.came;
+      event = event;
+      asked = event_next;
+      fits = fits;
+      after = went.0;
+      went = subst (λ (given : Option (List ℕ)). Went r.runner (returned_of line (register_told given line)) went.0) asked.beside.given went.1;
+      many = went.2;
+    }
 
 -- the code's spot is that of the reading
 pub spot_same : (s : CodeSpot) (r : Reading) → s.graph.now ≡ r.runner.graph → s.form ≡ r.form → s.number ≡ r.number → s.point ≡ r.runner.stand.point

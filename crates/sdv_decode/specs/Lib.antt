@@ -8,5 +8,6 @@ pub mod Picture
 pub mod Rows
 pub mod Spots
 pub mod Decoded
+pub mod Room
 pub mod Steps
 pub mod DecodedText

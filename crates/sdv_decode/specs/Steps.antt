@@ -6,8 +6,9 @@ use Rattle.sdv_audit.specs.declared.line.TraceLine.{TraceLine}
 use Rattle.sdv_run.specs.Machine.{Came, Machine, TookOn, Went}
 use Rattle.sdv_run.specs.declared.fault.RunFault.{RunFault}
 use Rattle.sdv_run.specs.declared.next_event.NextEvent.{NextEvent}
-use Rattle.sdv_decode.specs.Decoded.{Passes, Place, StopsAt, line_behind, place_after}
+use Rattle.sdv_decode.specs.Decoded.{Passes, Place, StopsAt, line_behind, place_after, told_with}
 use Rattle.sdv_decode.specs.Matches.{register_told, returned_of}
+use Rattle.sdv_decode.specs.Room.{AreTooMany}
 use Rattle.sdv_decode.specs.declared.form.Form.{Form}
 use Rattle.sdv_decode.specs.declared.reading.Reading.{Reading}
 use Rattle.sdv_decode.specs.declared.reading.Step.{Step}
@@ -43,6 +44,13 @@ GoesOn r event line next r' true =
 GoesOn r event line next r' false =
     (r' ≡ r)
     × ((fault : RunFault) × TookOn r.runner (returned_of line (register_told (given_of r) line)) r.runner (Err fault))
+
+-- the run goes on by what the line tells, and there are too many shapes
+abbrev pub IsCrowded : Reading → NextEvent → TraceLine → (next : Option TraceLine) → Type 0
+IsCrowded r event line next =
+    (at : Place) → IsAsked r at
+    → (after : Machine) × Went r.runner (returned_of line (register_told (given_of r) line)) after
+    × AreTooMany after.graph.kind event (told_with line next) at.course
 
 -- the line is that of the next event, or the reading stops there
 abbrev pub StepsTo : (form : Form) → Place → (text : Text) → (behind : List Text) → (words : Text) → Reading → Step → Type 0

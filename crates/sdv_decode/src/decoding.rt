@@ -3,6 +3,8 @@
 ghost use Rattle.std.specs.Prelude.{◌≡◌, ◌<◌, ◌+◌, IfErr, IfOk, drop, length, map, option_map};
 ghost use Rattle.sdv_decode.specs.Decoded.{Decodes, Reads, at_first, framed, rows_in};
 ghost use Rattle.sdv_decode.specs.DecodedText.{DecodesText, IsUndecoded};
+ghost use Rattle.sdv_decode.specs.Lines.{lines_in};
+ghost use Rattle.sdv_decode.specs.Room.{StopsByRoom};
 
 use crate::fault::{DecodeFault, TraceOff};
 use crate::form::Form;
@@ -39,7 +41,8 @@ pub fn decode(
     form: Form,
 ) -> Result<Decoding, DecodeFault>
     ensures decoded { IfOk result (DecodesText script.now form (option_map (λ bytes. bytes.now) given.entry) trace.now) }
-    ensures refused { IfErr result (IsUndecoded script.now) }
+    ensures refused { IfErr result
+        (IsUndecoded script.now form (option_map (λ bytes. bytes.now) given.entry) trace.now) }
 {
     let script = parse(alloc, script)?;
     let Ok(graph) = script.graph(alloc) else {
@@ -57,8 +60,10 @@ fn decode_trace(
     given: Option<&[u8]>,
     form: Form,
 ) -> Result<Decoding, AuditFault>
-    ensures { IfOk result (λ decoding. Decodes graph.now form (option_map (λ bytes. bytes.now) given.entry) trace.now
-        decoding.text.items decoding.off) }
+    ensures decodes { IfOk result (λ decoding. Decodes graph.now form (option_map (λ bytes. bytes.now) given.entry)
+        trace.now decoding.text.items decoding.off) }
+    ensures room { IfErr result (λ fault. fault ≡ AuditFault.Room → StopsByRoom form
+        (at_first graph.now (option_map (λ bytes. bytes.now) given.entry)) (lines_in trace.now)) }
 {
     let lines = lines_of(alloc, trace)?;
     let told = decode_lines(alloc, graph, lines.as_slice(), given, form)?;
@@ -111,9 +116,11 @@ fn decode_lines(
     given: Option<&[u8]>,
     form: Form,
 ) -> Result<Decoding, AuditFault>
-    ensures { IfOk result (λ decoding. Reads form
+    ensures reads { IfOk result (λ decoding. Reads form
         (at_first graph.now (option_map (λ bytes. bytes.now) given.entry))
         (map (λ line. line.items) lines.now) decoding.text.items decoding.off) }
+    ensures room { IfErr result (λ fault. fault ≡ AuditFault.Room → StopsByRoom form
+        (at_first graph.now (option_map (λ bytes. bytes.now) given.entry)) (map (λ line. line.items) lines.now)) }
 {
     let mut text = Vec::new(alloc);
     let mut reading = Reading::new(alloc, graph, given, form)?;

@@ -1,14 +1,17 @@
 //! A trace that is read beside a script, line by line.
 
-ghost use Rattle.std.specs.Prelude.{◌≡◌, ◌<◌, ◌++◌, ℕ, true, IfOk, List, OnOk, Ok, Some, length, map, option_map};
+ghost use Rattle.std.specs.Prelude.{◌≡◌, ◌<◌, ◌++◌, ℕ, true, IfErr, IfOk, List, OnOk, Ok, Some, length, map, option_map};
 ghost use Rattle.sdv_audit.specs.Course.{Course, IsAt, course_after};
 ghost use Rattle.sdv_audit.specs.Reading.{read_line};
+ghost use Rattle.sdv_audit.specs.Room.{AreMany};
+ghost use Rattle.sdv_card.specs.Lists.{May};
 ghost use Rattle.sdv_run.specs.Machine.{Asked};
 ghost use Rattle.sdv_run.specs.declared.next_event.Next.TheVariants.{Event};
 ghost use Rattle.sdv_decode.specs.Decoded.{Place, at_first, course_before, line_behind, off_behind, uses};
 ghost use Rattle.sdv_audit_report.specs.Notes.{counted};
+ghost use Rattle.sdv_decode.specs.Room.{AreTooMany, LacksRoom};
 ghost use Rattle.sdv_decode.specs.Rows.{last_line, stray_line};
-ghost use Rattle.sdv_decode.specs.Steps.{GoesOn, IsAsked, IsPlace, Steps};
+ghost use Rattle.sdv_decode.specs.Steps.{GoesOn, IsAsked, IsCrowded, IsPlace, Steps};
 
 use crate::fault::TraceOff;
 use crate::form::Form;
@@ -72,6 +75,8 @@ fn off_behind(number: u64, texts: &[Vec<u8>]) -> Option<TraceOff>
 fn follow_lines(audit: &mut Audit, width: Width) -> Result<(), AuditFault>
     ensures kind { audit.new.kind ≡ audit.old.kind }
     ensures course { OnOk result ((c : Course) → IsAt audit.old c → IsAt audit.new (uses audit.old.kind width c)) }
+    ensures room { IfErr result (λ fault. fault ≡ AuditFault.Room → (c : Course) → IsAt audit.old c →
+        AreMany (May (uses audit.old.kind width c).shapes)) }
 {
     let told = Told {
         line: TraceLine::Lines { width },
@@ -86,6 +91,8 @@ fn follow_before(audit: &mut Audit, event: &NextEvent) -> Result<(), AuditFault>
     ensures kind { audit.new.kind ≡ audit.old.kind }
     ensures course { OnOk result ((c : Course) → IsAt audit.old c →
         IsAt audit.new (course_before audit.old.kind event.now c)) }
+    ensures room { IfErr result (λ fault. fault ≡ AuditFault.Room → (c : Course) → IsAt audit.old c →
+        AreMany (May (course_before audit.old.kind event.now c).shapes)) }
 {
     match event {
         NextEvent::ReceiveBlocks { lines, .. } => follow_lines(audit, *lines),
@@ -100,6 +107,8 @@ fn follow(audit: &mut Audit, event: &NextEvent, told: &Told) -> Result<(), Audit
     ensures kind { audit.new.kind ≡ audit.old.kind }
     ensures course { OnOk result ((c : Course) → IsAt audit.old c →
         IsAt audit.new (course_after audit.old.kind told.now (course_before audit.old.kind event.now c))) }
+    ensures room { IfErr result (λ fault. fault ≡ AuditFault.Room → (c : Course) → IsAt audit.old c →
+        AreTooMany audit.old.kind event.now told.now c) }
 {
     follow_before(audit, event)?;
     audit.next(told)?;
@@ -117,6 +126,7 @@ impl<'g, 'a, 'r> Reading<'g, 'a, 'r> {
         ensures place { IfOk result (λ reading. IsPlace reading
             (at_first graph.now (option_map (λ bytes. bytes.now) given.entry))) }
         ensures form { IfOk result (λ reading. reading.form ≡ form) }
+        ensures memory { IfErr result (λ fault. fault ≡ AuditFault.Memory) }
     {
         Ok(Reading {
             alloc,
@@ -144,6 +154,8 @@ impl<'g, 'a, 'r> Reading<'g, 'a, 'r> {
         ensures steps { IfOk result (λ step. (at : Place) → IsPlace self.old at →
             Steps self.old.form at text.now (map (λ text. text.items) behind.now) out.old.items out.new.items
             self.new step) }
+        ensures room { IfErr result (λ fault. fault ≡ AuditFault.Room → (at : Place) → IsPlace self.old at →
+            LacksRoom at text.now (line_behind (map (λ text. text.items) behind.now))) }
     {
         match read_line(text) {
             Ok(line) => self.take_line(text, line, behind, out),
@@ -163,6 +175,8 @@ impl<'g, 'a, 'r> Reading<'g, 'a, 'r> {
         ensures steps { IfOk result (λ step. (at : Place) → read_line text.now ≡ Ok line → IsPlace self.old at →
             Steps self.old.form at text.now (map (λ text. text.items) behind.now) out.old.items out.new.items
             self.new step) }
+        ensures room { IfErr result (λ fault. fault ≡ AuditFault.Room → (at : Place) → read_line text.now ≡ Ok line →
+            IsPlace self.old at → LacksRoom at text.now (line_behind (map (λ text. text.items) behind.now))) }
     {
         match self.runner.ask() {
             Ok(Next::Event(event)) => self.take_event(&event, line, behind, out),
@@ -190,6 +204,9 @@ impl<'g, 'a, 'r> Reading<'g, 'a, 'r> {
             IsAsked self.old at → Asked self.old.runner (Ok (Event event.now)) →
             Steps self.old.form at text (map (λ text. text.items) behind.now) out.old.items out.new.items
             self.new step) }
+        ensures room { IfErr result (λ fault. fault ≡ AuditFault.Room → (at : Place) (text : List ℕ) →
+            read_line text ≡ Ok line → IsAsked self.old at → Asked self.old.runner (Ok (Event event.now)) →
+            LacksRoom at text (line_behind (map (λ text. text.items) behind.now))) }
     {
         if !is_of(event, &line) {
             return self.stray(&line, out);
@@ -215,6 +232,7 @@ impl<'g, 'a, 'r> Reading<'g, 'a, 'r> {
     ) -> Result<bool, AuditFault>
         ensures form { self.new.form ≡ self.old.form }
         ensures on { IfOk result (GoesOn self.old event.now line next self.new) }
+        ensures room { IfErr result (λ fault. fault ≡ AuditFault.Room → IsCrowded self.old event.now line next) }
     {
         let returned = returned_of(&line, register_told(self.given, &line));
         if self.runner.take(&returned).is_err() {
@@ -253,6 +271,7 @@ impl<'g, 'a, 'r> Reading<'g, 'a, 'r> {
           point = self.now.runner.stand.point;
         }) line.now) }
         ensures step { IfOk result (λ step. step ≡ Step.Stopped (Some (TraceOff.Script self.now.number))) }
+        ensures memory { IfErr result (λ fault. fault ≡ AuditFault.Memory) }
     {
         put_stray(out, &self.spot(), line)?;
         Ok(Step::Stopped(Some(TraceOff::Script(self.number))))
@@ -268,6 +287,7 @@ impl<'g, 'a, 'r> Reading<'g, 'a, 'r> {
         }) end.now) }
         ensures step { IfOk result (λ step. step ≡ Step.Stopped (off_behind (counted true self.now.number)
             (map (λ text. text.items) behind.now))) }
+        ensures memory { IfErr result (λ fault. fault ≡ AuditFault.Memory) }
     {
         put_last(out, &self.spot(), end)?;
         Ok(Step::Stopped(off_behind(self.number.saturating_add(1), behind)))

@@ -1,4 +1,4 @@
-use Rattle.std.proofs.Common.{◌≡◌, ◌∙◌, ◌++◌, false, true, inl, inr, ap, subst, rules, ℕ, List, Option, Bool, OnOk, option_map}
+use Rattle.std.proofs.Common.{◌≡◌, ◌∙◌, ◌++◌, false, true, Err, inl, inr, ap, subst, rules, ℕ, List, Option, Bool, OnOk, option_map}
 use Rattle.sdv_audit.specs.declared.line.TraceLine.{TraceLine}
 use Rattle.sdv_card.specs.declared.shape.Shape.{Shape}
 use Rattle.sdv_decode.specs.LineWords.{Spot}
@@ -6,7 +6,7 @@ use Rattle.sdv_decode.specs.Matches.{is_of}
 use Rattle.sdv_decode.specs.Rows.{event_line, stray_line}
 use Rattle.sdv_decode.specs.Steps.{GoesOn}
 use Rattle.sdv_decode.specs.declared.reading.Reading.{Reading}
-use Rattle.sdv_decode.proofs.StepLaws.{passed_by, spot_at, spot_same, stray_step}
+use Rattle.sdv_decode.proofs.StepLaws.{lacks_room, passed_by, spot_at, spot_same, stray_step}
 use Rattle.sdv_decode.proofs.reading.Reading.take_event.Goals as goal
 
 pub returns-then-not-is_of-clause-steps : goal.returns-then-not-is_of-clause-steps
@@ -40,3 +40,11 @@ returns-else-branch-clause-steps c =
     (c.stray-else-branch.new.out.items ≡ c.args.out.now.items ++ stray_line (spot_at s) c.args.line)) refused.0 c.stray-else-branch.ensures.words in
     stray_step r c.go_on.new.self c.args.line _ _ _ c.stray-else-branch.result words (rw refused.0 at c.stray-else-branch.ensures.step)
     c.args.event.now (λ text. inr refused.1)
+
+pub returns-in_err-go_on-clause-room : goal.returns-in_err-go_on-clause-room
+returns-in_err-go_on-clause-room c =
+    let is : c.from_residual.result ≡ Err c.in_err-go_on.field-0.0 = search rules in
+    let fits : is_of c.args.event.now c.args.line ≡ true = search rules in
+    rw is (λ room at text read asked next.
+    lacks_room c.args.self.now at c.args.event.now c.args.line _ c.line_behind.result text (c.in_err-go_on.ensures.room room)
+    c.line_behind.ensures read asked next fits)
