@@ -1,6 +1,7 @@
 //! A file of the machine, read and written block by block.
 
-ghost use Rattle.std.specs.Prelude.{◌≡◌, IfOk, None};
+ghost use Rattle.std.specs.Prelude.{◌≡◌, length, IfOk, IfSome, None};
+ghost use Rattle.std.specs.Io.Seek.{SeekMoves};
 
 use sdv_file_image::BlockFile;
 use sdv_image::ImageFault;
@@ -23,6 +24,8 @@ impl<F: Read + Write + Seek + Drop> SeekFile<F> {
     ///
     /// Where it has no end that a position can be set to, as a pipe.
     pub fn new(file: F) -> io::Result<SeekFile<F>>
+        ensures size { IfOk result (λ made. IfSome (F.stream_position file)
+            (λ _. IfSome (F.stream_bytes file) (λ all. made.bytes ≡ length all))) }
         ensures failed { IfOk result (λ file. file.failures ≡ 0) }
         ensures place { IfOk result (λ file. file.next ≡ None) }
     {
@@ -43,7 +46,9 @@ impl<F: Read + Write + Seek + Drop> SeekFile<F> {
     }
 }
 
-fn seek<F: Seek>(file: &mut F, place: SeekFrom) -> io::Result<u64> {
+fn seek<F: Seek>(file: &mut F, place: SeekFrom) -> io::Result<u64>
+    ensures { SeekMoves (F.stream_position file.old) (F.stream_position file.new) (F.stream_bytes file.old) place result }
+{
     file.seek(place)
 }
 
