@@ -1,5 +1,5 @@
 //! Files by their names: their texts and bytes, what is written to them, and images that they hold.
-ghost use Rattle.std.specs.Prelude.{◌≡◌, ◌^◌, ◌≤◌, ◌⊎◌, length, List, ℕ, Err, IfErr, IfOk, IfSome, None, string_bytes, false, true};
+ghost use Rattle.std.specs.Prelude.{◌≡◌, ◌^◌, ◌≤◌, ◌⊎◌, codes, length, not, List, ℕ, Err, IfErr, IfOk, IfSome, None, string_bytes, false, true};
 ghost use Rattle.std.specs.Io.KnownBytes.{Appends};
 ghost use Rattle.sdv_files.specs.Files.{Files as KnownFiles, GivesNoText, SomeCallFailed, image_of};
 
@@ -129,7 +129,8 @@ impl<'a, R: Files> Store for MachineFiles<'a, R> {
 
     type Source = Source<R::File>;
 
-    ghost use Rattle.sdv_files.specs.Files.{any_files, any_sink};
+    ghost use Rattle.sdv_files.specs.Files.{any_files, any_images, any_sink};
+    ghost use Rattle.sdv_files.specs.declared.seek_file.SeekFile.{SeekFile};
 
     ghost known = { λ _. any_files };
 
@@ -159,11 +160,19 @@ impl<'a, R: Files> Store for MachineFiles<'a, R> {
         }
     }
 
-    fn close(&self, _file: &str, source: Source<R::File>) -> bool {
+    fn close(&self, _file: &str, source: Source<R::File>) -> bool
+        ensures { result ≡ not source.failed }
+    {
         !source.has_failed()
     }
 
-    fn open_image(&self, file: &str) -> Option<SeekFile<R::File>> {
+    // Beside the name, the clauses repeat those of the trait; those of `create` too.
+    fn open_image(&self, file: &str) -> Option<SeekFile<R::File>>
+        ensures opened { IfSome result (λ image. any_images.opened file.now (image_of image.bytes None)) }
+        ensures failed { IfSome result
+            (λ _. SomeCallFailed (λ (image : SeekFile R.File). image.failures) → any_images.failed file.now) }
+        ensures unnamed { file.now ≡ codes "-" → result ≡ None }
+    {
         if file == "-" {
             return None;
         }
@@ -175,7 +184,10 @@ impl<'a, R: Files> Store for MachineFiles<'a, R> {
         image.close().is_ok()
     }
 
-    fn create(&self, file: &str) -> Option<R::File> {
+    fn create(&self, file: &str) -> Option<R::File>
+        ensures made { IfSome result (any_sink file.now) }
+        ensures unnamed { file.now ≡ codes "-" → result ≡ None }
+    {
         if file == "-" {
             return None;
         }
