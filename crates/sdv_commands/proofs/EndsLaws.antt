@@ -68,31 +68,31 @@ module _ (files : Files) (s s' : Streams) (before after : Option (List ℕ)) whe
   quiet-kept : (request : Request) → IsQuiet request → (fault : Fault) → fault ≢ Output → EndsRequest files s s' request (Some fault) before after
       → Keeps before after
   quiet-kept (frame index argument) quiet fault other ends =
-      prints-kept before after (IsFrameText index argument) (WriteNone index argument) fault other ends
+      prints-kept before after (IsFrameText index argument) (WriteNone index argument) fault other ends.1
   quiet-kept (certify script) quiet fault other ends =
       over-kept before after files script (λ (text : Text). Prints (IsCertificate text) (HasNone text)) (Some fault)
-      (λ text. prints-kept before after (IsCertificate text) (HasNone text) fault other) ends
+      (λ text. prints-kept before after (IsCertificate text) (HasNone text) fault other) ends.1
   quiet-kept (check script certificate) quiet fault other ends =
       over-kept before after files script
       (λ (text : Text). OverText files certificate (λ (closed : Text). Prints (IsBoundLine text closed) (Refuses text closed))) (Some fault)
       (λ text. over-kept before after files certificate (λ (closed : Text). Prints (IsBoundLine text closed) (Refuses text closed)) (Some fault)
-      (λ closed. prints-kept before after (IsBoundLine text closed) (Refuses text closed) fault other)) ends
+      (λ closed. prints-kept before after (IsBoundLine text closed) (Refuses text closed) fault other)) ends.1
   quiet-kept (run names) quiet fault other ends = absurd quiet
   quiet-kept (batch kind requests) quiet fault other ends =
-      prints-kept before after (IsBatchText kind requests) (HasNoBatch kind requests) fault other ends
+      prints-kept before after (IsBatchText kind requests) (HasNoBatch kind requests) fault other ends.1
   quiet-kept (explain names) quiet fault other ends = absurd quiet
   quiet-kept (graph names) quiet fault other ends = absurd quiet
   quiet-kept (print script) quiet fault other ends =
       over-kept before after files script (λ (text : Text). Prints (IsPrinted text) (HasNoTokens text)) (Some fault)
-      (λ text. prints-kept before after (IsPrinted text) (HasNoTokens text) fault other) ends
-  quiet-kept (emit names) quiet fault other ends = emit-kept names fault other ends
+      (λ text. prints-kept before after (IsPrinted text) (HasNoTokens text) fault other) ends.1
+  quiet-kept (emit names) quiet fault other ends = emit-kept names fault other ends.1
   quiet-kept (audit names) quiet fault other ends = absurd quiet
   quiet-kept (describe card schedule) quiet fault other ends = absurd quiet
   quiet-kept (drive names) quiet fault other ends = ends.1
   quiet-kept (serve names) quiet fault other ends = ends.1
   quiet-kept (review script json) quiet fault other ends = absurd quiet
   quiet-kept (attempt names) quiet fault other ends = absurd quiet
-  quiet-kept (refute names) quiet fault other ends = refute-kept names fault other ends
+  quiet-kept (refute names) quiet fault other ends = refute-kept names fault other ends.1
   quiet-kept (sweep names) quiet fault other ends = absurd quiet
   quiet-kept (decode names) quiet fault other ends = absurd quiet
 
@@ -134,39 +134,39 @@ module _ (files : Files) (s s' : Streams) (before after : Option (List ℕ)) whe
 
   -- nothing is printed for want of memory, but by an audit
   memory-kept : (request : Request) → IsWhole request → EndsRequest files s s' request (Some Memory) before after → Keeps before after
-  memory-kept (frame index argument) whole ends = ends
+  memory-kept (frame index argument) whole ends = ends.1
   memory-kept (certify script) whole ends =
-      over-kept before after files script (λ (text : Text). Prints (IsCertificate text) (HasNone text)) (Some Memory) (λ text kept. kept) ends
+      over-kept before after files script (λ (text : Text). Prints (IsCertificate text) (HasNone text)) (Some Memory) (λ text kept. kept) ends.1
   memory-kept (check script certificate) whole ends =
       over-kept before after files script
       (λ (text : Text). OverText files certificate (λ (closed : Text). Prints (IsBoundLine text closed) (Refuses text closed))) (Some Memory)
       (λ text. over-kept before after files certificate (λ (closed : Text). Prints (IsBoundLine text closed) (Refuses text closed)) (Some Memory)
-      (λ closed kept. kept)) ends
-  memory-kept (run names) whole ends = run-memory names ends
-  memory-kept (batch kind requests) whole ends = ends
+      (λ closed kept. kept)) ends.1
+  memory-kept (run names) whole ends = run-memory names ends.1
+  memory-kept (batch kind requests) whole ends = ends.1
   memory-kept (explain names) whole ends =
       over-kept before after files names.script (λ (text : Text). ExplainsText files names text names.certificate) (Some Memory)
-      (λ text. explain-memory names text names.certificate) ends
+      (λ text. explain-memory names text names.certificate) ends.1
   memory-kept (graph names) whole ends =
       over-kept before after files names.script (λ (text : Text). Reports (IsDrawing names.no_faults text) (IsUndrawn text)) (Some Memory)
-      (λ text kept. kept) ends
+      (λ text kept. kept) ends.1
   memory-kept (print script) whole ends =
-      over-kept before after files script (λ (text : Text). Prints (IsPrinted text) (HasNoTokens text)) (Some Memory) (λ text kept. kept) ends
-  memory-kept (emit names) whole ends = emit-memory names ends
+      over-kept before after files script (λ (text : Text). Prints (IsPrinted text) (HasNoTokens text)) (Some Memory) (λ text kept. kept) ends.1
+  memory-kept (emit names) whole ends = emit-memory names ends.1
   memory-kept (audit names) whole ends = absurd whole
   memory-kept (describe card schedule) whole ends =
       over-kept before after files card (λ (text : Text). DescribesText files text schedule) (Some Memory)
-      (λ text. given-memory schedule (λ given. Reports (IsPageOf text given) HasNoPage) (λ given kept. kept)) ends
+      (λ text. given-memory schedule (λ given. Reports (IsPageOf text given) HasNoPage) (λ given kept. kept)) ends.1
   memory-kept (drive names) whole ends = ends.1
   memory-kept (serve names) whole ends = ends.1
   memory-kept (review script json) whole ends =
-      over-kept before after files script (λ (text : Text). Reports (IsReview text json) (HasNone text)) (Some Memory) (λ text kept. kept) ends
-  memory-kept (attempt names) whole ends = try-memory names ends
-  memory-kept (refute names) whole ends = refute-memory names ends
+      over-kept before after files script (λ (text : Text). Reports (IsReview text json) (HasNone text)) (Some Memory) (λ text kept. kept) ends.1
+  memory-kept (attempt names) whole ends = try-memory names ends.1
+  memory-kept (refute names) whole ends = refute-memory names ends.1
   memory-kept (sweep names) whole ends =
       over-kept before after files names.script (λ (script : Text). OverText files names.card (ImageEnds files names script)) (Some Memory)
-      (λ script. over-kept before after files names.card (ImageEnds files names script) (Some Memory) (image-memory names script)) ends
-  memory-kept (decode names) whole ends = decode-memory names ends
+      (λ script. over-kept before after files names.card (ImageEnds files names script) (Some Memory) (image-memory names script)) ends.1
+  memory-kept (decode names) whole ends = decode-memory names ends.1
 
   printed-fault : (page : Text) (fault : Fault) → PrintsText page (Some fault) before after → fault ≡ Output
   printed-fault page Output ends = refl
@@ -183,16 +183,16 @@ module _ (files : Files) (s s' : Streams) (before after : Option (List ℕ)) whe
 
   pub words-kept : (words : List Text) → AreQuiet words → (fault : Fault) → fault ≢ Output → EndsWords files s s' words (Some fault) before after
       → Keeps before after
-  words-kept words quiet fault other (for_page page asked ends) = page-kept page fault other ends
+  words-kept words quiet fault other (for_page page asked silent ends) = page-kept page fault other ends
   words-kept words quiet fault other (for_request request means ends) = quiet-kept request (quiet request means) fault other ends
-  words-kept words quiet fault other (for_nothing no_page none is kept) = kept
-  words-kept words quiet fault other (for_memory is kept) = kept
+  words-kept words quiet fault other (for_nothing no_page none is silent kept) = kept
+  words-kept words quiet fault other (for_memory is silent kept) = kept
 
   pub words-memory-kept : (words : List Text) → AreWhole words → EndsWords files s s' words (Some Memory) before after → Keeps before after
-  words-memory-kept words whole (for_page page asked ends) = page-memory page ends
+  words-memory-kept words whole (for_page page asked silent ends) = page-memory page ends
   words-memory-kept words whole (for_request request means ends) = memory-kept request (whole request means) ends
-  words-memory-kept words whole (for_nothing no_page none is kept) = kept
-  words-memory-kept words whole (for_memory is kept) = kept
+  words-memory-kept words whole (for_nothing no_page none is silent kept) = kept
+  words-memory-kept words whole (for_memory is silent kept) = kept
 
 -- STATUSES
 
@@ -208,14 +208,14 @@ of_memory _ three = cc
 pub no_page : (found : Option Page) (page : Option Text) → option_map text_of found ≡ page → found ≡ None → page ≡ None
 no_page found page same none = sym same ∙ ap (option_map text_of) none
 
-module _ (files : Files) (s s' : Streams) (words : List Text) (known : Option (List ℕ)) (none_asked : page_of words ≡ None) where
-  unread : (fault : RequestFault) → (fault ≡ requests.Usage → meaning_of words ≡ None) → EndsWords files s s' words (Some (fault_of_request fault)) known known
-  unread requests.Usage none = for_nothing none_asked (none refl) refl (keeps_same known)
-  unread requests.Memory none = for_memory refl (keeps_same known)
+module _ (files : Files) (s : Streams) (words : List Text) (known : Option (List ℕ)) (none_asked : page_of words ≡ None) where
+  unread : (fault : RequestFault) → (fault ≡ requests.Usage → meaning_of words ≡ None) → EndsWords files s s words (Some (fault_of_request fault)) known known
+  unread requests.Usage none = for_nothing none_asked (none refl) refl refl (keeps_same known)
+  unread requests.Memory none = for_memory refl refl (keeps_same known)
 
   pub no_request : {T : Type 0} (fault : RequestFault) → (fault ≡ requests.Usage → meaning_of words ≡ None) → (r : Result T Fault)
-      → IsErrAnd r (λ f. f ≡ fault_of_request fault) → EndsWords files s s' words (outcome_of r) known known
-  no_request fault none r is = failed (λ outcome. EndsWords files s s' words outcome known known) _ r is (unread fault none)
+      → IsErrAnd r (λ f. f ≡ fault_of_request fault) → EndsWords files s s words (outcome_of r) known known
+  no_request fault none r is = failed (λ outcome. EndsWords files s s words outcome known known) _ r is (unread fault none)
 
 -- THE COMMAND that answers in lines, by the answer of its function
 pub card_ends : (files : Files) (names : CardNames) (a a' q q' : Option (List ℕ)) (r : Result (Unit {0}) Fault) → OnOk r (EndsCard files names a a' q q')

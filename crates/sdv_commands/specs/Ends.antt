@@ -1,5 +1,5 @@
 -- How the program ends, by the words that it was called with. It has two streams of lines beside its output: requests and
--- answers pass there, and nothing is claimed of them where the words ask for neither.
+-- answers pass there, and they stay as they were where the words ask for neither.
 use Rattle.std.specs.Prelude.{◌≡◌, ◌⊎◌, ℕ, List, Option, Some, None}
 use Rattle.std.specs.Io.KnownBytes.{Appends, Keeps}
 use Rattle.clap.specs.Words.{Text}
@@ -39,25 +39,29 @@ use Rattle.sdv_commands.specs.Review.{ReviewEnds}
 abbrev pub Speaks : (Ends : Option Fault → Type 0) → Ending
 Speaks Ends outcome before after = Ends outcome × Keeps before after
 
+-- no line is read or written
+abbrev pub KeepsLines : (s s' : Streams) → Ending → Ending
+KeepsLines s s' Ends outcome before after = (s' ≡ s) × Ends outcome before after
+
 abbrev pub EndsRequest : Files → (s s' : Streams) → Request → Ending
-EndsRequest files s s' (frame index argument) = FrameEnds index argument
-EndsRequest files s s' (certify script) = CertifyEnds files script
-EndsRequest files s s' (check script certificate) = CheckEnds files script certificate
-EndsRequest files s s' (run names) = RunEnds files names
-EndsRequest files s s' (batch kind requests) = BatchEnds kind requests
-EndsRequest files s s' (explain names) = ExplainEnds files names
-EndsRequest files s s' (graph names) = GraphEnds files names
-EndsRequest files s s' (print script) = PrintEnds files script
-EndsRequest files s s' (emit names) = EmitEnds files names
-EndsRequest files s s' (audit names) = AuditEnds files names
-EndsRequest files s s' (describe card schedule) = DescribeEnds files card schedule
+EndsRequest files s s' (frame index argument) = KeepsLines s s' (FrameEnds index argument)
+EndsRequest files s s' (certify script) = KeepsLines s s' (CertifyEnds files script)
+EndsRequest files s s' (check script certificate) = KeepsLines s s' (CheckEnds files script certificate)
+EndsRequest files s s' (run names) = KeepsLines s s' (RunEnds files names)
+EndsRequest files s s' (batch kind requests) = KeepsLines s s' (BatchEnds kind requests)
+EndsRequest files s s' (explain names) = KeepsLines s s' (ExplainEnds files names)
+EndsRequest files s s' (graph names) = KeepsLines s s' (GraphEnds files names)
+EndsRequest files s s' (print script) = KeepsLines s s' (PrintEnds files script)
+EndsRequest files s s' (emit names) = KeepsLines s s' (EmitEnds files names)
+EndsRequest files s s' (audit names) = KeepsLines s s' (AuditEnds files names)
+EndsRequest files s s' (describe card schedule) = KeepsLines s s' (DescribeEnds files card schedule)
 EndsRequest files s s' (drive names) = Speaks (DriveEnds files names s s')
 EndsRequest files s s' (serve names) = Speaks (CardEnds files names s.answers s'.answers s.requests s'.requests)
-EndsRequest files s s' (review script json) = ReviewEnds files script json
-EndsRequest files s s' (attempt names) = TryEnds files names
-EndsRequest files s s' (refute names) = RefuteEnds files names
-EndsRequest files s s' (sweep names) = SweepEnds files names
-EndsRequest files s s' (decode names) = DecodeEnds files names
+EndsRequest files s s' (review script json) = KeepsLines s s' (ReviewEnds files script json)
+EndsRequest files s s' (attempt names) = KeepsLines s s' (TryEnds files names)
+EndsRequest files s s' (refute names) = KeepsLines s s' (RefuteEnds files names)
+EndsRequest files s s' (sweep names) = KeepsLines s s' (SweepEnds files names)
+EndsRequest files s s' (decode names) = KeepsLines s s' (DecodeEnds files names)
 
 -- Nothing is printed where the command is refused. A run with or without a certificate, an explanation, a drawing, the
 -- report of an audit, the page of a card description, a review and the table of a sweep and the lines of a trace are printed then too.
@@ -83,16 +87,17 @@ IsWhole request = Unit {0}
 pub data EndsWords (files : Files) (s s' : Streams) (words : List Text) (outcome : Option Fault)
     (before after : Option (List ℕ)) : Type 0 where
   -- they ask for a page
-  for_page : (page : Text) → page_of words ≡ Some page → PrintsPage page outcome before after
+  for_page : (page : Text) → page_of words ≡ Some page → s' ≡ s → PrintsPage page outcome before after
       → EndsWords files s s' words outcome before after
   -- they mean a request
   for_request : (request : Request) → meaning_of words ≡ Some request → EndsRequest files s s' request outcome before after
       → EndsWords files s s' words outcome before after
   -- they mean nothing
-  for_nothing : page_of words ≡ None → meaning_of words ≡ None → outcome ≡ Some Usage → Keeps before after
+  for_nothing : page_of words ≡ None → meaning_of words ≡ None → outcome ≡ Some Usage → s' ≡ s → Keeps before after
       → EndsWords files s s' words outcome before after
   -- memory was refused before they were read
-  for_memory : outcome ≡ Some Memory → Keeps before after → EndsWords files s s' words outcome before after
+  for_memory : outcome ≡ Some Memory → s' ≡ s → Keeps before after
+      → EndsWords files s s' words outcome before after
 
 -- the words ask for no page, and mean no request but one that prints nothing where it is refused
 abbrev pub AreQuiet : List Text → Type 0

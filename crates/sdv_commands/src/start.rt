@@ -30,6 +30,7 @@ pub fn start<R: Files + AllocGlobal, I: Read, L: Write, O: Write, E: Write>(
         (streams_of I.remaining L.contents lines.new) (drop 1 (map string_bytes given.items)) result
         (O.contents out.old) (O.contents out.new) (E.contents err.old) (E.contents err.new)) }
     ensures unread { IfErr words (λ error. (result ≡ status_of (fault_of_words (error_kind error)))
+        × (streams_of I.remaining L.contents lines.new ≡ streams_of I.remaining L.contents lines.old)
         × Keeps (O.contents out.old) (O.contents out.new)
         × Says (fault_of_words (error_kind error)) (E.contents err.old) (E.contents err.new)) }
 {

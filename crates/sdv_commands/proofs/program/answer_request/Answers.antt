@@ -1,4 +1,4 @@
-use Rattle.std.proofs.Common.{subst, sym}
+use Rattle.std.proofs.Common.{refl, subst, sym}
 use Rattle.sdv_command_line.specs.Requests.{card_names_of, seen}
 use Rattle.sdv_files.proofs.StartLaws.{keeps_same}
 use Rattle.sdv_command_line.specs.declared.request.Request.{Request}
@@ -12,13 +12,13 @@ pub returns-in-Frame : goal.returns-in-Frame
 returns-in-Frame g c =
     subst (λ (request : Request). EndsRequest (g.S.Store.known c.args.files.now) (streams_of g.I.Read.remaining g.L.Write.contents c.args.lines.now)
     (streams_of g.I.Read.remaining g.L.Write.contents c.args.lines.now) (seen request) (outcome_of c.print_frame.result)
-    (g.O.Write.contents c.args.out.now) (g.O.Write.contents c.print_frame.new.out)) (sym c.in-Frame.is) c.print_frame.ensures
+    (g.O.Write.contents c.args.out.now) (g.O.Write.contents c.print_frame.new.out)) (sym c.in-Frame.is) (refl, c.print_frame.ensures)
 
 pub returns-in-Audit : goal.returns-in-Audit
 returns-in-Audit g c =
     subst (λ (request : Request). EndsRequest (g.S.Store.known c.args.files.now) (streams_of g.I.Read.remaining g.L.Write.contents c.args.lines.now)
     (streams_of g.I.Read.remaining g.L.Write.contents c.args.lines.now) (seen request) (outcome_of c.audit_file.result)
-    (g.O.Write.contents c.args.out.now) (g.O.Write.contents c.audit_file.new.out)) (sym c.in-Audit.is) c.audit_file.ensures
+    (g.O.Write.contents c.args.out.now) (g.O.Write.contents c.audit_file.new.out)) (sym c.in-Audit.is) (refl, c.audit_file.ensures)
 
 pub returns-in-Drive : goal.returns-in-Drive
 returns-in-Drive g c =

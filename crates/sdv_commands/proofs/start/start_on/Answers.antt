@@ -16,6 +16,6 @@ pub returns-in-Err : goal.returns-in-Err
 returns-in-Err g c = record {
   outcome = Some Memory;
   status_is = c.report.ensures.status;
-  ended = for_memory refl (keeps_same _);
+  ended = for_memory refl refl (keeps_same _);
   said = c.report.ensures.said;
 }
