@@ -41,16 +41,26 @@ abbrev pub NoTrace : Files → (wanted : Text) → Option Fault → Type 0
 NoTrace files wanted (Some Memory) = Unit {0}
 NoTrace files wanted outcome = IsUnread files wanted outcome
 
+-- A reader was audited beside a card of the kind that is named: what it had left is what the file gives, where it is
+-- known. `told` is how the audit ended.
+pub record AuditsFile (files : Files) (names : AuditNames) (told : Option Fault) (before after : Option (List ℕ))
+    : Type 0 where
+  pub kind : Kind
+  pub kind_is : kind_named names.kind ≡ Some kind
+  pub trace : Option (List ℕ)
+  pub given : IfSome trace (λ bytes. files.gives names.trace bytes)
+  pub audited : AuditsReader kind (style_of names) trace told before after
+
 pub data AuditEnds (files : Files) (names : AuditNames) (outcome : Option Fault) (before after : Option (List ℕ))
     : Type 0 where
   -- there is no such kind of card
   no_kind : kind_named names.kind ≡ None → outcome ≡ Some Usage → Keeps before after
       → AuditEnds files names outcome before after
-  -- the trace is not begun
-  no_trace : NoTrace files names.trace outcome → Keeps before after → AuditEnds files names outcome before after
-  -- a read of the file failed, and a part of the report may be printed
-  broken_off : IsUnread files names.trace outcome → AuditEnds files names outcome before after
+  -- there is, and the trace is not begun
+  no_trace : (kind : Kind) → kind_named names.kind ≡ Some kind → NoTrace files names.trace outcome → Keeps before after
+      → AuditEnds files names outcome before after
+  -- a read of the file failed, and the command tells that in place of the audit's own ending
+  broken_off : (told : Option Fault) → AuditsFile files names told before after → IsUnread files names.trace outcome
+      → AuditEnds files names outcome before after
   -- what the file gives was audited
-  audits : (kind : Kind) (trace : Option (List ℕ)) → kind_named names.kind ≡ Some kind
-      → IfSome trace (λ bytes. files.gives names.trace bytes)
-      → AuditsReader kind (style_of names) trace outcome before after → AuditEnds files names outcome before after
+  audits : AuditsFile files names outcome before after → AuditEnds files names outcome before after
