@@ -41,12 +41,13 @@ module _ (files : Files) (names : AuditNames) (kind : Kind) (named : kind_named 
 
   -- a reader that has left what the file gives was audited
   pub of_reader : (read left : Option (List ℕ)) (told : Option Fault) (before after : Option (List ℕ)) → read ≡ left
-      → IfSome left (λ bytes. files.gives names.trace bytes)
+      → files.streamed names.trace left → IfSome left (λ bytes. files.gives names.trace bytes)
       → AuditsReader kind (style_of names) read told before after → AuditsFile files names told before after
-  of_reader read left told before after same gives was = record {
+  of_reader read left told before after same streamed gives was = record {
     kind = kind;
     kind_is = named;
     trace = left;
+    streamed = streamed;
     given = gives;
     audited = subst (λ trace. AuditsReader kind (style_of names) trace told before after) same was;
   }

@@ -41,13 +41,14 @@ abbrev pub NoTrace : Files → (wanted : Text) → Option Fault → Type 0
 NoTrace files wanted (Some Memory) = Unit {0}
 NoTrace files wanted outcome = IsUnread files wanted outcome
 
--- A reader was audited beside a card of the kind that is named: what it had left is what the file gives, where it is
--- known. `told` is how the audit ended.
+-- The reader of the file was audited from its start, beside a card of the kind that is named: what it had left is what the
+-- file gives, where it is known. `told` is how the audit ended.
 pub record AuditsFile (files : Files) (names : AuditNames) (told : Option Fault) (before after : Option (List ℕ))
     : Type 0 where
   pub kind : Kind
   pub kind_is : kind_named names.kind ≡ Some kind
   pub trace : Option (List ℕ)
+  pub streamed : files.streamed names.trace trace
   pub given : IfSome trace (λ bytes. files.gives names.trace bytes)
   pub audited : AuditsReader kind (style_of names) trace told before after
 
@@ -62,5 +63,6 @@ pub data AuditEnds (files : Files) (names : AuditNames) (outcome : Option Fault)
   -- a read of the file failed, and the command tells that in place of the audit's own ending
   broken_off : (told : Option Fault) → AuditsFile files names told before after → IsUnread files names.trace outcome
       → AuditEnds files names outcome before after
-  -- what the file gives was audited
-  audits : AuditsFile files names outcome before after → AuditEnds files names outcome before after
+  -- what the file gives was audited, and no read of it failed
+  audits : AuditsFile files names outcome before after → files.read_well names.trace
+      → AuditEnds files names outcome before after

@@ -38,6 +38,10 @@ pub record Files : Type 1 where
   pub gives : (file : Text) (bytes : List ℕ) → Type 0
   -- it could not be opened or read, or did not end
   pub unread : (file : Text) → Type 0
+  -- it was opened to be read, and its reader had these bytes left then, where they are known
+  pub streamed : (file : Text) (left : Option (List ℕ)) → Type 0
+  -- its reader was closed, and no read of it failed
+  pub read_well : (file : Text) → Type 0
   pub images : ImageFiles
   -- the file was made or emptied, and took these bytes then
   pub received : (file : Text) (bytes : List ℕ) → Type 0
@@ -82,6 +86,8 @@ any_files = record {
   apart = any_two;
   gives = any_bytes;
   unread = any_file;
+  streamed = λ file left. Unit {0};
+  read_well = any_file;
   images = any_images;
   received = any_bytes;
   uncreated = any_file;

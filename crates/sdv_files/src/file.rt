@@ -46,10 +46,13 @@ pub trait Store {
     fn open(&self, file: &str) -> Option<Self::Source>
         ensures given { IfSome result (λ source.
             IfSome (Self.Source.remaining source) (λ bytes. (known self.now).gives file.now bytes)) }
+        ensures streamed { IfSome result
+            (λ source. (known self.now).streamed file.now (Self.Source.remaining source)) }
         ensures unread { result ≡ None → (known self.now).unread file.now };
 
     /// Ends the reading of a file. False where a read failed.
     fn close(&self, file: &str, source: Self::Source) -> bool
+        ensures read { result ≡ true → (known self.now).read_well file.now }
         ensures unread { result ≡ false → (known self.now).unread file.now };
 
     /// Opens a file whose blocks are read and written. None where that cannot be done.

@@ -34,10 +34,10 @@ pub returns-then-close : goal.returns-then-close
 returns-then-close g c =
     let named : kind_named c.args.words.kind.now ≡ Some c.in_ok-kind.kind = search rules in
     audits (of_reader (g.S.Store.known c.args.files.now) (audit_names_of c.args.words) c.in_ok-kind.kind named _ _ _ _ _
-    c.in_ok-reader.ensures.remaining (search rules) c.audit_reader-audited.ensures)
+    c.in_ok-reader.ensures.remaining (search rules) (search rules) c.audit_reader-audited.ensures) (search rules)
 
 pub returns-else-close : goal.returns-else-close
 returns-else-close g c =
     let named : kind_named c.args.words.kind.now ≡ Some c.in_ok-kind.kind = search rules in
     broken_off _ (of_reader (g.S.Store.known c.args.files.now) (audit_names_of c.args.words) c.in_ok-kind.kind named _ _ _ _ _
-    c.in_ok-reader.ensures.remaining (search rules) c.audit_reader-audited.ensures) (refl, search rules)
+    c.in_ok-reader.ensures.remaining (search rules) (search rules) c.audit_reader-audited.ensures) (refl, search rules)
