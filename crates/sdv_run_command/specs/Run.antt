@@ -277,7 +277,7 @@ FailsToKeep files names given image (File file) trace trace' =
 FailsToKeep files names given image fault trace trace' =
     RefusesRun given image (IsUnreadable files names.image) fault × Keeps trace trace'
 
--- the file of the image was closed with the card's blocks, and that of the registers did not take all that it had to
+-- The image's file was closed with the card's blocks. The registers' file did not take all of its bytes.
 pub record IsUnregistered (files : Files) (names : RunNames) (file : Text) (given : Given) (image : CardImage)
     (trace trace' : Option (List ℕ)) : Type 0 where
   pub lost : IsLost given image trace trace'

@@ -140,8 +140,7 @@ pub record ComesOut (files : Files) (names : DriveNames) (outcome : Outcome) (s 
   pub traced : IsTraced files names given outcome out out' s s'
   pub taken : Takes files names.output out out'
 
--- The run took place, and then the file of the trace did not take all that it had to, or it did, and that of the output
--- did not.
+-- The run took place. Then the trace's file did not take all of it, or it did and the output's file did not.
 pub record IsNotKept (files : Files) (names : DriveNames) (file : Text) (s s' : Streams) : Type 0 where
   pub given : Given
   pub are_given : AreGiven files names given
