@@ -15,7 +15,7 @@ use Rattle.sdv_run.specs.declared.next_event.Next.TheVariants as nexts
 use Rattle.sdv_run.specs.declared.next_event.NextEvent.{NextEvent}
 use Rattle.sdv_run.specs.declared.returned.Returned.{Returned}
 use Rattle.sdv_trace.specs.declared.end.End.{End}
-use Rattle.sdv_decode.specs.Decoded.{Misfits, Place, Strays, course_before, line_behind, off_behind, place_after, spot_of, told_with}
+use Rattle.sdv_decode.specs.Decoded.{ComesNext, Misfits, Place, Strays, course_before, line_behind, off_behind, place_after, spot_of, told_with}
 use Rattle.sdv_decode.specs.LineWords.{Spot, announces}
 use Rattle.sdv_decode.specs.Matches.{came_in, given_after, is_end, is_of, register_told, returned_of}
 use Rattle.sdv_decode.specs.Room.{AreTooMany, LacksRoom}
@@ -58,6 +58,22 @@ went_on r r' event line next went kind course app given number at asked =
 -- WHERE A READING STANDS in words
 abbrev pub spot_at : Reading → Spot
 spot_at r = record { graph = r.runner.graph; form = r.form; number = r.number; point = r.runner.stand.point }
+
+-- the line of an event that the run returned
+abbrev comes_next : (r : Reading) (at : Place) → IsAsked r at → (text : Text) (event : NextEvent) (line : TraceLine) (after : Machine)
+    → read_line text ≡ Ok line → Asked r.runner (Ok (nexts.Event event)) → is_of event line ≡ true
+    → Went r.runner (returned_of line (register_told (given_of r) line)) after → ComesNext at text
+comes_next r at asked text event line after read next fits went = record {
+  line = line;
+  read = read;
+  here = r.runner;
+  came = asked.came;
+  event = event;
+  asked = next;
+  fits = fits;
+  after = after;
+  went = subst (λ (given : Option (List ℕ)). Went r.runner (returned_of line (register_told given line)) after) asked.beside.given went;
+}
 
 module _ (r : Reading) (at : Place) (asked : IsAsked r at) (text : Text) (behind : List Text) where
   spot_is : spot_at r ≡ spot_of r.form at r.runner
@@ -110,15 +126,7 @@ module _ (r : Reading) (at : Place) (asked : IsAsked r at) (text : Text) (behind
         (
           at',
           record {
-            line = line;
-            read = read;
-            here = r.runner;
-            came = asked.came;
-            event = event;
-            asked = next;
-            fits = fits;
-            after = went.0;
-            went = subst (λ (given : Option (List ℕ)). Went r.runner (returned_of line (register_told given line)) went.0) asked.beside.given went.1;
+            comes = comes_next r at asked text event line went.0 read next fits went.1;
             leads = refl;
             told = event_line_same (spot_at r) r.app line r'.audit.shapes.items at'.course.shapes (came_in (given_of r) line) stands.beside.course.shapes
                 ∙ (ap (λ (spot : Spot). event_line spot r.app line at'.course.shapes (came_in (given_of r) line)) spot_is
@@ -149,15 +157,7 @@ pub lacks_room : (r : Reading) (at : Place) (event : NextEvent) (line : TraceLin
     → is_of event line ≡ true → LacksRoom at text next
 lacks_room r at event line next next' text crowded same read asked event_next fits =
     let went = subst (λ (n : Option TraceLine). IsCrowded r event line n) same crowded at asked in record {
-      line = line;
-      read = read;
-      here = r.runner;
-      came = asked.came;
-      event = event;
-      asked = event_next;
-      fits = fits;
-      after = went.0;
-      went = subst (λ (given : Option (List ℕ)). Went r.runner (returned_of line (register_told given line)) went.0) asked.beside.given went.1;
+      comes = comes_next r at asked text event line went.0 read event_next fits went.1;
       many = went.2;
     }
 

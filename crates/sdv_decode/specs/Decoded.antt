@@ -84,7 +84,7 @@ spot_of form at here = record { graph = here.graph; form = form; number = at.num
 -- A LINE
 
 -- it is that of the next event of the run, which returned what it tells
-pub record Passes (form : Form) (at : Place) (text : Text) (next : Option TraceLine) (words : Text) (at' : Place) : Type 0 where
+pub record ComesNext (at : Place) (text : Text) : Type 0 where
   pub line : TraceLine
   pub read : read_line text ≡ Ok line
   pub here : Machine
@@ -94,8 +94,12 @@ pub record Passes (form : Form) (at : Place) (text : Text) (next : Option TraceL
   pub fits : is_of event line ≡ true
   pub after : Machine
   pub went : Went here (returned_of line (register_told at.given line)) after
-  pub leads : at' ≡ place_after at after event line next
-  pub told : words ≡ event_line (spot_of form at here) at.app line at'.course.shapes (came_in at.given line)
+
+-- it comes next, these words are told of it, and the reading stands here behind it
+pub record Passes (form : Form) (at : Place) (text : Text) (next : Option TraceLine) (words : Text) (at' : Place) : Type 0 where
+  pub comes : ComesNext at text
+  pub leads : at' ≡ place_after at comes.after comes.event comes.line next
+  pub told : words ≡ event_line (spot_of form at comes.here) at.app comes.line at'.course.shapes (came_in at.given comes.line)
 
 -- it is that of the end of the run
 pub record IsLast (form : Form) (at : Place) (text words : Text) : Type 0 where

@@ -1,5 +1,5 @@
 use Rattle.std.proofs.Common.{◌≡◌, false, true, Ok, Err, refl, rules}
-use Rattle.std.proofs.lemmas.Result.{IfOk-weaker}
+use Rattle.std.proofs.lemmas.Result.{IfErr-weaker, IfOk-weaker}
 use Rattle.sdv_run.specs.Machine.{Asked}
 use Rattle.sdv_run.specs.declared.next_event.Next.TheVariants as nexts
 use Rattle.sdv_decode.specs.Matches.{is_end}
@@ -32,3 +32,11 @@ returns-in-Err-clause-steps c =
     (λ step h. λ at read stands. h at read (asked_on c.args.self.now r at stands c.ask.ensures.came refl refl refl refl))
     (stray_answer r _ c.args.line _ _ _ c.stray-in-Err.result c.stray-in-Err.ensures.words c.stray-in-Err.ensures.step (Err c.in-Err.field-0)
     c.in-Err.ensures.asked c.args.text.now tt)
+
+pub returns-in-Ok-Event-clause-room : goal.returns-in-Ok-Event-clause-room
+returns-in-Ok-Event-clause-room c =
+    let r : Reading = record c.args.self.now { runner = c.ask.new.self } in
+    let next : Asked c.ask.new.self (Ok (nexts.Event c.in-Ok-Event.event)) = search rules in
+    IfErr-weaker c.take_event.result _ _
+    (λ fault h. λ room at read stands. h room at c.args.text.now read (asked_on c.args.self.now r at stands c.ask.ensures.came refl refl refl refl) next)
+    c.take_event.ensures.room
