@@ -1,9 +1,10 @@
--- What is promised of the paths of a graph holds of the runs of its script's text.
+-- What is promised of the paths of a graph holds of the runs of its script, and of each script of the same text.
 use Rattle.std.proofs.Common.{◌≡◌, ℕ, List, sym, subst, ◌∙◌}
 use Rattle.sdv_registers.specs.declared.kind.Kind.{Kind}
 use Rattle.sdv_graph.specs.Graph.{Graph, begin}
 use Rattle.sdv_graph.specs.Moves.{statements_moves}
 use Rattle.sdv_graph.specs.Path.{Path}
+use Rattle.sdv_script.specs.OneGraph.{IsGraphOfScript}
 use Rattle.sdv_script.specs.Script.{Parsed}
 use Rattle.sdv_graph.specs.Tree.{Statements, Declared}
 use Rattle.sdv_graph.specs.Walk.{Walk}
@@ -12,7 +13,7 @@ use Rattle.sdv_script.proofs.ScriptLaws.{one_tree_lem}
 use Rattle.sdv_facts.specs.Facts.{PointFacts}
 use Rattle.sdv_facts.specs.Beside.{RunsEnd, RunsWell}
 use Rattle.sdv_facts.proofs.RunLaws.{same_runs, walks_end}
-use Rattle.sdv_check.specs.Headline.{EachRunOf}
+use Rattle.sdv_check.specs.Headline.{EachRun, EachRunOf}
 use Rattle.sdv_check.specs.Promised.{Promised}
 use Rattle.sdv_check.specs.Verified.{IsGraphOfText}
 
@@ -22,23 +23,34 @@ of_kind k l names body most is runs = subst (λ k. RunsWell k (Walk k names body
 ends_of_kind : (k l : Kind) (names : Declared) (body : Statements) (n m : ℕ) → k ≡ l → n ≡ m → RunsEnd (Walk k names body) n → RunsEnd (Walk l names body) m
 ends_of_kind k l names body n m is same ends = subst (λ m. RunsEnd (Walk l names body) m) same (subst (λ k. RunsEnd (Walk k names body) n) is ends)
 
+-- the walks of a script over its graph are its runs
+pub runs_of_script : (s : Parsed) (g : Graph) (most : ℕ) → IsGraphOfScript s g → RunsWell g.kind (Walk g.kind s.names s.body) most → EachRun s most
+runs_of_script s g most of walks =
+    let k : Kind = s.names.kind in
+    record {
+      runs = of_kind g.kind k s.names s.body most of.kind_same walks;
+      ends =
+          ends_of_kind g.kind k s.names s.body g.steps (statements_moves s.body) of.kind_same of.steps_same
+          (walks_end g s.names s.body of.sound.ends of.walks);
+      faults = λ e es walk. names_fault k s.names s.body e es walk;
+    }
+
+-- a script of the same tree has the same runs
+pub runs_of_tree : (s t : Parsed) (most : ℕ) → (s.names ≡ t.names) × (s.body ≡ t.body) → EachRun s most → EachRun t most
+runs_of_tree s t most tree each = record {
+  runs =
+      subst (λ b. RunsWell t.names.kind (Walk t.names.kind t.names b) most) tree.1
+      (subst (λ (n : Declared). RunsWell n.kind (Walk n.kind n s.body) most) tree.0 each.runs);
+  ends =
+      subst (λ b. RunsEnd (Walk t.names.kind t.names b) (statements_moves b)) tree.1
+      (subst (λ (n : Declared). RunsEnd (Walk n.kind n s.body) (statements_moves s.body)) tree.0 each.ends);
+  faults = λ e es walk. names_fault t.names.kind t.names t.body e es walk;
+}
+
 pub runs_of_text : (text : List ℕ) (g : Graph) (ps : List PointFacts) (most : ℕ) → IsGraphOfText text g → Promised g ps most → EachRunOf text most
 runs_of_text text g ps most of promised s same is_script =
     let t : Parsed = of.script in
-    let k : Kind = t.names.kind in
     let tree = one_tree_lem t s of.is_script is_script (of.same ∙ sym same) in
     let walks : RunsWell g.kind (Walk g.kind t.names t.body) most =
     same_runs g.kind (Walk g.kind t.names t.body) (λ e es. Path g.kind g.points e (begin g) es) most of.graph.walks promised.runs in
-    let own : RunsWell k (Walk k t.names t.body) most = of_kind g.kind k t.names t.body most of.graph.kind_same walks in
-    let over : RunsEnd (Walk k t.names t.body) (statements_moves t.body) =
-    ends_of_kind g.kind k t.names t.body g.steps (statements_moves t.body) of.graph.kind_same of.graph.steps_same
-    (walks_end g t.names t.body of.graph.sound.ends of.graph.walks) in
-    record {
-      runs =
-          subst (λ b. RunsWell s.names.kind (Walk s.names.kind s.names b) most) tree.1
-          (subst (λ (n : Declared). RunsWell n.kind (Walk n.kind n t.body) most) tree.0 own);
-      ends =
-          subst (λ b. RunsEnd (Walk s.names.kind s.names b) (statements_moves b)) tree.1
-          (subst (λ (n : Declared). RunsEnd (Walk n.kind n t.body) (statements_moves t.body)) tree.0 over);
-      faults = λ e es walk. names_fault s.names.kind s.names s.body e es walk;
-    }
+    runs_of_tree t s most tree (runs_of_script t g most of.graph walks)
