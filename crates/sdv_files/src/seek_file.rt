@@ -40,7 +40,7 @@ impl<F: Read + Write + Seek + Drop> SeekFile<F> {
     }
 
     /// Ends what was written to it.
-    pub fn close(self) -> io::Result<()> {
+    pub(crate) fn close(self) -> io::Result<()> {
         let mut file = self.file;
         file.flush()
     }

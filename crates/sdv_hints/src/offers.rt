@@ -144,7 +144,7 @@ fn try_numbers(
 }
 
 /// What can follow a front, by a script that declares these names.
-pub fn offers_at<'a>(
+pub(crate) fn offers_at<'a>(
     alloc: Global,
     front: &Front<'_>,
     names: &[&'a str],

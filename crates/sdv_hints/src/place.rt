@@ -80,7 +80,7 @@ fn spots_of(alloc: Global, line: &str) -> Result<Vec<Spot>, AllocError> {
 
 /// Where the parser stops in the line that follows a front: before the first token behind which it does not go on, or
 /// at the end of the line.
-pub fn stop_in(alloc: Global, before: &Front<'_>, line: &[u8]) -> Result<Spot, AllocError> {
+pub(crate) fn stop_in(alloc: Global, before: &Front<'_>, line: &[u8]) -> Result<Spot, AllocError> {
     let len = without_return(line).len();
     let end = Spot {
         start: len,

@@ -15,7 +15,7 @@ pub struct Front<'a> {
 
 /// The parser stops on the line or before it, if a word and a line feed follow the front. Behind these the text ends on
 /// the next line: a fault there says that the parser wants more.
-pub fn stops(alloc: Global, front: &Front<'_>, word: &str) -> Result<bool, AllocError> {
+pub(crate) fn stops(alloc: Global, front: &Front<'_>, word: &str) -> Result<bool, AllocError> {
     let mut tried = Vec::from_slice(alloc, front.text)?;
     if !word.is_empty() {
         tried.push(b' ')?;
