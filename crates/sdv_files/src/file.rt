@@ -1,5 +1,5 @@
 //! Files by their names: their texts and bytes, what is written to them, and images that they hold.
-ghost use Rattle.std.specs.Prelude.{◌≡◌, ◌^◌, ◌≤◌, ◌⊎◌, codes, length, not, List, ℕ, Err, IfErr, IfOk, IfSome, None, string_bytes, false, true};
+ghost use Rattle.std.specs.Prelude.{◌≡◌, ◌≤◌, ◌⊎◌, codes, length, not, List, ℕ, Err, IfErr, IfOk, IfSome, None, string_bytes, false, true};
 ghost use Rattle.std.specs.Io.KnownBytes.{Appends};
 ghost use Rattle.sdv_files.specs.Files.{Files as KnownFiles, GivesNoText, SomeCallFailed, image_of};
 

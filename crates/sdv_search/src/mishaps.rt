@@ -180,7 +180,7 @@ fn put_line_front(text: &mut Text, graph: &Graph<'_>, point: usize) -> Result<()
     }
 }
 
-/// Adds the event of a mishap, and what becomes of it.
+/// Adds the event of a mishap with what becomes of it.
 fn put_event(text: &mut Text, mishap: &Mishap) -> Result<(), AllocError>
     ensures { OnOk result (text.new.items ≡ text.old.items
         ++ (words_before mishap.now.behavior ++ (event_name mishap.now.next ++ words_after mishap.now.behavior))) }
