@@ -77,8 +77,8 @@ Errors in a status, a phase that was cut, and a wait.
   $ printf 'CMD0 00000000 -\nCMD13 00000000 R1 ffffffff\nIN 0 cut\nWAIT late\nfault stop\n' | sdv decode odd.sdv -
   line 1, script line 2: CMD0 00000000 -: no answer is due
   line 2, script line 3: CMD13 00000000 R1 ffffffff: reserved state, OUT_OF_RANGE, ADDRESS_ERROR, BLOCK_LEN_ERROR, ERASE_SEQ_ERROR, ERASE_PARAM, WP_VIOLATION, CARD_IS_LOCKED, LOCK_UNLOCK_FAILED, COM_CRC_ERROR, ILLEGAL_COMMAND, CARD_ECC_FAILED, CC_ERROR, ERROR, CSD_OVERWRITE, WP_ERASE_SKIP, ERASE_RESET, ready, SWITCH_ERROR, APP_CMD
-  line 3, script line 4: IN 0 cut: blocks from the card, cut: no card answers so
-  line 4, script line 5: WAIT late: still busy: no card answers so
+  line 3, script line 4: IN 0 cut: blocks from the card, cut: the tables have no such answer here
+  line 4, script line 5: WAIT late: still busy: the tables have no such answer here
   line 5, script line 6: fault stop: the run ends
 
 A trace may end before the run does.
@@ -188,13 +188,13 @@ Each line of a trace has a row: commands and answers, registers, a wait, and wha
   <text x="4" y="3.4" font-size="2.4">script line 4</text><text x="4" y="7" font-size="2" fill="gray">trace line 3</text>
   <path d="M110 6H77" stroke="steelblue" stroke-width="1.6"/><path d="M73 4l4 4m0 -4l-4 4" stroke="firebrick" stroke-width="0.5"/>
   <text x="75" y="2.8" text-anchor="middle" font-size="2.8">IN 0 cut</text>
-  <text x="124" y="5.6" font-size="2.8">blocks from the card, cut: no card answers so</text>
+  <text x="124" y="5.6" font-size="2.8">blocks from the card, cut: the tables have no such answer here</text>
   </g>
   <g transform="translate(0 40)">
   <text x="4" y="3.4" font-size="2.4">script line 5</text><text x="4" y="7" font-size="2" fill="gray">trace line 4</text>
   <rect x="100" y="1.6" width="20" height="6" fill="mistyrose" stroke="firebrick" stroke-width="0.4"/>
   <text x="110" y="5.6" text-anchor="middle" font-size="2.8">WAIT late</text>
-  <text x="124" y="5.6" font-size="2.8">still busy: no card answers so</text>
+  <text x="124" y="5.6" font-size="2.8">still busy: the tables have no such answer here</text>
   </g>
   <g transform="translate(0 50)">
   <text x="4" y="3.4" font-size="2.4">script line 6</text><text x="4" y="7" font-size="2" fill="gray">trace line 5</text>

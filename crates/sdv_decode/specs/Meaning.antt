@@ -105,7 +105,7 @@ reply_words k index (R7 word) = echo_words word
 -- WHAT IS LEFT OPEN: the states in which a card may be that answered so
 
 abbrev pub open_words : List Shape → Text
-open_words [] = codes "no card answers so"
+open_words [] = codes "the tables have no such answer here"
 open_words shapes = codes "the card may be " ++ standing_words shapes
 
 abbrev pub answer_meaning : Kind → (index : ℕ) → Answer → List Shape → Text

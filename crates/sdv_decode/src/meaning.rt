@@ -207,7 +207,7 @@ fn put_open(text: &mut Text, shapes: &[Shape]) -> Result<(), AllocError>
     ensures { OnOk result (text.new.items ≡ text.old.items ++ open_words shapes.now) }
 {
     if shapes.is_empty() {
-        return put(text, "no card answers so");
+        return put(text, "the tables have no such answer here");
     }
     put(text, "the card may be ")?;
     put_standing(text, shapes)
