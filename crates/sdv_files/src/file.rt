@@ -142,6 +142,7 @@ impl<'a, R: Files> Store for MachineFiles<'a, R> {
     // By what the file system says of them; of files that are yet to be made, by their folders and names. A pipe or a
     // terminal loses nothing by being written.
     fn is_same(&self, a: &str, b: &str) -> bool {
+        let (a, b) = (path_of(a), path_of(b));
         match (fs::metadata(self.0, a), fs::metadata(self.0, b)) {
             (Ok(a), Ok(b)) => keeps_bytes(&a) && is_same_node(&a, &b),
             (Err(_), Err(_)) => a == b || is_same_entry(self.0, Path::new(a), Path::new(b)),

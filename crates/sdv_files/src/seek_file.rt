@@ -47,7 +47,8 @@ impl<F: Read + Write + Seek + Drop> SeekFile<F> {
 }
 
 fn seek<F: Seek>(file: &mut F, place: SeekFrom) -> io::Result<u64>
-    ensures { SeekMoves (F.stream_position file.old) (F.stream_position file.new) (F.stream_bytes file.old) place result }
+    ensures { SeekMoves (F.stream_position file.old) (F.stream_position file.new) (F.stream_bytes file.old) place
+        result }
 {
     file.seek(place)
 }
