@@ -14,7 +14,7 @@ Explanations of scripts in files.
       mishap   none
       wrong    line 1: CMD7 comes to a card in idle state, where it is not legal
       `sdv refute` prints its card, its schedule and its trace
-  a run that gets there:
+  a way there:
       before the first command    idle: byte addresses, block length not 512
   
   line 1, point 0: CMD7   (at most 1 command)
@@ -184,7 +184,7 @@ A run that breaks the script, behind the reason and before the way. Such a run m
       wrong    line 31: done comes to a card in prg state
       `sdv refute` prints its card, its schedule and its trace
       it stops at point 46, and the refusal names point 6
-  a run that gets there:
+  a way there:
   $ sdv refute $EXAMPLES/hosts/edk2.sdv | sed -n '/^mishaps/,/^card/p'
   mishaps
   none
@@ -196,14 +196,14 @@ Where none is found, nothing is added; nor where a run may be long, or where the
 
   $ sdv explain --why $EXAMPLES/hosts/linux_write.sdv 2> said | sed -n '4,5p'
   why: CMD12 is not legal in prg state
-  a run that gets there, if its number tests come out this way:
+  a way there, if its number tests come out so:
   $ printf 'card sd\nsend 0 { else { } } loop 60 { loop 65535 { loop 65535 { send 0 { else { } } } else { } } else { } } else { }\ndone' > long.sdv
   $ sdv explain --why long.sdv
   refused EndState point 5
   line 3, point 5: done, if the card is
       idle: byte addresses, block length not 512
   why: at done the card has to be in tran state; CMD12 ends a transfer, and a wait the busy time
-  a run that gets there:
+  a way there:
       before the first command    idle: byte addresses, block length not 512
       line 2   CMD0                    -                                    then idle: byte addresses, block length not 512
       line 2   loop 60, after its last turn

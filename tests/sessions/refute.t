@@ -184,7 +184,7 @@ Runs may be long, or each may take much memory. The search counts that, and ends
       mishap   line 14: CMD13 is lost
       wrong    line 14: CMD25 comes to a card in tran state, which has not so many blocks
       `sdv refute` prints its card, its schedule and its trace
-  a run that gets there:
+  a way there:
   $ (sed '/^done$/d' $EXAMPLES/sd_bring_up.sdv; printf 'loop 65535 { send 18 at by hc 0 count 256 { clean { recv { ok { } else { fault cut } } } else { fault unread } } send 12 { clean { } else { fault unstopped } } } else { }\nsend 2 { else { } }\ndone\n') > blocks.sdv; timeout 9 sdv refute blocks.sdv
   no run found (485 runs of at most 2001 mishaps)
   [1]

@@ -96,12 +96,9 @@ pub fn put_way(text: &mut Text, graph: &Graph<'_>, way: &[Visit]) -> Result<(), 
         return Ok(());
     };
     if way.iter().any(|visit| tests_at(graph, visit)) {
-        put(
-            text,
-            "a run that gets there, if its number tests come out this way:\n",
-        )?;
+        put(text, "a way there, if its number tests come out so:\n")?;
     } else {
-        put(text, "a run that gets there:\n")?;
+        put(text, "a way there:\n")?;
     }
     put(text, "    before the first command    ")?;
     put_shape(text, first.shape, &graph.names().flags)?;
