@@ -45,7 +45,7 @@ struct sdv_state {
 /* Begins a run.  1, or 0 where the words have not the magic, the version and the size of a table. */
 int sdv_start(const uint32_t *table, size_t words, struct sdv_state *s);
 
-/* What the host does next; statements without an event are gone through.  Asked again, it answers the same. */
+/* What the host does next; statements without an event are passed.  Asked again, it answers the same. */
 uint32_t sdv_next(const uint32_t *table, size_t words, struct sdv_state *s, struct sdv_event *e);
 
 /* What came of the command that sdv_next asked for: `reply` of enum sdv_reply, `word` the 32 bits of an R1, R3, R6 or R7,

@@ -58,7 +58,7 @@ fn line_streams(rt: &HostRuntime) -> io::Result<(BufReader<Stdin>, BufWriter<Std
     Ok((reader, writer))
 }
 
-// The words of the process, of which no clause of the standard library says anything.
+// The words of the process. No clause of the standard library says which they are.
 fn words_of<R: Env + AllocGlobal>(rt: &R) -> io::Result<Vec<String>> {
     Ok(std::env::args(rt)?.collect(rt.alloc())?)
 }

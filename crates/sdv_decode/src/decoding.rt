@@ -40,7 +40,8 @@ pub fn decode(
     given: Option<&[u8]>,
     form: Form,
 ) -> Result<Decoding, DecodeFault>
-    ensures decoded { IfOk result (DecodesText script.now form (option_map (λ bytes. bytes.now) given.entry) trace.now) }
+    ensures decoded { IfOk result
+        (DecodesText script.now form (option_map (λ bytes. bytes.now) given.entry) trace.now) }
     ensures refused { IfErr result
         (IsUndecoded script.now form (option_map (λ bytes. bytes.now) given.entry) trace.now) }
 {

@@ -52,7 +52,7 @@ pub struct Certificate {
 }
 
 impl Drop for Certificate {
-    // One call where a certificate is let go: the proofs of those who do need not go through its parts.
+    // A caller that drops a certificate then reuses one proved `drop`.
     fn drop(self) {
         let Certificate {
             version: _,

@@ -36,7 +36,7 @@ pub struct Numbers {
 }
 
 impl Drop for Numbers {
-    // One call where bounds are let go: the proofs of those who do need not go through its parts.
+    // A caller that drops bounds then reuses one proved `drop`.
     fn drop(self) {
         let Numbers {
             m: _,

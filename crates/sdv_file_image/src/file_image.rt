@@ -24,7 +24,7 @@ pub struct FileImage<F: BlockFile> {
 }
 
 impl<F: BlockFile + Drop> Drop for FileImage<F> {
-    // One call where an image is let go: the proofs of those who do need not go through its parts.
+    // A caller that drops an image then reuses one proved `drop`.
     fn drop(self) {
         let FileImage {
             file: _file,

@@ -29,7 +29,7 @@ pub extern "C" fn sdv_start(table: &[u32], state: &mut State) -> i32
     i32::from(start(table, state))
 }
 
-/// What the host does next; statements without an event are gone through. Asked again, it answers the same.
+/// What the host does next; statements without an event are passed. Asked again, it answers the same.
 #[unsafe(no_mangle)]
 pub extern "C" fn sdv_next(table: &[u32], state: &mut State, event: &mut Event) -> u32
     ensures says { (said : Next) × Advances table.now state.old state.new said

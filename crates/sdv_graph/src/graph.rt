@@ -52,7 +52,7 @@ pub enum Action<'a> {
 }
 
 impl Drop for Action<'_> {
-    // One call where an action is let go: the proofs of those who do need not go through its cases.
+    // A caller that drops an action then reuses one proved `drop`.
     fn drop(self) {
         match self {
             Action::Send(_, _cases, _) => {}
@@ -98,7 +98,7 @@ pub struct Graph<'a> {
 }
 
 impl Drop for Graph<'_> {
-    // One call where a graph is let go: the proofs of those who do need not go through its parts.
+    // A caller that drops a graph then reuses one proved `drop`.
     fn drop(self) {
         let Graph {
             names: _names,

@@ -54,8 +54,8 @@ pub enum Stmt<'a> {
     Fault(&'a str),
 }
 
-// One call where a part of the tree is let go: the proofs of those who do need not go through the tree. Rows of
-// statements and of cases are let go by loops, since a text of the size limit may have too many for a recursion.
+// A caller that drops a part of the tree then reuses one proved `drop`. Loops drop rows of statements and of cases, since a
+// text of the size limit may have too many of them for a recursion.
 impl Drop for Block<'_> {
     #[cycle(tree)]
     fn drop(self) {

@@ -17,7 +17,7 @@ pub enum SimFault {
     /// The first block of the image could not be read.
     #[error("the image cannot be read")]
     ImageRead,
-    /// Memory is wanting.
+    /// Memory ran out.
     #[error("out of memory")]
     Memory,
 }

@@ -4,8 +4,9 @@ ghost use Rattle.sdv_lines.specs.Partner.{ShowsOtherCard};
 
 use sdv_card::CardPort;
 
-/// Where the other side of the lines makes each call of a request once, by a port that shows a card, and its answers
-/// tell what that gave, a port of lines shows that card: its calls are steps of the card.
+/// Where the other side of the lines makes each call of a request once, by a port that shows a card, and its answers tell what
+/// that gave, a port of lines shows that card: each call is a step of the card, if its event is legal there and in bounds, a host
+/// beside the card makes it, and the transfer that is due lies on the card.
 pub fn shows_the_card_of_the_other_side<P: CardPort>()
     ensures { ShowsOtherCard P.steps P.card }
 {}

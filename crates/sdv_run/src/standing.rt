@@ -22,7 +22,7 @@ pub struct Standing {
 }
 
 impl Drop for Standing {
-    // One call where a run ends: the proofs of those who end one need not go through its parts.
+    // A caller that ends a run then reuses one proved `drop`.
     fn drop(self) {
         let Standing {
             point: _,

@@ -26,7 +26,7 @@ pub struct Given {
 }
 
 impl Drop for Given {
-    // One call where what a run is given is let go: the proofs of those who do need not go through its parts.
+    // A caller that drops what a run is given then reuses one proved `drop`.
     fn drop(self) {
         let Given {
             script: _script,

@@ -18,7 +18,8 @@ pub struct RegisterSink<R> {
 impl<R: Write> RegisterSink<R> {
     /// Writes the bytes of a register.
     fn take(&mut self, bytes: &[u8])
-        ensures { TakesMore self.old.has_failed (taken_of R.contents self.old) (taken_of R.contents self.new) bytes.now }
+        ensures { TakesMore self.old.has_failed (taken_of R.contents self.old) (taken_of R.contents self.new)
+            bytes.now }
     {
         if self.has_failed {
             return;
@@ -81,8 +82,8 @@ impl<P: CardPort, R: Write> CardPort for RegisterPort<P, R> {
     ghost use Rattle.sdv_card.proofs.PortLaws.{keeps_by_part};
     ghost use Rattle.sdv_run_command.specs.Registers.{RegisterSteps, port_of, sink_of, taken_of};
 
-    ghost steps = { λ p call returned p'. RegisterSteps P.steps (port_of p) (taken_of R.contents (sink_of p)) call returned
-        (port_of p') (taken_of R.contents (sink_of p')) };
+    ghost steps = { λ p call returned p'. RegisterSteps P.steps (port_of p) (taken_of R.contents (sink_of p)) call
+        returned (port_of p') (taken_of R.contents (sink_of p')) };
 
     ghost card = { λ p. P.card (port_of p) };
 

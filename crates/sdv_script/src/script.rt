@@ -28,7 +28,7 @@ pub struct Script<'a> {
 }
 
 impl Drop for Script<'_> {
-    // One call where a script is let go: the proofs of those who do need not go through its parts.
+    // A caller that drops a script then reuses one proved `drop`.
     fn drop(self) {
         let Script {
             text: _,

@@ -18,7 +18,7 @@ pub struct Sim<I: Image> {
 }
 
 impl<I: Image + Drop> Drop for Sim<I> {
-    // One call where a card is let go: the proofs of those who do need not go through its parts.
+    // A caller that drops a card then reuses one proved `drop`.
     fn drop(self) {
         let Sim {
             desc: _,

@@ -24,7 +24,7 @@ pub struct Counts {
 }
 
 impl Drop for Counts {
-    // One call where counts are let go: the proofs of those who do need not go through its parts.
+    // A caller that drops counts then reuses one proved `drop`.
     fn drop(self) {
         let Counts {
             names: _names,

@@ -54,7 +54,7 @@ pub struct Served {
 }
 
 impl Drop for Served {
-    // One call where it is let go: the proofs of those who do need not go through its parts.
+    // A caller that drops it then reuses one proved `drop`.
     fn drop(self) {
         let Served {
             end: _,

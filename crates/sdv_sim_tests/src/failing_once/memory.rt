@@ -1,4 +1,4 @@
-//! Rows of which any allocation may be refused: each call then answers that memory is wanting, and no run has begun.
+//! Rows of which any allocation may be refused: each call then answers that memory ran out, and no run has begun.
 //!
 //! With ample memory each row is right. The script `.ci/each-allocation` runs the test once for each of its
 //! allocations, which is refused then, so that one row at most is without an answer.
@@ -29,7 +29,7 @@ use std::test::Fail;
 /// Why a row has no answer.
 #[derive(Clone, Copy)]
 enum Stopped {
-    /// A call answered that memory is wanting.
+    /// A call answered that memory ran out.
     Memory,
     /// Something else came than what is right.
     Wrong(&'static str),
@@ -429,7 +429,7 @@ fn found(alloc: Global, row: Row) -> Result<(), Stopped> {
     }
 }
 
-/// Each row is right, but for one where memory is wanting.
+/// Each row is right, but for one where memory ran out.
 #[test]
 fn one_allocation_is_refused(rt: HostRuntime) -> Result<(), Fail> {
     let mut refused: u8 = 0;

@@ -31,7 +31,7 @@ pub struct Outcome {
 }
 
 impl Drop for Outcome {
-    // One call where it is let go: the proofs of those who do need not go through its parts.
+    // A caller that drops it then reuses one proved `drop`.
     fn drop(self) {
         let Outcome {
             end: _end,
