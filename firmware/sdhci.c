@@ -34,7 +34,7 @@ enum { /* of the present state */
 
 enum { COMMAND_COMPLETE = 1u << 0, TRANSFER_COMPLETE = 1u << 1, ERROR_INTERRUPT = 1u << 15 };
 enum { COMMAND_CRC = 1u << 1, COMMAND_END_BIT = 1u << 2, COMMAND_INDEX = 1u << 3 };
-enum { READ_TRANSFER = 1u << 4, SEVERAL_BLOCKS = 1u << 5 };
+enum { COUNT_BLOCKS = 1u << 1, READ_TRANSFER = 1u << 4, SEVERAL_BLOCKS = 1u << 5 };
 enum { RESPONSE_136 = 1, RESPONSE_48 = 2, RESPONSE_48_BUSY = 3, CHECK_CRC = 1u << 3, CHECK_INDEX = 1u << 4, DATA_PRESENT = 1u << 5 };
 enum { ABORT_COMMAND = 3u << 6 };
 
@@ -42,7 +42,7 @@ enum { ABORT_COMMAND = 3u << 6 };
 enum { READS = 1000000 };
 
 static bool data_open;  /* a command announced data, and its phase has not ended */
-static bool open_ended; /* its phase ends when the host stops it */
+static bool open_ended; /* the controller does not know how many blocks it has, and cannot tell its end */
 
 /* Waits until (value of the register & mask) == wanted. */
 static bool await(unsigned size, uint32_t offset, uint32_t mask, uint32_t wanted)
@@ -105,17 +105,27 @@ static uint32_t response_bits(enum sdhci_response response, bool busy)
     }
 }
 
+/* The mode of the transfer that the command begins, section 2.2.5. The caller sends CMD12, and the controller none by itself. */
+static uint32_t transfer_mode(const struct sdhci_command *command)
+{
+    uint32_t mode = command->data.direction == SDHCI_TO_HOST ? READ_TRANSFER : 0;
+
+    if (command->index == 18 || command->index == 25)
+        mode |= SEVERAL_BLOCKS | (command->data.blocks != 0 ? COUNT_BLOCKS : 0u);
+    return mode;
+}
+
 /* Tells the controller of the data that follow. */
-static void prepare(const struct sdhci_data *data)
+static void prepare(const struct sdhci_command *command)
 {
     uint32_t mode = 0;
 
-    if (data->direction != SDHCI_NO_DATA) {
-        sdhci_register_write(2, BLOCK_SIZE, data->block_bytes);
-        sdhci_register_write(2, BLOCK_COUNT, 1);
-        mode = (data->direction == SDHCI_TO_HOST ? READ_TRANSFER : 0u) | (data->open_ended ? SEVERAL_BLOCKS : 0u);
+    if (command->data.direction != SDHCI_NO_DATA) {
+        mode = transfer_mode(command);
+        sdhci_register_write(2, BLOCK_SIZE, command->data.block_bytes);
+        sdhci_register_write(2, BLOCK_COUNT, mode & COUNT_BLOCKS ? command->data.blocks : 1);
         data_open = true;
-        open_ended = data->open_ended;
+        open_ended = (mode & SEVERAL_BLOCKS) && !(mode & COUNT_BLOCKS);
     }
     sdhci_register_write(2, TRANSFER_MODE, mode);
 }
@@ -168,7 +178,7 @@ void sdhci_exchange(const struct sdhci_command *command, struct sdhci_answer *an
     (void)await(4, PRESENT_STATE, COMMAND_INHIBIT, 0);
     sdhci_register_write(2, NORMAL_STATUS, 0xFFFF);
     sdhci_register_write(2, ERROR_STATUS, 0xFFFF);
-    prepare(&command->data);
+    prepare(command);
     if (command->data.direction != SDHCI_NO_DATA)
         bits |= DATA_PRESENT;
     if (command->index == 12)
@@ -199,8 +209,8 @@ static bool end_phase(void)
 {
     uint32_t reads;
 
-    if (open_ended) /* no block count is set, so the controller cannot tell the end; CMD12 follows */
-        return true;
+    if (open_ended) /* CMD12 follows */
+        return !(sdhci_register_read(2, NORMAL_STATUS) & ERROR_INTERRUPT);
     for (reads = 0; reads < READS; reads++) {
         uint32_t status = sdhci_register_read(2, NORMAL_STATUS);
 

@@ -23,7 +23,12 @@ enum sdhci_response { SDHCI_NONE = 0, SDHCI_R1 = 1, SDHCI_R2 = 2, SDHCI_R3 = 3, 
 struct sdhci_data {
     enum { SDHCI_NO_DATA, SDHCI_TO_HOST, SDHCI_TO_CARD } direction;
     uint32_t block_bytes; /* bytes of a block: 512, or the length of a register */
-    bool open_ended;      /* CMD18 and CMD25: the transfer goes on until CMD12 */
+    /*
+     * How many blocks there will be, at most 65535; the controller then says when the last one is through. 0 where CMD18 or CMD25 is
+     * sent before that is known: the transfer goes on until CMD12, and a phase ends when its last block is in the controller's buffer
+     * (CMD25) or was taken from it (CMD18). That serves a controller that moves each block at once, as an emulated one.
+     */
+    uint32_t blocks;
 };
 
 struct sdhci_command {
@@ -45,7 +50,7 @@ struct sdhci_answer {
 /* Resets the controller, turns on power at 3.3 V and the slowest clock. False where no card is there or the clock stays off. */
 bool sdhci_start(void);
 
-/* The data lines of the phases that follow: 1, 4 or 8. */
+/* The data lines of the phases that follow: 1, 4 or 8. Set before the command of a phase: its data may come right behind the response. */
 void sdhci_set_lines(uint32_t lines);
 
 /* Sends a command, and waits for its response. A data phase that an earlier command left open is given up before it. */

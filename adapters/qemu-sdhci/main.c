@@ -173,16 +173,16 @@ static void read_block(uint8_t *block)
     }
 }
 
-/* The data that follow a command: by its index, and for 13 and 51 by the application flag of the card. */
+/* The data that follow a command: by its index, and for 13 and 51 by the application flag of the card. How many blocks there will be
+ * comes with the phase. */
 static struct sdhci_data data_of(uint32_t index, bool application)
 {
-    struct sdhci_data data = {SDHCI_NO_DATA, 512, false};
+    struct sdhci_data data = {SDHCI_NO_DATA, 512, 0};
 
     if (index == 17 || index == 18)
         data.direction = SDHCI_TO_HOST;
     if (index == 24 || index == 25)
         data.direction = SDHCI_TO_CARD;
-    data.open_ended = index == 18 || index == 25;
     if (application && (index == 13 || index == 51)) {
         data.direction = SDHCI_TO_HOST;
         data.block_bytes = index == 13 ? 64 : 8;
@@ -209,6 +209,8 @@ static bool answer_command(const char *line)
     command.busy = command.index == 7 || command.index == 12 || command.index == 38;
     command.data = data_of(command.index, application);
     sdhci_exchange(&command, &answer);
+    if (application && command.index == 6 && answer.outcome == SDHCI_ANSWERED)
+        sdhci_set_lines(command.argument == 2 ? 4 : 1);
     application = command.index == 55 && answer.outcome == SDHCI_ANSWERED && answer.word >> 5 & 1;
     switch (answer.outcome) {
     case SDHCI_SENT:
@@ -234,9 +236,14 @@ static bool answer_command(const char *line)
 static void answer_phase(const char *word, uint32_t count, uint32_t lines)
 {
     uint32_t block_bytes = strcmp(word, "REG") == 0 ? count : 512, blocks = strcmp(word, "REG") == 0 ? 1 : count, i;
-    uint8_t *bytes = malloc((size_t)blocks * block_bytes + 4);
+    uint8_t *bytes;
     bool ended;
 
+    if (count == 0) { /* nothing crosses the data lines */
+        puts("ok");
+        return;
+    }
+    bytes = malloc((size_t)blocks * block_bytes + 4);
     if (!bytes)
         fail("out of memory");
     sdhci_set_lines(lines);
@@ -267,7 +274,7 @@ static void serve(void)
             return;
         if (strcmp(line, "WAIT") == 0)
             puts(sdhci_await_ready() ? "ok" : "late");
-        else if (sscanf(line, "%3[INREGOUT] %" SCNu32 " lines %" SCNu32, word, &count, &lines) == 3 && count > 0 && count <= 65535)
+        else if (sscanf(line, "%3[INREGOUT] %" SCNu32 " lines %" SCNu32, word, &count, &lines) == 3 && count <= 65535)
             answer_phase(word, count, lines);
         else if (!answer_command(line))
             fail("a line is no request");

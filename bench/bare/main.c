@@ -131,14 +131,15 @@ static int exchange(struct sdv_state *state, const struct sdv_event *event)
     static const uint32_t replies[] = {SDV_SENT, SDV_REPLY, SDV_TIMEOUT, SDV_DAMAGED};
     struct sdhci_answer answer;
     struct sdhci_command command = {event->index, event->argument, (enum sdhci_response)event->expect, event->data == SDV_BUSY,
-                                    {SDHCI_NO_DATA, 512, event->index == 18 || event->index == 25}};
+                                    {SDHCI_NO_DATA, 512, event->count}};
 
     if (event->data == SDV_BLOCKS_OUT)
         command.data.direction = SDHCI_TO_CARD;
     else if (event->data == SDV_BLOCKS_IN || event->data == SDV_REGISTER)
         command.data.direction = SDHCI_TO_HOST;
     if (event->data == SDV_REGISTER)
-        command.data.block_bytes = event->count;
+        command.data.block_bytes = event->count, command.data.blocks = 1;
+    sdhci_set_lines(event->lines);
     sdhci_exchange(&command, &answer);
     put_exchange(event, &answer);
     return sdv_answer(table, table_words, state, replies[answer.outcome], answer.word, answer.contents);
@@ -168,7 +169,6 @@ static int phase(struct sdv_state *state, const struct sdv_event *event)
 {
     bool well;
 
-    sdhci_set_lines(event->lines);
     if (event->what != SDV_WAIT && event->what != SDV_REG_IN && event->count > MOST_BLOCKS)
         return 0;
     switch (event->what) {
