@@ -106,4 +106,6 @@ echo "qemu: $passed ended as beside the simulated card, $played were played with
 echo
 echo "the player in C on the board virt, without an operating system:"
 sh "$top/bench/bare.sh" || failed=$((failed + 1))
+echo "the player in Rattle on that board:"
+PROVED=1 sh "$top/bench/bare.sh" || failed=$((failed + 1))
 [ "$failed" -eq 0 ]

@@ -10,4 +10,8 @@ cd "$top/crates/sdv_firmware"
 for processor in aarch64 x86_64; do
     rt lib --target "$processor-unknown-linux-gnu"
     cp out/libsdv_firmware.a "$out/libsdv_$processor.a"
+    if nm -u "$out/libsdv_$processor.a" | grep ' U '; then
+        echo "libsdv_$processor.a needs these symbols from outside" >&2
+        exit 1
+    fi
 done
