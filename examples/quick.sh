@@ -2,7 +2,8 @@
 # sh examples/quick.sh [SCRIPT]
 #
 # A first look, in about two minutes on a new machine. It compiles the program without proving anything, and shows a script
-# that is refused, with the reason; the script with the mend, which is accepted; and a run of it beside a simulated card.
+# that is refused, with the reason; the script with the mend, which gets a certificate and is accepted; and a run of it beside a
+# simulated card.
 # With SCRIPT it tells of that script instead: why it is refused, a run that breaks it, or what it leaves open.
 # `make build` proves the program.
 set -eu
@@ -61,12 +62,15 @@ if [ $# -gt 0 ]; then
 fi
 
 words 1 explain "--why refused_block_address.sdv"
-words 2 check "mended.sdv mended.cert"
-words 3 run "mended.sdv mended.cert sd_byte.card new:16"
+words 2 certify mended.sdv
+words 3 check "mended.sdv mended.cert"
+words 4 run "mended.sdv mended.cert sd_byte.card new:16"
 sed 's/at block 8/at by hc 8/' "$top/examples/refused_block_address.sdv" > "$mended"
 run_cases --data mended.sdv="$mended" --data mended.cert="$top/examples/quick/mended.cert" \
     --data refused_block_address.sdv="$top/examples/refused_block_address.sdv" --data sd_byte.card="$top/examples/sd_byte.card"
-part 3 | grep -q '^done$' || { cat "$cases/said"; exit 1; }
+part 4 | grep -q '^done$' || { cat "$cases/said"; exit 1; }
+# the calls cannot hand files to one another, so those behind certify have the certificate that stands here
+part 2 | cmp -s - "$top/examples/quick/mended.cert" || { echo "certify writes another certificate than examples/quick/mended.cert"; exit 1; }
 
 echo
 echo "A read of block 8 by its number, whatever unit the card's addresses have, is refused:"
@@ -75,11 +79,12 @@ part 1 | sed -n '/^refused/,$p' | sed '$d; s/^/    /'
 echo
 echo "With 'at by hc 8' the unit is that of the card, and the script is accepted: no run of it sends more than 2,008 commands."
 echo "  sed 's/at block 8/at by hc 8/' examples/refused_block_address.sdv > mended.sdv"
-echo "  sdv check mended.sdv examples/quick/mended.cert"
-shown 2
+echo "  sdv certify mended.sdv > mended.cert"
+echo "  sdv check mended.sdv mended.cert"
+shown 3
 echo
 echo "It runs beside a simulated card of 16 blocks with byte addresses, and reads block 8 at byte 4096, which is 1000 in hexadecimal:"
-echo "  sdv run mended.sdv examples/quick/mended.cert examples/sd_byte.card new:16"
-shown 3
+echo "  sdv run mended.sdv mended.cert examples/sd_byte.card new:16"
+shown 4
 echo
 echo "Nothing was proved. 'make build' proves the program and leaves it as crates/sdv/out/sdv."
