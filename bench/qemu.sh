@@ -6,7 +6,8 @@
 # over the same controller and a fresh card, and has to have the trace of `sdv drive`, to the letter.
 #
 # It installs qemu-system-x86 with apt-get where it is not there. At its end it prints how the answers of the two cards differ,
-# and why, and runs bench/bare.sh: the player in C on QEMU's board virt, without an operating system.
+# and why, and runs bench/bare.sh twice: on QEMU's board virt, without an operating system, by the player in C and by the one in
+# Rattle, which rt then proves.
 set -euo pipefail
 top=$(cd "$(dirname "$0")/.." && pwd)
 export PATH="/opt/rattle/bin:$PATH" LC_ALL=C
