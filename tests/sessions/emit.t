@@ -58,5 +58,8 @@ The file of the words is none of those that are read, by its name or by a link.
   $ ln -s a.cert link; sdv emit a.sdv a.cert table --binary link
   cannot use link
   [2]
+  $ sdv emit - a.cert table --binary a.sdv < a.sdv
+  cannot use a.sdv
+  [2]
   $ sdv check a.sdv a.cert
   accepted 1

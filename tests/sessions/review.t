@@ -149,6 +149,25 @@ An erase, confirmed and not.
   line 15: done may come before the erase of line 14 is confirmed
   [1]
 
+An erase that may have failed, and was left for another one.
+
+  $ for kind in sd emmc; do up() { grep -v '^done' $EXAMPLES/${kind}_bring_up.sdv; echo 'if cap >= 16 { } else { fault small }'; cat; }
+  > case $kind in sd) first=32 last=33 erase=38;; *) first=35 last=36 erase='38 0';; esac
+  > for end in 'clean & state=tran { } else { fault erase }' 'state=tran { } else { fault erase }'; do
+  > for place in 8 10; do
+  >   echo "send $first at by hc $place { clean { } else { fault erase } }"
+  >   echo "send $last at by hc $((place + 1)) { clean { } else { fault erase } }"
+  >   echo "send $erase { clean { } else { fault erase } }"
+  >   echo 'loop 1000 { wait { ok { break } else { } } } else { fault busy }'
+  >   if [ $place = 8 ]; then echo "send 13 { $end }"; else echo 'send 13 { clean & state=tran { done } else { fault erase } }'; fi
+  > done | up > left.sdv
+  > sdv review left.sdv; done; done
+  nothing found
+  line 24: done may come where line 22 left the erase of line 17, which may have failed
+  nothing found
+  line 23: done may come where line 21 left the erase of line 16, which may have failed
+  [1]
+
 A CMD6 that was lost leaves open which partition a write reaches.
 
   $ { sed '/^send 6 part.access/,$d' $EXAMPLES/emmc_boot_read.sdv; cat << 'END'; } > boot.sdv; sdv review boot.sdv
@@ -192,6 +211,14 @@ Statements that no run reaches, tests that come out one way, and names that are 
   line 6: no run comes to set a
   line 7: no run comes to fault end
   line 6: a is never read
+  [1]
+  $ for kind in sd emmc; do
+  >   printf "card $kind\nnums n\nsend 0 { else { } }\nif n >= 1 { fault much } else { }\nfault end\n" | sdv review -
+  > done
+  line 4: this test never holds
+  line 4: no run comes to fault much
+  line 4: this test never holds
+  line 4: no run comes to fault much
   [1]
   $ printf 'card sd\nsend 0 { else { } }\nfault end\n' | sdv review -
   nothing found

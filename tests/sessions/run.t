@@ -131,6 +131,19 @@ An output that is one of the other files, by its name or by links, loses nothing
   $ sdv run missing.sdv up.cert up.card up.img --out up.cert
   cannot use up.cert
   [2]
+
+So is one that standard input comes from.
+
+  $ sdv run - up.cert up.card up.img --out up.sdv < up.sdv; sdv run up.sdv - up.card up.img --out up.cert < up.cert
+  cannot use up.sdv
+  cannot use up.cert
+  [2]
+  $ sdv run up.sdv up.cert - up.img --out ./up.card < up.card; sdv run up.sdv up.cert up.card up.img --in - --out up.in < up.in
+  cannot use ./up.card
+  cannot use up.in
+  [2]
+  $ cmp up.sdv $up && cmp up.cert $cert && cmp up.card $card && wc -c < up.in
+  512
   $ sdv run up.sdv up.cert up.card new:1024 --out new:1024 | tail -n 1; wc -c < new:1024
   done
   0
