@@ -4,7 +4,8 @@
 # A first look, in about two minutes on a new machine. It compiles the program without proving anything, and shows a script
 # that is refused, with the reason; the script with the mend, which gets a certificate and is accepted; and a run of it beside a
 # simulated card.
-# With SCRIPT it tells of that script instead: why it is refused, a run that breaks it, or what it leaves open.
+# With SCRIPT it tells of that script instead: whether it is accepted, and then a run of it and what a review finds; or why it is
+# refused, and a run that breaks it. The status is that of `sdv certify`: 0 where it is accepted, 1 where it is not.
 # `make build` proves the program.
 set -eu
 top=$(cd "$(dirname "$0")/.." && pwd)
@@ -13,7 +14,8 @@ command -v rt > /dev/null || { echo "rt is not in /opt/rattle/bin: see Install i
 
 cases=$(mktemp -d)
 mended=$(mktemp)
-trap 'rm -rf "$cases" "$mended"' EXIT
+zeros=$(mktemp)
+trap 'rm -rf "$cases" "$mended" "$zeros"' EXIT
 
 # words NAME WORD..: a call of the program with these words
 words() {
@@ -37,28 +39,48 @@ shown() {
     part "$1" | sed 's/^/    /'
 }
 
+# status NUMBER: the status with which the program ended in this case
+status() {
+    sed -n "s/^case=$1 .*status=\([0-9]*\).*/\1/p" "$cases/said"
+}
+
+# section TEXT WORD..: a heading, and the command whose answer stands below it
+section() {
+    printf '\n%s\n' "$1"
+    shift
+    echo "  sdv $*"
+}
+
 if [ $# -gt 0 ]; then
     [ -r "$1" ] || { echo "cannot use $1" >&2; exit 2; }
-    words 1 explain "--why script.sdv"
-    words 2 refute script.sdv
-    words 3 review script.sdv
-    run_cases --data script.sdv="$(cd "$(dirname "$1")" && pwd)/$(basename "$1")"
-    grep -q '^case=3 ' "$cases/said" || { cat "$cases/said"; exit 1; }
-    echo
-    echo "Why it is refused, if it is:"
-    echo "  sdv explain --why $1"
-    shown 1
-    echo
-    echo "A run that breaks it, if one is found:"
-    echo "  sdv refute $1"
-    shown 2
-    echo
-    echo "What it leaves open for the data, if it is accepted:"
-    echo "  sdv review $1"
-    shown 3
-    echo
-    echo "Nothing was proved. 'make build' proves the program and leaves it as crates/sdv/out/sdv."
-    exit
+    kind=sd blocks=1024
+    if grep -q '^card emmc' "$1"; then kind=emmc blocks=2048; fi
+    card=examples/${kind}_block.card
+    head -c 1048576 /dev/zero > "$zeros"
+    words 1 certify script.sdv
+    words 2 explain "--why script.sdv"
+    words 3 refute script.sdv
+    words 4 review script.sdv
+    words 5 try "script.sdv card new:$blocks --in zeros"
+    run_cases --data script.sdv="$(cd "$(dirname "$1")" && pwd)/$(basename "$1")" --data card="$top/$card" --data zeros="$zeros"
+    grep -q '^case=5 ' "$cases/said" || { cat "$cases/said"; exit 1; }
+    verdict=$(status 1)
+    section "The verdict:" certify "$1"
+    if [ "$verdict" -eq 0 ]; then
+        echo "    accepted: it writes a certificate, of $(part 1 | grep -c .) lines"
+        section "A run beside a simulated card, where each block that the script gives is of zeros:" try "$1" "$card" "new:$blocks"
+        shown 5
+        section "What a review finds. Only what it says of partitions, writes and erases is about the data:" review "$1"
+        shown 4
+    else
+        shown 1
+        section "Why:" explain --why "$1"
+        shown 2
+        section "A run that breaks it, if one is found:" refute "$1"
+        shown 3
+    fi
+    printf '\n%s\n' "Nothing was proved. 'make build' proves the program and leaves it as crates/sdv/out/sdv."
+    exit "$verdict"
 fi
 
 words 1 explain "--why refused_block_address.sdv"
