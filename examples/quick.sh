@@ -76,8 +76,10 @@ if [ $# -gt 0 ]; then
         shown 1
         section "Why:" explain --why "$1"
         shown 2
-        section "A run that breaks it, if one is found:" refute "$1"
-        shown 3
+        if part 1 | grep -q '^refused '; then
+            section "A run that breaks it, if one is found:" refute "$1"
+            shown 3
+        fi
     fi
     printf '\n%s\n' "Nothing was proved. 'make build' proves the program and leaves it as crates/sdv/out/sdv."
     exit "$verdict"
