@@ -29,6 +29,27 @@ Lines outside the tables alone are no finding, and a trace may have no line.
   $ sdv audit emmc - < /dev/null
   0 lines, 0 reckless, 0 that no card answers, 0 of another length, 0 beyond the capacity, 0 outside
 
+What is wrong with a line is named from the left, and what was printed before it stays.
+
+  $ for line in '' 'CMD64 00000000 -' 'CMD0 0000000 -' 'CMD0 00000000 X 00000000' 'IN 65536 ok' 'IN 1 okay' 'LINES 2'; do echo "$line" | sdv audit sd -; done
+  trace fault Word line 1
+  trace fault Index line 1
+  trace fault Argument line 1
+  trace fault Answer line 1
+  trace fault Count line 1
+  trace fault End line 1
+  trace fault Lines line 1
+  [1]
+  $ printf 'CMD0 00000000 -\nCMD64 00000000 -\n' | sdv audit sd --annotate -
+  line 1: CMD0 00000000 -: in idle
+  trace fault Index line 2
+  [1]
+  $ printf 'CMD5 00000000 timeout\n' | sdv audit sd --annotate --json -
+  {"line":1,"told":"CMD5 00000000 timeout","finding":"states","text":"in idle"}
+  {"line":1,"told":"CMD5 00000000","finding":"outside","text":"outside the tables; the audit goes on as if it had not come"}
+  {"line":1,"told":"","finding":"end","text":"in idle"}
+  {"lines":1,"reckless":0,"unanswered":0,"lengths":0,"beyond":0,"outside":1}
+
 A text that is no trace, a kind that is none, a file that cannot be used, and an output that fails.
 
   $ printf 'CMD0 00000000 -\nCMD1x\n' | sdv audit emmc -

@@ -212,3 +212,17 @@ Where none is found, nothing is added; nor where a run may be long, or where the
   $ sdv explain $up | grep -c breaks
   0
   [1]
+
+A text above the size limit, all on one line.
+
+  $ yes é | head -n 40000 | tr -d '\n' > long; sdv explain long
+  line 1
+      éééééééééééééééééééééééééééééééééééééééééééééééééééééééééééé...
+      ^
+  found: a text of more than 65536 bytes
+  hint: a script has at most 65536 bytes
+  script fault Limit line 1
+  [1]
+  $ sdv explain long | wc -c
+  script fault Limit line 1
+  219
