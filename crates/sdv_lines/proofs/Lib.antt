@@ -7,3 +7,4 @@ pub mod DigitLaws
 pub mod DataLaws
 pub mod ServeLaws
 pub mod PartnerLaws
+pub mod PortLaws

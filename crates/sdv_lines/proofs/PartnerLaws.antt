@@ -227,6 +227,7 @@ module _ {S : Type 0} (steps : S → Call → Return → S → Type 0) (card : S
     λ call returned b b' made. record {
       written = made.written;
       heard = record { texts = made.texts; answers = made.heard; read = made.read };
+      spent = made.spent;
       well = made.well;
     },
   )

@@ -8,7 +8,7 @@ use Rattle.sdv_card.specs.ScriptEvent.{Return}
 use Rattle.sdv_lines.specs.Texts.{lines_of}
 use Rattle.sdv_lines.specs.Requests.{request_of}
 use Rattle.sdv_lines.specs.Answers.{IsAnswer, Answers}
-use Rattle.sdv_lines.specs.Streams.{Streams, Asked}
+use Rattle.sdv_lines.specs.Streams.{Streams, Asked, Spends, commands_of}
 
 -- the port of lines, and the port on the other side
 pub record Both (S : Type 0) : Type 0 where
@@ -25,6 +25,7 @@ pub record BothMade {S : Type 0} (steps : S → Call → Return → S → Type 0
   pub heard : Answers call texts returned
   pub told : IsAnswer call texts gave
   pub step : steps b.other call gave b'.other
+  pub spent : Spends (commands_of call) b.streams.left b'.streams.left
   pub well : b'.streams.fault ≡ None
 
 abbrev pub BothSteps : {S : Type 0} → (S → Call → Return → S → Type 0) → Both S → Call → Return → Both S → Type 0

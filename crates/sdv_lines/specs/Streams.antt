@@ -1,5 +1,6 @@
--- What a call of a port of lines does to its two streams: the request that it writes, and the answer that it reads.
-use Rattle.std.specs.Prelude.{◌≡◌, ◌⊎◌, ℕ, List, ◌++◌, length, Option, Some, None, MatchOption, Result, Err, MatchResult, IfSome}
+-- What a call of a port of lines does to its two streams: the request that it writes, and the answer that it reads. And how
+-- many commands it still sends.
+use Rattle.std.specs.Prelude.{◌≡◌, ◌⊎◌, Bool, ℕ, List, ◌+◌, ◌++◌, length, Option, Some, None, MatchBool, MatchOption, Result, Err, MatchResult, IfSome}
 use Rattle.std.specs.Io.KnownBytes.{Appends, Consumes, IsAtEnd}
 use Rattle.sdv_frames.specs.declared.fault.FrameFault.TheVariants.{Length}
 use Rattle.sdv_card.specs.declared.answer.Answer.TheVariants.{Damaged}
@@ -9,22 +10,47 @@ use Rattle.sdv_card.specs.Port.{Call, Exchange, DataIn, DataInRegister, DataOut,
 use Rattle.sdv_card.specs.ScriptEvent.{Return, Answered, BlocksIn, RegisterIn, BlocksOut, Waited}
 use Rattle.sdv_lines.specs.declared.fault.LineFault.{LineFault}
 use Rattle.sdv_lines.specs.declared.fault.LineFault.TheVariants as faults
+use Rattle.sdv_lines.specs.declared.fault.PortFault.{PortFault}
+use Rattle.sdv_lines.specs.declared.fault.PortFault.TheVariants.{Lines, Commands}
 use Rattle.sdv_lines.specs.declared.port.LinePort.{LinePort}
 use Rattle.sdv_lines.specs.Texts.{lines_of}
 use Rattle.sdv_lines.specs.Requests.{request_of}
 use Rattle.sdv_lines.specs.Answers.{Answers}
 
--- what is known of the two streams of a port, and the fault that it keeps
+-- what is known of the two streams of a port, how many commands it still sends, and the fault that it keeps
 pub record Streams : Type 0 where
   -- the bytes that the reader has left, where they are known
   pub answers : Option (List ℕ)
   -- the bytes that the writer holds, where they are known
   pub requests : Option (List ℕ)
-  pub fault : Option LineFault
+  -- how many commands it still sends, where there is a limit
+  pub left : Option ℕ
+  pub fault : Option PortFault
 
--- a new port
+-- a new port: it sends any number of commands
 abbrev pub IsNew : (answers requests : Option (List ℕ)) → Streams → Type 0
-IsNew answers requests s = (s.answers ≡ answers) × (s.requests ≡ requests) × (s.fault ≡ None)
+IsNew answers requests s = (s.answers ≡ answers) × (s.requests ≡ requests) × (s.left ≡ None) × (s.fault ≡ None)
+
+-- THE LIMIT ON COMMANDS
+
+-- the same with another limit, or with none
+abbrev pub limited : Option ℕ → Streams → Streams
+limited left s = record s { left = left }
+
+-- the commands of a call; phases and waits have none
+abbrev pub commands_of : Call → ℕ
+commands_of (Exchange command expect) = 1
+commands_of call = 0
+
+-- so many commands were taken of those that are left; without a limit any number may be
+abbrev pub Spends : ℕ → (left left' : Option ℕ) → Type 0
+Spends count None left' = left' ≡ None
+Spends count (Some most) left' = (rest : ℕ) × (left' ≡ Some rest) × (most ≡ count + rest)
+
+-- one was taken, or none is left
+abbrev pub TakesCommand : Bool → (s s' : Streams) → Type 0
+TakesCommand taken s s' =
+    MatchBool taken (Spends 1 s.left s'.left × (s' ≡ limited s'.left s)) ((s.left ≡ Some 0) × (s' ≡ s))
 
 -- WRITING: known bytes grow by a front of a text, perhaps by all of it
 abbrev pub AppendsFront : Option (List ℕ) → Option (List ℕ) → List ℕ → Type 0
@@ -87,13 +113,22 @@ IsSilent call returned = ⊥
 pub record Asked (call : Call) (returned : Return) (s s' : Streams) : Type 0 where
   pub written : Appends s.requests s'.requests (request_of call)
   pub heard : Heard call returned s.answers s'.answers
+  pub spent : Spends (commands_of call) s.left s'.left
   pub well : s'.fault ≡ None
 
--- a call found its streams failed, and the port keeps why
+-- why a call was not answered, which the port keeps: its streams failed, or it is a command, and none was left. Then
+-- nothing was written or read.
+abbrev pub Unanswered : PortFault → Call → (s s' : Streams) → Type 0
+Unanswered (Lines why) call s s' =
+    Failed why call s.answers s'.answers s.requests s'.requests × Spends (commands_of call) s.left s'.left
+    × (s'.fault ≡ Some (Lines why))
+Unanswered Commands call s s' =
+    (commands_of call ≡ 1) × (s.left ≡ Some 0) × (s' ≡ record s { fault = Some Commands })
+
+-- a call was not answered
 pub record GaveUp (call : Call) (returned : Return) (s s' : Streams) : Type 0 where
-  pub why : LineFault
-  pub failed : Failed why call s.answers s'.answers s.requests s'.requests
-  pub kept : s'.fault ≡ Some why
+  pub why : PortFault
+  pub unanswered : Unanswered why call s s'
   pub silent : IsSilent call returned
 
 -- a port that gave up neither reads nor writes
@@ -103,12 +138,12 @@ LineSteps s call returned s' =
     (λ why. (s' ≡ s) × IsSilent call returned)
 
 -- the last line was written, or not, and the port keeps why; a port that gave up writes nothing
-abbrev pub TellsEnd : Streams → List ℕ → Result (Unit {0}) LineFault → Streams → Type 0
+abbrev pub TellsEnd : Streams → List ℕ → Result (Unit {0}) PortFault → Streams → Type 0
 TellsEnd s line result s' =
     MatchOption s.fault
     (MatchResult result (λ _. Appends s.requests s'.requests line × (s'.fault ≡ None))
-    (λ why. (why ≡ faults.Write) × AppendsFront s.requests s'.requests line × (s'.fault ≡ Some why))
-    × (s'.answers ≡ s.answers))
+    (λ why. (why ≡ Lines faults.Write) × AppendsFront s.requests s'.requests line × (s'.fault ≡ Some why))
+    × (s'.answers ≡ s.answers) × (s'.left ≡ s.left))
     (λ why. (result ≡ Err why) × (s' ≡ s))
 
 -- what is known of a port
@@ -116,5 +151,6 @@ abbrev pub streams_of : {R W : Type 0} → (R → Option (List ℕ)) → (W → 
 streams_of remaining contents port = record {
   answers = remaining port.reader;
   requests = contents port.writer;
+  left = port.commands_left;
   fault = port.fault;
 }

@@ -19,6 +19,17 @@ pub enum LineFault {
     Line,
 }
 
+/// Why a port of lines gave up.
+#[derive(Clone, Copy, Debug, PartialEq, Eq, Error)]
+pub enum PortFault {
+    /// Its streams failed, or what came is no answer.
+    #[error("{0}")]
+    Lines(LineFault),
+    /// A command was to be sent, and none was left of those that it may send.
+    #[error("a command was to be sent, and none was left")]
+    Commands,
+}
+
 /// Why the side of a card stopped, and at which line that it read, counted from 1.
 #[derive(Clone, Copy, Debug, PartialEq, Eq, Error)]
 #[error("line {line}: {fault}")]

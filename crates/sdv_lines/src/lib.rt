@@ -19,5 +19,5 @@ mod request;
 mod serving;
 
 pub use card_side::serve;
-pub use fault::{LineFault, ServeFault};
+pub use fault::{LineFault, PortFault, ServeFault};
 pub use port::LinePort;

@@ -2,7 +2,7 @@
 
 use sdv_card::{Answer, CardPort, DataEnd, WaitEnd};
 use sdv_frames::{Command, Expect, FrameFault, Reply};
-use sdv_lines::{LineFault, LinePort};
+use sdv_lines::{LineFault, LinePort, PortFault};
 use sdv_trace::End;
 use std::io;
 use std::io::Write;
@@ -39,13 +39,22 @@ impl Write for FullWriter {
     }
 }
 
+const RESET: Command = Command {
+    index: 0,
+    argument: 0,
+};
+
 const STATUS: Command = Command {
     index: 13,
     argument: 0x0001_0000,
 };
 
+const LOST_LINE: Option<PortFault> = Some(PortFault::Lines(LineFault::Line));
+
+const LOST_WRITE: PortFault = PortFault::Lines(LineFault::Write);
+
 /// What a port answers to a command, and why it gave up, if it did.
-fn heard(expect: Expect, answers: &str) -> (Answer, Option<LineFault>) {
+fn heard(expect: Expect, answers: &str) -> (Answer, Option<PortFault>) {
     let mut port = LinePort::new(answers.as_bytes(), io::sink());
     let answer = port.exchange(STATUS, expect);
     (answer, port.fault())
@@ -56,6 +65,7 @@ fn is_heard(expect: Expect, answers: &str, answer: Answer) -> bool {
 }
 
 fn is_refused(expect: Expect, answers: &str, fault: LineFault) -> bool {
+    let fault = PortFault::Lines(fault);
     heard(expect, answers) == (Answer::Damaged(FrameFault::Length), Some(fault))
 }
 
@@ -127,12 +137,12 @@ fn waits_are_heard(rt: HostRuntime) {
     assert!(rt; port.wait() == WaitEnd::Late);
     assert!(rt; port.fault().is_none());
     assert!(rt; port.wait() == WaitEnd::Late);
-    assert!(rt; port.fault() == Some(LineFault::Line));
+    assert!(rt; port.fault() == LOST_LINE);
     // It gave up, and does not hear the last line.
     assert!(rt; port.wait() == WaitEnd::Late);
     assert!(rt; port.exchange(STATUS, Expect::Nothing) == Answer::Damaged(FrameFault::Length));
     assert!(rt; port.data_out(4, &[[0; 512]]) == DataEnd::Cut);
-    assert!(rt; port.fault() == Some(LineFault::Line));
+    assert!(rt; port.fault() == LOST_LINE);
 }
 
 #[test]
@@ -147,7 +157,7 @@ fn registers_are_heard(rt: HostRuntime) {
     assert!(rt; port.data_in_reg(1, &mut register) == DataEnd::Cut);
     assert!(rt; port.fault().is_none());
     assert!(rt; port.data_in_reg(1, &mut register) == DataEnd::Cut);
-    assert!(rt; port.fault() == Some(LineFault::Line));
+    assert!(rt; port.fault() == LOST_LINE);
 }
 
 #[test]
@@ -157,11 +167,7 @@ fn requests_are_the_table(rt: HostRuntime) {
         "-\nR1 00000900\nok\ncut\ncut\ncut\n".as_bytes(),
         &mut requests,
     );
-    let reset = Command {
-        index: 0,
-        argument: 0,
-    };
-    let _ = port.exchange(reset, Expect::Nothing);
+    let _ = port.exchange(RESET, Expect::Nothing);
     let _ = port.exchange(STATUS, Expect::R1(13));
     let _ = port.wait();
     let _ = port.data_in(4, &mut [[0; 512]; 2]);
@@ -194,8 +200,8 @@ fn each_request_is_flushed(rt: HostRuntime) {
 fn a_writer_that_fails_is_told(rt: HostRuntime) {
     let mut port = LinePort::new("ok\n".as_bytes(), FullWriter);
     assert!(rt; port.wait() == WaitEnd::Late);
-    assert!(rt; port.fault() == Some(LineFault::Write));
-    assert!(rt; port.tell_end(&End::Done) == Err(LineFault::Write));
+    assert!(rt; port.fault() == Some(LOST_WRITE));
+    assert!(rt; port.tell_end(&End::Done) == Err(LOST_WRITE));
 }
 
 #[test]
@@ -207,4 +213,44 @@ fn the_last_line_is_told(rt: HostRuntime) {
         assert!(rt; port.fault().is_none());
     }
     assert!(rt; requests.as_slice() == b"done\n".as_slice());
+}
+
+const ANSWERS: &str = "-\nR1 00000900\nok\nok\nR1 00000900\n";
+
+#[test]
+fn a_limit_counts_commands_alone(rt: HostRuntime) {
+    let mut requests = Vec::new(rt.alloc());
+    let mut port = LinePort::new(ANSWERS.as_bytes(), &mut requests);
+    assert!(rt; port.limit_commands(Some(3)).is_none());
+    assert!(rt; port.exchange(RESET, Expect::Nothing) == Answer::Sent);
+    assert!(rt; port.limit_commands(Some(2)) == Some(2));
+    let status = port.exchange(STATUS, Expect::R1(13));
+    assert!(rt; port.wait() == WaitEnd::Ok);
+    assert!(rt; port.data_out(8, &[]) == DataEnd::Ok);
+    assert!(rt; port.exchange(STATUS, Expect::R1(13)) == status);
+    assert!(rt; port.fault().is_none());
+    assert!(rt; port.limit_commands(None) == Some(0));
+    assert!(rt; port.tell_end(&End::Done).is_ok());
+    drop(port);
+    let table =
+        "CMD0 00000000 -\nCMD13 00010000 R1\nWAIT\nOUT 0 lines 8\nCMD13 00010000 R1\ndone\n";
+    assert!(rt; requests.as_slice() == table.as_bytes());
+}
+
+#[test]
+fn no_command_is_sent_over_the_limit(rt: HostRuntime) {
+    let mut requests = Vec::new(rt.alloc());
+    let mut port = LinePort::new(ANSWERS.as_bytes(), &mut requests);
+    assert!(rt; port.limit_commands(Some(1)).is_none());
+    assert!(rt; port.exchange(RESET, Expect::Nothing) == Answer::Sent);
+    assert!(rt; port.exchange(STATUS, Expect::R1(13)) == Answer::Damaged(FrameFault::Length));
+    assert!(rt; port.fault() == Some(PortFault::Commands));
+    // It gave up, and asks nothing more, also where the limit is lifted.
+    assert!(rt; port.limit_commands(None) == Some(0));
+    assert!(rt; port.exchange(STATUS, Expect::R1(13)) == Answer::Damaged(FrameFault::Length));
+    assert!(rt; port.wait() == WaitEnd::Late);
+    assert!(rt; port.tell_end(&End::Done) == Err(PortFault::Commands));
+    assert!(rt; port.fault() == Some(PortFault::Commands));
+    drop(port);
+    assert!(rt; requests.as_slice() == b"CMD0 00000000 -\n".as_slice());
 }

@@ -1,0 +1,46 @@
+-- A call that a port of lines made: what became of it is a step of the port.
+use Rattle.std.proofs.Common.{◌≡◌, ◌⊎◌, arith, refl, subst, sym, inr, Bool, true, ℕ, ◌+◌, Option, Some, None, Result, Ok, Err}
+use Rattle.std.specs.Prelude.{MatchOption}
+use Rattle.sdv_card.specs.Port.{Call}
+use Rattle.sdv_card.specs.ScriptEvent.{Return}
+use Rattle.sdv_lines.specs.declared.fault.LineFault.{LineFault}
+use Rattle.sdv_lines.specs.declared.fault.PortFault.TheVariants.{Lines}
+use Rattle.sdv_lines.specs.Streams.{Asked, Asks, Failed, GaveUp, IsSilent, LineSteps, Spends, Streams, TakesCommand, commands_of, limited}
+
+-- no command
+pub spends_none : (left : Option ℕ) → Spends 0 left left
+spends_none None = refl
+spends_none (Some n) =
+    let all : n ≡ 0 + n = omega arith in
+    (n, refl, all)
+
+failed_by : {A : Type 0} (call : Call) (returns : A → Return) (s s' : Streams) (result : Result A LineFault) (why : LineFault) → result ≡ Err why
+    → Asks call returns s.answers s'.answers s.requests s'.requests result → Failed why call s.answers s'.answers s.requests s'.requests
+failed_by call returns s s' (Ok x) why is asks = absurd (cc is)
+failed_by call returns s s' (Err fault) why is asks =
+    let same : fault ≡ why = cc in
+    subst (λ f. Failed f call s.answers s'.answers s.requests s'.requests) same asks
+
+-- its streams failed
+pub gave_up : {A : Type 0} (call : Call) (returns : A → Return) (returned : Return) (s s' : Streams) (result : Result A LineFault) (why : LineFault)
+    → s.fault ≡ None → Asks call returns s.answers s'.answers s.requests s'.requests result → result ≡ Err why → Spends (commands_of call) s.left s'.left
+    → s'.fault ≡ Some (Lines why) → IsSilent call returned → LineSteps s call returned s'
+gave_up call returns returned s s' result why well asks is spent kept silent =
+    let gave : GaveUp call returned s s' = record {
+      why = Lines why;
+      unanswered = (failed_by call returns s s' result why is asks, spent, kept);
+      silent = silent;
+    } in
+    subst (λ o. MatchOption o (Asked call returned s s' ⊎ GaveUp call returned s s') (λ _. (s' ≡ s) × IsSilent call returned)) (sym well) (inr gave)
+
+-- the same of a command, which was taken first
+pub command_gave_up : {A : Type 0} (call : Call) (returns : A → Return) (returned : Return) (s t s' : Streams) (result : Result A LineFault)
+    (why : LineFault) (taken : Bool) → s.fault ≡ None → taken ≡ true → TakesCommand taken s t → commands_of call ≡ 1
+    → Asks call returns t.answers s'.answers t.requests s'.requests result → result ≡ Err why → s'.left ≡ t.left → s'.fault ≡ Some (Lines why)
+    → IsSilent call returned → LineSteps s call returned s'
+command_gave_up call returns returned s t s' result why taken well is_taken takes one asks is left kept silent =
+    let took : Spends 1 s.left t.left × (t ≡ limited t.left s) = subst (λ b. TakesCommand b s t) is_taken takes in
+    let asked : Asks call returns s.answers s'.answers s.requests s'.requests result =
+    subst (λ u. Asks call returns u.answers s'.answers u.requests s'.requests result) took.1 asks in
+    let spent : Spends (commands_of call) s.left s'.left = subst (λ n. Spends n s.left s'.left) (sym one) (subst (λ l. Spends 1 s.left l) (sym left) took.0) in
+    gave_up call returns returned s s' result why well asked is spent kept silent

@@ -1,0 +1,24 @@
+use Rattle.std.proofs.Common.{◌≡◌, None, Some, refl, rules, true}
+use Rattle.sdv_frames.specs.declared.fault.FrameFault.TheVariants.{Length}
+use Rattle.sdv_card.specs.declared.answer.Answer.TheVariants.{Damaged}
+use Rattle.sdv_card.specs.Port.{Exchange}
+use Rattle.sdv_card.specs.ScriptEvent.{Answered}
+use Rattle.sdv_lines.specs.declared.fault.PortFault.TheVariants.{Lines}
+use Rattle.sdv_lines.specs.Streams.{Streams, streams_of}
+use Rattle.sdv_lines.proofs.PortLaws.{command_gave_up}
+use Rattle.sdv_lines.proofs.port.LinePortCardPort.exchange.Goals as goal
+
+pub returns-in-Err : goal.returns-in-Err
+returns-in-Err g c =
+    let s = streams_of g.R.Read.remaining g.W.Write.contents c.args.self.now in
+    let t = streams_of g.R.Read.remaining g.W.Write.contents c.take_command.new.self in
+    let s' : Streams = record {
+      answers = g.R.Read.remaining c.exchange.new.reader;
+      requests = g.W.Write.contents c.exchange.new.writer;
+      left = c.take_command.new.self.commands_left;
+      fault = Some (Lines c.in-Err.fault);
+    } in
+    let well : c.args.self.now.fault ≡ None = search rules in
+    let taken : c.take_command.result ≡ true = search rules in
+    command_gave_up (Exchange c.args.command c.args.expect) (λ answer. Answered answer) (Answered (Damaged Length)) s t s' c.exchange.result
+    c.in-Err.fault c.take_command.result well taken c.take_command.ensures refl c.exchange.ensures c.in-Err.is refl refl refl
