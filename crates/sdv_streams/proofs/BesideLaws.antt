@@ -26,9 +26,9 @@ use Rattle.sdv_streams.specs.BesideCard.{AnswersAs, DrivesBesideOther, RunsBesid
 module _ {S : Type 0} (steps : S → Call → Return → S → Type 0) (card : S → Option Card) (keeps : KeepsTables steps card) where
   -- nothing is known of the streams
   abbrev beside_unknown : S → Both S
-  beside_unknown o = record { streams = record { answers = None; requests = None; fault = None }; other = o }
+  beside_unknown o = record { streams = record { answers = None; requests = None; left = None; fault = None }; other = o }
 
-  told_keeps : KeepsTables (ToldSteps steps) card
+  pub told_keeps : KeepsTables (ToldSteps steps) card
   told_keeps o o' k event c h returned shown fine told =
       let seen : Shows (other_card card) (beside_unknown o) c =
       record { shown = shown.shown; shows = shown.shows; same = shown.same; count = shown.count } in
@@ -41,6 +41,7 @@ module _ {S : Type 0} (steps : S → Call → Return → S → Type 0) (card : S
         heard = told.heard;
         told = told.tells;
         step = told.step;
+        spent = refl;
         well = refl;
       }) in
       record {
@@ -49,7 +50,7 @@ module _ {S : Type 0} (steps : S → Call → Return → S → Type 0) (card : S
         shown = record { shown = kept.shown.shown; shows = kept.shown.shows; same = kept.shown.same; count = kept.shown.count };
       }
 
-  told_moved : (k : Kind) (es : List Pair) (answers : List (List (List ℕ))) (o o' : S) → AreAnswers k es answers → AnswersAs steps k es answers o o'
+  pub told_moved : (k : Kind) (es : List Pair) (answers : List (List (List ℕ))) (o o' : S) → AreAnswers k es answers → AnswersAs steps k es answers o o'
       → RunMoved k (ToldSteps steps) o es o'
   told_moved k [] [] o o' are does = does
   told_moved k [] (texts ∷ answers) o o' are does = absurd are

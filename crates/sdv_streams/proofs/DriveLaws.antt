@@ -7,6 +7,7 @@ use Rattle.std.specs.Io.KnownBytes.{Appends, Consumes}
 use Rattle.clap.specs.Words.{Text}
 use Rattle.sdv_card.specs.Card.{Block, Card}
 use Rattle.sdv_graph.specs.Graph.{Graph}
+use Rattle.sdv_facts.specs.Beside.{commands}
 use Rattle.sdv_graph.specs.Walk.{Pair}
 use Rattle.sdv_check.specs.Verified.{Acceptance, IsAccepted}
 use Rattle.sdv_trace.specs.declared.end.End.{End}
@@ -20,10 +21,11 @@ use Rattle.sdv_run.specs.Step.{World}
 use Rattle.sdv_run.specs.Ran.{Ran}
 use Rattle.sdv_run.specs.OnCard.{RanBeside}
 use Rattle.sdv_text.proofs.WrittenLaws.{appends_more}
-use Rattle.sdv_lines.specs.declared.fault.LineFault.{LineFault}
 use Rattle.sdv_lines.specs.declared.fault.LineFault.TheVariants as faults
+use Rattle.sdv_lines.specs.declared.fault.PortFault.{PortFault}
+use Rattle.sdv_lines.specs.declared.fault.PortFault.TheVariants.{Lines, Commands}
 use Rattle.sdv_lines.specs.declared.port.LinePort.{LinePort}
-use Rattle.sdv_lines.specs.Streams.{AppendsFront, LineSteps, Streams, TellsEnd, streams_of}
+use Rattle.sdv_lines.specs.Streams.{AppendsFront, LineSteps, Streams, TellsEnd, limited, streams_of}
 use Rattle.sdv_command_line.specs.Requests.{DriveNames}
 use Rattle.sdv_faults.specs.declared.fault.Fault.{Fault}
 use Rattle.sdv_faults.specs.declared.fault.Fault.TheVariants.{File, Script, Certificate, Refused, Memory}
@@ -34,7 +36,7 @@ use Rattle.sdv_run_command.proofs.RunMaps.{seen, seen_run}
 use Rattle.sdv_streams.specs.declared.drive.Given.{Given}
 use Rattle.sdv_streams.specs.declared.drive.Outcome.{Outcome}
 use Rattle.sdv_streams.specs.declared.drive.Outcome.TheVariants.{Lost, Ended, Stopped}
-use Rattle.sdv_streams.proofs.TalkLaws.{said, talks}
+use Rattle.sdv_streams.proofs.TalkLaws.{few_asked, said, spends_few, talks}
 use Rattle.sdv_streams.specs.Talk.{Talked, Talks, answer_lines, events_of, requests}
 use Rattle.sdv_files.specs.Outcomes.{outcome_of as ended_as}
 use Rattle.sdv_streams.specs.Drive.{AnswersOutcome, AreGiven, ComesOut, DriveFails, DrivesApart, EndsDrive, FailsToTrace, IsDrive, IsTraced, Takes, TellsIfEnded, outcome_of, uses_of}
@@ -63,18 +65,24 @@ module _ {R W : Type 0} (remaining : R → Option (List ℕ)) (contents : W → 
       (seen_run streams (λ p call returned p'. LineSteps (streams p) call returned (streams p')) LineSteps (λ p call returned p' step. step)
       (λ p. None) (λ s. None) (λ p. refl) g most w w' result ran)
 
--- what was run, with what it asked and heard
-pub drove : (given : Given) (outcome : Outcome) (out out' trace trace' : Option (List ℕ)) (s after s' : Streams) → s.fault ≡ None
+-- what was run within the limit, with what it asked and heard
+pub drove : (given : Given) (outcome : Outcome) (out out' trace trace' : Option (List ℕ)) (s begun after t s' : Streams) → s.fault ≡ None
     → (a : Acceptance) → IsAccepted (string_bytes given.script) (string_bytes given.certificate) a
+    → begun ≡ limited (Some a.bound) s → t ≡ limited s.left after
     → (result : Result End RunFault) (input left : List Block) → input ≡ blocks_of given.input.items
-    → Ran LineSteps a.graph (record { port = s; input = input; out = out; trace = trace })
+    → Ran LineSteps a.graph (record { port = begun; input = input; out = out; trace = trace })
     (record { port = after; input = left; out = out'; trace = trace' }) result
-    → TellsIfEnded result after s' → outcome ≡ outcome_of s'.fault result → IsDrive given outcome out out' trace trace' s s'
-drove given outcome out out' trace trace' s after s' well a accepted result input left same ran told came =
-    let w : World Streams = record { port = s; input = blocks_of given.input.items; out = out; trace = trace } in
+    → TellsIfEnded result t s' → outcome ≡ outcome_of s'.fault result → IsDrive given outcome out out' trace trace' s s'
+drove given outcome out out' trace trace' s begun after t s' well a accepted limit lifted result input left same ran told came =
+    let b = limited (Some a.bound) s in
+    let w : World Streams = record { port = b; input = blocks_of given.input.items; out = out; trace = trace } in
     let w' : World Streams = record { port = after; input = left; out = out'; trace = trace' } in
+    let within : Ran LineSteps a.graph (record { port = b; input = input; out = out; trace = trace }) w' result =
+    subst (λ p. Ran LineSteps a.graph (record { port = p; input = input; out = out; trace = trace }) w' result) limit ran in
     let run : Ran LineSteps a.graph w w' result =
-    subst (λ i. Ran LineSteps a.graph (record { port = s; input = i; out = out; trace = trace }) w' result) same ran in
+    subst (λ i. Ran LineSteps a.graph (record { port = b; input = i; out = out; trace = trace }) w' result) same within in
+    let es = events_of LineSteps a.graph w w' result run in
+    let talk : Talks a.graph.kind es b after = talks a.graph.kind es b after well (moved_of LineSteps a.graph w w' result run) in
     record {
       acceptance = a;
       accepted = accepted;
@@ -82,22 +90,26 @@ drove given outcome out out' trace trace' s after s' well a accepted result inpu
       after = after;
       left = left;
       ran = run;
-      talks = talks a.graph.kind (events_of LineSteps a.graph w w' result run) s after well (moved_of LineSteps a.graph w w' result run);
-      told = told;
+      talks = talk;
+      few = few_asked a.graph.kind a.bound es b after refl talk;
+      told = subst (λ p. TellsIfEnded result p s') lifted told;
       came_out = came;
     }
 
 -- HOW IT COMES OUT
 
-ended_so : (end : End) (o : Option LineFault) (result : Result End RunFault) → Ended end ≡ outcome_of o result → (o ≡ None) × (result ≡ Ok end)
+ended_so : (end : End) (o : Option PortFault) (result : Result End RunFault) → Ended end ≡ outcome_of o result → (o ≡ None) × (result ≡ Ok end)
 ended_so end None (Ok e) is = let same : end ≡ e = cc in (refl, ap Ok (sym same))
 ended_so end None (Err fault) is = absurd (cc is)
-ended_so end (Some why) result is = absurd (cc is)
+ended_so end (Some (Lines why)) result is = absurd (cc is)
+ended_so end (Some Commands) result is = absurd (cc is)
 
-stopped_so : (fault : RunFault) (o : Option LineFault) (result : Result End RunFault) → Stopped fault ≡ outcome_of o result → result ≡ Err fault
-stopped_so fault None (Ok e) is = absurd (cc is)
-stopped_so fault None (Err f) is = let same : fault ≡ f = cc in ap Err (sym same)
-stopped_so fault (Some why) result is = absurd (cc is)
+-- want of memory is no end over the limit
+no_memory : (o : Option PortFault) (result : Result End RunFault) → Stopped runs.Memory ≡ outcome_of o result → result ≡ Err runs.Memory
+no_memory None (Ok e) is = absurd (cc is)
+no_memory None (Err f) is = let same : runs.Memory ≡ f = cc in ap Err (sym same)
+no_memory (Some (Lines why)) result is = absurd (cc is)
+no_memory (Some Commands) result is = let same : runs.Memory ≡ runs.Reply = cc in absurd (cc)
 
 -- the end was told by a port that did not give up
 record WasTold (line : List ℕ) (t s' : Streams) : Type 0 where
@@ -105,26 +117,26 @@ record WasTold (line : List ℕ) (t s' : Streams) : Type 0 where
   written : Appends t.requests s'.requests line
   quiet : s'.answers ≡ t.answers
 
-abbrev TellsAt : Option LineFault → (line : List ℕ) → Result (Unit {0}) LineFault → (t s' : Streams) → Type 0
+abbrev TellsAt : Option PortFault → (line : List ℕ) → Result (Unit {0}) PortFault → (t s' : Streams) → Type 0
 TellsAt o line told t s' =
     MatchOption o
     (MatchResult told (λ _. Appends t.requests s'.requests line × (s'.fault ≡ None))
-    (λ why. (why ≡ faults.Write) × AppendsFront t.requests s'.requests line × (s'.fault ≡ Some why))
-    × (s'.answers ≡ t.answers))
+    (λ why. (why ≡ Lines faults.Write) × AppendsFront t.requests s'.requests line × (s'.fault ≡ Some why))
+    × (s'.answers ≡ t.answers) × (s'.left ≡ t.left))
     (λ why. (told ≡ Err why) × (s' ≡ t))
 
-told_at : (o : Option LineFault) (line : List ℕ) (told : Result (Unit {0}) LineFault) (t s' : Streams) → t.fault ≡ o → TellsAt o line told t s'
+told_at : (o : Option PortFault) (line : List ℕ) (told : Result (Unit {0}) PortFault) (t s' : Streams) → t.fault ≡ o → TellsAt o line told t s'
     → s'.fault ≡ None → WasTold line t s'
 told_at None line (Ok x) t s' e tells well = record { well = e; written = tells.0.0; quiet = tells.1 }
 told_at None line (Err why) t s' e tells well = let clash : None ≡ Some why = sym well ∙ tells.0.2 in absurd (cc)
 told_at (Some why) line told t s' e tells well =
     let clash : None ≡ Some why = sym well ∙ ap (λ u. u.fault) tells.1 ∙ e in absurd (cc)
 
-was_told : (line : List ℕ) (told : Result (Unit {0}) LineFault) (t s' : Streams) → TellsEnd t line told s' → s'.fault ≡ None → WasTold line t s'
+was_told : (line : List ℕ) (told : Result (Unit {0}) PortFault) (t s' : Streams) → TellsEnd t line told s' → s'.fault ≡ None → WasTold line t s'
 was_told line told t s' tells well = told_at t.fault line told t s' refl tells well
 
 -- a port that did not give up asked for all events, and heard all answers
-talked_at : (o : Option LineFault) (g : Graph) (es : List Pair) (s t : Streams) → t.fault ≡ o → o ≡ None → Talks g.kind es s t → Talked g.kind es s t
+talked_at : (o : Option PortFault) (g : Graph) (es : List Pair) (s t : Streams) → t.fault ≡ o → o ≡ None → Talks g.kind es s t → Talked g.kind es s t
 talked_at None g es s t e well talk = said g.kind es s t None e talk
 talked_at (Some why) g es s t e well talk = absurd (cc well)
 
@@ -132,17 +144,20 @@ module _ (files : Files) (names : DriveNames) (given : Given) (are : AreGiven fi
   -- the parts of a run that came out so
   module _ (out out' trace trace' : Option (List ℕ)) (outs : Takes files names.output out out') (traces : Takes files names.trace trace trace')
       (a : Acceptance) (accepted : IsAccepted (string_bytes given.script) (string_bytes given.certificate) a) (after : Streams) (left : List Block) where
+    abbrev begun : Streams
+    begun = limited (Some a.bound) s
+
     abbrev world : World Streams
-    world = record { port = s; input = blocks_of given.input.items; out = out; trace = trace }
+    world = record { port = begun; input = blocks_of given.input.items; out = out; trace = trace }
 
     abbrev world' : World Streams
     world' = record { port = after; input = left; out = out'; trace = trace' }
 
-    ends_so : (end : End) (ran : Ran LineSteps a.graph world world' (Ok end)) → Talks a.graph.kind ran.events s after
-        → TellsIfEnded (Ok end) after s' → s'.fault ≡ None → EndsDrive files names end s s'
+    ends_so : (end : End) (ran : Ran LineSteps a.graph world world' (Ok end)) → Talks a.graph.kind ran.events begun after
+        → TellsIfEnded (Ok end) (limited s.left after) s' → s'.fault ≡ None → EndsDrive files names end s s'
     ends_so end ran talk told well =
-        let was : WasTold (end_line end) after s' = was_told (end_line end) told.0 after s' told.1 well in
-        let talked : Talked a.graph.kind ran.events s after = talked_at after.fault a.graph ran.events s after refl was.well talk in
+        let was : WasTold (end_line end) (limited s.left after) s' = was_told (end_line end) told.0 (limited s.left after) s' told.1 well in
+        let talked : Talked a.graph.kind ran.events begun after = talked_at after.fault a.graph ran.events begun after refl was.well talk in
         record {
           given = given;
           are_given = are;
@@ -150,6 +165,7 @@ module _ (files : Files) (names : DriveNames) (given : Given) (are : AreGiven fi
           accepted = accepted;
           events = ran.events;
           walk = ran.walk;
+          few = spends_few (commands ran.events) a.bound (Some a.bound) after.left refl talked.spent;
           left = left;
           input = ran.happened.input;
           written = appends_more s.requests after.requests s'.requests (requests a.graph.kind ran.events) (end_line end) talked.written was.written;
@@ -161,17 +177,17 @@ module _ (files : Files) (names : DriveNames) (given : Given) (are : AreGiven fi
         }
 
     ends_by : (end : End) (result : Result End RunFault) (ran : Ran LineSteps a.graph world world' result)
-        → Talks a.graph.kind (events_of LineSteps a.graph world world' result ran) s after → TellsIfEnded result after s'
+        → Talks a.graph.kind (events_of LineSteps a.graph world world' result ran) begun after → TellsIfEnded result (limited s.left after) s'
         → (s'.fault ≡ None) × (result ≡ Ok end) → EndsDrive files names end s s'
     ends_by end (Ok e) ran talk told is =
         let same : e ≡ end = cc is.1 in subst (λ x. EndsDrive files names x s s') same (ends_so e ran talk told is.0)
     ends_by end (Err fault) ran talk told is = absurd (cc is.1)
 
     -- where memory was refused nothing was asked
-    quiet_by : (result : Result End RunFault) (ran : Ran LineSteps a.graph world world' result) → TellsIfEnded result after s'
+    quiet_by : (result : Result End RunFault) (ran : Ran LineSteps a.graph world world' result) → TellsIfEnded result (limited s.left after) s'
         → result ≡ Err runs.Memory → s' ≡ s
     quiet_by (Ok e) ran told is = absurd (cc is)
-    quiet_by (Err runs.Memory) ran told is = told ∙ ap (λ w. w.port) ran.because.same
+    quiet_by (Err runs.Memory) ran told is = told ∙ ap (λ w. limited s.left w.port) ran.because.same
     quiet_by (Err fault) ran told is = absurd (cc is)
 
 module _ (files : Files) (names : DriveNames) (s s' : Streams) where
@@ -186,7 +202,7 @@ module _ (files : Files) (names : DriveNames) (s s' : Streams) where
   quiet_of came =
       let drive = came.traced.drive in
       quiet_by files names came.given came.are_given s s' came.out came.out' came.traced.trace came.traced.trace' came.taken came.traced.traced
-      drive.acceptance drive.accepted drive.after drive.left drive.result drive.ran drive.told (stopped_so runs.Memory s'.fault drive.result drive.came_out)
+      drive.acceptance drive.accepted drive.after drive.left drive.result drive.ran drive.told (no_memory s'.fault drive.result drive.came_out)
 
   pub answered : (outcome : Outcome) (r : Result (Unit {0}) Fault) → AnswersOutcome outcome r → ComesOut files names outcome s s'
       → OnOk r (EndsDrive files names ends.Done s s')

@@ -1,5 +1,6 @@
 pub mod TalkLaws
 pub mod BesideLaws
+pub mod LimitLaws
 pub mod DriveLaws
 pub mod ServedMaps
 pub mod CardLaws

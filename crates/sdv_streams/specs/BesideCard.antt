@@ -1,10 +1,10 @@
 -- A run over lines beside the card of the other side.
-use Rattle.std.specs.Prelude.{◌≡◌, ℕ, List, [], ◌∷◌, Option, Result}
+use Rattle.std.specs.Prelude.{◌≡◌, ℕ, List, [], ◌∷◌, Option, Some, Result}
 use Rattle.sdv_registers.specs.declared.kind.Kind.{Kind}
 use Rattle.sdv_card.specs.Card.{Card}
 use Rattle.sdv_card.specs.Port.{Call, call_of}
 use Rattle.sdv_card.specs.ScriptEvent.{Return}
-use Rattle.sdv_graph.specs.Walk.{Pair}
+use Rattle.sdv_graph.specs.Walk.{Ending, Pair}
 use Rattle.sdv_check.specs.Verified.{Acceptance, IsAccepted}
 use Rattle.sdv_trace.specs.declared.end.End.{End}
 use Rattle.sdv_run.specs.declared.fault.RunFault.{RunFault}
@@ -13,8 +13,9 @@ use Rattle.sdv_run.specs.Step.{World}
 use Rattle.sdv_run.specs.Ran.{IsWalk, Ran}
 use Rattle.sdv_run.specs.OnCard.{OnCard, RanBeside, ShowsStart}
 use Rattle.sdv_lines.specs.Answers.{Answers, IsAnswer}
-use Rattle.sdv_lines.specs.Streams.{Streams, LineSteps}
-use Rattle.sdv_streams.specs.Talk.{AreAnswers, events_of}
+use Rattle.sdv_lines.specs.declared.fault.PortFault.TheVariants.{Commands}
+use Rattle.sdv_lines.specs.Streams.{Streams, LineSteps, limited}
+use Rattle.sdv_streams.specs.Talk.{AreAnswers, BrokeOff, events_of}
 
 -- THE PREMISE: the other side made the call of each event once, in order, and the texts of its answer tell what that gave
 abbrev pub AnswersAs : {S : Type 0} → (S → Call → Return → S → Type 0) → Kind → List Pair → List (List (List ℕ)) →
@@ -61,3 +62,12 @@ DrivesBesideOther {S} steps card =
     (o o' : S) (c : Card) → IsAccepted script certificate a → IsWalk a.graph (ending_of end) es
     → AreAnswers a.graph.kind es answers → AnswersAs steps a.graph.kind es answers o o'
     → ShowsStart card a.graph.kind o c → ∥ OnCard card a.bound (ending_of end) es c o' ∥₁
+
+-- The limit on commands stops no run beside a card: where a run broke off at a command because none was left, and the answers
+-- before it tell what the other side did, the other side showed no card of the profile.
+abbrev pub NoneIsStopped : {S : Type 0} → (S → Call → Return → S → Type 0) → (S → Option Card) → Type 0
+NoneIsStopped {S} steps card =
+    (script certificate : List ℕ) (a : Acceptance) (last : Ending) (es : List Pair) (s s' : Streams) (o o' : S) (c : Card) →
+    IsAccepted script certificate a → IsWalk a.graph last es
+    → (broke : BrokeOff a.graph.kind es Commands (limited (Some a.bound) s) s')
+    → AnswersAs steps a.graph.kind broke.earlier broke.talked.answers o o' → ShowsStart card a.graph.kind o c → ⊥

@@ -1,10 +1,11 @@
 -- What the program does at `drive`: which script it runs, what it asks and hears, and what its files take.
-use Rattle.std.specs.Prelude.{◌≡◌, ◌≢◌, ◌⊎◌, ℕ, List, ◌∷◌, ◌++◌, Option, Some, None, Result, Ok, Err, codes, string_bytes}
+use Rattle.std.specs.Prelude.{◌≡◌, ◌≢◌, ◌≤◌, ◌⊎◌, ℕ, List, ◌∷◌, ◌++◌, Option, Some, None, Result, Ok, Err, codes, string_bytes}
 use Rattle.std.specs.Borrow.{Bor}
 use Rattle.std.specs.Io.KnownBytes.{Appends, Consumes}
 use Rattle.clap.specs.Words.{Text}
 use Rattle.sdv_card.specs.Card.{Block}
 use Rattle.sdv_graph.specs.Walk.{Pair, given as given_by}
+use Rattle.sdv_facts.specs.Beside.{commands}
 use Rattle.sdv_check.specs.Verified.{Acceptance, IsAccepted}
 use Rattle.sdv_trace.specs.declared.end.End.{End}
 use Rattle.sdv_trace.specs.declared.end.End.TheVariants as ends
@@ -15,7 +16,9 @@ use Rattle.sdv_run.specs.Run.{received, ending_of}
 use Rattle.sdv_trace.specs.Trace.{lines}
 use Rattle.sdv_run.specs.Ran.{IsWalk, Ran}
 use Rattle.sdv_lines.specs.declared.fault.LineFault.{LineFault}
-use Rattle.sdv_lines.specs.Streams.{Streams, LineSteps, TellsEnd}
+use Rattle.sdv_lines.specs.declared.fault.PortFault.{PortFault}
+use Rattle.sdv_lines.specs.declared.fault.PortFault.TheVariants.{Lines, Commands}
+use Rattle.sdv_lines.specs.Streams.{Streams, LineSteps, TellsEnd, limited}
 use Rattle.sdv_faults.specs.declared.fault.Fault.{Fault}
 use Rattle.sdv_faults.specs.declared.fault.Fault.TheVariants.{File, Script, Certificate, Refused, Run, Named, Memory}
 use Rattle.sdv_faults.specs.Fault.{fault_of_run}
@@ -26,7 +29,7 @@ use Rattle.sdv_run_command.specs.Run.{FileUse, GivesInput, IsSameGiven, IsUnusab
 use Rattle.sdv_streams.specs.declared.drive.Given.{Given}
 use Rattle.sdv_streams.specs.declared.drive.Outcome.{Outcome}
 use Rattle.sdv_streams.specs.declared.drive.Outcome.TheVariants.{Lost, Ended, Stopped}
-use Rattle.sdv_streams.specs.Talk.{AreAnswers, Talks, answer_lines, events_of, requests}
+use Rattle.sdv_streams.specs.Talk.{AreAnswers, Talks, answer_lines, asked, events_of, requests}
 
 -- THE FILES
 
@@ -43,18 +46,21 @@ pub record AreGiven (files : Files) (names : DriveNames) (given : Given) : Type 
 
 -- THE RUN
 
--- how a run came out whose port gave up for this reason, or for none
-abbrev pub outcome_of : Option LineFault → Result End RunFault → Outcome
-outcome_of (Some why) result = Lost why
+-- How a run came out whose port gave up for this reason, or for none. Where a command was one too many, no card of the
+-- tables gave the answers before it: none may give them.
+abbrev pub outcome_of : Option PortFault → Result End RunFault → Outcome
+outcome_of (Some (Lines why)) result = Lost why
+outcome_of (Some Commands) result = Stopped runs.Reply
 outcome_of None (Ok end) = Ended end
 outcome_of None (Err fault) = Stopped fault
 
 -- the other side was told of the end that a run came to
 abbrev pub TellsIfEnded : Result End RunFault → (s s' : Streams) → Type 0
-TellsIfEnded (Ok end) s s' = (told : Result (Unit {0}) LineFault) × TellsEnd s (end_line end) told s'
+TellsIfEnded (Ok end) s s' = (told : Result (Unit {0}) PortFault) × TellsEnd s (end_line end) told s'
 TellsIfEnded (Err fault) s s' = s' ≡ s
 
--- The script, which was verified with its certificate, ran over the lines with the input blocks, and its end was told.
+-- The script, which was verified with its certificate, ran over the lines with the input blocks, and its end was told. The
+-- port sent as many commands at most as were certified, whatever was answered.
 pub record IsDrive (given : Given) (outcome : Outcome) (out out' trace trace' : Option (List ℕ))
     (s s' : Streams) : Type 0 where
   pub acceptance : Acceptance
@@ -64,10 +70,15 @@ pub record IsDrive (given : Given) (outcome : Outcome) (out out' trace trace' : 
   pub after : Streams
   pub left : List Block
   pub ran : Ran LineSteps acceptance.graph
-      (record { port = s; input = blocks_of given.input.items; out = out; trace = trace })
+      (record { port = limited (Some acceptance.bound) s; input = blocks_of given.input.items; out = out; trace = trace })
       (record { port = after; input = left; out = out'; trace = trace' }) result
-  pub talks : Talks acceptance.graph.kind (events_of LineSteps acceptance.graph _ _ result ran) s after
-  pub told : TellsIfEnded result after s'
+  pub talks : Talks acceptance.graph.kind (events_of LineSteps acceptance.graph _ _ result ran)
+      (limited (Some acceptance.bound) s) after
+  -- the commands whose requests were written, in whole or in part
+  pub few : commands (asked acceptance.graph.kind (events_of LineSteps acceptance.graph _ _ result ran) _ after talks)
+      ≤ acceptance.bound
+  -- the limit was for the run
+  pub told : TellsIfEnded result (limited s.left after) s'
   pub came_out : outcome ≡ outcome_of s'.fault result
 
 -- why nothing was asked; want of memory says nothing
@@ -122,6 +133,8 @@ pub record EndsDrive (files : Files) (names : DriveNames) (end : End) (s s' : St
   pub accepted : IsAccepted (string_bytes given.script) (string_bytes given.certificate) acceptance
   pub events : List Pair
   pub walk : IsWalk acceptance.graph (ending_of end) events
+  -- whatever was answered
+  pub few : commands events ≤ acceptance.bound
   pub left : List Block
   pub input : blocks_of given.input.items ≡ given_by events ++ left
   pub written : Appends s.requests s'.requests (requests acceptance.graph.kind events ++ end_line end)

@@ -14,7 +14,7 @@ use sdv_check::verify;
 use sdv_command_line::DriveFiles;
 use sdv_faults::Fault;
 use sdv_files::{Store, text_in};
-use sdv_lines::{LineFault, LinePort};
+use sdv_lines::{LineFault, LinePort, PortFault};
 use sdv_run::{End, RunFault, run};
 use sdv_run_command::{Named, input_in};
 use std::alloc::Global;
@@ -36,7 +36,7 @@ pub enum Outcome {
     Lost(LineFault),
     /// The script came to an end, and the other side was told.
     Ended(End),
-    /// The run stopped before its end.
+    /// The run stopped before its end, or it was to send more commands than were certified.
     Stopped(RunFault),
 }
 
@@ -52,7 +52,8 @@ pub enum Outcome {
 ///   nothing more was asked.
 /// - [`Fault::Script`], [`Fault::Certificate`], [`Fault::Refused`]: the script is not accepted. Nothing was asked.
 /// - [`Fault::Named`]: the script ended in a fault that it names, or in `number`. The other side was told.
-/// - [`Fault::Run`]: the run stopped before its end, and the other side was told no end.
+/// - [`Fault::Run`]: the run stopped before its end, and the other side was told no end. Also where the next command was one
+///   more than is certified: then no card of the tables gave the answers.
 /// - [`Fault::Memory`]: memory was refused. Nothing was asked.
 pub fn drive_files<'a, S: Store, R: Read, W: Write>(
     alloc: Global,
@@ -155,7 +156,8 @@ fn drive_traced<'a, S: Store, R: Read, W: Write, O: Write>(
     }
 }
 
-/// Verifies a script with its certificate, runs it over a port of lines, and tells how the run ended.
+/// Verifies a script with its certificate, runs it over a port of lines, and tells how the run ended. As many commands are
+/// sent at most as are certified, whatever the other side answers.
 ///
 /// # Errors
 ///
@@ -180,7 +182,10 @@ fn drive_given<R: Read, W: Write, O: Write, T: Write>(
 {
     let accepted = verify(alloc, given.script.as_str(), given.certificate.as_str())?;
     let (input, _) = given.input.as_slice().as_chunks::<512>();
+    // The certificate bounds what cards make a script send. Answers that no card gives may lead to more.
+    let before = port.limit_commands(Some(accepted.bound()));
     let end = run(alloc, &accepted, port, input, out, trace);
+    let _ = port.limit_commands(before);
     tell_if_ended(port, &end);
     Ok(outcome_of(port.fault(), end))
 }
@@ -196,11 +201,12 @@ fn tell_if_ended<R: Read, W: Write>(port: &mut LinePort<R, W>, end: &Result<End,
 }
 
 /// How a run over lines came out, by why its port gave up and by its end.
-fn outcome_of(fault: Option<LineFault>, end: Result<End, RunFault>) -> Outcome
+fn outcome_of(fault: Option<PortFault>, end: Result<End, RunFault>) -> Outcome
     ensures { result ≡ outcome_of fault end }
 {
     match (fault, end) {
-        (Some(fault), _) => Outcome::Lost(fault),
+        (Some(PortFault::Lines(fault)), _) => Outcome::Lost(fault),
+        (Some(PortFault::Commands), _) => Outcome::Stopped(RunFault::Reply),
         (None, Ok(end)) => Outcome::Ended(end),
         (None, Err(fault)) => Outcome::Stopped(fault),
     }

@@ -1,6 +1,6 @@
 //! The law of both sides.
 
-ghost use Rattle.sdv_streams.specs.BesideCard.{DrivesBesideOther, RunsBesideOther};
+ghost use Rattle.sdv_streams.specs.BesideCard.{DrivesBesideOther, NoneIsStopped, RunsBesideOther};
 
 use sdv_card::CardPort;
 
@@ -15,4 +15,9 @@ pub fn runs_beside_the_card_of_the_other_side<P: CardPort>()
 /// events and their answers.
 pub fn drives_beside_the_card_of_the_other_side<P: CardPort>()
     ensures { DrivesBesideOther P.steps P.card }
+{}
+
+/// Where the other side answers as such a card, the limit on commands stops no run.
+pub fn the_limit_stops_no_run_beside_a_card<P: CardPort>()
+    ensures { NoneIsStopped P.steps P.card }
 {}

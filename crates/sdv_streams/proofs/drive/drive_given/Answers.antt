@@ -1,6 +1,7 @@
-use Rattle.std.proofs.Common.{◌≡◌, ◌∙◌, ap}
+use Rattle.std.proofs.Common.{◌≡◌, ◌∙◌, ap, Some}
 use Rattle.std.specs.Prelude.{string_bytes}
 use Rattle.sdv_check.specs.Verified.{IsAccepted}
+use Rattle.sdv_lines.specs.Streams.{limited}
 use Rattle.sdv_run_command.specs.Run.{blocks_of}
 use Rattle.sdv_run_command.proofs.RunLaws.{chunks_are_blocks}
 use Rattle.sdv_streams.specs.Drive.{outcome_of}
@@ -16,8 +17,13 @@ returns-clause-drove g c =
     c.as_chunks.ensures.front ∙ chunks_are_blocks _ _ ∙ ap blocks_of c.as_slice.ensures.value in
     let remaining = g.R.Read.remaining in
     let contents = g.W.Write.contents in
-    drove given c.outcome_of.result _ _ _ _ (streams remaining contents c.args.port.now) (streams remaining contents c.run-end.new.port)
-    (streams remaining contents c.tell_if_ended.new.port) c.requires c.in_ok-accepted.accepted accepted c.run-end.result
+    let s = streams remaining contents c.args.port.now in
+    drove given c.outcome_of.result _ _ _ _ s (streams remaining contents c.limit_commands-before.new.self)
+    (streams remaining contents c.run-end.new.port) (streams remaining contents c.limit_commands.new.self)
+    (streams remaining contents c.tell_if_ended.new.port) c.requires c.in_ok-accepted.accepted accepted
+    (c.limit_commands-before.ensures.limited ∙ ap (λ n. limited (Some n) s) c.bound.ensures)
+    (c.limit_commands.ensures.limited ∙ ap (λ n. limited n (streams remaining contents c.run-end.new.port)) c.limit_commands-before.ensures.before)
+    c.run-end.result
     c.as_chunks.result.0.now c.run-end.ensures.0 input
     (run_of_lines remaining contents c.in_ok-accepted.accepted.graph c.in_ok-accepted.accepted.bound _ _ c.run-end.result c.run-end.ensures.1)
     c.tell_if_ended.ensures (c.outcome_of.ensures ∙ ap (λ fault. outcome_of fault c.run-end.result) c.fault.ensures)
