@@ -13,16 +13,17 @@ Tables of accepted scripts.
   #include <stdint.h>
   
   const uint32_t table[] = {
-      /* header */
-      0x54564453, 0x00000001, 0x000c0002, 0x00000000, 0x00000002, 0x00000000,
-      0x00080400, /* point 0, line 2: CMD0 */
-      0x000b0049, /* point 1, line 3: fault stop */
+      /* header; a player sends no more commands than its last two words say */
+      0x54564453, 0x00000002, 0x000e0002, 0x00000000, 0x00000002, 0x00000000, 0x00000001, 0x00000000,
+      0x000a0400, /* point 0, line 2: CMD0 */
+      0x000d0049, /* point 1, line 3: fault stop */
       /* rows */
       0x00000001, 0x00000000, 0x00000000, 0x706f7473,
   };
-  $ od -A n -t x1 -v a.bin | head -n 2
-   53 44 56 54 01 00 00 00 02 00 0c 00 00 00 00 00
-   02 00 00 00 00 00 00 00 00 04 08 00 49 00 0b 00
+  $ od -A n -t x1 -v a.bin | head -n 3
+   53 44 56 54 02 00 00 00 02 00 0e 00 00 00 00 00
+   02 00 00 00 00 00 00 00 01 00 00 00 00 00 00 00
+   00 04 0a 00 49 00 0d 00 01 00 00 00 00 00 00 00
 
 A name that could end the comment does not.
 

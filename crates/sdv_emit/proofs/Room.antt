@@ -10,10 +10,10 @@ heads_length : (k : Kind) (at : ℕ) (ps : List Point) → length (heads k at ps
 heads_length k at [] = refl
 heads_length k at (p ∷ ps) = ap (λ (n : ℕ). suc n) (heads_length k (at + length (row_of_action k p.action)) ps)
 
-pub has_room : (g : Graph) (ws : List ℕ) → ws ≡ table_of g → header_size + length g.points ≤ length ws
+pub has_room : (g : Graph) (most : ℕ) (ws : List ℕ) → ws ≡ table_of g most → header_size + length g.points ≤ length ws
 unfolding table_of
-has_room g ws is =
-    let all : length ws ≡ suc (suc (suc (suc (suc (suc (length (heads g.kind (first_row g) g.points ++ rows g.kind g.points))))))) = ap (λ (l : List ℕ). length l) is in
+has_room g most ws is =
+    let all : length ws ≡ suc (suc (suc (suc (suc (suc (suc (suc (length (heads g.kind (first_row g) g.points ++ rows g.kind g.points))))))))) = ap (λ (l : List ℕ). length l) is in
     let both : length (heads g.kind (first_row g) g.points ++ rows g.kind g.points)
     ≡ length (heads g.kind (first_row g) g.points) + length (rows g.kind g.points) =
     length-append (heads g.kind (first_row g) g.points) (rows g.kind g.points) in

@@ -7,7 +7,7 @@ use Rattle.std.proofs.lemmas.Nat.{from_le_bytes-to_le_bytes_4}
 use Rattle.sdv_graph.specs.Graph.{Graph}
 use Rattle.sdv_table.specs.Table.{header_size}
 use Rattle.sdv_emit.specs.Identifier.{is_first, is_further, is_identifier}
-use Rattle.sdv_emit.specs.CText.{Text, comment, title, promise, top, declaration, array_text, c_text, little_endian}
+use Rattle.sdv_emit.specs.CText.{Text, comment, title, promise, top, array_top, declaration, array_text, c_text, little_endian}
 use Rattle.sdv_emit.specs.Reading.{Code, read, words_in, words_of_bytes}
 use Rattle.sdv_emit.proofs.Bytes.{differs}
 use Rattle.sdv_emit.proofs.Comments.{comment_skipped}
@@ -52,16 +52,16 @@ type_skipped : (rest : Text) → read false Code (codes "#include <stdint.h>\n\n
 unfolding read
 type_skipped rest = refl
 
-array_begun : (rest : Text) → read false Code (codes "[] = {\n    /* header */" ++ rest) ≡ read true Code rest
+array_begun : (rest : Text) → read false Code (array_top ++ rest) ≡ read true Code rest
 unfolding read
 array_begun rest = refl
 
 declaration_read : (name rest : Text) → is_identifier name ≡ true → read false Code (declaration name ++ rest) ≡ read true Code rest
 declaration_read name rest is =
-    ap (read false Code) (append_assoc (codes "#include <stdint.h>\n\nconst uint32_t ") (name ++ codes "[] = {\n    /* header */") rest)
-    ∙ (type_skipped ((name ++ codes "[] = {\n    /* header */") ++ rest)
-    ∙ (ap (read false Code) (append_assoc name (codes "[] = {\n    /* header */") rest)
-    ∙ (name_skipped name (codes "[] = {\n    /* header */" ++ rest) is ∙ array_begun rest)))
+    ap (read false Code) (append_assoc (codes "#include <stdint.h>\n\nconst uint32_t ") (name ++ array_top) rest)
+    ∙ (type_skipped ((name ++ array_top) ++ rest)
+    ∙ (ap (read false Code) (append_assoc name array_top rest)
+    ∙ (name_skipped name (array_top ++ rest) is ∙ array_begun rest)))
 
 -- THE TEXT
 

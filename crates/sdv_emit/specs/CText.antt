@@ -85,9 +85,12 @@ promise =
 abbrev pub top : (file : Text) → (bound : ℕ) → Text
 top file bound = comment (title file bound) ++ promise
 
+-- the header ends in the two words of the number of commands
+abbrev pub array_top : Text
+array_top = codes "[] = {\n    /* header; a player sends no more commands than its last two words say */"
+
 abbrev pub declaration : (name : Text) → Text
-declaration name =
-    codes "#include <stdint.h>\n\nconst uint32_t " ++ (name ++ codes "[] = {\n    /* header */")
+declaration name = codes "#include <stdint.h>\n\nconst uint32_t " ++ (name ++ array_top)
 
 -- what follows the points
 abbrev pub rows_text : (rows : List ℕ) → Text

@@ -13,15 +13,16 @@ use Rattle.sdv_emit.specs.CText.{Text, c_text, little_endian}
 use Rattle.sdv_emit.specs.Identifier.{is_identifier}
 use Rattle.sdv_emit.specs.Reading.{words_in, words_of_bytes}
 
--- The table of the graph that was accepted was printed, as that of a script in this file and as an array of this name.
+-- The table of the graph that was accepted, with the certificate's bound, was printed, as that of a script in this file and
+-- as an array of this name.
 pub record EmitsGraph (a : Acceptance) (file name : Text) (e : Emitted) : Type 0 where
   pub fits : Fits a.graph
   pub identifier : is_identifier name ≡ true
-  pub text : e.text.items ≡ c_text file name a.bound a.graph (table_of a.graph)
-  pub binary : e.binary.items ≡ little_endian (table_of a.graph)
-  -- what a compiler reads in the text, and a loader in the bytes, is the table of the graph
-  pub text_read : words_in e.text.items ≡ table_of a.graph
-  pub binary_read : words_of_bytes e.binary.items ≡ table_of a.graph
+  pub text : e.text.items ≡ c_text file name a.bound a.graph (table_of a.graph a.bound)
+  pub binary : e.binary.items ≡ little_endian (table_of a.graph a.bound)
+  -- what a compiler reads in the text, and a loader in the bytes, is that table
+  pub text_read : words_in e.text.items ≡ table_of a.graph a.bound
+  pub binary_read : words_of_bytes e.binary.items ≡ table_of a.graph a.bound
 
 -- The certificate is closed for the graph of the script, with the bound that is printed, and the table of that graph was
 -- printed.

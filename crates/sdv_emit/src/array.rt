@@ -59,7 +59,10 @@ fn put_declaration(text: &mut Text, name: &str) -> Result<(), AllocError>
 {
     put(text, "#include <stdint.h>\n\nconst uint32_t ")?;
     put(text, name)?;
-    put(text, "[] = {\n    /* header */")
+    put(
+        text,
+        "[] = {\n    /* header; a player sends no more commands than its last two words say */",
+    )
 }
 
 /// Adds the rows, and the end of the array.
@@ -81,9 +84,9 @@ fn put_array(
     requires heads { header_size + length graph.now.points ≤ length words.now }
     ensures { OnOk result (text.new.items ≡ text.old.items ++ array_text graph.now words.now) }
 {
-    put_words(text, &words[..6])?;
+    put_words(text, &words[..8])?;
     put_points(alloc, text, graph, words)?;
-    put_rows(text, &words[6 + graph.len()..])
+    put_rows(text, &words[8 + graph.len()..])
 }
 
 /// The text in C of the table of a graph, whose words are these.

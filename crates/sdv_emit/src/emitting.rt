@@ -58,12 +58,13 @@ fn emit_accepted(
     ensures fails { IfErr result (HasNoTable accepted.now.graph) }
 {
     let graph = accepted.graph();
-    let words = match encode(alloc, graph) {
+    let bound = accepted.bound();
+    let words = match encode(alloc, graph, bound) {
         Ok(words) => words,
         Err(TableFault::Wide(part)) => return Err(EmitFault::Wide(part)),
         Err(TableFault::Memory) => return Err(EmitFault::Memory),
     };
     let binary = little_endian(alloc, words.as_slice())?;
-    let text = c_text(alloc, labels, accepted.bound(), graph, words.as_slice())?;
+    let text = c_text(alloc, labels, bound, graph, words.as_slice())?;
     Ok(Emitted { text, binary })
 }

@@ -64,7 +64,7 @@ pub fn put_points(
     for number in 0..graph.len() {
         let action = &graph.point(number).action;
         let about = point_words(alloc, number, lines[number], action, names)?;
-        put_head(text, words[6 + number], about.as_slice())?;
+        put_head(text, words[8 + number], about.as_slice())?;
     }
     Ok(())
 }

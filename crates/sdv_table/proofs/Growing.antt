@@ -74,10 +74,10 @@ done_next k c ps i {k'} {c'} {start} {hs} {rs} {hs'} {rs'} {p} {head} {place} sa
     subst (λ ps. Done k c start ps hs' rs') (sym (take_next ps i p e)) all
 
 -- the words of the table, one part after another
-pub table_is : (g : Graph) {w5 w6 w7 hs rs : List ℕ} → w5 ≡ header g → w6 ≡ w5 ++ hs → w7 ≡ w6 ++ rs
-    → hs ≡ heads g.kind (first_row g) g.points → rs ≡ rows g.kind g.points → w7 ≡ table_of g
+pub table_is : (g : Graph) (most : ℕ) {w5 w6 w7 hs rs : List ℕ} → w5 ≡ header g most → w6 ≡ w5 ++ hs → w7 ≡ w6 ++ rs
+    → hs ≡ heads g.kind (first_row g) g.points → rs ≡ rows g.kind g.points → w7 ≡ table_of g most
 unfolding table_of
-table_is g {w5} {w6} {w7} {hs} {rs} head e6 e7 eh er =
-    e7 ∙ ap (λ w. w ++ rs) (e6 ∙ ap (λ w. w ++ hs) head ∙ ap (λ h. header g ++ h) eh)
-    ∙ ap (λ r. (header g ++ heads g.kind (first_row g) g.points) ++ r) er
-    ∙ append_assoc (header g) (heads g.kind (first_row g) g.points) (rows g.kind g.points)
+table_is g most {w5} {w6} {w7} {hs} {rs} head e6 e7 eh er =
+    e7 ∙ ap (λ w. w ++ rs) (e6 ∙ ap (λ w. w ++ hs) head ∙ ap (λ h. header g most ++ h) eh)
+    ∙ ap (λ r. (header g most ++ heads g.kind (first_row g) g.points) ++ r) er
+    ∙ append_assoc (header g most) (heads g.kind (first_row g) g.points) (rows g.kind g.points)

@@ -54,30 +54,30 @@ row_inside g i p e =
     length-append (row_of_action g.kind p.action) (rows g.kind (drop (i + 1) g.points)) in
     omega arith
 
-row_there : (g : Graph) (i : ℕ) (p : Point) → slice_get g.points i ≡ Some p
-    → drop (place g i) (table_of g) ≡ row_of_action g.kind p.action ++ rows g.kind (drop (i + 1) g.points)
+row_there : (g : Graph) (most : ℕ) (i : ℕ) (p : Point) → slice_get g.points i ≡ Some p
+    → drop (place g i) (table_of g most) ≡ row_of_action g.kind p.action ++ rows g.kind (drop (i + 1) g.points)
 unfolding table_of
-row_there g i p e =
+row_there g most i p e =
     let k = g.kind in
     let hs = heads k (first_row g) g.points in
     let before = rows k (take i g.points) in
     let after = row_of_action k p.action ++ rows k (drop (i + 1) g.points) in
-    let front = (header g ++ hs) ++ before in
-    let whole : table_of g ≡ front ++ after =
-    ap (λ r. header g ++ (hs ++ r)) (rows_parted k g.points i p e)
-    ∙ sym (append_assoc (header g) hs (before ++ after))
-    ∙ sym (append_assoc (header g ++ hs) before after) in
+    let front = (header g most ++ hs) ++ before in
+    let whole : table_of g most ≡ front ++ after =
+    ap (λ r. header g most ++ (hs ++ r)) (rows_parted k g.points i p e)
+    ∙ sym (append_assoc (header g most) hs (before ++ after))
+    ∙ sym (append_assoc (header g most ++ hs) before after) in
     let long : length front ≡ place g i =
-    let a = length-append (header g ++ hs) before in
-    let b = length-append (header g) hs in
+    let a = length-append (header g most ++ hs) before in
+    let b = length-append (header g most) hs in
     let c = length-heads k (first_row g) g.points in
     omega arith in
     ap (λ w. drop (place g i) w) whole ∙ drop_at front after (place g i) long
 
-head_there : (g : Graph) (i : ℕ) (p : Point) → slice_get g.points i ≡ Some p
-    → head_read (table_of g) i ≡ head_of_action p.action + 65536 * place g i
+head_there : (g : Graph) (most : ℕ) (i : ℕ) (p : Point) → slice_get g.points i ≡ Some p
+    → head_read (table_of g most) i ≡ head_of_action p.action + 65536 * place g i
 unfolding table_of
-head_there g i p e =
+head_there g most i p e =
     let k = g.kind in
     let at = first_row g in
     let before = heads k at (take i g.points) in
@@ -87,16 +87,16 @@ head_there g i p e =
     let long : length before ≡ i = length-heads k at (take i g.points) ∙ length-take-le i g.points (omega arith) in
     let hs : heads k at g.points ≡ before ++ own ∷ after =
     ap (λ ps. heads k at ps) (parted g.points i p e) ∙ heads_append k at (take i g.points) (p ∷ drop (i + 1) g.points) in
-    let whole : table_of g ≡ (header g ++ before) ++ own ∷ (after ++ rows k g.points) =
-    ap (λ h. header g ++ (h ++ rows k g.points)) hs
-    ∙ ap (λ t. header g ++ t) (append_assoc before (own ∷ after) (rows k g.points))
-    ∙ sym (append_assoc (header g) before (own ∷ (after ++ rows k g.points))) in
-    let front : length (header g ++ before) ≡ 6 + i = omega (arith, length-append (header g) before) in
-    ap (λ w. slice_index w (6 + i)) whole ∙ get_or_at (header g ++ before) own (after ++ rows k g.points) 0 (6 + i) front
+    let whole : table_of g most ≡ (header g most ++ before) ++ own ∷ (after ++ rows k g.points) =
+    ap (λ h. header g most ++ (h ++ rows k g.points)) hs
+    ∙ ap (λ t. header g most ++ t) (append_assoc before (own ∷ after) (rows k g.points))
+    ∙ sym (append_assoc (header g most) before (own ∷ (after ++ rows k g.points))) in
+    let front : length (header g most ++ before) ≡ 8 + i = omega (arith, length-append (header g most) before) in
+    ap (λ w. slice_index w (8 + i)) whole ∙ get_or_at (header g most ++ before) own (after ++ rows k g.points) 0 (8 + i) front
 
-pub count_there : (g : Graph) → size g < 65536 → (counts_read (table_of g)).points ≡ length g.points
+pub count_there : (g : Graph) (most : ℕ) → size g < 65536 → (counts_read (table_of g most)).points ≡ length g.points
 unfolding table_of
-count_there g few = omega arith
+count_there g most few = omega arith
 
 fits_there : (k : Kind) (c : Counts) (ps : List Point) (p : Point) (qs : List Point) → PointsFit k c (ps ++ p ∷ qs) → ActionFits k c p.action
 fits_there k c [] p qs fits = fits.0
@@ -112,14 +112,14 @@ pub record There (g : Graph) (ws : List ℕ) (i : ℕ) (a : Action) : Type 0 whe
   pub after : List ℕ
   pub row_is : row_read ws i ≡ row_of_action g.kind a ++ after
 
-pub there : (g : Graph) (i : ℕ) (p : Point) {ws : List ℕ} → IsTable g ws → slice_get g.points i ≡ Some p → There g ws i p.action
-there g i p {ws} table e =
+pub there : (g : Graph) (i : ℕ) (p : Point) {most : ℕ} {ws : List ℕ} → IsTable g most ws → slice_get g.points i ≡ Some p → There g ws i p.action
+there g i p {most} {ws} table e =
     let fits : ActionFits g.kind (counts_of g) p.action =
     fits_there g.kind (counts_of g) (take i g.points) p (drop (i + 1) g.points)
     (subst (λ ps. PointsFit g.kind (counts_of g) ps) (parted g.points i p e) table.fits.points) in
     let grown = parts_grown (counts_of g) p.action table.fits.counts fits.parts in
     let head : head_read ws i ≡ head_of_action p.action + 65536 * place g i =
-    ap (λ w. head_read w i) table.same ∙ head_there g i p e in
+    ap (λ w. head_read w i) table.same ∙ head_there g most i p e in
     let small = small_fits p.action grown in
     let inside = row_inside g i p e in
     let few = table.fits.words in
@@ -133,7 +133,7 @@ there g i p {ws} table e =
       small_is = s;
       place_is = at;
       after = rows g.kind (drop (i + 1) g.points);
-      row_is = ap (λ n. drop n ws) at ∙ ap (λ w. drop (place g i) w) table.same ∙ row_there g i p e;
+      row_is = ap (λ n. drop n ws) at ∙ ap (λ w. drop (place g i) w) table.same ∙ row_there g most i p e;
     }
 
 -- the statement that is read is the point's
@@ -155,17 +155,17 @@ past_points ws i past = ap (λ b. if b then action_of (head_read ws i % 16) (sma
     (le-ltb i (counts_read ws).points past)
 
 -- the words of a table are read as the graph's statements
-pub action_there : (g : Graph) (i : ℕ) (p : Point) {ws : List ℕ} → IsTable g ws → slice_get g.points i ≡ Some p
+pub action_there : (g : Graph) (i : ℕ) (p : Point) {most : ℕ} {ws : List ℕ} → IsTable g most ws → slice_get g.points i ≡ Some p
     → action_at ws i ≡ Some p.action
-action_there g i p {ws} table e =
-    let count : (counts_read ws).points ≡ length g.points = ap (λ w. (counts_read w).points) table.same ∙ count_there g table.fits.words in
+action_there g i p {most} {ws} table e =
+    let count : (counts_read ws).points ≡ length g.points = ap (λ w. (counts_read w).points) table.same ∙ count_there g most table.fits.words in
     let within = slice_get_within g.points i p e in
     let is : There g ws i p.action = there g i p table e in
     at_point ws i (omega arith) ∙ there_read is
 
-pub table_read : (g : Graph) (ws : List ℕ) (i : ℕ) → IsTable g ws → action_at ws i ≡ option_map (λ p. p.action) (slice_get g.points i)
-table_read g ws i table =
-    let count : (counts_read ws).points ≡ length g.points = ap (λ w. (counts_read w).points) table.same ∙ count_there g table.fits.words in
+pub table_read : (g : Graph) {most : ℕ} (ws : List ℕ) (i : ℕ) → IsTable g most ws → action_at ws i ≡ option_map (λ p. p.action) (slice_get g.points i)
+table_read g {most} ws i table =
+    let count : (counts_read ws).points ≡ length g.points = ap (λ w. (counts_read w).points) table.same ∙ count_there g most table.fits.words in
     elim ((slice_get_cases g.points i).1) [
       | inl there ↦ action_there g i there.0 table there.2 ∙ ap (λ o. option_map (λ p. p.action) o) (sym there.2)
       | inr past ↦
@@ -175,8 +175,8 @@ table_read g ws i table =
     ]
 
 -- and its command is sent as they say
-pub sending_there : (g : Graph) (ws : List ℕ) (i : ℕ) (p : Point) → IsTable g ws → slice_get g.points i ≡ Some p
+pub sending_there : (g : Graph) {most : ℕ} (ws : List ℕ) (i : ℕ) (p : Point) → IsTable g most ws → slice_get g.points i ≡ Some p
     → IsSentRight g.kind p.action (sending_at ws i)
-sending_there g ws i p table e =
+sending_there g {most} ws i p table e =
     let is : There g ws i p.action = there g i p table e in
     sent_back g.kind p.action (small_read ws i) (row_read ws i) is.after is.small_is is.row_is is.grown

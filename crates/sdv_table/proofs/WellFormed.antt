@@ -67,10 +67,10 @@ length-row k (tests c holds other) = let l = length-condition c in omega arith
 length-row k (stops (Failed name)) = length-name name
 length-row k action = refl
 
-length-table : (g : Graph) → length (table_of g) ≡ size g
+length-table : (g : Graph) (most : ℕ) → length (table_of g most) ≡ size g
 unfolding table_of
-length-table g =
-    let a = length-append (header g) (heads g.kind (first_row g) g.points ++ rows g.kind g.points) in
+length-table g most =
+    let a = length-append (header g most) (heads g.kind (first_row g) g.points ++ rows g.kind g.points) in
     let b = length-append (heads g.kind (first_row g) g.points) (rows g.kind g.points) in
     let c = length-heads g.kind (first_row g) g.points in
     omega arith
@@ -92,7 +92,7 @@ record Parts (word kind numbers flags : ℕ) : Type 0 where
   pub numbers_is : word / 65536 % 256 ≡ numbers
   pub flags_is : word / 16777216 ≡ flags
 
-parts_of : (word k n f : ℕ) → word ≡ 1 + 256 * (k + 256 * (n + 256 * f)) → k < 2 → n ≤ 8 → f ≤ 4 → Parts word k n f
+parts_of : (word k n f : ℕ) → word ≡ 2 + 256 * (k + 256 * (n + 256 * f)) → k < 2 → n ≤ 8 → f ≤ 4 → Parts word k n f
 parts_of word k n f is few_k few_n few_f =
     record { version_is = omega arith; kind_is = omega arith; numbers_is = omega arith; flags_is = omega arith }
 
@@ -109,14 +109,14 @@ pub record Header (g : Graph) (ws : List ℕ) : Type 0 where
   pub size_is : length ws ≡ size g
   pub first_same : target_of (slice_index ws 3) ≡ g.first
 
-header_there : (g : Graph) (ws : List ℕ) → IsTable g ws → Header g ws
+header_there : (g : Graph) (most : ℕ) (ws : List ℕ) → IsTable g most ws → Header g ws
 unfolding table_of counts_with
-header_there g ws table =
+header_there g most ws table =
     let few = table.fits.counts in
-    let w1 : slice_index ws 1 ≡ 1 + 256 * (kind_code g.kind + 256 * (g.numbers + 256 * g.flags)) =
+    let w1 : slice_index ws 1 ≡ 2 + 256 * (kind_code g.kind + 256 * (g.numbers + 256 * g.flags)) =
     ap (λ ws. slice_index ws 1) table.same in
     let w2 : slice_index ws 2 ≡ length g.points + 65536 * size g = ap (λ ws. slice_index ws 2) table.same in
-    let long : length ws ≡ size g = ap length table.same ∙ length-table g in
+    let long : length ws ≡ size g = ap length table.same ∙ length-table g most in
     let parts = parts_of (slice_index ws 1) (kind_code g.kind) g.numbers g.flags w1 (kind_small g.kind) few.numbers few.flags in
     let less = few.points in
     let points : slice_index ws 2 % 65536 ≡ length g.points = omega arith in
@@ -136,8 +136,8 @@ header_there g ws table =
           ∙ target_back g.first (target_grown (length g.points) g.first few.points table.fits.first);
     }
 
-point_there : (g : Graph) (ws : List ℕ) (i : ℕ) (p : Point) → IsTable g ws → Header g ws → slice_get g.points i ≡ Some p → IsPoint ws i
-point_there g ws i p table head e =
+point_there : (g : Graph) (most : ℕ) (ws : List ℕ) (i : ℕ) (p : Point) → IsTable g most ws → Header g ws → slice_get g.points i ≡ Some p → IsPoint ws i
+point_there g most ws i p table head e =
     let is : There g ws i p.action = there g i p table e in
     let long = length-row g.kind p.action in
     let inside = row_inside g i p e in
@@ -154,9 +154,9 @@ point_there g ws i p table head e =
       inside = omega arith;
     }
 
-pub table_is_well_formed : (g : Graph) (ws : List ℕ) → IsTable g ws → IsWellFormed ws
-table_is_well_formed g ws table =
-    let head = header_there g ws table in
+pub table_is_well_formed : (g : Graph) (most : ℕ) (ws : List ℕ) → IsTable g most ws → IsWellFormed ws
+table_is_well_formed g most ws table =
+    let head = header_there g most ws table in
     let points : (counts_read ws).points ≡ length g.points = ap (λ c. c.points) head.counts_same in
     let all = head.size_is in
     record {
@@ -167,7 +167,7 @@ table_is_well_formed g ws table =
       first = subst (λ t. TargetFits (counts_read ws).points t) (sym head.first_same)
           (subst (λ n. TargetFits n g.first) (sym points) table.fits.first);
       points = λ i less. elim ((slice_get_cases g.points i).1) [
-        | inl found ↦ point_there g ws i found.0 table head found.2
+        | inl found ↦ point_there g most ws i found.0 table head found.2
         | inr past ↦ let far = past.0 in absurd (omega arith)
       ];
     }

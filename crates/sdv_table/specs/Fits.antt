@@ -153,10 +153,10 @@ pub record Fits (g : Graph) : Type 0 where
   -- a row's place has 16 bits
   pub words : size g < 65536
 
--- these are the words of the table of a graph that fits one
-pub record IsTable (g : Graph) (words : List ℕ) : Type 0 where
+-- these are the words of the table of a graph that fits one, with the number of commands that its header says
+pub record IsTable (g : Graph) (most : ℕ) (words : List ℕ) : Type 0 where
   pub fits : Fits g
-  pub same : words ≡ table_of g
+  pub same : words ≡ table_of g most
 
 -- the statement at a point does not fit
 pub record IsWide (g : Graph) (i : ℕ) : Type 0 where

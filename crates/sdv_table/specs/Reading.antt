@@ -211,6 +211,13 @@ counts_read ws = record {
   points = slice_index ws 2 % 65536;
 }
 
+-- how many moves a run makes at most, and how many commands it sends at most
+abbrev pub moves_read : List ℕ → ℕ
+moves_read ws = number_at ws 4
+
+abbrev pub commands_read : List ℕ → ℕ
+commands_read ws = number_at ws 6
+
 -- a point's word, and the words from its row on
 abbrev pub head_read : List ℕ → ℕ → ℕ
 head_read ws i = slice_index ws (header_size + i)

@@ -1,4 +1,4 @@
--- The TABLE of a graph: a header of six words, a word for each point, and the points' rows.
+-- The TABLE of a graph: a header of eight words, a word for each point, and the points' rows.
 use Rattle.std.specs.Prelude.{ℕ, ◌+◌, ◌*◌, List, [], ◌∷◌, ◌++◌, length}
 use Rattle.sdv_registers.specs.declared.kind.Kind.{Kind}
 use Rattle.sdv_registers.specs.declared.kind.Kind.TheVariants.{Sd, Emmc}
@@ -24,10 +24,10 @@ abbrev pub magic : ℕ
 magic = 0x54564453
 
 abbrev pub version : ℕ
-version = 1
+version = 2
 
 abbrev pub header_size : ℕ
-header_size = 6
+header_size = 8
 
 abbrev pub first_row : Graph → ℕ
 first_row g = header_size + length g.points
@@ -35,10 +35,11 @@ first_row g = header_size + length g.points
 abbrev pub size : Graph → ℕ
 size g = first_row g + length (rows g.kind g.points)
 
-abbrev pub header : Graph → List ℕ
-header g =
+-- it says of how many moves no run makes more, and of how many commands none sends more
+abbrev pub header : Graph → (most : ℕ) → List ℕ
+header g most =
     magic ∷ (version + 256 * (kind_code g.kind + 256 * (g.numbers + 256 * g.flags))) ∷ (length g.points + 65536 * size g)
-    ∷ target_word g.first ∷ low g.steps ∷ high g.steps ∷ []
+    ∷ target_word g.first ∷ low g.steps ∷ high g.steps ∷ low most ∷ high most ∷ []
 
-unfoldable pub table_of : Graph → List ℕ
-table_of g = header g ++ (heads g.kind (first_row g) g.points ++ rows g.kind g.points)
+unfoldable pub table_of : Graph → (most : ℕ) → List ℕ
+table_of g most = header g most ++ (heads g.kind (first_row g) g.points ++ rows g.kind g.points)

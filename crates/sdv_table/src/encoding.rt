@@ -63,7 +63,7 @@ fn points_of(alloc: Global, graph: &Graph<'_>, counts: Counts) -> Result<Points,
     ensures reason { IfErr result (IsReason graph.now) }
 {
     let kind = graph.kind();
-    let start = 6 + counts.points;
+    let start = 8 + counts.points;
     let mut heads = Vec::new(alloc);
     let mut rows = Vec::new(alloc);
     for number in 0..counts.points {
@@ -91,17 +91,18 @@ fn kind_code(kind: Kind) -> u32
     }
 }
 
-// The header of a table of so many words.
+// The header of a table of so many words, whose runs send no more commands than `most`.
 fn header_of(
     alloc: Global,
     graph: &Graph<'_>,
+    most: u64,
     counts: Counts,
     total: usize,
 ) -> Result<Vec<u32>, TableFault>
     requires same { counts ≡ counts_of graph.now }
     requires fit { CountsFit counts }
     requires few_words { total < 65536 }
-    ensures words { IfOk result (λ words. total ≡ size graph.now → words.items ≡ header graph.now) }
+    ensures words { IfOk result (λ words. total ≡ size graph.now → words.items ≡ header graph.now most) }
     ensures fits { IfOk result (λ _. TargetFits counts.points graph.now.first) }
     ensures few { IfOk result (λ _. graph.now.steps < 2 ^ 64) }
     ensures reason { IfErr result (IsReason graph.now) }
@@ -117,41 +118,43 @@ fn header_of(
     let parts = kind_code(graph.kind()) + 256 * (counts.numbers as u32 + 256 * counts.flags as u32);
     let mut words = Vec::new(alloc);
     words.push(0x5456_4453)?;
-    words.push(1 + 256 * parts)?;
+    words.push(2 + 256 * parts)?;
     words.push(counts.points as u32 + 65536 * total as u32)?;
     words.push(target_word(first))?;
     put_number(&mut words, steps as u64)?;
+    put_number(&mut words, most)?;
     Ok(words)
 }
 
-// The table of a graph.
-fn table_of(alloc: Global, graph: &Graph<'_>) -> Result<Vec<u32>, TableFault>
-    ensures table { IfOk result (λ words. IsTable graph.now words.items) }
+// The table of a graph, whose runs send no more commands than `most`.
+fn table_of(alloc: Global, graph: &Graph<'_>, most: u64) -> Result<Vec<u32>, TableFault>
+    ensures table { IfOk result (λ words. IsTable graph.now most words.items) }
     ensures reason { IfErr result (IsReason graph.now) }
 {
     let counts = counts_of(graph)?;
     let points = points_of(alloc, graph, counts)?;
-    let start = 6 + counts.points;
+    let start = 8 + counts.points;
     let row_words = points.rows.len();
     if row_words >= 65536 - start {
         return Err(TableFault::Wide(Part::Words));
     }
-    let mut words = header_of(alloc, graph, counts, start + row_words)?;
+    let mut words = header_of(alloc, graph, most, counts, start + row_words)?;
     words.extend_from_slice(&points.heads)?;
     words.extend_from_slice(&points.rows)?;
     Ok(words)
 }
 
-/// The table of a graph, which is well formed.
+/// The table of a graph, which is well formed. Its header says that no run sends more commands than `most`; a player asks for
+/// no more.
 ///
 /// # Errors
 ///
 /// [`TableFault::Wide`] where a part of the graph has no room, and [`TableFault::Memory`].
-pub fn encode(alloc: Global, graph: &Graph<'_>) -> Result<Vec<u32>, TableFault>
-    ensures table { IfOk result (λ words. IsTable graph.now words.items) }
+pub fn encode(alloc: Global, graph: &Graph<'_>, most: u64) -> Result<Vec<u32>, TableFault>
+    ensures table { IfOk result (λ words. IsTable graph.now most words.items) }
     ensures reason { IfErr result (IsReason graph.now) }
     ensures well_formed { IfOk result (λ words. IsWellFormed words.items) }
 {
-    let words = table_of(alloc, graph)?;
+    let words = table_of(alloc, graph, most)?;
     Ok(words)
 }

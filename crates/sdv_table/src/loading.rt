@@ -182,7 +182,7 @@ fn is_point(words: &[u32], kind: Kind, counts: Counts, number: usize) -> bool
     let place = place_at(words, number);
     parts_fit(counts, row)
         && is_sent_right(kind, row, read_sending(words, number))
-        && 6 + counts.points <= place
+        && 8 + counts.points <= place
         && place + row_size(row) <= words.len()
 }
 
@@ -190,7 +190,7 @@ fn has_size(words: &[u32]) -> bool
     ensures yes { result ≡ true → HasSize words.now }
     ensures no { HasSize words.now → result ≡ true }
 {
-    (word(words, 2) / 65536) as usize == words.len() && 6 + points_at(words) <= words.len()
+    (word(words, 2) / 65536) as usize == words.len() && 8 + points_at(words) <= words.len()
 }
 
 fn kind_of(words: &[u32]) -> Kind
@@ -253,7 +253,7 @@ pub fn is_table(words: &[u32]) -> Result<(), NoTable>
     if word(words, 0) != 0x5456_4453 {
         return Err(NoTable::Magic);
     }
-    if word(words, 1) % 256 != 1 {
+    if word(words, 1) % 256 != 2 {
         return Err(NoTable::Version);
     }
     if !has_size(words) {

@@ -1,6 +1,6 @@
 //! Reading tables, whatever their words are.
 
-ghost use Rattle.std.specs.Prelude.{◌≡◌, ◌+◌, ◌<◌, ◌/◌, ◌%◌, drop, slice_get, slice_index, option_map, Some};
+ghost use Rattle.std.specs.Prelude.{◌≡◌, ◌+◌, ◌<◌, ◌/◌, ◌%◌, ℕ, drop, slice_get, slice_index, option_map, Some};
 ghost use Rattle.sdv_graph.specs.Walk.{Failed};
 ghost use Rattle.sdv_graph.specs.Path.{Point, sends, tests, stops};
 ghost use Rattle.sdv_graph.specs.Graph.{Graph};
@@ -335,7 +335,7 @@ fn head_at(words: &[u32], number: usize) -> u32
     requires { number < 65536 }
     ensures { result ≡ head_read words.now number }
 {
-    word(words, 6 + number)
+    word(words, 8 + number)
 }
 
 // Where a point's row stands.
@@ -389,7 +389,7 @@ pub(crate) fn read_sending(words: &[u32], number: usize) -> Sending
 /// be read. Those of the table of a graph say what the graph has there.
 pub fn row_at(words: &[u32], number: usize) -> Option<Row<'_>>
     ensures read { option_map seen_row result ≡ action_at words.now number }
-    ensures table { (g : Graph) → IsTable g words.now
+    ensures table { (g : Graph) (most : ℕ) → IsTable g most words.now
         → option_map seen_row result ≡ option_map (λ p. p.action) (slice_get g.points number) }
 {
     read_row(words, number)
@@ -400,8 +400,8 @@ pub fn row_at(words: &[u32], number: usize) -> Option<Row<'_>>
 pub fn sending_at(words: &[u32], number: usize) -> Sending
     requires { number < 65536 }
     ensures read { result ≡ sending_at words.now number }
-    ensures table { (g : Graph) → IsTable g words.now → (p : Point) → slice_get g.points number ≡ Some p
-        → IsSentRight g.kind p.action result }
+    ensures table { (g : Graph) (most : ℕ) → IsTable g most words.now
+        → (p : Point) → slice_get g.points number ≡ Some p → IsSentRight g.kind p.action result }
 {
     read_sending(words, number)
 }

@@ -6,22 +6,27 @@ use sdv_table::{Data, NoTable, Sending, Source, encode, is_table, row_at, sendin
 use std::alloc::Global;
 use std::process::Abort;
 
-// The table of the script of a text.
-fn table_of(rt: &impl Abort, alloc: Global, text: &str) -> Vec<u32> {
+// The table of the script of a text, with this number of commands.
+fn table_of(rt: &impl Abort, alloc: Global, text: &str, most: u64) -> Vec<u32> {
     let graph = graph_of(alloc, text).expect(rt, "a script");
-    encode(alloc, &graph).expect(rt, "a table")
+    encode(alloc, &graph, most).expect(rt, "a table")
 }
 
+// The number of commands in that table, whose two words differ.
+const MOST: u64 = 0x0000_0002_0000_0001;
+
 // The table of the smallest script: a header, two head words, the row of `send 0` and the name `stop`.
-static SMALLEST_WORDS: [u32; 12] = [
+static SMALLEST_WORDS: [u32; 14] = [
     0x5456_4453,
-    0x0000_0001,
-    0x000c_0002,
+    0x0000_0002,
+    0x000e_0002,
     0x0000_0000,
     0x0000_0002,
     0x0000_0000,
-    0x0008_0400,
-    0x000b_0049,
+    0x0000_0001,
+    0x0000_0002,
+    0x000a_0400,
+    0x000d_0049,
     0x0000_0001,
     0x0000_0000,
     0x0000_0000,
@@ -30,7 +35,7 @@ static SMALLEST_WORDS: [u32; 12] = [
 
 #[test]
 fn smallest_script_has_these_words(rt: HostRuntime) {
-    let words = table_of(&rt, rt.alloc(), SMALLEST);
+    let words = table_of(&rt, rt.alloc(), SMALLEST, MOST);
     same(
         &rt,
         &words.as_slice(),
@@ -42,14 +47,14 @@ fn smallest_script_has_these_words(rt: HostRuntime) {
 // Words of that table that are changed, and what is then wrong.
 static CHANGED: [(usize, u32, NoTable); 9] = [
     (0, 0x5456_4454, NoTable::Magic),
-    (1, 0x0000_0002, NoTable::Version),
-    (1, 0x0000_0201, NoTable::Counts),
-    (1, 0x0009_0001, NoTable::Counts),
-    (2, 0x000d_0002, NoTable::Size),
+    (1, 0x0000_0001, NoTable::Version),
+    (1, 0x0000_0202, NoTable::Counts),
+    (1, 0x0009_0002, NoTable::Counts),
+    (2, 0x000f_0002, NoTable::Size),
     (3, 0x0000_0003, NoTable::First),
-    (8, 0x0000_0003, NoTable::Row { point: 0 }),
-    (10, 0x0001_0000, NoTable::Row { point: 0 }),
-    (7, 0x000c_0049, NoTable::Row { point: 1 }),
+    (10, 0x0000_0003, NoTable::Row { point: 0 }),
+    (12, 0x0001_0000, NoTable::Row { point: 0 }),
+    (9, 0x000e_0049, NoTable::Row { point: 1 }),
 ];
 
 #[test]
@@ -64,7 +69,7 @@ fn changed_words_are_no_table(rt: HostRuntime) {
 #[test]
 fn bring_ups_have_tables(rt: HostRuntime) {
     for text in [BRING_UP, DEVICE_BRING_UP] {
-        let words = table_of(&rt, rt.alloc(), text);
+        let words = table_of(&rt, rt.alloc(), text, MOST);
         same(&rt, &is_table(&words), &Ok(()), &text);
         same(&rt, &row_at(&words, words.len()).is_none(), &true, &text);
     }
@@ -72,7 +77,7 @@ fn bring_ups_have_tables(rt: HostRuntime) {
 
 #[test]
 fn a_row_says_how_its_command_is_sent(rt: HostRuntime) {
-    let words = table_of(&rt, rt.alloc(), BRING_UP);
+    let words = table_of(&rt, rt.alloc(), BRING_UP, MOST);
     let conditions = Sending {
         source: Source::Own,
         argument: 0x40ff_8000,

@@ -15,4 +15,4 @@ loop-number-preserved c =
     ∙ ap (λ (lines : List ℕ). point_words c.args.graph.now.names n (slice_index lines n) action) c.lines-lines.ensures.lines)) in
     line_added (point_line c.args.graph.now c.args.words.now) c.args.graph.now.points n (seen_point c.point.result.now) c.loop-number.text.items _ _
     c.point.ensures c.loop-number.invariant
-    (c.in_ok-put_head.ensures ∙ ap (λ (t : Text). c.loop-number.text.items ++ head_line (slice_index c.args.words.now (6 + n)) t) about)
+    (c.in_ok-put_head.ensures ∙ ap (λ (t : Text). c.loop-number.text.items ++ head_line (slice_index c.args.words.now (8 + n)) t) about)

@@ -11,7 +11,7 @@ returns-clause-table c =
     let points : c.in_ok-counts.counts.points ≡ length g.points = ap (λ c. c.points) counts in
     let rs : c.in_ok-points.points.rows.items ≡ rows g.kind g.points = c.in_ok-points.ensures.rows in
     let row_count : length c.in_ok-points.points.rows.items ≡ length (rows g.kind g.points) = ap length rs in
-    let total : (6 + c.in_ok-counts.counts.points) + c.len-row_words.result ≡ size g = omega arith in
+    let total : (8 + c.in_ok-counts.counts.points) + c.len-row_words.result ≡ size g = omega arith in
     let put_heads : c.extend_from_slice.new.self.items ≡ c.in_ok-words.words.items ++ c.in_ok-points.points.heads.items =
     c.in_ok-extend_from_slice.ensures.items ∙ ap (λ o. c.in_ok-words.words.items ++ o) c.deref.ensures.value in
     let put_rows : c.extend_from_slice-2.new.self.items ≡ c.extend_from_slice.new.self.items ++ c.in_ok-points.points.rows.items =
@@ -24,5 +24,5 @@ returns-clause-table c =
         moves = c.in_ok-words.ensures.few;
         words = omega arith;
       };
-      same = table_is g (c.in_ok-words.ensures.words total) put_heads put_rows c.in_ok-points.ensures.heads rs;
+      same = table_is g c.args.most (c.in_ok-words.ensures.words total) put_heads put_rows c.in_ok-points.ensures.heads rs;
     }
