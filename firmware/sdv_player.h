@@ -17,7 +17,8 @@ enum sdv_what {
     SDV_WAIT,     /* wait while the card is busy, and call sdv_ended */
     SDV_DONE,     /* the run ended as the script says */
     SDV_FAULT,    /* the run ended in the fault of this name, `count` bytes */
-    SDV_STOPPED   /* the run ended by an answer that no card may give, or by a table that is not well formed */
+    SDV_STOPPED   /* the run ended by an answer that no card may give, at a command more than the table allows, or by a table
+                   * that is not well formed */
 };
 
 enum sdv_reply { SDV_SENT, SDV_REPLY, SDV_TIMEOUT, SDV_DAMAGED };
@@ -44,7 +45,7 @@ struct sdv_state {
     uint32_t kind, lines, csd_read, ext_read;
     uint16_t rca, announced, register_length;
     uint8_t flags;
-    uint64_t moves;
+    uint64_t moves, commands;
     size_t point, depth;
     uint16_t turns[4];
     uint32_t asked, app;

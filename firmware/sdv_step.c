@@ -2,7 +2,7 @@
 
 #define MAX_NUMBER ((uint64_t)1 << 40)
 #define UNREAD ((uint64_t)1 << 62) /* of a register that was not read, above each number */
-enum { HEADER = 6, SEND = 0, PHASE, LET, IF, FLAG, LINES, LOOP, BREAK, DONE, FAULT };
+enum { HEADER = 8, SEND = 0, PHASE, LET, IF, FLAG, LINES, LOOP, BREAK, DONE, FAULT };
 enum { FROM_RCA = 1, FROM_ADDRESS = 2 }; /* where an argument comes from; 0: it stands in the row */
 enum { NOWHERE = 0xFFFF, CSD_BLOCKS = 8, EXT_BLOCKS, EXT_BOOT }; /* numbers of registers, behind the variables */
 
@@ -45,10 +45,10 @@ int sdv_start(const uint32_t *t, size_t n, struct sdv_state *s)
 {
     *s = (struct sdv_state){.point = NOWHERE, .lines = 1};
     s->numbers[CSD_BLOCKS] = s->numbers[EXT_BLOCKS] = s->numbers[EXT_BOOT] = UNREAD;
-    if (n < HEADER || t[0] != 0x54564453u || (t[1] & 0xFF) != 1 || t[2] >> 16 != n)
+    if (n < HEADER || t[0] != 0x54564453u || (t[1] & 0xFF) != 2 || t[2] >> 16 != n)
         return 0;
     s->kind = (t[1] >> 8 & 0xFF) != 0;
-    s->moves = t[4] | (uint64_t)t[5] << 32;
+    s->moves = t[4] | (uint64_t)t[5] << 32, s->commands = t[6] | (uint64_t)t[7] << 32;
     go(s, t[3]);
     return 1;
 }
@@ -122,7 +122,7 @@ static uint32_t send(const struct row *r, const struct sdv_state *s, struct sdv_
         data = SDV_NO_DATA;
     e->data = data < 4 ? data : SDV_REGISTER;
     e->count = data < 2 ? 0 : data < 4 ? w & 0xFFFF : register_length(data);
-    return e->what = SDV_SEND;
+    return e->what = s->commands ? SDV_SEND : SDV_STOPPED;
 }
 
 static uint32_t phase(const struct row *r, const struct sdv_state *s, struct sdv_event *e)
@@ -225,6 +225,7 @@ int sdv_answer(const uint32_t *t, size_t n, struct sdv_state *s, uint32_t reply,
         s->announced = (uint16_t)w;
     if (data > 3)
         s->length = register_length(data);
+    s->commands -= s->commands > 0;
     s->app = index == 55 && expect == 1 && reply == SDV_REPLY && (word >> 5 & 1);
     for (cases = w >> 24, i = r.small >> 7 ? 6 : 3; cases; cases--, i += 2) {
         for (g = row_word(&r, i); g && passes(s, g & 31, expect, reply, word); g >>= 5) {}

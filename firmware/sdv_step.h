@@ -15,7 +15,8 @@ enum sdv_what {
     SDV_WAIT,     /* wait while the card is busy, and call sdv_ended */
     SDV_DONE,     /* the run ended as the script says */
     SDV_FAULT,    /* the run ended in the fault of this name, `count` bytes */
-    SDV_STOPPED   /* the run ended by an answer that no card may give, or by a table that is not well formed */
+    SDV_STOPPED   /* the run ended by an answer that no card may give, at a command more than the table allows, or by a table
+                   * that is not well formed */
 };
 
 enum sdv_reply { SDV_SENT, SDV_REPLY, SDV_TIMEOUT, SDV_DAMAGED };
@@ -37,7 +38,7 @@ struct sdv_event {
 
 /* The caller owns it, and need not look into it. */
 struct sdv_state {
-    uint64_t numbers[11], moves;
+    uint64_t numbers[11], moves, commands;
     uint32_t point, asked, flags, lines, depth, kind, app;
     uint16_t turns[4], rca, announced, length;
 };

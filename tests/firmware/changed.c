@@ -1,7 +1,7 @@
 /*
  * changed TABLE: plays a table with each of its words changed in many ways, and cut to each length, beside a partner that
  * answers anything. No run may read outside the table (build it with a sanitizer), and each has to end within the moves that
- * the table's header allows.
+ * the table's header allows, and to ask for no more commands than it says.
  */
 #include <string.h>
 
@@ -64,8 +64,9 @@ static void play(const uint32_t *table, size_t words)
 {
     struct sdv_state state;
     struct sdv_event event;
-    uint64_t moves = words < 6 ? 0 : table[4] | (uint64_t)table[5] << 32;
-    uint64_t events = 0;
+    uint64_t moves = words < 8 ? 0 : table[4] | (uint64_t)table[5] << 32;
+    uint64_t most = words < 8 ? 0 : table[6] | (uint64_t)table[7] << 32;
+    uint64_t events = 0, commands = 0;
     uint32_t what;
 
     sdv_start(table, words, &state);
@@ -74,6 +75,8 @@ static void play(const uint32_t *table, size_t words)
             fail("no event:", "");
         if (++events > moves)
             fail("a run has more events than moves", "");
+        if (what == SDV_SEND && ++commands > most)
+            fail("a run has more commands than the header says", "");
         if (!answer(table, words, &state, &event) && sdv_next(table, words, &state, &event) < SDV_DONE)
             fail("a run goes on behind its end", "");
     }

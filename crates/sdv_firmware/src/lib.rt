@@ -4,12 +4,13 @@
 //! C sees of an event, and `specs/Answers.antt` what it says of an answer.
 #![tactic(auto)]
 
-ghost use Rattle.std.specs.Prelude.{◌≡◌, Bool, pos};
+ghost use Rattle.std.specs.Prelude.{◌≡◌, ◌-◌, Bool, true, pos};
 ghost use Rattle.std.specs.Int.{from_bool};
 ghost use Rattle.sdv_run.specs.declared.returned.Returned.{Returned};
 ghost use Rattle.sdv_run.specs.declared.returned.Returned.TheVariants.{Answered};
 ghost use Rattle.sdv_player.specs.declared.next_step.Next.{Next};
-ghost use Rattle.sdv_player.specs.Play.{has_header, Starts, Advances, Takes, IsEnd};
+ghost use Rattle.sdv_table.specs.Reading.{commands_read};
+ghost use Rattle.sdv_player.specs.Play.{has_header, Starts, Advances, Keeps, Takes, IsEnd};
 ghost use Rattle.sdv_firmware.specs.Answers.{answer_of, came, is_not_zero};
 ghost use Rattle.sdv_firmware.specs.Events.{Shows};
 
@@ -25,14 +26,16 @@ use sdv_player::{State, answer, ended, next, start};
 pub extern "C" fn sdv_start(table: &[u32], state: &mut State) -> i32
     ensures header { result ≡ pos (from_bool (has_header table.now)) }
     ensures starts { Starts table.now state.new }
+    ensures commands { has_header table.now ≡ true → state.new.commands ≡ commands_read table.now }
 {
     i32::from(start(table, state))
 }
 
-/// What the host does next; statements without an event are passed. Asked again, it answers the same.
+/// What the host does next; statements without an event are passed. Asked again, it answers the same. It stops at a command more
+/// than the table allows.
 #[unsafe(no_mangle)]
 pub extern "C" fn sdv_next(table: &[u32], state: &mut State, event: &mut Event) -> u32
-    ensures says { (said : Next) × Advances table.now state.old state.new said
+    ensures says { (said : Next) × Advances table.now state.old state.new said × Keeps state.old state.new said
         × Shows table.now state.new event.new said }
     ensures what { result ≡ event.new.what }
 {
@@ -51,7 +54,8 @@ pub extern "C" fn sdv_answer_bytes(
     r2: &[u8],
 ) -> i32
     ensures { (taken : Bool) × (result ≡ pos (from_bool taken)) × Takes table.now state.old state.new
-        (Answered (answer_of table.now state.old.place.point reply word r2.now)) taken }
+        (Answered (answer_of table.now state.old.place.point reply word r2.now)) taken
+        × (taken ≡ true → state.new.commands ≡ state.old.commands - 1) }
 {
     let came = answer_of(table, state, reply, word, r2);
     i32::from(answer(table, state, &came))
@@ -63,7 +67,8 @@ pub extern "C" fn sdv_answer_bytes(
 pub extern "C" fn sdv_ended_bytes(table: &[u32], state: &mut State, well: i32, bytes: &[u8]) -> i32
     ensures { (taken : Bool) × (result ≡ pos (from_bool taken)) × ((returned : Returned)
         → IsEnd returned state.old.host.register_length (is_not_zero well) (came bytes.now)
-        → Takes table.now state.old state.new returned taken) }
+        → Takes table.now state.old state.new returned taken)
+        × (taken ≡ true → state.new.commands ≡ state.old.commands) }
 {
     i32::from(ended(table, state, is_not_zero(well), came(bytes)))
 }

@@ -11,7 +11,7 @@ use Rattle.sdv_graph.specs.GraphOf.{IsSound}
 use Rattle.sdv_run.specs.Machine.{CanGoOn, at_start}
 use Rattle.sdv_run.proofs.AtPoints.{begins_sitting}
 use Rattle.sdv_table.specs.Fits.{IsTable}
-use Rattle.sdv_table.specs.Reading.{target_of, number_at}
+use Rattle.sdv_table.specs.Reading.{target_of, number_at, commands_read}
 use Rattle.sdv_table.specs.Table.{kind_code, table_of}
 use Rattle.sdv_table.proofs.Greatest.{target_grown}
 use Rattle.sdv_table.proofs.Inverse.{target_back, number_back}
@@ -31,30 +31,31 @@ kind_back Emmc = refl
 
 -- the parts of a header's words: version, kind and counts; points and size
 record Parts (word k n : ℕ) : Type 0 where
-  version_is : word % 256 ≡ 1
+  version_is : word % 256 ≡ 2
   kind_is : word / 256 % 256 ≡ k
   numbers_is : word / 65536 % 256 ≡ n
 
-parts_of : (word k n f : ℕ) → word ≡ 1 + 256 * (k + 256 * (n + 256 * f)) → k < 2 → n ≤ 8 → f ≤ 4 → Parts word k n
+parts_of : (word k n f : ℕ) → word ≡ 2 + 256 * (k + 256 * (n + 256 * f)) → k < 2 → n ≤ 8 → f ≤ 4 → Parts word k n
 parts_of word k n f is few_k few_n few_f = record { version_is = omega arith; kind_is = omega arith; numbers_is = omega arith }
 
 -- what a player reads of a header
-pub record Header (g : Graph) (ws : List ℕ) : Type 0 where
+pub record Header (g : Graph) (most : ℕ) (ws : List ℕ) : Type 0 where
   pub magic_is : slice_index ws 0 ≡ 0x54564453
-  pub version_is : slice_index ws 1 % 256 ≡ 1
+  pub version_is : slice_index ws 1 % 256 ≡ 2
   pub kind_is : slice_index ws 1 / 256 % 256 ≡ kind_code g.kind
   pub numbers_is : slice_index ws 1 / 65536 % 256 ≡ g.numbers
   pub size_is : slice_index ws 2 / 65536 ≡ length ws
-  pub long : 6 ≤ length ws
+  pub long : 8 ≤ length ws
   pub first_is : target_of (slice_index ws 3) ≡ g.first
   pub moves_is : number_at ws 4 ≡ g.steps
+  pub commands_is : commands_read ws ≡ most
 
-pub header_of : (g : Graph) (ws : List ℕ) → IsTable g ws → Header g ws
+pub header_of : (g : Graph) (most : ℕ) (ws : List ℕ) → IsTable g most ws → Header g most ws
 unfolding table_of
-header_of g ws table =
+header_of g most ws table =
     let few = table.fits.counts in
-    let well = table_is_well_formed g ws table in
-    let w1 : slice_index ws 1 ≡ 1 + 256 * (kind_code g.kind + 256 * (g.numbers + 256 * g.flags)) = ap (λ ws. slice_index ws 1) table.same in
+    let well = table_is_well_formed g most ws table in
+    let w1 : slice_index ws 1 ≡ 2 + 256 * (kind_code g.kind + 256 * (g.numbers + 256 * g.flags)) = ap (λ ws. slice_index ws 1) table.same in
     let parts = parts_of (slice_index ws 1) (kind_code g.kind) g.numbers g.flags w1 (kind_small g.kind) few.numbers few.flags in
     let inside = well.has_size.points in
     record {
@@ -67,25 +68,27 @@ header_of g ws table =
       first_is = ap (λ ws. target_of (slice_index ws 3)) table.same
           ∙ target_back g.first (target_grown (length g.points) g.first few.points table.fits.first);
       moves_is = ap (λ ws. number_at ws 4) table.same ∙ number_back g.steps;
+      commands_is = ap (λ ws. number_at ws 6) table.same ∙ number_back most;
     }
 
 all_four : (a b c d : Bool) → a ≡ true → b ≡ true → c ≡ true → d ≡ true → a && b && c && d ≡ true
 all_four a b c d p q r s = rw (p, q, r, s) refl
 
 -- it is one
-pub header_there : (g : Graph) (ws : List ℕ) → IsTable g ws → has_header ws ≡ true
-header_there g ws table =
-    let h = header_of g ws table in
-    all_four (slice_index ws 0 == 0x54564453) (slice_index ws 1 % 256 == 1) (slice_index ws 2 / 65536 == length ws) (nat_le 6 (length ws))
-    (eq-eqb (slice_index ws 0) 0x54564453 h.magic_is) (eq-eqb (slice_index ws 1 % 256) 1 h.version_is)
-    (eq-eqb (slice_index ws 2 / 65536) (length ws) h.size_is) (le-leb 6 (length ws) h.long)
+pub header_there : (g : Graph) (most : ℕ) (ws : List ℕ) → IsTable g most ws → has_header ws ≡ true
+header_there g most ws table =
+    let h = header_of g most ws table in
+    all_four (slice_index ws 0 == 0x54564453) (slice_index ws 1 % 256 == 2) (slice_index ws 2 / 65536 == length ws) (nat_le 8 (length ws))
+    (eq-eqb (slice_index ws 0) 0x54564453 h.magic_is) (eq-eqb (slice_index ws 1 % 256) 2 h.version_is)
+    (eq-eqb (slice_index ws 2 / 65536) (length ws) h.size_is) (le-leb 8 (length ws) h.long)
 
 -- a state at the start of the run
-pub record IsFirst (g : Graph) (s : State) : Type 0 where
+pub record IsFirst (g : Graph) (most : ℕ) (s : State) : Type 0 where
   pub kind : kind_of s.host ≡ g.kind
   pub host : host_of s.host no_registers ≡ host_at_start g.numbers
   pub remembers : Remembers s.host no_registers
   pub moves : s.moves ≡ g.steps
+  pub commands : s.commands ≡ most
   pub point : s.place.point ≡ g.first.to
   pub turns : turns_of s.place ≡ turns_at g.first []
   pub asked : s.asked ≡ 0
@@ -93,8 +96,8 @@ pub record IsFirst (g : Graph) (s : State) : Type 0 where
 pub kind_read_is : (g : Graph) (n : ℕ) → n ≡ kind_code g.kind → (if n == 0 then Sd else Emmc) ≡ g.kind
 kind_read_is g n is = ap (λ n. if n == 0 then Sd else Emmc) is ∙ kind_back g.kind
 
-pub begun : (g : Graph) (ws : List ℕ) (s : State) → IsTable g ws → IsSound g → IsFirst g s → Begins g ws s
-begun g ws s table sound is =
+pub begun : (g : Graph) (most : ℕ) (ws : List ℕ) (s : State) → IsTable g most ws → IsSound g → IsFirst g most s → Begins g most ws s
+begun g most ws s table sound is =
     let stand : stand_of s no_registers ≡ begin g =
     ap (λ p. record { point = p; turns = turns_of s.place; host = host_of s.host no_registers }) is.point
     ∙ ap (λ ts. record { point = g.first.to; turns = ts; host = host_of s.host no_registers }) is.turns
@@ -104,11 +107,12 @@ begun g ws s table sound is =
     ∙ ap (λ n. record { graph = g; stand = begin g; left = n }) is.moves in
     record {
       stands = record {
-        table = table;
+        table = subst (λ n. IsTable g n ws) (sym (header_of g most ws table).commands_is) table;
         kind = is.kind;
         remembers = is.remembers;
         on = subst CanGoOn (sym start) (record { sound = sound; lasts = sound.ends; sits = begins_sitting g sound });
         asked = inl is.asked;
       };
       start = start;
+      commands = is.commands;
     }

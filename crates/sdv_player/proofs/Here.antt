@@ -16,6 +16,7 @@ use Rattle.sdv_table.specs.declared.counts.Counts.{Counts}
 use Rattle.sdv_table.specs.declared.sending.Sending.{Sending}
 use Rattle.sdv_table.specs.Fits.{IsTable, IsOfKind, CountsFit, ActionFits}
 use Rattle.sdv_table.specs.Loading.{IsSentRight}
+use Rattle.sdv_table.specs.Reading.{commands_read}
 use Rattle.sdv_table.proofs.Places.{there}
 use Rattle.sdv_player.specs.declared.state.State.{State}
 use Rattle.sdv_player.specs.Asking.{IsSent}
@@ -89,18 +90,18 @@ is_sent k (stops last) sending right order = tt
 
 -- what is read there is what the graph has
 abbrev pub Reads : List ℕ → ℕ → Option Action → Type 0
-Reads ws i read = (g : Graph) → IsTable g ws → read ≡ option_map (λ p. p.action) (slice_get g.points i)
+Reads ws i read = (g : Graph) (most : ℕ) → IsTable g most ws → read ≡ option_map (λ p. p.action) (slice_get g.points i)
 
 abbrev pub ReadsSending : List ℕ → ℕ → Sending → Type 0
 ReadsSending ws i sending =
-    (g : Graph) → IsTable g ws → (p : Point) → slice_get g.points i ≡ Some p → IsSentRight g.kind p.action sending
+    (g : Graph) (most : ℕ) → IsTable g most ws → (p : Point) → slice_get g.points i ≡ Some p → IsSentRight g.kind p.action sending
 
 module _ (g : Graph) (ws : List ℕ) (s : State) (r : Registers) (stands : StandsFor g ws s r) where
   -- it is the action of the graph's point
   pub read_is : (o : Option Action) → Reads ws s.place.point o → o ≡ Some (here g ws s r stands).point.action
   read_is o read =
       let at = here g ws s r stands in
-      read g stands.table ∙ ap (λ o. option_map (λ p. p.action) o) at.there
+      read g (commands_read ws) stands.table ∙ ap (λ o. option_map (λ p. p.action) o) at.there
 
   -- so there is one
   pub some_row : Reads ws s.place.point None → ⊥
@@ -124,7 +125,7 @@ module _ (g : Graph) (ws : List ℕ) (s : State) (r : Registers) (stands : Stand
     sent_of_row sending sent =
         let at = here g ws s r stands in
         subst (λ a. IsSent g.kind a sending) (sym same)
-        (is_sent g.kind at.point.action sending (sent g stands.table at.point at.there) at.order)
+        (is_sent g.kind at.point.action sending (sent g (commands_read ws) stands.table at.point at.there) at.order)
 
     -- the event that it asks for
     pub asks_here : (sending : Sending) (result : Result (Option NextEvent) RunFault) → ReadsSending ws s.place.point sending →

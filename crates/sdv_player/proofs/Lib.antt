@@ -1,6 +1,7 @@
 pub mod Alike
 pub mod Begun
 pub mod Cases
+pub mod Counted
 pub mod Passed
 pub mod Heard
 pub mod Here

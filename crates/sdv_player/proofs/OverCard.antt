@@ -62,17 +62,17 @@ refused_at k (Halts last) returned stand held e seen took t = absurd t
 -- FROM THE START
 
 module _ {S : Type 0} (steps : Steps S) (card : S → Option Card) (keeps : KeepsTables steps card) (script certificate : List ℕ) (a : Acceptance)
-    (words : List ℕ) (s : State) (accepted : IsAccepted script certificate a) (table : IsTable a.graph words) (starts : Starts words s) (from : Source S)
+    (words : List ℕ) (s : State) (accepted : IsAccepted script certificate a) (table : IsTable a.graph a.bound words) (starts : Starts words s) (from : Source S)
     (c : Card) (start : ShowsStart card a.graph.kind from.0 c) where
   kind : kind_of s.host ≡ a.graph.kind
-  kind = (starts a.graph table accepted.graph.graph.sound).stands.kind
+  kind = (starts a.graph a.bound table accepted.graph.graph.sound).stands.kind
 
   played_beside : (s' : State) (to : Source S) (said : Next) (p : Played (kind_of s.host) steps words s s' from to said) →
       PlayedBeside card a.bound p.events said c to.0
   played_beside s' to said p =
       let g = a.graph in
       let sound = accepted.graph.graph.sound in
-      let run = plays_are_walks g words p.events s' said table sound (s, starts, p.plays) in
+      let run = plays_are_walks g a.bound words p.events s' said table sound (s, starts, p.plays) in
       let moved = subst (λ k. RunMoved k steps from.0 p.events to.0) kind p.made.moved in
       let each = each_event g accepted.facts.points (laws_of g.kind) sound accepted.closed c start.kind start.start run.last p.events run.walk.path in
       let b = beside steps card keeps g.kind p.events c from.0 to.0 each start.shown moved in
@@ -89,7 +89,7 @@ module _ {S : Type 0} (steps : Steps S) (card : S → Option Card) (keeps : Keep
       let g = a.graph in
       let sound = accepted.graph.graph.sound in
       let laws = laws_of g.kind in
-      let all = from_start g words w.events w.here (nexts.Event w.event) table sound (s, starts, w.plays) in
+      let all = from_start g a.bound words w.events w.here (nexts.Event w.event) table sound (s, starts, w.plays) in
       let m = run_of g w.here all.registers in
       let t = told_at (now m) w.event w.returned w.held w.last.0 w.last.1 all.says w.told in
       let path = all.leads Open (w.last ∷ []) (told_here g (stand_of w.here all.registers) (now m) w.returned w.held w.last.0 w.last.1 t refl) in

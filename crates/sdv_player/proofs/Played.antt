@@ -22,6 +22,7 @@ use Rattle.sdv_player.specs.Play.{Says, IsAsked, GoesTo, GoesOn}
 use Rattle.sdv_player.specs.Plays.{TellsOne, Plays, PlaysFromStart, IsEnding, PlaysAreWalks}
 use Rattle.sdv_player.specs.Seen.{Registers, no_registers, stand_of}
 use Rattle.sdv_player.specs.StandsFor.{run_of, StandsFor}
+use Rattle.sdv_player.proofs.Counted.{counted_from_start}
 
 pub told_at : (m : Move) (event : NextEvent) (returned : Returned) (held : List Block) (e : ScriptEvent) (seen : Return) → AsksFor m (Ok (Some event)) →
     Told (deed_of event) returned held e seen → ToldAt m returned held e seen
@@ -34,13 +35,13 @@ pub record Led (g : Graph) (ws : List ℕ) (from : Stand) (es : List Pair) (s' :
   pub registers : Registers
   pub stands : StandsFor g ws s' registers
   pub leads : LeadsBy g from es (stand_of s' registers)
-  pub says : Says (run_of g s' registers) said
+  pub says : Says (run_of g s' registers) s'.commands said
   pub asked : IsAsked said s'.asked
 
 -- an event more
 one_more : (g : Graph) (ws : List ℕ) (s here next : State) (r : Registers) (event : Next) (p : Pair) → StandsFor g ws s r → GoesTo g ws s here r event →
     TellsOne ws here next event p → (r' : Registers) × StandsFor g ws next r' × LeadsBy g (stand_of s r) (p ∷ []) (stand_of next r')
-one_more g ws s here next r (nexts.Event event) p stands to (returned, held, t, takes) =
+one_more g ws s here next r (nexts.Event event) p stands to (returned, held, t, takes, off) =
     let on : GoesOn g ws here next r returned = takes g r to.stands in
     let by = on.went.leads held p.0 p.1 (told_at (now (run_of g here r)) event returned held p.0 p.1 to.says t) in
     (on.registers, on.stands, λ e rest path. to.came.leads e (p ∷ rest) (by e rest path))
@@ -51,10 +52,10 @@ one_more g ws s here next r nexts.Stopped p stands to one = absurd one
 
 pub led : (es : List Pair) (g : Graph) (ws : List ℕ) (s s' : State) (r : Registers) (said : Next) → StandsFor g ws s r → Plays ws s es s' said →
     Led g ws (stand_of s r) es s' said
-led [] g ws s s' r said stands advances =
+led [] g ws s s' r said stands (advances, keeps) =
     let to = advances g r stands in
     record { registers = r; stands = to.stands; leads = to.came.leads; says = to.says; asked = to.asked }
-led (p ∷ ps) g ws s s' r said stands (here, next, event, advances, tells, plays) =
+led (p ∷ ps) g ws s s' r said stands (here, next, event, advances, keeps, tells, plays) =
     let one = one_more g ws s here next r event p stands (advances g r stands) tells in
     let on = led ps g ws next s' one.0 said one.1 plays in
     record {
@@ -81,7 +82,7 @@ pub record EndsHere (g : Graph) (s : Stand) (said : Next) : Type 0 where
   pub how : IsEnding said last
   pub path : Path g.kind g.points last s []
 
-ends_here : (g : Graph) (s' : State) (r : Registers) (said : Next) → Says (run_of g s' r) said → EndsHere g (stand_of s' r) said
+ends_here : (g : Graph) (s' : State) (r : Registers) (said : Next) → Says (run_of g s' r) s'.commands said → EndsHere g (stand_of s' r) said
 ends_here g s' r (nexts.Event event) says = record { last = Open; how = refl; path = open_here g (stand_of s' r) }
 ends_here g s' r nexts.Done says = record { last = says.last; how = says.how; path = ended_here g (stand_of s' r) says.last says.halts }
 ends_here g s' r (nexts.Fault name) says = record { last = says.last; how = says.how; path = ended_here g (stand_of s' r) says.last says.halts }
@@ -89,16 +90,16 @@ ends_here g s' r nexts.Number says = record { last = says.last; how = says.how; 
 ends_here g s' r nexts.Stopped says = record { last = Open; how = refl; path = open_here g (stand_of s' r) }
 
 -- the whole, from the start of a run
-pub from_start : (g : Graph) (ws : List ℕ) (es : List Pair) (s' : State) (said : Next) → IsTable g ws → IsSound g → PlaysFromStart ws es s' said →
+pub from_start : (g : Graph) (most : ℕ) (ws : List ℕ) (es : List Pair) (s' : State) (said : Next) → IsTable g most ws → IsSound g → PlaysFromStart ws es s' said →
     Led g ws (begin g) es s' said
-from_start g ws es s' said table sound (s, starts, plays) =
-    let first = starts g table sound in
+from_start g most ws es s' said table sound (s, starts, plays) =
+    let first = starts g most table sound in
     subst (λ m. Led g ws m.stand es s' said) first.start (led es g ws s s' no_registers said first.stands plays)
 
 pub plays_are_walks : PlaysAreWalks
-plays_are_walks g ws es s said table sound played =
-    let all = from_start g ws es s said table sound played in
+plays_are_walks g most ws es s said table sound played =
+    let all = from_start g most ws es s said table sound played in
     let end = ends_here g s all.registers said all.says in
     let path : Path g.kind g.points end.last (begin g) es =
     subst (λ es. Path g.kind g.points end.last (begin g) es) (append-nil es) (all.leads end.last [] end.path) in
-    record { last = end.last; how = end.how; walk = is_walk g end.last es path }
+    record { last = end.last; how = end.how; walk = is_walk g end.last es path; asked = (counted_from_start g most ws es s said table sound played).1 }

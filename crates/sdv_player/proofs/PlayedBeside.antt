@@ -1,5 +1,5 @@
 -- What is played by the table of an accepted script, beside a card.
-use Rattle.std.proofs.Common.{◌≡◌, ◌+◌, ◌<◌, ◌≤◌, ◌^◌, ℕ, zero, suc, List, [], ◌∷◌, ◌++◌, Err, refl, sym, ap, ◌∙◌, subst, inr, arith, add_assoc, length}
+use Rattle.std.proofs.Common.{◌≡◌, ◌+◌, ◌<◌, ◌≤◌, ◌^◌, ℕ, zero, suc, List, [], ◌∷◌, ◌++◌, Err, refl, sym, ap, ◌∙◌, subst, inl, inr, arith, add_assoc, length}
 use Rattle.std.specs.Prelude.{true, false, Some, Ok}
 use Rattle.sdv_card.specs.declared.answer.Answer.{Answer}
 use Rattle.sdv_card.specs.declared.answer.Answer.TheVariants.{Sent}
@@ -34,12 +34,13 @@ use Rattle.sdv_run.specs.declared.returned.Returned.TheVariants as told
 use Rattle.sdv_run.specs.Answers.{is_taken}
 use Rattle.sdv_run.specs.Asks.{AsksFor, IsTooWide, deed_of}
 use Rattle.sdv_run.specs.Takes.{Took}
-use Rattle.sdv_run.specs.Machine.{LeadsBy, now}
+use Rattle.sdv_run.specs.Machine.{Machine, LeadsBy, now}
 use Rattle.sdv_run.proofs.OnCard.{taken}
-use Rattle.sdv_player.specs.Play.{Says, IsAsked}
+use Rattle.sdv_player.specs.Play.{Says, IsAsked, IsOneTooMany, commands_of}
 use Rattle.sdv_player.specs.Plays.{PlaysAreGood}
 use Rattle.sdv_player.specs.Seen.{stand_of}
 use Rattle.sdv_player.specs.StandsFor.{run_of}
+use Rattle.sdv_player.proofs.Counted.{deed_alike, counted_from_start}
 use Rattle.sdv_player.proofs.Played.{open_here, from_start, plays_are_walks}
 
 -- LISTS of events
@@ -199,14 +200,22 @@ module _ (g : Graph) (ps : List PointFacts) (laws : Laws g.kind) (sound : IsSoun
         counted es c last kind start steps made is_made_there path,
       )
 
+-- a command that is one too many
+made_of : (event : NextEvent) (left : ℕ) → left < commands_of event → (made : ScriptEvent) × IsDeed (deed_of event) made
+made_of (events.Send ask position argument) left more = (SendCommand ask position argument, refl)
+made_of (events.ReceiveBlocks lines count) left more = absurd (omega (arith, more))
+made_of (events.ReceiveRegister lines count) left more = absurd (omega (arith, more))
+made_of (events.GiveBlocks lines count) left more = absurd (omega (arith, more))
+made_of events.Wait left more = absurd (omega (arith, more))
+
 pub plays_are_good : PlaysAreGood
 plays_are_good script certificate a ws es s said c last accepted table played kind start steps =
     let g = a.graph in
     let ps = accepted.facts.points in
     let sound = accepted.graph.graph.sound in
     let laws = laws_of g.kind in
-    let run = plays_are_walks g ws es s said table sound played in
-    let all = from_start g ws es s said table sound played in
+    let run = plays_are_walks g a.bound ws es s said table sound played in
+    let all = from_start g a.bound ws es s said table sound played in
     let m = run_of g s all.registers in
     let good : IsGood a.bound run.last es c =
     subst (λ n. IsGood n run.last es c) (sym accepted.bound) ((each_path g ps laws sound accepted.closed).good c kind start run.last es run.walk.path) in
@@ -217,15 +226,25 @@ plays_are_good script certificate a ws es s said c last accepted table played ki
       sent = good.sent last steps;
       ends = good.ends last steps;
       next = λ event made is deed.
-          let asks : AsksFor (now m) (Ok (Some event)) = subst (λ v. Says m v) is all.says in
+          let asks : AsksFor (now m) (Ok (Some event)) = subst (λ v. Says m s.commands v) is all.says in
           subst (λ n. IsAllowed made last × (commands es + commands_in made ≤ n)) (sym accepted.bound)
           (next_is_good g ps laws sound accepted.closed es (stand_of s all.registers) c last kind start steps all.leads event made (now m) asks refl deed);
       sends = λ is.
-          let asks : AsksFor (now m) (Err Reply) = subst (λ v. Says m v) is all.says in
-          never_wide g ps laws sound accepted.closed es (stand_of s all.registers) c last kind start steps all.leads
-          (wide_here g (stand_of s all.registers) (now m) asks refl);
+          elim (subst (λ v. Says m s.commands v) is all.says) [
+            | inl asks ↦ never_wide g ps laws sound accepted.closed es (stand_of s all.registers) c last kind start steps all.leads
+                (wide_here g (stand_of s all.registers) (now m) asks refl)
+            | inr one ↦
+                let made = made_of one.event s.commands one.more in
+                let few = (next_is_good g ps laws sound accepted.closed es (stand_of s all.registers) c last kind start steps all.leads one.event made.0
+                (now m) one.asks refl made.1).1 in
+                let same = deed_alike one.event made.0 made.1 in
+                let left = (counted_from_start g a.bound ws es s said table sound played).0 in
+                let bound = accepted.bound in
+                let more = one.more in
+                omega (arith, few, same, left, bound, more)
+          ];
       takes = λ ask position argument answer after s' is step takes.
-          let asks : AsksFor (now m) (Ok (Some (events.Send ask position argument))) = subst (λ v. Says m v) is all.says in
+          let asks : AsksFor (now m) (Ok (Some (events.Send ask position argument))) = subst (λ v. Says m s.commands v) is all.says in
           let asked : s.asked ≡ 0 → ⊥ = subst (λ v. IsAsked v s.asked) is all.asked in
           let refused = takes g all.registers all.stands asked in
           let path = made_here g (stand_of s all.registers) (events.Send ask position argument) (SendCommand ask position argument) (Answered answer) tt refl

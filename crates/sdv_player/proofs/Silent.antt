@@ -1,5 +1,5 @@
 -- A move without an event, of a state that stands for a run.
-use Rattle.std.proofs.Common.{◌≡◌, ◌-◌, ◌≤◌, ℕ, List, Option, Some, None, Ok, Err, refl, sym, ap, ◌∙◌, subst, inl, inr, arith}
+use Rattle.std.proofs.Common.{◌≡◌, ◌-◌, ◌<◌, ◌≤◌, ℕ, List, Option, Some, None, Ok, Err, refl, sym, ap, ◌∙◌, subst, inl, inr, arith}
 use Rattle.std.specs.Prelude.{◌⊎◌}
 use Rattle.sdv_graph.specs.Path.{Action, Stand, Move, Goes, Does, Halts}
 use Rattle.sdv_graph.specs.Graph.{Graph}
@@ -16,7 +16,7 @@ use Rattle.sdv_player.specs.declared.next_step.Next.{Next}
 use Rattle.sdv_player.specs.declared.next_step.Next.TheVariants as nexts
 use Rattle.sdv_player.specs.declared.state.State.{State}
 use Rattle.sdv_player.specs.Passing.{EndsAs, Passes, IsNear, PassesBy}
-use Rattle.sdv_player.specs.Play.{Ends, Says, IsAsked, GoesTo}
+use Rattle.sdv_player.specs.Play.{Ends, Says, IsAsked, GoesTo, commands_of}
 use Rattle.sdv_player.specs.Seen.{Registers, Remembers, kind_of, stand_of}
 use Rattle.sdv_player.specs.StandsFor.{run_of, StandsFor}
 use Rattle.sdv_player.proofs.Here.{here, Reads, by_state, flag_of_row}
@@ -54,12 +54,12 @@ ends_as m end stand passes =
     let h = halts_as (now m) end stand passes in
     record { last = h.0; halts = h.1; how = h.2 }
 
-says_end : (m : Machine) (end : Next) → Ends m end → Says m end
-says_end m (nexts.Event event) ends = absurd ends.how
-says_end m nexts.Done ends = ends
-says_end m (nexts.Fault name) ends = ends
-says_end m nexts.Number ends = ends
-says_end m nexts.Stopped ends = absurd ends.how
+says_end : (m : Machine) (left : ℕ) (end : Next) → Ends m end → Says m left end
+says_end m left (nexts.Event event) ends = absurd ends.how
+says_end m left nexts.Done ends = ends
+says_end m left (nexts.Fault name) ends = ends
+says_end m left nexts.Number ends = ends
+says_end m left nexts.Stopped ends = absurd ends.how
 
 none_asked : (m : Machine) (end : Next) (n : ℕ) → Ends m end → IsAsked end n
 none_asked m (nexts.Event event) n ends = absurd ends.how
@@ -107,9 +107,18 @@ module _ (g : Graph) (ws : List ℕ) (s₀ s : State) (r : Registers) (way : OnT
     asked = λ none. absurd (omega (arith, none));
   }
 
+  -- or stops at it, where it is a command and none is left
+  pub says_no_more : (event : NextEvent) → AsksFor (now (run_of g s r)) (Ok (Some event)) → s.commands < commands_of event → GoesTo g ws s₀ s r nexts.Stopped
+  says_no_more event asks more = record {
+    stands = way.stands;
+    came = way.came;
+    says = inr (record { event = event; asks = asks; more = more });
+    asked = tt;
+  }
+
   -- or that the event cannot be made
   pub says_stopped : (fault : RunFault) → AsksFor (now (run_of g s r)) (Err fault) → GoesTo g ws s₀ s r nexts.Stopped
-  says_stopped fault asks = record { stands = way.stands; came = way.came; says = cannot (now (run_of g s r)) fault asks; asked = tt }
+  says_stopped fault asks = record { stands = way.stands; came = way.came; says = inl (cannot (now (run_of g s r)) fault asks); asked = tt }
 
   module _ (a : Action) (read : Reads ws s.place.point (Some a)) (asks : AsksFor (now (run_of g s r)) (Ok None)) where
     passes_here : (s' : State) (end : Option Next) → PassesBy a s s' end → Passes (now (run_of g s r)) end (stand_of s' r)
@@ -125,7 +134,7 @@ module _ (g : Graph) (ws : List ℕ) (s₀ s : State) (r : Registers) (way : OnT
     says_ended s' end passes same =
         let ends = ends_as (run_of g s r) end (stand_of s' r) (passes_here s' (Some end) passes) in
         subst (λ v. GoesTo g ws s₀ v r end) (sym same)
-        (record { stands = way.stands; came = way.came; says = says_end (run_of g s r) end ends; asked = none_asked (run_of g s r) end s.asked ends })
+        (record { stands = way.stands; came = way.came; says = says_end (run_of g s r) s.commands end ends; asked = none_asked (run_of g s r) end s.asked ends })
 
     -- or goes on
     pub passed_on : (s' : State) → PassesBy a s s' None → Passed s s' → OnTheWay g ws s₀ (record s' { moves = s'.moves - 1 }) r

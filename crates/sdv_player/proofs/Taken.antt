@@ -37,7 +37,7 @@ is_asked n m (inr event) some = event
 module _ (g : Graph) (ws : List ℕ) (s : State) (r : Registers) (stands : StandsFor g ws s r) where
   -- the words are read as the graph has it
   read_there : (a : Option Action) → action_at ws s.place.point ≡ a → Reads ws s.place.point a
-  read_there a is = λ g table. sym is ∙ table_read g ws s.place.point table
+  read_there a is = λ g most table. sym is ∙ table_read g ws s.place.point table
 
   action_is : action_at ws s.place.point ≡ Some (here g ws s r stands).point.action
   action_is = read_is g ws s r stands (action_at ws s.place.point) (read_there (action_at ws s.place.point) refl)

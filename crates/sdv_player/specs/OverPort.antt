@@ -92,5 +92,5 @@ abbrev pub PlaysBeside : {S : Type 0} → Kind → Steps S → (S → Option Car
     (from to : Source S) → Result Next RunFault → Type 0
 PlaysBeside k steps card words room s s' from to result =
     (script certificate : List ℕ) (a : Acceptance) (c : Card) → IsAccepted script certificate a
-    → IsTable a.graph words → Starts words s → ShowsStart card a.graph.kind from.0 c
+    → IsTable a.graph a.bound words → Starts words s → ShowsStart card a.graph.kind from.0 c
     → BesideCard k steps card a.bound words room s s' from to c result

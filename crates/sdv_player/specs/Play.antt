@@ -1,5 +1,5 @@
 -- What the calls of a player do to the run that its state stands for.
-use Rattle.std.specs.Prelude.{◌≡◌, ◌/◌, ◌%◌, ◌==◌, ◌&&◌, nat_le, ℕ, List, length, slice_index, Bool, true, false, Option, Some, Ok, Err}
+use Rattle.std.specs.Prelude.{◌≡◌, ◌<◌, ◌≤◌, ◌⊎◌, ◌-◌, ◌/◌, ◌%◌, ◌==◌, ◌&&◌, nat_le, ℕ, List, length, slice_index, Bool, true, false, Option, Some, Ok, Err}
 use Rattle.sdv_card.specs.declared.answer.DataEnd.{DataEnd}
 use Rattle.sdv_card.specs.declared.answer.DataEnd.TheVariants as ends
 use Rattle.sdv_card.specs.declared.answer.WaitEnd.{WaitEnd}
@@ -9,6 +9,8 @@ use Rattle.sdv_graph.specs.Path.{Halts}
 use Rattle.sdv_graph.specs.Graph.{Graph}
 use Rattle.sdv_graph.specs.GraphOf.{IsSound}
 use Rattle.sdv_run.specs.declared.fault.RunFault.TheVariants.{Reply}
+use Rattle.sdv_run.specs.declared.next_event.NextEvent.{NextEvent}
+use Rattle.sdv_run.specs.declared.next_event.NextEvent.TheVariants as events
 use Rattle.sdv_run.specs.declared.returned.Returned.{Returned}
 use Rattle.sdv_run.specs.declared.returned.Returned.TheVariants as told
 use Rattle.sdv_run.specs.Asks.{AsksFor}
@@ -31,13 +33,38 @@ has_header words =
     (slice_index words 0 == magic) && (slice_index words 1 % 256 == version)
     && (slice_index words 2 / 65536 == length words) && nat_le header_size (length words)
 
--- the run of a sound graph, from the words of its table
-pub record Begins (g : Graph) (words : List ℕ) (s : State) : Type 0 where
+-- the run of a sound graph, from the words of its table, with as many commands left as they say
+pub record Begins (g : Graph) (most : ℕ) (words : List ℕ) (s : State) : Type 0 where
   pub stands : StandsFor g words s no_registers
   pub start : run_of g s no_registers ≡ at_start g
+  pub commands : s.commands ≡ most
 
 abbrev pub Starts : List ℕ → State → Type 0
-Starts words s = (g : Graph) → IsTable g words → IsSound g → Begins g words s
+Starts words s = (g : Graph) (most : ℕ) → IsTable g most words → IsSound g → Begins g most words s
+
+-- COMMANDS, whatever the words are
+
+-- each command counts; phases and waits do not
+abbrev pub commands_of : NextEvent → ℕ
+commands_of (events.Send ask position argument) = 1
+commands_of event = 0
+
+abbrev pub commands_said : Next → ℕ
+commands_said (nexts.Event event) = commands_of event
+commands_said end = 0
+
+abbrev pub commands_told : Returned → ℕ
+commands_told (told.Answered answer) = 1
+commands_told returned = 0
+
+-- one is left for a command that is said, and none is taken off before its answer
+pub record Keeps (s s' : State) (said : Next) : Type 0 where
+  pub left : s'.commands ≡ s.commands
+  pub enough : commands_said said ≤ s.commands
+
+-- it is taken off with its answer
+abbrev pub TakesOff : (s s' : State) → Returned → Type 0
+TakesOff s s' returned = s'.commands ≡ s.commands - commands_told returned
 
 -- NEXT
 
@@ -47,11 +74,17 @@ pub record Ends (m : Machine) (end : Next) : Type 0 where
   pub halts : now m ≡ Halts last
   pub how : EndsAs end last
 
--- it is at its next event, at its end, or at a command that cannot be sent
-abbrev pub Says : Machine → Next → Type 0
-Says m (nexts.Event event) = AsksFor (now m) (Ok (Some event))
-Says m nexts.Stopped = AsksFor (now m) (Err Reply)
-Says m end = Ends m end
+-- its next event is a command, and none is left
+pub record IsOneTooMany (m : Machine) (left : ℕ) : Type 0 where
+  pub event : NextEvent
+  pub asks : AsksFor (now m) (Ok (Some event))
+  pub more : left < commands_of event
+
+-- It is at its next event, or at its end; or it stops, at a command that cannot be sent, or at one where none is left.
+abbrev pub Says : Machine → (left : ℕ) → Next → Type 0
+Says m left (nexts.Event event) = AsksFor (now m) (Ok (Some event))
+Says m left nexts.Stopped = AsksFor (now m) (Err Reply) ⊎ IsOneTooMany m left
+Says m left end = Ends m end
 
 -- an event that is said is asked for
 abbrev pub IsAsked : Next → (asked : ℕ) → Type 0
@@ -62,7 +95,7 @@ IsAsked end asked = Unit {0}
 pub record GoesTo (g : Graph) (words : List ℕ) (s s' : State) (r : Registers) (result : Next) : Type 0 where
   pub stands : StandsFor g words s' r
   pub came : Came (run_of g s r) (run_of g s' r)
-  pub says : Says (run_of g s' r) result
+  pub says : Says (run_of g s' r) s'.commands result
   pub asked : IsAsked result s'.asked
 
 abbrev pub Advances : List ℕ → (s s' : State) → Next → Type 0

@@ -1,5 +1,5 @@
 -- A player that is asked and told, one event after another, whatever the events return.
-use Rattle.std.specs.Prelude.{◌≡◌, ◌+◌, ◌≤◌, ℕ, List, [], ◌∷◌, length, map, true, false}
+use Rattle.std.specs.Prelude.{◌≡◌, ◌+◌, ◌≤◌, ◌⊎◌, ℕ, List, [], ◌∷◌, ◌++◌, length, map, true, false}
 use Rattle.sdv_card.specs.declared.answer.Answer.{Answer}
 use Rattle.sdv_card.specs.declared.event.Ask.{Ask}
 use Rattle.sdv_card.specs.Card.{Card, Block}
@@ -15,7 +15,7 @@ use Rattle.sdv_run.specs.declared.next_event.NextEvent.{NextEvent}
 use Rattle.sdv_run.specs.declared.next_event.NextEvent.TheVariants as events
 use Rattle.sdv_run.specs.declared.returned.Returned.{Returned}
 use Rattle.sdv_run.specs.declared.returned.Returned.TheVariants as told
-use Rattle.sdv_run.specs.Asks.{deed_of}
+use Rattle.sdv_run.specs.Asks.{deed_of, IsTooWide}
 use Rattle.sdv_run.specs.Takes.{Told}
 use Rattle.sdv_run.specs.Ran.{IsWalk}
 use Rattle.sdv_table.specs.Fits.{IsTable}
@@ -23,7 +23,7 @@ use Rattle.sdv_player.specs.declared.next_step.Next.{Next}
 use Rattle.sdv_player.specs.declared.next_step.Next.TheVariants as nexts
 use Rattle.sdv_player.specs.declared.state.State.{State}
 use Rattle.sdv_player.specs.Passing.{EndsAs}
-use Rattle.sdv_player.specs.Play.{Starts, Advances, Takes}
+use Rattle.sdv_player.specs.Play.{Starts, Advances, Keeps, Takes, TakesOff, commands_said}
 
 -- THE CALLS, each as its contract says
 
@@ -31,15 +31,15 @@ use Rattle.sdv_player.specs.Play.{Starts, Advances, Takes}
 abbrev pub TellsOne : List ℕ → (here next : State) → Next → Pair → Type 0
 TellsOne words here next (nexts.Event event) p =
     (returned : Returned) × (held : List Block) × Told (deed_of event) returned held p.0 p.1
-    × Takes words here next returned true
+    × Takes words here next returned true × TakesOff here next returned
 TellsOne words here next end p = ⊥
 
 -- it was asked, and told what these events returned, in turn; asked once more, it said this
 abbrev pub Plays : List ℕ → State → List Pair → State → Next → Type 0
-Plays words s [] s' said = Advances words s s' said
+Plays words s [] s' said = Advances words s s' said × Keeps s s' said
 Plays words s (p ∷ ps) s' said =
-    (here next : State) × (event : Next) × Advances words s here event × TellsOne words here next event p
-    × Plays words next ps s' said
+    (here next : State) × (event : Next) × Advances words s here event × Keeps s here event
+    × TellsOne words here next event p × Plays words next ps s' said
 
 -- from the start
 abbrev pub PlaysFromStart : List ℕ → List Pair → State → Next → Type 0
@@ -53,21 +53,30 @@ IsEnding (nexts.Event event) last = last ≡ Open
 IsEnding nexts.Stopped last = last ≡ Open
 IsEnding end last = EndsAs end last
 
--- the events, each with what it returned, are a path of the graph, and so a walk of its script, which ends so
-pub record IsRun (g : Graph) (es : List Pair) (said : Next) : Type 0 where
+-- Whatever the words, the state and the answers are, no more commands are asked for than the state has left: those that were
+-- answered are taken off, and one is left for the command that was said last.
+abbrev pub PlaysAreCounted : Type 0
+PlaysAreCounted =
+    (words : List ℕ) (es : List Pair) (s s' : State) (said : Next) → Plays words s es s' said
+    → (commands es + s'.commands ≡ s.commands) × (commands es + commands_said said ≤ s.commands)
+
+-- The events, each with what it returned, are a path of the graph, and so a walk of its script, which ends so. No more commands
+-- were asked for than this, the one counted that was said last.
+pub record IsRun (g : Graph) (most : ℕ) (es : List Pair) (said : Next) : Type 0 where
   pub last : Ending
   pub how : IsEnding said last
   pub walk : IsWalk g last es
+  pub asked : commands es + commands_said said ≤ most
 
 abbrev pub PlaysAreWalks : Type 0
 PlaysAreWalks =
-    (g : Graph) (words : List ℕ) (es : List Pair) (s : State) (said : Next) → IsTable g words → IsSound g
-    → PlaysFromStart words es s said → IsRun g es said
+    (g : Graph) (most : ℕ) (words : List ℕ) (es : List Pair) (s : State) (said : Next) → IsTable g most words
+    → IsSound g → PlaysFromStart words es s said → IsRun g most es said
 
 -- BESIDE A CARD whose steps these are, by the table of an accepted script: each event is legal and in bounds, at most
 -- the certified number of commands is sent, and the run ends in `done` only with the card in the transfer state. The same
--- holds of the event that is said, before anything is told of it. The player does not stop: it can send each command, and
--- takes what the card answers.
+-- holds of the event that is said, before anything is told of it. The player does not stop: it can send each command, none is
+-- one more than the table says, and it takes what the card answers.
 pub record IsGoodRun (words : List ℕ) (most : ℕ) (es : List Pair) (s : State) (said : Next) (c last : Card) :
     Type 0 where
   pub end : Ending
@@ -87,11 +96,12 @@ pub record IsGoodRun (words : List ℕ) (most : ℕ) (es : List Pair) (s : State
 abbrev pub PlaysAreGood : Type 0
 PlaysAreGood =
     (script certificate : List ℕ) (a : Acceptance) (words : List ℕ) (es : List Pair) (s : State) (said : Next)
-    (c last : Card) → IsAccepted script certificate a → IsTable a.graph words → PlaysFromStart words es s said
+    (c last : Card) → IsAccepted script certificate a → IsTable a.graph a.bound words → PlaysFromStart words es s said
     → a.graph.kind ≡ c.kind → IsAtStart c → StepsOf c es last → IsGoodRun words a.bound es s said c last
 
--- LIKE ANY RUN of the script: with the same returns there are the same events, whichever blocks are given, and the same
--- end. So the player and the runner (`run`, whose events are such a walk too) do the same.
+-- LIKE ANY RUN of the script that sends no more commands than the table says: while the events return the same, they are the
+-- same, whichever blocks are given; then the player says the run's next event, or the same end. So the player and the runner
+-- (`run`, whose events are such a walk too) do the same.
 abbrev pub returns_of : List Pair → List Return
 returns_of es = map (λ p. p.1) es
 
@@ -103,12 +113,24 @@ deed_by event = exactly event
 abbrev pub deeds_of : List Pair → List Deed
 deeds_of es = map (λ p. deed_by p.0) es
 
-pub record IsAlike (last end : Ending) (es fs : List Pair) : Type 0 where
-  pub events : deeds_of es ≡ deeds_of fs
-  pub ends : IsOver last → IsOver end → last ≡ end
+-- it says an event; or it stops, at one that is too wide to be sent
+abbrev pub SaysDeed : Deed → Next → Type 0
+SaysDeed deed (nexts.Event event) = deed_of event ≡ deed
+SaysDeed deed nexts.Stopped = IsTooWide deed
+SaysDeed deed end = ⊥
+
+-- it says the first of the events that are left of a run, or its end, where the run is over
+abbrev pub SaysRest : List Pair → Ending → Next → Type 0
+SaysRest [] end said = IsOver end → IsEnding said end
+SaysRest (p ∷ ps) end said = SaysDeed (deed_by p.0) said
+
+pub record IsAlike (most : ℕ) (es fs : List Pair) (end : Ending) (said : Next) : Type 0 where
+  pub rest : List Pair
+  pub events : deeds_of fs ≡ deeds_of es ++ deeds_of rest
+  pub says : commands fs ≤ most → SaysRest rest end said
 
 abbrev pub PlaysAreAlike : Type 0
 PlaysAreAlike =
-    (g : Graph) (words : List ℕ) (es fs : List Pair) (s : State) (said : Next) (end : Ending) → IsTable g words
-    → IsSound g → PlaysFromStart words es s said → IsWalk g end fs → returns_of es ≡ returns_of fs
-    → (last : Ending) × IsEnding said last × IsAlike last end es fs
+    (g : Graph) (most : ℕ) (words : List ℕ) (es fs : List Pair) (later : List Return) (s : State) (said : Next)
+    (end : Ending) → IsTable g most words → IsSound g → PlaysFromStart words es s said → IsWalk g end fs
+    → returns_of fs ≡ returns_of es ++ later → IsAlike most es fs end said

@@ -5,6 +5,7 @@ use Rattle.sdv_graph.specs.Graph.{Graph}
 use Rattle.sdv_run.specs.Machine.{Machine, now, CanGoOn}
 use Rattle.sdv_run.specs.Takes.{IsEvent}
 use Rattle.sdv_table.specs.Fits.{IsTable}
+use Rattle.sdv_table.specs.Reading.{commands_read}
 use Rattle.sdv_player.specs.declared.state.State.{State}
 use Rattle.sdv_player.specs.Seen.{Registers, Remembers, kind_of, stand_of}
 
@@ -13,7 +14,7 @@ abbrev pub run_of : Graph → State → Registers → Machine
 run_of g s r = record { graph = g; stand = stand_of s r; left = s.moves }
 
 pub record StandsFor (g : Graph) (words : List ℕ) (s : State) (r : Registers) : Type 0 where
-  pub table : IsTable g words
+  pub table : IsTable g (commands_read words) words
   pub kind : kind_of s.host ≡ g.kind
   pub remembers : Remembers s.host r
   pub on : CanGoOn (run_of g s r)

@@ -14,7 +14,7 @@ pub enum Next<'a> {
     Fault(NameRow<'a>),
     /// It ends in the fault `number`: a number left its range.
     Number,
-    /// It stops: at an argument of more than 32 bits, behind an answer that was refused, or where the words are no
-    /// table of a script.
+    /// It stops: at an argument of more than 32 bits, at a command more than the table allows, behind an answer that was
+    /// refused, or where the words are no table of a script.
     Stopped,
 }

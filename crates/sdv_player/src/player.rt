@@ -1,13 +1,14 @@
 //! The calls of a player.
 
-ghost use Rattle.std.specs.Prelude.{◌≡◌, ◌≤◌, ◌-◌, [], true, false};
+ghost use Rattle.std.specs.Prelude.{◌≡◌, ◌<◌, ◌≤◌, ◌-◌, [], true, false};
 ghost use Rattle.sdv_card.specs.Profile.{host_at_start};
 ghost use Rattle.sdv_run.specs.declared.returned.Returned.{Returned};
 ghost use Rattle.sdv_run.specs.declared.returned.Returned.TheVariants.{Answered};
 ghost use Rattle.sdv_player.specs.declared.next_step.Next.TheVariants.{Stopped};
 ghost use Rattle.sdv_player.specs.Seen.{Gone, Remembers, no_registers, turns_of, host_of};
 ghost use Rattle.sdv_player.specs.Hearing.{bytes_of};
-ghost use Rattle.sdv_player.specs.Play.{has_header, Starts, Advances, Takes, IsEnd};
+ghost use Rattle.sdv_table.specs.Reading.{commands_read};
+ghost use Rattle.sdv_player.specs.Play.{commands_of, has_header, Starts, Advances, Keeps, Takes, IsEnd};
 
 use crate::asking::ask;
 use crate::guards::way;
@@ -22,6 +23,7 @@ use sdv_card::Answer;
 use sdv_frames::Reply;
 use sdv_graph::Target;
 use sdv_registers::Status;
+use sdv_run::NextEvent;
 use sdv_table::{row_at, sending_at};
 
 impl State {
@@ -37,6 +39,7 @@ impl State {
         State {
             host: HostNumbers::at_start(kind, declared),
             moves: 0,
+            commands: 0,
             place: Place::nowhere(),
             asked: 0,
             app: 0,
@@ -47,6 +50,7 @@ impl State {
     fn go_on(&mut self, target: Target)
         ensures asked { self.new.asked ≡ 0 }
         ensures moves { self.new.moves ≡ self.old.moves - 1 }
+        ensures commands { self.new.commands ≡ self.old.commands }
         ensures host { self.new.host ≡ self.old.host }
         ensures gone { Gone target self.old.place self.new.place }
     {
@@ -61,17 +65,18 @@ fn has_header(words: &[u32]) -> bool
     ensures { result ≡ has_header words.now }
 {
     word(words, 0) == 0x5456_4453
-        && word(words, 1) % 256 == 1
+        && word(words, 1) % 256 == 2
         && (word(words, 2) / 65536) as usize == words.len()
-        && words.len() >= 6
+        && words.len() >= 8
 }
 
-/// Begins a run.
+/// Begins a run, which asks for at most as many commands as the words say.
 ///
 /// False for words that have not the magic, the version and the size of a table: the run then stops at once.
 pub fn start(words: &[u32], state: &mut State) -> bool
     ensures header { result ≡ has_header words.now }
     ensures starts { Starts words.now state.new }
+    ensures commands { result ≡ true → state.new.commands ≡ commands_read words.now }
     ensures refused { result ≡ false → state.new.moves ≡ 0 }
 {
     let counts = word(words, 1);
@@ -80,15 +85,30 @@ pub fn start(words: &[u32], state: &mut State) -> bool
         return false;
     }
     state.moves = number_at(words, 4);
+    state.commands = number_at(words, 6);
     state.place.go_to(target_of(word(words, 3)));
     true
 }
 
-/// The event that the run makes next, or its end. Asked again, it answers the same.
+/// Whether an event can be asked for where so many commands are left.
+fn is_left(event: &NextEvent, commands: u64) -> bool
+    ensures yes { result ≡ true → commands_of event.now ≤ commands }
+    ensures no { result ≡ false → commands < commands_of event.now }
+{
+    match event {
+        NextEvent::Send { .. } => commands > 0,
+        _ => true,
+    }
+}
+
+/// The event that the run makes next, or its end. Asked again, it answers the same. It stops at a command where none is
+/// left.
 ///
-/// Any words may be played, with any state: the run ends within the moves that the state allows.
+/// Any words may be played, with any state: the run ends within the moves that the state allows, and asks for no more commands
+/// than it has left.
 pub fn next<'a>(words: &'a [u32], state: &mut State) -> Next<'a>
     ensures advances { Advances words.now state.old state.new result }
+    ensures keeps { Keeps state.old state.new result }
     ensures stopped { state.old.moves ≡ 0 → (result ≡ Stopped) × (state.new ≡ state.old) }
     ensures kind { state.new.host.kind ≡ state.old.host.kind }
 {
@@ -103,6 +123,9 @@ pub fn next<'a>(words: &'a [u32], state: &mut State) -> Next<'a>
         match ask(row, sending_at(words, point), &state.host) {
             Err(_) => return Next::Stopped,
             Ok(Some(event)) => {
+                if !is_left(&event, state.commands) {
+                    return Next::Stopped;
+                }
                 state.asked = 1;
                 return Next::Event(event);
             }
@@ -116,7 +139,7 @@ pub fn next<'a>(words: &'a [u32], state: &mut State) -> Next<'a>
     Next::Stopped
 }
 
-/// Goes on by what came of the command that was asked for.
+/// Goes on by what came of the command that was asked for, and takes that command off.
 ///
 /// False where no command was asked for: the run stands where it stood. False too for an answer that a run does not go
 /// on with: the run stops.
@@ -125,6 +148,7 @@ pub fn answer(words: &[u32], state: &mut State, answer: &Answer) -> bool
     ensures unasked { state.old.asked ≡ 0 → (result ≡ false) × (state.new ≡ state.old) }
     ensures once { result ≡ true → state.new.asked ≡ 0 }
     ensures counted { result ≡ true → state.new.moves ≡ state.old.moves - 1 }
+    ensures commands { result ≡ true → state.new.commands ≡ state.old.commands - 1 }
     ensures kind { result ≡ true → state.new.host.kind ≡ state.old.host.kind }
 {
     let point = state.place.point;
@@ -141,6 +165,7 @@ pub fn answer(words: &[u32], state: &mut State, answer: &Answer) -> bool
         return false;
     }
     state.app = u32::from(row.ask.index == 55 && is_app(answer));
+    state.commands = state.commands.saturating_sub(1);
     let target = way(state.host.kind(), row.cases, row.other, answer);
     state.go_on(target);
     true
@@ -164,6 +189,7 @@ pub fn ended(words: &[u32], state: &mut State, well: bool, register: Option<&[u8
     ensures unasked { state.old.asked ≡ 0 → (result ≡ false) × (state.new ≡ state.old) }
     ensures once { result ≡ true → state.new.asked ≡ 0 }
     ensures counted { result ≡ true → state.new.moves ≡ state.old.moves - 1 }
+    ensures commands { result ≡ true → state.new.commands ≡ state.old.commands }
     ensures kind { result ≡ true → state.new.host.kind ≡ state.old.host.kind }
 {
     if state.asked == 0 {

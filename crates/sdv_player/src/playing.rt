@@ -3,7 +3,7 @@
 ghost use Rattle.std.specs.Prelude.{◌≡◌, ◌≤◌, ◌-◌, true, false, length, IfOk};
 ghost use Rattle.sdv_run.specs.Asks.{CanPerform};
 ghost use Rattle.sdv_player.specs.Seen.{kind_of};
-ghost use Rattle.sdv_player.specs.Play.{Takes};
+ghost use Rattle.sdv_player.specs.Play.{Takes, TakesOff};
 ghost use Rattle.sdv_player.specs.OverPort.{PlaysOver, PlaysBeside};
 
 use crate::next_step::Next;
@@ -18,6 +18,7 @@ use sdv_run::{NextEvent, Returned, RunFault, perform};
 pub fn tell(words: &[u32], state: &mut State, returned: &Returned) -> bool
     ensures takes { Takes words.now state.old state.new returned.now result }
     ensures counted { result ≡ true → state.new.moves ≡ state.old.moves - 1 }
+    ensures commands { result ≡ true → TakesOff state.old state.new returned.now }
     ensures kind { result ≡ true → state.new.host.kind ≡ state.old.host.kind }
 {
     match returned {
@@ -44,7 +45,8 @@ fn can_perform(event: &NextEvent, room: usize) -> bool
     }
 }
 
-/// Plays a table over a port, from where the state stands, until the run ends or stops.
+/// Plays a table over a port, from where the state stands, until the run ends or stops. It sends no more commands than the
+/// state has left, whatever comes of them.
 ///
 /// Blocks are received to the front of `held`, and given from the front of `input`.
 ///

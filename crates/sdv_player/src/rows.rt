@@ -45,7 +45,7 @@ fn head(words: &[u32], point: usize) -> u32
     requires { point < 65536 }
     ensures { result ≡ head_read words.now point }
 {
-    word(words, 6 + point)
+    word(words, 8 + point)
 }
 
 /// The words from a point's row on.

@@ -11,6 +11,8 @@ pub struct State {
     pub host: HostNumbers,
     /// How many moves the run still makes at most.
     pub moves: u64,
+    /// How many commands it still asks for at most. One is taken off with its answer.
+    pub commands: u64,
     /// Where it stands.
     pub place: Place,
     /// Not 0 where the event of the point was asked for.

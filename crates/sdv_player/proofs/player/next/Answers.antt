@@ -1,10 +1,11 @@
-use Rattle.std.proofs.Common.{◌∙◌, Some, None, Ok, arith}
+use Rattle.std.proofs.Common.{◌≡◌, ◌∙◌, Some, None, Ok, false, arith, rules}
 use Rattle.sdv_table.specs.Reading.{seen_row}
 use Rattle.sdv_run.specs.Asks.{AsksFor}
 use Rattle.sdv_run.specs.Machine.{now}
+use Rattle.sdv_player.specs.Play.{commands_said}
 use Rattle.sdv_player.specs.StandsFor.{run_of}
 use Rattle.sdv_player.proofs.Here.{Reads, some_row, asks_here}
-use Rattle.sdv_player.proofs.Silent.{says_event, says_stopped, says_ended, passed_on}
+use Rattle.sdv_player.proofs.Silent.{says_event, says_no_more, says_stopped, says_ended, passed_on}
 use Rattle.sdv_player.proofs.Within.{row_within}
 use Rattle.sdv_player.proofs.player.next.Goals as goal
 
@@ -37,6 +38,22 @@ returns-in-Ok-Some-clause-advances c = λ g r stands.
     let event = c.in-Ok-Some.event in
     says_event g ws c.args.state.now s r way event (rw (c.in-Ok-Some.is, c.in-Ok-Some.field-0-is) at asks)
 
+pub returns-then-not-is_left-clause-advances : goal.returns-then-not-is_left-clause-advances
+returns-then-not-is_left-clause-advances c = λ g r stands.
+    let ws = c.args.words.now in
+    let s = c.loop.state in
+    let way = c.loop.invariant.way g r stands in
+    let read : Reads ws s.place.point (Some (seen_row c.in-Some.row)) = rw c.in-Some.is at c.row_at.ensures.table in
+    let asks = asks_here g ws s r way.stands (seen_row c.in-Some.row) read c.sending_at.result c.ask.result c.sending_at.ensures.table c.ask.ensures in
+    let event = c.in-Ok-Some.event in
+    let not : c.is_left.result ≡ false = search (rules, c.if-not-is_left.true) in
+    says_no_more g ws c.args.state.now s r way event (rw (c.in-Ok-Some.is, c.in-Ok-Some.field-0-is) at asks) (c.is_left.ensures.no not)
+
+pub returns-in-Some-pass-clause-keeps : goal.returns-in-Some-pass-clause-keeps
+returns-in-Some-pass-clause-keeps c =
+    let silent : commands_said c.in-Some-pass.end ≡ 0 = rw c.in-Some-pass.is at c.pass.ensures.silent in
+    record { left = c.pass.ensures.commands ∙ c.loop.invariant.commands; enough = omega (arith, silent) }
+
 pub returns-in-Some-pass-clause-advances : goal.returns-in-Some-pass-clause-advances
 returns-in-Some-pass-clause-advances c = λ g r stands.
     let ws = c.args.words.now in
@@ -58,6 +75,7 @@ loop-preserved c =
     record {
       moves = omega (arith, c.pass.ensures.moves, c.loop.invariant.moves);
       kind = c.pass.ensures.kind ∙ c.loop.invariant.kind;
+      commands = c.pass.ensures.commands ∙ c.loop.invariant.commands;
       way = λ g r stands.
           let way = c.loop.invariant.way g r stands in
           let asks = asks_here g ws s r way.stands (seen_row c.in-Some.row) read c.sending_at.result c.ask.result c.sending_at.ensures.table c.ask.ensures in

@@ -10,5 +10,6 @@ abbrev pub invariant-loop : goal.invariant-loop
 invariant-loop l = record {
   moves : l.state.moves ≡ l.end - l.counter;
   kind : l.state.host.kind ≡ l.fn.state.host.kind;
+  commands : l.state.commands ≡ l.fn.state.commands;
   way : (g : Graph) (r : Registers) → StandsFor g l.words l.fn.state r → OnTheWay g l.words l.fn.state l.state r;
 }

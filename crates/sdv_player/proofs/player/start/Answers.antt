@@ -9,16 +9,16 @@ use Rattle.sdv_player.proofs.Begun.{header_of, header_there, kind_read_is, begun
 use Rattle.sdv_player.proofs.player.start.Goals as goal
 
 pub returns-then-not-has_header-clause-starts : goal.returns-then-not-has_header-clause-starts
-returns-then-not-has_header-clause-starts c = λ g table sound.
-    let there = header_there g c.args.words.now table in
+returns-then-not-has_header-clause-starts c = λ g most table sound.
+    let there = header_there g most c.args.words.now table in
     let none : has_header c.args.words.now ≡ false = search (rules, c.has_header.ensures, c.if-not-has_header.true) in
     let clash : true ≡ false = sym there ∙ none in
     absurd (cc)
 
 pub returns-clause-starts : goal.returns-clause-starts
-returns-clause-starts c = λ g table sound.
+returns-clause-starts c = λ g most table sound.
     let ws = c.args.words.now in
-    let h = header_of g ws table in
+    let h = header_of g most ws table in
     let few = table.fits.counts.numbers in
     let kind : c.word-counts.result / 256 % 256 ≡ _ = ap (λ w. w / 256 % 256) c.word-counts.ensures ∙ h.kind_is in
     let declared : c.word-counts.result / 65536 % 256 ≡ g.numbers = ap (λ w. w / 65536 % 256) c.word-counts.ensures ∙ h.numbers_is in
@@ -28,11 +28,12 @@ returns-clause-starts c = λ g table sound.
     ap (λ t. turns_at t (turns_of c.stopped.result.place)) target ∙ ap (λ ts. turns_at g.first ts) c.stopped.ensures.place in
     let short : length (turns_at c.target_of.result (turns_of c.stopped.result.place)) ≤ 4 =
     subst (λ ts. length ts ≤ 4) (sym turns) (begins_short g sound) in
-    begun g ws _ table sound (record {
+    begun g most ws _ table sound (record {
       kind = kind_read_is g c.stopped.result.host.kind (c.stopped.ensures.kind ∙ kind);
       host = c.stopped.ensures.host fits ∙ ap host_at_start declared;
       remembers = c.stopped.ensures.remembers;
       moves = c.number_at-state.ensures ∙ h.moves_is;
+      commands = c.number_at-state-2.ensures ∙ h.commands_is;
       point = c.go_to.ensures.point short ∙ ap (λ t. t.to) target;
       turns = c.go_to.ensures.turns short ∙ turns;
       asked = c.stopped.ensures.asked;
