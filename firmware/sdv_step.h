@@ -1,7 +1,7 @@
 /* A player of script tables (docs/TABLES.md) in C99: no heap, no libc, no recursion, no floating point.  It is not
  * proved; .ci/firmware tests it.  It reads no word outside the table, whatever the words are, and each run ends: a
- * table bounds its moves, and a table that is not well formed may end a run early (SDV_STOPPED), or in a fault that no
- * script has. */
+ * table bounds its moves, and the commands that are asked for.  A table that is not well formed may end a run early
+ * (SDV_STOPPED), or in a fault that no script has. */
 #ifndef SDV_STEP_H
 #define SDV_STEP_H
 #include <stddef.h>
