@@ -1,6 +1,6 @@
 //! The calls of a player.
 
-ghost use Rattle.std.specs.Prelude.{◌≡◌, ◌<◌, ◌≤◌, ◌-◌, [], true, false};
+ghost use Rattle.std.specs.Prelude.{◌≡◌, ◌<◌, ◌≤◌, ◌⊎◌, ◌-◌, [], true, false};
 ghost use Rattle.sdv_card.specs.Profile.{host_at_start};
 ghost use Rattle.sdv_run.specs.declared.returned.Returned.{Returned};
 ghost use Rattle.sdv_run.specs.declared.returned.Returned.TheVariants.{Answered};
@@ -149,6 +149,7 @@ pub fn answer(words: &[u32], state: &mut State, answer: &Answer) -> bool
     ensures once { result ≡ true → state.new.asked ≡ 0 }
     ensures counted { result ≡ true → state.new.moves ≡ state.old.moves - 1 }
     ensures commands { result ≡ true → state.new.commands ≡ state.old.commands - 1 }
+    ensures refused { result ≡ false → (state.new ≡ state.old) ⊎ (state.new.moves ≡ 0) }
     ensures kind { result ≡ true → state.new.host.kind ≡ state.old.host.kind }
 {
     let point = state.place.point;
@@ -190,6 +191,7 @@ pub fn ended(words: &[u32], state: &mut State, well: bool, register: Option<&[u8
     ensures once { result ≡ true → state.new.asked ≡ 0 }
     ensures counted { result ≡ true → state.new.moves ≡ state.old.moves - 1 }
     ensures commands { result ≡ true → state.new.commands ≡ state.old.commands }
+    ensures refused { result ≡ false → state.new ≡ state.old }
     ensures kind { result ≡ true → state.new.host.kind ≡ state.old.host.kind }
 {
     if state.asked == 0 {

@@ -1,6 +1,6 @@
 //! A player over a port.
 
-ghost use Rattle.std.specs.Prelude.{◌≡◌, ◌≤◌, ◌-◌, true, false, length, IfOk};
+ghost use Rattle.std.specs.Prelude.{◌≡◌, ◌≤◌, ◌⊎◌, ◌-◌, true, false, length, IfOk};
 ghost use Rattle.sdv_run.specs.Asks.{CanPerform};
 ghost use Rattle.sdv_player.specs.Seen.{kind_of};
 ghost use Rattle.sdv_player.specs.Play.{Takes, TakesOff};
@@ -19,6 +19,7 @@ pub fn tell(words: &[u32], state: &mut State, returned: &Returned) -> bool
     ensures takes { Takes words.now state.old state.new returned.now result }
     ensures counted { result ≡ true → state.new.moves ≡ state.old.moves - 1 }
     ensures commands { result ≡ true → TakesOff state.old state.new returned.now }
+    ensures refused { result ≡ false → (state.new ≡ state.old) ⊎ (state.new.moves ≡ 0) }
     ensures kind { result ≡ true → state.new.host.kind ≡ state.old.host.kind }
 {
     match returned {
