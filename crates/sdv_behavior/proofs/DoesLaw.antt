@@ -26,7 +26,7 @@ use Rattle.sdv_card.specs.StateTable.{rows, targets}
 use Rattle.sdv_card.specs.Taken.{Taken, ContentsAfter}
 use Rattle.sdv_card.proofs.Members.{May-targets}
 use Rattle.sdv_behavior.specs.declared.behavior.Behavior.{Behavior}
-use Rattle.sdv_behavior.specs.declared.behavior.Behavior.TheVariants.{Prompt, LosesCommand, LosesAnswer, IsSlow, ReportsError, Refuses, CutsPhase, FailsSwitch}
+use Rattle.sdv_behavior.specs.declared.behavior.Behavior.TheVariants.{Prompt, LosesCommand, LosesAnswer, IsSlow, ReportsError, Refuses, CutsPhase, FailsSwitch, LosesCrcStatus}
 use Rattle.sdv_description.specs.declared.card_desc.CardDesc.{CardDesc}
 use Rattle.sdv_behavior.specs.declared.card_state.CardState.{CardState}
 use Rattle.sdv_behavior.specs.declared.choice.Choice.{Choice}
@@ -86,6 +86,8 @@ deed_fits CutsPhase Cmd0 = tt
 deed_fits CutsPhase row = tt
 deed_fits FailsSwitch Cmd0 = tt
 deed_fits FailsSwitch row = tt
+deed_fits LosesCrcStatus Cmd0 = tt
+deed_fits LosesCrcStatus row = tt
 
 -- the blocks that the host announced last, as the deed leaves them
 abbrev pub announced_by : Deed → Row → ℕ → ℕ

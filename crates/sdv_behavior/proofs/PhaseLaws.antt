@@ -1,5 +1,5 @@
 -- The phases and waits of a simulator are steps of the card that it shows.
-use Rattle.std.proofs.Common.{◌≡◌, ℕ, ◌≤◌, ◌<◌, ◌+◌, ◌==◌, ◌||◌, ◌&&◌, inl, refl, sym, ap, subst, ◌∙◌, true, false, List, ◌∷◌, length, take, drop, Option, Some, None, eq-eqb, le-leb, arith}
+use Rattle.std.proofs.Common.{◌≡◌, ◌⊎◌, ℕ, ◌≤◌, ◌<◌, ◌+◌, ◌==◌, ◌||◌, ◌&&◌, inl, inr, refl, sym, ap, subst, ◌∙◌, true, false, List, ◌∷◌, length, take, drop, Option, Some, None, eq-eqb, le-leb, arith}
 use Rattle.sdv_card.specs.declared.answer.DataEnd.{DataEnd}
 use Rattle.sdv_card.specs.declared.answer.DataEnd.TheVariants.{Ok, Cut}
 use Rattle.sdv_card.specs.declared.answer.WaitEnd.{WaitEnd}
@@ -19,7 +19,7 @@ use Rattle.sdv_card.specs.Phases.{after_phase, after_wait, read_due, register_du
 use Rattle.sdv_card.specs.Port.{count_known, Kept}
 use Rattle.sdv_card.specs.ScriptEvent.{ReceiveBlocks, ReceiveRegister, GiveBlocks, AwaitReady, BlocksIn, RegisterIn, BlocksOut, Waited}
 use Rattle.sdv_card.specs.States.{is_open}
-use Rattle.sdv_card.proofs.Members.{here, both_true, and_left, and_right}
+use Rattle.sdv_card.proofs.Members.{here, there, both_true, and_left, and_right}
 use Rattle.sdv_description.specs.declared.card_desc.CardDesc.{CardDesc}
 use Rattle.sdv_behavior.specs.declared.card_state.CardState.{CardState}
 use Rattle.sdv_behavior.specs.CardOf.{card_of, card_with}
@@ -27,7 +27,7 @@ use Rattle.sdv_description.specs.Layout.{partition_size, image_size, contents_of
 use Rattle.sdv_description.proofs.LayoutLaws.{OnlyThere, shown_there, only_there, contents_sized, whole_sized}
 use Rattle.sdv_image.specs.Images.{Shown, OnlyThese, OnlyAt, AreSized}
 use Rattle.sdv_behavior.specs.RowTaken.{first_of}
-use Rattle.sdv_behavior.specs.SimSteps.{SimState, card_shown, shown_card, Goes, length_fits, next_place, first_place, phase_over, register_of, padded, IfEndedWell, receives, receives_register, takes_blocks, Receives, ReceivesRegister, TakesBlocks, wait_state, Waits}
+use Rattle.sdv_behavior.specs.SimSteps.{SimState, card_shown, shown_card, Goes, length_fits, next_place, first_place, phase_over, register_of, padded, IfEndedWell, receives, receives_register, takes_blocks, Receives, ReceivesRegister, TakesBlocks, StoresBlocks, IsCutOff, wait_state, Waits}
 use Rattle.sdv_behavior.proofs.CountLaw.{Knows, no}
 use Rattle.sdv_behavior.proofs.RegisterLaws.{register_true}
 
@@ -106,6 +106,24 @@ write_after WriteDue Ok e = first _ _ refl refl
 write_after WriteDue Cut e = first _ _ refl refl
 write_after OpenWriteDue end e = first _ _ refl refl
 write_after x end e = no e
+
+-- where a card is that took the blocks of a phase: a place that the tables have however the host sees the end
+record AfterTaken (x : Transfer) (end : DataEnd) : Type 0 where
+  place : Place
+  rest : List Place
+  places : after_phase x Ok ≡ place ∷ rest
+  may : May (after_phase x end) place
+  unknown : count_known place.transfer ≡ false
+
+taken_at : {x : Transfer} {end : DataEnd} (place : Place) (rest : List Place) → after_phase x Ok ≡ place ∷ rest → May (after_phase x end) place →
+    count_known place.transfer ≡ false → AfterTaken x end
+taken_at place rest e m u = record { place = place; rest = rest; places = e; may = m; unknown = u }
+
+taken_after : (x : Transfer) (end : DataEnd) → write_due x ≡ true → AfterTaken x end
+taken_after WriteDue Ok e = taken_at _ _ refl (here refl) refl
+taken_after WriteDue Cut e = taken_at _ _ refl (there (here refl)) refl
+taken_after OpenWriteDue end e = taken_at _ _ refl (here refl) refl
+taken_after x end e = no e
 
 -- THE DATA LINES of a legal phase are the card's
 
@@ -248,12 +266,57 @@ module _ (s s' : SimState) (all : List Block) (shows : s.blocks ≡ Some all) (a
                 (subst (λ (v : List Block). OnlyThese (next_place s.desc s.card) (length blocks) v o.0) same o.2);
           }
 
+  -- where a write leaves the card, and what it leaves in it
+  record AfterWrite (end : DataEnd) (blocks : List Block) : Type 0 where
+    place : Place
+    goes : Goes (at place) s s'
+    may : May (after_phase s.card.transfer end) place
+    unknown : count_known place.transfer ≡ false
+    stored : (all' : List Block) → Some all' ≡ s'.blocks →
+        StoredOrNot end before blocks (card_with s.desc (at place) announced (contents_of s.desc all'))
+
+  -- the card stores the blocks, whatever the host sees
+  after_stored : (end : DataEnd) (blocks : List Block) → write_due s.card.transfer ≡ true → length blocks ≡ announced →
+      s.card.next_block + announced ≤ partition_size s.desc s.card.mode.partition → StoresBlocks end blocks s s' → AfterWrite end blocks
+  after_stored end blocks due size room r = record {
+    place = a.place;
+    goes = subst (λ c. Goes c s s') (ap (λ ps. first_place ps s.card) a.places) r.goes;
+    may = a.may;
+    unknown = a.unknown;
+    stored = stored end (at a.place);
+  }
+    where
+      a : AfterTaken s.card.transfer end
+      a = taken_after s.card.transfer end due
+
+      stored : (end : DataEnd) (card : CardState) (all' : List Block) → Some all' ≡ s'.blocks →
+          StoredOrNot end before blocks (card_with s.desc card announced (contents_of s.desc all'))
+      stored Ok card all' e = inl (record { stored = sym (moved_blocks blocks s'.blocks all' e size room r.stored); error = refl })
+      stored Cut card all' e = refl
+
+  after_cut : (end : DataEnd) (blocks : List Block) → write_due s.card.transfer ≡ true → IsCutOff end s s' → AfterWrite end blocks
+  after_cut Ok blocks due r = absurd (let f : Cut ≡ Ok = r.end_is in cc)
+  after_cut Cut blocks due r =
+      let a = write_after s.card.transfer Cut due in
+      record {
+        place = a.place;
+        goes = subst (λ c. Goes c s s') (over_is a) r.goes;
+        may = may a;
+        unknown = a.unknown;
+        stored = λ all' e. refl;
+      }
+
+  after_write : (end : DataEnd) (blocks : List Block) → write_due s.card.transfer ≡ true → length blocks ≡ announced →
+      s.card.next_block + announced ≤ partition_size s.desc s.card.mode.partition → StoresBlocks end blocks s s' ⊎ IsCutOff end s s' → AfterWrite end blocks
+  after_write end blocks due size room (inl r) = after_stored end blocks due size room r
+  after_write end blocks due size room (inr r) = after_cut end blocks due r
+
   pub give_law : (lines : Width) (end : DataEnd) (blocks : List Block) → ContentsFit before → give_legal s.card.state s.card.transfer ≡ true →
       TransferOnCard before → length blocks ≡ announced → TakesBlocks end blocks s s' →
       Kept card_shown (GiveBlocks lines blocks) before (BlocksOut end) s'
   give_law lines end blocks fit legal on_card bounds r =
       let due = write_is_due s.card.state s.card.transfer legal in
-      let a = write_after s.card.transfer end due in
+      let a = after_write end blocks due bounds has_room r.taken in
       let w = written end blocks fit (subst (λ (n : ℕ). s.card.next_block + n ≤ partition_size s.desc s.card.mode.partition) (sym bounds) has_room) r in
       record {
         after = card_with s.desc (at a.place) announced (contents_of s.desc w.all');
@@ -268,12 +331,12 @@ module _ (s s' : SimState) (all : List Block) (shows : s.blocks ≡ Some all) (a
                 drop (s.card.next_block + n) (blocks_of s.card.mode.partition contents)
                 ≡ drop (s.card.next_block + n) (blocks_of s.card.mode.partition (contents_of s.desc w.all'))) bounds w.there.these.above;
           };
-          stored = stored end (at a.place) w.all' w.shown r.stored;
-          moved = record { place = a.place; may = may a; card = refl };
+          stored = a.stored w.all' w.shown;
+          moved = record { place = a.place; may = a.may; card = refl };
         };
         shown = record {
           shown = card_of s.desc (at a.place) w.all';
-          shows = now_shown (at a.place) w.all' w.shown (subst (λ c. Goes c s s') (over_is a) r.goes);
+          shows = now_shown (at a.place) w.all' w.shown a.goes;
           same = refl;
           count = λ k. no (sym a.unknown ∙ k);
         };
@@ -281,12 +344,6 @@ module _ (s s' : SimState) (all : List Block) (shows : s.blocks ≡ Some all) (a
     where
       has_room : s.card.next_block + announced ≤ partition_size s.desc s.card.mode.partition
       has_room = room (write_blocks_due s.card.transfer (write_is_due s.card.state s.card.transfer legal)) on_card
-
-      stored : (end : DataEnd) (card : CardState) (all' : List Block) → Some all' ≡ s'.blocks →
-          IfEndedWell end (Shown (next_place s.desc s.card) blocks s'.blocks) →
-          StoredOrNot end before blocks (card_with s.desc card announced (contents_of s.desc all'))
-      stored Ok card all' e t = inl (record { stored = sym (moved_blocks blocks s'.blocks all' e bounds has_room t); error = refl })
-      stored Cut card all' e t = refl
 
   -- a wait ends in a state that the tables have
   wait_may : (state : State) (end : WaitEnd) → wait_legal state ≡ true → May (after_wait state end) (first_of (after_wait state end) state)

@@ -1,9 +1,9 @@
 -- The behaviors of a simulated card, one for each event: the values of a schedule in their order; after its end all are
--- prompt. The values are this project's own.
+-- prompt. The values are this project's own; a file of digits has those from 0 to 7.
 use Rattle.std.specs.Prelude.{ℕ, Bool, ◌==◌, List, [], ◌∷◌, Option, Some, None, is_some, if◌then◌else◌}
 use Rattle.std.specs.List.{list_all}
 use Rattle.sdv_behavior.specs.declared.behavior.Behavior.{Behavior}
-use Rattle.sdv_behavior.specs.declared.behavior.Behavior.TheVariants.{Prompt, LosesCommand, LosesAnswer, IsSlow, ReportsError, Refuses, CutsPhase, FailsSwitch}
+use Rattle.sdv_behavior.specs.declared.behavior.Behavior.TheVariants.{Prompt, LosesCommand, LosesAnswer, IsSlow, ReportsError, Refuses, CutsPhase, FailsSwitch, LosesCrcStatus}
 
 abbrev pub behavior_of_code : ℕ → Option Behavior
 behavior_of_code code =
@@ -15,6 +15,7 @@ behavior_of_code code =
     else if code == 5 then Some Refuses
     else if code == 6 then Some CutsPhase
     else if code == 7 then Some FailsSwitch
+    else if code == 8 then Some LosesCrcStatus
     else None
 
 abbrev pub first_behavior : List Behavior → Behavior

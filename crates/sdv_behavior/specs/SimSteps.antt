@@ -25,7 +25,7 @@ use Rattle.sdv_controller.specs.declared.wire.WireEnd.{WireEnd}
 use Rattle.sdv_controller.specs.declared.wire.WireEnd.TheVariants.{Silent, Bytes}
 use Rattle.sdv_controller.specs.Wire.{WireCall, WireReturn, Transfer as TransferFrame, OtherCall, Transferred, OtherReturn}
 use Rattle.sdv_behavior.specs.declared.behavior.Behavior.{Behavior}
-use Rattle.sdv_behavior.specs.declared.behavior.Behavior.TheVariants.{IsSlow, CutsPhase}
+use Rattle.sdv_behavior.specs.declared.behavior.Behavior.TheVariants.{IsSlow, CutsPhase, LosesCrcStatus}
 use Rattle.sdv_description.specs.declared.card_desc.CardDesc.{CardDesc}
 use Rattle.sdv_behavior.specs.declared.card_state.CardState.{CardState}
 use Rattle.sdv_behavior.specs.declared.heard.Heard.{Heard}
@@ -133,10 +133,15 @@ abbrev pub cuts : Behavior → Bool
 cuts CutsPhase = true
 cuts behavior = false
 
--- a phase ends well, unless the behavior or a failure of the image cuts it
+-- a phase from the card ends well, unless the behavior or a failure of the image cuts it
 abbrev pub EndFits : Behavior → (failed failed' : ℕ) → DataEnd → Type 0
 EndFits behavior failed failed' Ok = (cuts behavior ≡ false) × (failed ≡ failed')
 EndFits behavior failed failed' Cut = ((cuts behavior ≡ true) × (failed ≡ failed')) ⊎ HasFailed failed failed'
+
+-- how a phase to the card ends for the host where the card has taken the blocks: well, unless their CRC status is lost
+abbrev pub end_seen : Behavior → DataEnd
+end_seen LosesCrcStatus = Cut
+end_seen behavior = Ok
 
 -- where the card is after a phase: of more than one place the first, in which a phase that was cut is over
 abbrev pub first_place : List Place → CardState → CardState
@@ -205,13 +210,25 @@ pub record ReceivesRegister (end : DataEnd) (bytes : List ℕ) (s s' : SimState)
   pub truth : IfEndedWell end (bytes ≡ padded (register_of s.card.transfer s.desc s.card.mode) (length bytes))
   pub same : SameImage s s'
 
+-- the card stores the blocks, and goes on as after a phase that ended well, whatever the host sees of the end
+pub record StoresBlocks (end : DataEnd) (blocks : List Block) (s s' : SimState) : Type 0 where
+  pub goes : Goes (phase_over Ok s.card) s s'
+  pub uncut : cuts (behavior_of s) ≡ false
+  pub end_is : end_seen (behavior_of s) ≡ end
+  pub stored : Shown (next_place s.desc s.card) blocks s'.blocks
+  pub failed : s.failed ≡ s'.failed
+
+-- the behavior cuts the phase, and nothing is stored; or a failure of the image does
+pub record IsCutOff (end : DataEnd) (s s' : SimState) : Type 0 where
+  pub goes : Goes (phase_over Cut s.card) s s'
+  pub end_is : Cut ≡ end
+  pub why : ((cuts (behavior_of s) ≡ true) × SameImage s s')
+      ⊎ ((cuts (behavior_of s) ≡ false) × HasFailed s.failed s'.failed)
+
+-- a phase to the card does the one or the other, and changes no block beside those that it addresses
 pub record TakesBlocks (end : DataEnd) (blocks : List Block) (s s' : SimState) : Type 0 where
-  pub goes : Goes (phase_over end s.card) s s'
-  pub end_fits : EndFits (behavior_of s) s.failed s'.failed end
-  pub stored : IfEndedWell end (Shown (next_place s.desc s.card) blocks s'.blocks)
+  pub taken : StoresBlocks end blocks s s' ⊎ IsCutOff end s s'
   pub others : OnlyAt (next_place s.desc s.card) (length blocks) s.blocks s'.blocks
-  -- the behavior that cuts the phase stores nothing
-  pub nothing : cuts (behavior_of s) ≡ true → s.blocks ≡ s'.blocks
   pub fit : AreSized (image_size s.desc) s.blocks → AreSized (image_size s.desc) s'.blocks
 
 -- WAITS

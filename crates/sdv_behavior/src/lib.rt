@@ -24,6 +24,6 @@ mod words;
 pub use behavior::Behavior;
 pub use card_state::CardState;
 pub use heard::{Deed, Heard, heard_of};
-pub use phases::{cuts, length_fits, next_place, on_lines, phase_over, wait_end, waited};
+pub use phases::{cuts, end_seen, length_fits, next_place, on_lines, phase_over, wait_end, waited};
 pub use places::erased_places;
 pub use register::copy_register;

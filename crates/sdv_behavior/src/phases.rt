@@ -3,7 +3,7 @@
 ghost use Rattle.std.specs.Prelude.{◌≡◌, ◌<◌, ◌≤◌, ◌+◌, ◌^◌, IsTrue};
 ghost use Rattle.sdv_card.specs.Legal.{recv_legal, recv_reg_legal, give_legal};
 ghost use Rattle.sdv_description.specs.Layout.{image_size};
-ghost use Rattle.sdv_behavior.specs.SimSteps.{cuts, phase_over, on_lines, length_fits, next_place, wait_end, wait_state, first_place};
+ghost use Rattle.sdv_behavior.specs.SimSteps.{cuts, end_seen, phase_over, on_lines, length_fits, next_place, wait_end, wait_state, first_place};
 
 use crate::behavior::Behavior;
 use crate::card_state::CardState;
@@ -18,6 +18,16 @@ pub fn cuts(behavior: Behavior) -> bool
     match behavior {
         Behavior::CutsPhase => true,
         _ => false,
+    }
+}
+
+/// How a phase to the card ends for the host where the card has taken the blocks.
+pub fn end_seen(behavior: Behavior) -> DataEnd
+    ensures { result ≡ end_seen behavior }
+{
+    match behavior {
+        Behavior::LosesCrcStatus => DataEnd::Cut,
+        _ => DataEnd::Ok,
     }
 }
 

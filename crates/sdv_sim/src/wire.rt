@@ -10,8 +10,8 @@ ghost use Rattle.sdv_sim.specs.SimOf.{state_of};
 use crate::sim::Sim;
 use crate::wire_end::give;
 use sdv_behavior::{
-    copy_register, cuts, erased_places, heard_of, length_fits, next_place, on_lines, phase_over,
-    wait_end, waited,
+    copy_register, cuts, end_seen, erased_places, heard_of, length_fits, next_place, on_lines,
+    phase_over, wait_end, waited,
 };
 use sdv_card::state_table::{give_legal, recv_legal, recv_reg_legal, wait_legal};
 use sdv_card::{DataEnd, WaitEnd};
@@ -101,13 +101,12 @@ impl<I: Image> Wire for Sim<I> {
             return DataEnd::Cut;
         }
         let place = next_place(&self.desc, &self.card);
-        let end = if cuts(behavior) || write_blocks(&mut self.image, place, blocks).is_err() {
-            DataEnd::Cut
-        } else {
-            DataEnd::Ok
-        };
-        self.card = phase_over(end, &self.card);
-        end
+        if cuts(behavior) || write_blocks(&mut self.image, place, blocks).is_err() {
+            self.card = phase_over(DataEnd::Cut, &self.card);
+            return DataEnd::Cut;
+        }
+        self.card = phase_over(DataEnd::Ok, &self.card);
+        end_seen(behavior)
     }
 
     fn wait(&mut self) -> WaitEnd {

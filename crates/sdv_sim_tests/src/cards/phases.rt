@@ -73,6 +73,24 @@ fn cut_and_slow(rt: HostRuntime) {
     reads(&rt, &mut card, 3, 0x11);
 }
 
+/// A write whose CRC status is lost is cut for the host, and the card programs the block; so does it in an open transfer.
+#[test]
+fn crc_status_lost(rt: HostRuntime) {
+    let mut card = ready(&rt, rt.alloc(), &[0, 8, 3, 8, 8]);
+    let end = write(&rt, &mut card, 3, 0x11);
+    replies(&rt, &mut card, 13, RCA, 0xe00);
+    replies(&rt, &mut card, 13, RCA, 0x900);
+    reads(&rt, &mut card, 3, 0x11);
+    assert!(rt; end == DataEnd::Cut);
+    let mut card = ready(&rt, rt.alloc(), &[8, 8]);
+    replies(&rt, &mut card, 25, 3, 0x900);
+    let end = card.data_out(1, &[[0x11; 512], [0x22; 512]]);
+    replies(&rt, &mut card, 13, RCA, 0xd00);
+    replies(&rt, &mut card, 12, 0, 0xd00);
+    assert!(rt; end == DataEnd::Cut && card.wait() == WaitEnd::Ok);
+    reads(&rt, &mut card, 4, 0x22);
+}
+
 /// Events that are not legal or not in bounds: nothing comes of them, and each uses up a value of the schedule.
 #[test]
 fn refused(rt: HostRuntime) {
