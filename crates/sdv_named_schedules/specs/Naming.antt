@@ -1,7 +1,7 @@
 -- WHAT A SCHEDULE BY NAME MEANS: the value of each event of a run is that of the first mishap that names it, or 0.
-use Rattle.std.specs.Prelude.{◌≡◌, ◌+◌, ◌-◌, ◌==◌, ◌&&◌, ℕ, List, [], ◌∷◌, Bool, false, map, Option, Some, None, if◌then◌else◌}
+use Rattle.std.specs.Prelude.{◌≡◌, ◌+◌, ◌-◌, ◌==◌, ◌&&◌, nat_lt, ℕ, List, [], ◌∷◌, Bool, false, map, Option, Some, None, if◌then◌else◌}
 use Rattle.sdv_named_schedules.specs.declared.naming.EventName.{EventName}
-use Rattle.sdv_named_schedules.specs.declared.naming.EventName.TheVariants.{Line, Command, Application}
+use Rattle.sdv_named_schedules.specs.declared.naming.EventName.TheVariants.{Line, Command, Application, Number}
 use Rattle.sdv_named_schedules.specs.declared.naming.NamedMishap.{NamedMishap}
 use Rattle.sdv_named_schedules.specs.declared.naming.SeenEvent.{SeenEvent}
 use Rattle.sdv_named_schedules.specs.declared.naming.Placed.{Placed}
@@ -12,17 +12,18 @@ abbrev pub has_index : (sent : Option ℕ) → (index : ℕ) → Bool
 has_index None index = false
 has_index (Some sent) index = sent == index
 
--- the event has the name
-abbrev pub is_of : EventName → SeenEvent → Bool
-is_of (Line line) event = event.line == line
-is_of (Command index) event = has_index event.command index
-is_of (Application index) event = event.app && has_index event.command index
+-- the event with the number, from 0, has the name; numbers in names begin with 1
+abbrev pub is_of : EventName → (number : ℕ) → SeenEvent → Bool
+is_of (Line line) number event = event.line == line
+is_of (Command index) number event = has_index event.command index
+is_of (Application index) number event = event.app && has_index event.command index
+is_of (Number named) number event = nat_lt 0 named && (number == named - 1)
 
 -- Of the events with the name, the number of the one that so many are left to; `number` is that of the first event.
 abbrev pub named_place : (number left : ℕ) → EventName → List SeenEvent → Option ℕ
 named_place number left name [] = None
 named_place number left name (event ∷ events) =
-    if is_of name event
+    if is_of name number event
     then (if left == 1 then Some number else named_place (number + 1) (left - 1) name events)
     else named_place (number + 1) left name events
 

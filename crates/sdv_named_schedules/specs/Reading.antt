@@ -4,7 +4,7 @@ use Rattle.sdv_text.specs.Fronts.{Read, after, is_digit, run, number_after}
 use Rattle.sdv_named_schedules.specs.declared.fault.ScheduleFault.{ScheduleFault}
 use Rattle.sdv_named_schedules.specs.declared.fault.ScheduleFault.TheVariants.{Event, Mishap, Many}
 use Rattle.sdv_named_schedules.specs.declared.naming.EventName.{EventName}
-use Rattle.sdv_named_schedules.specs.declared.naming.EventName.TheVariants.{Line, Command, Application}
+use Rattle.sdv_named_schedules.specs.declared.naming.EventName.TheVariants.{Line, Command, Application, Number}
 use Rattle.sdv_named_schedules.specs.declared.naming.NamedMishap.{NamedMishap}
 
 -- WHICH FILES are schedules by name: those with a letter
@@ -75,16 +75,20 @@ read_ordinal text =
     if run is_digit text == 0 then Some (1, text)
     else and_then (read_number text) (λ n. ordinal_and n.0 n.1)
 
--- NAMES of events: the line of a statement, or the index of a command
+-- NAMES of events: the line of a statement, the index of a command, or the number of the event
 
-abbrev pub index_and : (ℕ → EventName) → ℕ × List ℕ → Read EventName
-index_and name n = if nat_lt n.0 64 then Some (name n.0, n.1) else None
+abbrev pub small_index : ℕ × List ℕ → Read ℕ
+small_index n = if nat_lt n.0 64 then Some n else None
+
+unfoldable pub read_index : List ℕ → Read ℕ
+read_index text = and_then (read_number text) small_index
 
 unfoldable pub read_event : List ℕ → Read EventName
 read_event text =
     or_else (after (codes "line ") text) (λ rest. and_then (read_number rest) (λ n. Some (Line n.0, n.1))) (
-    or_else (after (codes "CMD") text) (λ rest. and_then (read_number rest) (index_and Command)) (
-    or_else (after (codes "ACMD") text) (λ rest. and_then (read_number rest) (index_and Application)) None))
+    or_else (after (codes "CMD") text) (λ rest. and_then (read_index rest) (λ n. Some (Command n.0, n.1))) (
+    or_else (after (codes "ACMD") text) (λ rest. and_then (read_index rest) (λ n. Some (Application n.0, n.1))) (
+    or_else (after (codes "event ") text) (λ rest. and_then (read_number rest) (λ n. Some (Number n.0, n.1))) None)))
 
 -- MISHAPS: the words of a sweep's columns, two of them with a short form, each for its value
 
@@ -93,7 +97,8 @@ read_loss text =
     or_else (after (codes "command lost") text) (λ rest. Some (1, rest)) (
     or_else (after (codes "lost") text) (λ rest. Some (1, rest)) (
     or_else (after (codes "answer lost") text) (λ rest. Some (2, rest)) (
-    or_else (after (codes "not ready") text) (λ rest. Some (3, rest)) None)))
+    or_else (after (codes "CRC status lost") text) (λ rest. Some (8, rest)) (
+    or_else (after (codes "not ready") text) (λ rest. Some (3, rest)) None))))
 
 unfoldable pub read_failure : List ℕ → Read ℕ
 read_failure text =

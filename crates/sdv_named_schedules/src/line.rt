@@ -2,7 +2,7 @@
 
 ghost use Rattle.std.specs.Prelude.{◌≡◌, option_map};
 ghost use Rattle.sdv_text.specs.Fronts.{run};
-ghost use Rattle.sdv_named_schedules.specs.Reading.{is_blank, is_over, read_event, read_failure, read_line, read_loss, read_mishap, read_number, read_ordinal, skipped, suffix_of};
+ghost use Rattle.sdv_named_schedules.specs.Reading.{is_blank, is_over, read_event, read_failure, read_index, read_line, read_loss, read_mishap, read_number, read_ordinal, skipped, suffix_of};
 
 use crate::fault::ScheduleFault;
 use crate::naming::{EventName, NamedMishap};
@@ -80,6 +80,19 @@ fn ordinal(text: &[u8]) -> Option<(u32, &[u8])>
     Some((ordinal, rest))
 }
 
+/// The index of a command, at most 63, and what follows.
+#[tactic(auto, unfolding(crate::specs::Reading::read_index))]
+fn index(text: &[u8]) -> Option<(u8, &[u8])>
+    ensures { option_map (λ x. (x.0, x.1.now)) result ≡ read_index text.now }
+{
+    let (index, rest) = number(text)?;
+    if index < 64 {
+        Some((index as u8, rest))
+    } else {
+        None
+    }
+}
+
 /// A name of events, and what follows.
 #[tactic(auto, unfolding(crate::specs::Reading::read_event))]
 fn event(text: &[u8]) -> Option<(EventName, &[u8])>
@@ -90,20 +103,16 @@ fn event(text: &[u8]) -> Option<(EventName, &[u8])>
         return Some((EventName::Line(line), rest));
     }
     if let Some(rest) = after(text, b"CMD") {
-        let (index, rest) = number(rest)?;
-        return if index < 64 {
-            Some((EventName::Command(index as u8), rest))
-        } else {
-            None
-        };
+        let (index, rest) = index(rest)?;
+        return Some((EventName::Command(index), rest));
     }
-    let rest = after(text, b"ACMD")?;
-    let (index, rest) = number(rest)?;
-    if index < 64 {
-        Some((EventName::Application(index as u8), rest))
-    } else {
-        None
+    if let Some(rest) = after(text, b"ACMD") {
+        let (index, rest) = index(rest)?;
+        return Some((EventName::Application(index), rest));
     }
+    let rest = after(text, b"event ")?;
+    let (number, rest) = number(rest)?;
+    Some((EventName::Number(number), rest))
 }
 
 /// A mishap in which something is lost or late, and what follows.
@@ -119,6 +128,9 @@ fn loss(text: &[u8]) -> Option<(u8, &[u8])>
     }
     if let Some(rest) = after(text, b"answer lost") {
         return Some((2, rest));
+    }
+    if let Some(rest) = after(text, b"CRC status lost") {
+        return Some((8, rest));
     }
     match after(text, b"not ready") {
         Some(rest) => Some((3, rest)),

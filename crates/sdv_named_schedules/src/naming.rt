@@ -14,6 +14,8 @@ pub enum EventName {
     Command(u8),
     /// They send the command with this index while the card takes the next command as an application command.
     Application(u8),
+    /// The event with this number, from 1.
+    Number(u32),
 }
 
 /// A mishap at an event with a name.
@@ -56,14 +58,15 @@ fn has_index(event: &SeenEvent, index: u8) -> bool
     }
 }
 
-/// An event has the name.
-fn is_of(name: EventName, event: &SeenEvent) -> bool
-    ensures { result ≡ is_of name event.now }
+/// The event with a number, from 0, has the name.
+fn is_of(name: EventName, number: usize, event: &SeenEvent) -> bool
+    ensures { result ≡ is_of name number event.now }
 {
     match name {
         EventName::Line(line) => event.line == line,
         EventName::Command(index) => has_index(event, index),
         EventName::Application(index) => event.app && has_index(event, index),
+        EventName::Number(named) => named > 0 && number as u64 == u64::from(named - 1),
     }
 }
 
@@ -73,7 +76,7 @@ fn named_place(events: &[SeenEvent], mishap: &NamedMishap) -> Option<usize>
 {
     let mut left = mishap.ordinal;
     for place in 0..events.len() {
-        if is_of(mishap.event, &events[place]) {
+        if is_of(mishap.event, place, &events[place]) {
             if left == 1 {
                 return Some(place);
             }
