@@ -177,6 +177,13 @@ A run that breaks the script, behind the reason and before the way. Such a run m
       mishap   line 32: the card is not ready at CMD13
       wrong    line 32: CMD12 comes to a card in prg state, where it is not legal
       `sdv refute` prints its card, its schedule and its trace
+  $ sdv explain --why $EXAMPLES/hosts/linux_write.sdv 2> said | sed -n '4,9p'
+  why: CMD12 is not legal in prg state
+  a run that breaks the script, beside a simulated card:
+      mishap   line 31: the CRC status of the phase of 1 blocks to the card is lost, and the card programs the blocks
+      mishap   line 32: the card is not ready at CMD13
+      wrong    line 32: CMD12 comes to a card in prg state, where it is not legal
+      `sdv refute` prints its card, its schedule and its trace
   $ sdv explain --why $EXAMPLES/hosts/edk2.sdv 2> said | sed -n '4,10p'
   why: this is an application command, and the card may not take the next command as one
   a run that breaks the script, beside a simulated card:
@@ -194,9 +201,9 @@ A run that breaks the script, behind the reason and before the way. Such a run m
 
 Where none is found, nothing is added; nor where a run may be long, or where the script is accepted.
 
-  $ sdv explain --why $EXAMPLES/hosts/linux_write.sdv 2> said | sed -n '4,5p'
-  why: CMD12 is not legal in prg state
-  a way there, if its number tests come out so:
+  $ sed 's/ app { send 41/ clean { send 41/' $up > unasked.sdv; sdv explain --why unasked.sdv 2> said | grep -c breaks
+  0
+  [1]
   $ printf 'card sd\nsend 0 { else { } } loop 60 { loop 65535 { loop 65535 { send 0 { else { } } } else { } } else { } } else { }\ndone' > long.sdv
   $ sdv explain --why long.sdv
   refused EndState point 5

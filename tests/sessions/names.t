@@ -42,6 +42,55 @@ Events by line, by command and by application command, with an ordinal where it 
   done
   done
 
+Events by their number in the run, which begins with 1. A second event with a number does not come.
+
+  $ as 'event 2: lost' 01; as '1st event 2: lost' 01; as 'event 9: lost' 000000001; as 'event 00011: cut' 00000000006
+  fault unready
+  fault unready
+  fault noscr
+  fault noscr
+  $ as 'event 0: lost\nevent 16: lost\nevent 4294967295: lost\n2nd event 2: lost\n' ''
+  done
+  $ as 'event 5: not ready\nevent 4: not ready\nevent 6: answer lost\n' 000302
+  line 14: CMD55 comes to a card in ready state, where it is not legal
+
+The CRC status of a write is lost: the phase is cut for the host, and the card programs the blocks. There is no digit for it.
+
+  $ head -c 4096 /dev/zero | tr '\0' x > blocks; write=$EXAMPLES/hosts/linux_write.sdv
+  $ for names in '2nd line 31: CRC status lost' 'event 16: CRC status lost' '2nd line 31: cut'; do
+  >   echo "$names" > names; head -c 524288 /dev/zero > image; sdv try $write $card image names --in blocks | sed -n '16,17p'; tr -d '\0' < image | wc -c
+  > done
+  OUT 1 cut
+  CMD13 12340000 R1 00000900
+  512
+  OUT 1 cut
+  CMD13 12340000 R1 00000900
+  512
+  OUT 1 cut
+  CMD13 12340000 R1 00000d00
+  512
+  $ printf '2nd line 31: CRC status lost\nevent 17: not ready\n' > names; sdv try $write $card new:1024 names --in blocks | tail -n 2
+  line 32: CMD12 comes to a card in prg state, where it is not legal
+  CMD13 12340000 R1 00000e00
+  wrong CMD12 00000000
+  $ printf 0000000000000008 > names; sdv try $write $card new:1024 names --in blocks
+  card fault Description
+  [1]
+
+In an open transfer the blocks are stored, and the card waits for CMD12. Elsewhere these words say nothing.
+
+  $ printf '2nd line 31: CRC status lost' > names; head -c 524288 /dev/zero > image
+  $ sdv try $EXAMPLES/hosts/linux_write_many.sdv $card image names --in blocks | sed -n '15,19p'; tr -d '\0' < image | wc -c
+  run fault Input
+  CMD25 00000008 R1 00000900
+  OUT 8 cut
+  CMD13 12340000 R1 00000d00
+  CMD12 00000000 R1 00000d00
+  CMD13 12340000 R1 00000900
+  4096
+  $ as 'CMD17: CRC status lost\n2nd line 33: CRC status lost\n3rd line 28: CRC status lost\nCMD6: CRC status lost\n' ''
+  done
+
 Several lines, in any order. The first one that names an event counts. A mishap may make the event that another names.
 
   $ as '2nd CMD41: answer lost\nCMD41: not ready\n' 000302; as 'CMD41: not ready\n2nd line 16: answer lost\n' 000302
@@ -72,29 +121,29 @@ A line whose event does not come has no effect. Comments, blank lines, blanks an
 Files with a letter are read by name, and others as digits.
 
   $ for text in 0a1 1: '#' '2nd' 012; do printf "$text" > names; sdv try $script $card $image names > named 2>&1; echo "$? $(tail -n 1 named)"; done
-  1 schedule fault: no event (CMD18, 2nd CMD18, line 31) with a colon in line 1
+  1 schedule fault: no event (CMD18, 2nd CMD18, line 31, event 12) with a colon in line 1
   1 card fault Description
   1 card fault Description
-  1 schedule fault: no event (CMD18, 2nd CMD18, line 31) with a colon in line 1
+  1 schedule fault: no event (CMD18, 2nd CMD18, line 31, event 12) with a colon in line 1
   1 fault unready
   $ printf '# n\xc3\xa4chste\nCMD8: lost' > names; sdv try $script $card $image names | tail -n 1; printf 'CMD8: lost\377' > names; sdv try $script $card $image names
   fault unready
-  schedule fault: no mishap (command lost, answer lost, not ready, error shown, refused, phase cut, switch fails) in line 1
+  schedule fault: no mishap (command lost, answer lost, not ready, error shown, refused, phase cut, switch fails, CRC status lost) in line 1
   [1]
 
 Lines that name no event.
 
-  $ for line in 'CMD64: lost' 'ACMD64: lost' 'CMD: lost' 'CMD55 lost' 'CMD55 : lost' '0th CMD55: lost' '1th CMD55: lost' '2st CMD55: lost' '11st CMD55: lost' '2ndCMD55: lost' '2nd' 'line: lost' 'line x: lost' 'line 4294967296: lost' '4294967296th CMD55: lost' '99999999999999999999999th CMD55: lost' 'cmd55: lost' 'WAIT: not ready' 'done: lost' ': lost'; do
-  >   printf "$line" > names; sdv try $script $card $image names 2>&1 | grep -v 'no event (CMD18, 2nd CMD18, line 31) with a colon in line 1$'
+  $ for line in 'CMD64: lost' 'ACMD64: lost' 'CMD: lost' 'CMD55 lost' 'CMD55 : lost' '0th CMD55: lost' '1th CMD55: lost' '2st CMD55: lost' '11st CMD55: lost' '2ndCMD55: lost' '2nd' 'line: lost' 'line x: lost' 'line 4294967296: lost' '4294967296th CMD55: lost' '99999999999999999999999th CMD55: lost' 'cmd55: lost' 'WAIT: not ready' 'done: lost' ': lost' 'event: lost' 'event x: lost' 'event4: lost' 'event 4294967296: lost' '1th event 4: lost'; do
+  >   printf "$line" > names; sdv try $script $card $image names 2>&1 | grep -v 'no event (CMD18, 2nd CMD18, line 31, event 12) with a colon in line 1$'
   > done; echo all of them
   all of them
   $ printf 'CMD55: lost\n\n# more\nCMD: lost\nCMD55: none\n' > names; sdv try $script $card $image names
-  schedule fault: no event (CMD18, 2nd CMD18, line 31) with a colon in line 4
+  schedule fault: no event (CMD18, 2nd CMD18, line 31, event 12) with a colon in line 4
   [1]
 
 Lines that name no mishap.
 
-  $ for line in 'CMD55: late' 'CMD55:' 'CMD55: lost twice' 'CMD55: lostly' 'CMD55: 1' 'CMD55: Lost' 'CMD55: answer  lost' 'CMD55: lost; CMD41: lost'; do
+  $ for line in 'CMD55: late' 'CMD55:' 'CMD55: lost twice' 'CMD55: lostly' 'CMD55: 1' 'CMD55: Lost' 'CMD55: answer  lost' 'CMD55: lost; CMD41: lost' 'CMD55: status lost' 'CMD55: CRC status'; do
   >   printf "$line" > names; sdv try $script $card $image names 2>&1 | sed 's/(.*) //'
   > done
   schedule fault: no mishap in line 1
@@ -105,8 +154,10 @@ Lines that name no mishap.
   schedule fault: no mishap in line 1
   schedule fault: no mishap in line 1
   schedule fault: no mishap in line 1
+  schedule fault: no mishap in line 1
+  schedule fault: no mishap in line 1
   $ printf '\r\nCMD55: is lost\r\n' > names; sdv try $script $card $image names
-  schedule fault: no mishap (command lost, answer lost, not ready, error shown, refused, phase cut, switch fails) in line 2
+  schedule fault: no mishap (command lost, answer lost, not ready, error shown, refused, phase cut, switch fails, CRC status lost) in line 2
   [1]
 
 At most 64 lines name a mishap.
@@ -122,13 +173,13 @@ At most 64 lines name a mishap.
 A wrong line is told once the file is read, before anything is said of the others but that they can be read. Nothing is written.
 
   $ printf 'CMD55: none' > names; printf 'card\n' > none.sdv; head -c 511 /dev/zero > odd; sdv try none.sdv none.sdv odd names --in nofile
-  schedule fault: no mishap (command lost, answer lost, not ready, error shown, refused, phase cut, switch fails) in line 1
+  schedule fault: no mishap (command lost, answer lost, not ready, error shown, refused, phase cut, switch fails, CRC status lost) in line 1
   [1]
   $ sdv try $script nofile odd names
   cannot use nofile
   [2]
   $ printf x > out; sdv try $script $card $image names --out out || wc -c < out
-  schedule fault: no mishap (command lost, answer lost, not ready, error shown, refused, phase cut, switch fails) in line 1
+  schedule fault: no mishap (command lost, answer lost, not ready, error shown, refused, phase cut, switch fails, CRC status lost) in line 1
   1
   $ printf 'CMD8: lost' > names; sdv try none.sdv none.sdv odd names
   card fault ImageLength
@@ -177,6 +228,10 @@ What `refute` tells of a run, written as names, shows the same run. On line 31 o
   $ again uboot 'line 13: refused\n'
   line 13: the card refuses CMD55 with an error
   line 14: CMD41 comes to a card in idle state without the application flag
+  $ again linux_write '2nd line 31: CRC status lost\nline 32: not ready\n'
+  line 31: the CRC status of the phase of 1 blocks to the card is lost, and the card programs the blocks
+  line 32: the card is not ready at CMD13
+  line 32: CMD12 comes to a card in prg state, where it is not legal
   $ again uboot_read_many 'line 24: answer lost\n'
   line 24: the answer to CMD18 is lost
   line 23: CMD16 comes to a card in data state, where it is not legal

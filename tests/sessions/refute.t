@@ -58,10 +58,10 @@ A run that refutes a script: without a mishap, and with one.
   line 33: CMD17 comes to a card in tran state whose block length is not 512 bytes
   wrong CMD17 00001000
 
-Each refused script of the examples, but linux_write, of which the search finds none. `try` shows the same run.
+Each refused script of the examples. `try` shows the same run.
 
   $ head -c 1048576 /dev/zero > zeros
-  $ for script in $EXAMPLES/refused_*.sdv $EXAMPLES/hosts/seabios.sdv $EXAMPLES/hosts/edk2.sdv $EXAMPLES/hosts/linux_erase.sdv $EXAMPLES/hosts/linux_write_many.sdv $EXAMPLES/hosts/uboot.sdv $EXAMPLES/hosts/uboot_read_many.sdv; do
+  $ for script in $EXAMPLES/refused_*.sdv $EXAMPLES/hosts/seabios.sdv $EXAMPLES/hosts/edk2.sdv $EXAMPLES/hosts/linux_erase.sdv $EXAMPLES/hosts/linux_write.sdv $EXAMPLES/hosts/linux_write_many.sdv $EXAMPLES/hosts/uboot.sdv $EXAMPLES/hosts/uboot_read_many.sdv; do
   >   basename $script; sdv refute $script --card card --schedule schedule > told; sed -n '/^mishaps/,/^card/p' told | sed '$d'
   >   sdv try $script card $(sed -n 's/^card over //p' told) schedule --in zeros > trace; sed '1,/^trace/d' told | cmp - trace
   > done
@@ -95,6 +95,13 @@ Each refused script of the examples, but linux_write, of which the search finds 
   wrong
   line 31: CMD33 comes to a card in tran state whose erase sequence is not so far
   line 31: CMD33 comes to a card in tran state whose erase sequence is not so far
+  linux_write.sdv
+  mishaps
+  line 31: the CRC status of the phase of 1 blocks to the card is lost, and the card programs the blocks
+  line 32: the card is not ready at CMD13
+  wrong
+  line 32: CMD12 comes to a card in prg state, where it is not legal
+  line 32: CMD12 comes to a card in prg state, where it is not legal
   linux_write_many.sdv
   mishaps
   line 31: the answer to CMD12 is lost
@@ -115,9 +122,15 @@ Each refused script of the examples, but linux_write, of which the search finds 
   line 23: CMD16 comes to a card in data state, where it is not legal
   line 23: CMD16 comes to a card in data state, where it is not legal
 
-  $ sdv refute $EXAMPLES/hosts/linux_write.sdv
-  no run found (1800 runs of at most 2002 mishaps)
-  [1]
+A schedule that digits cannot say is written by name, with the numbers of the events.
+
+  $ sdv refute $EXAMPLES/hosts/linux_write.sdv --schedule schedule | sed -n '/^schedule/,/^trace/p'; cat schedule
+  schedule
+  event 16: CRC status lost
+  event 17: not ready
+  trace
+  event 16: CRC status lost
+  event 17: not ready
 
 Scripts that have a certificate: there is none.
 

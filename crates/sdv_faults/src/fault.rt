@@ -33,11 +33,12 @@ use std::alloc::AllocError;
 use std::io::{self, Write};
 
 /// What is said of a line that names no event, before its number.
-const NO_EVENT: &str = "schedule fault: no event (CMD18, 2nd CMD18, line 31) with a colon in line ";
+const NO_EVENT: &str =
+    "schedule fault: no event (CMD18, 2nd CMD18, line 31, event 12) with a colon in line ";
 
 /// What is said of a line that names no mishap, before its number.
 const NO_MISHAP: &str =
-    "schedule fault: no mishap (command lost, answer lost, not ready, error shown, refused, phase cut, switch fails) in line ";
+    "schedule fault: no mishap (command lost, answer lost, not ready, error shown, refused, phase cut, switch fails, CRC status lost) in line ";
 
 /// Why the program ends without its answer.
 #[derive(Clone, Copy, Debug, PartialEq, Eq)]

@@ -16,7 +16,8 @@ use Rattle.sdv_refute.specs.declared.simulated.TryFault.{TryFault}
 use Rattle.sdv_refute.specs.declared.simulated.TryFault.TheVariants as tries
 use Rattle.sdv_refute.specs.Tries.{IsRefused}
 use Rattle.sdv_search.specs.Refuted.{IsNoSearch, IsRefutation}
-use Rattle.sdv_search.specs.Report.{IsReport, schedule_text}
+use Rattle.sdv_named_schedules.specs.Writing.{schedule_text}
+use Rattle.sdv_search.specs.Report.{IsReport}
 use Rattle.sdv_search.specs.Swept.{IsSweep, NotSwept}
 use Rattle.sdv_search.specs.Table.{IsTable, has_wrong}
 use Rattle.sdv_search.specs.declared.sweeping.SweepTable.{SweepTable}

@@ -7,7 +7,8 @@ use Rattle.sdv_check.specs.Verified.{IsNoScript}
 use Rattle.sdv_paths.specs.Answered.{IsUnbreakable, IsUncertifiedText}
 use Rattle.sdv_refute.specs.Tries.{IsRefused}
 use Rattle.sdv_search.specs.Refuted.{IsRefutation}
-use Rattle.sdv_search.specs.Report.{IsReport, schedule_text}
+use Rattle.sdv_named_schedules.specs.Writing.{schedule_text}
+use Rattle.sdv_search.specs.Report.{IsReport}
 use Rattle.sdv_search.specs.declared.refuting.Found.{Found}
 use Rattle.sdv_search.specs.declared.refuting.Refutation.{Refutation}
 use Rattle.sdv_command_line.specs.Requests.{RefuteNames}

@@ -8,7 +8,8 @@ ghost use Rattle.sdv_refute_commands.specs.Refute.{IsApart, IsNoRefutation, IsOv
 use sdv_command_line::RefuteFiles;
 use sdv_faults::Fault;
 use sdv_files::{Store, leave, print_text, text_in};
-use sdv_search::{Found, Refutation, refute, report, schedule_digits};
+use sdv_named_schedules::schedule_text;
+use sdv_search::{Found, Refutation, refute, report};
 use std::alloc::Global;
 use std::io::Write;
 
@@ -102,9 +103,9 @@ fn refute_text<'a, S: Store, O: Write>(
 {
     let run = run_against(alloc, script)?;
     let text = report(alloc, script, &run)?;
-    let digits = schedule_digits(alloc, run.schedule.as_slice())?;
+    let schedule = schedule_text(alloc, run.schedule.as_slice())?;
     leave(files, names.description, run.card.as_bytes())?;
-    leave(files, names.schedule, digits.as_slice())?;
+    leave(files, names.schedule, schedule.as_slice())?;
     print_text(text.as_slice(), out)
 }
 

@@ -1,17 +1,15 @@
 -- WHAT IS TOLD of a run that refutes a script.
-use Rattle.std.specs.Prelude.{◌≡◌, ◌+◌, ℕ, List, [], ◌++◌, codes, decimal, map, nat_le, if◌then◌else◌}
+use Rattle.std.specs.Prelude.{◌≡◌, ℕ, List, [], ◌++◌, codes, decimal, if◌then◌else◌}
+use Rattle.sdv_named_schedules.specs.Writing.{has_digits, schedule_text}
 use Rattle.sdv_refute.specs.declared.wrong.Wrong.{Wrong}
 use Rattle.sdv_wrong_words.specs.declared.event.WrongEvent.{WrongEvent}
 use Rattle.sdv_wrong_words.specs.WrongEvent.{IsEventOf, wrong_event_text}
 use Rattle.sdv_search.specs.Mishaps.{AreMishapsOf}
 use Rattle.sdv_search.specs.declared.refuting.Refutation.{Refutation}
 
--- the digits of a schedule; 9 is the digit of no value
-abbrev pub digit_of : (code : ℕ) → ℕ
-digit_of code = if nat_le code 7 then 48 + code else 57
-
-abbrev pub schedule_text : (codes : List ℕ) → List ℕ
-schedule_text codes = map digit_of codes
+-- the text of a schedule, and the end of its last line, which digits have not
+abbrev pub schedule_lines : (values : List ℕ) → List ℕ
+schedule_lines values = schedule_text values ++ (if has_digits values then codes "\n" else [])
 
 -- the line says why the run stopped
 abbrev pub IsWhy : Wrong → (line : List ℕ) → Type 0
@@ -28,11 +26,11 @@ report_text mishaps why schedule r =
     before codes "wrong\n" before why
     before (codes "card over new:" ++ (decimal r.blocks ++ codes "\n")) before r.card.now
     before codes "schedule\n" before schedule
-    before codes "\ntrace\n" before r.trace.items
+    before codes "trace\n" before r.trace.items
 
 pub record IsReport (script : List ℕ) (r : Refutation) (text : List ℕ) : Type 0 where
   pub mishaps : List ℕ
   pub are_mishaps : AreMishapsOf script [] mishaps
   pub why : List ℕ
   pub is_why : IsWhy r.wrong why
-  pub same : text ≡ report_text mishaps why (schedule_text r.schedule.items) r
+  pub same : text ≡ report_text mishaps why (schedule_lines r.schedule.items) r

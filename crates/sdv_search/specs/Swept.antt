@@ -65,6 +65,7 @@ pub record IsRow (g : Graph) (desc : CardDesc) (image : List ℕ) (input : List 
   pub refused : HasEnd g desc image input (mishap_at row.event 5) row.refused
   pub cut : HasEnd g desc image input (mishap_at row.event 6) row.cut
   pub switch_fails : HasEnd g desc image input (mishap_at row.event 7) row.switch_fails
+  pub crc_status_lost : HasEnd g desc image input (mishap_at row.event 8) row.crc_status_lost
 
 -- THE EVENTS OF A RUN: its trace has a line for each, and, where the run was not cut short, one for its end
 

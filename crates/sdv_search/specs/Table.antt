@@ -30,7 +30,8 @@ losses_text row = end_cell row.command_lost ++ (end_cell row.answer_lost ++ end_
 
 abbrev pub failures_text : Row → List ℕ
 failures_text row =
-    end_cell row.error ++ (end_cell row.refused ++ (end_cell row.cut ++ end_word row.switch_fails))
+    end_cell row.error ++ (end_cell row.refused ++ (end_cell row.cut
+    ++ (end_cell row.switch_fails ++ end_word row.crc_status_lost)))
 
 abbrev pub row_text : Row → List ℕ
 row_text row = padded 11 (line_text row.line) ++ (padded 12 (name_text row.next)
@@ -53,8 +54,8 @@ added t (ends.Stopped fault) =
 
 abbrev pub row_added : Tally → Row → Tally
 row_added t row =
-    added (added (added (added (added (added (added t row.command_lost) row.answer_lost) row.slow) row.error) row.refused)
-    row.cut) row.switch_fails
+    added (added (added (added (added (added (added (added t row.command_lost) row.answer_lost) row.slow) row.error)
+    row.refused) row.cut) row.switch_fails) row.crc_status_lost
 
 abbrev pub rows_added : Tally → List Row → Tally
 rows_added t [] = t
@@ -66,7 +67,7 @@ tally_of s = rows_added (record { done = 0; faults = 0; wrong = 0; stopped = 0 }
 -- THE WHOLE
 
 abbrev pub head : List ℕ
-head = codes "line       event       command lost      answer lost       not ready         error shown       refused           phase cut         switch fails\n"
+head = codes "line       event       command lost      answer lost       not ready         error shown       refused           phase cut         switch fails      CRC status lost\n"
 
 abbrev pub tally_text : Tally → List ℕ
 tally_text t =
@@ -91,7 +92,7 @@ is_wrong end = false
 abbrev pub are_wrong : Row → Bool
 are_wrong row =
     is_wrong row.command_lost || (is_wrong row.answer_lost || (is_wrong row.slow || (is_wrong row.error
-    || (is_wrong row.refused || (is_wrong row.cut || is_wrong row.switch_fails)))))
+    || (is_wrong row.refused || (is_wrong row.cut || (is_wrong row.switch_fails || is_wrong row.crc_status_lost))))))
 
 abbrev pub has_wrong : SweepTable → Bool
 has_wrong s = is_wrong s.plain || list_any are_wrong s.rows.items

@@ -8,6 +8,7 @@
 mod brief;
 mod budget;
 mod cards;
+mod codes;
 mod exits;
 mod exploring;
 mod host;
@@ -25,6 +26,6 @@ mod turns;
 
 pub use brief::shown_run;
 pub use refuting::{Found, Refutation, refute};
-pub use reporting::{report, schedule_digits};
+pub use reporting::report;
 pub use sweeping::{Row, RunEnd, SweepGiven, SweepTable, sweep};
 pub use table::{Tally, has_wrong, put_table};

@@ -150,6 +150,7 @@ fn words_before(behavior: Behavior) -> &'static str
         Behavior::IsSlow => "the card is not ready at ",
         Behavior::Refuses => "the card refuses ",
         Behavior::FailsSwitch => "the switch by ",
+        Behavior::LosesCrcStatus => "the CRC status of ",
         Behavior::Prompt | Behavior::LosesCommand | Behavior::CutsPhase => "",
     }
 }
@@ -164,6 +165,7 @@ fn words_after(behavior: Behavior) -> &'static str
         Behavior::Refuses => " with an error",
         Behavior::CutsPhase => " is cut",
         Behavior::FailsSwitch => " fails",
+        Behavior::LosesCrcStatus => " is lost, and the card programs the blocks",
         Behavior::IsSlow => "",
         Behavior::Prompt => " is as it should be",
     }

@@ -1,34 +1,25 @@
 //! What is told of a run that refutes a script.
 
 ghost use Rattle.std.specs.Prelude.{◌≡◌, IfOk};
-ghost use Rattle.sdv_search.specs.Report.{IsReport, IsWhy, digit_of, report_text, schedule_text};
+ghost use Rattle.sdv_search.specs.Report.{IsReport, IsWhy, report_text, schedule_lines};
 
 use crate::mishaps::mishaps_in_words;
 use crate::refuting::Refutation;
+use sdv_named_schedules::{has_digits, schedule_text};
 use sdv_refute::Wrong;
 use sdv_telling::{put, put_numbered};
 use sdv_wrong_words::{write_wrong_event, wrong_event};
 use std::alloc::{AllocError, Global};
 
-/// The digit of a value of a schedule; 9 where there is no such value.
-fn digit_of(code: u8) -> u8
-    ensures { result ≡ digit_of code }
+/// The text of a schedule, with the end of its last line.
+fn schedule_lines(alloc: Global, values: &[u8]) -> Result<Vec<u8>, AllocError>
+    ensures { IfOk result (λ text. text.items ≡ schedule_lines values.now) }
 {
-    match code {
-        0..=7 => b'0' + code,
-        _ => b'9',
+    let mut text = schedule_text(alloc, values)?;
+    if has_digits(values) {
+        put(&mut text, "\n")?;
     }
-}
-
-/// The digits of a schedule, as a file of it has them.
-pub fn schedule_digits(alloc: Global, codes: &[u8]) -> Result<Vec<u8>, AllocError>
-    ensures { IfOk result (λ text. text.items ≡ schedule_text codes.now) }
-{
-    let mut digits = Vec::new(alloc);
-    for code in codes {
-        digits.push(digit_of(*code))?;
-    }
-    Ok(digits)
+    Ok(text)
 }
 
 /// Why a run stopped, on a line.
@@ -57,7 +48,7 @@ pub fn report(alloc: Global, script: &str, refutation: &Refutation) -> Result<Ve
     let Ok(why) = why(alloc, &refutation.wrong) else {
         return Err(AllocError);
     };
-    let schedule = schedule_digits(alloc, refutation.schedule.as_slice())?;
+    let schedule = schedule_lines(alloc, refutation.schedule.as_slice())?;
     report_of(alloc, refutation, &mishaps, &why, &schedule)
 }
 
@@ -85,7 +76,7 @@ fn report_of(
     put(&mut text, refutation.card)?;
     put(&mut text, "schedule\n")?;
     text.extend_from_slice(schedule)?;
-    put(&mut text, "\ntrace\n")?;
+    put(&mut text, "trace\n")?;
     text.extend_from_slice(&refutation.trace)?;
     Ok(text)
 }

@@ -67,6 +67,8 @@ pub struct Row {
     pub cut: RunEnd,
     /// The switch fails.
     pub switch_fails: RunEnd,
+    /// The card programs the blocks, and their CRC status does not reach the host.
+    pub crc_status_lost: RunEnd,
 }
 
 /// All runs with one mishap.
@@ -200,6 +202,7 @@ impl Common<'_, '_, '_> {
             refused: self.end_with(alloc, number, 5)?,
             cut: self.end_with(alloc, number, 6)?,
             switch_fails: self.end_with(alloc, number, 7)?,
+            crc_status_lost: self.end_with(alloc, number, 8)?,
         })
     }
 

@@ -15,7 +15,7 @@ const WIDTH: usize = 18;
 
 /// The words above the columns.
 const HEAD: &str =
-    "line       event       command lost      answer lost       not ready         error shown       refused           phase cut         switch fails\n";
+    "line       event       command lost      answer lost       not ready         error shown       refused           phase cut         switch fails      CRC status lost\n";
 
 /// How many runs of a sweep ended so.
 #[derive(Clone, Copy, Debug, Default, PartialEq, Eq)]
@@ -54,6 +54,7 @@ impl Tally {
         self.add(row.refused);
         self.add(row.cut);
         self.add(row.switch_fails);
+        self.add(row.crc_status_lost);
     }
 }
 
@@ -94,6 +95,7 @@ fn are_wrong(row: &Row) -> bool
         || is_wrong(&row.refused)
         || is_wrong(&row.cut)
         || is_wrong(&row.switch_fails)
+        || is_wrong(&row.crc_status_lost)
 }
 
 /// A run of a sweep comes to what is not allowed at the card.
@@ -166,7 +168,8 @@ fn put_failures(alloc: Global, text: &mut Text, row: &Row) -> Result<(), AllocEr
     put_end(alloc, text, &row.error)?;
     put_end(alloc, text, &row.refused)?;
     put_end(alloc, text, &row.cut)?;
-    put_word(text, &row.switch_fails)
+    put_end(alloc, text, &row.switch_fails)?;
+    put_word(text, &row.crc_status_lost)
 }
 
 /// The line of a script.
