@@ -52,10 +52,15 @@ added t (ends.Wrong point) = record { done = t.done; faults = t.faults; wrong = 
 added t (ends.Stopped fault) =
     record { done = t.done; faults = t.faults; wrong = t.wrong; stopped = one_more t.stopped }
 
+abbrev pub losses_added : Tally → Row → Tally
+losses_added t row = added (added (added t row.command_lost) row.answer_lost) row.slow
+
+abbrev pub failures_added : Tally → Row → Tally
+failures_added t row =
+    added (added (added (added (added t row.error) row.refused) row.cut) row.switch_fails) row.crc_status_lost
+
 abbrev pub row_added : Tally → Row → Tally
-row_added t row =
-    added (added (added (added (added (added (added (added t row.command_lost) row.answer_lost) row.slow) row.error)
-    row.refused) row.cut) row.switch_fails) row.crc_status_lost
+row_added t row = failures_added (losses_added t row) row
 
 abbrev pub rows_added : Tally → List Row → Tally
 rows_added t [] = t

@@ -3,7 +3,7 @@
 ghost use Rattle.std.specs.Prelude.{◌≡◌, ◌++◌, IfOk, OnOk};
 ghost use Rattle.std.specs.List.{list_any};
 ghost use Rattle.sdv_search.specs.Table.{IsTable, are_wrong, end_word, has_wrong, is_wrong, line_text, padded, plain_text};
-ghost use Rattle.sdv_search.specs.Table.{added, failures_text, losses_text, row_added, row_text, rows_text, table_text, tally_of, tally_text};
+ghost use Rattle.sdv_search.specs.Table.{added, failures_added, failures_text, losses_added, losses_text, row_added, row_text, rows_text, table_text, tally_of, tally_text};
 
 use crate::sweeping::{Row, RunEnd, SweepTable};
 use sdv_refute::name_of;
@@ -47,9 +47,23 @@ impl Tally {
     fn add_row(&mut self, row: &Row)
         ensures { self.new ≡ row_added self.old row.now }
     {
+        self.add_losses(row);
+        self.add_failures(row);
+    }
+
+    /// Counts those whose command or answer is lost or late.
+    fn add_losses(&mut self, row: &Row)
+        ensures { self.new ≡ losses_added self.old row.now }
+    {
         self.add(row.command_lost);
         self.add(row.answer_lost);
         self.add(row.slow);
+    }
+
+    /// Counts the others.
+    fn add_failures(&mut self, row: &Row)
+        ensures { self.new ≡ failures_added self.old row.now }
+    {
         self.add(row.error);
         self.add(row.refused);
         self.add(row.cut);
