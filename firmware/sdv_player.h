@@ -48,7 +48,11 @@ struct sdv_state {
     uint64_t moves, commands;
     size_t point, depth;
     uint16_t turns[4];
-    uint32_t asked, app;
+    uint32_t asked;
+    /* Not 0 where the last command was taken as CMD55: its answer was an R1 with APP_CMD.  Then sdv_next says that the 64
+     * bytes of an SD status follow index 13.  sdv_start clears it, each sdv_answer that returns 1 sets or clears it, and all
+     * other calls leave it. */
+    uint32_t app;
 };
 
 /* Begins a run.  1, or 0 where the words have not the magic, the version and the size of a table. */
@@ -64,7 +68,8 @@ int32_t sdv_ended_bytes(const uint32_t *table, size_t words, struct sdv_state *s
                         size_t count);
 
 /* What came of the command that sdv_next asked for: `reply` of enum sdv_reply, `word` the 32 bits of an R1, R3, R6 or R7,
- * and `r2` bits 127..8 of an R2, 15 bytes, the highest first, or NULL.  1, or 0 where the run stops. */
+ * and `r2` bits 127..8 of an R2, 15 bytes, the highest first, or NULL.  1, or 0 where the run stops, or where no command was
+ * asked for: then nothing changes. */
 static inline int sdv_answer(const uint32_t *table, size_t words, struct sdv_state *s, uint32_t reply, uint32_t word,
                              const uint8_t *r2)
 {
@@ -72,7 +77,7 @@ static inline int sdv_answer(const uint32_t *table, size_t words, struct sdv_sta
 }
 
 /* How the phase or the wait ended that sdv_next asked for, with the `count` bytes of a register that came well, or NULL.
- * 1, or 0 where none was asked for. */
+ * 1, or 0 where none was asked for: then nothing changes. */
 static inline int sdv_ended(const uint32_t *table, size_t words, struct sdv_state *s, int well, const uint8_t *bytes)
 {
     return sdv_ended_bytes(table, words, s, well, bytes ? bytes : (const uint8_t *)table, bytes ? s->register_length : 0);

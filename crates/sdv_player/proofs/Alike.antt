@@ -174,7 +174,7 @@ tells_one g ws e here next r nexts.Stopped p q fs n stands says one same path = 
 
 reached : (es : List Pair) (g : Graph) (ws : List ℕ) (e : Ending) (s s' : State) (r : Registers) (said : Next) (fs : List Pair) (later : List Return) →
     StandsFor g ws s r → Plays ws s es s' said → FromThere g e (stand_of s r) fs → returns_of fs ≡ returns_of es ++ later → Reached g ws e es fs s' said
-reached [] g ws e s s' r said fs later stands (advances, keeps) (inl path) same =
+reached [] g ws e s s' r said fs later stands (advances, keeps, never) (inl path) same =
     let to = advances g r stands in
     record {
       registers = r;
@@ -183,12 +183,12 @@ reached [] g ws e s s' r said fs later stands (advances, keeps) (inl path) same 
       deeds = refl;
       path = silently g e fs to.came.moves (stand_of s r) (stand_of s' r) path.0 to.came.passed path.1;
     }
-reached [] g ws e s s' r said fs later stands (advances, keeps) (inr stops) same =
+reached [] g ws e s s' r said fs later stands (advances, keeps, never) (inr stops) same =
     let to = advances g r stands in
     record { registers = r; says = to.says; rest = fs; deeds = refl; path = inr stops }
 reached (p ∷ ps) g ws e s s' r said [] later stands plays path same = absurd (no_pair p.1 (returns_of ps ++ later) same)
 reached (p ∷ ps) g ws e s s' r said (q ∷ fs) later stands plays (inr stops) same = let none = stops.0 in absurd (cc)
-reached (p ∷ ps) g ws e s s' r said (q ∷ fs) later stands (here, next, event, advances, keeps, tells, plays) (inl path) same =
+reached (p ∷ ps) g ws e s s' r said (q ∷ fs) later stands (here, next, event, advances, keeps, stops, tells, plays) (inl path) same =
     let to = advances g r stands in
     elim (silently g e (q ∷ fs) to.came.moves (stand_of s r) (stand_of here r) path.0 to.came.passed path.1) [
       | inl on ↦

@@ -60,11 +60,11 @@ one_off ws here next nexts.Stopped p one enough = absurd one
 -- PLAYS
 
 pub plays_are_counted : PlaysAreCounted
-plays_are_counted ws [] s s' said (advances, keeps) =
+plays_are_counted ws [] s s' said (advances, keeps, stops) =
     let left = keeps.left in
     let enough = keeps.enough in
     (omega (arith, left), omega (arith, enough))
-plays_are_counted ws (p ∷ ps) s s' said (here, next, event, advances, keeps, tells, plays) =
+plays_are_counted ws (p ∷ ps) s s' said (here, next, event, advances, keeps, stops, tells, plays) =
     let rest = plays_are_counted ws ps next s' said plays in
     let all = rest.0 in
     let last = rest.1 in

@@ -52,10 +52,10 @@ one_more g ws s here next r nexts.Stopped p stands to one = absurd one
 
 pub led : (es : List Pair) (g : Graph) (ws : List ℕ) (s s' : State) (r : Registers) (said : Next) → StandsFor g ws s r → Plays ws s es s' said →
     Led g ws (stand_of s r) es s' said
-led [] g ws s s' r said stands (advances, keeps) =
+led [] g ws s s' r said stands (advances, keeps, stops) =
     let to = advances g r stands in
     record { registers = r; stands = to.stands; leads = to.came.leads; says = to.says; asked = to.asked }
-led (p ∷ ps) g ws s s' r said stands (here, next, event, advances, keeps, tells, plays) =
+led (p ∷ ps) g ws s s' r said stands (here, next, event, advances, keeps, stops, tells, plays) =
     let one = one_more g ws s here next r event p stands (advances g r stands) tells in
     let on = led ps g ws next s' one.0 said one.1 plays in
     record {

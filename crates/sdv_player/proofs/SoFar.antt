@@ -16,7 +16,7 @@ use Rattle.sdv_player.specs.declared.next_step.Next.{Next}
 use Rattle.sdv_player.specs.declared.next_step.Next.TheVariants as nexts
 use Rattle.sdv_player.specs.declared.state.State.{State}
 use Rattle.sdv_player.specs.OverPort.{Made, Played, NotMade, WasRefused, PlaysOver}
-use Rattle.sdv_player.specs.Play.{Advances, Keeps, Takes, TakesOff}
+use Rattle.sdv_player.specs.Play.{Advances, Keeps, Stops, Takes, TakesOff}
 use Rattle.sdv_player.specs.Plays.{Plays}
 
 module _ {S : Type 0} (k : Kind) (steps : Steps S) (words : List ℕ) (s₀ : State) (from : Source S) where
@@ -37,37 +37,41 @@ module _ {S : Type 0} (k : Kind) (steps : Steps S) (words : List ℕ) (s₀ : St
   }
 
   -- it says this
-  pub says : (s s' : State) (to : Source S) (said : Next) → SoFar s to → Advances words s s' said → Keeps s s' said → Played k steps words s₀ s' from to said
-  says s s' to said so advances keeps = record {
+  pub says : (s s' : State) (to : Source S) (said : Next) → SoFar s to → Advances words s s' said → Keeps s s' said → Stops s s' said →
+      Played k steps words s₀ s' from to said
+  says s s' to said so advances keeps stops = record {
     events = so.events;
     made = so.made;
-    plays = subst (λ es. Plays words s₀ es s' said) (append-nil so.events) (so.plays [] s' said (advances, keeps));
+    plays = subst (λ es. Plays words s₀ es s' said) (append-nil so.events) (so.plays [] s' said (advances, keeps, stops));
   }
 
   -- it went on by the event that it said
   pub more : (s here next : State) (u v : Source S) (event : NextEvent) (held : List Block) (returned : Returned) → SoFar s u →
-      Advances words s here (nexts.Event event) → Keeps s here (nexts.Event event) → Performed k steps event u v held returned →
+      Advances words s here (nexts.Event event) → Keeps s here (nexts.Event event) → Stops s here (nexts.Event event) →
+      Performed k steps event u v held returned →
       Takes words here next returned true → TakesOff here next returned → SoFar next v
-  more s here next u v event held returned so advances keeps p takes off = record {
+  more s here next u v event held returned so advances keeps stops p takes off = record {
     events = so.events ++ (p.event, p.seen) ∷ [];
     made = made_more so.events u v event held returned so.made p;
     plays = λ rest s' said played.
         subst (λ es. Plays words s₀ es s' said) (sym (append_assoc so.events ((p.event, p.seen) ∷ []) rest))
-        (so.plays ((p.event, p.seen) ∷ rest) s' said (here, next, nexts.Event event, advances, keeps, (returned, held, p.told, takes, off), played));
+        (so.plays ((p.event, p.seen) ∷ rest) s' said
+        (here, next, nexts.Event event, advances, keeps, stops, (returned, held, p.told, takes, off), played));
   }
 
   -- or does not go on with what it returned
   pub refused : (s here next : State) (u v : Source S) (event : NextEvent) (held : List Block) (returned : Returned) → SoFar s u →
-      Advances words s here (nexts.Event event) → Keeps s here (nexts.Event event) → Performed k steps event u v held returned →
+      Advances words s here (nexts.Event event) → Keeps s here (nexts.Event event) → Stops s here (nexts.Event event) →
+      Performed k steps event u v held returned →
       Takes words here next returned false → WasRefused k steps words s₀ next from v
   unfolding says
-  refused s here next u v event held returned so advances keeps p takes = record {
+  refused s here next u v event held returned so advances keeps stops p takes = record {
     events = so.events;
     last = (p.event, p.seen);
     made = made_more so.events u v event held returned so.made p;
     here = here;
     event = event;
-    plays = (says s here u (nexts.Event event) so advances keeps).plays;
+    plays = (says s here u (nexts.Event event) so advances keeps stops).plays;
     returned = returned;
     held = held;
     told = p.told;
@@ -76,19 +80,22 @@ module _ {S : Type 0} (k : Kind) (steps : Steps S) (words : List ℕ) (s₀ : St
 
   -- it says an event that cannot be made
   pub no_room : (s here : State) (to : Source S) (event : NextEvent) (room : ℕ) → SoFar s to → Advances words s here (nexts.Event event) →
-      Keeps s here (nexts.Event event) → (CanPerform event room → ⊥) → NotMade k steps words s₀ here from to (λ event. CanPerform event room → ⊥)
-  no_room s here to event room so advances keeps cannot = record { event = event; because = cannot; played = says s here to (nexts.Event event) so advances keeps }
+      Keeps s here (nexts.Event event) → Stops s here (nexts.Event event) → (CanPerform event room → ⊥) →
+      NotMade k steps words s₀ here from to (λ event. CanPerform event room → ⊥)
+  no_room s here to event room so advances keeps stops cannot =
+      record { event = event; because = cannot; played = says s here to (nexts.Event event) so advances keeps stops }
 
   pub cut : (s here : State) (u v : Source S) (event : NextEvent) (held : List Block) (room : ℕ) (fault : RunFault) → SoFar s u →
-      Advances words s here (nexts.Event event) → Keeps s here (nexts.Event event) → Performs k steps event u v held (Err fault) →
+      Advances words s here (nexts.Event event) → Keeps s here (nexts.Event event) → Stops s here (nexts.Event event) →
+      Performs k steps event u v held (Err fault) →
       PlaysOver k steps words room s₀ here from v (Err fault)
-  cut s here u v event held room Input so advances keeps p =
+  cut s here u v event held room Input so advances keeps stops p =
       subst (λ w. NotMade k steps words s₀ here from w (λ event. IsShort event w.1)) (sym p.1)
-      (record { event = event; because = p.0; played = says s here u (nexts.Event event) so advances keeps })
-  cut s here u v event held room Reply so advances keeps p = absurd p
-  cut s here u v event held room Output so advances keeps p = absurd p
-  cut s here u v event held room Trace so advances keeps p = absurd p
-  cut s here u v event held room Memory so advances keeps p = absurd p
+      (record { event = event; because = p.0; played = says s here u (nexts.Event event) so advances keeps stops })
+  cut s here u v event held room Reply so advances keeps stops p = absurd p
+  cut s here u v event held room Output so advances keeps stops p = absurd p
+  cut s here u v event held room Trace so advances keeps stops p = absurd p
+  cut s here u v event held room Memory so advances keeps stops p = absurd p
 
 pub at_first : {S : Type 0} (k : Kind) (steps : Steps S) (words : List ℕ) (s : State) (from : Source S) → SoFar k steps words s from s from
 at_first k steps words s from = record { events = []; made = record { moved = refl; input = refl }; plays = λ rest s' said played. played }

@@ -1,16 +1,18 @@
 -- What a player makes of an answer to a command, by the command's row.
-use Rattle.std.specs.Prelude.{◌==◌, ◌&&◌, ℕ, List, Bool, true, Option, Some, None, is_none, option_map, if◌then◌else◌}
+use Rattle.std.specs.Prelude.{◌==◌, ◌&&◌, ℕ, List, Bool, true, false, Option, Some, None, is_none, option_map, if◌then◌else◌}
 use Rattle.std.specs.Borrow.{Bor}
 use Rattle.sdv_frames.specs.Bits.{bits_of}
-use Rattle.sdv_frames.specs.declared.reply.Reply.TheVariants.{R2}
+use Rattle.sdv_frames.specs.declared.reply.Reply.TheVariants.{R1, R2}
 use Rattle.sdv_registers.specs.declared.kind.Kind.{Kind}
 use Rattle.sdv_registers.specs.Csd.{fault}
+use Rattle.sdv_registers.specs.Status.{is_app_cmd}
 use Rattle.sdv_card.specs.declared.event.Ask.{Ask}
 use Rattle.sdv_card.specs.declared.answer.Answer.{Answer}
 use Rattle.sdv_card.specs.declared.answer.Answer.TheVariants.{Reply}
 use Rattle.sdv_card.specs.Expected.{is_of_kind}
 use Rattle.sdv_graph.specs.declared.tree.Phase.{Phase}
 use Rattle.sdv_graph.specs.declared.tree.Phase.TheVariants as phases
+use Rattle.sdv_graph.specs.Path.{Action, sends}
 use Rattle.sdv_table.specs.declared.sending.Sending.{Sending}
 use Rattle.sdv_table.specs.Sending.{csd_by}
 use Rattle.sdv_player.specs.Seen.{Registers}
@@ -44,3 +46,15 @@ registers_kept count (Some bytes) r = if count == 512 then record r { ext_csd = 
 abbrev pub registers_ended : Phase → (well : Bool) → (count : ℕ) → (came : Option (List ℕ)) → Registers → Registers
 registers_ended phases.ReceiveRegister true count came r = registers_kept count came r
 registers_ended phase well count came r = r
+
+-- APPLICATION COMMANDS: SD Physical Layer Simplified Specification, sections 4.3.9 and 4.10.1
+
+-- the answer is an R1 with APP_CMD: the card takes the next command as an application command
+abbrev pub has_app : Answer → Bool
+has_app (Reply (R1 index status)) = is_app_cmd status
+has_app answer = false
+
+-- the command of a statement was taken as CMD55
+abbrev pub is_app_taken : Option Action → Answer → Bool
+is_app_taken (Some (sends c cases other)) answer = (c.ask.index == 55) && has_app answer
+is_app_taken action answer = false

@@ -1,5 +1,6 @@
 -- What the calls of a player do to the run that its state stands for.
-use Rattle.std.specs.Prelude.{◌≡◌, ◌<◌, ◌≤◌, ◌⊎◌, ◌-◌, ◌/◌, ◌%◌, ◌==◌, ◌&&◌, nat_le, ℕ, List, length, slice_index, Bool, true, false, Option, Some, Ok, Err}
+use Rattle.std.specs.Prelude.{◌≡◌, ◌<◌, ◌≤◌, ◌⊎◌, ◌-◌, ◌/◌, ◌%◌, ◌==◌, ◌&&◌, nat_le, ℕ, List, length, slice_index, Bool, true, false, Option, Some, Ok, Err, if◌then◌else◌}
+use Rattle.std.specs.Int.{from_bool}
 use Rattle.sdv_card.specs.declared.answer.DataEnd.{DataEnd}
 use Rattle.sdv_card.specs.declared.answer.DataEnd.TheVariants as ends
 use Rattle.sdv_card.specs.declared.answer.WaitEnd.{WaitEnd}
@@ -17,11 +18,13 @@ use Rattle.sdv_run.specs.Asks.{AsksFor}
 use Rattle.sdv_run.specs.Takes.{Took}
 use Rattle.sdv_run.specs.Machine.{Machine, now, at_start, Came, Went}
 use Rattle.sdv_table.specs.Fits.{IsTable}
+use Rattle.sdv_table.specs.Reading.{action_at}
 use Rattle.sdv_table.specs.Table.{magic, version, header_size}
 use Rattle.sdv_player.specs.declared.next_step.Next.{Next}
 use Rattle.sdv_player.specs.declared.next_step.Next.TheVariants as nexts
 use Rattle.sdv_player.specs.declared.state.State.{State}
-use Rattle.sdv_player.specs.Seen.{Registers, no_registers}
+use Rattle.sdv_player.specs.Seen.{Registers, no_registers, nowhere}
+use Rattle.sdv_player.specs.Hearing.{is_app_taken}
 use Rattle.sdv_player.specs.Passing.{EndsAs}
 use Rattle.sdv_player.specs.StandsFor.{run_of, StandsFor}
 
@@ -32,6 +35,12 @@ abbrev pub has_header : List ℕ → Bool
 has_header words =
     (slice_index words 0 == magic) && (slice_index words 1 % 256 == version)
     && (slice_index words 2 / 65536 == length words) && nat_le header_size (length words)
+
+-- the run goes on no more
+pub record IsStopped (s : State) : Type 0 where
+  pub moves : s.moves ≡ 0
+  pub point : s.place.point ≡ nowhere
+  pub asked : s.asked ≡ 0
 
 -- the run of a sound graph, from the words of its table, with as many commands left as they say
 pub record Begins (g : Graph) (most : ℕ) (words : List ℕ) (s : State) : Type 0 where
@@ -66,7 +75,20 @@ pub record Keeps (s s' : State) (said : Next) : Type 0 where
 abbrev pub TakesOff : (s s' : State) → Returned → Type 0
 TakesOff s s' returned = s'.commands ≡ s.commands - commands_told returned
 
+-- APPLICATION COMMANDS, whatever the words are
+
+-- With its answer each command sets the flag `app` where it was taken as CMD55, and else clears it. Phases and waits
+-- leave the flag, and so does an answer that the run does not go on with.
+abbrev pub NotesApp : List ℕ → (s s' : State) → Returned → Bool → Type 0
+NotesApp words s s' (told.Answered answer) taken =
+    s'.app ≡ (if taken then from_bool (is_app_taken (action_at words s.place.point) answer) else s.app)
+NotesApp words s s' returned taken = s'.app ≡ s.app
+
 -- NEXT
+
+-- where no move is left the run stops, and stands where it stood, whatever the words are
+abbrev pub Stops : (s s' : State) → Next → Type 0
+Stops s s' said = s.moves ≡ 0 → (said ≡ nexts.Stopped) × (s' ≡ s)
 
 -- the run ends where it stands, and so
 pub record Ends (m : Machine) (end : Next) : Type 0 where

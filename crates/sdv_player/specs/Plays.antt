@@ -23,7 +23,7 @@ use Rattle.sdv_player.specs.declared.next_step.Next.{Next}
 use Rattle.sdv_player.specs.declared.next_step.Next.TheVariants as nexts
 use Rattle.sdv_player.specs.declared.state.State.{State}
 use Rattle.sdv_player.specs.Passing.{EndsAs}
-use Rattle.sdv_player.specs.Play.{Starts, Advances, Keeps, Takes, TakesOff, commands_said}
+use Rattle.sdv_player.specs.Play.{Starts, Advances, Keeps, Stops, Takes, TakesOff, commands_said}
 
 -- THE CALLS, each as its contract says
 
@@ -36,9 +36,9 @@ TellsOne words here next end p = ⊥
 
 -- it was asked, and told what these events returned, in turn; asked once more, it said this
 abbrev pub Plays : List ℕ → State → List Pair → State → Next → Type 0
-Plays words s [] s' said = Advances words s s' said × Keeps s s' said
+Plays words s [] s' said = Advances words s s' said × Keeps s s' said × Stops s s' said
 Plays words s (p ∷ ps) s' said =
-    (here next : State) × (event : Next) × Advances words s here event × Keeps s here event
+    (here next : State) × (event : Next) × Advances words s here event × Keeps s here event × Stops s here event
     × TellsOne words here next event p × Plays words next ps s' said
 
 -- from the start

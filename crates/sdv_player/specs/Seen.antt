@@ -25,6 +25,10 @@ backward (suc n) xs = slice_index xs n ∷ backward n xs
 abbrev pub turns_of : Place → List ℕ
 turns_of p = backward p.depth p.turns
 
+-- the number of no point, since a table counts its points in 16 bits
+abbrev pub nowhere : ℕ
+nowhere = 65535
+
 -- WHAT THE HOST KNOWS
 
 abbrev pub kind_of : HostNumbers → Kind

@@ -21,6 +21,7 @@ fn step<'a>(row: Row<'a>, state: &mut State) -> Result<Target, Next<'a>>
     ensures moves { state.new.moves ≡ state.old.moves }
     ensures commands { state.new.commands ≡ state.old.commands }
     ensures asked { state.new.asked ≡ state.old.asked }
+    ensures app { state.new.app ≡ state.old.app }
 {
     match row {
         Row::Send(_, _, _) => Err(Next::Number),
@@ -70,6 +71,7 @@ pub fn pass<'a>(row: Row<'a>, state: &mut State) -> Option<Next<'a>>
     ensures moves { state.new.moves ≡ state.old.moves }
     ensures commands { state.new.commands ≡ state.old.commands }
     ensures asked { state.new.asked ≡ state.old.asked }
+    ensures app { state.new.app ≡ state.old.app }
 {
     match step(row, state) {
         Err(end) => Some(end),

@@ -1,8 +1,8 @@
 //! Where a run stands.
 
-ghost use Rattle.std.specs.Prelude.{◌≡◌, ◌≤◌, ◌<◌, ℕ, zero, suc, List, [], ◌∷◌, length, true, false, slice_index};
+ghost use Rattle.std.specs.Prelude.{◌≡◌, ◌≤◌, ◌<◌, ℕ, zero, suc, List, [], ◌∷◌, length, true, false, slice_index, IsSome};
 ghost use Rattle.sdv_graph.specs.Path.{turns_at};
-ghost use Rattle.sdv_player.specs.Seen.{turns_of};
+ghost use Rattle.sdv_player.specs.Seen.{turns_of, nowhere};
 
 use sdv_graph::Target;
 
@@ -24,7 +24,8 @@ const NOWHERE: usize = 65535;
 impl Place {
     /// At no point: the run goes on no more.
     pub fn nowhere() -> Place
-        ensures { turns_of result ≡ [] }
+        ensures point { result.point ≡ nowhere }
+        ensures turns { turns_of result ≡ [] }
     {
         Place {
             point: NOWHERE,
@@ -33,11 +34,13 @@ impl Place {
         }
     }
 
-    /// Goes to a target: leaves loops, and enters one.
+    /// Goes to a target: leaves loops, and enters one. A fifth loop leads to no point.
     pub fn go_to(&mut self, target: Target)
         ensures point { length (turns_at target (turns_of self.old)) ≤ 4 → self.new.point ≡ target.to }
         ensures turns { length (turns_at target (turns_of self.old)) ≤ 4
             → turns_of self.new ≡ turns_at target (turns_of self.old) }
+        ensures too_deep { IsSome target.enter → 4 < length (turns_at target (turns_of self.old))
+            → self.new.point ≡ nowhere }
     {
         self.point = target.to;
         self.depth = self.depth.saturating_sub(target.leave);

@@ -5,10 +5,10 @@ ghost use Rattle.sdv_card.specs.Profile.{host_at_start};
 ghost use Rattle.sdv_run.specs.declared.returned.Returned.{Returned};
 ghost use Rattle.sdv_run.specs.declared.returned.Returned.TheVariants.{Answered};
 ghost use Rattle.sdv_player.specs.declared.next_step.Next.TheVariants.{Stopped};
-ghost use Rattle.sdv_player.specs.Seen.{Gone, Remembers, no_registers, turns_of, host_of};
-ghost use Rattle.sdv_player.specs.Hearing.{bytes_of};
+ghost use Rattle.sdv_player.specs.Seen.{Gone, Remembers, no_registers, turns_of, host_of, nowhere};
+ghost use Rattle.sdv_player.specs.Hearing.{has_app, bytes_of};
 ghost use Rattle.sdv_table.specs.Reading.{commands_read};
-ghost use Rattle.sdv_player.specs.Play.{commands_of, has_header, Starts, Advances, Keeps, Takes, IsEnd};
+ghost use Rattle.sdv_player.specs.Play.{commands_of, has_header, IsStopped, Starts, Advances, Keeps, Stops, Takes, NotesApp, IsEnd};
 
 use crate::asking::ask;
 use crate::guards::way;
@@ -33,8 +33,8 @@ impl State {
         ensures remembers { Remembers result.host no_registers }
         ensures kind { result.host.kind ≡ kind }
         ensures place { turns_of result.place ≡ [] }
-        ensures asked { result.asked ≡ 0 }
-        ensures moves { result.moves ≡ 0 }
+        ensures stopped { IsStopped result }
+        ensures app { result.app ≡ 0 }
     {
         State {
             host: HostNumbers::at_start(kind, declared),
@@ -53,6 +53,7 @@ impl State {
         ensures commands { self.new.commands ≡ self.old.commands }
         ensures host { self.new.host ≡ self.old.host }
         ensures gone { Gone target self.old.place self.new.place }
+        ensures app { self.new.app ≡ self.old.app }
     {
         self.asked = 0;
         self.moves = self.moves.saturating_sub(1);
@@ -77,7 +78,8 @@ pub fn start(words: &[u32], state: &mut State) -> bool
     ensures header { result ≡ has_header words.now }
     ensures starts { Starts words.now state.new }
     ensures commands { result ≡ true → state.new.commands ≡ commands_read words.now }
-    ensures refused { result ≡ false → state.new.moves ≡ 0 }
+    ensures refused { result ≡ false → IsStopped state.new }
+    ensures app { state.new.app ≡ 0 }
 {
     let counts = word(words, 1);
     *state = State::stopped(counts / 256 % 256, (counts / 65536 % 256) as usize);
@@ -109,8 +111,10 @@ fn is_left(event: &NextEvent, commands: u64) -> bool
 pub fn next<'a>(words: &'a [u32], state: &mut State) -> Next<'a>
     ensures advances { Advances words.now state.old state.new result }
     ensures keeps { Keeps state.old state.new result }
-    ensures stopped { state.old.moves ≡ 0 → (result ≡ Stopped) × (state.new ≡ state.old) }
+    ensures stopped { Stops state.old state.new result }
+    ensures nowhere { state.old.place.point ≡ nowhere → (result ≡ Stopped) × (state.new ≡ state.old) }
     ensures kind { state.new.host.kind ≡ state.old.host.kind }
+    ensures app { state.new.app ≡ state.old.app }
 {
     if state.moves == 0 {
         return Next::Stopped;
@@ -149,8 +153,9 @@ pub fn answer(words: &[u32], state: &mut State, answer: &Answer) -> bool
     ensures once { result ≡ true → state.new.asked ≡ 0 }
     ensures counted { result ≡ true → state.new.moves ≡ state.old.moves - 1 }
     ensures commands { result ≡ true → state.new.commands ≡ state.old.commands - 1 }
-    ensures refused { result ≡ false → (state.new ≡ state.old) ⊎ (state.new.moves ≡ 0) }
+    ensures refused { result ≡ false → (state.new ≡ state.old) ⊎ IsStopped state.new }
     ensures kind { result ≡ true → state.new.host.kind ≡ state.old.host.kind }
+    ensures app { NotesApp words.now state.old state.new (Answered answer.now) result }
 {
     let point = state.place.point;
     if state.asked == 0 {
@@ -172,8 +177,10 @@ pub fn answer(words: &[u32], state: &mut State, answer: &Answer) -> bool
     true
 }
 
-/// Whether the card took a CMD55.
-fn is_app(answer: &Answer) -> bool {
+/// Whether the card says that it takes the next command as an application command.
+fn is_app(answer: &Answer) -> bool
+    ensures { result ≡ has_app answer.now }
+{
     match answer {
         Answer::Reply(Reply::R1 { status, .. }) => Status(*status).is_app_cmd(),
         _ => false,
@@ -193,6 +200,7 @@ pub fn ended(words: &[u32], state: &mut State, well: bool, register: Option<&[u8
     ensures commands { result ≡ true → state.new.commands ≡ state.old.commands }
     ensures refused { result ≡ false → state.new ≡ state.old }
     ensures kind { result ≡ true → state.new.host.kind ≡ state.old.host.kind }
+    ensures app { state.new.app ≡ state.old.app }
 {
     if state.asked == 0 {
         return false;

@@ -3,7 +3,7 @@
 ghost use Rattle.std.specs.Prelude.{◌≡◌, ◌≤◌, ◌⊎◌, ◌-◌, true, false, length, IfOk};
 ghost use Rattle.sdv_run.specs.Asks.{CanPerform};
 ghost use Rattle.sdv_player.specs.Seen.{kind_of};
-ghost use Rattle.sdv_player.specs.Play.{Takes, TakesOff};
+ghost use Rattle.sdv_player.specs.Play.{IsStopped, Takes, TakesOff, NotesApp};
 ghost use Rattle.sdv_player.specs.OverPort.{PlaysOver, PlaysBeside};
 
 use crate::next_step::Next;
@@ -19,8 +19,9 @@ pub fn tell(words: &[u32], state: &mut State, returned: &Returned) -> bool
     ensures takes { Takes words.now state.old state.new returned.now result }
     ensures counted { result ≡ true → state.new.moves ≡ state.old.moves - 1 }
     ensures commands { result ≡ true → TakesOff state.old state.new returned.now }
-    ensures refused { result ≡ false → (state.new ≡ state.old) ⊎ (state.new.moves ≡ 0) }
+    ensures refused { result ≡ false → (state.new ≡ state.old) ⊎ IsStopped state.new }
     ensures kind { result ≡ true → state.new.host.kind ≡ state.old.host.kind }
+    ensures app { NotesApp words.now state.old state.new returned.now result }
 {
     match returned {
         Returned::Answered(came) => answer(words, state, came),

@@ -17,6 +17,6 @@ pub struct State {
     pub place: Place,
     /// Not 0 where the event of the point was asked for.
     pub asked: u32,
-    /// Not 0 where the last command was taken as CMD55.
+    /// Not 0 where the last command was taken as CMD55: its answer was an R1 with APP_CMD.
     pub app: u32,
 }

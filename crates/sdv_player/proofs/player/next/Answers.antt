@@ -6,7 +6,7 @@ use Rattle.sdv_player.specs.Play.{commands_said}
 use Rattle.sdv_player.specs.StandsFor.{run_of}
 use Rattle.sdv_player.proofs.Here.{Reads, some_row, asks_here}
 use Rattle.sdv_player.proofs.Silent.{says_event, says_no_more, says_stopped, says_ended, passed_on}
-use Rattle.sdv_player.proofs.Within.{row_within}
+use Rattle.sdv_player.proofs.Within.{row_within, at_row}
 use Rattle.sdv_player.proofs.player.next.Goals as goal
 
 pub sending_at-requires : goal.sending_at-requires
@@ -75,7 +75,9 @@ loop-preserved c =
     record {
       moves = omega (arith, c.pass.ensures.moves, c.loop.invariant.moves);
       kind = c.pass.ensures.kind ∙ c.loop.invariant.kind;
+      app = c.pass.ensures.app ∙ c.loop.invariant.app;
       commands = c.pass.ensures.commands ∙ c.loop.invariant.commands;
+      nowhere = λ none. absurd (at_row ws c.args.state.now s c.in-Some.row c.loop.invariant.nowhere (rw c.in-Some.is at c.row_at.ensures.read) none);
       way = λ g r stands.
           let way = c.loop.invariant.way g r stands in
           let asks = asks_here g ws s r way.stands (seen_row c.in-Some.row) read c.sending_at.result c.ask.result c.sending_at.ensures.table c.ask.ensures in

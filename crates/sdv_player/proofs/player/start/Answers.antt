@@ -36,5 +36,5 @@ returns-clause-starts c = λ g most table sound.
       commands = c.number_at-state-2.ensures ∙ h.commands_is;
       point = c.go_to.ensures.point short ∙ ap (λ t. t.to) target;
       turns = c.go_to.ensures.turns short ∙ turns;
-      asked = c.stopped.ensures.asked;
+      asked = c.stopped.ensures.stopped.asked;
     })

@@ -14,22 +14,27 @@ loop-init g c = record {
 }
 
 pub returns-in_default : goal.returns-in_default
-returns-in_default g c = says _ _ _ _ _ c.loop.state c.next.new.state (c.loop.port, c.loop.input.now) c.next.result c.loop.invariant.so_far c.next.ensures.advances c.next.ensures.keeps
+returns-in_default g c =
+    says _ _ _ _ _ c.loop.state c.next.new.state (c.loop.port, c.loop.input.now) c.next.result c.loop.invariant.so_far
+    c.next.ensures.advances c.next.ensures.keeps c.next.ensures.stopped
 
 pub returns-then-not-can_perform : goal.returns-then-not-can_perform
 returns-then-not-can_perform g c =
     let advances = rw c.in-Event.is at c.next.ensures.advances in
     let keeps = rw c.in-Event.is at c.next.ensures.keeps in
+    let stops = rw c.in-Event.is at c.next.ensures.stopped in
     let event = c.in-Event.event in
     let not : c.can_perform.result ≡ false = search (rules, c.if-not-can_perform.true) in
     let cannot : CanPerform event (length c.args.held.now) → ⊥ =
     subst (λ n. CanPerform event n → ⊥) c.loop.invariant.room (c.can_perform.ensures.cannot not) in
-    no_room _ _ _ _ _ c.loop.state c.next.new.state (c.loop.port, c.loop.input.now) event (length c.args.held.now) c.loop.invariant.so_far advances keeps cannot
+    no_room _ _ _ _ _ c.loop.state c.next.new.state (c.loop.port, c.loop.input.now) event (length c.args.held.now)
+    c.loop.invariant.so_far advances keeps stops cannot
 
 pub returns-in_err-returned : goal.returns-in_err-returned
 returns-in_err-returned g c =
     let advances = rw c.in-Event.is at c.next.ensures.advances in
     let keeps = rw c.in-Event.is at c.next.ensures.keeps in
+    let stops = rw c.in-Event.is at c.next.ensures.stopped in
     let event = c.in-Event.event in
     let kind : c.kind.result ≡ kind_of c.args.state.now.host =
     c.kind.ensures ∙ ap (λ n. kind_of (record c.args.state.now.host { kind = n })) (c.next.ensures.kind ∙ c.loop.invariant.kind) in
@@ -38,7 +43,7 @@ returns-in_err-returned g c =
     c.perform.new.held (Err fault) = c.in_err-returned.ensures in
     let stops = cut (kind_of c.args.state.now.host) g.P.CardPort.steps c.args.words.now c.args.state.now (c.args.port.now, c.args.input.now.now) c.loop.state
     c.next.new.state (c.loop.port, c.loop.input.now) (c.perform.new.port, c.perform.new.input.now) event c.perform.new.held (length c.args.held.now)
-    fault c.loop.invariant.so_far advances keeps (subst (λ (k : Kind). Performs k g.P.CardPort.steps event (c.loop.port, c.loop.input.now)
+    fault c.loop.invariant.so_far advances keeps stops (subst (λ (k : Kind). Performs k g.P.CardPort.steps event (c.loop.port, c.loop.input.now)
     (c.perform.new.port, c.perform.new.input.now) c.perform.new.held (Err fault)) kind was) in
     search (rules, stops)
 
@@ -46,6 +51,7 @@ pub returns-then-not-tell : goal.returns-then-not-tell
 returns-then-not-tell g c =
     let advances = rw c.in-Event.is at c.next.ensures.advances in
     let keeps = rw c.in-Event.is at c.next.ensures.keeps in
+    let stops = rw c.in-Event.is at c.next.ensures.stopped in
     let event = c.in-Event.event in
     let kind : c.kind.result ≡ kind_of c.args.state.now.host =
     c.kind.ensures ∙ ap (λ n. kind_of (record c.args.state.now.host { kind = n })) (c.next.ensures.kind ∙ c.loop.invariant.kind) in
@@ -53,12 +59,13 @@ returns-then-not-tell g c =
     let not : c.tell.result ≡ false = search (rules, c.if-not-tell.true) in
     let takes = rw not at c.tell.ensures.takes in
     refused _ _ _ _ _ c.loop.state c.next.new.state c.tell.new.state (c.loop.port, c.loop.input.now) (c.perform.new.port, c.perform.new.input.now) event
-    c.perform.new.held c.in_ok-returned.returned c.loop.invariant.so_far advances keeps performed takes
+    c.perform.new.held c.in_ok-returned.returned c.loop.invariant.so_far advances keeps stops performed takes
 
 pub loop-preserved : goal.loop-preserved
 loop-preserved g c =
     let advances = rw c.in-Event.is at c.next.ensures.advances in
     let keeps = rw c.in-Event.is at c.next.ensures.keeps in
+    let stops = rw c.in-Event.is at c.next.ensures.stopped in
     let event = c.in-Event.event in
     let kind : c.kind.result ≡ kind_of c.args.state.now.host =
     c.kind.ensures ∙ ap (λ n. kind_of (record c.args.state.now.host { kind = n })) (c.next.ensures.kind ∙ c.loop.invariant.kind) in
@@ -69,8 +76,10 @@ loop-preserved g c =
       kind = c.tell.ensures.kind yes ∙ c.next.ensures.kind ∙ c.loop.invariant.kind;
       room = c.perform.auto.held ∙ c.loop.invariant.room;
       so_far = more _ _ _ _ _ c.loop.state c.next.new.state c.tell.new.state (c.loop.port, c.loop.input.now) (c.perform.new.port, c.perform.new.input.now) event
-          c.perform.new.held c.in_ok-returned.returned c.loop.invariant.so_far advances keeps performed takes (c.tell.ensures.commands yes);
+          c.perform.new.held c.in_ok-returned.returned c.loop.invariant.so_far advances keeps stops performed takes (c.tell.ensures.commands yes);
     }
 
 pub returns : goal.returns
-returns g c = says _ _ _ _ _ c.loop.state c.next-2.new.state (c.loop.port, c.loop.input.now) c.next-2.result c.loop.invariant.so_far c.next-2.ensures.advances c.next-2.ensures.keeps
+returns g c =
+    says _ _ _ _ _ c.loop.state c.next-2.new.state (c.loop.port, c.loop.input.now) c.next-2.result c.loop.invariant.so_far
+    c.next-2.ensures.advances c.next-2.ensures.keeps c.next-2.ensures.stopped

@@ -13,6 +13,12 @@ returns-then-self-lt4-clause-turns c = λ short.
     ∙ ap (λ n. t ∷ backward n s.turns) c.saturating_sub-self.ensures
     ∙ sym (turns_inside c.args.target s.depth s.turns t c.in-Some.is)
 
+pub returns-then-self-lt4-clause-too_deep : goal.returns-then-self-lt4-clause-too_deep
+returns-then-self-lt4-clause-too_deep c = λ _ deep.
+    let s = c.args.self.now in
+    let many = many_turns c.args.target s.depth s.turns c.in-Some.turns c.in-Some.is in
+    absurd (omega (arith, many, deep, c.saturating_sub-self.ensures, c.if-self-lt4.true))
+
 pub returns-else-self-lt4-clause-point : goal.returns-else-self-lt4-clause-point
 returns-else-self-lt4-clause-point c = λ short.
     let s = c.args.self.now in
