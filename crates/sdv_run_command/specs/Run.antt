@@ -14,7 +14,7 @@ use Rattle.sdv_description.specs.Gives.{Describes}
 use Rattle.sdv_description.specs.Gives.{Refuses as IsNoCard}
 use Rattle.sdv_description.specs.Layout.{image_size}
 use Rattle.sdv_behavior.specs.SimSteps.{SimState, SimSteps, card_shown}
-use Rattle.sdv_sim.specs.Made.{IsMade, IsRefused}
+use Rattle.sdv_sim.specs.Made.{IsMade, IsRefused, are_digits}
 use Rattle.sdv_controller.specs.Controlled.{ControllerSteps}
 use Rattle.sdv_check.specs.Verified.{Acceptance, IsAccepted}
 use Rattle.sdv_trace.specs.declared.end.End.{End}
@@ -141,7 +141,7 @@ HasNoCard description codes image unread fault =
     IsNoCard description fault
     ⊎ (((desc : CardDesc) × Describes description desc × (image.bytes % 512 ≢ 0) × (fault ≡ cards.ImageLength))
     ⊎ ((desc : CardDesc) × Describes description desc × (image.bytes % 512 ≡ 0)
-    × IsRefused codes (image.bytes / 512) (image_size desc) unread fault))
+    × IsRefused (are_digits codes) (image.bytes / 512) (image_size desc) unread fault))
 
 -- why nothing was run; want of memory says nothing
 abbrev pub RefusesRun : Given → CardImage → (unread : Type 0) → Fault → Type 0
