@@ -5,7 +5,7 @@ use thiserror::Error;
 /// Why there is no simulated card. Of several faults the first in this order is answered.
 #[derive(Clone, Copy, Debug, PartialEq, Eq, Error)]
 pub enum SimFault {
-    /// A line of the card's description is not as it must be, or a value of the schedule is above 8.
+    /// A line of the card's description is not as it must be, or a value of the schedule is too great.
     #[error("the description or the schedule is not as it must be")]
     Description,
     /// The description gives more blocks than a card of its kind and unit can have.

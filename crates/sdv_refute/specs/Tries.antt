@@ -8,6 +8,7 @@ use Rattle.sdv_description.specs.Layout.{image_size}
 use Rattle.sdv_image.specs.declared.fault.SimFault.{SimFault}
 use Rattle.sdv_image.specs.declared.fault.SimFault.TheVariants.{Memory as NoMemory}
 use Rattle.sdv_behavior.specs.CardOf.{card_of, at_start}
+use Rattle.sdv_behavior.specs.Schedules.{are_codes}
 use Rattle.sdv_behavior.specs.SimSteps.{SimState, SimSteps, card_shown}
 use Rattle.sdv_sim.specs.Made.{IsMade, IsRefused as IsUnmade}
 use Rattle.sdv_controller.specs.Controlled.{ControllerSteps}
@@ -84,7 +85,7 @@ pub record IsOtherKind (text card : List ℕ) : Type 0 where
 pub record IsUnmadeFor (g : Graph) (desc : CardDesc) (codes : List ℕ) (size : ℕ) (unread : Type 0) (fault : SimFault)
     : Type 0 where
   pub kind : g.kind ≡ desc.kind
-  pub unmade : IsUnmade codes size (image_size desc) unread fault
+  pub unmade : IsUnmade (are_codes codes) size (image_size desc) unread fault
 
 -- the text is a script, and the description gives no card, or there is none
 pub record HasNoCard (text card : List ℕ) (codes : List ℕ) (size : ℕ) (unread : Type 0) (fault : SimFault)

@@ -128,7 +128,7 @@ pub fn try_graph<I: Image + Drop, O: Write, T: Write, L: Onlooker<Controller<Sim
     if graph.kind() != beside.desc.kind {
         return Err(TryFault::Kind);
     }
-    let sim = match Sim::new(alloc, beside.desc, image, beside.schedule) {
+    let sim = match Sim::with_named_values(alloc, beside.desc, image, beside.schedule) {
         Ok(sim) => sim,
         Err(fault) => return Err(TryFault::Card(fault)),
     };

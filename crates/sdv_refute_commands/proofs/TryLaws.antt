@@ -23,6 +23,7 @@ use Rattle.sdv_refute.specs.declared.simulated.TryFault.{TryFault}
 use Rattle.sdv_refute.specs.declared.simulated.TryFault.TheVariants as tries
 use Rattle.sdv_refute.specs.declared.wrong.Watched.{Watched}
 use Rattle.sdv_refute.specs.declared.wrong.Watched.TheVariants.{Ended, Stopped}
+use Rattle.sdv_behavior.specs.Schedules.{are_codes}
 use Rattle.sdv_refute.specs.Tries.{HasNoCard, IsUnmadeFor, TryRefuses}
 use Rattle.sdv_command_line.specs.Requests.{TryNames}
 use Rattle.sdv_named_schedules.specs.declared.fault.ScheduleFault.{ScheduleFault}
@@ -95,7 +96,7 @@ module _ (U V : Type 0) (more : U → V) where
       → IsNoCard card fault ⊎ ((desc : CardDesc) × Describes card desc × IsUnmadeFor g desc codes size V fault)
   none_so g card codes size fault (inl none) = inl none
   none_so g card codes size fault (inr (desc, described, none)) =
-      inr (desc, described, record { kind = none.kind; unmade = refused_so U V more codes size _ fault none.unmade })
+      inr (desc, described, record { kind = none.kind; unmade = refused_so U V more (are_codes codes) size _ fault none.unmade })
 
   has_no_card_so : (text card codes : List ℕ) (size : ℕ) (fault : SimFault) → HasNoCard text card codes size U fault
       → HasNoCard text card codes size V fault

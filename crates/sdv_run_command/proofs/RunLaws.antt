@@ -26,7 +26,7 @@ use Rattle.sdv_description.specs.Layout.{image_size}
 use Rattle.sdv_behavior.specs.SimSteps.{SimState, SimSteps, card_shown}
 use Rattle.sdv_sim.specs.declared.sim.Sim.{Sim}
 use Rattle.sdv_sim.specs.SimOf.{state_of}
-use Rattle.sdv_sim.specs.Made.{IsMade, IsRefused, IsUnread}
+use Rattle.sdv_sim.specs.Made.{IsMade, IsRefused, IsUnread, are_digits}
 use Rattle.sdv_controller.specs.declared.controller.Controller.{Controller}
 use Rattle.sdv_controller.specs.Controlled.{ControllerSteps, wire_of}
 use Rattle.sdv_graph.specs.Graph.{Graph}
@@ -176,19 +176,19 @@ never_unread image (after, inr greatest) = absurd (omega (arith, greatest))
 
 -- what a refusal says where a failed call says more
 module _ (U V : Type 0) (more : U → V) where
-  pub refused_so : (codes : List ℕ) (size capacity : ℕ) (fault : SimFault) → IsRefused codes size capacity U fault → IsRefused codes size capacity V fault
-  refused_so codes size capacity Description refused = refused
-  refused_so codes size capacity ImageLength refused = refused
-  refused_so codes size capacity ImageRead refused = (refused.0, more refused.1)
-  refused_so codes size capacity Memory refused = refused
-  refused_so codes size capacity Capacity refused = refused
+  pub refused_so : (is_known : Bool) (size capacity : ℕ) (fault : SimFault) → IsRefused is_known size capacity U fault → IsRefused is_known size capacity V fault
+  refused_so is_known size capacity Description refused = refused
+  refused_so is_known size capacity ImageLength refused = refused
+  refused_so is_known size capacity ImageRead refused = (refused.0, more refused.1)
+  refused_so is_known size capacity Memory refused = refused
+  refused_so is_known size capacity Capacity refused = refused
 
   pub no_card_so : (description : Text) (codes : List ℕ) (image : CardImage) (fault : SimFault) → HasNoCard description codes image U fault
       → HasNoCard description codes image V fault
   no_card_so description codes image fault (inl none) = inl none
   no_card_so description codes image fault (inr (inl other)) = inr (inl other)
   no_card_so description codes image fault (inr (inr refused)) =
-      inr (inr (refused.0, refused.1, refused.2, refused_so codes (image.bytes / 512) (image_size refused.0) fault refused.3))
+      inr (inr (refused.0, refused.1, refused.2, refused_so (are_digits codes) (image.bytes / 512) (image_size refused.0) fault refused.3))
 
   refuses_so : (given : Given) (image : CardImage) (fault : Fault) → RefusesRun given image U fault → RefusesRun given image V fault
   refuses_so given image (Script fault) refuses = refuses

@@ -1,5 +1,5 @@
 -- Why no run of a sweep was made, and the blocks of an image in memory.
-use Rattle.std.proofs.Common.{arith, ◌≡◌, ◌/◌, ◌+◌, ◌++◌, ◌∷◌, inl, inr, ap, subst, ℕ, suc, List, [], length, Some, Result, Ok, Err, IfErr, IsErrAnd}
+use Rattle.std.proofs.Common.{arith, ◌≡◌, ◌/◌, ◌+◌, ◌++◌, ◌∷◌, Bool, inl, inr, ap, subst, ℕ, suc, List, [], length, Some, Result, Ok, Err, IfErr, IsErrAnd}
 use Rattle.std.proofs.lemmas.List.{length_push}
 use Rattle.std.proofs.lemmas.List.Elements.{All-push}
 use Rattle.sdv_card.specs.Card.{Block}
@@ -16,6 +16,7 @@ use Rattle.sdv_refute.specs.declared.simulated.TryFault.{TryFault}
 use Rattle.sdv_refute.specs.declared.simulated.TryFault.TheVariants.{Script, Kind, Card, Memory}
 use Rattle.sdv_refute.specs.Tries.{NotTried}
 use Rattle.sdv_refute.proofs.SimShown.{refuses_text}
+use Rattle.sdv_behavior.specs.Schedules.{are_codes}
 use Rattle.sdv_sim.specs.Made.{IsRefused, IsUnread}
 use Rattle.sdv_search.specs.Swept.{AreNumbered, AreRows, IsRow, NoEnd, NotSwept, blocks_of}
 use Rattle.sdv_search.specs.declared.sweeping.Row.{Row}
@@ -37,13 +38,13 @@ never_failed (inr greatest) = absurd (omega (arith, greatest))
 never_unread : (image : MemImage) → Unread image → ⊥
 never_unread image unread = never_failed unread.counted
 
-pub unmade : (codes : List ℕ) (size wanted : ℕ) (image : MemImage) (fault : SimFault) → IsRefused codes size wanted (Unread image) fault
-    → IsRefused codes size wanted ⊥ fault
-unmade codes size wanted image Description refused = refused
-unmade codes size wanted image ImageLength refused = refused
-unmade codes size wanted image ImageRead refused = (refused.0, never_unread image refused.1)
-unmade codes size wanted image NoMemory refused = refused
-unmade codes size wanted image Capacity refused = refused
+pub unmade : (is_known : Bool) (size wanted : ℕ) (image : MemImage) (fault : SimFault) → IsRefused is_known size wanted (Unread image) fault
+    → IsRefused is_known size wanted ⊥ fault
+unmade is_known size wanted image Description refused = refused
+unmade is_known size wanted image ImageLength refused = refused
+unmade is_known size wanted image ImageRead refused = (refused.0, never_unread image refused.1)
+unmade is_known size wanted image NoMemory refused = refused
+unmade is_known size wanted image Capacity refused = refused
 
 module _ (g : Graph) (desc : CardDesc) where
   not_unread : (codes : List ℕ) (size : ℕ) (image : MemImage) (fault : TryFault) → NotTried g desc codes size (Unread image) fault
@@ -52,7 +53,7 @@ module _ (g : Graph) (desc : CardDesc) where
   not_unread codes size image Kind not = not
   not_unread codes size image (Card fault) not = λ other. (
       let none = not other in
-      record { kind = none.kind; unmade = unmade codes size _ image fault none.unmade })
+      record { kind = none.kind; unmade = unmade (are_codes codes) size _ image fault none.unmade })
   not_unread codes size image Memory not = tt
 
   -- a run over an image of these bytes was not made

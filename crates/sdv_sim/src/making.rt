@@ -1,11 +1,11 @@
 //! New simulated cards.
 
-ghost use Rattle.std.specs.Prelude.{◌≡◌, ◌<◌, ◌^◌, length, All, IfOk, MatchResult};
+ghost use Rattle.std.specs.Prelude.{◌≡◌, ◌<◌, ◌^◌, length, All, IfOk, MatchResult, true};
 ghost use Rattle.sdv_card.specs.Card.{IsByte, IsRegister};
 ghost use Rattle.sdv_description.specs.Layout.{image_size};
 ghost use Rattle.sdv_behavior.specs.Schedules.{are_codes};
 ghost use Rattle.sdv_sim.specs.SimOf.{state_of};
-ghost use Rattle.sdv_sim.specs.Made.{IsMade, IsRefused, IsUnread};
+ghost use Rattle.sdv_sim.specs.Made.{IsMade, IsRefused, IsUnread, are_digits};
 
 use crate::schedule::Schedule;
 use crate::sim::Sim;
@@ -14,7 +14,14 @@ use sdv_description::CardDesc;
 use sdv_image::{Image, SimFault};
 use std::alloc::Global;
 
-/// Each value is one of a schedule, 0 to 8.
+/// Each value is one of a schedule of digits, 0 to 7.
+fn are_digits(codes: &[u8]) -> bool
+    ensures { result ≡ are_digits codes.now }
+{
+    codes.iter().all(|code| *code <= 7)
+}
+
+/// Each value is one of a schedule, 0 to 11.
 fn are_codes(codes: &[u8]) -> bool
     ensures { result ≡ are_codes codes.now }
 {
@@ -45,34 +52,75 @@ impl<I: Image + Drop> Sim<I> {
     ///
     /// # Errors
     ///
-    /// [`SimFault::Description`] where a value of the schedule is above 8, [`SimFault::ImageLength`] where the image
+    /// [`SimFault::Description`] where a value of the schedule is above 7, [`SimFault::ImageLength`] where the image
     /// has not as many blocks as the card, [`SimFault::ImageRead`] where its first block cannot be read, and
     /// [`SimFault::Memory`]: the first of them. The image is dropped then, its blocks unchanged.
+    #[tactic(auto, using(crate::proofs::DigitLaws::digits_known))]
     pub fn new(alloc: Global, desc: CardDesc, image: I, schedule: &[u8]) -> Result<Sim<I>, SimFault>
         ensures made { MatchResult result
             (λ sim. IsMade desc schedule.now (I.blocks image) (state_of sim))
-            (IsRefused schedule.now (I.size image) (image_size desc) (IsUnread I.size I.blocks I.failed image)) }
+            (IsRefused (are_digits schedule.now) (I.size image) (image_size desc)
+            (IsUnread I.size I.blocks I.failed image)) }
+        ensures no_fault { IfOk result (λ sim. (state_of sim).failed ≡ I.failed image) }
+    {
+        if !are_digits(schedule) {
+            return Err(SimFault::Description);
+        }
+        made(alloc, desc, image, schedule)
+    }
+
+    /// A card as [`Sim::new`] makes it, with the values of a schedule that have names alone too: 0 to 11.
+    ///
+    /// # Errors
+    ///
+    /// [`SimFault::Description`] where a value of the schedule is above 11, and else those of [`Sim::new`].
+    pub fn with_named_values(
+        alloc: Global,
+        desc: CardDesc,
+        image: I,
+        schedule: &[u8],
+    ) -> Result<Sim<I>, SimFault>
+        ensures made { MatchResult result
+            (λ sim. IsMade desc schedule.now (I.blocks image) (state_of sim))
+            (IsRefused (are_codes schedule.now) (I.size image) (image_size desc)
+            (IsUnread I.size I.blocks I.failed image)) }
         ensures no_fault { IfOk result (λ sim. (state_of sim).failed ≡ I.failed image) }
     {
         if !are_codes(schedule) {
             return Err(SimFault::Description);
         }
-        if image.len() != desc.image_size() {
-            return Err(SimFault::ImageLength);
-        }
-        let mut image = image;
-        if image.read_block(0, &mut [0; 512]).is_err() {
-            return Err(SimFault::ImageRead);
-        }
-        let _fit = registers_fit(&desc.csd, desc.sectors);
-        match Schedule::of_codes(alloc, schedule) {
-            Ok(schedule) => Ok(Sim {
-                card: CardState::at_start(&desc),
-                desc,
-                schedule,
-                image,
-            }),
-            Err(_) => Err(SimFault::Memory),
-        }
+        made(alloc, desc, image, schedule)
+    }
+}
+
+/// A card before its first command, whose schedule is known. See [`Sim::new`].
+fn made<I: Image + Drop>(
+    alloc: Global,
+    desc: CardDesc,
+    image: I,
+    schedule: &[u8],
+) -> Result<Sim<I>, SimFault>
+    requires known { are_codes schedule.now ≡ true }
+    ensures made { MatchResult result
+        (λ sim. IsMade desc schedule.now (I.blocks image) (state_of sim))
+        (IsRefused true (I.size image) (image_size desc) (IsUnread I.size I.blocks I.failed image)) }
+    ensures no_fault { IfOk result (λ sim. (state_of sim).failed ≡ I.failed image) }
+{
+    if image.len() != desc.image_size() {
+        return Err(SimFault::ImageLength);
+    }
+    let mut image = image;
+    if image.read_block(0, &mut [0; 512]).is_err() {
+        return Err(SimFault::ImageRead);
+    }
+    let _fit = registers_fit(&desc.csd, desc.sectors);
+    match Schedule::of_codes(alloc, schedule) {
+        Ok(schedule) => Ok(Sim {
+            card: CardState::at_start(&desc),
+            desc,
+            schedule,
+            image,
+        }),
+        Err(_) => Err(SimFault::Memory),
     }
 }

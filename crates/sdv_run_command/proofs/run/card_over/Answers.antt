@@ -1,7 +1,7 @@
 use Rattle.std.proofs.Common.{◌/◌, refl, subst, inl, inr}
 use Rattle.sdv_description.specs.Layout.{image_size}
 use Rattle.sdv_file_image.specs.FileImages.{failed_of, shown_of, size_of}
-use Rattle.sdv_sim.specs.Made.{IsRefused, IsUnread}
+use Rattle.sdv_sim.specs.Made.{IsRefused, IsUnread, are_digits}
 use Rattle.sdv_files.specs.Files.{CardImage, image_of}
 use Rattle.sdv_run_command.specs.RunImages.{MayHaveFailed}
 use Rattle.sdv_run_command.proofs.RunLaws.{file_unread, made_over, no_card, no_image, refused_so}
@@ -25,10 +25,10 @@ returns-in_err-sim-clause-refused g c =
     let unread : Type 0 = MayHaveFailed g.F.BlockFile.failed c.args.file in
     let size = image_size c.in_ok-desc.desc in
     let fault = c.in_err-sim.field-0.0 in
-    let refused : IsRefused c.args.codes.now (image.bytes / 512) size unread fault =
-    subst (λ file. IsRefused c.args.codes.now (g.F.BlockFile.byte_count file / 512) size unread fault) c.in_ok-image.ensures.1
+    let refused : IsRefused (are_digits c.args.codes.now) (image.bytes / 512) size unread fault =
+    subst (λ file. IsRefused (are_digits c.args.codes.now) (g.F.BlockFile.byte_count file / 512) size unread fault) c.in_ok-image.ensures.1
     (refused_so (IsUnread size_of shown_of failed_of c.in_ok-image.image) unread (file_unread c.in_ok-image.image c.args.file c.in_ok-image.ensures.1)
-    c.args.codes.now (size_of c.in_ok-image.image) size fault c.in_err-sim.ensures.made) in
+    (are_digits c.args.codes.now) (size_of c.in_ok-image.image) size fault c.in_err-sim.ensures.made) in
     no_card c.args.description.now c.args.codes.now image unread fault c.from_residual-in_err-sim.result
     (λ _. inr (inr (c.in_ok-desc.desc, c.in_ok-desc.ensures, c.in_ok-image.ensures.0, refused))) c.from_residual-in_err-sim.ensures.1
 

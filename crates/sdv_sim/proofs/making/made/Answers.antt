@@ -1,7 +1,7 @@
 use Rattle.std.proofs.Common.{rules, refl, sym, ◌∙◌, arith}
 use Rattle.sdv_description.proofs.Described.{described_law}
 use Rattle.sdv_sim.proofs.MadeLaws.{starts}
-use Rattle.sdv_sim.proofs.sim.Sim.new.Goals as goal
+use Rattle.sdv_sim.proofs.making.made.Goals as goal
 
 pub read_block-requires : goal.read_block-requires
 read_block-requires g c =
