@@ -190,9 +190,14 @@ of_mishaps mishaps = if mishaps == 1 then codes " mishap" else codes " mishaps"
 abbrev pub of_end : (ended : Bool) → Text
 of_end ended = if ended then codes ", then the search was ended)" else codes ")"
 
-abbrev pub no_run_line : (runs mishaps : ℕ) → (ended : Bool) → Text
-no_run_line runs mishaps ended = codes "no run found ("
-    ++ (decimal runs ++ (of_runs runs ++ (decimal mishaps ++ (of_mishaps mishaps ++ (of_end ended ++ 10 ∷ [])))))
+-- though no run beside a simulated card shows it
+abbrev pub of_broken : (broken : Bool) → Text
+of_broken broken = if broken then codes ", but a card of the state tables breaks the script" else []
+
+abbrev pub no_run_line : (runs mishaps : ℕ) → (ended broken : Bool) → Text
+no_run_line runs mishaps ended broken = codes "no run found ("
+    ++ (decimal runs ++ (of_runs runs ++ (decimal mishaps ++ (of_mishaps mishaps ++ (of_end ended
+    ++ (of_broken broken ++ 10 ∷ []))))))
 
 abbrev pub named_line : (words name : Text) → Text
 named_line words name = words ++ (name ++ 10 ∷ [])
@@ -216,7 +221,7 @@ fault_line (Schedule fault) = schedule_line fault
 fault_line (Run fault) = named_line (codes "run fault ") (run_fault_name fault)
 fault_line OtherKind = plain_line (codes "the script is for another kind of card")
 fault_line (Wrong event) = wrong_event_text event
-fault_line (NoRun runs mishaps ended) = no_run_line runs mishaps ended
+fault_line (NoRun runs mishaps ended broken) = no_run_line runs mishaps ended broken
 fault_line NoPath = no_path_line
 fault_line (Request fault) = request_line fault
 fault_line Named = []
@@ -247,7 +252,7 @@ status_of (Schedule fault) = 1
 status_of (Run fault) = 1
 status_of OtherKind = 1
 status_of (Wrong event) = 1
-status_of (NoRun runs mishaps ended) = 1
+status_of (NoRun runs mishaps ended broken) = 1
 status_of NoPath = 1
 status_of (Request fault) = 2
 status_of Named = 1

@@ -6,7 +6,7 @@ ghost use Rattle.sdv_text.specs.Written.{Writes};
 ghost use Rattle.sdv_faults.specs.Fault.{Says, certificate_line, fault_line, illegal_line, kind_name, numbered_line, plain_line};
 ghost use Rattle.sdv_faults.specs.Fault.{block_fault_name, named_line, refusal_line, run_fault_name, sim_fault_name, status_of};
 ghost use Rattle.sdv_faults.specs.Fault.{line_fault_name, stray_line, trace_fault_line, trace_line, uncertified_line, wide_line};
-ghost use Rattle.sdv_faults.specs.Fault.{no_run_line, no_path_line, of_end, of_mishaps, of_runs, request_fault_name, request_line, schedule_line};
+ghost use Rattle.sdv_faults.specs.Fault.{no_run_line, no_path_line, of_broken, of_end, of_mishaps, of_runs, request_fault_name, request_line, schedule_line};
 ghost use Rattle.sdv_wrong_words.specs.WrongEvent.{wrong_event_text};
 
 use itoa::Buffer;
@@ -74,11 +74,12 @@ pub enum Fault<'a> {
     /// What comes next in the run of a script is not allowed at the card.
     Wrong(WrongEvent),
     /// No run that refutes a script was found, among so many that had so many mishaps at most. Then the search was ended, or it
-    /// had come to its end.
+    /// had come to its end. Some card of the state tables may be known to break the script all the same.
     NoRun {
         runs: u64,
         mishaps: u64,
         ended: bool,
+        broken: bool,
     },
     /// No run that refutes a script was found, and no path of the state tables breaks the script.
     NoPath,
@@ -329,7 +330,8 @@ impl<'a> Fault<'a> {
                 runs,
                 mishaps,
                 ended,
-            } => say_no_run(runs, mishaps, ended, err),
+                broken,
+            } => say_no_run((runs, mishaps), ended, broken, err),
             Fault::NoPath => say_no_path(err),
             Fault::Request(fault) => say_request(fault, err),
             Fault::Named | Fault::Found | Fault::Output => Ok(()),
@@ -488,8 +490,24 @@ fn of_end(ended: bool) -> &'static str
     }
 }
 
-fn say_no_run<E: Write>(runs: u64, mishaps: u64, ended: bool, err: &mut E) -> io::Result<()>
-    ensures { Writes (E.contents err.old) (E.contents err.new) result (no_run_line runs mishaps ended) }
+/// Whether some card breaks the script all the same.
+fn of_broken(broken: bool) -> &'static str
+    ensures { result.now ≡ of_broken broken }
+{
+    if broken {
+        ", but a card of the state tables breaks the script"
+    } else {
+        ""
+    }
+}
+
+fn say_no_run<E: Write>(
+    (runs, mishaps): (u64, u64),
+    ended: bool,
+    broken: bool,
+    err: &mut E,
+) -> io::Result<()>
+    ensures { Writes (E.contents err.old) (E.contents err.new) result (no_run_line runs mishaps ended broken) }
 {
     let mut tried = Buffer::new();
     let mut most = Buffer::new();
@@ -507,6 +525,7 @@ fn say_no_run<E: Write>(runs: u64, mishaps: u64, ended: bool, err: &mut E) -> io
             number,
             behind_number,
             end,
+            of_broken(broken).as_bytes(),
             b"\n",
         ],
     )

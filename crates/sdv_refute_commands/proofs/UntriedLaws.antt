@@ -1,5 +1,5 @@
 -- Searches and sweeps that were not made, and what they left.
-use Rattle.std.proofs.Common.{◌≡◌, refl, sym, ap, subst, inl, inr, true, false, Some, None, ℕ, List, Option, Result, Ok, Err, IfErr, IfOk, IsErrAnd, option_map}
+use Rattle.std.proofs.Common.{◌≡◌, ◌∙◌, refl, sym, ap, subst, inl, inr, true, false, Some, None, ℕ, List, Option, Result, Ok, Err, IfErr, IfOk, IsErrAnd, option_map}
 use Rattle.std.specs.Prelude.{◌≢◌, IfSome, if◌then◌else◌}
 use Rattle.std.specs.Borrow.{Bor}
 use Rattle.clap.specs.Words.{Text}
@@ -12,6 +12,7 @@ use Rattle.sdv_script.specs.declared.fault.FaultKind.TheVariants as kinds
 use Rattle.sdv_script.specs.declared.fault.ScriptFault.{ScriptFault}
 use Rattle.sdv_check.specs.Verified.{IsNoScript}
 use Rattle.sdv_paths.specs.Answered.{IsUnbreakable, IsUncertifiedText}
+use Rattle.sdv_broken_paths.specs.Broken.{IsBrokenText}
 use Rattle.sdv_refute.specs.declared.simulated.TryFault.{TryFault}
 use Rattle.sdv_refute.specs.declared.simulated.TryFault.TheVariants as tries
 use Rattle.sdv_refute.specs.Tries.{IsRefused}
@@ -68,15 +69,16 @@ module _ (script : Text) (found : SearchFound) where
   run_found (Err fault) is refutes = tt
 
   none_found_as : (fault : Fault) → IsToldOf found (Err fault) → (found.unbreakable ≡ true → IsUnbreakable script)
-      → (found.unbreakable ≡ false → IsUncertifiedText script) → IsNoRefutation script fault
-  none_found_as (NoRun runs mishaps ended) is safe uncertified = uncertified is.breakable
-  none_found_as NoPath is safe uncertified = safe is.1
-  none_found_as _ is safe uncertified = absurd is
+      → (found.unbreakable ≡ false → IsUncertifiedText script) → (found.broken ≡ true → IsBrokenText script) → IsNoRefutation script fault
+  none_found_as (NoRun runs mishaps ended broken) is safe uncertified breaks =
+      (uncertified is.breakable, λ told. breaks (sym is.by_some_card ∙ told))
+  none_found_as NoPath is safe uncertified breaks = safe is.1
+  none_found_as _ is safe uncertified breaks = absurd is
 
   pub none_found : (r : Result Refutation Fault) → IsToldOf found r → (found.unbreakable ≡ true → IsUnbreakable script)
-      → (found.unbreakable ≡ false → IsUncertifiedText script) → IfErr r (IsNoRefutation script)
-  none_found (Ok run) is safe uncertified = tt
-  none_found (Err fault) is safe uncertified = none_found_as fault is safe uncertified
+      → (found.unbreakable ≡ false → IsUncertifiedText script) → (found.broken ≡ true → IsBrokenText script) → IfErr r (IsNoRefutation script)
+  none_found (Ok run) is safe uncertified breaks = tt
+  none_found (Err fault) is safe uncertified breaks = none_found_as fault is safe uncertified breaks
 
 -- no certificate is accepted with a script that a run refutes
 none_accepted : (script : Text) (run : Refutation) → IsRefutation script run → IsRefused script
@@ -88,7 +90,7 @@ module _ (files : Files) (names : RefuteNames) (script : Text) where
 
   untold : (known : Option (List ℕ)) (fault : Fault) → IsNoRefutation script fault → told_ends (Some fault) known known
   untold known (Script fault) none = (none, keeps_same known)
-  untold known (NoRun runs mishaps ended) none = (none, keeps_same known)
+  untold known (NoRun runs mishaps ended broken) none = (none, keeps_same known)
   untold known NoPath none = (none, keeps_same known)
   untold known Memory none = keeps_same known
   untold known _ none = absurd none

@@ -5,6 +5,7 @@ use Rattle.std.specs.Io.KnownBytes.{Keeps}
 use Rattle.clap.specs.Words.{Text}
 use Rattle.sdv_check.specs.Verified.{IsNoScript}
 use Rattle.sdv_paths.specs.Answered.{IsUnbreakable, IsUncertifiedText}
+use Rattle.sdv_broken_paths.specs.Broken.{IsBrokenText}
 use Rattle.sdv_refute.specs.Tries.{IsRefused}
 use Rattle.sdv_search.specs.Refuted.{IsRefutation}
 use Rattle.sdv_named_schedules.specs.Writing.{schedule_text}
@@ -37,26 +38,29 @@ pub record IsUnwritten (files : Files) (names : RefuteNames) (script file : Text
       ⊎ ((names.schedule ≡ Some file) × LosesFile files file (schedule_text run.schedule.items))
 
 -- why there is no run: the text is no script; or no path of the state tables breaks the script, and each run of it is as
--- that of an accepted one; or none was found, of a script for which no certificate is written. Want of memory says nothing
+-- that of an accepted one; or none was found, of a script for which no certificate is written, and which a card of the state
+-- tables breaks where that is told. Want of memory says nothing
 abbrev pub IsNoRefutation : (script : Text) → Fault → Type 0
 IsNoRefutation script (Script fault) = IsNoScript script
-IsNoRefutation script (NoRun runs mishaps ended) = IsUncertifiedText script
+IsNoRefutation script (NoRun runs mishaps ended broken) =
+    IsUncertifiedText script × (broken ≡ true → IsBrokenText script)
 IsNoRefutation script NoPath = IsUnbreakable script
 IsNoRefutation script Memory = Unit {0}
 IsNoRefutation script fault = ⊥
 
--- what is told where a search found no run: how many it tried, and whether it was ended
-pub record HasNoRun (found : Found) (runs mishaps : ℕ) (ended : Bool) : Type 0 where
+-- what is told where a search found no run: how many it tried, whether it was ended, and whether some card breaks the script
+pub record HasNoRun (found : Found) (runs mishaps : ℕ) (ended broken : Bool) : Type 0 where
   pub none : found.refutation ≡ None
   pub breakable : found.unbreakable ≡ false
   pub runs_tried : runs ≡ found.runs
   pub most : mishaps ≡ found.mishaps
   pub ended_early : ended ≡ not found.complete
+  pub by_some_card : broken ≡ found.broken
 
 -- what is told of what a search found
 abbrev pub IsToldOf : Found → Result Refutation Fault → Type 0
 IsToldOf found (Ok run) = found.refutation ≡ Some run
-IsToldOf found (Err (NoRun runs mishaps ended)) = HasNoRun found runs mishaps ended
+IsToldOf found (Err (NoRun runs mishaps ended broken)) = HasNoRun found runs mishaps ended broken
 IsToldOf found (Err NoPath) = (found.refutation ≡ None) × (found.unbreakable ≡ true)
 IsToldOf found (Err fault) = ⊥
 

@@ -138,6 +138,7 @@ fn run_of(found: Found) -> Result<Refutation, Fault<'static>>
             runs: found.runs,
             mishaps: found.mishaps,
             ended: !found.complete,
+            broken: found.broken,
         }),
     }
 }

@@ -10,4 +10,4 @@ returns-clause-found c = run_found c.args.script.now c.in_ok-found.found c.run_o
 
 pub returns-clause-none : goal.returns-clause-none
 returns-clause-none c =
-    none_found c.args.script.now c.in_ok-found.found c.run_of.result c.run_of.ensures c.in_ok-found.ensures.safe c.in_ok-found.ensures.uncertified
+    none_found c.args.script.now c.in_ok-found.found c.run_of.result c.run_of.ensures c.in_ok-found.ensures.safe c.in_ok-found.ensures.uncertified c.in_ok-found.ensures.broken
