@@ -94,17 +94,47 @@ bits() {
 
 # LINUX
 
-takes "linux: nothing" as_it_is 0 linux-mmc-trace << 'END'
+# An empty trace would be taken for a host that sent nothing.
+takes "linux: nothing" as_it_is 1 linux-mmc-trace << 'END'
 =
 =
+no mmc_request_start line found
 END
 
-takes "linux: other events alone" as_it_is 0 linux-mmc-trace << 'END'
+takes "linux: other events alone" as_it_is 1 linux-mmc-trace << 'END'
 # tracer: nop
 #
            <...>-12      [000] d..1.     1.000000: irq_handler_entry: irq=17 name=mmc0
 =
 =
+no mmc_request_start line found
+END
+
+takes "linux: debug messages of the kernel" as_it_is 1 linux-mmc-trace --host mmc0 << 'END'
+[    1.234567] mmc0: starting CMD17 arg 000003e9 flags 000000b5
+[    1.235678] mmc0: req done (CMD17): 0: 00000900 00000000 00000000 00000000
+=
+=
+no mmc_request_start line of mmc0 found
+END
+
+takes "linux: no such controller" events 1 linux-mmc-trace --host mmc1 << 'END'
+start 1 cmd_opcode=13 cmd_arg=0x12340000 cmd_flags=0x195
+end 1 cmd_opcode=13 cmd_resp=0x900,0x0,0x0,0x0
+           <...>-12      [000] .....     1.000000: mmc_request_start: mmc2: start struct mmc_request[3]: cmd_opcode=0
+=
+=
+left out: the controller mmc0 (line 1, 2 times)
+left out: the controller mmc2 (line 3)
+no mmc_request_start line of mmc1 found, only lines of mmc0, mmc2
+END
+
+takes "linux: an end alone" events 1 linux-mmc-trace << 'END'
+end 1 cmd_opcode=13 cmd_resp=0x900,0x0,0x0,0x0
+=
+=
+left out: an end of a request whose beginning is missing (line 1)
+no mmc_request_start line of mmc0 found
 END
 
 # the line as Linux 6.1 prints it, and as trace-cmd and perf do
@@ -520,9 +550,25 @@ END
 # SIGROK. The three captures are what sigrok-cli 0.7.2 and the decoder of libsigrokdecode 0.5.3 print for signals that were made
 # up: 1 MHz, and four samples a clock.
 
-takes "sigrok: nothing" as_it_is 0 sigrok-sdcard << 'END'
+takes "sigrok: nothing" as_it_is 1 sigrok-sdcard << 'END'
 =
 =
+no bit of sdcard_sd found, as in `130-134 sdcard_sd-1: 0`
+END
+
+takes "sigrok: another decoder alone" as_it_is 1 sigrok-sdcard << 'END'
+130-134 spi-1: 0
+=
+=
+no bit of sdcard_sd found, as in `130-134 sdcard_sd-1: 0`
+END
+
+takes "sigrok: no whole command" bits 1 sigrok-sdcard << 'END'
+130 4 010000000000000000000000000000000000000010010111
+=
+=
+left out: a command with a wrong CRC or end bit (line 48)
+no command with a right CRC found among the bits
 END
 
 # The decoder is out of step from CMD5 on, which is not answered, and cuts the answer to CMD2 in pieces.
@@ -775,9 +821,12 @@ END
 
 # QEMU
 
-takes "qemu: nothing" as_it_is 0 qemu-capture << 'END'
+takes "qemu: nothing" as_it_is 1 qemu-capture << 'END'
+# a host and its card
+
 =
 =
+no command found
 END
 
 takes "qemu: an SD card" as_it_is 0 qemu-capture << 'END'

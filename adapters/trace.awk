@@ -48,6 +48,13 @@ function notes(    i, text) {
     close("cat 1>&2")
 }
 
+# The input has nothing that the converter looks for: an empty trace would be taken for a host that sent nothing.
+function lacks(text) {
+    say(text)
+    close("cat 1>&2")
+    exit 1
+}
+
 # WORDS of eight hexadecimal digits
 
 function digit(text, place) { return index("0123456789abcdef", substr(text, place, 1)) - 1 }

@@ -29,6 +29,14 @@ Lines outside the tables alone are no finding, and a trace may have no line.
   $ sdv audit emmc - < /dev/null
   0 lines, 0 reckless, 0 that no card answers, 0 of another length, 0 beyond the capacity, 0 outside
 
+What is found behind such a line rests on it, and says so. Both premises of a verdict may stand together.
+
+  $ printf 'CMD5 00000000 timeout\nCMD0 00000000 -\nCMD17 00000000 R1 00000900\n' | sdv audit sd --json -
+  {"line":1,"told":"CMD5 00000000","finding":"outside","text":"outside the tables; the audit goes on as if it had not come"}
+  {"line":3,"told":"CMD17 00000000","finding":"reckless","text":"a card that answered so may be in idle: byte addresses, block length not 512 (a line outside the tables came before it)"}
+  {"lines":3,"reckless":1,"unanswered":0,"lengths":0,"beyond":0,"outside":1}
+  [1]
+
 What is wrong with a line is named from the left, and what was printed before it stays.
 
   $ for line in '' 'CMD64 00000000 -' 'CMD0 0000000 -' 'CMD0 00000000 X 00000000' 'IN 65536 ok' 'IN 1 okay' 'LINES 2'; do echo "$line" | sdv audit sd -; done
@@ -112,13 +120,15 @@ Answers that no card gives in any state.
   8 lines, 0 reckless, 1 that no card answers, 0 of another length, 0 beyond the capacity, 0 outside
   [1]
 
-A host that is reckless behind an address that lies on no card.
+A host that is reckless behind an address that lies on no card, and behind a line outside the tables too.
 
   $ printf '%s\n' 'CMD0 00000000 -' 'CMD1 40ff8080 R3 c0ff8080' 'CMD2 00000000 R2 00aa585951454d552101deadbeef00' 'CMD3 00010000 R1 00000500' > e
   $ printf '%s\n' 'CMD7 00010000 R1 00000700' 'CMD24 ffffffff R1 00000900' 'OUT 1 ok' 'CMD17 00000000 R1 00000900' | cat e - | sdv audit emmc -
   line 8: CMD17 00000000: a card that answered so may be in prg: block addresses (an address before it may lie on no card, or a count before it is not told)
   8 lines, 1 reckless, 0 that no card answers, 0 of another length, 0 beyond the capacity, 0 outside
   [1]
+  $ printf '%s\n' 'CMD7 00010000 R1 00000700' 'CMD5 00000000 timeout' 'CMD24 ffffffff R1 00000900' 'OUT 1 ok' 'CMD17 00000000 R1 00000900' | cat e - | sdv audit emmc - | sed -n 2p
+  line 9: CMD17 00000000: a card that answered so may be in prg: block addresses (an address before it may lie on no card, or a count before it is not told) (a line outside the tables came before it)
   $ printf '%s\n' 'CMD7 00010000 R1 00000700' | cat e - | sdv audit emmc - --annotate --json | tail -n 2
   {"line":5,"told":"","finding":"end","text":"in tran"}
   {"lines":5,"reckless":0,"unanswered":0,"lengths":0,"beyond":0,"outside":0}

@@ -19,7 +19,7 @@ use Rattle.sdv_audit_report.specs.Faults.{fault_of_audit}
 use Rattle.sdv_audit_report.specs.declared.style.Style.{Style}
 use Rattle.sdv_audit_report.specs.declared.report.Report.{Report}
 use Rattle.sdv_audit_report.specs.Words.{some_is, is_in, all_states, sign_words, states_words, standing_words}
-use Rattle.sdv_audit_report.specs.Notes.{note_front, note_end, note_if, standing_note, notes_taken, notes_found, counted, tally_after, csd_line_after, end_front, ending, summary}
+use Rattle.sdv_audit_report.specs.Notes.{note_front, note_end, note_if, standing_note, notes_taken, notes_found, counted, tally_after, has_outside, csd_line_after, end_front, ending, summary}
 use Rattle.sdv_audit_report.specs.Report.{Progress, ReportAt, number_at, line_notes, progress_after, ending_at}
 
 -- THE SAME MEMBERS have the same states
@@ -92,29 +92,33 @@ pub notes_same : (k : Kind) (style : Style) (report : Report) (p : Progress) (to
     found ≡ found_at k told p.course →
     standing_note style (counted true report.tally.lines) told.line report.audit.shapes.items
     ++ (notes_taken style (counted true report.tally.lines) told.line found
-    ++ notes_found style (counted true report.tally.lines) told.line found report.audit.bounded k report.audit.known.csd report.csd_line)
+    ++ notes_found style (counted true report.tally.lines) told.line found report.audit.bounded (has_outside report.tally) k report.audit.known.csd report.csd_line)
     ≡ line_notes k style p told
 notes_same k style report p told found at is =
     let there : Findings = found_at k told p.course in
+    let behind : Bool = has_outside report.tally in
     ap (λ n. standing_note style n told.line report.audit.shapes.items
-    ++ (notes_taken style n told.line found ++ notes_found style n told.line found report.audit.bounded k report.audit.known.csd report.csd_line))
+    ++ (notes_taken style n told.line found ++ notes_found style n told.line found report.audit.bounded behind k report.audit.known.csd report.csd_line))
     (number_same report p at)
     ∙ (ap (λ w. note_if style.annotate (note_front style (number_at p) true told.line (codes "states") ++ (w ++ note_end style))
     ++ (notes_taken style (number_at p) told.line found
-    ++ notes_found style (number_at p) told.line found report.audit.bounded k report.audit.known.csd report.csd_line))
+    ++ notes_found style (number_at p) told.line found report.audit.bounded behind k report.audit.known.csd report.csd_line))
     (standing_same report.audit.shapes.items p.course.shapes at.course.shapes)
     ∙ (ap (λ f. standing_note style (number_at p) told.line p.course.shapes
     ++ (notes_taken style (number_at p) told.line f
-    ++ notes_found style (number_at p) told.line f report.audit.bounded k report.audit.known.csd report.csd_line)) is
+    ++ notes_found style (number_at p) told.line f report.audit.bounded behind k report.audit.known.csd report.csd_line)) is
     ∙ (ap (λ v. standing_note style (number_at p) told.line p.course.shapes
-    ++ (notes_taken style (number_at p) told.line there ++ notes_found style (number_at p) told.line there v k report.audit.known.csd report.csd_line))
+    ++ (notes_taken style (number_at p) told.line there ++ notes_found style (number_at p) told.line there v behind k report.audit.known.csd report.csd_line))
     at.course.bounded
     ∙ (ap (λ v. standing_note style (number_at p) told.line p.course.shapes
     ++ (notes_taken style (number_at p) told.line there
-    ++ notes_found style (number_at p) told.line there p.course.bounded k v.csd report.csd_line)) at.course.known
+    ++ notes_found style (number_at p) told.line there p.course.bounded (has_outside v) k report.audit.known.csd report.csd_line)) at.tally
+    ∙ (ap (λ v. standing_note style (number_at p) told.line p.course.shapes
+    ++ (notes_taken style (number_at p) told.line there
+    ++ notes_found style (number_at p) told.line there p.course.bounded (has_outside p.tally) k v.csd report.csd_line)) at.course.known
     ∙ ap (λ n. standing_note style (number_at p) told.line p.course.shapes
     ++ (notes_taken style (number_at p) told.line there
-    ++ notes_found style (number_at p) told.line there p.course.bounded k p.course.known.csd n)) at.csd_line))))
+    ++ notes_found style (number_at p) told.line there p.course.bounded (has_outside p.tally) k p.course.known.csd n)) at.csd_line)))))
 
 -- what stands behind the notes on all lines
 pub ending_same : (style : Style) (report : Report) (p : Progress) → ReportAt report p → ending style report.audit.shapes.items report.tally ≡ ending_at style p
@@ -141,15 +145,16 @@ pub three_notes : (empty one two three a b c : List ℕ) → empty ≡ [] → on
 three_notes empty one two three a b c e f g h =
     h ∙ (ap (λ v. v ++ c) (g ∙ ap (λ v. v ++ b) (f ∙ ap (λ v. v ++ a) e)) ∙ append_assoc a b c)
 
-pub notes_are : (k : Kind) (style : Style) (n m : ℕ) (line : TraceLine) (xs ys : List Shape) (found : Findings) (a b : Bool) (v w : HostKnown) (csd_line : ℕ) →
-    n ≡ m → xs ≡ ys → a ≡ b → v ≡ w →
-    standing_note style n line xs ++ (notes_taken style n line found ++ notes_found style n line found a k v.csd csd_line)
-    ≡ standing_note style m line ys ++ (notes_taken style m line found ++ notes_found style m line found b k w.csd csd_line)
-notes_are k style n m line xs ys found a b v w csd_line e f h g =
-    ap (λ x. standing_note style x line xs ++ (notes_taken style x line found ++ notes_found style x line found a k v.csd csd_line)) e
-    ∙ (ap (λ x. standing_note style m line x ++ (notes_taken style m line found ++ notes_found style m line found a k v.csd csd_line)) f
-    ∙ (ap (λ x. standing_note style m line ys ++ (notes_taken style m line found ++ notes_found style m line found x k v.csd csd_line)) h
-    ∙ ap (λ x. standing_note style m line ys ++ (notes_taken style m line found ++ notes_found style m line found b k x.csd csd_line)) g))
+pub notes_are : (k : Kind) (style : Style) (n m : ℕ) (line : TraceLine) (xs ys : List Shape) (found : Findings) (a b c d : Bool) (v w : HostKnown) (csd_line : ℕ) →
+    n ≡ m → xs ≡ ys → a ≡ b → c ≡ d → v ≡ w →
+    standing_note style n line xs ++ (notes_taken style n line found ++ notes_found style n line found a c k v.csd csd_line)
+    ≡ standing_note style m line ys ++ (notes_taken style m line found ++ notes_found style m line found b d k w.csd csd_line)
+notes_are k style n m line xs ys found a b c d v w csd_line e f h i g =
+    ap (λ x. standing_note style x line xs ++ (notes_taken style x line found ++ notes_found style x line found a c k v.csd csd_line)) e
+    ∙ (ap (λ x. standing_note style m line x ++ (notes_taken style m line found ++ notes_found style m line found a c k v.csd csd_line)) f
+    ∙ (ap (λ x. standing_note style m line ys ++ (notes_taken style m line found ++ notes_found style m line found x c k v.csd csd_line)) h
+    ∙ (ap (λ x. standing_note style m line ys ++ (notes_taken style m line found ++ notes_found style m line found b x k v.csd csd_line)) i
+    ∙ ap (λ x. standing_note style m line ys ++ (notes_taken style m line found ++ notes_found style m line found b d k x.csd csd_line)) g)))
 
 -- TOO MANY SHAPES follow a line
 

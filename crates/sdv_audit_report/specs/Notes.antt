@@ -14,7 +14,7 @@ use Rattle.sdv_audit.specs.declared.turn.Turn.TheVariants.{Outside, OtherLength,
 use Rattle.sdv_audit.specs.declared.audit.Findings.{Findings}
 use Rattle.sdv_audit_report.specs.declared.style.Style.{Style}
 use Rattle.sdv_audit_report.specs.declared.style.Tally.{Tally}
-use Rattle.sdv_audit_report.specs.Words.{shown_words, reckless_words, unanswered_words, unanswered_name, beyond_words, standing_words}
+use Rattle.sdv_audit_report.specs.Words.{shown_words, reckless_words, unanswered_words, unanswered_name, beyond_words, outside_words, standing_words}
 
 -- A NOTE: the number of its line, the line, and what is found, in words or as an object of JSON
 
@@ -36,6 +36,14 @@ note_end style = if style.json then codes "\"}\n" else codes "\n"
 
 abbrev pub note : Style → (number : ℕ) → TraceLine → (name text : Text) → Text
 note style number line name text = note_front style number false line name ++ (text ++ note_end style)
+
+-- a note on what is found behind a line outside the tables, or behind none
+abbrev pub finding_end : Style → (behind : Bool) → Text
+finding_end style behind = outside_words behind ++ note_end style
+
+abbrev pub finding : Style → (number : ℕ) → TraceLine → (behind : Bool) → (name text : Text) → Text
+finding style number line behind name text =
+    note_front style number false line name ++ (text ++ finding_end style behind)
 
 abbrev pub note_if : Bool → Text → Text
 note_if holds text = if holds then text else []
@@ -60,30 +68,31 @@ outside_note style number line found =
     note_if (is_outside found.turn)
     (note style number line (codes "outside") (codes "outside the tables; the audit goes on as if it had not come"))
 
-abbrev pub reckless_note : Style → (number : ℕ) → TraceLine → Option Shape → (bounded : Bool) → Text
-reckless_note style number line None bounded = []
-reckless_note style number line (Some s) bounded =
-    note style number line (codes "reckless") (reckless_words bounded s)
+abbrev pub reckless_note : Style → (number : ℕ) → TraceLine → Option Shape → (bounded behind : Bool) → Text
+reckless_note style number line None bounded behind = []
+reckless_note style number line (Some s) bounded behind =
+    finding style number line behind (codes "reckless") (reckless_words bounded s)
 
-abbrev pub unanswered_note : Style → (number : ℕ) → TraceLine → Findings → Text
-unanswered_note style number line found =
+abbrev pub unanswered_note : Style → (number : ℕ) → TraceLine → Findings → (behind : Bool) → Text
+unanswered_note style number line found behind =
     note_if found.unanswered
-    (note style number line (unanswered_name found.turn) (unanswered_words found.turn line))
+    (finding style number line behind (unanswered_name found.turn) (unanswered_words found.turn line))
 
-abbrev pub beyond_note : Style → (number : ℕ) → TraceLine → Findings → Kind → Option (List ℕ) → (csd_line : ℕ) → Text
-beyond_note style number line found k csd csd_line =
-    note_if found.beyond (note style number line (codes "beyond") (beyond_words k csd csd_line))
+abbrev pub beyond_note : Style → (number : ℕ) → TraceLine → Findings → (behind : Bool) → Kind → Option (List ℕ)
+    → (csd_line : ℕ) → Text
+beyond_note style number line found behind k csd csd_line =
+    note_if found.beyond (finding style number line behind (codes "beyond") (beyond_words k csd csd_line))
 
 -- how the line is taken
 abbrev pub notes_taken : Style → (number : ℕ) → TraceLine → Findings → Text
 notes_taken style number line found = anew_note style number line found ++ outside_note style number line found
 
 -- which side left the rules
-abbrev pub notes_found : Style → (number : ℕ) → TraceLine → Findings → (bounded : Bool) → Kind → Option (List ℕ)
-    → (csd_line : ℕ) → Text
-notes_found style number line found bounded k csd csd_line =
-    reckless_note style number line found.reckless bounded
-    ++ (unanswered_note style number line found ++ beyond_note style number line found k csd csd_line)
+abbrev pub notes_found : Style → (number : ℕ) → TraceLine → Findings → (bounded behind : Bool) → Kind
+    → Option (List ℕ) → (csd_line : ℕ) → Text
+notes_found style number line found bounded behind k csd csd_line =
+    reckless_note style number line found.reckless bounded behind
+    ++ (unanswered_note style number line found behind ++ beyond_note style number line found behind k csd csd_line)
 
 -- THE TALLY: how many lines there were, and how often each thing was found; no count passes 2^64 - 1
 
@@ -115,6 +124,10 @@ no_tally = record { lines = 0; reckless = 0; unanswered = 0; lengths = 0; beyond
 abbrev pub has_findings : Tally → Bool
 has_findings t =
     not (t.reckless == 0) || (not (t.unanswered == 0) || (not (t.lengths == 0) || not (t.beyond == 0)))
+
+-- a line outside the tables was among them
+abbrev pub has_outside : Tally → Bool
+has_outside t = not (t.outside == 0)
 
 -- the number of the line that has the CSD that the host read last
 abbrev pub csd_line_after : (number : ℕ) → Turn → TraceLine → (before : ℕ) → ℕ

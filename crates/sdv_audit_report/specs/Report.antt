@@ -8,7 +8,7 @@ use Rattle.sdv_audit.specs.Course.{Course, IsAt, begun, course_after, found_at}
 use Rattle.sdv_audit_report.specs.declared.style.Style.{Style}
 use Rattle.sdv_audit_report.specs.declared.style.Tally.{Tally}
 use Rattle.sdv_audit_report.specs.declared.report.Report.{Report}
-use Rattle.sdv_audit_report.specs.Notes.{standing_note, notes_taken, notes_found, counted, tally_after, no_tally, csd_line_after, ending}
+use Rattle.sdv_audit_report.specs.Notes.{standing_note, notes_taken, notes_found, counted, tally_after, no_tally, has_outside, csd_line_after, ending}
 
 -- how far a report is
 pub record Progress : Type 0 where
@@ -28,8 +28,8 @@ abbrev pub line_notes : Kind → Style → Progress → Told → Text
 line_notes k style p told =
     standing_note style (number_at p) told.line p.course.shapes
     ++ (notes_taken style (number_at p) told.line (found_at k told p.course)
-    ++ notes_found style (number_at p) told.line (found_at k told p.course) p.course.bounded k p.course.known.csd
-    p.csd_line)
+    ++ notes_found style (number_at p) told.line (found_at k told p.course) p.course.bounded (has_outside p.tally) k
+    p.course.known.csd p.csd_line)
 
 abbrev pub progress_after : Kind → Progress → Told → Progress
 progress_after k p told = record {

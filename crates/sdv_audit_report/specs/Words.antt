@@ -24,6 +24,11 @@ told_words line = line_text line
 abbrev pub shown_words : (whole : Bool) → TraceLine → Text
 shown_words whole line = if whole then line_text line else told_words line
 
+-- THE PREMISE of a finding behind a line outside the tables, which the audit leaves out
+
+abbrev pub outside_words : (behind : Bool) → Text
+outside_words behind = if behind then codes " (a line outside the tables came before it)" else []
+
 -- THE HOST WAS RECKLESS
 
 abbrev pub fields_words : Option Fields → Text

@@ -1,11 +1,11 @@
 //! The notes on a line of a trace.
 
 ghost use Rattle.std.specs.Prelude.{◌≡◌, ◌++◌, OnOk};
-ghost use Rattle.sdv_audit_report.specs.Notes.{plain_front, json_front, note_front, note_end, note, standing_note, anew_note, outside_note, reckless_note, unanswered_note, beyond_note, notes_taken, notes_found, count_and, plain_summary, json_summary, summary, end_front, end_note, ending};
+ghost use Rattle.sdv_audit_report.specs.Notes.{plain_front, json_front, note_front, note_end, note, finding_end, standing_note, anew_note, outside_note, reckless_note, unanswered_note, beyond_note, notes_taken, notes_found, count_and, plain_summary, json_summary, summary, end_front, end_note, ending};
 
 use crate::style::{Style, Tally, is_outside};
 use crate::words::{
-    put_beyond, put_reckless, put_shown, put_standing, put_unanswered, unanswered_name,
+    put_beyond, put_outside, put_reckless, put_shown, put_standing, put_unanswered, unanswered_name,
 };
 use sdv_audit::{Findings, TraceLine};
 use sdv_card::Shape;
@@ -35,6 +35,8 @@ pub struct Before {
     pub csd_line: u64,
     /// Each shape at which a card may stand is that of a real card.
     pub bounded: bool,
+    /// A line outside the tables was among the lines.
+    pub behind: bool,
 }
 
 fn put_plain_front(
@@ -93,6 +95,14 @@ fn put_end(text: &mut Text, style: Style) -> Result<(), AllocError>
     }
 }
 
+/// Adds what stands behind the words of a finding.
+fn put_finding_end(text: &mut Text, style: Style, behind: bool) -> Result<(), AllocError>
+    ensures { OnOk result (text.new.items ≡ text.old.items ++ finding_end style behind) }
+{
+    put_outside(text, behind)?;
+    put_end(text, style)
+}
+
 /// Adds the states in which a card may be before the line, where they are asked for.
 pub fn put_standing_note(text: &mut Text, at: Place<'_>, shapes: &[Shape]) -> Result<(), AllocError>
     ensures { OnOk result (text.new.items ≡ text.old.items ++
@@ -143,29 +153,34 @@ fn put_reckless_note(
     text: &mut Text,
     at: Place<'_>,
     reckless: Option<Shape>,
-    bounded: bool,
+    before: Before,
 ) -> Result<(), AllocError>
     ensures { OnOk result (text.new.items ≡ text.old.items ++
-        reckless_note at.entry.style at.entry.number at.entry.line.now reckless bounded) }
+        reckless_note at.entry.style at.entry.number at.entry.line.now reckless before.bounded before.behind) }
 {
     let Some(shape) = reckless else {
         return Ok(());
     };
     put_front(text, at, "reckless", false)?;
-    put_reckless(text, bounded, shape)?;
-    put_end(text, at.style)
+    put_reckless(text, before.bounded, shape)?;
+    put_finding_end(text, at.style, before.behind)
 }
 
-fn put_unanswered_note(text: &mut Text, at: Place<'_>, found: &Findings) -> Result<(), AllocError>
+fn put_unanswered_note(
+    text: &mut Text,
+    at: Place<'_>,
+    found: &Findings,
+    before: Before,
+) -> Result<(), AllocError>
     ensures { OnOk result (text.new.items ≡ text.old.items ++
-        unanswered_note at.entry.style at.entry.number at.entry.line.now found.now) }
+        unanswered_note at.entry.style at.entry.number at.entry.line.now found.now before.behind) }
 {
     if !found.unanswered {
         return Ok(());
     }
     put_front(text, at, unanswered_name(&found.turn), false)?;
     put_unanswered(text, &found.turn, at.line)?;
-    put_end(text, at.style)
+    put_finding_end(text, at.style, before.behind)
 }
 
 fn put_beyond_note(
@@ -175,14 +190,15 @@ fn put_beyond_note(
     before: Before,
 ) -> Result<(), AllocError>
     ensures { OnOk result (text.new.items ≡ text.old.items ++
-        beyond_note at.entry.style at.entry.number at.entry.line.now found.now before.kind before.csd before.csd_line) }
+        beyond_note at.entry.style at.entry.number at.entry.line.now found.now
+        before.behind before.kind before.csd before.csd_line) }
 {
     if !found.beyond {
         return Ok(());
     }
     put_front(text, at, "beyond", false)?;
     put_beyond(text, before.kind, before.csd, before.csd_line)?;
-    put_end(text, at.style)
+    put_finding_end(text, at.style, before.behind)
 }
 
 /// Adds the notes on how the line is taken.
@@ -203,10 +219,10 @@ pub fn put_notes_found(
 ) -> Result<(), AllocError>
     ensures { OnOk result (text.new.items ≡ text.old.items ++
         notes_found at.entry.style at.entry.number at.entry.line.now found.now
-        before.bounded before.kind before.csd before.csd_line) }
+        before.bounded before.behind before.kind before.csd before.csd_line) }
 {
-    put_reckless_note(text, at, found.reckless, before.bounded)?;
-    put_unanswered_note(text, at, found)?;
+    put_reckless_note(text, at, found.reckless, before)?;
+    put_unanswered_note(text, at, found, before)?;
     put_beyond_note(text, at, found, before)
 }
 

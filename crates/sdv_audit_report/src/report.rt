@@ -71,6 +71,7 @@ impl Report {
             csd: self.audit.known().csd,
             csd_line: self.csd_line,
             bounded: self.audit.is_bounded(),
+            behind: self.tally.has_outside(),
         };
         let mut text = Vec::new(self.alloc);
         put_standing_note(&mut text, at, self.audit.shapes())?;

@@ -1,7 +1,7 @@
 //! How a report is printed, and what it counts.
 
 ghost use Rattle.std.specs.Prelude.{◌≡◌};
-ghost use Rattle.sdv_audit_report.specs.Notes.{is_reckless, is_outside, is_other_length, counted, tally_after, no_tally, has_findings};
+ghost use Rattle.sdv_audit_report.specs.Notes.{is_reckless, is_outside, is_other_length, counted, tally_after, no_tally, has_findings, has_outside};
 
 use sdv_audit::{Findings, Turn};
 
@@ -71,6 +71,13 @@ impl Tally {
         ensures { result ≡ has_findings self.now }
     {
         self.reckless != 0 || self.unanswered != 0 || self.lengths != 0 || self.beyond != 0
+    }
+
+    /// Whether a line outside the tables was among the lines.
+    pub(crate) fn has_outside(&self) -> bool
+        ensures { result ≡ has_outside self.now }
+    {
+        self.outside != 0
     }
 }
 

@@ -4,7 +4,7 @@ ghost use Rattle.std.specs.Prelude.{◌≡◌, ◌++◌, OnOk, true, codes, deci
 ghost use Rattle.sdv_telling.specs.Cards.{numbered_state_word};
 ghost use Rattle.hex.specs.Hex.{encode_lower};
 ghost use Rattle.sdv_audit.specs.Spelling.{word_text, reply_text, answer_text, end_text, phase_text, wait_text, line_text};
-ghost use Rattle.sdv_audit_report.specs.Words.{told_words, shown_words, bounded_words, reckless_words, fields_words, line_answer_words, no_card_words, length_words, unanswered_words, unanswered_name, csd_words, count_words, told_blocks, beyond_words, some_is, is_in, sign_words, states_words, standing_words};
+ghost use Rattle.sdv_audit_report.specs.Words.{told_words, shown_words, outside_words, bounded_words, reckless_words, fields_words, line_answer_words, no_card_words, length_words, unanswered_words, unanswered_name, csd_words, count_words, told_blocks, beyond_words, some_is, is_in, sign_words, states_words, standing_words};
 
 use sdv_audit::{TraceLine, Turn};
 use sdv_card::{Answer, DataEnd, Fields, Shape, WaitEnd};
@@ -131,6 +131,17 @@ pub fn put_shown(text: &mut Text, line: &TraceLine, whole: bool) -> Result<(), A
         put_line(text, line)
     } else {
         put_told(text, line)
+    }
+}
+
+/// Adds what a finding rests on behind a line outside the tables.
+pub fn put_outside(text: &mut Text, behind: bool) -> Result<(), AllocError>
+    ensures { OnOk result (text.new.items ≡ text.old.items ++ outside_words behind) }
+{
+    if behind {
+        put(text, " (a line outside the tables came before it)")
+    } else {
+        Ok(())
     }
 }
 
