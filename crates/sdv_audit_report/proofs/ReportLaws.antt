@@ -92,7 +92,8 @@ pub notes_same : (k : Kind) (style : Style) (report : Report) (p : Progress) (to
     found ≡ found_at k told p.course →
     standing_note style (counted true report.tally.lines) told.line report.audit.shapes.items
     ++ (notes_taken style (counted true report.tally.lines) told.line found
-    ++ notes_found style (counted true report.tally.lines) told.line found report.audit.bounded (has_outside report.tally) k report.audit.known.csd report.csd_line)
+    ++ notes_found style (counted true report.tally.lines) told.line found report.audit.bounded (has_outside report.tally) k report.audit.known.csd
+    report.csd_line)
     ≡ line_notes k style p told
 notes_same k style report p told found at is =
     let there : Findings = found_at k told p.course in
@@ -145,8 +146,8 @@ pub three_notes : (empty one two three a b c : List ℕ) → empty ≡ [] → on
 three_notes empty one two three a b c e f g h =
     h ∙ (ap (λ v. v ++ c) (g ∙ ap (λ v. v ++ b) (f ∙ ap (λ v. v ++ a) e)) ∙ append_assoc a b c)
 
-pub notes_are : (k : Kind) (style : Style) (n m : ℕ) (line : TraceLine) (xs ys : List Shape) (found : Findings) (a b c d : Bool) (v w : HostKnown) (csd_line : ℕ) →
-    n ≡ m → xs ≡ ys → a ≡ b → c ≡ d → v ≡ w →
+pub notes_are : (k : Kind) (style : Style) (n m : ℕ) (line : TraceLine) (xs ys : List Shape) (found : Findings) (a b c d : Bool) (v w : HostKnown)
+    (csd_line : ℕ) → n ≡ m → xs ≡ ys → a ≡ b → c ≡ d → v ≡ w →
     standing_note style n line xs ++ (notes_taken style n line found ++ notes_found style n line found a c k v.csd csd_line)
     ≡ standing_note style m line ys ++ (notes_taken style m line found ++ notes_found style m line found b d k w.csd csd_line)
 notes_are k style n m line xs ys found a b c d v w csd_line e f h i g =
