@@ -52,7 +52,8 @@ Blocks that the script gives, and the image of a file, which stays as it was.
   $ sdv sweep $EXAMPLES/production/sd_write_many.sdv $EXAMPLES/sd_block.card image --in blocks | tail -n 2; cmp image before
   without a mishap: done
   52 done, 0 faults, 0 wrong, 14 stopped
-  $ sdv sweep $EXAMPLES/production/sd_write_many.sdv $EXAMPLES/sd_block.card image | tail -n 2
+  $ sdv sweep $EXAMPLES/production/sd_write_many.sdv $EXAMPLES/sd_block.card image > table || echo status $?; tail -n 2 table
+  status 1
   without a mishap: stopped
   0 done, 0 faults, 0 wrong, 49 stopped
 

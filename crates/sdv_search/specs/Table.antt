@@ -183,3 +183,12 @@ are_wrong row =
 
 abbrev pub has_wrong : SweepTable → Bool
 has_wrong s = is_wrong s.plain || list_any are_wrong s.rows.items
+
+-- the run without a mishap does not come to its end
+abbrev pub is_stopped : RunEnd → Bool
+is_stopped (ends.Stopped fault) = true
+is_stopped end = false
+
+-- a sweep that is no good: a run comes to what is not allowed, or the run without a mishap does not come to its end
+abbrev pub fails : SweepTable → Bool
+fails s = has_wrong s || is_stopped s.plain

@@ -2,7 +2,7 @@
 
 ghost use Rattle.std.specs.Prelude.{◌≡◌, ◌++◌, IfOk, OnOk};
 ghost use Rattle.std.specs.List.{list_any};
-ghost use Rattle.sdv_search.specs.Table.{IsTable, are_wrong, end_word, has_wrong, is_wrong, line_text, padded, plain_text};
+ghost use Rattle.sdv_search.specs.Table.{IsTable, are_wrong, end_word, fails, has_wrong, is_stopped, is_wrong, line_text, padded, plain_text};
 ghost use Rattle.sdv_search.specs.Table.{added, busy_added, busy_text, errors_added, errors_text, failures_added, failures_text, losses_added, losses_text, row_added, row_text, rows_text, table_text, tally_of, tally_text};
 ghost use Rattle.sdv_search.specs.Table.{asks_ready, asks_register, can_have, cell_word, command_can_have, counted, ends_text, finds_busy, has_answer, is_switch, shows_errors};
 
@@ -220,10 +220,27 @@ fn are_wrong(row: &Row) -> bool
 }
 
 /// A run of a sweep comes to what is not allowed at the card.
-pub fn has_wrong(table: &SweepTable) -> bool
+fn has_wrong(table: &SweepTable) -> bool
     ensures { result ≡ has_wrong table.now }
 {
     is_wrong(&table.plain) || any_wrong(table.rows.as_slice())
+}
+
+/// A run did not come to its end, and not because of what is not allowed.
+fn is_stopped(end: &RunEnd) -> bool
+    ensures { result ≡ is_stopped end.now }
+{
+    match end {
+        RunEnd::Stopped(_) => true,
+        _ => false,
+    }
+}
+
+/// A run of a sweep comes to what is not allowed at the card, or the run without a mishap is stopped.
+pub fn fails(table: &SweepTable) -> bool
+    ensures { result ≡ fails table.now }
+{
+    has_wrong(table) || is_stopped(&table.plain)
 }
 
 /// A run with a mishap at the event of one of these rows does.
