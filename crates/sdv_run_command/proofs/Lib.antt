@@ -3,3 +3,4 @@ pub mod RegisterLaws
 pub mod TakenLaws
 pub mod RunLaws
 pub mod GivenLaws
+pub mod DigitLaws

@@ -2,7 +2,7 @@
 use Rattle.std.specs.Prelude.{◌≡◌, ◌≢◌, ◌<◌, ◌*◌, ◌-◌, ◌/◌, ◌%◌, ◌^◌, ◌⊎◌, ◌==◌, ◌&&◌, ◌||◌, Bool, ℕ, List, [], ◌∷◌, ◌++◌, Option, Some, None, Result, Ok, Err, IsUtf8, codes, length, nat_le, string_bytes, if◌then◌else◌}
 use Rattle.std.specs.Io.KnownBytes.{Keeps}
 use Rattle.std.specs.Borrow.{Bor}
-use Rattle.std.specs.List.{AllByRecursion}
+use Rattle.std.specs.List.{AllByRecursion, list_all}
 use Rattle.clap.specs.Words.{Text}
 use Rattle.sdv_card.specs.Card.{Block}
 use Rattle.sdv_image.specs.Images.{zeros}
@@ -13,6 +13,7 @@ use Rattle.sdv_description.specs.declared.card_desc.CardDesc.{CardDesc}
 use Rattle.sdv_description.specs.Gives.{Describes}
 use Rattle.sdv_description.specs.Gives.{Refuses as IsNoCard}
 use Rattle.sdv_description.specs.Layout.{image_size}
+use Rattle.sdv_behavior.specs.Schedules.{are_codes}
 use Rattle.sdv_behavior.specs.SimSteps.{SimState, SimSteps, card_shown}
 use Rattle.sdv_sim.specs.Made.{IsMade, IsRefused}
 use Rattle.sdv_controller.specs.Controlled.{ControllerSteps}
@@ -39,13 +40,24 @@ use Rattle.sdv_text.specs.Number.{IsNumber, value_of}
 abbrev pub is_space : (byte : ℕ) → Bool
 is_space byte = (byte == 32) || ((byte == 13) || (byte == 10))
 
--- 9 is no value of a schedule
+abbrev pub is_value : (byte : ℕ) → Bool
+is_value byte = nat_le 48 byte && nat_le byte 55
+
+-- 255 is no value of a card
 abbrev pub code_of : (byte : ℕ) → ℕ
-code_of byte = if nat_le 48 byte && nat_le byte 55 then byte - 48 else 9
+code_of byte = if is_value byte then byte - 48 else 255
 
 abbrev pub schedule_codes : (bytes : List ℕ) → List ℕ
 schedule_codes [] = []
 schedule_codes (byte ∷ bytes) = if is_space byte then schedule_codes bytes else code_of byte ∷ schedule_codes bytes
+
+-- each byte may stand in a schedule of digits
+abbrev pub is_schedule : (bytes : List ℕ) → Bool
+is_schedule bytes = list_all (λ byte. is_space byte || is_value byte) bytes
+
+-- a card has all values exactly where that is so
+abbrev pub DigitsAloneAreValues : Type 0
+DigitsAloneAreValues = (bytes : List ℕ) → are_codes (schedule_codes bytes) ≡ is_schedule bytes
 
 -- NEW IMAGES: `new:` and a number of blocks, which are all zeros
 

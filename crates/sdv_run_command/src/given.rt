@@ -130,7 +130,7 @@ pub fn codes_in<'a, S: Store>(
 }
 
 /// The values that the bytes of a schedule write: a digit from 0 to 7 is a value, a space and an end of a line are none,
-/// and any other byte is 9, which is no value.
+/// and any other byte is 255, which is no value of a card (`laws::digits_alone_are_values`).
 pub fn codes_of(alloc: Global, bytes: &[u8]) -> Result<Vec<u8>, AllocError>
     ensures { IfOk result (λ codes. codes.items ≡ schedule_codes bytes.now) }
 {
@@ -149,7 +149,7 @@ fn code_of(byte: u8) -> u8
 {
     match byte {
         b'0'..=b'7' => byte - b'0',
-        _ => 9,
+        _ => 255,
     }
 }
 
