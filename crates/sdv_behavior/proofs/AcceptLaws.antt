@@ -153,7 +153,7 @@ does_18 : (d : CardDesc) (deed : Deed) (n m argument : ℕ) (choice : Choice) (t
 does_18 d Loses n m argument choice t = refl
 does_18 d TakesUnheard n m argument choice t = ap (λ a. record { after = a; reply = None; erases = false }) (taken_18 d n m argument choice t)
 does_18 d (Takes error) n m argument choice t =
-    ap (λ a. record { after = a; reply = reply_of d (Cmd18 n) t true error choice.ready; erases = false }) (taken_18 d n m argument choice t)
+    ap (λ a. record { after = a; reply = reply_of d (Cmd18 n) t choice.app error choice.ready; erases = false }) (taken_18 d n m argument choice t)
 does_18 d Stays n m argument choice t = refl
 
 choice_18 : (d : CardDesc) (behavior : Behavior) (n m : ℕ) (checked : Bool) →
@@ -183,7 +183,7 @@ does_25 : (d : CardDesc) (deed : Deed) (n m argument : ℕ) (choice : Choice) (t
 does_25 d Loses n m argument choice t = refl
 does_25 d TakesUnheard n m argument choice t = ap (λ a. record { after = a; reply = None; erases = false }) (taken_25 d n m argument choice t)
 does_25 d (Takes error) n m argument choice t =
-    ap (λ a. record { after = a; reply = reply_of d (Cmd25 n) t true error choice.ready; erases = false }) (taken_25 d n m argument choice t)
+    ap (λ a. record { after = a; reply = reply_of d (Cmd25 n) t choice.app error choice.ready; erases = false }) (taken_25 d n m argument choice t)
 does_25 d Stays n m argument choice t = refl
 
 choice_25 : (d : CardDesc) (behavior : Behavior) (n m : ℕ) (checked : Bool) →

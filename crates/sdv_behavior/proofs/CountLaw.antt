@@ -16,7 +16,7 @@ use Rattle.sdv_card.specs.RowRules.{transfer_after, preset_allows}
 use Rattle.sdv_card.specs.States.{own_target}
 use Rattle.sdv_card.specs.Takes.{taken_as_of}
 use Rattle.sdv_behavior.specs.declared.behavior.Behavior.{Behavior}
-use Rattle.sdv_behavior.specs.declared.behavior.Behavior.TheVariants.{IsSlow}
+use Rattle.sdv_behavior.specs.declared.behavior.Behavior.TheVariants.{IsSlow, LosesCommandWhileBusy, ReportsErrorWhileBusy}
 use Rattle.sdv_description.specs.declared.card_desc.CardDesc.{CardDesc}
 use Rattle.sdv_behavior.specs.declared.card_state.CardState.{CardState}
 use Rattle.sdv_behavior.specs.declared.choice.Choice.{Choice}
@@ -77,6 +77,8 @@ stepped_count (Some state) s announced knows = λ k. no k
 
 pub settled_count : (behavior : Behavior) (s : CardState) (announced : ℕ) → Knows s announced → Knows (settled_by behavior s) announced
 settled_count IsSlow s announced knows = knows
+settled_count LosesCommandWhileBusy s announced knows = knows
+settled_count ReportsErrorWhileBusy s announced knows = knows
 settled_count behavior s announced knows = stepped_count (own_target s.state s.transfer) s announced knows
 
 -- THE COUNT THAT IS READ is at most the one that the host announced

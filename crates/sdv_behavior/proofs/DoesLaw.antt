@@ -1,5 +1,5 @@
 -- What comes of a row at a simulated card is what the tables allow.
-use Rattle.std.proofs.Common.{◌≡◌, ℕ, ◌<◌, ◌==◌, ◌^◌, inl, inr, refl, sym, ap, subst, ◌∙◌, Bool, true, false, List, Option, Some, None, if◌then◌else◌, lit<, eqb-true}
+use Rattle.std.proofs.Common.{◌≡◌, ℕ, ◌<◌, ◌==◌, ◌&&◌, ◌^◌, inl, inr, refl, sym, ap, subst, ◌∙◌, Bool, true, false, List, Option, Some, None, if◌then◌else◌, lit<, eqb-true}
 use Rattle.std.specs.Prelude.{IfSome}
 use Rattle.std.proofs.lemmas.List.Elements.{recursion_from_All}
 use Rattle.sdv_registers.specs.declared.kind.Kind.{Kind}
@@ -26,7 +26,7 @@ use Rattle.sdv_card.specs.StateTable.{rows, targets}
 use Rattle.sdv_card.specs.Taken.{Taken, ContentsAfter}
 use Rattle.sdv_card.proofs.Members.{May-targets}
 use Rattle.sdv_behavior.specs.declared.behavior.Behavior.{Behavior}
-use Rattle.sdv_behavior.specs.declared.behavior.Behavior.TheVariants.{Prompt, LosesCommand, LosesAnswer, IsSlow, ReportsError, Refuses, CutsPhase, FailsSwitch, LosesCrcStatus}
+use Rattle.sdv_behavior.specs.declared.behavior.Behavior.TheVariants.{Prompt, LosesCommand, LosesAnswer, IsSlow, ReportsError, Refuses, CutsPhase, FailsSwitch, LosesCrcStatus, OmitsAppCommand, LosesCommandWhileBusy, ReportsErrorWhileBusy}
 use Rattle.sdv_description.specs.declared.card_desc.CardDesc.{CardDesc}
 use Rattle.sdv_behavior.specs.declared.card_state.CardState.{CardState}
 use Rattle.sdv_behavior.specs.declared.choice.Choice.{Choice}
@@ -88,6 +88,12 @@ deed_fits FailsSwitch Cmd0 = tt
 deed_fits FailsSwitch row = tt
 deed_fits LosesCrcStatus Cmd0 = tt
 deed_fits LosesCrcStatus row = tt
+deed_fits OmitsAppCommand Cmd0 = tt
+deed_fits OmitsAppCommand row = tt
+deed_fits LosesCommandWhileBusy Cmd0 = tt
+deed_fits LosesCommandWhileBusy row = tt
+deed_fits ReportsErrorWhileBusy Cmd0 = tt
+deed_fits ReportsErrorWhileBusy row = tt
 
 -- the blocks that the host announced last, as the deed leaves them
 abbrev pub announced_by : Deed → Row → ℕ → ℕ
@@ -207,7 +213,7 @@ module _ (d : CardDesc) (is : IsDescribed d) (csd : IsRegister 15 d.csd) (order 
   -- it takes the row and answers
   answered_row : (row : Row) (error : Bool) (choice : Choice) (contents' : Partitions) → RowLegal row before →
       ((heard : Bool) → Taken row heard argument before (taken row choice contents')) →
-      RowTold order row argument before (taken row choice contents') (reply_of d row t true error choice.ready)
+      RowTold order row argument before (taken row choice contents') (reply_of d row t choice.app error choice.ready)
   answered_row Cmd0 error choice contents' legal card =
       record { answer = Sent; told = inl refl; is_reply = tt; answered = record { card = card true; error = refl } }
   answered_row Cmd1 error choice contents' legal card =
@@ -276,9 +282,9 @@ module _ (d : CardDesc) (is : IsDescribed d) (csd : IsRegister 15 d.csd) (order 
         };
       }
   answered_row Cmd55 error choice contents' legal card =
-      let s = status_shows true false error t.state in
+      let s = status_shows choice.app false error t.state in
       record {
-        answer = Replied (R1 55 (status_word t.state true false error));
+        answer = Replied (R1 55 (status_word t.state choice.app false error));
         told = refl;
         is_reply = (lit< tt, s.is_word);
         answered = record {
@@ -308,9 +314,9 @@ module _ (d : CardDesc) (is : IsDescribed d) (csd : IsRegister 15 d.csd) (order 
         };
       }
   answered_row row error choice contents' legal card =
-      let s = status_shows (shows_app row) false error t.state in
+      let s = status_shows (shows_app row && choice.app) false error t.state in
       record {
-        answer = Replied (R1 (row_index row) (status_word t.state (shows_app row) false error));
+        answer = Replied (R1 (row_index row) (status_word t.state (shows_app row && choice.app) false error));
         told = refl;
         is_reply = (index_small row, s.is_word);
         answered = record {

@@ -17,7 +17,7 @@ use Rattle.sdv_card.specs.Settled.{Settled}
 use Rattle.sdv_card.specs.States.{own_target}
 use Rattle.sdv_card.specs.Takes.{taken_as_of, matches}
 use Rattle.sdv_behavior.specs.declared.behavior.Behavior.{Behavior}
-use Rattle.sdv_behavior.specs.declared.behavior.Behavior.TheVariants.{IsSlow}
+use Rattle.sdv_behavior.specs.declared.behavior.Behavior.TheVariants.{IsSlow, LosesCommandWhileBusy, ReportsErrorWhileBusy}
 use Rattle.sdv_description.specs.declared.card_desc.CardDesc.{CardDesc}
 use Rattle.sdv_behavior.specs.declared.card_state.CardState.{CardState}
 use Rattle.sdv_behavior.specs.CardOf.{card_with}
@@ -58,6 +58,8 @@ module _ (d : CardDesc) (is : IsDescribed d) (csd : IsRegister 15 d.csd) (behavi
 
   pub settled_law : (b : Behavior) (s : CardState) → Settled (card_with d s announced contents) (card_with d (settled_by b s) announced contents)
   settled_law IsSlow s = inl refl
+  settled_law LosesCommandWhileBusy s = inl refl
+  settled_law ReportsErrorWhileBusy s = inl refl
   settled_law b s = settles s (own_target s.state s.transfer) refl
 
 -- the card's own step leaves the mode
@@ -67,6 +69,8 @@ stepped_mode s (Some state) = refl
 
 settled_mode : (b : Behavior) (s : CardState) → s.mode ≡ (settled_by b s).mode
 settled_mode IsSlow s = refl
+settled_mode LosesCommandWhileBusy s = refl
+settled_mode ReportsErrorWhileBusy s = refl
 settled_mode b s = stepped_mode s (own_target s.state s.transfer)
 
 -- an exchange of the tables, as the reply tells it

@@ -122,9 +122,10 @@ choice_fits d behavior row checked =
 
 -- THE OTHER PARTS
 
-app_law : (row : Row) → May (app_after row) (app_next row)
-app_law Cmd55 = there (here refl)
-app_law row = here refl
+app_law : (row : Row) (sets : Bool) → May (app_after row) (app_next row sets)
+app_law Cmd55 true = there (here refl)
+app_law Cmd55 false = here refl
+app_law row sets = here refl
 
 preset_law : (k : Kind) (row : Row) (preset : ℕ) → May (preset_after k row preset) (preset_next row preset)
 preset_law Sd Cmd0 preset = here refl
@@ -198,7 +199,7 @@ module _ (d : CardDesc) (is : IsDescribed d) (row : Row) (argument : ℕ) (t : C
         same = same_card d t (taken_by d row argument choice t) announced (announced_with row announced) contents contents';
         state = state_law d.kind row choice.ready t.state m;
         reached = reached_law d.kind row d.block_unit choice.ready t.state fits.ready m;
-        app = app_law row;
+        app = app_law row choice.app;
         erase = refl;
         block_length = length_law d.block_length row d.block_unit t.block_length is.length;
         preset = preset_law d.kind row t.preset;

@@ -5,7 +5,7 @@ use Rattle.sdv_card.specs.declared.state.State.{State}
 use Rattle.sdv_card.specs.declared.state.Transfer.TheVariants.{Nothing}
 use Rattle.sdv_card.specs.declared.command.Order.{Order}
 use Rattle.sdv_card.specs.declared.command.Row.{Row}
-use Rattle.sdv_card.specs.declared.command.Row.TheVariants.{Cmd0, Cmd6, Cmd38, Acmd41}
+use Rattle.sdv_card.specs.declared.command.Row.TheVariants.{Cmd0, Cmd6, Cmd38, Cmd55, Acmd41}
 use Rattle.sdv_card.specs.declared.command.Setting.TheVariants.{Access}
 use Rattle.sdv_card.specs.declared.command.Response.{Response}
 use Rattle.sdv_card.specs.declared.command.Response.TheVariants.{CardStatus, NewAddress}
@@ -16,7 +16,7 @@ use Rattle.sdv_card.specs.States.{own_target}
 use Rattle.sdv_card.specs.Responses.{response_of}
 use Rattle.sdv_card.specs.Takes.{taken_as_of, matches}
 use Rattle.sdv_behavior.specs.declared.behavior.Behavior.{Behavior}
-use Rattle.sdv_behavior.specs.declared.behavior.Behavior.TheVariants.{LosesCommand, LosesAnswer, IsSlow, ReportsError, Refuses, FailsSwitch}
+use Rattle.sdv_behavior.specs.declared.behavior.Behavior.TheVariants.{LosesCommand, LosesAnswer, IsSlow, ReportsError, Refuses, FailsSwitch, OmitsAppCommand, LosesCommandWhileBusy, ReportsErrorWhileBusy}
 use Rattle.sdv_description.specs.declared.card_desc.CardDesc.{CardDesc}
 use Rattle.sdv_behavior.specs.declared.card_state.CardState.{CardState}
 use Rattle.sdv_behavior.specs.declared.choice.Choice.{Choice}
@@ -27,13 +27,15 @@ use Rattle.sdv_description.specs.Layout.{boot_capacity}
 use Rattle.sdv_behavior.specs.RowTaken.{taken_by, stays}
 use Rattle.sdv_behavior.specs.Replies.{reply_of}
 
--- OWN STEP: done before the command comes, unless the card is slow
+-- OWN STEP: done before the command comes, unless the card is slow, or still busy
 abbrev pub stepped_to : Option State → CardState → CardState
 stepped_to None s = s
 stepped_to (Some state) s = record s { state = state; transfer = Nothing }
 
 abbrev pub settled_by : Behavior → CardState → CardState
 settled_by IsSlow s = s
+settled_by LosesCommandWhileBusy s = s
+settled_by ReportsErrorWhileBusy s = s
 settled_by behavior s = stepped_to (own_target s.state s.transfer) s
 
 -- an error is reported in an R1 or an R6
@@ -45,8 +47,10 @@ reports response = false
 -- WHAT IT DOES with a row, by how the row is answered
 abbrev pub deed_of : Behavior → Response → Deed
 deed_of LosesCommand response = Loses
+deed_of LosesCommandWhileBusy response = Loses
 deed_of LosesAnswer response = TakesUnheard
 deed_of ReportsError response = Takes (reports response)
+deed_of ReportsErrorWhileBusy response = Takes (reports response)
 deed_of Refuses response = if reports response then Stays else Takes false
 deed_of behavior response = Takes false
 
@@ -68,12 +72,18 @@ switch_fails FailsSwitch row boot_capacity = true
 switch_fails behavior (Cmd6 (Access partition)) boot_capacity = not (has_partition partition boot_capacity)
 switch_fails behavior row boot_capacity = false
 
+-- CMD55 sets the application flag, which its answer shows, unless the card takes it as an ordinary command
+abbrev pub sets_app : Behavior → Row → Bool
+sets_app OmitsAppCommand Cmd55 = false
+sets_app behavior row = true
+
 -- what a card chooses that takes a row
 abbrev pub choice_of : CardDesc → Behavior → Row → (checked : Bool) → Choice
 choice_of d behavior row checked =
     record {
       ready = is_ready behavior row d.block_unit checked;
       switch_fails = switch_fails behavior row (boot_capacity d);
+      app = sets_app behavior row;
     }
 
 -- CMD38 writes zeros
@@ -92,7 +102,7 @@ does d TakesUnheard row argument choice t =
 does d (Takes error) row argument choice t =
     record {
       after = taken_by d row argument choice t;
-      reply = reply_of d row t true error choice.ready;
+      reply = reply_of d row t choice.app error choice.ready;
       erases = is_erase row;
     }
 does d Stays row argument choice t =

@@ -34,10 +34,10 @@ rca_next described Cmd3Sd rca = Some described
 rca_next described Cmd3Emmc rca = Some 1
 rca_next described row rca = rca
 
--- APPLICATION FLAG
-abbrev pub app_next : Row → Bool
-app_next Cmd55 = true
-app_next row = false
+-- APPLICATION FLAG: CMD55 sets it, or is taken as an ordinary command
+abbrev pub app_next : Row → (sets : Bool) → Bool
+app_next Cmd55 sets = sets
+app_next row sets = false
 
 -- BLOCK LENGTH
 abbrev pub length_next : (described : ℕ) → Row → ℕ → ℕ
@@ -103,7 +103,7 @@ abbrev pub taken_by : CardDesc → Row → (argument : ℕ) → Choice → CardS
 taken_by d row argument choice t = record {
   state = state_next d.kind row choice.ready t.state;
   rca = rca_next d.rca row t.rca;
-  app = app_next row;
+  app = app_next row choice.app;
   block_length = length_next d.block_length row t.block_length;
   erase = erase_after row t.erase;
   mode = mode_next row choice.switch_fails t.mode;

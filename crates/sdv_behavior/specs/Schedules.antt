@@ -3,7 +3,7 @@
 use Rattle.std.specs.Prelude.{ℕ, Bool, ◌==◌, List, [], ◌∷◌, Option, Some, None, is_some, if◌then◌else◌}
 use Rattle.std.specs.List.{list_all}
 use Rattle.sdv_behavior.specs.declared.behavior.Behavior.{Behavior}
-use Rattle.sdv_behavior.specs.declared.behavior.Behavior.TheVariants.{Prompt, LosesCommand, LosesAnswer, IsSlow, ReportsError, Refuses, CutsPhase, FailsSwitch, LosesCrcStatus}
+use Rattle.sdv_behavior.specs.declared.behavior.Behavior.TheVariants.{Prompt, LosesCommand, LosesAnswer, IsSlow, ReportsError, Refuses, CutsPhase, FailsSwitch, LosesCrcStatus, OmitsAppCommand, LosesCommandWhileBusy, ReportsErrorWhileBusy}
 
 abbrev pub behavior_of_code : ℕ → Option Behavior
 behavior_of_code code =
@@ -16,6 +16,9 @@ behavior_of_code code =
     else if code == 6 then Some CutsPhase
     else if code == 7 then Some FailsSwitch
     else if code == 8 then Some LosesCrcStatus
+    else if code == 9 then Some OmitsAppCommand
+    else if code == 10 then Some LosesCommandWhileBusy
+    else if code == 11 then Some ReportsErrorWhileBusy
     else None
 
 abbrev pub first_behavior : List Behavior → Behavior

@@ -3,7 +3,7 @@
 ghost use Rattle.std.specs.Prelude.{◌≡◌};
 ghost use Rattle.sdv_card.specs.Modes.{has_partition};
 ghost use Rattle.sdv_description.specs.Layout.{boot_capacity};
-ghost use Rattle.sdv_behavior.specs.Heard.{is_ready, switch_fails, choice_of};
+ghost use Rattle.sdv_behavior.specs.Heard.{is_ready, switch_fails, sets_app, choice_of};
 
 use crate::behavior::Behavior;
 use sdv_card::{Partition, Row, Setting};
@@ -16,6 +16,8 @@ pub struct Choice {
     pub ready: bool,
     /// CMD6 fails.
     pub switch_fails: bool,
+    /// CMD55 sets the application flag, which its answer shows.
+    pub app: bool,
 }
 
 /// CMD1 or ACMD41 makes the card ready.
@@ -55,6 +57,16 @@ fn switch_fails(behavior: Behavior, row: Row, boot_capacity: u64) -> bool
     }
 }
 
+/// CMD55 sets the application flag, unless the card takes it as an ordinary command.
+fn sets_app(behavior: Behavior, row: Row) -> bool
+    ensures { result ≡ sets_app behavior row }
+{
+    match (behavior, row) {
+        (Behavior::OmitsAppCommand, Row::Cmd55) => false,
+        _ => true,
+    }
+}
+
 /// How the card takes the row.
 pub fn choice_of(desc: &CardDesc, behavior: Behavior, row: Row, checked: bool) -> Choice
     ensures { result ≡ choice_of desc.now behavior row checked }
@@ -62,5 +74,6 @@ pub fn choice_of(desc: &CardDesc, behavior: Behavior, row: Row, checked: bool) -
     Choice {
         ready: is_ready(behavior, row, desc.block_unit, checked),
         switch_fails: switch_fails(behavior, row, desc.boot_capacity()),
+        app: sets_app(behavior, row),
     }
 }

@@ -58,12 +58,13 @@ impl Heard {
     }
 }
 
-/// The card after a step of its own, unless it has none or is slow.
+/// The card after a step of its own, unless it has none, is slow, or is still busy.
 fn settled_by(behavior: Behavior, s: &CardState) -> CardState
     ensures { result ≡ settled_by behavior s.now }
 {
     match (behavior, own_target(s.state, s.transfer)) {
-        (Behavior::IsSlow, _) | (_, None) => *s,
+        (Behavior::IsSlow | Behavior::LosesCommandWhileBusy | Behavior::ReportsErrorWhileBusy, _)
+        | (_, None) => *s,
         (_, Some(state)) => CardState {
             state,
             transfer: Transfer::Nothing,
@@ -88,9 +89,9 @@ fn row_deed(behavior: Behavior, row: Row) -> Deed
 {
     match (row, behavior) {
         (Row::Cmd0, _) => Deed::Takes { error: false },
-        (_, Behavior::LosesCommand) => Deed::Loses,
+        (_, Behavior::LosesCommand | Behavior::LosesCommandWhileBusy) => Deed::Loses,
         (_, Behavior::LosesAnswer) => Deed::TakesUnheard,
-        (_, Behavior::ReportsError) => Deed::Takes {
+        (_, Behavior::ReportsError | Behavior::ReportsErrorWhileBusy) => Deed::Takes {
             error: reports(response(row)),
         },
         (_, Behavior::Refuses) if reports(response(row)) => Deed::Stays,
@@ -129,7 +130,7 @@ fn does(
         },
         Deed::Takes { error } => Heard {
             after: taken_by(desc, row, argument, choice, t),
-            reply: reply_of(desc, row, t, true, error, choice.ready),
+            reply: reply_of(desc, row, t, choice.app, error, choice.ready),
             erases: is_erase(row),
         },
         Deed::Stays => Heard {

@@ -28,7 +28,7 @@ fn cid_of(kind: Kind) -> [u8; 15]
     }
 }
 
-/// The answer shows bit 5, where the card took the row.
+/// The answer shows bit 5, where the card took the row, and CMD55 not as an ordinary command.
 fn shows_app(row: Row) -> bool
     ensures { result ≡ shows_app row }
 {
@@ -48,16 +48,16 @@ fn shows_switch(row: Row) -> bool
     }
 }
 
-/// The answer of a card that took the row, or stayed.
+/// The answer of a card that took the row, or stayed. With `app` bit 5 is set where the row shows it.
 pub fn reply_of(
     desc: &CardDesc,
     row: Row,
     t: &CardState,
-    took: bool,
+    app: bool,
     error: bool,
     ready: bool,
 ) -> Option<Reply>
-    ensures reply { result ≡ reply_of desc.now row t.now took error ready }
+    ensures reply { result ≡ reply_of desc.now row t.now app error ready }
     ensures index { IfSome result HasIndex }
 {
     let reply = match row {
@@ -73,7 +73,7 @@ pub fn reply_of(
             index: row_index(row),
             status: status_word(
                 t.state,
-                took && shows_app(row),
+                shows_app(row) && app,
                 shows_switch(row) && t.mode.error,
                 error,
             ),

@@ -50,11 +50,11 @@ fn rca_next(described: u16, row: Row, rca: Option<u16>) -> Option<u16>
 }
 
 /// The application flag.
-fn app_next(row: Row) -> bool
-    ensures { result ≡ app_next row }
+fn app_next(row: Row, sets: bool) -> bool
+    ensures { result ≡ app_next row sets }
 {
     match row {
-        Row::Cmd55 => true,
+        Row::Cmd55 => sets,
         _ => false,
     }
 }
@@ -179,7 +179,7 @@ pub fn taken_by(
     CardState {
         state: state_next(desc.kind, row, choice.ready, t.state),
         rca: rca_next(desc.rca, row, t.rca),
-        app: app_next(row),
+        app: app_next(row, choice.app),
         block_length: length_next(desc.block_length, row, t.block_length),
         erase: erase_after(row, t.erase),
         mode: mode_next(row, choice.switch_fails, t.mode),

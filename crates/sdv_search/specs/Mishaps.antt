@@ -1,7 +1,7 @@
 -- THE MISHAPS of a run in words, a line each, with the line of the script. Which mishaps these are is not said.
 use Rattle.std.specs.Prelude.{◌≡◌, ◌++◌, ℕ, List, [], ◌∷◌, Option, Some, None, codes, decimal, flat_map, nat_lt, if◌then◌else◌, slice_get}
 use Rattle.sdv_behavior.specs.declared.behavior.Behavior.{Behavior}
-use Rattle.sdv_behavior.specs.declared.behavior.Behavior.TheVariants.{Prompt, LosesCommand, LosesAnswer, IsSlow, ReportsError, Refuses, CutsPhase, FailsSwitch, LosesCrcStatus}
+use Rattle.sdv_behavior.specs.declared.behavior.Behavior.TheVariants.{Prompt, LosesCommand, LosesAnswer, IsSlow, ReportsError, Refuses, CutsPhase, FailsSwitch, LosesCrcStatus, OmitsAppCommand, LosesCommandWhileBusy, ReportsErrorWhileBusy}
 use Rattle.sdv_check.specs.Verified.{IsGraphOfText}
 use Rattle.sdv_graph.specs.Graph.{Graph}
 use Rattle.sdv_refute.specs.declared.next.Next.{Next}
@@ -24,6 +24,8 @@ words_before IsSlow = codes "the card is not ready at "
 words_before Refuses = codes "the card refuses "
 words_before FailsSwitch = codes "the switch by "
 words_before LosesCrcStatus = codes "the CRC status of "
+words_before OmitsAppCommand = codes "the answer to "
+words_before ReportsErrorWhileBusy = codes "the answer to "
 words_before behavior = []
 
 abbrev pub words_after : Behavior → List ℕ
@@ -34,6 +36,9 @@ words_after Refuses = codes " with an error"
 words_after CutsPhase = codes " is cut"
 words_after FailsSwitch = codes " fails"
 words_after LosesCrcStatus = codes " is lost, and the card programs the blocks"
+words_after OmitsAppCommand = codes " lacks APP_CMD"
+words_after LosesCommandWhileBusy = codes " is lost, and the card is still busy"
+words_after ReportsErrorWhileBusy = codes " shows an error while the card is busy"
 words_after IsSlow = []
 words_after Prompt = codes " is as it should be"
 

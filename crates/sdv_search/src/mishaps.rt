@@ -146,12 +146,18 @@ fn words_before(behavior: Behavior) -> &'static str
     ensures { result.now ≡ words_before behavior }
 {
     match behavior {
-        Behavior::LosesAnswer | Behavior::ReportsError => "the answer to ",
+        Behavior::LosesAnswer
+        | Behavior::ReportsError
+        | Behavior::OmitsAppCommand
+        | Behavior::ReportsErrorWhileBusy => "the answer to ",
         Behavior::IsSlow => "the card is not ready at ",
         Behavior::Refuses => "the card refuses ",
         Behavior::FailsSwitch => "the switch by ",
         Behavior::LosesCrcStatus => "the CRC status of ",
-        Behavior::Prompt | Behavior::LosesCommand | Behavior::CutsPhase => "",
+        Behavior::Prompt
+        | Behavior::LosesCommand
+        | Behavior::CutsPhase
+        | Behavior::LosesCommandWhileBusy => "",
     }
 }
 
@@ -166,6 +172,9 @@ fn words_after(behavior: Behavior) -> &'static str
         Behavior::CutsPhase => " is cut",
         Behavior::FailsSwitch => " fails",
         Behavior::LosesCrcStatus => " is lost, and the card programs the blocks",
+        Behavior::OmitsAppCommand => " lacks APP_CMD",
+        Behavior::LosesCommandWhileBusy => " is lost, and the card is still busy",
+        Behavior::ReportsErrorWhileBusy => " shows an error while the card is busy",
         Behavior::IsSlow => "",
         Behavior::Prompt => " is as it should be",
     }

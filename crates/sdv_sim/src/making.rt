@@ -14,7 +14,7 @@ use sdv_description::CardDesc;
 use sdv_image::{Image, SimFault};
 use std::alloc::Global;
 
-/// Each value is one of a schedule, 0 to 8.
+/// Each value is one of a schedule, 0 to 11.
 fn are_codes(codes: &[u8]) -> bool
     ensures { result ≡ are_codes codes.now }
 {
@@ -45,7 +45,7 @@ impl<I: Image + Drop> Sim<I> {
     ///
     /// # Errors
     ///
-    /// [`SimFault::Description`] where a value of the schedule is above 8, [`SimFault::ImageLength`] where the image
+    /// [`SimFault::Description`] where a value of the schedule is above 11, [`SimFault::ImageLength`] where the image
     /// has not as many blocks as the card, [`SimFault::ImageRead`] where its first block cannot be read, and
     /// [`SimFault::Memory`]: the first of them. The image is dropped then, its blocks unchanged.
     pub fn new(alloc: Global, desc: CardDesc, image: I, schedule: &[u8]) -> Result<Sim<I>, SimFault>

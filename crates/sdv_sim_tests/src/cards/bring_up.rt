@@ -104,14 +104,19 @@ fn with_error(answer: Answer) -> Answer {
 fn with_code(code: u8, place: usize, answer: Answer) -> Answer {
     match (code, place) {
         (_, 0) => answer,
-        (1 | 2, _) => Answer::TimeOut,
+        (1 | 2 | 10, _) => Answer::TimeOut,
         (3, 3) => Answer::Reply(Reply::R3(0x00ff_8000)),
         // a stay has no application command to answer
         (5, 2) => Answer::Reply(Reply::R1 {
             index: 55,
             status: 0x8_0100,
         }),
-        (4 | 5, _) => with_error(answer),
+        // CMD55 as an ordinary command
+        (9, 2) => Answer::Reply(Reply::R1 {
+            index: 55,
+            status: 0x100,
+        }),
+        (4 | 5 | 11, _) => with_error(answer),
         _ => answer,
     }
 }
@@ -121,7 +126,10 @@ fn meets(rt: &impl Abort, card: &mut Port, code: u8, place: usize, row: &Exchang
     let found = ask(rt, card, row.0, row.1, row.2);
     same(rt, &found, &with_code(code, place, row.3), &(code, place));
     // a lost command and a stay leave the card as it was
-    if matches!((code, place), (1 | 5, 5) | (1 | 5, 7) | (1, 4)) {
+    if matches!(
+        (code, place),
+        (1 | 5 | 10, 5) | (1 | 5 | 10, 7) | (1 | 10, 4)
+    ) {
         let found = ask(rt, card, row.0, row.1, row.2);
         same(rt, &found, &row.3, &("again", code, place));
     }
@@ -134,7 +142,7 @@ fn codes(rt: HostRuntime) {
     let rows = block_bring_up();
     let desc = CardDesc::parse(BLOCK_CARD).expect(&rt, "a description");
     let mut blocks = image(&rt, alloc, 1024, 0, 0);
-    for code in 0..7 {
+    for code in 0..12 {
         for place in 0..9 {
             let mut schedule = [0; 9];
             schedule[place] = code;

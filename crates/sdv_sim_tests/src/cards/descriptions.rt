@@ -70,8 +70,8 @@ type Refusal = (&'static str, usize, u8, Option<SimFault>);
 static REFUSALS: [Refusal; 9] = [
     (BYTE_CARD, 2048, 6, None),
     (BYTE_CARD, 2048, 7, None),
-    (BYTE_CARD, 2048, 8, None),
-    (BYTE_CARD, 1536, 9, Some(SimFault::Description)),
+    (BYTE_CARD, 2048, 11, None),
+    (BYTE_CARD, 1536, 12, Some(SimFault::Description)),
     (BYTE_CARD, 1536, 0, Some(SimFault::ImageLength)),
     (BYTE_CARD, 2560, 0, Some(SimFault::ImageLength)),
     (BLOCK_CARD, 1023 * 512, 0, Some(SimFault::ImageLength)),

@@ -1,6 +1,6 @@
 //! Reads, writes, erases and waits, and what is answered to events that are not legal or not in bounds.
 
-use crate::shared::{Port, block_bring_up, play, port, r1, reads, replies, write};
+use crate::shared::{Port, ask, block_bring_up, play, port, r1, reads, replies, write};
 use crate::texts::BLOCK_CARD;
 use sdv_card::{Answer, CardPort, DataEnd, WaitEnd};
 use sdv_frames::Expect;
@@ -89,6 +89,36 @@ fn crc_status_lost(rt: HostRuntime) {
     replies(&rt, &mut card, 12, 0, 0xd00);
     assert!(rt; end == DataEnd::Cut && card.wait() == WaitEnd::Ok);
     reads(&rt, &mut card, 4, 0x22);
+}
+
+/// A command is lost, or answered with an error, while a card programs, and the card still programs; so with a read whose
+/// phase is over, which a card that is not disturbed ends by itself.
+#[test]
+fn busy(rt: HostRuntime) {
+    let mut card = ready(&rt, rt.alloc(), &[0, 0, 10, 11, 0, 0, 0, 11]);
+    let end = write(&rt, &mut card, 3, 0x11);
+    let lost = ask(&rt, &mut card, 13, RCA, Expect::R1(13));
+    replies(&rt, &mut card, 13, RCA, 0x8_0e00);
+    replies(&rt, &mut card, 13, RCA, 0x900);
+    reads(&rt, &mut card, 3, 0x11);
+    replies(&rt, &mut card, 13, RCA, 0x8_0900);
+    assert!(rt; (end, lost) == (DataEnd::Ok, Answer::TimeOut));
+    let mut card = ready(&rt, rt.alloc(), &[0, 11, 10]);
+    replies(&rt, &mut card, 17, 3, 0x900);
+    replies(&rt, &mut card, 13, RCA, 0x8_0b00);
+    let lost = ask(&rt, &mut card, 13, RCA, Expect::R1(13));
+    let mut blocks = [[0; 512]];
+    let received = card.data_in(1, &mut blocks);
+    assert!(rt; (lost, received) == (Answer::TimeOut, DataEnd::Ok) && blocks == [[0x33; 512]]);
+}
+
+/// A card that takes CMD55 as an ordinary command takes the next one so too.
+#[test]
+fn no_app_cmd(rt: HostRuntime) {
+    let mut card = ready(&rt, rt.alloc(), &[9]);
+    let rows = [r1(55, RCA, 0x900), r1(13, RCA, 0x900), r1(55, RCA, 0x920)];
+    play(&rt, &mut card, &rows);
+    replies(&rt, &mut card, 13, 0, 0x920);
 }
 
 /// Events that are not legal or not in bounds: nothing comes of them, and each uses up a value of the schedule.

@@ -111,27 +111,28 @@ fn whole_runs(rt: HostRuntime) {
 
 /// Where an event of the bring-up meets one of these values of a schedule: its line and those of what is tried again, and the
 /// run's end. Any other value changes nothing.
-static LOST: [(usize, &[u8], &str, &str); 15] = [
-    (1, &[1], "CMD8 000001aa timeout\n", "busy"),
+static LOST: [(usize, &[u8], &str, &str); 16] = [
+    (1, &[1, 10], "CMD8 000001aa timeout\n", "busy"),
     (1, &[2], "CMD8 000001aa timeout\n", "done"),
-    (2, &[1, 2], "CMD55 00000000 timeout\n", "lost55"),
-    (2, &[4], "CMD55 00000000 R1 00080120\n", "done"),
+    (2, &[1, 2, 10], "CMD55 00000000 timeout\n", "lost55"),
+    (2, &[4, 11], "CMD55 00000000 R1 00080120\n", "done"),
     (2, &[5], "CMD55 00000000 R1 00080100\n", "lost55"),
-    (3, &[1, 2], "CMD41 40ff8000 timeout\n", "lost41"),
+    (2, &[9], "CMD55 00000000 R1 00000100\n", "lost55"),
+    (3, &[1, 2, 10], "CMD41 40ff8000 timeout\n", "lost41"),
     (
         3,
         &[3],
         "CMD41 40ff8000 R3 00ff8000\nCMD55 00000000 R1 00000120\nCMD41 40ff8000 R3 c0ff8000\n",
         "done",
     ),
-    (4, &[1, 2], "CMD2 00000000 timeout\n", "cid"),
-    (5, &[1, 2], "CMD3 00000000 timeout\n", "rca"),
-    (5, &[4, 5], "CMD3 00000000 R6 12342500\n", "rca"),
-    (6, &[1, 2], "CMD9 12340000 timeout\n", "csd"),
-    (7, &[1, 2], "CMD7 12340000 timeout\n", "select"),
-    (7, &[4, 5], "CMD7 12340000 R1 00080700\n", "select"),
-    (8, &[1, 2], "CMD16 00000200 timeout\n", "blen"),
-    (8, &[4, 5], "CMD16 00000200 R1 00080900\n", "blen"),
+    (4, &[1, 2, 10], "CMD2 00000000 timeout\n", "cid"),
+    (5, &[1, 2, 10], "CMD3 00000000 timeout\n", "rca"),
+    (5, &[4, 5, 11], "CMD3 00000000 R6 12342500\n", "rca"),
+    (6, &[1, 2, 10], "CMD9 12340000 timeout\n", "csd"),
+    (7, &[1, 2, 10], "CMD7 12340000 timeout\n", "select"),
+    (7, &[4, 5, 11], "CMD7 12340000 R1 00080700\n", "select"),
+    (8, &[1, 2, 10], "CMD16 00000200 timeout\n", "blen"),
+    (8, &[4, 5, 11], "CMD16 00000200 R1 00080900\n", "blen"),
 ];
 
 /// The lines at an event that meets a value of a schedule, where they are not its own, and the run's end.
@@ -201,7 +202,7 @@ fn lost_events(rt: HostRuntime) {
     let desc = CardDesc::parse(BLOCK_CARD).expect(&rt, "a description");
     let script = accepted(&rt, alloc, BRING_UP);
     let mut blocks = image(&rt, alloc, 1024, 0, 0);
-    for code in 0..7 {
+    for code in 0..12 {
         for place in 0..9 {
             let mut schedule = [0; 9];
             schedule[place] = code;
