@@ -91,6 +91,47 @@ In an open transfer the blocks are stored, and the card waits for CMD12. Elsewhe
   $ as 'CMD17: CRC status lost\n2nd line 33: CRC status lost\n3rd line 28: CRC status lost\nCMD6: CRC status lost\n' ''
   done
 
+CMD55 is taken as an ordinary command: its answer lacks APP_CMD, and the card expects no application command. At other events
+these words say nothing.
+
+  $ for names in 'CMD55: no APP_CMD' 'line 11: no APP_CMD' 'event 3: no APP_CMD'; do
+  >   echo "$names" > names; sdv try $EXAMPLES/hosts/seabios.sdv $card new:1024 names 2>&1 | tail -n 3
+  > done
+  CMD55 00000000 R1 00000100
+  wrong CMD41 40ff8000
+  line 12: CMD41 comes to a card in idle state without the application flag
+  CMD55 00000000 R1 00000100
+  wrong CMD41 40ff8000
+  line 12: CMD41 comes to a card in idle state without the application flag
+  CMD55 00000000 R1 00000100
+  wrong CMD41 40ff8000
+  line 12: CMD41 comes to a card in idle state without the application flag
+  $ as 'CMD17: no APP_CMD\n2nd line 33: no APP_CMD\n3rd line 28: no APP_CMD\nCMD6: no APP_CMD\nCMD41: no APP_CMD\nCMD0: no APP_CMD\n' ''
+  done
+
+A command is lost, or answered with an error, while the card is busy: it still programs. Where a command is lost otherwise, or an
+error is shown, the card is ready by then.
+
+  $ for names in 'event 17: lost while busy\nevent 18: not ready' 'event 17: lost\nevent 18: not ready' 'event 17: error while busy' 'event 17: error shown'; do
+  >   printf "$names" > names; sdv try $write $card new:1024 names --in blocks 2>&1 | sed -n '17,18p'
+  > done
+  CMD13 12340000 timeout
+  CMD13 12340000 R1 00000e00
+  CMD13 12340000 timeout
+  CMD13 12340000 R1 00000900
+  CMD13 12340000 R1 00080e00
+  CMD13 12340000 R1 00000900
+  CMD13 12340000 R1 00080900
+  CMD13 12340000 R1 00000900
+
+Where the card is not busy, these words say the same as the shorter ones. At phases and at CMD0 they say nothing.
+
+  $ as 'CMD8: lost while busy' 01; as 'CMD3: error while busy' 000004
+  fault unready
+  done
+  $ as '2nd line 33: lost while busy\n3rd line 28: error while busy\nCMD0: lost while busy\n' ''
+  done
+
 Several lines, in any order. The first one that names an event counts. A mishap may make the event that another names.
 
   $ as '2nd CMD41: answer lost\nCMD41: not ready\n' 000302; as 'CMD41: not ready\n2nd line 16: answer lost\n' 000302
@@ -128,7 +169,7 @@ Files with a letter are read by name, and others as digits.
   1 fault unready
   $ printf '# n\xc3\xa4chste\nCMD8: lost' > names; sdv try $script $card $image names | tail -n 1; printf 'CMD8: lost\377' > names; sdv try $script $card $image names
   fault unready
-  schedule fault: no mishap (command lost, answer lost, not ready, error shown, refused, phase cut, switch fails, CRC status lost) in line 1
+  schedule fault: no mishap (command lost, answer lost, not ready, error shown, refused, phase cut, switch fails, CRC status lost, no APP_CMD, lost while busy, error while busy) in line 1
   [1]
 
 Lines that name no event.
@@ -143,7 +184,7 @@ Lines that name no event.
 
 Lines that name no mishap.
 
-  $ for line in 'CMD55: late' 'CMD55:' 'CMD55: lost twice' 'CMD55: lostly' 'CMD55: 1' 'CMD55: Lost' 'CMD55: answer  lost' 'CMD55: lost; CMD41: lost' 'CMD55: status lost' 'CMD55: CRC status'; do
+  $ for line in 'CMD55: late' 'CMD55:' 'CMD55: lost twice' 'CMD55: lostly' 'CMD55: 1' 'CMD55: Lost' 'CMD55: answer  lost' 'CMD55: lost; CMD41: lost' 'CMD55: status lost' 'CMD55: CRC status' 'CMD55: no app_cmd' 'CMD55: lost while' 'CMD55: while busy' 'CMD55: error'; do
   >   printf "$line" > names; sdv try $script $card $image names 2>&1 | sed 's/(.*) //'
   > done
   schedule fault: no mishap in line 1
@@ -156,8 +197,12 @@ Lines that name no mishap.
   schedule fault: no mishap in line 1
   schedule fault: no mishap in line 1
   schedule fault: no mishap in line 1
+  schedule fault: no mishap in line 1
+  schedule fault: no mishap in line 1
+  schedule fault: no mishap in line 1
+  schedule fault: no mishap in line 1
   $ printf '\r\nCMD55: is lost\r\n' > names; sdv try $script $card $image names
-  schedule fault: no mishap (command lost, answer lost, not ready, error shown, refused, phase cut, switch fails, CRC status lost) in line 2
+  schedule fault: no mishap (command lost, answer lost, not ready, error shown, refused, phase cut, switch fails, CRC status lost, no APP_CMD, lost while busy, error while busy) in line 2
   [1]
 
 At most 64 lines name a mishap.
@@ -173,13 +218,13 @@ At most 64 lines name a mishap.
 A wrong line is told once the file is read, before anything is said of the others but that they can be read. Nothing is written.
 
   $ printf 'CMD55: none' > names; printf 'card\n' > none.sdv; head -c 511 /dev/zero > odd; sdv try none.sdv none.sdv odd names --in nofile
-  schedule fault: no mishap (command lost, answer lost, not ready, error shown, refused, phase cut, switch fails, CRC status lost) in line 1
+  schedule fault: no mishap (command lost, answer lost, not ready, error shown, refused, phase cut, switch fails, CRC status lost, no APP_CMD, lost while busy, error while busy) in line 1
   [1]
   $ sdv try $script nofile odd names
   cannot use nofile
   [2]
   $ printf x > out; sdv try $script $card $image names --out out || wc -c < out
-  schedule fault: no mishap (command lost, answer lost, not ready, error shown, refused, phase cut, switch fails, CRC status lost) in line 1
+  schedule fault: no mishap (command lost, answer lost, not ready, error shown, refused, phase cut, switch fails, CRC status lost, no APP_CMD, lost while busy, error while busy) in line 1
   1
   $ printf 'CMD8: lost' > names; sdv try none.sdv none.sdv odd names
   card fault ImageLength

@@ -155,7 +155,7 @@ abbrev pub schedule_line : ScheduleFault → Text
 schedule_line (schedules.Event line) =
     numbered_line (codes "schedule fault: no event (CMD18, 2nd CMD18, line 31, event 12) with a colon in line ") line
 schedule_line (schedules.Mishap line) =
-    numbered_line (codes "schedule fault: no mishap (command lost, answer lost, not ready, error shown, refused, phase cut, switch fails, CRC status lost) in line ") line
+    numbered_line (codes "schedule fault: no mishap (command lost, answer lost, not ready, error shown, refused, phase cut, switch fails, CRC status lost, no APP_CMD, lost while busy, error while busy) in line ") line
 schedule_line schedules.Many = plain_line (codes "schedule fault: more than 64 mishaps")
 schedule_line schedules.Memory = plain_line (codes "out of memory")
 

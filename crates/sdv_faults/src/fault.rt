@@ -38,7 +38,7 @@ const NO_EVENT: &str =
 
 /// What is said of a line that names no mishap, before its number.
 const NO_MISHAP: &str =
-    "schedule fault: no mishap (command lost, answer lost, not ready, error shown, refused, phase cut, switch fails, CRC status lost) in line ";
+    "schedule fault: no mishap (command lost, answer lost, not ready, error shown, refused, phase cut, switch fails, CRC status lost, no APP_CMD, lost while busy, error while busy) in line ";
 
 /// Why the program ends without its answer.
 #[derive(Clone, Copy, Debug, PartialEq, Eq)]

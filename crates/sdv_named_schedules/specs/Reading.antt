@@ -106,14 +106,21 @@ read_failure text =
     or_else (after (codes "refused") text) (λ rest. Some (5, rest)) (
     or_else (after (codes "phase cut") text) (λ rest. Some (6, rest)) (
     or_else (after (codes "cut") text) (λ rest. Some (6, rest)) (
-    or_else (after (codes "switch fails") text) (λ rest. Some (7, rest)) None))))
+    or_else (after (codes "switch fails") text) (λ rest. Some (7, rest)) (
+    or_else (after (codes "no APP_CMD") text) (λ rest. Some (9, rest)) None)))))
+
+unfoldable pub read_busy : List ℕ → Read ℕ
+read_busy text =
+    or_else (after (codes "lost while busy") text) (λ rest. Some (10, rest)) (
+    or_else (after (codes "error while busy") text) (λ rest. Some (11, rest)) None)
 
 abbrev pub first_of : Read ℕ → Read ℕ → Read ℕ
 first_of None other = other
 first_of (Some x) other = Some x
 
+-- `lost while busy` begins with the short form of another
 unfoldable pub read_mishap : List ℕ → Read ℕ
-read_mishap text = first_of (read_loss text) (read_failure text)
+read_mishap text = first_of (read_busy text) (first_of (read_loss text) (read_failure text))
 
 -- A LINE, which begins with no blank
 

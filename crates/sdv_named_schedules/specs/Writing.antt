@@ -21,7 +21,10 @@ words_of value =
     else if value == 5 then codes "refused"
     else if value == 6 then codes "phase cut"
     else if value == 7 then codes "switch fails"
-    else codes "CRC status lost"
+    else if value == 8 then codes "CRC status lost"
+    else if value == 9 then codes "no APP_CMD"
+    else if value == 10 then codes "lost while busy"
+    else codes "error while busy"
 
 abbrev pub event_line : (number value : ℕ) → List ℕ
 event_line number value =

@@ -2,7 +2,7 @@
 
 ghost use Rattle.std.specs.Prelude.{◌≡◌, option_map};
 ghost use Rattle.sdv_text.specs.Fronts.{run};
-ghost use Rattle.sdv_named_schedules.specs.Reading.{is_blank, is_over, read_event, read_failure, read_index, read_line, read_loss, read_mishap, read_number, read_ordinal, skipped, suffix_of};
+ghost use Rattle.sdv_named_schedules.specs.Reading.{is_blank, is_over, read_busy, read_event, read_failure, read_index, read_line, read_loss, read_mishap, read_number, read_ordinal, skipped, suffix_of};
 
 use crate::fault::ScheduleFault;
 use crate::naming::{EventName, NamedMishap};
@@ -155,8 +155,25 @@ fn failure(text: &[u8]) -> Option<(u8, &[u8])>
     if let Some(rest) = after(text, b"cut") {
         return Some((6, rest));
     }
-    match after(text, b"switch fails") {
-        Some(rest) => Some((7, rest)),
+    if let Some(rest) = after(text, b"switch fails") {
+        return Some((7, rest));
+    }
+    match after(text, b"no APP_CMD") {
+        Some(rest) => Some((9, rest)),
+        None => None,
+    }
+}
+
+/// A mishap that comes while the card is still busy, and what follows.
+#[tactic(auto, unfolding(crate::specs::Reading::read_busy))]
+fn busy(text: &[u8]) -> Option<(u8, &[u8])>
+    ensures { option_map (λ x. (x.0, x.1.now)) result ≡ read_busy text.now }
+{
+    if let Some(rest) = after(text, b"lost while busy") {
+        return Some((10, rest));
+    }
+    match after(text, b"error while busy") {
+        Some(rest) => Some((11, rest)),
         None => None,
     }
 }
@@ -166,6 +183,9 @@ fn failure(text: &[u8]) -> Option<(u8, &[u8])>
 fn mishap(text: &[u8]) -> Option<(u8, &[u8])>
     ensures { option_map (λ x. (x.0, x.1.now)) result ≡ read_mishap text.now }
 {
+    if let Some(read) = busy(text) {
+        return Some(read);
+    }
     match loss(text) {
         Some(read) => Some(read),
         None => failure(text),

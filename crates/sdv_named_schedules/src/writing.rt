@@ -49,7 +49,10 @@ fn words_of(value: u8) -> &'static str
         5 => "refused",
         6 => "phase cut",
         7 => "switch fails",
-        _ => "CRC status lost",
+        8 => "CRC status lost",
+        9 => "no APP_CMD",
+        10 => "lost while busy",
+        _ => "error while busy",
     }
 }
 
