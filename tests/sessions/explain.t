@@ -201,7 +201,8 @@ A run that breaks the script, behind the reason and before the way. Such a run m
 
 Where none is found, nothing is added; nor where a run may be long, or where the script is accepted.
 
-  $ sed 's/ app { send 41/ clean { send 41/' $up > unasked.sdv; sdv explain --why unasked.sdv 2> said | grep -c breaks
+  $ printf 'card sd\nsend 0 { else { } }\nsend 55 { app { send 41 0x40ff8000 { ocr.ready & ocr.block { send 0 { else { } } send 2 { else { } } } else { } } } else { } }\nfault stop\n' > unchecked.sdv
+  $ sdv explain --why unchecked.sdv 2> said | grep -c breaks
   0
   [1]
   $ printf 'card sd\nsend 0 { else { } } loop 60 { loop 65535 { loop 65535 { send 0 { else { } } } else { } } else { } } else { }\ndone' > long.sdv

@@ -199,13 +199,64 @@ Runs may be long, or each may take much memory. The search counts that, and ends
       `sdv refute` prints its card, its schedule and its trace
   a way there:
   $ (sed '/^done$/d' $EXAMPLES/sd_bring_up.sdv; printf 'loop 65535 { send 18 at by hc 0 count 256 { clean { recv { ok { } else { fault cut } } } else { fault unread } } send 12 { clean { } else { fault unstopped } } } else { }\nsend 2 { else { } }\ndone\n') > blocks.sdv; timeout 9 sdv refute blocks.sdv
-  no run found (485 runs of at most 2001 mishaps)
+  no run found (501 runs of at most 2001 mishaps)
   [1]
 
-What breaks this script is an answer of CMD55 without an error and without the application flag, which no simulated card gives.
+What breaks this script is an answer of CMD55 without an error and without APP_CMD.
 
-  $ sed 's/ app { send 41/ clean { send 41/' $EXAMPLES/sd_bring_up.sdv > unasked.sdv; sdv refute unasked.sdv
-  no run found (352 runs of at most 2000 mishaps)
+  $ sed 's/ app { send 41/ clean { send 41/' $EXAMPLES/sd_bring_up.sdv > unasked.sdv; sdv refute unasked.sdv --card card --schedule schedule
+  mishaps
+  line 7: the answer to CMD55 lacks APP_CMD
+  wrong
+  line 7: CMD41 comes to a card in idle state without the application flag
+  card over new:1024
+  card sd
+  version 2
+  unit block
+  csize 0
+  rca 4660
+  schedule
+  event 3: no APP_CMD
+  trace
+  CMD0 00000000 -
+  CMD8 000001aa R7 000001aa
+  CMD55 00000000 R1 00000100
+  wrong CMD41 40ff8000
+  $ sdv try unasked.sdv card new:1024 schedule 2>&1 | tail -n 2
+  wrong CMD41 40ff8000
+  line 7: CMD41 comes to a card in idle state without the application flag
+
+What breaks these is an answer that is lost, or shows an error, while the card programs: CMD16 follows.
+
+  $ (sed '/^done$/d' $EXAMPLES/sd_bring_up.sdv; printf 'send 24 at by hc 0 { clean { give { ok { } else { fault cut } } } else { fault unwritten } }\nsend 13 { clean { wait { ok { } else { fault late } } } answer { send 16 { else { } } fault wrong } else { fault lost } }\ndone\n') > shown.sdv
+  $ sed 's/answer { send 16 { else { } } fault wrong } else { fault lost }/answer { fault wrong } else { send 16 { else { } } fault lost }/' shown.sdv > lost.sdv
+  $ for name in shown lost; do sdv refute $name.sdv --schedule schedule | sed -n '/^mishaps/,/^card/p;/^CMD24/,$p'; cat schedule; done
+  mishaps
+  line 15: the answer to CMD13 shows an error while the card is busy
+  wrong
+  line 15: CMD16 comes to a card in prg state, where it is not legal
+  card over new:1024
+  CMD24 00000000 R1 00000900
+  OUT 1 ok
+  CMD13 12340000 R1 00080e00
+  wrong CMD16 00000200
+  event 12: error while busy
+  mishaps
+  line 15: CMD13 is lost, and the card is still busy
+  wrong
+  line 15: CMD16 comes to a card in prg state, where it is not legal
+  card over new:1024
+  CMD24 00000000 R1 00000900
+  OUT 1 ok
+  CMD13 12340000 timeout
+  wrong CMD16 00000200
+  event 12: lost while busy
+
+What breaks this one is a card with block addresses that is ready without a CMD8, and no simulated card is so.
+
+  $ printf 'card sd\nsend 0 { else { } }\nsend 55 { app { send 41 0x40ff8000 { ocr.ready & ocr.block { send 0 { else { } } send 2 { else { } } } else { } } } else { } }\nfault stop\n' > unchecked.sdv
+  $ sdv refute unchecked.sdv
+  no run found (66 runs of at most 2 mishaps)
   [1]
 
 Nothing is written where no run was found, and nothing is printed where a file cannot be written.

@@ -66,6 +66,9 @@ pub record IsRow (g : Graph) (desc : CardDesc) (image : List ℕ) (input : List 
   pub cut : HasEnd g desc image input (mishap_at row.event 6) row.cut
   pub switch_fails : HasEnd g desc image input (mishap_at row.event 7) row.switch_fails
   pub crc_status_lost : HasEnd g desc image input (mishap_at row.event 8) row.crc_status_lost
+  pub no_app_cmd : HasEnd g desc image input (mishap_at row.event 9) row.no_app_cmd
+  pub lost_while_busy : HasEnd g desc image input (mishap_at row.event 10) row.lost_while_busy
+  pub error_while_busy : HasEnd g desc image input (mishap_at row.event 11) row.error_while_busy
 
 -- THE EVENTS OF A RUN: its trace has a line for each, and, where the run was not cut short, one for its end
 

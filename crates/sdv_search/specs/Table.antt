@@ -18,24 +18,27 @@ end_word ends.Fault = codes "fault"
 end_word (ends.Wrong point) = codes "wrong"
 end_word (ends.Stopped fault) = codes "stopped"
 
-abbrev pub end_cell : RunEnd → List ℕ
-end_cell end = padded 18 (end_word end)
+abbrev pub end_cell : (width : ℕ) → RunEnd → List ℕ
+end_cell width end = padded width (end_word end)
 
 abbrev pub line_text : (line : ℕ) → List ℕ
 line_text line = codes "line " ++ decimal line
 
 -- A ROW: the line of the script, the event as in a trace, and an end for each mishap
 abbrev pub losses_text : Row → List ℕ
-losses_text row = end_cell row.command_lost ++ (end_cell row.answer_lost ++ end_cell row.slow)
+losses_text row = end_cell 14 row.command_lost ++ (end_cell 13 row.answer_lost ++ end_cell 11 row.slow)
 
 abbrev pub failures_text : Row → List ℕ
 failures_text row =
-    end_cell row.error ++ (end_cell row.refused ++ (end_cell row.cut
-    ++ (end_cell row.switch_fails ++ end_word row.crc_status_lost)))
+    end_cell 13 row.error ++ (end_cell 9 row.refused ++ (end_cell 11 row.cut
+    ++ (end_cell 14 row.switch_fails ++ (end_cell 17 row.crc_status_lost ++ end_cell 12 row.no_app_cmd))))
+
+abbrev pub busy_text : Row → List ℕ
+busy_text row = end_cell 17 row.lost_while_busy ++ end_word row.error_while_busy
 
 abbrev pub row_text : Row → List ℕ
 row_text row = padded 11 (line_text row.line) ++ (padded 12 (name_text row.next)
-    ++ (losses_text row ++ (failures_text row ++ codes "\n")))
+    ++ (losses_text row ++ (failures_text row ++ (busy_text row ++ codes "\n"))))
 
 abbrev pub rows_text : List Row → List ℕ
 rows_text rows = flat_map row_text rows
@@ -57,10 +60,14 @@ losses_added t row = added (added (added t row.command_lost) row.answer_lost) ro
 
 abbrev pub failures_added : Tally → Row → Tally
 failures_added t row =
-    added (added (added (added (added t row.error) row.refused) row.cut) row.switch_fails) row.crc_status_lost
+    added (added (added (added (added (added t row.error) row.refused) row.cut) row.switch_fails)
+    row.crc_status_lost) row.no_app_cmd
+
+abbrev pub busy_added : Tally → Row → Tally
+busy_added t row = added (added t row.lost_while_busy) row.error_while_busy
 
 abbrev pub row_added : Tally → Row → Tally
-row_added t row = failures_added (losses_added t row) row
+row_added t row = busy_added (failures_added (losses_added t row) row) row
 
 abbrev pub rows_added : Tally → List Row → Tally
 rows_added t [] = t
@@ -72,7 +79,7 @@ tally_of s = rows_added (record { done = 0; faults = 0; wrong = 0; stopped = 0 }
 -- THE WHOLE
 
 abbrev pub head : List ℕ
-head = codes "line       event       command lost      answer lost       not ready         error shown       refused           phase cut         switch fails      CRC status lost\n"
+head = codes "line       event       command lost  answer lost  not ready  error shown  refused  phase cut  switch fails  CRC status lost  no APP_CMD  lost while busy  error while busy\n"
 
 abbrev pub tally_text : Tally → List ℕ
 tally_text t =
@@ -97,7 +104,8 @@ is_wrong end = false
 abbrev pub are_wrong : Row → Bool
 are_wrong row =
     is_wrong row.command_lost || (is_wrong row.answer_lost || (is_wrong row.slow || (is_wrong row.error
-    || (is_wrong row.refused || (is_wrong row.cut || (is_wrong row.switch_fails || is_wrong row.crc_status_lost))))))
+    || (is_wrong row.refused || (is_wrong row.cut || (is_wrong row.switch_fails || (is_wrong row.crc_status_lost
+    || (is_wrong row.no_app_cmd || (is_wrong row.lost_while_busy || is_wrong row.error_while_busy)))))))))
 
 abbrev pub has_wrong : SweepTable → Bool
 has_wrong s = is_wrong s.plain || list_any are_wrong s.rows.items

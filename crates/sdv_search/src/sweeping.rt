@@ -69,6 +69,12 @@ pub struct Row {
     pub switch_fails: RunEnd,
     /// The card programs the blocks, and their CRC status does not reach the host.
     pub crc_status_lost: RunEnd,
+    /// The card takes CMD55 as an ordinary command.
+    pub no_app_cmd: RunEnd,
+    /// The command does not reach the card, which does no step of its own.
+    pub lost_while_busy: RunEnd,
+    /// The card does no step of its own, and shows an error.
+    pub error_while_busy: RunEnd,
 }
 
 /// All runs with one mishap.
@@ -203,6 +209,9 @@ impl Common<'_, '_, '_> {
             cut: self.end_with(alloc, number, 6)?,
             switch_fails: self.end_with(alloc, number, 7)?,
             crc_status_lost: self.end_with(alloc, number, 8)?,
+            no_app_cmd: self.end_with(alloc, number, 9)?,
+            lost_while_busy: self.end_with(alloc, number, 10)?,
+            error_while_busy: self.end_with(alloc, number, 11)?,
         })
     }
 

@@ -3,19 +3,16 @@
 ghost use Rattle.std.specs.Prelude.{◌≡◌, ◌++◌, IfOk, OnOk};
 ghost use Rattle.std.specs.List.{list_any};
 ghost use Rattle.sdv_search.specs.Table.{IsTable, are_wrong, end_word, has_wrong, is_wrong, line_text, padded, plain_text};
-ghost use Rattle.sdv_search.specs.Table.{added, failures_added, failures_text, losses_added, losses_text, row_added, row_text, rows_text, table_text, tally_of, tally_text};
+ghost use Rattle.sdv_search.specs.Table.{added, busy_added, busy_text, failures_added, failures_text, losses_added, losses_text, row_added, row_text, rows_text, table_text, tally_of, tally_text};
 
 use crate::sweeping::{Row, RunEnd, SweepTable};
 use sdv_refute::name_of;
 use sdv_telling::{Text, put, put_numbered, put_with_number};
 use std::alloc::{AllocError, Global};
 
-/// The width of a column.
-const WIDTH: usize = 18;
-
 /// The words above the columns.
 const HEAD: &str =
-    "line       event       command lost      answer lost       not ready         error shown       refused           phase cut         switch fails      CRC status lost\n";
+    "line       event       command lost  answer lost  not ready  error shown  refused  phase cut  switch fails  CRC status lost  no APP_CMD  lost while busy  error while busy\n";
 
 /// How many runs of a sweep ended so.
 #[derive(Clone, Copy, Debug, Default, PartialEq, Eq)]
@@ -49,6 +46,7 @@ impl Tally {
     {
         self.add_losses(row);
         self.add_failures(row);
+        self.add_busy(row);
     }
 
     /// Counts those whose command or answer is lost or late.
@@ -60,7 +58,7 @@ impl Tally {
         self.add(row.slow);
     }
 
-    /// Counts the others.
+    /// Counts those whose card shows an error or fails.
     fn add_failures(&mut self, row: &Row)
         ensures { self.new ≡ failures_added self.old row.now }
     {
@@ -69,6 +67,15 @@ impl Tally {
         self.add(row.cut);
         self.add(row.switch_fails);
         self.add(row.crc_status_lost);
+        self.add(row.no_app_cmd);
+    }
+
+    /// Counts those whose mishap comes while the card is still busy.
+    fn add_busy(&mut self, row: &Row)
+        ensures { self.new ≡ busy_added self.old row.now }
+    {
+        self.add(row.lost_while_busy);
+        self.add(row.error_while_busy);
     }
 }
 
@@ -110,6 +117,9 @@ fn are_wrong(row: &Row) -> bool
         || is_wrong(&row.cut)
         || is_wrong(&row.switch_fails)
         || is_wrong(&row.crc_status_lost)
+        || is_wrong(&row.no_app_cmd)
+        || is_wrong(&row.lost_while_busy)
+        || is_wrong(&row.error_while_busy)
 }
 
 /// A run of a sweep comes to what is not allowed at the card.
@@ -159,31 +169,40 @@ fn put_word(text: &mut Text, end: &RunEnd) -> Result<(), AllocError>
     put(text, end_word(end))
 }
 
-/// Adds what a run came to, as wide as a column.
-fn put_end(alloc: Global, text: &mut Text, end: &RunEnd) -> Result<(), AllocError>
-    ensures { OnOk result (text.new.items ≡ text.old.items ++ padded 18 (end_word end.now)) }
+/// Adds what a run came to, as wide as a column: two more than the words above it.
+fn put_end(alloc: Global, text: &mut Text, end: &RunEnd, width: usize) -> Result<(), AllocError>
+    ensures { OnOk result (text.new.items ≡ text.old.items ++ padded width (end_word end.now)) }
 {
-    put_cell(alloc, text, end_word(end).as_bytes(), WIDTH)
+    put_cell(alloc, text, end_word(end).as_bytes(), width)
 }
 
 /// Adds what the runs of a row came to whose command or answer is lost or late.
 fn put_losses(alloc: Global, text: &mut Text, row: &Row) -> Result<(), AllocError>
     ensures { OnOk result (text.new.items ≡ text.old.items ++ losses_text row.now) }
 {
-    put_end(alloc, text, &row.command_lost)?;
-    put_end(alloc, text, &row.answer_lost)?;
-    put_end(alloc, text, &row.slow)
+    put_end(alloc, text, &row.command_lost, 14)?;
+    put_end(alloc, text, &row.answer_lost, 13)?;
+    put_end(alloc, text, &row.slow, 11)
 }
 
 /// Adds what the runs of a row came to whose card shows an error or fails.
 fn put_failures(alloc: Global, text: &mut Text, row: &Row) -> Result<(), AllocError>
     ensures { OnOk result (text.new.items ≡ text.old.items ++ failures_text row.now) }
 {
-    put_end(alloc, text, &row.error)?;
-    put_end(alloc, text, &row.refused)?;
-    put_end(alloc, text, &row.cut)?;
-    put_end(alloc, text, &row.switch_fails)?;
-    put_word(text, &row.crc_status_lost)
+    put_end(alloc, text, &row.error, 13)?;
+    put_end(alloc, text, &row.refused, 9)?;
+    put_end(alloc, text, &row.cut, 11)?;
+    put_end(alloc, text, &row.switch_fails, 14)?;
+    put_end(alloc, text, &row.crc_status_lost, 17)?;
+    put_end(alloc, text, &row.no_app_cmd, 12)
+}
+
+/// Adds what the runs of a row came to whose mishap comes while the card is still busy.
+fn put_busy(alloc: Global, text: &mut Text, row: &Row) -> Result<(), AllocError>
+    ensures { OnOk result (text.new.items ≡ text.old.items ++ busy_text row.now) }
+{
+    put_end(alloc, text, &row.lost_while_busy, 17)?;
+    put_word(text, &row.error_while_busy)
 }
 
 /// The line of a script.
@@ -204,6 +223,7 @@ fn put_row(alloc: Global, text: &mut Text, row: &Row) -> Result<(), AllocError>
     put_cell(alloc, text, name_of(&row.next).as_slice(), 12)?;
     put_losses(alloc, text, row)?;
     put_failures(alloc, text, row)?;
+    put_busy(alloc, text, row)?;
     put(text, "\n")
 }
 

@@ -11,11 +11,10 @@ send 2 { answer { } else { fault cid } }
 done
 ";
 
-/// CMD41 may come to a card that does not expect an application command, but beside no simulated card: where CMD55 is
-/// answered without an error, they all do.
-const UNASKED: &str = "card sd
+/// CMD2 may come to a card in idle state, but beside no simulated card: with block addresses none is ready that took no CMD8.
+const UNCHECKED: &str = "card sd
 send 0 { else { } }
-send 55 { clean { send 41 0x40ff8000 { else { } } } else { } }
+send 55 { app { send 41 0x40ff8000 { ocr.ready & ocr.block { send 0 { else { } } send 2 { else { } } } else { } } } else { } }
 fault stop
 ";
 
@@ -45,7 +44,7 @@ fn a_budget_of_one_event_allows_one_run(rt: HostRuntime) {
 
 #[test]
 fn a_search_ends_with_its_budget(rt: HostRuntime) {
-    let found = search(&rt, rt.alloc(), UNASKED, 1);
+    let found = search(&rt, rt.alloc(), UNCHECKED, 1);
     assert!(rt; found.refutation.is_none());
     assert_eq!(rt; found.runs, 1);
     assert!(rt; !found.complete && !found.unbreakable);
@@ -53,7 +52,7 @@ fn a_search_ends_with_its_budget(rt: HostRuntime) {
 
 #[test]
 fn a_search_may_end_before_its_budget(rt: HostRuntime) {
-    let found = search(&rt, rt.alloc(), UNASKED, 1_000_000);
+    let found = search(&rt, rt.alloc(), UNCHECKED, 1_000_000);
     assert!(rt; found.refutation.is_none());
     assert!(rt; found.runs > 1);
     assert!(rt; found.complete && !found.unbreakable);
