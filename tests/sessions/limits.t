@@ -45,10 +45,10 @@ Relative card addresses.
   $ for rca in 1 65535; do printf "card sd\nversion 2\nunit block\ncsize 0\nrca $rca\n" > card; sdv try $up card new:1024 | grep -e CMD3 -e CMD7; sdv sweep $up card new:1024 | tail -n 1; done
   CMD3 00000000 R6 00010500
   CMD7 00010000 R1 00000700
-  65 done, 34 faults, 0 wrong, 0 stopped
+  8 done, 34 faults, 0 wrong, 0 stopped
   CMD3 00000000 R6 ffff0500
   CMD7 ffff0000 R1 00000700
-  65 done, 34 faults, 0 wrong, 0 stopped
+  8 done, 34 faults, 0 wrong, 0 stopped
   $ for rca in 0 65536 -1 99999999999999999999; do printf "card sd\nversion 2\nunit block\ncsize 0\nrca $rca\n" > card; sdv try $up card new:1024; sdv sweep $up card new:1024; done
   card fault Description
   card fault Description
@@ -122,7 +122,7 @@ Numbers beyond the limits, and images that do not fit.
 The end of a search in which no small card shows what is wrong: the script sends CMD12 too early only beside a great card.
 
   $ sed 's/^done/if cap >= 1048576 { send 13 { else { } } send 12 { else { } } } else { }\ndone/' $up > great.sdv; sdv refute great.sdv
-  no run found (368 runs of at most 2001 mishaps)
+  no run found (568 runs of at most 2001 mishaps)
   [1]
   $ sdv certify great.sdv | head -n 1
   refused Illegal point 24 shape 0000000000002804

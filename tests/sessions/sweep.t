@@ -1,49 +1,49 @@
-Every run of a script with one mishap. An accepted script comes to nothing that is not allowed.
+Every run of a script with one mishap; `-` where the event cannot have it. An accepted script comes to nothing that is not allowed.
 
   $ sdv sweep $EXAMPLES/sd_bring_up.sdv $EXAMPLES/sd_block.card new:1024
   line       event       command lost  answer lost  not ready  error shown  refused  phase cut  switch fails  CRC status lost  no APP_CMD  lost while busy  error while busy
-  line 5     CMD0        done          done         done       done         done     done       done          done             done        done             done
-  line 6     CMD8        fault         done         done       done         done     done       done          done             done        fault            done
-  line 7     CMD55       fault         fault        done       done         fault    done       done          done             fault       fault            done
-  line 7     CMD41       fault         fault        done       done         done     done       done          done             done        fault            done
-  line 8     CMD2        fault         fault        done       done         done     done       done          done             done        fault            done
-  line 9     CMD3        fault         fault        done       fault        fault    done       done          done             done        fault            fault
-  line 10    CMD9        fault         fault        done       done         done     done       done          done             done        fault            done
-  line 11    CMD7        fault         fault        done       fault        fault    done       done          done             done        fault            fault
-  line 12    CMD16       fault         fault        done       fault        fault    done       done          done             done        fault            fault
+  line 5     CMD0        -             -            -          -            -        -          -             -                -           -                -
+  line 6     CMD8        fault         done         -          -            -        -          -             -                -           fault            -
+  line 7     CMD55       fault         fault        done       done         fault    -          -             -                fault       fault            done
+  line 7     CMD41       fault         fault        done       -            -        -          -             -                -           fault            -
+  line 8     CMD2        fault         fault        -          -            -        -          -             -                -           fault            -
+  line 9     CMD3        fault         fault        done       fault        fault    -          -             -                -           fault            fault
+  line 10    CMD9        fault         fault        -          -            -        -          -             -                -           fault            -
+  line 11    CMD7        fault         fault        done       fault        fault    -          -             -                -           fault            fault
+  line 12    CMD16       fault         fault        done       fault        fault    -          -             -                -           fault            fault
   without a mishap: done
-  65 done, 34 faults, 0 wrong, 0 stopped
+  8 done, 34 faults, 0 wrong, 0 stopped
   $ sdv sweep $EXAMPLES/emmc_bring_up.sdv $EXAMPLES/emmc_byte.card new:16 | tail -n 2
   without a mishap: done
-  50 done, 27 faults, 0 wrong, 0 stopped
+  4 done, 27 faults, 0 wrong, 0 stopped
 
 Scripts that are refused: beside each of two cards, with one mishap that shows it, and without a mishap.
 
   $ sdv sweep $EXAMPLES/hosts/linux_read.sdv $EXAMPLES/sd_block.card new:1024
   line       event       command lost  answer lost  not ready  error shown  refused  phase cut  switch fails  CRC status lost  no APP_CMD  lost while busy  error while busy
-  line 10    CMD0        done          done         done       done         done     done       done          done             done        done             done
-  line 11    CMD8        fault         fault        done       done         done     done       done          done             done        fault            done
-  line 14    CMD55       done          done         done       done         done     done       done          done             done        done             done
-  line 16    CMD41       done          wrong        done       done         done     done       done          done             done        done             done
-  line 24    CMD2        done          wrong        done       done         done     done       done          done             done        done             done
-  line 25    CMD3        done          done         done       done         wrong    done       done          done             done        done             done
-  line 26    CMD9        done          done         done       done         done     done       done          done             done        done             done
-  line 27    CMD7        done          wrong        done       done         wrong    done       done          done             done        done             done
-  line 28    CMD55       fault         fault        done       done         fault    done       done          done             fault       fault            done
-  line 28    CMD51       fault         fault        done       done         wrong    done       done          done             done        fault            done
-  line 28    REG 8       done          done         done       done         done     fault      done          done             done        done             done
-  line 29    CMD55       fault         fault        done       done         fault    done       done          done             fault       fault            done
-  line 29    CMD6        fault         fault        done       done         wrong    done       done          done             done        fault            done
-  line 33    CMD17       done          done         done       done         done     done       done          done             done        done             done
-  line 33    IN 1        done          done         done       done         done     done       done          done             done        done             done
+  line 10    CMD0        -             -            -          -            -        -          -             -                -           -                -
+  line 11    CMD8        fault         fault        -          -            -        -          -             -                -           fault            -
+  line 14    CMD55       done          done         done       done         done     -          -             -                done        done             done
+  line 16    CMD41       done          wrong        done       -            -        -          -             -                -           done             -
+  line 24    CMD2        done          wrong        -          -            -        -          -             -                -           done             -
+  line 25    CMD3        done          done         done       done         wrong    -          -             -                -           done             done
+  line 26    CMD9        done          done         -          -            -        -          -             -                -           done             -
+  line 27    CMD7        done          wrong        done       done         wrong    -          -             -                -           done             done
+  line 28    CMD55       fault         fault        done       done         fault    -          -             -                fault       fault            done
+  line 28    CMD51       fault         fault        done       done         wrong    -          -             -                -           fault            done
+  line 28    REG 8       -             -            -          -            -        fault      -             -                -           -                -
+  line 29    CMD55       fault         fault        done       done         fault    -          -             -                fault       fault            done
+  line 29    CMD6        fault         fault        done       done         wrong    -          -             -                -           fault            done
+  line 33    CMD17       done          done         done       done         done     -          -             -                -           done             done
+  line 33    IN 1        -             -            -          -            -        done       -             -                -           -                -
   without a mishap: done
-  138 done, 20 faults, 7 wrong, 0 stopped
+  47 done, 20 faults, 7 wrong, 0 stopped
   [1]
   $ printf 'card sd\nsend 0 { else { } }\ndone\n' > early.sdv; sdv sweep early.sdv $EXAMPLES/sd_byte.card new:16
   line       event       command lost  answer lost  not ready  error shown  refused  phase cut  switch fails  CRC status lost  no APP_CMD  lost while busy  error while busy
-  line 2     CMD0        wrong         wrong        wrong      wrong        wrong    wrong      wrong         wrong            wrong       wrong            wrong
+  line 2     CMD0        -             -            -          -            -        -          -             -                -           -                -
   without a mishap: wrong
-  0 done, 0 faults, 11 wrong, 0 stopped
+  0 done, 0 faults, 0 wrong, 0 stopped
   [1]
 
 Blocks that the script gives, and the image of a file, which stays as it was.
@@ -51,10 +51,11 @@ Blocks that the script gives, and the image of a file, which stays as it was.
   $ head -c 524288 /dev/zero > image; cp image before; head -c 4096 /dev/urandom > blocks
   $ sdv sweep $EXAMPLES/production/sd_write_many.sdv $EXAMPLES/sd_block.card image --in blocks | tail -n 2; cmp image before
   without a mishap: done
-  140 done, 0 faults, 0 wrong, 14 stopped
-  $ sdv sweep $EXAMPLES/production/sd_write_many.sdv $EXAMPLES/sd_block.card image | tail -n 2
+  52 done, 0 faults, 0 wrong, 14 stopped
+  $ sdv sweep $EXAMPLES/production/sd_write_many.sdv $EXAMPLES/sd_block.card image > table || echo status $?; tail -n 2 table
+  status 1
   without a mishap: stopped
-  0 done, 0 faults, 0 wrong, 110 stopped
+  0 done, 0 faults, 0 wrong, 49 stopped
 
 What is given is refused.
 

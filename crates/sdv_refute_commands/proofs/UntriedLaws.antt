@@ -20,7 +20,7 @@ use Rattle.sdv_search.specs.Refuted.{IsNoSearch, IsRefutation}
 use Rattle.sdv_named_schedules.specs.Writing.{schedule_text}
 use Rattle.sdv_search.specs.Report.{IsReport}
 use Rattle.sdv_search.specs.Swept.{IsSweep, NotSwept}
-use Rattle.sdv_search.specs.Table.{IsTable, has_wrong}
+use Rattle.sdv_search.specs.Table.{IsTable, fails}
 use Rattle.sdv_search.specs.declared.sweeping.SweepTable.{SweepTable}
 use Rattle.sdv_search.specs.declared.refuting.Found.{Found as SearchFound}
 use Rattle.sdv_search.specs.declared.refuting.Refutation.{Refutation}
@@ -194,7 +194,7 @@ module _ (Gives : List ℕ → Type 0) (Ends : List ℕ → Ending) (known : Opt
 module _ (script card image : Text) (input : List Block) (s : SweepTable) (swept : IsSweep script card image input s) (text : Text) (table : IsTable s text) where
   in_part : (before after : Option (List ℕ)) (fault : Fault) → PrintsText text (Some fault) before after
       → Reports (IsSwept script card image input) (IsUnswept script card image) (Some fault) before after
-  in_part before after Output printed = ((if has_wrong s then Some Found else None), text, (s, swept, refl, table), printed)
+  in_part before after Output printed = ((if fails s then Some Found else None), text, (s, swept, refl, table), printed)
   in_part before after _ printed = absurd printed
 
   pub reported_in_part : {T : Type 0} (before after : Option (List ℕ)) (fault : Fault) → PrintsText text (Some fault) before after → (r : Result T Fault)

@@ -6,7 +6,7 @@ use Rattle.clap.specs.Words.{Text}
 use Rattle.sdv_card.specs.Card.{Block}
 use Rattle.sdv_refute.specs.declared.simulated.TryFault.{TryFault}
 use Rattle.sdv_search.specs.Swept.{IsSweep, NotSwept}
-use Rattle.sdv_search.specs.Table.{IsTable, has_wrong}
+use Rattle.sdv_search.specs.Table.{IsTable, fails}
 use Rattle.sdv_search.specs.declared.sweeping.SweepTable.{SweepTable}
 use Rattle.sdv_command_line.specs.Requests.{SweepNames}
 use Rattle.sdv_faults.specs.Fault.{fault_of_try}
@@ -45,10 +45,10 @@ Over Missing Gives Ends outcome before after =
 -- THE TABLE
 
 -- The text is that of the table of all runs with one mishap. It is reported where one of them, or the run without a mishap,
--- comes to what is not allowed at the card.
+-- comes to what is not allowed at the card, or where the run without a mishap is stopped.
 abbrev pub IsSwept : (script card image : Text) → (input : List Block) → (told : Option Fault) → (text : Text) → Type 0
 IsSwept script card image input told text =
-    (s : SweepTable) × IsSweep script card image input s × (told ≡ (if has_wrong s then Some Found else None))
+    (s : SweepTable) × IsSweep script card image input s × (told ≡ (if fails s then Some Found else None))
     × IsTable s text
 
 -- why no run was made

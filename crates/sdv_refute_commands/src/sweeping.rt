@@ -8,7 +8,7 @@ use sdv_command_line::SweepFiles;
 use sdv_faults::Fault;
 use sdv_files::{Store, bytes_in, print_text, text_in};
 use sdv_run_command::{input_in, new_blocks};
-use sdv_search::{SweepGiven, has_wrong, put_table, sweep};
+use sdv_search::{SweepGiven, fails, put_table, sweep};
 use std::alloc::Global;
 use std::io::Write;
 
@@ -62,7 +62,8 @@ fn image_bytes_in<'a, S: Store>(
 ///
 /// # Errors
 ///
-/// - [`Fault::Found`]: a run came to what is not allowed at the card. The table was printed.
+/// - [`Fault::Found`]: a run came to what is not allowed at the card, or the run without a mishap was stopped. The table was
+///   printed.
 /// - [`Fault::Script`], [`Fault::Card`], [`Fault::OtherKind`]: nothing was run or printed.
 /// - [`Fault::Output`]: the output failed. A part of the table was printed.
 /// - [`Fault::Memory`]: memory was refused. Nothing was printed.
@@ -78,7 +79,7 @@ fn sweep_given<O: Write>(
     let table = sweep(alloc, given)?;
     let text = put_table(alloc, &table)?;
     print_text(text.as_slice(), out)?;
-    if has_wrong(&table) {
+    if fails(&table) {
         return Err(Fault::Found);
     }
     Ok(())

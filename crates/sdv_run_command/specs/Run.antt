@@ -13,6 +13,7 @@ use Rattle.sdv_description.specs.declared.card_desc.CardDesc.{CardDesc}
 use Rattle.sdv_description.specs.Gives.{Describes}
 use Rattle.sdv_description.specs.Gives.{Refuses as IsNoCard}
 use Rattle.sdv_description.specs.Layout.{image_size}
+use Rattle.sdv_behavior.specs.Schedules.{are_codes}
 use Rattle.sdv_behavior.specs.SimSteps.{SimState, SimSteps, card_shown}
 use Rattle.sdv_sim.specs.Made.{IsMade, IsRefused, are_digits}
 use Rattle.sdv_controller.specs.Controlled.{ControllerSteps}
@@ -53,6 +54,10 @@ schedule_codes (byte ∷ bytes) = if is_space byte then schedule_codes bytes els
 -- each byte may stand in a schedule of digits
 abbrev pub is_schedule : (bytes : List ℕ) → Bool
 is_schedule bytes = list_all (λ byte. is_space byte || is_value byte) bytes
+
+-- a card has all values exactly where that is so
+abbrev pub DigitsAloneAreValues : Type 0
+DigitsAloneAreValues = (bytes : List ℕ) → are_codes (schedule_codes bytes) ≡ is_schedule bytes
 
 -- NEW IMAGES: `new:` and a number of blocks, which are all zeros
 

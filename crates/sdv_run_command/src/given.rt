@@ -3,8 +3,7 @@ ghost use Rattle.std.specs.Prelude.{◌≡◌, ◌⊎◌, ℕ, IfErr, IfOk, Matc
 ghost use Rattle.sdv_command_line.specs.Requests.{names_of};
 ghost use Rattle.sdv_run_command.specs.Run.{AreGiven, CannotBeUsed, GivesImage, GivesInput, GivesNoInput, GivesSchedule, as_image};
 ghost use Rattle.sdv_run_command.specs.Run.{IsNew, IsOptional, IsUnread};
-ghost use Rattle.sdv_behavior.specs.Schedules.{are_codes};
-ghost use Rattle.sdv_run_command.specs.Run.{code_of, is_schedule, new_image, schedule_codes, uses_of};
+ghost use Rattle.sdv_run_command.specs.Run.{code_of, new_image, schedule_codes, uses_of};
 ghost use Rattle.sdv_run_command.specs.RunImages.{IsOfName, image_given};
 
 use crate::new_image::NewImage;
@@ -131,11 +130,9 @@ pub fn codes_in<'a, S: Store>(
 }
 
 /// The values that the bytes of a schedule write: a digit from 0 to 7 is a value, a space and an end of a line are none,
-/// and any other byte is 255, which is no value of a card. So a card has all of them exactly where no other byte stands there.
-#[tactic(auto, using(crate::proofs::DigitLaws::schedule_known))]
+/// and any other byte is 255, which is no value of a card (`laws::digits_alone_are_values`).
 pub fn codes_of(alloc: Global, bytes: &[u8]) -> Result<Vec<u8>, AllocError>
-    ensures codes { IfOk result (λ codes. codes.items ≡ schedule_codes bytes.now) }
-    ensures known { IfOk result (λ codes. are_codes codes.items ≡ is_schedule bytes.now) }
+    ensures { IfOk result (λ codes. codes.items ≡ schedule_codes bytes.now) }
 {
     let mut codes = Vec::new(alloc);
     for byte in bytes {

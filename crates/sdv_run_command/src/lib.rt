@@ -6,6 +6,7 @@
 
 mod apart;
 mod given;
+pub mod laws;
 mod named;
 mod new_image;
 mod registers;

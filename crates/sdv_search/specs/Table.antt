@@ -1,12 +1,66 @@
 -- THE TABLE of a sweep, as a text: a line for each event, with what the run comes to with each mishap there.
-use Rattle.std.specs.Prelude.{◌≡◌, ◌-◌, ◌+◌, ◌^◌, ◌||◌, Bool, true, false, ℕ, List, [], ◌∷◌, ◌++◌, codes, decimal, flat_map, length, min, replicate}
+use Rattle.std.specs.Prelude.{◌≡◌, ◌==◌, ◌-◌, ◌+◌, ◌^◌, ◌&&◌, ◌||◌, not, nat_le, Bool, true, false, ℕ, List, [], ◌∷◌, ◌++◌, codes, decimal, flat_map, if◌then◌else◌, length, min, replicate}
 use Rattle.std.specs.List.{list_any}
+use Rattle.sdv_behavior.specs.declared.behavior.Behavior.{Behavior}
+use Rattle.sdv_behavior.specs.declared.behavior.Behavior.TheVariants.{LosesCommand, LosesAnswer, IsSlow, ReportsError, Refuses, CutsPhase, FailsSwitch, LosesCrcStatus, OmitsAppCommand, LosesCommandWhileBusy, ReportsErrorWhileBusy}
+use Rattle.sdv_refute.specs.declared.next.Next.{Next}
+use Rattle.sdv_refute.specs.declared.next.Next.TheVariants.{Send, Receive, ReceiveRegister, Give, Wait}
 use Rattle.sdv_refute.specs.WrongLine.{name_text}
 use Rattle.sdv_search.specs.declared.sweeping.Row.{Row}
 use Rattle.sdv_search.specs.declared.sweeping.RunEnd.{RunEnd}
 use Rattle.sdv_search.specs.declared.sweeping.RunEnd.TheVariants as ends
 use Rattle.sdv_search.specs.declared.sweeping.SweepTable.{SweepTable}
 use Rattle.sdv_search.specs.declared.table.Tally.{Tally}
+
+-- WHICH MISHAPS AN EVENT CAN HAVE, whatever the state of the card. Where it can have none, the run with it is the run without.
+-- SD Physical Layer Simplified Specification, sections 4.3.10, 4.7.4 and 4.9; JESD84-B51, sections 6.4, 6.10.4 and 6.12.
+
+-- CMD0 has no answer, nor has the CMD7 that deselects all cards
+abbrev pub has_answer : (index argument : ℕ) → Bool
+has_answer index argument = not ((index == 0) || ((index == 7) && (argument == 0)))
+
+-- OCR: CMD1 and ACMD41 ask whether the card is ready
+abbrev pub asks_ready : (index : ℕ) → Bool
+asks_ready index = (index == 1) || (index == 41)
+
+-- a card takes these only in a state in which it is not busy: CMD2, CMD9, CMD10, and CMD8 with the pattern of an SD card
+abbrev pub asks_register : (index argument : ℕ) → Bool
+asks_register index argument =
+    (index == 2) || ((index == 9) || ((index == 10) || ((index == 8) && (argument == 0x1aa))))
+
+-- the card may be busy when the command comes. CMD0 resets a busy card as any other
+abbrev pub finds_busy : (index argument : ℕ) → Bool
+finds_busy index argument = not ((index == 0) || (asks_ready index || asks_register index argument))
+
+-- the answer shows errors: an R1 or an R6
+abbrev pub shows_errors : (index argument : ℕ) → Bool
+shows_errors index argument = has_answer index argument && finds_busy index argument
+
+-- CMD6 of e.MMC writes a byte of the EXT_CSD; ACMD6 of SD is no switch
+abbrev pub is_switch : (index argument : ℕ) → Bool
+is_switch index argument = (index == 6) && nat_le 0x03000000 argument
+
+-- no command but CMD0 always arrives
+abbrev pub command_can_have : Behavior → (index argument : ℕ) → Bool
+command_can_have LosesCommand index argument = not (index == 0)
+command_can_have LosesAnswer index argument = has_answer index argument
+command_can_have IsSlow index argument = asks_ready index || finds_busy index argument
+command_can_have ReportsError index argument = shows_errors index argument
+command_can_have Refuses index argument = shows_errors index argument
+command_can_have FailsSwitch index argument = is_switch index argument
+command_can_have OmitsAppCommand index argument = index == 55
+command_can_have LosesCommandWhileBusy index argument = not (index == 0)
+command_can_have ReportsErrorWhileBusy index argument = finds_busy index argument
+command_can_have behavior index argument = false
+
+abbrev pub can_have : Behavior → Next → Bool
+can_have behavior (Send ask position argument) = command_can_have behavior ask.index argument
+can_have CutsPhase (Receive count) = true
+can_have CutsPhase (ReceiveRegister count) = true
+can_have CutsPhase (Give count) = true
+can_have LosesCrcStatus (Give count) = true
+can_have IsSlow Wait = true
+can_have behavior next = false
 
 -- A CELL: words, and spaces up to a width, one in any case
 abbrev pub padded : (width : ℕ) → (cell : List ℕ) → List ℕ
@@ -18,32 +72,44 @@ end_word ends.Fault = codes "fault"
 end_word (ends.Wrong point) = codes "wrong"
 end_word (ends.Stopped fault) = codes "stopped"
 
-abbrev pub end_cell : (width : ℕ) → RunEnd → List ℕ
-end_cell width end = padded width (end_word end)
+-- what the run came to with a mishap, where the event can have it
+abbrev pub cell_word : Next → Behavior → RunEnd → List ℕ
+cell_word next behavior end = if can_have behavior next then end_word end else codes "-"
+
+abbrev pub end_cell : (width : ℕ) → Next → Behavior → RunEnd → List ℕ
+end_cell width next behavior end = padded width (cell_word next behavior end)
 
 abbrev pub line_text : (line : ℕ) → List ℕ
 line_text line = codes "line " ++ decimal line
 
 -- A ROW: the line of the script, the event as in a trace, and an end for each mishap
 abbrev pub losses_text : Row → List ℕ
-losses_text row = end_cell 14 row.command_lost ++ (end_cell 13 row.answer_lost ++ end_cell 11 row.slow)
+losses_text row = end_cell 14 row.next LosesCommand row.command_lost
+    ++ (end_cell 13 row.next LosesAnswer row.answer_lost ++ end_cell 11 row.next IsSlow row.slow)
+
+abbrev pub errors_text : Row → List ℕ
+errors_text row = end_cell 13 row.next ReportsError row.error
+    ++ (end_cell 9 row.next Refuses row.refused ++ end_cell 11 row.next CutsPhase row.cut)
 
 abbrev pub failures_text : Row → List ℕ
-failures_text row =
-    end_cell 13 row.error ++ (end_cell 9 row.refused ++ (end_cell 11 row.cut
-    ++ (end_cell 14 row.switch_fails ++ (end_cell 17 row.crc_status_lost ++ end_cell 12 row.no_app_cmd))))
+failures_text row = end_cell 14 row.next FailsSwitch row.switch_fails
+    ++ (end_cell 17 row.next LosesCrcStatus row.crc_status_lost ++ end_cell 12 row.next OmitsAppCommand row.no_app_cmd)
 
 abbrev pub busy_text : Row → List ℕ
-busy_text row = end_cell 17 row.lost_while_busy ++ end_word row.error_while_busy
+busy_text row = end_cell 17 row.next LosesCommandWhileBusy row.lost_while_busy
+    ++ cell_word row.next ReportsErrorWhileBusy row.error_while_busy
+
+abbrev pub ends_text : Row → List ℕ
+ends_text row = losses_text row ++ (errors_text row ++ (failures_text row ++ busy_text row))
 
 abbrev pub row_text : Row → List ℕ
-row_text row = padded 11 (line_text row.line) ++ (padded 12 (name_text row.next)
-    ++ (losses_text row ++ (failures_text row ++ (busy_text row ++ codes "\n"))))
+row_text row =
+    padded 11 (line_text row.line) ++ (padded 12 (name_text row.next) ++ (ends_text row ++ codes "\n"))
 
 abbrev pub rows_text : List Row → List ℕ
 rows_text rows = flat_map row_text rows
 
--- THE TALLY: how many runs with one mishap ended so, up to the greatest number
+-- THE TALLY: how many runs with one mishap that the event can have ended so, up to the greatest number
 
 abbrev pub one_more : ℕ → ℕ
 one_more n = min (n + 1) (2 ^ 64 - 1)
@@ -55,19 +121,27 @@ added t (ends.Wrong point) = record { done = t.done; faults = t.faults; wrong = 
 added t (ends.Stopped fault) =
     record { done = t.done; faults = t.faults; wrong = t.wrong; stopped = one_more t.stopped }
 
+abbrev pub counted : Next → Behavior → RunEnd → Tally → Tally
+counted next behavior end t = if can_have behavior next then added t end else t
+
 abbrev pub losses_added : Tally → Row → Tally
-losses_added t row = added (added (added t row.command_lost) row.answer_lost) row.slow
+losses_added t row = counted row.next IsSlow row.slow (counted row.next LosesAnswer row.answer_lost
+    (counted row.next LosesCommand row.command_lost t))
+
+abbrev pub errors_added : Tally → Row → Tally
+errors_added t row = counted row.next CutsPhase row.cut (counted row.next Refuses row.refused
+    (counted row.next ReportsError row.error t))
 
 abbrev pub failures_added : Tally → Row → Tally
-failures_added t row =
-    added (added (added (added (added (added t row.error) row.refused) row.cut) row.switch_fails)
-    row.crc_status_lost) row.no_app_cmd
+failures_added t row = counted row.next OmitsAppCommand row.no_app_cmd
+    (counted row.next LosesCrcStatus row.crc_status_lost (counted row.next FailsSwitch row.switch_fails t))
 
 abbrev pub busy_added : Tally → Row → Tally
-busy_added t row = added (added t row.lost_while_busy) row.error_while_busy
+busy_added t row = counted row.next ReportsErrorWhileBusy row.error_while_busy
+    (counted row.next LosesCommandWhileBusy row.lost_while_busy t)
 
 abbrev pub row_added : Tally → Row → Tally
-row_added t row = busy_added (failures_added (losses_added t row) row) row
+row_added t row = busy_added (failures_added (errors_added (losses_added t row) row) row) row
 
 abbrev pub rows_added : Tally → List Row → Tally
 rows_added t [] = t
@@ -109,3 +183,12 @@ are_wrong row =
 
 abbrev pub has_wrong : SweepTable → Bool
 has_wrong s = is_wrong s.plain || list_any are_wrong s.rows.items
+
+-- the run without a mishap does not come to its end
+abbrev pub is_stopped : RunEnd → Bool
+is_stopped (ends.Stopped fault) = true
+is_stopped end = false
+
+-- a sweep that is no good: a run comes to what is not allowed, or the run without a mishap does not come to its end
+abbrev pub fails : SweepTable → Bool
+fails s = has_wrong s || is_stopped s.plain

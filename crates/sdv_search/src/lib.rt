@@ -28,4 +28,4 @@ pub use brief::shown_run;
 pub use refuting::{Found, Refutation, refute};
 pub use reporting::report;
 pub use sweeping::{Row, RunEnd, SweepGiven, SweepTable, sweep};
-pub use table::{Tally, has_wrong, put_table};
+pub use table::{Tally, fails, put_table};

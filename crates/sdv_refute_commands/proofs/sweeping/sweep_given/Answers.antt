@@ -6,7 +6,7 @@ use Rattle.sdv_faults.specs.declared.fault.Fault.TheVariants.{Found, Memory}
 use Rattle.sdv_files.specs.Outcomes.{PrintsText, Reports, outcome_of}
 use Rattle.sdv_files.proofs.OutcomeLaws.{failed}
 use Rattle.sdv_files.proofs.StartLaws.{keeps_same}
-use Rattle.sdv_search.specs.Table.{has_wrong}
+use Rattle.sdv_search.specs.Table.{fails}
 use Rattle.sdv_refute_commands.specs.Sweep.{IsSwept, IsUnswept}
 use Rattle.sdv_refute_commands.proofs.UntriedLaws.{reported_in_part, unswept}
 use Rattle.sdv_refute_commands.proofs.sweeping.sweep_given.Goals as goal
@@ -36,12 +36,12 @@ returns-in_err-print_text g c =
     c.in_ok-text.text.items c.in_ok-text.ensures before after c.in_err-print_text.field-0.0 printed
     c.from_residual-in_err-print_text.result c.from_residual-in_err-print_text.ensures.1
 
-pub returns-then-has_wrong : goal.returns-then-has_wrong
-returns-then-has_wrong g c =
+pub returns-then-fails : goal.returns-then-fails
+returns-then-fails g c =
     let before = g.O.Write.contents c.args.out.now in
     let after = g.O.Write.contents c.print_text.new.out in
-    let found : true ≡ has_wrong c.in_ok-table.table = search rules in
-    let told : Some Found ≡ (if has_wrong c.in_ok-table.table then Some Found else None) = ap (λ (b : Bool). if b then Some Found else None) found in
+    let found : true ≡ fails c.in_ok-table.table = search rules in
+    let told : Some Found ≡ (if fails c.in_ok-table.table then Some Found else None) = ap (λ (b : Bool). if b then Some Found else None) found in
     let printed : PrintsText c.in_ok-text.text.items None before after =
     subst (λ (t : Text). PrintsText t None before after) c.as_slice.ensures.value
     (subst (λ (r : Result (Unit {0}) Fault). PrintsText c.as_slice.result.now (outcome_of r) before after) c.in_ok-print_text.was c.print_text.ensures) in
@@ -51,8 +51,8 @@ pub returns : goal.returns
 returns g c =
     let before = g.O.Write.contents c.args.out.now in
     let after = g.O.Write.contents c.print_text.new.out in
-    let none : false ≡ has_wrong c.in_ok-table.table = search rules in
-    let told : None ≡ (if has_wrong c.in_ok-table.table then Some Found else None) = ap (λ (b : Bool). if b then Some Found else None) none in
+    let none : false ≡ fails c.in_ok-table.table = search rules in
+    let told : None ≡ (if fails c.in_ok-table.table then Some Found else None) = ap (λ (b : Bool). if b then Some Found else None) none in
     let printed : PrintsText c.in_ok-text.text.items None before after =
     subst (λ (t : Text). PrintsText t None before after) c.as_slice.ensures.value
     (subst (λ (r : Result (Unit {0}) Fault). PrintsText c.as_slice.result.now (outcome_of r) before after) c.in_ok-print_text.was c.print_text.ensures) in
