@@ -33,7 +33,9 @@ A name that could end the comment does not.
 Why there is none; nothing is printed, and no file is made, then.
 
   $ sdv emit a.sdv a.cert while 2>&1 | cut -c 1-27
-  usage: NAME is a keyword of
+  usage: NAME is a keyword or
+  $ for name in uint32_t int_fast8_t size_t UINT16_MAX INT8_C NULL main __table _Table _; do sdv emit a.sdv a.cert $name; done 2>&1 | uniq
+  usage: NAME is a keyword or a reserved name of C: sdv emit SCRIPT CERT NAME [--binary FILE]
   $ sdv emit a.sdv a.cert 2b --binary c.bin 2>&1 > c.c | cut -c 1-18
   usage: 2b is no NA
   $ sdv emit a.sdv $EXAMPLES/sd_bring_up.cert table --binary c.bin > c.c
