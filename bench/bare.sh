@@ -34,7 +34,6 @@ clang $target -c "$top/bench/bare/start.S" -o "$work/start.o"
 image() {
     "$sdv" certify "$1" > "$work/cert"
     "$sdv" emit "$1" "$work/cert" table > "$work/table.c"
-    printf '#include <stddef.h>\nconst size_t table_words = sizeof table / 4;\n' >> "$work/table.c"
     # shellcheck disable=SC2086
     clang $target -std=c99 -Os -ffreestanding -c "$work/table.c" -o "$work/table.o"
     # shellcheck disable=SC2086

@@ -66,7 +66,6 @@ awk '{ points += $1; bytes += $2; if (least == "" || $2 < least) least = $2; if 
 
 "$sdv" certify "$top/examples/sd_bring_up.sdv" > "$work/cert"
 "$sdv" emit "$top/examples/sd_bring_up.sdv" "$work/cert" table > "$work/table.c"
-printf '#include <stddef.h>\nconst size_t table_words = sizeof table / 4;\n' >> "$work/table.c"
 for compiler in gcc clang; do
     command -v "$compiler" > "$work/said" || continue
     "$compiler" -std=c99 -O2 "$top/bench/firmware.c" "$top/firmware/sdv_step.c" "$work/table.c" -o "$work/time"

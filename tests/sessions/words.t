@@ -88,9 +88,9 @@ Which word is wrong.
   $ up=$EXAMPLES/sd_bring_up.sdv cert=$EXAMPLES/sd_bring_up.cert
   $ sdv emit $up $cert 9x; sdv emit $up $cert for; sdv emit $up $cert a-b; sdv emit -- $up $cert for; sdv batch sd "erase 0 1"; sdv batch sd "read 0"
   usage: 9x is no NAME (an identifier of C): sdv emit SCRIPT CERT NAME [--binary FILE]
-  usage: NAME is a keyword of C: sdv emit SCRIPT CERT NAME [--binary FILE]
+  usage: NAME is a keyword or a reserved name of C: sdv emit SCRIPT CERT NAME [--binary FILE]
   usage: a-b is no NAME (an identifier of C): sdv emit SCRIPT CERT NAME [--binary FILE]
-  usage: NAME is a keyword of C: sdv emit SCRIPT CERT NAME [--binary FILE]
+  usage: NAME is a keyword or a reserved name of C: sdv emit SCRIPT CERT NAME [--binary FILE]
   usage: erase 0 1 is no REQUESTS (read FIRST COUNT and write FIRST COUNT): sdv batch KIND REQUESTS
   usage: REQUESTS are not read FIRST COUNT and write FIRST COUNT: sdv batch KIND REQUESTS
   [2]

@@ -27,8 +27,8 @@ pub data Mistake : Type 0 where
   twice : (word : Text) → Mistake
   -- `--json` and `--svg` are both named
   two_forms : Mistake
-  -- the name of an array is a keyword of C
-  keyword : Mistake
+  -- the name of an array is a keyword of C, or reserved there
+  taken : Mistake
   -- the requests of a batch are none
   no_requests : Mistake
 
@@ -109,7 +109,7 @@ is_letter byte = (nat_le 65 byte && nat_le byte 90) || (nat_le 97 byte && nat_le
 abbrev pub is_further : (byte : ℕ) → Bool
 is_further byte = is_letter byte || is_digit byte
 
--- letters, digits and `_`, of which the first is no digit; a keyword of C is left to the command
+-- letters, digits and `_`, of which the first is no digit; one that is taken in C is left to the command
 abbrev pub is_name : Text → Bool
 is_name [] = false
 is_name (byte ∷ bytes) = is_letter byte && list_all is_further bytes
@@ -194,7 +194,7 @@ asks_two_forms words = is_among words (codes "--json") && is_among words (codes 
 
 abbrev pub mistake_of_command : (command : Text) → Mistake
 mistake_of_command command =
-    if bytes_eq command (codes "emit") then keyword
+    if bytes_eq command (codes "emit") then taken
     else if bytes_eq command (codes "batch") then no_requests
     else unknown
 
@@ -233,7 +233,7 @@ mistake_words (missing name) = name ++ codes " is missing: "
 mistake_words (no_value name value) = codes "--" ++ (name ++ (codes " needs " ++ (value ++ codes ": ")))
 mistake_words (twice word) = word ++ codes " stands twice: "
 mistake_words two_forms = codes "--json and --svg exclude each other: "
-mistake_words keyword = codes "NAME is a keyword of C: "
+mistake_words taken = codes "NAME is a keyword or a reserved name of C: "
 mistake_words no_requests = codes "REQUESTS are not read FIRST COUNT and write FIRST COUNT: "
 
 -- a name that asks for help
@@ -275,7 +275,7 @@ seen_mistake (mistakes.Missing name) = missing name.now
 seen_mistake (mistakes.NoValue name value) = no_value name.now value.now
 seen_mistake (mistakes.Twice word) = twice word.now
 seen_mistake mistakes.TwoForms = two_forms
-seen_mistake mistakes.Keyword = keyword
+seen_mistake mistakes.Taken = taken
 seen_mistake mistakes.NoRequests = no_requests
 
 abbrev pub seen_reading : CodeReading → Reading

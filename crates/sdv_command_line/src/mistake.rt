@@ -41,8 +41,8 @@ pub enum Mistake<'a> {
     Twice(&'a str),
     /// `--json` and `--svg` are both named.
     TwoForms,
-    /// The name of an array is a keyword of C.
-    Keyword,
+    /// The name of an array is a keyword of C, or reserved there.
+    Taken,
     /// The requests of a batch are none.
     NoRequests,
 }
@@ -196,7 +196,7 @@ fn put_mistake(line: &mut Vec<u8>, mistake: Mistake<'_>) -> Result<(), AllocErro
         }
         Mistake::Twice(word) => put_both(line, word, " stands twice: "),
         Mistake::TwoForms => put(line, "--json and --svg exclude each other: "),
-        Mistake::Keyword => put(line, "NAME is a keyword of C: "),
+        Mistake::Taken => put(line, "NAME is a keyword or a reserved name of C: "),
         Mistake::NoRequests => {
             put(
                 line,
@@ -263,7 +263,7 @@ fn mistake_of_command<'a>(command: &str) -> Mistake<'a>
     ensures { seen_mistake result ≡ mistake_of_command command.now }
 {
     match command {
-        "emit" => Mistake::Keyword,
+        "emit" => Mistake::Taken,
         "batch" => Mistake::NoRequests,
         _ => Mistake::Unknown,
     }

@@ -1,5 +1,5 @@
 -- The array of a table is read as its words.
-use Rattle.std.proofs.Common.{lit<, ◌≡◌, ℕ, zero, suc, ◌+◌, ◌^◌, ◌<◌, ◌≤◌, true, List, [], ◌∷◌, ◌++◌, length, take, drop, slice_index, refl, sym, ap, ◌∙◌, arith, append_assoc}
+use Rattle.std.proofs.Common.{lit<, ◌≡◌, ℕ, zero, suc, ◌+◌, ◌^◌, ◌<◌, ◌≤◌, true, false, List, [], ◌∷◌, ◌++◌, length, take, drop, slice_index, refl, sym, ap, ◌∙◌, arith, append_assoc}
 use Rattle.std.proofs.Math.Seq.{drop-cons}
 use Rattle.std.proofs.lemmas.List.{drop-drop, take-append-drop}
 use Rattle.std.specs.Prelude.{codes}
@@ -60,18 +60,19 @@ rows_begun : (rest : Text) → read true Code (codes "\n    /* rows */" ++ rest)
 unfolding read
 rows_begun rest = refl
 
-array_ended : read true Code (codes "\n};\n") ≡ []
+array_ended : (rest : Text) → read true Code (codes "\n};\n" ++ rest) ≡ read false Code rest
 unfolding read
-array_ended = refl
+array_ended rest = refl
 
 append_nothing : (xs : List ℕ) → xs ++ [] ≡ xs
 append_nothing [] = refl
 append_nothing (x ∷ xs) = ap (λ l. x ∷ l) (append_nothing xs)
 
-rows_read : (ws : List ℕ) → AreWords ws → read true Code (rows_text ws) ≡ ws
-rows_read ws are =
-    rows_begun (word_lines 0 ws ++ codes "\n};\n")
-    ∙ (lines_read 0 ws (codes "\n};\n") are ∙ (ap (λ (l : List ℕ). ws ++ l) array_ended ∙ append_nothing ws))
+rows_read : (ws : List ℕ) (rest : Text) → AreWords ws → read false Code rest ≡ [] → read true Code (rows_text ws ++ rest) ≡ ws
+rows_read ws rest are none =
+    rows_begun ((word_lines 0 ws ++ codes "\n};\n") ++ rest)
+    ∙ (ap (read true Code) (append_assoc (word_lines 0 ws) (codes "\n};\n") rest)
+    ∙ (lines_read 0 ws (codes "\n};\n" ++ rest) are ∙ (ap (λ (l : List ℕ). ws ++ l) (array_ended rest ∙ none) ∙ append_nothing ws)))
 
 -- ALL OF THEM
 
@@ -80,11 +81,17 @@ parts ws m =
     ap (λ (l : List ℕ). take header_size ws ++ (take m (drop header_size ws) ++ l)) (sym (drop-drop m header_size ws))
     ∙ (ap (λ (l : List ℕ). take header_size ws ++ l) (take-append-drop m (drop header_size ws)) ∙ take-append-drop header_size ws)
 
-pub array_read : (g : Graph) (ws : List ℕ) → AreWords ws → header_size + length g.points ≤ length ws → read true Code (array_text g ws) ≡ ws
-array_read g ws are room =
+-- with what follows it, in which there is none
+pub array_read : (g : Graph) (ws : List ℕ) (rest : Text) → AreWords ws → header_size + length g.points ≤ length ws → read false Code rest ≡ []
+    → read true Code (array_text g ws ++ rest) ≡ ws
+array_read g ws rest are room none =
     let enough : header_size + 0 + length g.points ≤ length ws = omega (arith, room) in
     let rows = drop (header_size + length g.points) ws in
-    lines_read 0 (take header_size ws) (numbered (point_line g ws) 0 g.points ++ rows_text rows) (words_taken header_size ws are)
-    ∙ (ap (λ (l : List ℕ). take header_size ws ++ l) (points_read g ws 0 g.points (rows_text rows) are)
-    ∙ (ap (λ (l : List ℕ). take header_size ws ++ (heads_from ws 0 g.points ++ l)) (rows_read rows (words_dropped (header_size + length g.points) ws are))
-    ∙ (ap (λ (l : List ℕ). take header_size ws ++ (l ++ rows)) (heads_taken ws 0 g.points enough) ∙ parts ws (length g.points))))
+    let points = numbered (point_line g ws) 0 g.points in
+    ap (read true Code) (append_assoc (word_lines 0 (take header_size ws)) (points ++ rows_text rows) rest)
+    ∙ (lines_read 0 (take header_size ws) ((points ++ rows_text rows) ++ rest) (words_taken header_size ws are)
+    ∙ (ap (λ (t : Text). take header_size ws ++ read true Code t) (append_assoc points (rows_text rows) rest)
+    ∙ (ap (λ (l : List ℕ). take header_size ws ++ l) (points_read g ws 0 g.points (rows_text rows ++ rest) are)
+    ∙ (ap (λ (l : List ℕ). take header_size ws ++ (heads_from ws 0 g.points ++ l))
+    (rows_read rows rest (words_dropped (header_size + length g.points) ws are) none)
+    ∙ (ap (λ (l : List ℕ). take header_size ws ++ (l ++ rows)) (heads_taken ws 0 g.points enough) ∙ parts ws (length g.points))))))

@@ -14,7 +14,8 @@ differs test b n passes fails = ne_eqb b n (λ same. let both : true ≡ false =
 -- no star, slash, brace or `x`
 abbrev pub is_quiet : ℕ → Bool
 is_quiet b =
-    if b == 42 then false else (if b == 47 then false else (if b == 120 then false else (if b == 123 then false else true)))
+    if b == 42 then false
+    else (if b == 47 then false else (if b == 120 then false else (if b == 123 then false else (if b == 125 then false else true))))
 
 -- a place behind the end has 0
 item_passes : (test : ℕ → Bool) (xs : List ℕ) → list_all test xs ≡ true → test 0 ≡ true → (k : ℕ) → test (slice_index xs k) ≡ true
@@ -33,8 +34,9 @@ in_comment array b rest other = rw other refl
 -- a byte that is none of them, outside of comments
 pub in_code : (array : Bool) (b : ℕ) (rest : Text) → is_quiet b ≡ true → read array Code (b ∷ rest) ≡ read array Code rest
 unfolding read
-in_code true b rest quiet = rw (differs is_quiet b 47 quiet refl, differs is_quiet b 123 quiet refl, differs is_quiet b 120 quiet refl) refl
-in_code false b rest quiet = rw (differs is_quiet b 47 quiet refl, differs is_quiet b 123 quiet refl) refl
+in_code true b rest quiet =
+    rw (differs is_quiet b 47 quiet refl, differs is_quiet b 123 quiet refl, differs is_quiet b 125 quiet refl, differs is_quiet b 120 quiet refl) refl
+in_code false b rest quiet = rw (differs is_quiet b 47 quiet refl, differs is_quiet b 123 quiet refl, differs is_quiet b 125 quiet refl) refl
 
 -- digits outside of comments
 pub digits_in_code : (array : Bool) (bytes : List ℕ) (rest : Text) → read array Code (encode_lower bytes ++ rest) ≡ read array Code rest

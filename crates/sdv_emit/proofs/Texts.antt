@@ -7,7 +7,7 @@ use Rattle.std.proofs.lemmas.Nat.{from_le_bytes-to_le_bytes_4}
 use Rattle.sdv_graph.specs.Graph.{Graph}
 use Rattle.sdv_table.specs.Table.{header_size}
 use Rattle.sdv_emit.specs.Identifier.{is_first, is_further, is_identifier}
-use Rattle.sdv_emit.specs.CText.{Text, comment, title, promise, top, array_top, declaration, array_text, c_text, little_endian}
+use Rattle.sdv_emit.specs.CText.{Text, comment, title, promise, top, array_top, declaration, array_text, count_text, c_text, little_endian}
 use Rattle.sdv_emit.specs.Reading.{Code, read, words_in, words_of_bytes}
 use Rattle.sdv_emit.proofs.Bytes.{differs}
 use Rattle.sdv_emit.proofs.Comments.{comment_skipped}
@@ -18,7 +18,7 @@ use Rattle.sdv_emit.proofs.Arrays.{array_read}
 
 name_byte : (b : ℕ) (rest : Text) → is_further b ≡ true → read false Code (b ∷ rest) ≡ read false Code rest
 unfolding read
-name_byte b rest is = rw (differs is_further b 47 is refl, differs is_further b 123 is refl) refl
+name_byte b rest is = rw (differs is_further b 47 is refl, differs is_further b 123 is refl, differs is_further b 125 is refl) refl
 
 name_bytes : (name rest : Text) → list_all is_further name ≡ true → read false Code (name ++ rest) ≡ read false Code rest
 name_bytes [] rest all = refl
@@ -28,7 +28,7 @@ name_bytes (b ∷ name) rest all =
 
 first_byte : (b : ℕ) (rest : Text) → is_first b ≡ true → read false Code (b ∷ rest) ≡ read false Code rest
 unfolding read
-first_byte b rest is = rw (differs is_first b 47 is refl, differs is_first b 123 is refl) refl
+first_byte b rest is = rw (differs is_first b 47 is refl, differs is_first b 123 is refl, differs is_first b 125 is refl) refl
 
 name_skipped : (name rest : Text) → is_identifier name ≡ true → read false Code (name ++ rest) ≡ read false Code rest
 name_skipped [] rest is = refl
@@ -48,7 +48,7 @@ top_skipped file bound rest =
     ap (read false Code) (append_assoc (comment (title file bound)) promise rest)
     ∙ (comment_skipped false (title file bound) (promise ++ rest) ∙ promise_skipped rest)
 
-type_skipped : (rest : Text) → read false Code (codes "#include <stdint.h>\n\nconst uint32_t " ++ rest) ≡ read false Code rest
+type_skipped : (rest : Text) → read false Code (codes "#include <stddef.h>\n#include <stdint.h>\n\nconst uint32_t " ++ rest) ≡ read false Code rest
 unfolding read
 type_skipped rest = refl
 
@@ -58,10 +58,38 @@ array_begun rest = refl
 
 declaration_read : (name rest : Text) → is_identifier name ≡ true → read false Code (declaration name ++ rest) ≡ read true Code rest
 declaration_read name rest is =
-    ap (read false Code) (append_assoc (codes "#include <stdint.h>\n\nconst uint32_t ") (name ++ array_top) rest)
+    ap (read false Code) (append_assoc (codes "#include <stddef.h>\n#include <stdint.h>\n\nconst uint32_t ") (name ++ array_top) rest)
     ∙ (type_skipped ((name ++ array_top) ++ rest)
     ∙ (ap (read false Code) (append_assoc name array_top rest)
     ∙ (name_skipped name (array_top ++ rest) is ∙ array_begun rest)))
+
+-- BEHIND THE ARRAY
+
+count_begun : (rest : Text) → read false Code (codes "\nconst size_t " ++ rest) ≡ read false Code rest
+unfolding read
+count_begun rest = refl
+
+whole_skipped : (rest : Text) → read false Code (codes "_words = sizeof " ++ rest) ≡ read false Code rest
+unfolding read
+whole_skipped rest = refl
+
+-- the slash divides
+part_skipped : (rest : Text) → read false Code (codes " / sizeof " ++ rest) ≡ read false Code rest
+unfolding read
+part_skipped rest = refl
+
+count_ended : read false Code (codes "[0];\n") ≡ []
+unfolding read
+count_ended = refl
+
+count_read : (name : Text) → is_identifier name ≡ true → read false Code (count_text name) ≡ []
+count_read name is =
+    let part : Text = codes " / sizeof " ++ (name ++ codes "[0];\n") in
+    let whole : Text = codes "_words = sizeof " ++ (name ++ part) in
+    count_begun (name ++ whole)
+    ∙ (name_skipped name whole is
+    ∙ (whole_skipped (name ++ part)
+    ∙ (name_skipped name part is ∙ (part_skipped (name ++ codes "[0];\n") ∙ (name_skipped name (codes "[0];\n") is ∙ count_ended)))))
 
 -- THE TEXT
 
@@ -69,8 +97,10 @@ pub text_read : (file name : Text) (bound : ℕ) (g : Graph) (ws : List ℕ) →
     → header_size + length g.points ≤ length ws → words_in (c_text file name bound g ws) ≡ ws
 unfolding c_text
 text_read file name bound g ws is each room =
-    top_skipped file bound (declaration name ++ array_text g ws)
-    ∙ (declaration_read name (array_text g ws) is ∙ array_read g ws (are_words ws each) room)
+    let array : Text = array_text g ws ++ count_text name in
+    ap (read false Code) (append_assoc (top file bound) (declaration name) array)
+    ∙ (top_skipped file bound (declaration name ++ array)
+    ∙ (declaration_read name array is ∙ array_read g ws (count_text name) (are_words ws each) room (count_read name is)))
 
 -- ITS BYTES
 

@@ -1,4 +1,5 @@
--- The C TEXT of a table: comments that say what it is, and an array of its words, with a comment for each point.
+-- The C TEXT of a table: comments that say what it is, an array of its words, with a comment for each point, and the number
+-- of its words.
 use Rattle.std.specs.Prelude.{ℕ, suc, ◌+◌, ◌%◌, List, [], ◌∷◌, ◌++◌, take, drop, length, slice_index, flat_map, Bool, false, ◌==◌, ◌||◌, ◌&&◌, nat_le, codes, decimal, if◌then◌else◌}
 use Rattle.std.specs.Int.{w32, to_be_bytes, to_le_bytes}
 use Rattle.hex.specs.Hex.{encode_lower}
@@ -90,7 +91,7 @@ abbrev pub array_top : Text
 array_top = codes "[] = {\n    /* header; a player sends no more commands than its last two words say */"
 
 abbrev pub declaration : (name : Text) → Text
-declaration name = codes "#include <stdint.h>\n\nconst uint32_t " ++ (name ++ array_top)
+declaration name = codes "#include <stddef.h>\n#include <stdint.h>\n\nconst uint32_t " ++ (name ++ array_top)
 
 -- what follows the points
 abbrev pub rows_text : (rows : List ℕ) → Text
@@ -101,9 +102,15 @@ array_text g words =
     word_lines 0 (take header_size words) ++ (numbered (point_line g words) 0 g.points
     ++ rows_text (drop (header_size + length g.points) words))
 
+-- `const size_t NAME_words = sizeof NAME / sizeof NAME[0];`, for code that sees the array from another file
+abbrev pub count_text : (name : Text) → Text
+count_text name =
+    (codes "\nconst size_t " ++ name) ++ ((codes "_words = sizeof " ++ name) ++ ((codes " / sizeof " ++ name)
+    ++ codes "[0];\n"))
+
 -- the words of the table of a graph, in an array of this name
 unfoldable pub c_text : (file name : Text) → (bound : ℕ) → Graph → (words : List ℕ) → Text
-c_text file name bound g words = top file bound ++ (declaration name ++ array_text g words)
+c_text file name bound g words = (top file bound ++ declaration name) ++ (array_text g words ++ count_text name)
 
 -- BINARY: four bytes a word, the lowest first
 abbrev pub little_endian : List ℕ → List ℕ

@@ -4,7 +4,7 @@ ghost use Rattle.std.specs.Prelude.{◌≡◌, ◌++◌, ◌+◌, ◌≤◌, IfO
 ghost use Rattle.sdv_table.specs.Table.{header_size};
 ghost use Rattle.sdv_emit.specs.Identifier.{is_identifier};
 ghost use Rattle.sdv_emit.specs.Reading.{words_in, words_of_bytes};
-ghost use Rattle.sdv_emit.specs.CText.{array_text, c_text, declaration, little_endian, rows_text, title, top};
+ghost use Rattle.sdv_emit.specs.CText.{array_text, c_text, count_text, declaration, little_endian, rows_text, title, top};
 
 use crate::points::put_points;
 use crate::text::put_comment;
@@ -57,7 +57,10 @@ fn put_top(alloc: Global, text: &mut Text, file: &str, bound: u64) -> Result<(),
 fn put_declaration(text: &mut Text, name: &str) -> Result<(), AllocError>
     ensures { OnOk result (text.new.items ≡ text.old.items ++ declaration name.now) }
 {
-    put(text, "#include <stdint.h>\n\nconst uint32_t ")?;
+    put(
+        text,
+        "#include <stddef.h>\n#include <stdint.h>\n\nconst uint32_t ",
+    )?;
     put(text, name)?;
     put(
         text,
@@ -89,6 +92,24 @@ fn put_array(
     put_rows(text, &words[8 + graph.len()..])
 }
 
+/// Adds words, and the name behind them.
+fn put_with_name(text: &mut Text, words: &str, name: &str) -> Result<(), AllocError>
+    ensures { OnOk result (text.new.items ≡ text.old.items ++ (words.now ++ name.now)) }
+{
+    put(text, words)?;
+    put(text, name)
+}
+
+/// Adds the number of the array's words.
+fn put_count(text: &mut Text, name: &str) -> Result<(), AllocError>
+    ensures { OnOk result (text.new.items ≡ text.old.items ++ count_text name.now) }
+{
+    put_with_name(text, "\nconst size_t ", name)?;
+    put_with_name(text, "_words = sizeof ", name)?;
+    put_with_name(text, " / sizeof ", name)?;
+    put(text, "[0];\n")
+}
+
 /// The text in C of the table of a graph, whose words are these.
 pub fn c_text(
     alloc: Global,
@@ -107,6 +128,7 @@ pub fn c_text(
     put_top(alloc, &mut text, labels.file, bound)?;
     put_declaration(&mut text, labels.name)?;
     put_array(alloc, &mut text, graph, words)?;
+    put_count(&mut text, labels.name)?;
     Ok(text)
 }
 

@@ -24,7 +24,7 @@ pub struct Emitted {
 ///
 /// # Errors
 ///
-/// [`EmitFault::Name`] where the array's name is no identifier of C, else [`EmitFault::Verify`] where the certificate is not
+/// [`EmitFault::Name`] where the array cannot have its name, else [`EmitFault::Verify`] where the certificate is not
 /// closed for the script's graph, else [`EmitFault::Wide`] where a part of the graph has no room in a table.
 /// [`EmitFault::Memory`] comes only where memory was refused.
 pub fn emit(

@@ -10,8 +10,8 @@ use thiserror::Error;
 /// Why no table is printed.
 #[derive(Clone, Copy, Debug, PartialEq, Eq, Error)]
 pub enum EmitFault {
-    /// The name of the array is no identifier of C.
-    #[error("the name is no identifier of C")]
+    /// The name of the array is no identifier of C, or C has it for itself.
+    #[error("the name is no identifier of C, or it is taken there")]
     Name,
     /// The script and the certificate were not verified.
     #[error("the script is not certified")]
