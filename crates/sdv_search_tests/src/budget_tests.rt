@@ -5,14 +5,14 @@ use std::alloc::Global;
 use std::process::Abort;
 
 /// CMD2 comes to a card in idle state: each run breaks the script.
-const EARLY: &str = "card sd
+pub(crate) const EARLY: &str = "card sd
 send 0 { else { } }
 send 2 { answer { } else { fault cid } }
 done
 ";
 
 /// CMD2 may come to a card in idle state, but beside no simulated card: with block addresses none is ready that took no CMD8.
-const UNCHECKED: &str = "card sd
+pub(crate) const UNCHECKED: &str = "card sd
 send 0 { else { } }
 send 55 { app { send 41 0x40ff8000 { ocr.ready & ocr.block { send 0 { else { } } send 2 { else { } } } else { } } } else { } }
 fault stop
