@@ -4,6 +4,5 @@
 
 #[cfg(test)]
 mod budget_tests;
-
 #[cfg(test)]
 mod path_tests;
