@@ -331,7 +331,7 @@ impl<'a> Fault<'a> {
                 mishaps,
                 ended,
                 broken,
-            } => say_no_run((runs, mishaps), ended, broken, err),
+            } => say_no_run(runs, mishaps, ended, broken, err),
             Fault::NoPath => say_no_path(err),
             Fault::Request(fault) => say_request(fault, err),
             Fault::Named | Fault::Found | Fault::Output => Ok(()),
@@ -502,7 +502,8 @@ fn of_broken(broken: bool) -> &'static str
 }
 
 fn say_no_run<E: Write>(
-    (runs, mishaps): (u64, u64),
+    runs: u64,
+    mishaps: u64,
     ended: bool,
     broken: bool,
     err: &mut E,
