@@ -5,7 +5,7 @@ use std::alloc::Global;
 use std::process::Abort;
 
 /// CMD2 comes to a card in idle state: each run breaks the script.
-const EARLY: &str = "card sd
+pub(crate) const EARLY: &str = "card sd
 send 0 { else { } }
 send 2 { answer { } else { fault cid } }
 done
@@ -13,7 +13,7 @@ done
 
 /// CMD41 may come to a card that does not expect an application command, but beside no simulated card: where CMD55 is
 /// answered without an error, they all do.
-const UNASKED: &str = "card sd
+pub(crate) const UNASKED: &str = "card sd
 send 0 { else { } }
 send 55 { clean { send 41 0x40ff8000 { else { } } } else { } }
 fault stop
