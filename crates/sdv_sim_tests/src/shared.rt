@@ -75,7 +75,7 @@ pub fn port(
 ) -> Port {
     let desc = CardDesc::parse(desc).expect(rt, "a description");
     let image = image(rt, alloc, desc.image_size(), block, byte);
-    Controller::new(Sim::new(alloc, desc, image, schedule).expect(rt, "a card"))
+    Controller::new(Sim::with_named_values(alloc, desc, image, schedule).expect(rt, "a card"))
 }
 
 /// A command is answered with an R1 of this status.

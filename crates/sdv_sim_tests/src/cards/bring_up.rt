@@ -146,7 +146,7 @@ fn codes(rt: HostRuntime) {
         for place in 0..9 {
             let mut schedule = [0; 9];
             schedule[place] = code;
-            let sim = Sim::new(alloc, desc, blocks, &schedule).expect(&rt, "a card");
+            let sim = Sim::with_named_values(alloc, desc, blocks, &schedule).expect(&rt, "a card");
             let mut card = Controller::new(sim);
             play(&rt, &mut card, &rows[..place]);
             meets(&rt, &mut card, code, place, &rows[place]);

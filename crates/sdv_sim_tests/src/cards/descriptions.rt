@@ -1,6 +1,6 @@
 //! Descriptions, and how a simulated card is made or refused.
 
-use crate::shared::same;
+use crate::shared::{image, same};
 use crate::texts::{BLOCK_CARD, BOOT_DEVICE, BYTE_CARD, DEVICE};
 use sdv_card::Kind;
 use sdv_sim::{CardDesc, MemImage, Sim, SimFault};
@@ -70,8 +70,8 @@ type Refusal = (&'static str, usize, u8, Option<SimFault>);
 static REFUSALS: [Refusal; 9] = [
     (BYTE_CARD, 2048, 6, None),
     (BYTE_CARD, 2048, 7, None),
-    (BYTE_CARD, 2048, 11, None),
-    (BYTE_CARD, 1536, 12, Some(SimFault::Description)),
+    (BYTE_CARD, 1536, 8, Some(SimFault::Description)),
+    (BYTE_CARD, 1536, 9, Some(SimFault::Description)),
     (BYTE_CARD, 1536, 0, Some(SimFault::ImageLength)),
     (BYTE_CARD, 2560, 0, Some(SimFault::ImageLength)),
     (BLOCK_CARD, 1023 * 512, 0, Some(SimFault::ImageLength)),
@@ -86,6 +86,23 @@ fn is_refused(rt: &impl Abort, alloc: Global, row: &Refusal) {
     let image = MemImage::from_bytes(bytes).expect(rt, "an image");
     let found = Sim::new(alloc, desc, image, &[0, row.2]).err();
     same(rt, &found, &row.3, row);
+}
+
+/// The values that have names alone.
+static NAMED: [(u8, Option<SimFault>); 3] = [
+    (8, None),
+    (11, None),
+    (12, Some(SimFault::Description)),
+];
+
+#[test]
+fn values_without_a_digit(rt: HostRuntime) {
+    let desc = CardDesc::parse(BYTE_CARD).expect(&rt, "a description");
+    for row in NAMED.iter() {
+        let image = image(&rt, rt.alloc(), 4, 0, 0);
+        let found = Sim::with_named_values(rt.alloc(), desc, image, &[0, row.0]).err();
+        same(&rt, &found, &row.1, row);
+    }
 }
 
 #[test]

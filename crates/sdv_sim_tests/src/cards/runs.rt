@@ -206,7 +206,7 @@ fn lost_events(rt: HostRuntime) {
         for place in 0..9 {
             let mut schedule = [0; 9];
             schedule[place] = code;
-            let sim = Sim::new(alloc, desc, blocks, &schedule).expect(&rt, "a card");
+            let sim = Sim::with_named_values(alloc, desc, blocks, &schedule).expect(&rt, "a card");
             let mut card = Controller::new(sim);
             meets(&rt, alloc, &script, &mut card, place, code);
             blocks = card.into_wire().into_image();
