@@ -517,6 +517,7 @@ fn say_no_run<E: Write>(
     let behind_count = of_runs(runs).as_bytes();
     let behind_number = of_mishaps(mishaps).as_bytes();
     let end = of_end(ended).as_bytes();
+    let broken = of_broken(broken).as_bytes();
     write_texts(
         err,
         &[
@@ -526,7 +527,7 @@ fn say_no_run<E: Write>(
             number,
             behind_number,
             end,
-            of_broken(broken).as_bytes(),
+            broken,
             b"\n",
         ],
     )

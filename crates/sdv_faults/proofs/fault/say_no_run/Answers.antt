@@ -1,6 +1,6 @@
 use Rattle.std.proofs.Common.{◌≡◌, ◌∙◌}
 use Rattle.std.specs.Prelude.{decimal}
-use Rattle.sdv_faults.specs.Fault.{of_end, of_mishaps, of_runs}
+use Rattle.sdv_faults.specs.Fault.{of_broken, of_end, of_mishaps, of_runs}
 use Rattle.sdv_faults.proofs.fault.say_no_run.Goals as goal
 
 pub returns : goal.returns
@@ -11,4 +11,5 @@ returns g c =
     let behind_mishaps : c.as_bytes-behind_number.result.now ≡ of_mishaps c.args.mishaps =
     c.as_bytes-behind_number.ensures.value ∙ c.of_mishaps.ensures in
     let end : c.as_bytes-end.result.now ≡ of_end c.args.ended = c.as_bytes-end.ensures.value ∙ c.of_end.ensures in
-    rw (runs, mishaps, behind_runs, behind_mishaps, end) at c.write_texts.ensures
+    let broken : c.as_bytes-broken.result.now ≡ of_broken c.args.broken = c.as_bytes-broken.ensures.value ∙ c.of_broken.ensures in
+    rw (runs, mishaps, behind_runs, behind_mishaps, end, broken) at c.write_texts.ensures
