@@ -122,7 +122,7 @@ Numbers beyond the limits, and images that do not fit.
 The end of a search in which no small card shows what is wrong: the script sends CMD12 too early only beside a great card.
 
   $ sed 's/^done/if cap >= 1048576 { send 13 { else { } } send 12 { else { } } } else { }\ndone/' $up > great.sdv; sdv refute great.sdv
-  no run found (568 runs of at most 2001 mishaps)
+  no run found (568 runs of at most 2001 mishaps), but a card of the state tables breaks the script
   [1]
   $ sdv certify great.sdv | head -n 1
   refused Illegal point 24 shape 0000000000002804

@@ -309,7 +309,7 @@ What breaks this one is a card with block addresses that is ready without a CMD8
 
   $ printf 'card sd\nsend 0 { else { } }\nsend 55 { app { send 41 0x40ff8000 { ocr.ready & ocr.block { send 0 { else { } } send 2 { else { } } } else { } } } else { } }\nfault stop\n' > unchecked.sdv
   $ sdv refute unchecked.sdv
-  no run found (100 runs of at most 2 mishaps)
+  no run found (100 runs of at most 2 mishaps), but a card of the state tables breaks the script
   [1]
 
 Nothing is written where no run was found, and nothing is printed where a file cannot be written.
