@@ -1,5 +1,5 @@
 -- A player that is told what the events of a path returned makes those events, and says what comes next there.
-use Rattle.std.proofs.Common.{◌≡◌, ◌+◌, ◌<◌, ◌≤◌, ℕ, zero, suc, List, [], ◌∷◌, ◌++◌, Some, Ok, Err, refl, sym, ap, ◌∙◌, subst, inl, inr, arith}
+use Rattle.std.proofs.Common.{◌≡◌, ◌+◌, ◌≤◌, ℕ, zero, suc, List, [], ◌∷◌, ◌++◌, Some, Ok, Err, refl, sym, ap, ◌∙◌, subst, inl, inr, arith}
 use Rattle.std.specs.Prelude.{◌⊎◌}
 use Rattle.sdv_registers.specs.declared.kind.Kind.{Kind}
 use Rattle.sdv_card.specs.Card.{Block}
@@ -7,7 +7,7 @@ use Rattle.sdv_card.specs.Host.{Host, host_after}
 use Rattle.sdv_card.specs.ScriptEvent.{ScriptEvent, SendCommand, ReceiveBlocks, ReceiveRegister, GiveBlocks, AwaitReady, Return}
 use Rattle.sdv_graph.specs.Walk.{Pair, Ending, Open, Stops, Deed, exactly, giving, IsDeed}
 use Rattle.sdv_graph.specs.Path.{Stand, Move, Goes, Does, Halts, Follows, PathWithin, move_from}
-use Rattle.sdv_graph.specs.Graph.{Graph, begin}
+use Rattle.sdv_graph.specs.Graph.{Graph}
 use Rattle.sdv_facts.specs.Beside.{commands, commands_in, IsOver}
 use Rattle.sdv_run.specs.declared.fault.RunFault.TheVariants.{Reply}
 use Rattle.sdv_run.specs.declared.next_event.NextEvent.{NextEvent}
@@ -20,7 +20,7 @@ use Rattle.sdv_player.specs.declared.next_step.Next.{Next}
 use Rattle.sdv_player.specs.declared.next_step.Next.TheVariants as nexts
 use Rattle.sdv_player.specs.declared.state.State.{State}
 use Rattle.sdv_player.specs.Passing.{EndsAs}
-use Rattle.sdv_player.specs.Play.{Ends, Says, GoesOn, IsOneTooMany, commands_of}
+use Rattle.sdv_player.specs.Play.{Says, GoesOn}
 use Rattle.sdv_player.specs.Plays.{TellsOne, Plays, IsEnding, returns_of, deed_by, deeds_of, SaysDeed, SaysRest, PlaysAreAlike}
 use Rattle.sdv_player.specs.Seen.{Registers, no_registers, stand_of}
 use Rattle.sdv_player.specs.StandsFor.{run_of, StandsFor}

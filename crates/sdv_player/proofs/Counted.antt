@@ -17,7 +17,7 @@ use Rattle.sdv_player.specs.declared.next_step.Next.{Next}
 use Rattle.sdv_player.specs.declared.next_step.Next.TheVariants as nexts
 use Rattle.sdv_player.specs.declared.state.State.{State}
 use Rattle.sdv_player.specs.Play.{commands_of, commands_said, commands_told}
-use Rattle.sdv_player.specs.Plays.{TellsOne, Plays, PlaysFromStart, PlaysAreCounted}
+use Rattle.sdv_player.specs.Plays.{TellsOne, PlaysFromStart, PlaysAreCounted}
 
 -- AN EVENT counts as what it returns
 

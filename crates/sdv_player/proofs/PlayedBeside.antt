@@ -34,9 +34,9 @@ use Rattle.sdv_run.specs.declared.returned.Returned.TheVariants as told
 use Rattle.sdv_run.specs.Answers.{is_taken}
 use Rattle.sdv_run.specs.Asks.{AsksFor, IsTooWide, deed_of}
 use Rattle.sdv_run.specs.Takes.{Took}
-use Rattle.sdv_run.specs.Machine.{Machine, LeadsBy, now}
+use Rattle.sdv_run.specs.Machine.{LeadsBy, now}
 use Rattle.sdv_run.proofs.OnCard.{taken}
-use Rattle.sdv_player.specs.Play.{Says, IsAsked, IsOneTooMany, commands_of}
+use Rattle.sdv_player.specs.Play.{Says, IsAsked, commands_of}
 use Rattle.sdv_player.specs.Plays.{PlaysAreGood}
 use Rattle.sdv_player.specs.Seen.{stand_of}
 use Rattle.sdv_player.specs.StandsFor.{run_of}
