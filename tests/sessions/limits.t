@@ -122,8 +122,30 @@ Numbers beyond the limits, and images that do not fit.
 The end of a search in which no small card shows what is wrong: the script sends CMD12 too early only beside a great card.
 
   $ sed 's/^done/if cap >= 1048576 { send 13 { else { } } send 12 { else { } } } else { }\ndone/' $up > great.sdv; sdv refute great.sdv
-  no run found (568 runs of at most 2001 mishaps), but a card of the state tables breaks the script
-  [1]
+  no run beside a simulated card was found, but the greatest card with byte addresses breaks the script:
+  refused Illegal point 24 shape 0000000000002804
+  line 14, point 24: CMD12, if the card is
+      tran: byte addresses, block length 512
+  why: CMD12 is not legal in tran state
+  a way there, if its number tests come out so:
+      before the first command    idle: byte addresses, block length not 512
+      line 5   CMD0                    -                                    then idle: byte addresses, block length not 512
+      line 6   CMD8                    timeout                              then idle: byte addresses, block length not 512
+      line 7   CMD55                   status idle, application command next then idle, application command next: byte addresses, block length not 512
+                   takes `app`
+      line 7   CMD41                   answer, ready, byte addresses        then ready: byte addresses, block length not 512
+                   takes `ocr.ready`
+      line 8   CMD2                    answer                               then ident: byte addresses, block length not 512
+                   takes `answer`
+      line 9   CMD3                    status ident                         then stby: byte addresses, block length not 512
+                   takes `clean`
+      line 10  CMD9                    answer                               then stby: byte addresses, block length not 512
+                   takes `answer`
+      line 11  CMD7                    status stby                          then tran: byte addresses, block length not 512
+                   takes `clean`
+      line 12  CMD16                   status tran                          then tran: byte addresses, block length 512
+                   takes `clean`
+      line 14  CMD13                   timeout                              then tran: byte addresses, block length 512
   $ sdv certify great.sdv | head -n 1
   refused Illegal point 24 shape 0000000000002804
   $ printf 'card sd\nversion 2\nunit block\ncsize 4194303\nrca 1\n' > card; sdv try great.sdv card block | tail -n 1

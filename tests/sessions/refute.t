@@ -182,7 +182,7 @@ Runs may be long, or each may take much memory. The search counts that, and ends
   [1]
   $ sed 's/loop 65535 { loop 65535/loop 300 { loop 300/' two.sdv > short.sdv; timeout 9 sdv refute short.sdv | tail -n 1
   wrong done
-  $ (printf 'card sd\nflags f\nsend 0 { else { } }\nloop 65535 {\n'; for n in $(seq 4000); do echo set f; done; printf 'send 0 { else { } }\n} else { }\ndone\n') > sets.sdv; timeout 9 sdv refute sets.sdv
+  $ (printf 'card sd\nflags f\nsend 0 { else { } }\nloop 65535 {\n'; for n in $(seq 4000); do echo set f; done; printf 'send 0 { else { } }\n} else { }\ndone\n') > sets.sdv; timeout 20 sdv refute sets.sdv
   no run found (12 runs of at most 0 mishaps)
   [1]
   $ (sed '/^done$/d' $EXAMPLES/sd_bring_up.sdv; printf 'send 13 { clean { } else { send 25 at by hc 0 count 65535 { else { } } } }\nloop 65535 { send 13 { else { } } } else { }\ndone\n') > room.sdv; timeout 9 sdv refute room.sdv | sed -n '/^mishaps/,/^card/p'
@@ -309,8 +309,43 @@ What breaks this one is a card with block addresses that is ready without a CMD8
 
   $ printf 'card sd\nsend 0 { else { } }\nsend 55 { app { send 41 0x40ff8000 { ocr.ready & ocr.block { send 0 { else { } } send 2 { else { } } } else { } } } else { } }\nfault stop\n' > unchecked.sdv
   $ sdv refute unchecked.sdv
+  no run beside a simulated card was found, but the greatest card with block addresses breaks the script:
+  refused Illegal point 4 shape 0000000000002c00
+  line 3, point 4: CMD2, if the card is
+      idle: block addresses
+  why: CMD2 is not legal in idle state
+  a way there:
+      before the first command    idle: block addresses
+      line 2   CMD0                    -                                    then idle: block addresses
+      line 3   CMD55                   status idle, application command next then idle, application command next: block addresses
+                   takes `app`
+      line 3   CMD41                   answer, ready, block addresses       then ready: block addresses
+                   takes `ocr.ready & ocr.block`
+      line 3   CMD0                    -                                    then idle: block addresses
+
+No simulated card makes that run, so there is none to write.
+
+  $ sdv refute unchecked.sdv --card none; sdv refute unchecked.sdv --schedule none; [ -e none ] || echo not there
   no run found (100 runs of at most 2 mishaps), but a card of the state tables breaks the script
-  [1]
+  no run found (100 runs of at most 2 mishaps), but a card of the state tables breaks the script
+  not there
+
+The same of `done`, of an address in the wrong unit, and of blocks that the greatest card has not.
+
+  $ sed 's/send 0 { else { } } send 2 { else { } }/done/' unchecked.sdv | sdv refute - | sed -n '2,5p'
+  refused EndState point 3
+  line 3, point 3: done, if the card is
+      ready: block addresses
+  why: at done the card has to be in tran state; CMD12 ends a transfer, and a wait the busy time
+  $ for at in 'at block' 'at by hc'; do
+  >   sed "s/^nums cap/nums cap n/; s/^done/if cap >= 4194304 { let n = cap + 1 send 17 $at n { answer { } else { } } } else { }\ndone/" $EXAMPLES/sd_bring_up.sdv | sdv refute - | sed -n '1p;3p;5p'
+  > done
+  no run beside a simulated card was found, but the greatest card with byte addresses breaks the script:
+  line 14, point 24: CMD17 at block n, if the card is
+  why: at block n needs a card with block addresses
+  no run beside a simulated card was found, but the greatest card with byte addresses breaks the script:
+  line 14, point 24: CMD17 at by hc n, if the card is
+  why: the card may not have all blocks at by hc n; what is known: the card has 8388608 blocks or more; cap is 8388608; n is 8388609
 
 Nothing is written where no run was found, and nothing is printed where a file cannot be written.
 

@@ -2,7 +2,7 @@
 use Rattle.std.proofs.Common.{◌≡◌, ◌≢◌, ◌∙◌, inl, inr, refl, sym, ap, ℕ, IfErr, IsErrAnd, List, OnOk, Option, Result, Ok, Err, Some, None, option_map}
 use Rattle.std.specs.Io.KnownBytes.{Keeps}
 use Rattle.clap.specs.Words.{Text}
-use Rattle.sdv_refute_commands.specs.Refute.{IsToldRun, RefuteEnds, Untold}
+use Rattle.sdv_refute_commands.specs.Refute.{IsTold, RefuteEnds, Untold}
 use Rattle.sdv_refute_commands.specs.Sweep.{ImageEnds, InputEnds}
 use Rattle.sdv_refute_commands.specs.Try.{TryEnds}
 use Rattle.sdv_run_command.specs.Run.{RunEnds}
@@ -54,13 +54,13 @@ module _ (files : Files) (s s' : Streams) (before after : Option (List ℕ)) whe
   refute-kept : (names : RefuteNames) (fault : Fault) → fault ≢ Output → RefuteEnds files names (Some fault) before after → Keeps before after
   refute-kept names fault other (inl taken) = taken.1
   refute-kept names fault other (inr apart) =
-      over-kept before after files names.script (λ (text : Text). Prints (IsToldRun files names text) (Untold files names text)) (Some fault)
-      (λ text. prints-kept before after (IsToldRun files names text) (Untold files names text) fault other) apart.1
+      over-kept before after files names.script (λ (text : Text). Prints (IsTold files names text) (Untold files names text)) (Some fault)
+      (λ text. prints-kept before after (IsTold files names text) (Untold files names text) fault other) apart.1
 
   refute-memory : (names : RefuteNames) → RefuteEnds files names (Some Memory) before after → Keeps before after
   refute-memory names (inl taken) = taken.1
   refute-memory names (inr apart) =
-      over-kept before after files names.script (λ (text : Text). Prints (IsToldRun files names text) (Untold files names text)) (Some Memory)
+      over-kept before after files names.script (λ (text : Text). Prints (IsTold files names text) (Untold files names text)) (Some Memory)
       (λ text kept. kept) apart.1
 
   -- a request that is refused prints nothing, but a run with or without a certificate, an explanation, a drawing, an audit, the

@@ -1,6 +1,6 @@
 -- Searches and sweeps that were not made, and what they left.
 use Rattle.std.proofs.Common.{◌≡◌, ◌∙◌, refl, sym, ap, subst, inl, inr, true, false, Some, None, ℕ, List, Option, Result, Ok, Err, IfErr, IfOk, IsErrAnd, option_map}
-use Rattle.std.specs.Prelude.{◌≢◌, IfSome, if◌then◌else◌}
+use Rattle.std.specs.Prelude.{◌≢◌, Bool, IfSome, is_some, if◌then◌else◌}
 use Rattle.std.specs.Borrow.{Bor}
 use Rattle.clap.specs.Words.{Text}
 use Rattle.sdv_card.specs.Card.{Block}
@@ -12,10 +12,14 @@ use Rattle.sdv_script.specs.declared.fault.FaultKind.TheVariants as kinds
 use Rattle.sdv_script.specs.declared.fault.ScriptFault.{ScriptFault}
 use Rattle.sdv_check.specs.Verified.{IsNoScript}
 use Rattle.sdv_paths.specs.Answered.{IsUnbreakable, IsUncertifiedText}
+use Rattle.sdv_broken_paths.specs.Breaks.{IsBreakOfText}
 use Rattle.sdv_broken_paths.specs.Broken.{IsBrokenText}
+use Rattle.sdv_broken_paths.specs.declared.breaking.Break.{Break}
+use Rattle.sdv_broken_paths.proofs.BrokenTexts.{broken_text}
 use Rattle.sdv_refute.specs.declared.simulated.TryFault.{TryFault}
 use Rattle.sdv_refute.specs.declared.simulated.TryFault.TheVariants as tries
 use Rattle.sdv_refute.specs.Tries.{IsRefused}
+use Rattle.sdv_search.specs.Breaking.{IsBreakReport}
 use Rattle.sdv_search.specs.Refuted.{IsNoSearch, IsRefutation}
 use Rattle.sdv_named_schedules.specs.Writing.{schedule_text}
 use Rattle.sdv_search.specs.Report.{IsReport}
@@ -34,7 +38,9 @@ use Rattle.sdv_files.specs.Outcomes.{Ending, Prints, PrintsText, Reports, outcom
 use Rattle.sdv_files.proofs.OutcomeLaws.{prints}
 use Rattle.sdv_files.proofs.StartLaws.{keeps_same}
 use Rattle.sdv_run_command.specs.Run.{GivesNoInput, IsOptional}
-use Rattle.sdv_refute_commands.specs.Refute.{IsNoRefutation, IsToldOf, IsToldRun, Untold}
+use Rattle.sdv_refute_commands.specs.Refute.{IsNoRefutation, IsShown, IsTold, IsToldOf, NamesNoFile, Untold}
+use Rattle.sdv_refute_commands.specs.declared.refutation.Shown.{Shown}
+use Rattle.sdv_refute_commands.specs.declared.refutation.Shown.TheVariants.{Run, Path}
 use Rattle.sdv_refute_commands.specs.Sweep.{HasNoBytes, IsSwept, IsUnswept, NoImage, NoInput, Over}
 
 -- SEARCHES
@@ -62,22 +68,36 @@ pub unsearched : {T : Type 0} (script : Text) (fault : TryFault) → IsNoSearch 
 unsearched script fault none (Ok x) is = absurd is
 unsearched script fault none (Err f) is = rw is (no_search script fault none)
 
--- what a search found, as it is told
-module _ (script : Text) (found : SearchFound) where
-  pub run_found : (r : Result Refutation Fault) → IsToldOf found r → IfSome found.refutation (IsRefutation script) → IfOk r (IsRefutation script)
-  run_found (Ok run) is refutes = rw is at refutes
-  run_found (Err fault) is refutes = tt
+-- what a search found, as it is shown or told
+module _ (script : Text) (found : SearchFound) (writes : Bool) where
+  path_shown : (names : RefuteNames) (path : Break) → found.broken ≡ Some path → NamesNoFile names → IfSome found.broken (IsBreakOfText script)
+      → IsShown script names (Path path)
+  path_shown names path is none breaks = (none, rw is at breaks)
 
-  none_found_as : (fault : Fault) → IsToldOf found (Err fault) → (found.unbreakable ≡ true → IsUnbreakable script)
-      → (found.unbreakable ≡ false → IsUncertifiedText script) → (found.broken ≡ true → IsBrokenText script) → IsNoRefutation script fault
+  shown_found_as : (names : RefuteNames) (shown : Shown) → IsToldOf found writes (Ok shown) → (writes ≡ false → NamesNoFile names)
+      → IfSome found.refutation (IsRefutation script) → IfSome found.broken (IsBreakOfText script) → IsShown script names shown
+  shown_found_as names (Run run) is unnamed refutes breaks = rw is at refutes
+  shown_found_as names (Path path) is unnamed refutes breaks = path_shown names path is.2 (unnamed is.3) breaks
+
+  pub shown_found : (names : RefuteNames) (r : Result Shown Fault) → IsToldOf found writes r → (writes ≡ false → NamesNoFile names)
+      → IfSome found.refutation (IsRefutation script) → IfSome found.broken (IsBreakOfText script) → IfOk r (IsShown script names)
+  shown_found names (Ok shown) is unnamed refutes breaks = shown_found_as names shown is unnamed refutes breaks
+  shown_found names (Err fault) is unnamed refutes breaks = tt
+
+  some_card : (path : Option Break) → IfSome path (IsBreakOfText script) → is_some path ≡ true → IsBrokenText script
+  some_card None breaks is = absurd (cc is)
+  some_card (Some path) breaks is = broken_text script path breaks
+
+  none_found_as : (fault : Fault) → IsToldOf found writes (Err fault) → (found.unbreakable ≡ true → IsUnbreakable script)
+      → (found.unbreakable ≡ false → IsUncertifiedText script) → IfSome found.broken (IsBreakOfText script) → IsNoRefutation script fault
   none_found_as (NoRun runs mishaps ended broken) is safe uncertified breaks =
-      (uncertified is.breakable, λ told. breaks (sym is.by_some_card ∙ told))
+      (uncertified is.breakable, λ told. some_card found.broken breaks (sym is.by_some_card ∙ told))
   none_found_as NoPath is safe uncertified breaks = safe is.1
   none_found_as _ is safe uncertified breaks = absurd is
 
-  pub none_found : (r : Result Refutation Fault) → IsToldOf found r → (found.unbreakable ≡ true → IsUnbreakable script)
-      → (found.unbreakable ≡ false → IsUncertifiedText script) → (found.broken ≡ true → IsBrokenText script) → IfErr r (IsNoRefutation script)
-  none_found (Ok run) is safe uncertified breaks = tt
+  pub none_found : (r : Result Shown Fault) → IsToldOf found writes r → (found.unbreakable ≡ true → IsUnbreakable script)
+      → (found.unbreakable ≡ false → IsUncertifiedText script) → IfSome found.broken (IsBreakOfText script) → IfErr r (IsNoRefutation script)
+  none_found (Ok shown) is safe uncertified breaks = tt
   none_found (Err fault) is safe uncertified breaks = none_found_as fault is safe uncertified breaks
 
 -- no certificate is accepted with a script that a run refutes
@@ -86,7 +106,7 @@ none_accepted script run is = (is.tries.refutes (zeros run.blocks) refl).refused
 
 module _ (files : Files) (names : RefuteNames) (script : Text) where
   abbrev pub told_ends : Ending
-  told_ends = Prints (IsToldRun files names script) (Untold files names script)
+  told_ends = Prints (IsTold files names script) (Untold files names script)
 
   untold : (known : Option (List ℕ)) (fault : Fault) → IsNoRefutation script fault → told_ends (Some fault) known known
   untold known (Script fault) none = (none, keeps_same known)
@@ -131,8 +151,14 @@ module _ (files : Files) (names : RefuteNames) (script : Text) where
         → IsLeft files names.schedule (schedule_text run.schedule.items) → (outcome : Option Fault) (before after : Option (List ℕ))
         → PrintsText text outcome before after → told_ends outcome before after
     told text report description schedule outcome before after printed =
-        prints before after (IsToldRun files names script) (Untold files names script) text outcome
-        (record { run = run; refutes = is; refused = none_accepted script run is; told = report; description = description; schedule = schedule }) printed
+        prints before after (IsTold files names script) (Untold files names script) text outcome
+        (inl (record { run = run; refutes = is; refused = none_accepted script run is; told = report; description = description; schedule = schedule })) printed
+
+  pub told_path : (path : Break) → NamesNoFile names → IsBreakOfText script path → (text : Text) → IsBreakReport script path text
+      → (outcome : Option Fault) (before after : Option (List ℕ)) → PrintsText text outcome before after → told_ends outcome before after
+  told_path path none breaks text report outcome before after printed =
+      prints before after (IsTold files names script) (Untold files names script) text outcome
+      (inr (record { unnamed = none; path = path; breaks = breaks; told = report })) printed
 
 -- SWEEPS
 

@@ -1,12 +1,15 @@
 -- `refute SCRIPT [--card FILE] [--schedule FILE]`: a run that refutes the script of a file, with its card and its schedule in
--- two files, neither of which is that of the script.
-use Rattle.std.specs.Prelude.{◌≡◌, ◌⊎◌, ℕ, Bool, true, false, not, Option, Some, None, Result, Ok, Err}
+-- two files, neither of which is that of the script; or a path of the state tables.
+use Rattle.std.specs.Prelude.{◌≡◌, ◌⊎◌, ℕ, Bool, true, false, is_some, not, Option, Some, None, Result, Ok, Err}
 use Rattle.std.specs.Io.KnownBytes.{Keeps}
 use Rattle.clap.specs.Words.{Text}
 use Rattle.sdv_check.specs.Verified.{IsNoScript}
 use Rattle.sdv_paths.specs.Answered.{IsUnbreakable, IsUncertifiedText}
+use Rattle.sdv_broken_paths.specs.Breaks.{IsBreakOfText}
 use Rattle.sdv_broken_paths.specs.Broken.{IsBrokenText}
+use Rattle.sdv_broken_paths.specs.declared.breaking.Break.{Break}
 use Rattle.sdv_refute.specs.Tries.{IsRefused}
+use Rattle.sdv_search.specs.Breaking.{IsBreakReport}
 use Rattle.sdv_search.specs.Refuted.{IsRefutation}
 use Rattle.sdv_named_schedules.specs.Writing.{schedule_text}
 use Rattle.sdv_search.specs.Report.{IsReport}
@@ -18,6 +21,8 @@ use Rattle.sdv_faults.specs.declared.fault.Fault.TheVariants.{File, Script, NoRu
 use Rattle.sdv_files.specs.Files.{Files}
 use Rattle.sdv_files.specs.Left.{IsLeft, LosesFile}
 use Rattle.sdv_files.specs.Outcomes.{Ending, OverText, Prints}
+use Rattle.sdv_refute_commands.specs.declared.refutation.Shown.{Shown}
+use Rattle.sdv_refute_commands.specs.declared.refutation.Shown.TheVariants.{Run, Path}
 
 -- The text tells of a run that refutes the script: beside the card that it describes, with the schedule that it has, the
 -- script prints the trace that it has. No certificate is accepted with the script. The description and the schedule went to
@@ -29,6 +34,22 @@ pub record IsToldRun (files : Files) (names : RefuteNames) (script text : Text) 
   pub told : IsReport script run text
   pub description : IsLeft files names.description run.card.now
   pub schedule : IsLeft files names.schedule (schedule_text run.schedule.items)
+
+-- no file is named for a card and a schedule
+pub record NamesNoFile (names : RefuteNames) : Type 0 where
+  pub description : names.description ≡ None
+  pub schedule : names.schedule ≡ None
+
+-- The text tells of a path of the state tables that breaks the script: a run of a card of the profile goes along it and
+-- refutes the script, and no certificate is accepted with it.
+pub record IsToldPath (names : RefuteNames) (script text : Text) : Type 0 where
+  pub unnamed : NamesNoFile names
+  pub path : Break
+  pub breaks : IsBreakOfText script path
+  pub told : IsBreakReport script path text
+
+abbrev pub IsTold : Files → RefuteNames → (script text : Text) → Type 0
+IsTold files names script text = IsToldRun files names script text ⊎ IsToldPath names script text
 
 -- there is a run, and a file did not take its description or its schedule
 pub record IsUnwritten (files : Files) (names : RefuteNames) (script file : Text) : Type 0 where
@@ -48,21 +69,30 @@ IsNoRefutation script NoPath = IsUnbreakable script
 IsNoRefutation script Memory = Unit {0}
 IsNoRefutation script fault = ⊥
 
--- what is told where a search found no run: how many it tried, whether it was ended, and whether some card breaks the script
-pub record HasNoRun (found : Found) (runs mishaps : ℕ) (ended broken : Bool) : Type 0 where
+-- what is shown of a script that is refuted
+abbrev pub IsShown : (script : Text) → RefuteNames → Shown → Type 0
+IsShown script names (Run run) = IsRefutation script run
+IsShown script names (Path path) = NamesNoFile names × IsBreakOfText script path
+
+-- what is told where nothing is shown of what a search found: how many runs it tried, whether it was ended, and whether some
+-- card breaks the script
+pub record HasNoRun (found : Found) (writes : Bool) (runs mishaps : ℕ) (ended broken : Bool) : Type 0 where
   pub none : found.refutation ≡ None
   pub breakable : found.unbreakable ≡ false
+  pub unshown : writes ≡ false → found.broken ≡ None
   pub runs_tried : runs ≡ found.runs
   pub most : mishaps ≡ found.mishaps
   pub ended_early : ended ≡ not found.complete
-  pub by_some_card : broken ≡ found.broken
+  pub by_some_card : broken ≡ is_some found.broken
 
--- what is told of what a search found
-abbrev pub IsToldOf : Found → Result Refutation Fault → Type 0
-IsToldOf found (Ok run) = found.refutation ≡ Some run
-IsToldOf found (Err (NoRun runs mishaps ended broken)) = HasNoRun found runs mishaps ended broken
-IsToldOf found (Err NoPath) = (found.refutation ≡ None) × (found.unbreakable ≡ true)
-IsToldOf found (Err fault) = ⊥
+-- what is shown or told of what a search found, where files are to be written or are not
+abbrev pub IsToldOf : Found → (writes : Bool) → Result Shown Fault → Type 0
+IsToldOf found writes (Ok (Run run)) = found.refutation ≡ Some run
+IsToldOf found writes (Ok (Path path)) =
+    (found.refutation ≡ None) × (found.unbreakable ≡ false) × (found.broken ≡ Some path) × (writes ≡ false)
+IsToldOf found writes (Err (NoRun runs mishaps ended broken)) = HasNoRun found writes runs mishaps ended broken
+IsToldOf found writes (Err NoPath) = (found.refutation ≡ None) × (found.unbreakable ≡ true)
+IsToldOf found writes (Err fault) = ⊥
 
 -- why none is told
 abbrev pub Untold : Files → RefuteNames → (script : Text) → Fault → Type 0
@@ -71,7 +101,7 @@ Untold files names script fault = IsNoRefutation script fault
 
 abbrev pub RefutesApart : Files → RefuteNames → Ending
 RefutesApart files names = OverText files names.script (λ script.
-    Prints (IsToldRun files names script) (Untold files names script))
+    Prints (IsTold files names script) (Untold files names script))
 
 -- NO FILE IS LOST BY A SLIP: neither file is that of the script, and they are two
 

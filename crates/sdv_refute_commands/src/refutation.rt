@@ -1,24 +1,35 @@
 //! `refute SCRIPT [--card FILE] [--schedule FILE]`: a run that refutes a script.
-ghost use Rattle.std.specs.Prelude.{◌≡◌, option_map, IfErr, IfOk, IfSome, None};
+ghost use Rattle.std.specs.Prelude.{◌≡◌, option_map, false, IfErr, IfOk, IfSome, None};
 ghost use Rattle.sdv_command_line.specs.Requests.{refute_names_of};
 ghost use Rattle.sdv_files.specs.Outcomes.{Prints, outcome_of};
 ghost use Rattle.sdv_search.specs.Refuted.{IsRefutation};
-ghost use Rattle.sdv_refute_commands.specs.Refute.{IsApart, IsNoRefutation, IsOver, IsTaken, IsToldOf, IsToldRun, RefuteEnds, RefutesApart, StaysOff, Untold};
+ghost use Rattle.sdv_refute_commands.specs.Refute.{IsApart, IsNoRefutation, IsOver, IsShown, IsTaken, IsTold, IsToldOf, NamesNoFile, RefuteEnds, RefutesApart, StaysOff, Untold};
 
+use sdv_broken_paths::Break;
 use sdv_command_line::RefuteFiles;
 use sdv_faults::Fault;
 use sdv_files::{Store, leave, print_text, text_in};
 use sdv_named_schedules::schedule_text;
-use sdv_search::{Found, Refutation, refute, report};
+use sdv_search::{Found, Refutation, refute, report, report_break};
 use std::alloc::Global;
 use std::io::Write;
 
 /// The runs of a search count so much at most.
 const BUDGET: u64 = 1_000_000;
 
+/// What is shown of a script that is refuted.
+#[derive(Drop)]
+enum Shown {
+    /// A run beside a simulated card.
+    Run(Refutation),
+    /// A path of the state tables.
+    Path(Break),
+}
+
 /// Looks for a run that refutes the script of a file, and prints what is told of it: its mishaps, why it stops, the card, the
 /// schedule and the trace. The description of the card and the schedule also go to the files that are named for them, if any
-/// are, before anything is printed.
+/// are, before anything is printed. Where no run is found and no file is named, it prints what is told of a path of the state
+/// tables by which some card breaks the script, if one is found.
 ///
 /// # Errors
 ///
@@ -26,7 +37,7 @@ const BUDGET: u64 = 1_000_000;
 ///   Or a file cannot be used: that of the script, or one that is written, which was made or emptied only where a run was
 ///   found. Nothing was printed.
 /// - [`Fault::Script`]: the text is no script. Nothing was printed.
-/// - [`Fault::NoRun`]: no run was found. Nothing was printed.
+/// - [`Fault::NoRun`]: no run was found; and no path, or a file is named. Nothing was printed, and no file was made.
 /// - [`Fault::NoPath`]: no run was found, and no path of the state tables breaks the script. Nothing was printed.
 /// - [`Fault::Output`]: the output failed. A part of what is told was printed.
 /// - [`Fault::Memory`]: memory was refused. Nothing was printed.
@@ -97,48 +108,67 @@ fn refute_text<'a, S: Store, O: Write>(
     script: &str,
     out: &mut O,
 ) -> Result<(), Fault<'a>>
-    ensures { Prints (IsToldRun (S.known files.now) (refute_names_of names.now) script.now)
+    ensures { Prints (IsTold (S.known files.now) (refute_names_of names.now) script.now)
         (Untold (S.known files.now) (refute_names_of names.now) script.now)
         (outcome_of result) (O.contents out.old) (O.contents out.new) }
 {
-    let run = run_against(alloc, script)?;
-    let text = report(alloc, script, &run)?;
-    let schedule = schedule_text(alloc, run.schedule.as_slice())?;
-    leave(files, names.description, run.card.as_bytes())?;
-    leave(files, names.schedule, schedule.as_slice())?;
-    print_text(text.as_slice(), out)
+    match shown_against(alloc, names, script)? {
+        Shown::Run(run) => {
+            let text = report(alloc, script, &run)?;
+            let schedule = schedule_text(alloc, run.schedule.as_slice())?;
+            leave(files, names.description, run.card.as_bytes())?;
+            leave(files, names.schedule, schedule.as_slice())?;
+            print_text(text.as_slice(), out)
+        }
+        Shown::Path(path) => {
+            let text = report_break(alloc, script, &path)?;
+            print_text(text.as_slice(), out)
+        }
+    }
 }
 
-/// A run that refutes a script.
+/// What is shown of a script, if it is refuted.
 ///
 /// # Errors
 ///
 /// [`Fault::Script`]: the text is no script. [`Fault::NoRun`] and [`Fault::NoPath`]: no run was found. [`Fault::Memory`]:
 /// memory was refused.
-fn run_against(alloc: Global, script: &str) -> Result<Refutation, Fault<'static>>
-    ensures found { IfOk result (IsRefutation script.now) }
+fn shown_against(
+    alloc: Global,
+    names: &RefuteFiles<'_>,
+    script: &str,
+) -> Result<Shown, Fault<'static>>
+    ensures shown { IfOk result (IsShown script.now (refute_names_of names.now)) }
     ensures none { IfErr result (IsNoRefutation script.now) }
 {
     let found = refute(alloc, script, BUDGET)?;
-    run_of(found)
+    shown_of(found, names_file(names))
 }
 
-/// The run that a search found, or that it found none.
+/// A file is named for the card or for the schedule.
+fn names_file(names: &RefuteFiles<'_>) -> bool
+    ensures { result ≡ false → NamesNoFile (refute_names_of names.now) }
+{
+    names.description.is_some() || names.schedule.is_some()
+}
+
+/// What is shown of what a search found. A path has no schedule that could be written.
 ///
 /// # Errors
 ///
 /// [`Fault::NoRun`] and [`Fault::NoPath`].
-fn run_of(found: Found) -> Result<Refutation, Fault<'static>>
-    ensures { IsToldOf found result }
+fn shown_of(found: Found, writes: bool) -> Result<Shown, Fault<'static>>
+    ensures { IsToldOf found writes result }
 {
-    match found.refutation {
-        Some(run) => Ok(run),
-        None if found.unbreakable => Err(Fault::NoPath),
-        None => Err(Fault::NoRun {
+    match (found.refutation, found.broken) {
+        (Some(run), _) => Ok(Shown::Run(run)),
+        (None, _) if found.unbreakable => Err(Fault::NoPath),
+        (None, Some(path)) if !writes => Ok(Shown::Path(path)),
+        (None, broken) => Err(Fault::NoRun {
             runs: found.runs,
             mishaps: found.mishaps,
             ended: !found.complete,
-            broken: found.broken,
+            broken: broken.is_some(),
         }),
     }
 }

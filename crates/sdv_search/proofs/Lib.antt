@@ -1,3 +1,4 @@
+pub mod BreakLaws
 pub mod SweptLaws
 pub mod TableLaws
 pub mod ZeroLaws

@@ -1,3 +1,4 @@
+pub mod Breaking
 pub mod Brief
 pub mod Mishaps
 pub mod Refuted

@@ -5,6 +5,7 @@
 //! script at all, `paths` follows it beside the states of small cards, and `exploring` keeps the trials that come last.
 #![tactic(auto)]
 
+mod breaking;
 mod brief;
 mod budget;
 mod cards;
@@ -24,6 +25,7 @@ mod table;
 mod tables;
 mod turns;
 
+pub use breaking::report_break;
 pub use brief::shown_run;
 pub use refuting::{Found, Refutation, refute};
 pub use reporting::report;
