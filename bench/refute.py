@@ -4,8 +4,8 @@
 It takes scripts that tests/firmware/scripts.py writes and that have a certificate, without their numbers (with --numbers: as they
 are), and changes one to three places of each: a statement is dropped or comes twice, a command becomes another, a guard is dropped or
 becomes another. COUNT (100) of those that `certify` then refuses are handed to `sdv refute`, which has two seconds for each. The same
-words make the same scripts. It prints how many are refuted, of how many no path of the state tables breaks the script, of how many
-nothing was found, and the times. SDV names the program. Scripts of which nothing was found stay in /tmp/sdv-refute.
+words make the same scripts. It prints how many are refuted by a run beside a simulated card, of how many a path of the state tables is
+told that breaks them, of how many no path does, of how many nothing was found, and the times. SDV names the program. Scripts of which nothing was found stay in /tmp/sdv-refute.
 """
 import os
 import random
@@ -102,14 +102,14 @@ def refused(folder, seed, numbers):
 def main():
     words = [word for word in sys.argv[1:] if word != "--numbers"]
     count, seed = int(words[0]) if words else 100, int(words[1]) if len(words) > 1 else 1
-    tally, times, slowest = {"refuted": 0, "no path": 0, "nothing found": 0, "too long": 0}, [], ""
+    tally, times = {"refuted": 0, "path told": 0, "no path": 0, "nothing found": 0, "too long": 0}, []
     os.makedirs(KEPT, exist_ok=True)
     with tempfile.TemporaryDirectory() as folder:
         for path, text in refused(folder, seed, "--numbers" in sys.argv):
             start = time.monotonic()
             try:
                 said = subprocess.run([SDV, "refute", path], capture_output=True, text=True, timeout=LIMIT)
-                end = ("refuted" if said.returncode == 0 else "no path" if "no path" in said.stderr
+                end = ("path told" if said.stdout.startswith("no run") else "refuted" if said.returncode == 0 else "no path" if "no path" in said.stderr
                        else "nothing found" if said.stderr.startswith("no run found") else sys.exit(said.stderr))
             except subprocess.TimeoutExpired:
                 end = "too long"
