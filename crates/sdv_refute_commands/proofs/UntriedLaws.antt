@@ -38,65 +38,77 @@ use Rattle.sdv_files.specs.Outcomes.{Ending, Prints, PrintsText, Reports, outcom
 use Rattle.sdv_files.proofs.OutcomeLaws.{prints}
 use Rattle.sdv_files.proofs.StartLaws.{keeps_same}
 use Rattle.sdv_run_command.specs.Run.{GivesNoInput, IsOptional}
-use Rattle.sdv_refute_commands.specs.Refute.{IsNoRefutation, IsShown, IsTold, IsToldOf, NamesNoFile, Untold}
+use Rattle.sdv_refute_commands.specs.Refute.{IsBrokenUnshown, IsNoRefutation, IsShown, IsTold, IsToldOf, Untold, names_file}
 use Rattle.sdv_refute_commands.specs.declared.refutation.Shown.{Shown}
 use Rattle.sdv_refute_commands.specs.declared.refutation.Shown.TheVariants.{Run, Path}
 use Rattle.sdv_refute_commands.specs.Sweep.{HasNoBytes, IsSwept, IsUnswept, NoImage, NoInput, Over}
 
 -- SEARCHES
 
-script_untried : (script : Text) (kind : FaultKind) (fault : ScriptFault) → (kind ≢ kinds.Memory → IsNoScript script)
-    → IsNoRefutation script (fault_of_script kind fault)
-script_untried script kinds.Memory fault is = tt
-script_untried script kinds.Token fault is = is (λ same. absurd (cc same))
-script_untried script kinds.Syntax fault is = is (λ same. absurd (cc same))
-script_untried script kinds.Name fault is = is (λ same. absurd (cc same))
-script_untried script kinds.Command fault is = is (λ same. absurd (cc same))
-script_untried script kinds.Argument fault is = is (λ same. absurd (cc same))
-script_untried script kinds.Guard fault is = is (λ same. absurd (cc same))
-script_untried script kinds.Limit fault is = is (λ same. absurd (cc same))
-script_untried script kinds.NoEnd fault is = is (λ same. absurd (cc same))
+module _ (names : RefuteNames) (script : Text) where
+  script_untried : (kind : FaultKind) (fault : ScriptFault) → (kind ≢ kinds.Memory → IsNoScript script)
+      → IsNoRefutation names script (fault_of_script kind fault)
+  script_untried kinds.Memory fault is = tt
+  script_untried kinds.Token fault is = is (λ same. absurd (cc same))
+  script_untried kinds.Syntax fault is = is (λ same. absurd (cc same))
+  script_untried kinds.Name fault is = is (λ same. absurd (cc same))
+  script_untried kinds.Command fault is = is (λ same. absurd (cc same))
+  script_untried kinds.Argument fault is = is (λ same. absurd (cc same))
+  script_untried kinds.Guard fault is = is (λ same. absurd (cc same))
+  script_untried kinds.Limit fault is = is (λ same. absurd (cc same))
+  script_untried kinds.NoEnd fault is = is (λ same. absurd (cc same))
 
-no_search : (script : Text) (fault : TryFault) → IsNoSearch script fault → IsNoRefutation script (fault_of_try fault)
-no_search script (tries.Script fault) none = script_untried script fault.kind fault none
-no_search script tries.Kind none = absurd none
-no_search script (tries.Card fault) none = absurd none
-no_search script tries.Memory none = tt
+  no_search : (fault : TryFault) → IsNoSearch script fault → IsNoRefutation names script (fault_of_try fault)
+  no_search (tries.Script fault) none = script_untried fault.kind fault none
+  no_search tries.Kind none = absurd none
+  no_search (tries.Card fault) none = absurd none
+  no_search tries.Memory none = tt
 
-pub unsearched : {T : Type 0} (script : Text) (fault : TryFault) → IsNoSearch script fault → (r : Result T Fault) → IsErrAnd r (λ f. f ≡ fault_of_try fault)
-    → IfErr r (IsNoRefutation script)
-unsearched script fault none (Ok x) is = absurd is
-unsearched script fault none (Err f) is = rw is (no_search script fault none)
+  pub unsearched : {T : Type 0} (fault : TryFault) → IsNoSearch script fault → (r : Result T Fault)
+      → IsErrAnd r (λ f. f ≡ fault_of_try fault) → IfErr r (IsNoRefutation names script)
+  unsearched fault none (Ok x) is = absurd is
+  unsearched fault none (Err f) is = rw is (no_search fault none)
 
 -- what a search found, as it is shown or told
-module _ (script : Text) (found : SearchFound) (writes : Bool) where
-  path_shown : (names : RefuteNames) (path : Break) → found.broken ≡ Some path → NamesNoFile names → IfSome found.broken (IsBreakOfText script)
+module _ (names : RefuteNames) (script : Text) (found : SearchFound) where
+  path_shown : (path : Break) → found.broken ≡ Some path → names_file names ≡ false → IfSome found.broken (IsBreakOfText script)
       → IsShown script names (Path path)
-  path_shown names path is none breaks = (none, rw is at breaks)
+  path_shown path is unnamed breaks = (unnamed, rw is at breaks)
 
-  shown_found_as : (names : RefuteNames) (shown : Shown) → IsToldOf found writes (Ok shown) → (writes ≡ false → NamesNoFile names)
-      → IfSome found.refutation (IsRefutation script) → IfSome found.broken (IsBreakOfText script) → IsShown script names shown
-  shown_found_as names (Run run) is unnamed refutes breaks = rw is at refutes
-  shown_found_as names (Path path) is unnamed refutes breaks = path_shown names path is.2 (unnamed is.3) breaks
+  shown_found_as : (shown : Shown) → IsToldOf found (names_file names) (Ok shown) → IfSome found.refutation (IsRefutation script)
+      → IfSome found.broken (IsBreakOfText script) → IsShown script names shown
+  shown_found_as (Run run) is refutes breaks = rw is at refutes
+  shown_found_as (Path path) is refutes breaks = path_shown path is.2 is.3 breaks
 
-  pub shown_found : (names : RefuteNames) (r : Result Shown Fault) → IsToldOf found writes r → (writes ≡ false → NamesNoFile names)
-      → IfSome found.refutation (IsRefutation script) → IfSome found.broken (IsBreakOfText script) → IfOk r (IsShown script names)
-  shown_found names (Ok shown) is unnamed refutes breaks = shown_found_as names shown is unnamed refutes breaks
-  shown_found names (Err fault) is unnamed refutes breaks = tt
+  pub shown_found : (r : Result Shown Fault) → IsToldOf found (names_file names) r → IfSome found.refutation (IsRefutation script)
+      → IfSome found.broken (IsBreakOfText script) → IfOk r (IsShown script names)
+  shown_found (Ok shown) is refutes breaks = shown_found_as shown is refutes breaks
+  shown_found (Err fault) is refutes breaks = tt
 
   some_card : (path : Option Break) → IfSome path (IsBreakOfText script) → is_some path ≡ true → IsBrokenText script
   some_card None breaks is = absurd (cc is)
   some_card (Some path) breaks is = broken_text script path breaks
 
-  none_found_as : (fault : Fault) → IsToldOf found writes (Err fault) → (found.unbreakable ≡ true → IsUnbreakable script)
-      → (found.unbreakable ≡ false → IsUncertifiedText script) → IfSome found.broken (IsBreakOfText script) → IsNoRefutation script fault
-  none_found_as (NoRun runs mishaps ended broken) is safe uncertified breaks =
-      (uncertified is.breakable, λ told. some_card found.broken breaks (sym is.by_some_card ∙ told))
+  beside_files : (path : Option Break) (writes : Bool) → (writes ≡ false → path ≡ None) → is_some path ≡ true → writes ≡ true
+  beside_files path true unshown is = refl
+  beside_files path false unshown is = absurd (cc (sym is ∙ ap is_some (unshown refl)))
+
+  none_found_as : (fault : Fault) → IsToldOf found (names_file names) (Err fault) → (found.unbreakable ≡ true → IsUnbreakable script)
+      → (found.unbreakable ≡ false → IsUncertifiedText script) → IfSome found.broken (IsBreakOfText script)
+      → IsNoRefutation names script fault
+  none_found_as (NoRun runs mishaps ended broken) is safe uncertified breaks = (
+    uncertified is.breakable,
+    λ told. record {
+      breaks = some_card found.broken breaks (sym is.by_some_card ∙ told);
+      named = beside_files found.broken (names_file names) is.unshown (sym is.by_some_card ∙ told);
+    },
+  )
   none_found_as NoPath is safe uncertified breaks = safe is.1
   none_found_as _ is safe uncertified breaks = absurd is
 
-  pub none_found : (r : Result Shown Fault) → IsToldOf found writes r → (found.unbreakable ≡ true → IsUnbreakable script)
-      → (found.unbreakable ≡ false → IsUncertifiedText script) → IfSome found.broken (IsBreakOfText script) → IfErr r (IsNoRefutation script)
+  pub none_found : (r : Result Shown Fault) → IsToldOf found (names_file names) r → (found.unbreakable ≡ true → IsUnbreakable script)
+      → (found.unbreakable ≡ false → IsUncertifiedText script) → IfSome found.broken (IsBreakOfText script)
+      → IfErr r (IsNoRefutation names script)
   none_found (Ok shown) is safe uncertified breaks = tt
   none_found (Err fault) is safe uncertified breaks = none_found_as fault is safe uncertified breaks
 
@@ -108,14 +120,14 @@ module _ (files : Files) (names : RefuteNames) (script : Text) where
   abbrev pub told_ends : Ending
   told_ends = Prints (IsTold files names script) (Untold files names script)
 
-  untold : (known : Option (List ℕ)) (fault : Fault) → IsNoRefutation script fault → told_ends (Some fault) known known
+  untold : (known : Option (List ℕ)) (fault : Fault) → IsNoRefutation names script fault → told_ends (Some fault) known known
   untold known (Script fault) none = (none, keeps_same known)
   untold known (NoRun runs mishaps ended broken) none = (none, keeps_same known)
   untold known NoPath none = (none, keeps_same known)
   untold known Memory none = keeps_same known
   untold known _ none = absurd none
 
-  pub unfound : {T : Type 0} (known : Option (List ℕ)) (fault : Fault) → IsNoRefutation script fault → (r : Result T Fault) → IsErrAnd r (λ f. f ≡ fault)
+  pub unfound : {T : Type 0} (known : Option (List ℕ)) (fault : Fault) → IsNoRefutation names script fault → (r : Result T Fault) → IsErrAnd r (λ f. f ≡ fault)
       → told_ends (outcome_of r) known known
   unfound known fault none (Ok x) is = absurd is
   unfound known fault none (Err f) is = rw is (untold known fault none)
@@ -154,7 +166,7 @@ module _ (files : Files) (names : RefuteNames) (script : Text) where
         prints before after (IsTold files names script) (Untold files names script) text outcome
         (inl (record { run = run; refutes = is; refused = none_accepted script run is; told = report; description = description; schedule = schedule })) printed
 
-  pub told_path : (path : Break) → NamesNoFile names → IsBreakOfText script path → (text : Text) → IsBreakReport script path text
+  pub told_path : (path : Break) → names_file names ≡ false → IsBreakOfText script path → (text : Text) → IsBreakReport script path text
       → (outcome : Option Fault) (before after : Option (List ℕ)) → PrintsText text outcome before after → told_ends outcome before after
   told_path path none breaks text report outcome before after printed =
       prints before after (IsTold files names script) (Untold files names script) text outcome

@@ -1,6 +1,6 @@
 -- `refute SCRIPT [--card FILE] [--schedule FILE]`: a run that refutes the script of a file, with its card and its schedule in
 -- two files, neither of which is that of the script; or a path of the state tables.
-use Rattle.std.specs.Prelude.{◌≡◌, ◌⊎◌, ℕ, Bool, true, false, is_some, not, Option, Some, None, Result, Ok, Err}
+use Rattle.std.specs.Prelude.{◌≡◌, ◌⊎◌, ◌||◌, ℕ, Bool, true, false, is_some, not, Option, Some, None, Result, Ok, Err}
 use Rattle.std.specs.Io.KnownBytes.{Keeps}
 use Rattle.clap.specs.Words.{Text}
 use Rattle.sdv_check.specs.Verified.{IsNoScript}
@@ -35,15 +35,14 @@ pub record IsToldRun (files : Files) (names : RefuteNames) (script text : Text) 
   pub description : IsLeft files names.description run.card.now
   pub schedule : IsLeft files names.schedule (schedule_text run.schedule.items)
 
--- no file is named for a card and a schedule
-pub record NamesNoFile (names : RefuteNames) : Type 0 where
-  pub description : names.description ≡ None
-  pub schedule : names.schedule ≡ None
+-- a file is named for the card or for the schedule
+abbrev pub names_file : RefuteNames → Bool
+names_file names = is_some names.description || is_some names.schedule
 
 -- The text tells of a path of the state tables that breaks the script: a run of a card of the profile goes along it and
 -- refutes the script, and no certificate is accepted with it.
 pub record IsToldPath (names : RefuteNames) (script text : Text) : Type 0 where
-  pub unnamed : NamesNoFile names
+  pub unnamed : names_file names ≡ false
   pub path : Break
   pub breaks : IsBreakOfText script path
   pub told : IsBreakReport script path text
@@ -58,21 +57,26 @@ pub record IsUnwritten (files : Files) (names : RefuteNames) (script file : Text
   pub lost : ((names.description ≡ Some file) × LosesFile files file run.card.now)
       ⊎ ((names.schedule ≡ Some file) × LosesFile files file (schedule_text run.schedule.items))
 
--- why there is no run: the text is no script; or no path of the state tables breaks the script, and each run of it is as
--- that of an accepted one; or none was found, of a script for which no certificate is written, and which a card of the state
--- tables breaks where that is told. Want of memory says nothing
-abbrev pub IsNoRefutation : (script : Text) → Fault → Type 0
-IsNoRefutation script (Script fault) = IsNoScript script
-IsNoRefutation script (NoRun runs mishaps ended broken) =
-    IsUncertifiedText script × (broken ≡ true → IsBrokenText script)
-IsNoRefutation script NoPath = IsUnbreakable script
-IsNoRefutation script Memory = Unit {0}
-IsNoRefutation script fault = ⊥
+-- a card of the state tables breaks the script, and a file is named, which could not be written of its path
+pub record IsBrokenUnshown (names : RefuteNames) (script : Text) : Type 0 where
+  pub breaks : IsBrokenText script
+  pub named : names_file names ≡ true
+
+-- why nothing is shown: the text is no script; or no path of the state tables breaks the script, and each run of it is as
+-- that of an accepted one; or no run was found, of a script for which no certificate is written, and which a card of the
+-- state tables breaks where that is told. Want of memory says nothing
+abbrev pub IsNoRefutation : RefuteNames → (script : Text) → Fault → Type 0
+IsNoRefutation names script (Script fault) = IsNoScript script
+IsNoRefutation names script (NoRun runs mishaps ended broken) =
+    IsUncertifiedText script × (broken ≡ true → IsBrokenUnshown names script)
+IsNoRefutation names script NoPath = IsUnbreakable script
+IsNoRefutation names script Memory = Unit {0}
+IsNoRefutation names script fault = ⊥
 
 -- what is shown of a script that is refuted
 abbrev pub IsShown : (script : Text) → RefuteNames → Shown → Type 0
 IsShown script names (Run run) = IsRefutation script run
-IsShown script names (Path path) = NamesNoFile names × IsBreakOfText script path
+IsShown script names (Path path) = (names_file names ≡ false) × IsBreakOfText script path
 
 -- what is told where nothing is shown of what a search found: how many runs it tried, whether it was ended, and whether some
 -- card breaks the script
@@ -97,7 +101,7 @@ IsToldOf found writes (Err fault) = ⊥
 -- why none is told
 abbrev pub Untold : Files → RefuteNames → (script : Text) → Fault → Type 0
 Untold files names script (File file) = IsUnwritten files names script file.now
-Untold files names script fault = IsNoRefutation script fault
+Untold files names script fault = IsNoRefutation names script fault
 
 abbrev pub RefutesApart : Files → RefuteNames → Ending
 RefutesApart files names = OverText files names.script (λ script.

@@ -3,7 +3,7 @@ ghost use Rattle.std.specs.Prelude.{◌≡◌, option_map, false, IfErr, IfOk, I
 ghost use Rattle.sdv_command_line.specs.Requests.{refute_names_of};
 ghost use Rattle.sdv_files.specs.Outcomes.{Prints, outcome_of};
 ghost use Rattle.sdv_search.specs.Refuted.{IsRefutation};
-ghost use Rattle.sdv_refute_commands.specs.Refute.{IsApart, IsNoRefutation, IsOver, IsShown, IsTaken, IsTold, IsToldOf, NamesNoFile, RefuteEnds, RefutesApart, StaysOff, Untold};
+ghost use Rattle.sdv_refute_commands.specs.Refute.{IsApart, IsNoRefutation, IsOver, IsShown, IsTaken, IsTold, IsToldOf, RefuteEnds, RefutesApart, StaysOff, Untold, names_file};
 
 use sdv_broken_paths::Break;
 use sdv_command_line::RefuteFiles;
@@ -139,7 +139,7 @@ fn shown_against(
     script: &str,
 ) -> Result<Shown, Fault<'static>>
     ensures shown { IfOk result (IsShown script.now (refute_names_of names.now)) }
-    ensures none { IfErr result (IsNoRefutation script.now) }
+    ensures none { IfErr result (IsNoRefutation (refute_names_of names.now) script.now) }
 {
     let found = refute(alloc, script, BUDGET)?;
     shown_of(found, names_file(names))
@@ -147,7 +147,7 @@ fn shown_against(
 
 /// A file is named for the card or for the schedule.
 fn names_file(names: &RefuteFiles<'_>) -> bool
-    ensures { result ≡ false → NamesNoFile (refute_names_of names.now) }
+    ensures { result ≡ names_file (refute_names_of names.now) }
 {
     names.description.is_some() || names.schedule.is_some()
 }
