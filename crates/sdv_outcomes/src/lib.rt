@@ -6,4 +6,7 @@
 #![tactic(auto)]
 
 pub mod examples;
+mod greatest;
 pub mod laws;
+
+pub use greatest::most_blocks;
