@@ -11,7 +11,7 @@ use Rattle.sdv_emit.specs.Emitted.{EmitFails, Emits}
 use Rattle.sdv_faults.specs.Fault.{fault_of_emit}
 use Rattle.sdv_faults.specs.declared.fault.Fault.{Fault}
 use Rattle.sdv_files.specs.Files.{Files}
-use Rattle.sdv_files.specs.Outcomes.{Ending, Prints, PrintsText}
+use Rattle.sdv_files.specs.Outcomes.{Ending, PrintsText}
 use Rattle.sdv_files.proofs.OutcomeLaws.{prints}
 use Rattle.sdv_files.proofs.StartLaws.{keeps_same}
 use Rattle.sdv_files.specs.Left.{IsLeft, LeavesFault}

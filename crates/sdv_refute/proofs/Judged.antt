@@ -1,5 +1,5 @@
 -- What is computed of what comes next at a card says whether it is allowed there.
-use Rattle.std.proofs.Common.{◌≡◌, ℕ, ◌+◌, ◌*◌, ◌≤◌, ◌<◌, length, refl, sym, ap, ◌∙◌, subst, arith, Bool, true, false, List, [], ◌∷◌, zero, suc, Option, Some, None}
+use Rattle.std.proofs.Common.{◌≡◌, ℕ, ◌+◌, ◌*◌, ◌<◌, length, refl, sym, ap, ◌∙◌, subst, Bool, true, false, List, [], ◌∷◌, zero, suc, Option, Some, None}
 use Rattle.std.proofs.lemmas.Bool.{eqb-true, eq-eqb, leb-true, le-leb}
 use Rattle.std.specs.Prelude.{◌≢◌, ◌&&◌, ◌==◌, nat_le, option_map, if◌then◌else◌}
 use Rattle.sdv_registers.specs.declared.kind.Kind.{Kind}
@@ -10,9 +10,9 @@ use Rattle.sdv_card.specs.declared.state.Transfer.TheVariants.{ReadDue, OpenRead
 use Rattle.sdv_card.specs.declared.event.Event.TheVariants.{Send}
 use Rattle.sdv_card.specs.Card.{Card, accessed_capacity}
 use Rattle.sdv_card.specs.CommandTable.{addressed_blocks, argument_of}
-use Rattle.sdv_card.specs.Host.{Host, host_after}
+use Rattle.sdv_card.specs.Host.{Host}
 use Rattle.sdv_card.specs.HostEvents.{Makes}
-use Rattle.sdv_card.specs.Legal.{EventLegal, InBounds, BlocksWithin, Within, recv_legal, recv_reg_legal, give_legal}
+use Rattle.sdv_card.specs.Legal.{EventLegal, InBounds, BlocksWithin, recv_legal, recv_reg_legal, give_legal}
 use Rattle.sdv_card.specs.LegalShapes.{legal_code}
 use Rattle.sdv_card.specs.Phases.{blocks_due, register_due}
 use Rattle.sdv_card.specs.Shapes.{IsPair, pair_code}
@@ -26,7 +26,7 @@ use Rattle.sdv_graph.specs.declared.tree.ScriptCommand.{ScriptCommand}
 use Rattle.sdv_graph.specs.AddressSent.{position_of_command, address_of_command}
 use Rattle.sdv_graph.specs.Conditions.{with_flag, with_lines}
 use Rattle.sdv_graph.specs.ValueOfLet.{value_of_let, with_number}
-use Rattle.sdv_graph.specs.Path.{Action, sends, phases, lets, tests, flags, widths, heads, jumps, stops, Case, Stand, arrive, way_of, Move, Goes, Does, Halts, move_with, move_at_head, action_move}
+use Rattle.sdv_graph.specs.Path.{Action, sends, phases, lets, tests, flags, widths, heads, jumps, stops, Stand, arrive, way_of, Move, Goes, Does, Halts, move_with, move_at_head, action_move}
 use Rattle.sdv_graph.specs.Walk.{Deed, Finished, Failed, Fell, Broke, Open, IsDeed, command_deed, phase_deed}
 use Rattle.sdv_facts.specs.Beside.{IsAllowed}
 use Rattle.sdv_facts.specs.Edges.{event_of_phase}
@@ -36,10 +36,8 @@ use Rattle.sdv_facts.proofs.FlagLaws.{flags_kept}
 use Rattle.sdv_facts.proofs.StepLaws.{Laws}
 use Rattle.sdv_facts.proofs.UnitLaws.{both}
 use Rattle.sdv_refute.specs.Sight.{sight_of}
-use Rattle.sdv_refute.specs.declared.next.Next.{Next}
-use Rattle.sdv_refute.specs.declared.sight.Sight.{Sight}
 use Rattle.sdv_refute.specs.Next.{next_of, send_at}
-use Rattle.sdv_refute.specs.Allows.{in_bounds, is_tran, allows, allows_next}
+use Rattle.sdv_refute.specs.Allows.{in_bounds, is_tran, allows_next}
 
 -- WHAT IT SAYS: of a move with an event, whether each event that it may make is allowed at the card; of `done`, whether
 -- the card is in the transfer state

@@ -1,15 +1,15 @@
 -- What comes next at a point is what a run does there.
-use Rattle.std.proofs.Common.{◌≡◌, ℕ, List, Option, Some, None, refl, sym, ap, subst}
+use Rattle.std.proofs.Common.{◌≡◌, ℕ, List, Option, Some, None, refl, sym, subst}
 use Rattle.std.specs.Prelude.{option_map}
 use Rattle.sdv_registers.specs.declared.kind.Kind.{Kind}
 use Rattle.sdv_card.specs.Host.{Host}
-use Rattle.sdv_card.specs.ScriptEvent.{ScriptEvent, SendCommand, ReceiveBlocks, ReceiveRegister, GiveBlocks, AwaitReady}
+use Rattle.sdv_card.specs.ScriptEvent.{ScriptEvent, ReceiveBlocks, ReceiveRegister, GiveBlocks}
 use Rattle.sdv_graph.specs.declared.tree.Phase.{Phase}
 use Rattle.sdv_graph.specs.declared.tree.Phase.TheVariants as kinds
 use Rattle.sdv_graph.specs.declared.tree.ScriptCommand.{ScriptCommand}
 use Rattle.sdv_graph.specs.AddressSent.{position_of_command}
-use Rattle.sdv_graph.specs.Path.{Action, sends, phases, lets, tests, flags, widths, heads, jumps, stops, Stand, Move, Goes, Does, Halts, move_with, action_move}
-use Rattle.sdv_graph.specs.Walk.{Finished, Failed, Fell, Broke, Open, IsDeed, command_deed, phase_deed}
+use Rattle.sdv_graph.specs.Path.{Action, sends, phases, stops, Move, Goes, Does, Halts, move_with, action_move}
+use Rattle.sdv_graph.specs.Walk.{Finished, IsDeed, command_deed, phase_deed}
 use Rattle.sdv_refute.specs.declared.next.Next.{Next}
 use Rattle.sdv_refute.specs.declared.next.Next.TheVariants.{Done}
 use Rattle.sdv_refute.specs.Next.{next_of, send_at, phase_next}

@@ -1,7 +1,7 @@
 -- A script that a run refutes is accepted with no certificate.
-use Rattle.std.proofs.Common.{◌≡◌, ℕ, List, [], ◌∷◌, ◌++◌, refl, subst, replicate}
+use Rattle.std.proofs.Common.{ℕ, List, [], ◌∷◌, ◌++◌, refl, subst, replicate}
 use Rattle.std.proofs.lemmas.List.{length-replicate}
-use Rattle.std.specs.Prelude.{Result, Ok}
+use Rattle.std.specs.Prelude.{Ok}
 use Rattle.sdv_card.specs.declared.answer.Answer.TheVariants.{Sent}
 use Rattle.sdv_card.specs.declared.answer.DataEnd.TheVariants.{Cut}
 use Rattle.sdv_card.specs.declared.answer.WaitEnd.TheVariants.{Late}

@@ -1,5 +1,5 @@
 -- A value that has a digit is one of a schedule.
-use Rattle.std.proofs.Common.{◌≡◌, ◌≤◌, ◌&&◌, Bool, true, ℕ, List, [], ◌∷◌, refl, arith, nat_le, leb-true}
+use Rattle.std.proofs.Common.{◌≡◌, ◌≤◌, true, ℕ, List, [], ◌∷◌, refl, arith, nat_le, leb-true}
 use Rattle.std.specs.Prelude.{is_some}
 use Rattle.sdv_card.proofs.Members.{and_left, and_right}
 use Rattle.sdv_behavior.specs.Schedules.{are_codes, behavior_of_code}

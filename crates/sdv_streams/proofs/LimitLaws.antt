@@ -3,7 +3,7 @@ use Rattle.std.proofs.Common.{◌≡◌, ◌∙◌, ap, arith, refl, subst, sym,
 use Rattle.sdv_registers.specs.declared.kind.Kind.{Kind}
 use Rattle.sdv_card.specs.Card.{Card}
 use Rattle.sdv_card.specs.Host.{host_after}
-use Rattle.sdv_card.specs.Port.{Call, KeepsTables, call_of}
+use Rattle.sdv_card.specs.Port.{Call, KeepsTables}
 use Rattle.sdv_card.specs.Expected.{Expected}
 use Rattle.sdv_card.specs.ScriptEvent.{ScriptEvent, SendCommand, ReceiveBlocks, ReceiveRegister, GiveBlocks, AwaitReady, Return, Answered, BlocksIn, RegisterIn, BlocksOut, Waited, MayReturn}
 use Rattle.sdv_card.specs.Step.{Step}
@@ -17,9 +17,7 @@ use Rattle.sdv_facts.proofs.Headline.{each_event, each_path}
 use Rattle.sdv_facts.specs.Bounds.{bound_of}
 use Rattle.sdv_facts.proofs.StepLaws.{laws_of}
 use Rattle.sdv_run.proofs.OnCard.{Beside, beside}
-use Rattle.sdv_lines.specs.declared.fault.PortFault.TheVariants.{Commands}
-use Rattle.sdv_lines.specs.Streams.{Spends, commands_of}
-use Rattle.sdv_streams.specs.Talk.{BrokeOff}
+use Rattle.sdv_lines.specs.Streams.{Spends}
 use Rattle.sdv_streams.specs.BesideCard.{NoneIsStopped, ToldSteps}
 use Rattle.sdv_streams.proofs.BesideLaws.{told_keeps, told_moved}
 use Rattle.sdv_streams.proofs.TalkLaws.{call_counts, commands_append}
