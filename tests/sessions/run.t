@@ -69,6 +69,33 @@ An e.MMC device.
   REG 512 ok
   done
 
+The last block of a card with byte addresses; and of a boot partition, whose blocks stand behind those of the user area.
+
+  $ { sed '/^nums/s/$/ x/; /^done$/d' $up; echo 'let x = cap - 1 send 17 at by hc x { clean { recv { ok { } else { fault rd } } } else { fault rd } } done'; } > last.sdv
+  $ sdv certify last.sdv > last.cert; { head -c 7680 /dev/zero; head -c 512 /dev/zero | tr '\0' Z; } > last.img
+  $ sdv run last.sdv last.cert $EXAMPLES/sd_byte.card last.img --out read; tail -c 512 last.img | cmp - read
+  CMD0 00000000 -
+  CMD8 000001aa timeout
+  CMD55 00000000 R1 00000120
+  CMD41 40ff8000 R3 80ff8000
+  CMD2 00000000 R2 005858534456202010000000010181
+  CMD3 00000000 R6 00010500
+  CMD9 00010000 R2 0000000000090000c0000000000000
+  CMD7 00010000 R1 00000700
+  CMD16 00000200 R1 00000900
+  CMD17 00001e00 R1 00000900
+  IN 1 ok
+  done
+  $ sdv certify $EXAMPLES/emmc_boot_read.sdv > boot.cert; { head -c 1179136 /dev/zero; head -c 512 /dev/zero | tr '\0' Z; head -c 131072 /dev/zero; } > boot.img
+  $ sdv run $EXAMPLES/emmc_boot_read.sdv boot.cert $EXAMPLES/emmc_boot.card boot.img --out read | tail -n 7; tail -c 512 last.img | cmp - read
+  REG 512 ok
+  CMD6 03b30100 R1 00000900
+  WAIT ok
+  CMD13 00010000 R1 00000900
+  CMD17 000000ff R1 00000900
+  IN 1 ok
+  done
+
 A number that leaves its range.
 
   $ printf 'card sd\nnums x\nlet x = 1099511627776\nlet x = x + 1\nsend 17 at block x { else { fault stop } }\nfault stop\n' > over.sdv

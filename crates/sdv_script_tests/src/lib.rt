@@ -1,5 +1,5 @@
-//! Tests of the libraries of scripts: their texts and graphs, what is known at their points, certificates, runs and
-//! explanations; and of texts, ports and wires that may have or answer anything.
+//! Tests of the libraries of scripts: their texts and graphs, what is known at their points, certificates and runs; and
+//! of texts, ports and wires that may have or answer anything.
 //!
 //! A module stands for a group of subjects, and `common` has what several of them use. `rising` has shapes that rise,
 //! with contracts that the tests of sets need.
@@ -9,8 +9,6 @@
 mod checks;
 #[cfg(test)]
 mod common;
-#[cfg(test)]
-mod explanations;
 #[cfg(test)]
 mod hostile;
 #[cfg(test)]

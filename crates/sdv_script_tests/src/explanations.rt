@@ -1,3 +1,0 @@
-//! Explanations: the way to a refusal.
-
-mod explain_tests;
