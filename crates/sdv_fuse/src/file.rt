@@ -4,8 +4,7 @@ ghost use Rattle.std.specs.Prelude.{◌≡◌, ◌<◌, ◌/◌, ◌∷◌, [], 
 ghost use Rattle.sdv_image.specs.Images.{HasFailed, Shown, OnlyAt, AreSized};
 
 use crate::fuse::{Call, Fuse};
-use sdv_file_image::BlockFile;
-use sdv_image::ImageFault;
+use sdv_image::{BlockFile, ImageFault};
 
 /// A file of blocks of which one read or write fails.
 #[derive(Debug, Drop)]

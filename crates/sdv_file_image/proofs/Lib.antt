@@ -1,9 +1,0 @@
-mod CleanLaws
-mod FindLaws
-mod HoldLaws
-mod ImageLaws
-mod OrderLaws
-mod ShownLaws
-mod SoundLaws
-mod UnwrittenLaws
-mod WriteLaws

@@ -1,4 +1,0 @@
-pub mod Buffers
-pub mod FileImages
-pub mod Orders
-pub mod Refused
