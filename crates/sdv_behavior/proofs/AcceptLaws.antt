@@ -26,10 +26,10 @@ use Rattle.sdv_card.proofs.Members.{May-targets, both_true, and_left, and_right}
 use Rattle.sdv_card.proofs.SettledCard.{settled_is_card}
 use Rattle.sdv_behavior.specs.declared.behavior.Behavior.{Behavior}
 use Rattle.sdv_behavior.specs.declared.behavior.Behavior.TheVariants.{IsSlow, FailsSwitch}
-use Rattle.sdv_description.specs.declared.card_desc.CardDesc.{CardDesc}
+use Rattle.sdv_behavior.specs.declared.card_desc.CardDesc.{CardDesc}
 use Rattle.sdv_behavior.specs.declared.card_state.CardState.{CardState}
 use Rattle.sdv_behavior.specs.declared.choice.Choice.{Choice}
-use Rattle.sdv_description.specs.Layout.{partition_size}
+use Rattle.sdv_behavior.specs.Layout.{partition_size}
 use Rattle.sdv_behavior.specs.Accepts.{fields_at, has_blocks, accepts}
 use Rattle.sdv_behavior.specs.Accepted.{AcceptsExactly}
 use Rattle.sdv_behavior.specs.CardOf.{card_with, card_of}

@@ -17,7 +17,7 @@ use Rattle.sdv_card.specs.States.{own_target}
 use Rattle.sdv_card.specs.Takes.{taken_as_of}
 use Rattle.sdv_behavior.specs.declared.behavior.Behavior.{Behavior}
 use Rattle.sdv_behavior.specs.declared.behavior.Behavior.TheVariants.{IsSlow, LosesCommandWhileBusy, ReportsErrorWhileBusy}
-use Rattle.sdv_description.specs.declared.card_desc.CardDesc.{CardDesc}
+use Rattle.sdv_behavior.specs.declared.card_desc.CardDesc.{CardDesc}
 use Rattle.sdv_behavior.specs.declared.card_state.CardState.{CardState}
 use Rattle.sdv_behavior.specs.declared.choice.Choice.{Choice}
 use Rattle.sdv_behavior.specs.declared.heard.Deed.{Deed}

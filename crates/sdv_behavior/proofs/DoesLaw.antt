@@ -27,15 +27,15 @@ use Rattle.sdv_card.specs.Taken.{Taken, ContentsAfter}
 use Rattle.sdv_card.proofs.Members.{May-targets}
 use Rattle.sdv_behavior.specs.declared.behavior.Behavior.{Behavior}
 use Rattle.sdv_behavior.specs.declared.behavior.Behavior.TheVariants.{Prompt, LosesCommand, LosesAnswer, IsSlow, ReportsError, Refuses, CutsPhase, FailsSwitch, LosesCrcStatus, OmitsAppCommand, LosesCommandWhileBusy, ReportsErrorWhileBusy}
-use Rattle.sdv_description.specs.declared.card_desc.CardDesc.{CardDesc}
+use Rattle.sdv_behavior.specs.declared.card_desc.CardDesc.{CardDesc}
 use Rattle.sdv_behavior.specs.declared.card_state.CardState.{CardState}
 use Rattle.sdv_behavior.specs.declared.choice.Choice.{Choice}
 use Rattle.sdv_behavior.specs.declared.heard.Deed.{Deed}
 use Rattle.sdv_behavior.specs.declared.heard.Deed.TheVariants.{Loses, TakesUnheard, Takes, Stays}
 use Rattle.sdv_behavior.specs.CardOf.{card_with}
-use Rattle.sdv_description.proofs.Described.{IsDescribed}
+use Rattle.sdv_behavior.proofs.Described.{IsDescribed}
 use Rattle.sdv_behavior.specs.Heard.{reports, row_deed, choice_of, does, is_erase}
-use Rattle.sdv_description.specs.Registers.{cid_of}
+use Rattle.sdv_behavior.specs.Registers.{cid_of}
 use Rattle.sdv_behavior.specs.Replies.{reply_of, shows_app}
 use Rattle.sdv_behavior.specs.RowTaken.{state_next, taken_by, stays}
 use Rattle.sdv_behavior.proofs.Told.{Tells, LeavesBlocks}

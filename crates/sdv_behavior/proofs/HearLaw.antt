@@ -18,10 +18,10 @@ use Rattle.sdv_card.specs.States.{own_target}
 use Rattle.sdv_card.specs.Takes.{taken_as_of, matches}
 use Rattle.sdv_behavior.specs.declared.behavior.Behavior.{Behavior}
 use Rattle.sdv_behavior.specs.declared.behavior.Behavior.TheVariants.{IsSlow, LosesCommandWhileBusy, ReportsErrorWhileBusy}
-use Rattle.sdv_description.specs.declared.card_desc.CardDesc.{CardDesc}
+use Rattle.sdv_behavior.specs.declared.card_desc.CardDesc.{CardDesc}
 use Rattle.sdv_behavior.specs.declared.card_state.CardState.{CardState}
 use Rattle.sdv_behavior.specs.CardOf.{card_with}
-use Rattle.sdv_description.proofs.Described.{IsDescribed}
+use Rattle.sdv_behavior.proofs.Described.{IsDescribed}
 use Rattle.sdv_behavior.specs.Heard.{stepped_to, settled_by, row_deed, done_as, hear}
 use Rattle.sdv_behavior.proofs.Told.{Tells, LeavesBlocks}
 use Rattle.sdv_behavior.proofs.DoesLaw.{announced_by, behaves_law}

@@ -13,3 +13,10 @@ pub mod RegisterLaws
 pub mod PhaseLaws
 pub mod SimKeeps
 pub mod StartLaw
+pub mod Lines
+pub mod Numbers
+pub mod ReadLaws
+pub mod CsdLaws
+pub mod DescribedLaws
+pub mod Described
+pub mod LayoutLaws

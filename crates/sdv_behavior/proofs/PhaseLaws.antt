@@ -20,11 +20,11 @@ use Rattle.sdv_card.specs.Port.{count_known, Kept}
 use Rattle.sdv_card.specs.ScriptEvent.{ReceiveBlocks, ReceiveRegister, GiveBlocks, AwaitReady, BlocksIn, RegisterIn, BlocksOut, Waited}
 use Rattle.sdv_card.specs.States.{is_open}
 use Rattle.sdv_card.proofs.Members.{here, there, both_true, and_left, and_right}
-use Rattle.sdv_description.specs.declared.card_desc.CardDesc.{CardDesc}
+use Rattle.sdv_behavior.specs.declared.card_desc.CardDesc.{CardDesc}
 use Rattle.sdv_behavior.specs.declared.card_state.CardState.{CardState}
 use Rattle.sdv_behavior.specs.CardOf.{card_of, card_with}
-use Rattle.sdv_description.specs.Layout.{partition_size, image_size, contents_of}
-use Rattle.sdv_description.proofs.LayoutLaws.{OnlyThere, shown_there, only_there, contents_sized, whole_sized}
+use Rattle.sdv_behavior.specs.Layout.{partition_size, image_size, contents_of}
+use Rattle.sdv_behavior.proofs.LayoutLaws.{OnlyThere, shown_there, only_there, contents_sized, whole_sized}
 use Rattle.sdv_image.specs.Images.{Shown, OnlyThese, OnlyAt, AreSized}
 use Rattle.sdv_behavior.specs.RowTaken.{first_of}
 use Rattle.sdv_behavior.specs.SimSteps.{SimState, card_shown, shown_card, Goes, length_fits, next_place, first_place, phase_over, register_of, padded, IfEndedWell, receives, receives_register, takes_blocks, Receives, ReceivesRegister, TakesBlocks, StoresBlocks, IsCutOff, wait_state, Waits}

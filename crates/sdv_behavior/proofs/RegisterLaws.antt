@@ -6,8 +6,8 @@ use Rattle.sdv_card.specs.declared.state.Transfer.TheVariants.{ScrDue, SdStatusD
 use Rattle.sdv_card.specs.Card.{Partitions}
 use Rattle.sdv_card.specs.Modes.{first_mode}
 use Rattle.sdv_card.specs.Phases.{register_due, due_register, fixed}
-use Rattle.sdv_description.specs.declared.card_desc.CardDesc.{CardDesc}
-use Rattle.sdv_description.specs.Registers.{ext_csd_of}
+use Rattle.sdv_behavior.specs.declared.card_desc.CardDesc.{CardDesc}
+use Rattle.sdv_behavior.specs.Registers.{ext_csd_of}
 use Rattle.sdv_behavior.specs.declared.card_state.CardState.{CardState}
 use Rattle.sdv_behavior.specs.CardOf.{card_with}
 use Rattle.sdv_behavior.specs.SimSteps.{register_of, padded}

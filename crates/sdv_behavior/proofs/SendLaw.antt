@@ -24,11 +24,11 @@ use Rattle.sdv_behavior.specs.declared.heard.Heard.{Heard}
 use Rattle.sdv_behavior.specs.Accepts.{accepts}
 use Rattle.sdv_behavior.specs.CardOf.{card_of, card_with}
 use Rattle.sdv_behavior.specs.Commands.{order_read}
-use Rattle.sdv_description.proofs.Described.{IsDescribed}
+use Rattle.sdv_behavior.proofs.Described.{IsDescribed}
 use Rattle.sdv_behavior.specs.Heard.{settled_by, hear, unheard}
-use Rattle.sdv_description.specs.declared.card_desc.CardDesc.{CardDesc}
-use Rattle.sdv_description.specs.Layout.{partition_size, partition_place, image_size, contents_of}
-use Rattle.sdv_description.proofs.LayoutLaws.{only_there, contents_sized, whole_sized}
+use Rattle.sdv_behavior.specs.declared.card_desc.CardDesc.{CardDesc}
+use Rattle.sdv_behavior.specs.Layout.{partition_size, partition_place, image_size, contents_of}
+use Rattle.sdv_behavior.proofs.LayoutLaws.{only_there, contents_sized, whole_sized}
 use Rattle.sdv_image.specs.Images.{OnlyThese, OnlyAt, AreSized}
 use Rattle.sdv_behavior.specs.SimSteps.{SimState, behavior_of, card_shown, shown_card, heard_order, heard_of, erase_start, erase_end, BlocksLeft, Transfers}
 use Rattle.sdv_behavior.proofs.Told.{LeavesBlocks}

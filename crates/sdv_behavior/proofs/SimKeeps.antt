@@ -10,11 +10,11 @@ use Rattle.sdv_card.specs.Port.{IsFine, Kept, command_of, DataIn, DataInRegister
 use Rattle.sdv_card.specs.ScriptEvent.{ScriptEvent, SendCommand, ReceiveBlocks, ReceiveRegister, GiveBlocks, AwaitReady, Return, Answered, BlocksIn, RegisterIn, BlocksOut, Waited}
 use Rattle.sdv_card.proofs.Members.{and_left}
 use Rattle.sdv_controller.specs.Wire.{WireCall, WireReturn, OtherCall, OtherReturn, WireKeepsTables, KeepsAt}
-use Rattle.sdv_description.specs.declared.card_desc.CardDesc.{CardDesc}
+use Rattle.sdv_behavior.specs.declared.card_desc.CardDesc.{CardDesc}
 use Rattle.sdv_behavior.specs.declared.card_state.CardState.{CardState}
-use Rattle.sdv_description.specs.Layout.{contents_of}
+use Rattle.sdv_behavior.specs.Layout.{contents_of}
 use Rattle.sdv_behavior.specs.CardOf.{card_of, card_with}
-use Rattle.sdv_description.proofs.Described.{IsDescribed}
+use Rattle.sdv_behavior.proofs.Described.{IsDescribed}
 use Rattle.sdv_behavior.specs.SimSteps.{SimState, SimSteps, card_shown, shown_card, receives, receives_register, takes_blocks}
 use Rattle.sdv_behavior.proofs.CountLaw.{Knows}
 use Rattle.sdv_behavior.proofs.PhaseLaws.{receive_law, receives_law, register_law, receives_register_law, give_law, takes_law, wait_law}

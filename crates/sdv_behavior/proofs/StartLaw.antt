@@ -12,11 +12,11 @@ use Rattle.sdv_card.specs.declared.state.Partition.{Partition}
 use Rattle.sdv_card.specs.declared.state.Partition.TheVariants.{User, Boot1, Boot2}
 use Rattle.sdv_card.specs.Modes.{first_mode, mode_fits, width_number, partition_number}
 use Rattle.sdv_card.specs.Profile.{IsAtStart}
-use Rattle.sdv_description.specs.declared.card_desc.CardDesc.{CardDesc}
-use Rattle.sdv_description.specs.Registers.{cid_of, scr, sd_status, ext_csd_of}
-use Rattle.sdv_description.specs.Layout.{image_size}
-use Rattle.sdv_description.proofs.Described.{described_law}
-use Rattle.sdv_description.proofs.LayoutLaws.{contents_sized}
+use Rattle.sdv_behavior.specs.declared.card_desc.CardDesc.{CardDesc}
+use Rattle.sdv_behavior.specs.Registers.{cid_of, scr, sd_status, ext_csd_of}
+use Rattle.sdv_behavior.specs.Layout.{image_size}
+use Rattle.sdv_behavior.proofs.Described.{described_law}
+use Rattle.sdv_behavior.proofs.LayoutLaws.{contents_sized}
 use Rattle.sdv_behavior.specs.CardOf.{card_of, at_start}
 
 cid_is : (k : Kind) → IsRegister 15 (cid_of k)

@@ -18,12 +18,12 @@ use Rattle.sdv_card.specs.Taken.{Taken, Stayed, SameCard, LengthAfter, RcaAfter,
 use Rattle.sdv_card.proofs.Members.{here, there, May-targets, May-from_targets}
 use Rattle.sdv_behavior.specs.declared.behavior.Behavior.{Behavior}
 use Rattle.sdv_behavior.specs.declared.behavior.Behavior.TheVariants.{IsSlow, FailsSwitch}
-use Rattle.sdv_description.specs.declared.card_desc.CardDesc.{CardDesc}
+use Rattle.sdv_behavior.specs.declared.card_desc.CardDesc.{CardDesc}
 use Rattle.sdv_behavior.specs.declared.card_state.CardState.{CardState}
 use Rattle.sdv_behavior.specs.declared.choice.Choice.{Choice}
-use Rattle.sdv_description.specs.Layout.{boot_capacity}
+use Rattle.sdv_behavior.specs.Layout.{boot_capacity}
 use Rattle.sdv_behavior.specs.CardOf.{card_with}
-use Rattle.sdv_description.proofs.Described.{IsDescribed}
+use Rattle.sdv_behavior.proofs.Described.{IsDescribed}
 use Rattle.sdv_behavior.specs.Heard.{is_ready, switch_fails, choice_of}
 use Rattle.sdv_behavior.specs.RowTaken.{first_of, state_next, rca_next, app_next, length_next, mode_next, preset_next, taken_by, stays}
 

@@ -7,7 +7,7 @@ use Rattle.sdv_card.specs.Exchange.{card_takes}
 use Rattle.sdv_card.specs.Laws.{order_blocks}
 use Rattle.sdv_card.specs.Legal.{SettledLegal, BlocksWithin}
 use Rattle.sdv_card.specs.Settled.{Settled}
-use Rattle.sdv_description.specs.declared.card_desc.CardDesc.{CardDesc}
+use Rattle.sdv_behavior.specs.declared.card_desc.CardDesc.{CardDesc}
 use Rattle.sdv_behavior.specs.declared.card_state.CardState.{CardState}
 use Rattle.sdv_behavior.specs.Accepts.{accepts}
 use Rattle.sdv_behavior.specs.CardOf.{card_of}

@@ -9,8 +9,8 @@ use Rattle.sdv_card.specs.LegalShapes.{order_legal}
 use Rattle.sdv_card.specs.Laws.{order_blocks}
 use Rattle.sdv_card.specs.Taken.{block_of}
 use Rattle.sdv_card.specs.Takes.{matches}
-use Rattle.sdv_description.specs.declared.card_desc.CardDesc.{CardDesc}
-use Rattle.sdv_description.specs.Layout.{partition_size}
+use Rattle.sdv_behavior.specs.declared.card_desc.CardDesc.{CardDesc}
+use Rattle.sdv_behavior.specs.Layout.{partition_size}
 use Rattle.sdv_behavior.specs.declared.card_state.CardState.{CardState}
 
 -- the card beside a host whose relative address is in the argument; no command asks for the host's data lines

@@ -5,10 +5,10 @@ use Rattle.sdv_card.specs.declared.state.Transfer.TheVariants.{Nothing}
 use Rattle.sdv_card.specs.declared.state.EraseStage.TheVariants.{Outside}
 use Rattle.sdv_card.specs.Card.{Card, Block, Partitions}
 use Rattle.sdv_card.specs.Modes.{first_mode}
-use Rattle.sdv_description.specs.declared.card_desc.CardDesc.{CardDesc}
+use Rattle.sdv_behavior.specs.declared.card_desc.CardDesc.{CardDesc}
 use Rattle.sdv_behavior.specs.declared.card_state.CardState.{CardState}
-use Rattle.sdv_description.specs.Layout.{boot_capacity, contents_of}
-use Rattle.sdv_description.specs.Registers.{cid_of, scr, sd_status, ext_csd_of}
+use Rattle.sdv_behavior.specs.Layout.{boot_capacity, contents_of}
+use Rattle.sdv_behavior.specs.Registers.{cid_of, scr, sd_status, ext_csd_of}
 
 -- with a count of its own for the blocks that the host announced
 abbrev pub card_with : CardDesc → CardState → (announced : ℕ) → Partitions → Card

@@ -17,13 +17,13 @@ use Rattle.sdv_card.specs.Responses.{response_of}
 use Rattle.sdv_card.specs.Takes.{taken_as_of, matches}
 use Rattle.sdv_behavior.specs.declared.behavior.Behavior.{Behavior}
 use Rattle.sdv_behavior.specs.declared.behavior.Behavior.TheVariants.{LosesCommand, LosesAnswer, IsSlow, ReportsError, Refuses, FailsSwitch, OmitsAppCommand, LosesCommandWhileBusy, ReportsErrorWhileBusy}
-use Rattle.sdv_description.specs.declared.card_desc.CardDesc.{CardDesc}
+use Rattle.sdv_behavior.specs.declared.card_desc.CardDesc.{CardDesc}
 use Rattle.sdv_behavior.specs.declared.card_state.CardState.{CardState}
 use Rattle.sdv_behavior.specs.declared.choice.Choice.{Choice}
 use Rattle.sdv_behavior.specs.declared.heard.Deed.{Deed}
 use Rattle.sdv_behavior.specs.declared.heard.Deed.TheVariants.{Loses, TakesUnheard, Takes, Stays}
 use Rattle.sdv_behavior.specs.declared.heard.Heard.{Heard}
-use Rattle.sdv_description.specs.Layout.{boot_capacity}
+use Rattle.sdv_behavior.specs.Layout.{boot_capacity}
 use Rattle.sdv_behavior.specs.RowTaken.{taken_by, stays}
 use Rattle.sdv_behavior.specs.Replies.{reply_of}
 

@@ -9,3 +9,9 @@ pub mod LinesRead
 pub mod Accepts
 pub mod Accepted
 pub mod SimSteps
+pub mod Grammar
+pub mod Registers
+pub mod Described
+pub mod Gives
+pub mod Layout
+pub mod Reading

@@ -12,7 +12,7 @@ use Rattle.sdv_card.specs.Modes.{first_mode, calm, failed, set}
 use Rattle.sdv_card.specs.StateTable.{rows, targets}
 use Rattle.sdv_card.specs.RowRules.{erase_after, transfer_after}
 use Rattle.sdv_card.specs.Taken.{block_of}
-use Rattle.sdv_description.specs.declared.card_desc.CardDesc.{CardDesc}
+use Rattle.sdv_behavior.specs.declared.card_desc.CardDesc.{CardDesc}
 use Rattle.sdv_behavior.specs.declared.card_state.CardState.{CardState}
 use Rattle.sdv_behavior.specs.declared.choice.Choice.{Choice}
 

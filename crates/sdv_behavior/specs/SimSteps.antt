@@ -26,7 +26,7 @@ use Rattle.sdv_controller.specs.declared.wire.WireEnd.TheVariants.{Silent, Bytes
 use Rattle.sdv_controller.specs.Wire.{WireCall, WireReturn, Transfer as TransferFrame, OtherCall, Transferred, OtherReturn}
 use Rattle.sdv_behavior.specs.declared.behavior.Behavior.{Behavior}
 use Rattle.sdv_behavior.specs.declared.behavior.Behavior.TheVariants.{IsSlow, CutsPhase, LosesCrcStatus}
-use Rattle.sdv_description.specs.declared.card_desc.CardDesc.{CardDesc}
+use Rattle.sdv_behavior.specs.declared.card_desc.CardDesc.{CardDesc}
 use Rattle.sdv_behavior.specs.declared.card_state.CardState.{CardState}
 use Rattle.sdv_behavior.specs.declared.heard.Heard.{Heard}
 use Rattle.sdv_behavior.specs.Accepts.{accepts}
@@ -34,8 +34,8 @@ use Rattle.sdv_behavior.specs.CardOf.{card_of}
 use Rattle.sdv_behavior.specs.Commands.{order_read}
 use Rattle.sdv_behavior.specs.Heard.{hear, unheard}
 use Rattle.sdv_image.specs.Images.{HasFailed, Shown, OnlyAt, AreSized, ErasedUpTo, zeros}
-use Rattle.sdv_description.specs.Layout.{partition_size, partition_place, image_size}
-use Rattle.sdv_description.specs.Registers.{scr, sd_status, ext_csd_of}
+use Rattle.sdv_behavior.specs.Layout.{partition_size, partition_place, image_size}
+use Rattle.sdv_behavior.specs.Registers.{scr, sd_status, ext_csd_of}
 use Rattle.sdv_behavior.specs.RowTaken.{first_of}
 use Rattle.sdv_behavior.specs.Schedules.{first_behavior, later_behaviors}
 

@@ -4,11 +4,11 @@ ghost use Rattle.std.specs.Prelude.{◌≡◌};
 ghost use Rattle.sdv_card.specs.LegalShapes.{order_legal};
 ghost use Rattle.sdv_behavior.specs.Accepts.{fields_at, has_blocks, accepts};
 
+use crate::card_desc::CardDesc;
 use crate::card_state::CardState;
 use crate::rows::block_of;
 use sdv_card::state_table::{matches, order_legal};
 use sdv_card::{Fields, Kind, Order, Partition, Width};
-use sdv_description::CardDesc;
 use sdv_emmc::EmmcTable;
 use sdv_sd::SdTable;
 

@@ -2,12 +2,12 @@
 
 ghost use Rattle.std.specs.Prelude.{◌≡◌};
 ghost use Rattle.sdv_card.specs.Modes.{has_partition};
-ghost use Rattle.sdv_description.specs.Layout.{boot_capacity};
+ghost use Rattle.sdv_behavior.specs.Layout.{boot_capacity};
 ghost use Rattle.sdv_behavior.specs.Heard.{is_ready, switch_fails, sets_app, choice_of};
 
 use crate::behavior::Behavior;
+use crate::card_desc::CardDesc;
 use sdv_card::{Partition, Row, Setting};
-use sdv_description::CardDesc;
 
 /// How a card takes a row.
 #[derive(Clone, Copy)]

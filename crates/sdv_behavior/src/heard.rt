@@ -8,6 +8,7 @@ ghost use Rattle.sdv_behavior.specs.SimSteps.{heard_order};
 
 use crate::accepts::accepts;
 use crate::behavior::Behavior;
+use crate::card_desc::CardDesc;
 use crate::card_state::CardState;
 use crate::choice::{Choice, choice_of};
 use crate::commands::order_read;
@@ -15,7 +16,6 @@ use crate::replies::reply_of;
 use crate::rows::{stays, taken_by};
 use sdv_card::state_table::{matches, own_target, response, taken_as};
 use sdv_card::{Order, Response, Row, TakenAs, Transfer};
-use sdv_description::CardDesc;
 use sdv_frames::{Command, Reply};
 
 /// What a card does with a row.

@@ -1,20 +1,36 @@
-//! What a simulated card does: its state, what it makes of each command and phase at each behavior of a schedule, and
-//! that all of it is what the tables of a card allow.
+//! Descriptions of simulated cards, and what such a card does at each event, by the value of a schedule.
+//! `docs/CARDS.md` has the page for a user.
 //!
-//! Begin at `specs/Heard.antt`, which has the table of the behaviors, and at `specs/SimSteps.antt`, which says what a
-//! simulator does at each call of a wire. `proofs/SimKeeps.antt` proves that whatever does so keeps the tables of the
-//! card that it shows, for both kinds and every schedule.
+//! Begin at `specs/Grammar.antt` and `specs/Described.antt` for descriptions, at `specs/Heard.antt`, which has the
+//! table of a schedule's values, and at `specs/SimSteps.antt`, which says what a simulator does at each call of a
+//! wire. `Behavior` names the values; each but the first is a mishap.
+//!
+//! - `CardDesc::parse` is Ok exactly where the text is a description with a capacity that its kind and unit can have.
+//!   No text has two descriptions (`laws::one_description`). Each card has readable registers that tell its
+//!   capacities.
+//! - An event that is not legal or not in bounds changes nothing, and no block changes but those that an event
+//!   addresses. What steps so keeps the tables of the card that it shows, for both kinds and every schedule
+//!   (`proofs/SimKeeps.antt`).
+//! - The card accepts a command exactly where it is legal at the card by the table's own definition, and in bounds
+//!   from some position (`laws::accepts_exactly`). Each order that it reads from a frame is that of a line of the
+//!   command table (`laws::orders_are_lines`).
 #![tactic(auto)]
 
 mod accepts;
 mod behavior;
+mod card_desc;
 mod card_state;
 mod choice;
 mod commands;
+mod csd;
+mod describing;
+mod description;
 mod heard;
 pub mod laws;
+mod layout;
 mod phases;
 mod places;
+mod reading;
 mod register;
 mod replies;
 mod rows;
@@ -22,7 +38,9 @@ mod start;
 mod words;
 
 pub use behavior::Behavior;
+pub use card_desc::CardDesc;
 pub use card_state::CardState;
+pub use description::{Description, Size};
 pub use heard::{Deed, Heard, heard_of};
 pub use phases::{cuts, end_seen, length_fits, next_place, on_lines, phase_over, wait_end, waited};
 pub use places::erased_places;

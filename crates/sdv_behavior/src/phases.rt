@@ -2,14 +2,14 @@
 
 ghost use Rattle.std.specs.Prelude.{◌≡◌, ◌<◌, ◌≤◌, ◌+◌, ◌^◌, IsTrue};
 ghost use Rattle.sdv_card.specs.Legal.{recv_legal, recv_reg_legal, give_legal};
-ghost use Rattle.sdv_description.specs.Layout.{image_size};
+ghost use Rattle.sdv_behavior.specs.Layout.{image_size};
 ghost use Rattle.sdv_behavior.specs.SimSteps.{cuts, end_seen, phase_over, on_lines, length_fits, next_place, wait_end, wait_state, first_place};
 
 use crate::behavior::Behavior;
+use crate::card_desc::CardDesc;
 use crate::card_state::CardState;
 use sdv_card::state_table::{after_phase, after_wait};
 use sdv_card::{DataEnd, WaitEnd};
-use sdv_description::CardDesc;
 
 /// The behavior cuts a data phase.
 pub fn cuts(behavior: Behavior) -> bool
@@ -53,7 +53,7 @@ pub fn on_lines(s: &CardState, lines: u8) -> bool
 }
 
 /// A block phase has blocks, the partition in access has them, and a transfer that is not open has as many.
-#[tactic(auto, using(sdv_description::proofs::LayoutLaws::places))]
+#[tactic(auto, using(crate::proofs::LayoutLaws::places))]
 pub fn length_fits(desc: &CardDesc, s: &CardState, count: usize) -> bool
     ensures fits { result ≡ length_fits desc.now s.now count }
     ensures room { IsTrue result → next_place desc.now s.now + count ≤ image_size desc.now }

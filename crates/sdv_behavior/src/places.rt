@@ -1,15 +1,15 @@
 //! Where an erase takes place in an image.
 
 ghost use Rattle.std.specs.Prelude.{◌≡◌, ◌≤◌};
-ghost use Rattle.sdv_description.specs.Layout.{image_size};
+ghost use Rattle.sdv_behavior.specs.Layout.{image_size};
 ghost use Rattle.sdv_behavior.specs.SimSteps.{erase_start, erase_end};
 
+use crate::card_desc::CardDesc;
 use crate::card_state::CardState;
-use sdv_description::CardDesc;
 
 /// The places at which an erase begins and ends: from the first block named to the last one, as far as the partition in
 /// access has them.
-#[tactic(auto, using(sdv_description::proofs::LayoutLaws::places))]
+#[tactic(auto, using(crate::proofs::LayoutLaws::places))]
 pub fn erased_places(desc: &CardDesc, s: &CardState) -> (u64, u64)
     ensures start { result.0 ≡ erase_start desc.now s.now }
     ensures end { result.1 ≡ erase_end desc.now s.now }

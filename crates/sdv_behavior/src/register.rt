@@ -1,11 +1,11 @@
 //! The registers of a simulated card that go over the data lines.
 
 ghost use Rattle.std.specs.Prelude.{◌≡◌, ◌^◌, length};
-ghost use Rattle.sdv_description.specs.Registers.{ext_csd_of};
+ghost use Rattle.sdv_behavior.specs.Registers.{ext_csd_of};
 ghost use Rattle.sdv_behavior.specs.SimSteps.{register_of, padded};
 
+use crate::card_desc::CardDesc;
 use sdv_card::{Mode, Transfer};
-use sdv_description::CardDesc;
 
 /// Writes the front of a register, and zeros after it.
 fn copy_padded(register: &[u8], bytes: &mut [u8])
@@ -17,7 +17,7 @@ fn copy_padded(register: &[u8], bytes: &mut [u8])
 }
 
 /// The EXT_CSD in a mode: all zeros but the partition in access, the width, SEC_COUNT and BOOT_SIZE_MULT.
-#[tactic(auto, unfolding(sdv_description::specs::Registers::ext_csd_of))]
+#[tactic(auto, unfolding(crate::specs::Registers::ext_csd_of))]
 fn ext_csd_of(mode: Mode, sectors: u32, boot_size_mult: u8) -> [u8; 512]
     ensures { result ≡ ext_csd_of mode sectors boot_size_mult }
 {
@@ -33,7 +33,7 @@ fn ext_csd_of(mode: Mode, sectors: u32, boot_size_mult: u8) -> [u8; 512]
 }
 
 /// Writes the register that is due, as it is in a mode, and zeros after it.
-#[tactic(auto, unfolding(sdv_description::specs::Registers::sd_status))]
+#[tactic(auto, unfolding(crate::specs::Registers::sd_status))]
 pub fn copy_register(desc: &CardDesc, transfer: Transfer, mode: Mode, bytes: &mut [u8])
     ensures { bytes.new ≡ padded (register_of transfer desc.now mode) (length bytes.old) }
 {

@@ -2,14 +2,14 @@
 
 ghost use Rattle.std.specs.Prelude.{◌≡◌, ◌<◌, ◌^◌, IfSome};
 ghost use Rattle.sdv_frames.specs.Frame.{HasIndex};
-ghost use Rattle.sdv_description.specs.Registers.{cid_of};
+ghost use Rattle.sdv_behavior.specs.Registers.{cid_of};
 ghost use Rattle.sdv_behavior.specs.Replies.{shows_app, shows_switch, reply_of};
 
+use crate::card_desc::CardDesc;
 use crate::card_state::CardState;
 use crate::words::{address_word, conditions_word, status_word};
 use sdv_card::state_table::row_index;
 use sdv_card::{Kind, Row};
-use sdv_description::CardDesc;
 use sdv_frames::Reply;
 
 /// Bits 127..8 of the CID.

@@ -6,11 +6,11 @@ ghost use Rattle.sdv_card.specs.NextStates.{next_states};
 ghost use Rattle.sdv_behavior.specs.RowTaken.{state_next, rca_next, app_next, length_next, mode_next, preset_next, block_next, count_of, announced_next, checked_next, first_next, last_next, taken_by, stays};
 ghost use Rattle.sdv_card.specs.Taken.{block_of};
 
+use crate::card_desc::CardDesc;
 use crate::card_state::CardState;
 use crate::choice::Choice;
 use sdv_card::state_table::{Rows, erase_after, transfer_after};
 use sdv_card::{Kind, Mode, Row, Setting, State};
-use sdv_description::CardDesc;
 use sdv_emmc::EmmcTable;
 use sdv_sd::SdTable;
 

@@ -3,9 +3,9 @@
 ghost use Rattle.std.specs.Prelude.{◌≡◌};
 ghost use Rattle.sdv_behavior.specs.CardOf.{at_start};
 
+use crate::card_desc::CardDesc;
 use crate::card_state::CardState;
 use sdv_card::{EraseStage, Mode, State, Transfer};
-use sdv_description::CardDesc;
 
 impl CardState {
     /// A card before its first command.

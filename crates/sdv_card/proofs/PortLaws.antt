@@ -1,8 +1,9 @@
 -- Ports over ports, and ports that show no card.
 use Rattle.std.specs.Prelude.{◌≡◌, Option, Some, None}
 use Rattle.sdv_card.specs.Card.{Card}
-use Rattle.sdv_card.specs.Port.{Call, Shows, Kept, KeepsTables}
-use Rattle.sdv_card.specs.ScriptEvent.{ScriptEvent, Return}
+use Rattle.sdv_card.specs.Legal.{TransferOnCard}
+use Rattle.sdv_card.specs.Port.{Call, Shows, Kept, KeepsTables, PhaseOnCard}
+use Rattle.sdv_card.specs.ScriptEvent.{ScriptEvent, SendCommand, ReceiveBlocks, ReceiveRegister, GiveBlocks, AwaitReady, Return}
 
 -- where nothing is shown, no card is
 pub none_shown : {S : Type 0} (s : S) (c : Card) → Shows (λ _. None) s c → ⊥
@@ -29,3 +30,11 @@ pub keeps_by_part : {C S : Type 0} (part : C → S) (steps : S → Call → Retu
     KeepsTables (λ s call returned s'. steps (part s) call returned (part s')) (λ s. card (part s))
 keeps_by_part part steps card keeps s s' k event c h returned shown fine step =
     outer part card s' event c returned (keeps (part s) (part s') k event c h returned (inner part card s c shown) fine step)
+
+-- where the blocks of a transfer lie on the card, those of a phase do
+pub phase_on_card : (event : ScriptEvent) (c : Card) → TransferOnCard c → PhaseOnCard event c
+phase_on_card (SendCommand ask position argument) c on = tt
+phase_on_card (ReceiveBlocks lines count) c on = on
+phase_on_card (ReceiveRegister lines count) c on = on
+phase_on_card (GiveBlocks lines blocks) c on = on
+phase_on_card AwaitReady c on = on

@@ -30,6 +30,8 @@ pub mod LegalShapes
 pub mod Seen
 pub mod Guards
 pub mod Laws
+pub mod Resets
 pub mod Port
+pub mod Damage
 pub mod BringUp
 pub mod EmmcBringUp

@@ -51,14 +51,19 @@ pub record Shows {S : Type 0} (card : S → Option Card) (s : S) (c : Card) : Ty
   pub same : record shown { announced = c.announced } ≡ c
   pub count : IsTrue (count_known c.transfer) → shown.announced ≡ c.announced
 
--- The host beside a card makes the event, which is legal at the card and in bounds. Where a phase of blocks is due, its
--- blocks lie on the card.
+-- at a phase or a wait, where a phase of blocks is due, its blocks lie on the card
+abbrev pub PhaseOnCard : ScriptEvent → Card → Type 0
+PhaseOnCard (SendCommand ask position argument) c = Unit {0}
+PhaseOnCard event c = TransferOnCard c
+
+-- The host beside a card makes the event, which is legal at the card and in bounds, and the blocks of a phase lie on the
+-- card.
 pub record IsFine (k : Kind) (event : ScriptEvent) (c : Card) (h : Host) : Type 0 where
   pub pair : IsPair k c h
   pub made : Makes k event h
   pub legal : EventLegal event c
   pub bounds : InBounds event c
-  pub on_card : TransferOnCard c
+  pub on_card : PhaseOnCard event c
 
 -- what a call did is a step of the card, and the port shows the card after it
 pub record Kept {S : Type 0} (card : S → Option Card) (event : ScriptEvent) (c : Card) (returned : Return)
@@ -68,8 +73,7 @@ pub record Kept {S : Type 0} (card : S → Option Card) (event : ScriptEvent) (c
   pub shown : Shows card s' after
 
 -- A port that shows a card keeps the tables: the call of each legal event in bounds is a step of that card, if some
--- host beside the card makes the event, and the blocks of a phase that is due lie on the card. Of other calls nothing
--- is known.
+-- host beside the card makes the event, and the blocks of a phase lie on the card. Of other calls nothing is known.
 abbrev pub KeepsTables : {S : Type 0} → (S → Call → Return → S → Type 0) → (S → Option Card) → Type 0
 KeepsTables steps card =
     (s s' : _) (k : Kind) (event : ScriptEvent) (c : Card) (h : Host) (returned : Return) →

@@ -12,7 +12,7 @@ use sdv_frames::{Command, Expect};
 ///
 /// Each call is one step of a relation of the port's own. A port may also show the card behind it, in contracts only.
 /// Then each legal event in bounds is a step of that card, if some host beside the card makes the event, and the blocks
-/// of a phase that is due lie on the card. Of other calls nothing is known.
+/// of a phase lie on the card. Of other calls nothing is known.
 pub trait CardPort {
     /// From a state of the port, a call may return this and leave that state.
     ghost steps: { Self → Call → Return → Self → Type 0 };

@@ -3,8 +3,8 @@ use Rattle.std.proofs.Common.{◌≡◌, ℕ, ◌<◌, ◌^◌, List, Option, So
 use Rattle.sdv_image.specs.Images.{AreSized}
 use Rattle.sdv_card.specs.Card.{Block, IsRegister, AreBlocks}
 use Rattle.sdv_card.specs.Profile.{IsAtStart}
-use Rattle.sdv_description.specs.declared.card_desc.CardDesc.{CardDesc}
-use Rattle.sdv_description.specs.Layout.{image_size}
+use Rattle.sdv_behavior.specs.declared.card_desc.CardDesc.{CardDesc}
+use Rattle.sdv_behavior.specs.Layout.{image_size}
 use Rattle.sdv_behavior.specs.CardOf.{card_of, at_start}
 use Rattle.sdv_behavior.proofs.StartLaw.{start_law}
 

@@ -6,7 +6,7 @@ use Rattle.sdv_image.specs.declared.fault.SimFault.TheVariants as faults
 use Rattle.sdv_image.specs.Images.{HasFailed}
 use Rattle.sdv_card.specs.Card.{Block}
 use Rattle.sdv_card.specs.Profile.{IsAtStart}
-use Rattle.sdv_description.specs.declared.card_desc.CardDesc.{CardDesc}
+use Rattle.sdv_behavior.specs.declared.card_desc.CardDesc.{CardDesc}
 use Rattle.sdv_behavior.specs.CardOf.{card_of, at_start}
 use Rattle.sdv_behavior.specs.Schedules.{behavior_of_code}
 use Rattle.sdv_behavior.specs.SimSteps.{SimState}

@@ -2,15 +2,14 @@
 
 ghost use Rattle.std.specs.Prelude.{◌≡◌, ◌<◌, ◌^◌, length, All, IfOk, MatchResult, true};
 ghost use Rattle.sdv_card.specs.Card.{IsByte, IsRegister};
-ghost use Rattle.sdv_description.specs.Layout.{image_size};
+ghost use Rattle.sdv_behavior.specs.Layout.{image_size};
 ghost use Rattle.sdv_behavior.specs.Schedules.{are_codes};
 ghost use Rattle.sdv_sim.specs.SimOf.{state_of};
 ghost use Rattle.sdv_sim.specs.Made.{IsMade, IsRefused, IsUnread, are_digits};
 
 use crate::schedule::Schedule;
 use crate::sim::Sim;
-use sdv_behavior::{Behavior, CardState};
-use sdv_description::CardDesc;
+use sdv_behavior::{Behavior, CardDesc, CardState};
 use sdv_image::{Image, SimFault};
 use std::alloc::Global;
 

@@ -1,11 +1,10 @@
 //! A simulated card, and the state of it that contracts see.
 
 ghost use Rattle.std.specs.Prelude.{◌≡◌};
-ghost use Rattle.sdv_description.specs.Layout.{image_size};
+ghost use Rattle.sdv_behavior.specs.Layout.{image_size};
 
 use crate::schedule::Schedule;
-use sdv_behavior::CardState;
-use sdv_description::CardDesc;
+use sdv_behavior::{CardDesc, CardState};
 use sdv_image::Image;
 
 /// A simulated card over an image.

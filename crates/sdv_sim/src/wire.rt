@@ -4,7 +4,7 @@ ghost use Rattle.std.specs.Prelude.{◌≡◌, IfSome};
 ghost use Rattle.sdv_frames.specs.Frame.{HasIndex};
 ghost use Rattle.sdv_behavior.specs.SimSteps.{SimSteps, card_shown, heard_of, Goes, BlocksLeft};
 ghost use Rattle.sdv_behavior.proofs.SimKeeps.{sim_keeps};
-ghost use Rattle.sdv_description.proofs.Described.{described_law};
+ghost use Rattle.sdv_behavior.proofs.Described.{described_law};
 ghost use Rattle.sdv_sim.specs.SimOf.{state_of};
 
 use crate::sim::Sim;

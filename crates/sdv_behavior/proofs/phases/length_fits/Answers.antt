@@ -1,6 +1,6 @@
 use Rattle.std.proofs.Common.{◌≤◌, ◌+◌, arith}
-use Rattle.sdv_description.specs.Layout.{image_size}
-use Rattle.sdv_description.proofs.LayoutLaws.{partition_inside, image_small}
+use Rattle.sdv_behavior.specs.Layout.{image_size}
+use Rattle.sdv_behavior.proofs.LayoutLaws.{partition_inside, image_small}
 use Rattle.sdv_behavior.specs.SimSteps.{next_place}
 use Rattle.sdv_behavior.proofs.phases.length_fits.Goals as goal
 

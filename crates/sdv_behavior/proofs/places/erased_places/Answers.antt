@@ -1,5 +1,5 @@
 use Rattle.std.proofs.Common.{arith}
-use Rattle.sdv_description.proofs.LayoutLaws.{partition_inside, image_small}
+use Rattle.sdv_behavior.proofs.LayoutLaws.{partition_inside, image_small}
 use Rattle.sdv_behavior.proofs.places.erased_places.Goals as goal
 use Rattle.sdv_behavior.proofs.places.erased_places.Goals.{then-s-size, else-s-size}
 

@@ -1,5 +1,5 @@
 use Rattle.std.proofs.Common.{rules, refl, sym, ◌∙◌, arith}
-use Rattle.sdv_description.proofs.Described.{described_law}
+use Rattle.sdv_behavior.proofs.Described.{described_law}
 use Rattle.sdv_sim.proofs.MadeLaws.{starts}
 use Rattle.sdv_sim.proofs.making.made.Goals as goal
 

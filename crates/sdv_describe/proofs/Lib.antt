@@ -1,2 +1,0 @@
-pub mod MisfitLaws
-mod ScheduleLaws
