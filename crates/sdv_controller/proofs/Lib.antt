@@ -1,1 +1,2 @@
 pub mod Silent
+mod Undamaged

@@ -8,12 +8,17 @@ use Rattle.sdv_card.specs.Port.{Call, Exchange}
 use Rattle.sdv_card.specs.ScriptEvent.{Return, Answered}
 use Rattle.sdv_controller.specs.declared.wire.WireEnd.{WireEnd}
 use Rattle.sdv_controller.specs.declared.controller.Controller.{Controller}
+use Rattle.sdv_controller.specs.declared.tolerant.TolerantController.{TolerantController}
 use Rattle.sdv_controller.specs.Wire.{WireCall, WireReturn, Transfer, Transferred, OtherCall, OtherReturn}
 use Rattle.sdv_controller.specs.Answers.{AnswerIs}
 
 -- the wire of a controller
 abbrev pub wire_of : {W : Type 0} → Controller W → W
 wire_of c = c.wire
+
+-- the wire of a tolerant controller
+abbrev pub tolerant_wire : {W : Type 0} → TolerantController W → W
+tolerant_wire c = c.controller.wire
 
 -- one transfer of the command's frame, and the answer that its bytes are
 pub record Exchanged {S : Type 0} (steps : S → WireCall → WireReturn → S → Type 0) (command : Command) (expect : Expect)

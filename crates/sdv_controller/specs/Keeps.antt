@@ -44,7 +44,7 @@ carried expect count response told shown a s =
     s.1 ∙ decoded expect (take count response) told s.0 d s.2.is_reply s.2.answers s.2.frame
 
 -- the answer of a controller is the one that its wire shows
-one_answer : (expect : Expect) (end : WireEnd) (response : List ℕ) (told shown : Answer) →
+pub one_answer : (expect : Expect) (end : WireEnd) (response : List ℕ) (told shown : Answer) →
     AnswerIs expect end response told → ShowsAnswer expect end response shown → shown ≡ told
 one_answer expects.Nothing end response told shown a s = s ∙ sym a
 one_answer (expects.R1 index) ends.Silent response told shown a s = s ∙ sym a

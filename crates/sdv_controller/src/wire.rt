@@ -4,6 +4,7 @@ ghost use Rattle.std.specs.Prelude.{length, Option};
 ghost use Rattle.sdv_card.specs.Card.{Card};
 ghost use Rattle.sdv_card.specs.Port.{DataIn, DataInRegister, DataOut, WaitWhileBusy};
 ghost use Rattle.sdv_card.specs.ScriptEvent.{BlocksIn, RegisterIn, BlocksOut, Waited};
+ghost use Rattle.sdv_controller.specs.Noise.{WireKeepsTablesOverNoise};
 ghost use Rattle.sdv_controller.specs.Wire.{WireCall, WireReturn, Transfer, OtherCall, Transferred, OtherReturn, WireKeepsTables};
 
 use sdv_card::{DataEnd, WaitEnd};
@@ -56,4 +57,16 @@ pub trait Wire {
 
     /// Where the wire shows a card, it keeps the tables.
     ghost keeps_tables: { WireKeepsTables steps card };
+}
+
+/// A wire over a bus that may damage responses. It may show the card behind that bus, in contracts only.
+///
+/// Then each legal event in bounds is a step of that card, as with a wire that shows its card. But where the card's
+/// response is lost, the wire is silent or gives bytes that are no frame of a response that was waited for.
+pub trait NoisyWire: Wire {
+    /// The card behind the bus, if the wire shows one.
+    ghost card_behind: { Self → Option Card };
+
+    /// Where the wire shows a card, it keeps the tables over such a bus.
+    ghost keeps_tables_over_noise: { WireKeepsTablesOverNoise Self.steps card_behind };
 }

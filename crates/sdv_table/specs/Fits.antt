@@ -22,6 +22,7 @@ use Rattle.sdv_graph.specs.Counts.{max_number, max_name}
 use Rattle.sdv_graph.specs.Walk.{Finished, Failed}
 use Rattle.sdv_graph.specs.Path.{Case, Action, Point, sends, phases, lets, tests, flags, widths, heads, jumps, stops}
 use Rattle.sdv_graph.specs.Graph.{Graph}
+use Rattle.sdv_table.specs.declared.format.TheConstants as format
 use Rattle.sdv_table.specs.declared.counts.Counts.{Counts}
 use Rattle.sdv_table.specs.declared.fault.Part.{Part}
 use Rattle.sdv_table.specs.declared.fault.Part.TheVariants as parts
@@ -32,13 +33,13 @@ use Rattle.sdv_table.specs.Table.{size, table_of}
 -- COUNTS
 
 pub record CountsFit (c : Counts) : Type 0 where
-  pub numbers : c.numbers ≤ 8
-  pub flags : c.flags ≤ 4
-  pub points : c.points ≤ 8191
+  pub numbers : c.numbers ≤ format.MOST_NUMBERS
+  pub flags : c.flags ≤ format.MOST_FLAGS
+  pub points : c.points ≤ format.MOST_POINTS
 
 -- no counts are greater
 abbrev pub greatest : Counts
-greatest = record { numbers = 8; flags = 4; points = 8191 }
+greatest = record { numbers = format.MOST_NUMBERS; flags = format.MOST_FLAGS; points = format.MOST_POINTS }
 
 abbrev pub counts_of : Graph → Counts
 counts_of g = record { numbers = g.numbers; flags = g.flags; points = length g.points }
@@ -46,7 +47,7 @@ counts_of g = record { numbers = g.numbers; flags = g.flags; points = length g.p
 -- TARGETS
 
 abbrev pub TurnsFit : ℕ → Type 0
-TurnsFit n = (0 < n) × (n < 65536)
+TurnsFit n = (0 < n) × (n < format.UPPER)
 
 abbrev pub EnterFits : Option ℕ → Type 0
 EnterFits None = Unit {0}
@@ -54,12 +55,12 @@ EnterFits (Some n) = TurnsFit n
 
 -- a point, or the place behind the last one, which no run gets to
 abbrev pub TargetFits : (points : ℕ) → Target → Type 0
-TargetFits points t = (t.to ≤ points) × (t.leave < 8) × EnterFits t.enter
+TargetFits points t = (t.to ≤ points) × (t.leave < format.LEAVE_BOUND) × EnterFits t.enter
 
 -- a case has few guards
 abbrev pub CasesFit : (points : ℕ) → List Case → Type 0
 CasesFit points [] = Unit {0}
-CasesFit points (w ∷ ws) = (length w.guards ≤ 6) × TargetFits points w.target × CasesFit points ws
+CasesFit points (w ∷ ws) = (length w.guards ≤ format.MOST_GUARDS) × TargetFits points w.target × CasesFit points ws
 
 -- COMMANDS
 
@@ -77,9 +78,9 @@ AddressFits c None = Unit {0}
 AddressFits c (Some a) = UnitFits c.flags a.unit × PositionFits c.numbers a.position
 
 pub record CommandFits (c : Counts) (command : ScriptCommand) : Type 0 where
-  pub index : command.ask.index < 64
+  pub index : command.ask.index < format.INDEX_BOUND
   pub argument : command.ask.argument < 2 ^ 32
-  pub count : command.ask.count < 65536
+  pub count : command.ask.count < format.UPPER
   pub address : AddressFits c command.address
 
 -- LETS AND CONDITIONS
@@ -113,7 +114,7 @@ AreBytes (b ∷ bs) = (b < 256) × AreBytes bs
 -- each part has its bits, and names a variable, a flag or a point that the header counts
 abbrev pub PartsFit : Counts → Action → Type 0
 PartsFit c (sends command cases other) =
-    CommandFits c command × (length cases < 256) × CasesFit c.points cases × TargetFits c.points other
+    CommandFits c command × (length cases < format.TOO_MANY_CASES) × CasesFit c.points cases × TargetFits c.points other
 PartsFit c (phases p well other) = TargetFits c.points well × TargetFits c.points other
 PartsFit c (lets l t) = LetFits c l × TargetFits c.points t
 PartsFit c (tests condition holds other) =
@@ -151,7 +152,7 @@ pub record Fits (g : Graph) : Type 0 where
   pub points : PointsFit g.kind (counts_of g) g.points
   pub moves : g.steps < 2 ^ 64
   -- a row's place has 16 bits
-  pub words : size g < 65536
+  pub words : size g < format.TOO_MANY_WORDS
 
 -- these are the words of the table of a graph that fits one, with the number of commands that its header says
 pub record IsTable (g : Graph) (most : ℕ) (words : List ℕ) : Type 0 where
@@ -166,13 +167,13 @@ pub record IsWide (g : Graph) (i : ℕ) : Type 0 where
 
 -- the part of a graph that has no room in a table
 abbrev pub HasNoRoom : Graph → Part → Type 0
-HasNoRoom g parts.Numbers = 8 < g.numbers
-HasNoRoom g parts.Flags = 4 < g.flags
-HasNoRoom g parts.Points = 8191 < length g.points
+HasNoRoom g parts.Numbers = format.MOST_NUMBERS < g.numbers
+HasNoRoom g parts.Flags = format.MOST_FLAGS < g.flags
+HasNoRoom g parts.Points = format.MOST_POINTS < length g.points
 HasNoRoom g parts.Moves = 2 ^ 64 ≤ g.steps
 HasNoRoom g parts.First = TargetFits (length g.points) g.first → ⊥
 HasNoRoom g (parts.Point i) = IsWide g i
-HasNoRoom g parts.Words = 65536 ≤ size g
+HasNoRoom g parts.Words = format.TOO_MANY_WORDS ≤ size g
 
 -- why there is no table; memory may be refused at any time
 abbrev pub IsReason : Graph → TableFault → Type 0

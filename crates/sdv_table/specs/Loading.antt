@@ -2,6 +2,7 @@
 use Rattle.std.specs.Prelude.{◌≡◌, ℕ, ◌+◌, ◌/◌, ◌%◌, ◌<◌, ◌≤◌, List, length, slice_index, Some}
 use Rattle.sdv_registers.specs.declared.kind.Kind.{Kind}
 use Rattle.sdv_graph.specs.Path.{Action, sends}
+use Rattle.sdv_table.specs.declared.format.TheConstants as format
 use Rattle.sdv_table.specs.declared.fault.NoTable.{NoTable}
 use Rattle.sdv_table.specs.declared.fault.NoTable.TheVariants as faults
 use Rattle.sdv_table.specs.declared.sending.Sending.{Sending}
@@ -28,17 +29,17 @@ pub record IsPoint (ws : List ℕ) (i : ℕ) : Type 0 where
 
 -- the size that the header gives is that of the words, and the points' words are among them
 pub record HasSize (ws : List ℕ) : Type 0 where
-  pub size : slice_index ws 2 / 65536 ≡ length ws
+  pub size : slice_index ws 2 / format.UPPER ≡ length ws
   pub points : header_size + (counts_read ws).points ≤ length ws
 
 -- a kind of card, at most 8 number variables, 4 flags and 8,191 points
 pub record HasCounts (ws : List ℕ) : Type 0 where
-  pub kind : slice_index ws 1 / 256 % 256 < 2
+  pub kind : slice_index ws 1 / format.KIND % format.PART_BOUND < format.KINDS
   pub counts : CountsFit (counts_read ws)
 
 pub record IsWellFormed (ws : List ℕ) : Type 0 where
   pub has_magic : slice_index ws 0 ≡ magic
-  pub has_version : slice_index ws 1 % 256 ≡ version
+  pub has_version : slice_index ws 1 % format.KIND ≡ version
   pub has_size : HasSize ws
   pub has_counts : HasCounts ws
   pub first : TargetFits (counts_read ws).points (target_of (slice_index ws 3))
@@ -53,7 +54,7 @@ pub record IsFirstBad (ws : List ℕ) (i : ℕ) : Type 0 where
 -- what is wrong with words that are no table
 abbrev pub IsWrong : List ℕ → NoTable → Type 0
 IsWrong ws faults.Magic = slice_index ws 0 ≡ magic → ⊥
-IsWrong ws faults.Version = slice_index ws 1 % 256 ≡ version → ⊥
+IsWrong ws faults.Version = slice_index ws 1 % format.KIND ≡ version → ⊥
 IsWrong ws faults.Size = HasSize ws → ⊥
 IsWrong ws faults.Counts = HasCounts ws → ⊥
 IsWrong ws faults.First = TargetFits (counts_read ws).points (target_of (slice_index ws 3)) → ⊥

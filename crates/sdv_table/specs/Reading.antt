@@ -31,6 +31,7 @@ use Rattle.sdv_graph.specs.declared.tree.Condition.{Condition}
 use Rattle.sdv_graph.specs.declared.tree.Condition.TheVariants as conditions
 use Rattle.sdv_graph.specs.Walk.{Finished, Failed}
 use Rattle.sdv_graph.specs.Path.{Case, Action, sends, phases as phase_point, lets, tests, flags, widths, heads, jumps, stops}
+use Rattle.sdv_table.specs.declared.format.TheConstants as format
 use Rattle.sdv_table.specs.declared.counts.Counts.{Counts}
 use Rattle.sdv_table.specs.declared.reading.Row.{Row}
 use Rattle.sdv_table.specs.declared.reading.Row.TheVariants as rows
@@ -47,49 +48,60 @@ abbrev pub enter_of : ℕ → Option ℕ
 enter_of n = if n == 0 then None else Some n
 
 abbrev pub target_of : ℕ → Target
-target_of w = record { to = w % 8192; leave = w / 8192 % 8; enter = enter_of (w / 65536) }
+target_of w = record {
+  to = w % format.LEAVE;
+  leave = w / format.LEAVE % format.LEAVE_BOUND;
+  enter = enter_of (w / format.UPPER);
+}
 
 abbrev pub number_at : List ℕ → ℕ → ℕ
-number_at ws i = slice_index ws i + 4294967296 * slice_index ws (i + 1)
+number_at ws i = slice_index ws i + format.HIGH * slice_index ws (i + 1)
 
 -- SMALL PARTS
 
 abbrev pub phase_of : ℕ → Phase
-phase_of n = if n == 0 then phases.ReceiveBlocks else (if n == 1 then phases.ReceiveRegister else (
-    if n == 2 then phases.GiveBlocks else phases.Wait))
+phase_of n = if n == format.RECEIVE_BLOCKS then phases.ReceiveBlocks else (
+    if n == format.RECEIVE_REGISTER then phases.ReceiveRegister else (
+    if n == format.GIVE_BLOCKS then phases.GiveBlocks else phases.Wait))
 
 abbrev pub width_of : ℕ → Width
-width_of n = if n == 0 then One else (if n == 1 then Four else Eight)
+width_of n = if n == format.ONE_LINE then One else (if n == format.FOUR_LINES then Four else Eight)
 
 abbrev pub aim_of : ℕ → Aim
-aim_of n = if n == 0 then Rca else Plain
+aim_of n = if n == format.AIM_RCA then Rca else Plain
 
 abbrev pub atom_of : ℕ → ℕ → Atom
-atom_of code n = if code % 8 == 0 then atoms.Number n else (if code % 8 == 1 then atoms.Variable (code / 8) else (
-    if code % 8 == 2 then atoms.CsdBlocks else (if code % 8 == 3 then atoms.ExtBlocks else atoms.ExtBoot)))
+atom_of code n = if code % format.ATOM_NAMED == format.ATOM_NUMBER then atoms.Number n else (
+    if code % format.ATOM_NAMED == format.ATOM_VARIABLE then atoms.Variable (code / format.ATOM_NAMED) else (
+    if code % format.ATOM_NAMED == format.ATOM_CSD_BLOCKS then atoms.CsdBlocks else (
+    if code % format.ATOM_NAMED == format.ATOM_EXT_BLOCKS then atoms.ExtBlocks else atoms.ExtBoot)))
 
 -- how many words an atom of this code has
 abbrev pub code_size : ℕ → ℕ
-code_size code = if code % 8 == 0 then 2 else 0
+code_size code = if code % format.ATOM_NAMED == format.ATOM_NUMBER then 2 else 0
 
 abbrev pub change_of : ℕ → ℕ → Change
-change_of code n = if code == 0 then changes.Same else (if code == 1 then changes.Plus n else changes.Minus n)
+change_of code n = if code == format.CHANGE_SAME then changes.Same else (
+    if code == format.CHANGE_PLUS then changes.Plus n else changes.Minus n)
 
 abbrev pub condition_of : ℕ → ℕ → Condition
-condition_of code n = if code % 4 == 0 then conditions.Flag (code / 4) else (
-    if code % 4 == 1 then conditions.AtLeast (code / 4) n else conditions.Below (code / 4) n)
+condition_of code n = if code % format.NAMED == format.CONDITION_FLAG then conditions.Flag (code / format.NAMED) else (
+    if code % format.NAMED == format.CONDITION_AT_LEAST then conditions.AtLeast (code / format.NAMED) n
+    else conditions.Below (code / format.NAMED) n)
 
 abbrev pub unit_of : ℕ → AddressUnit
-unit_of code = if code % 4 == 0 then Block else (if code % 4 == 1 then Byte else By (code / 4))
+unit_of code = if code % format.NAMED == format.UNIT_BLOCK then Block else (
+    if code % format.NAMED == format.UNIT_BYTE then Byte else By (code / format.NAMED))
 
 abbrev pub position_of : ℕ → ℕ → Position
-position_of code n = if code % 4 == 0 then positions.Number n else (
-    if code % 4 == 1 then positions.Variable (code / 4) None else positions.Variable (code / 4) (Some n))
+position_of code n = if code % format.NAMED == format.POSITION_NUMBER then positions.Number n else (
+    if code % format.NAMED == format.POSITION_VARIABLE then positions.Variable (code / format.NAMED) None
+    else positions.Variable (code / format.NAMED) (Some n))
 
 abbrev pub address_of : ℕ → List ℕ → Option Address
 address_of has ws = if has == 0 then None else Some record {
-  unit = unit_of (slice_index ws 3 % 16);
-  position = position_of (slice_index ws 3 / 16) (number_at ws 4);
+  unit = unit_of (slice_index ws 3 % format.ADDRESS_POSITION);
+  position = position_of (slice_index ws 3 / format.ADDRESS_POSITION) (number_at ws 4);
 }
 
 -- only these indexes have an argument of their own
@@ -99,12 +111,12 @@ own_argument index word = if (index == 6) || (index == 38) || (index == 41) then
 abbrev pub command_of : ℕ → List ℕ → ScriptCommand
 command_of small ws = record {
   ask = record {
-    index = small % 64;
-    aim = aim_of (small / 64 % 2);
-    argument = own_argument (small % 64) (slice_index ws 1);
-    count = slice_index ws 2 % 65536;
+    index = small % format.COMMAND_AIM;
+    aim = aim_of (small / format.COMMAND_AIM % format.AIM_BOUND);
+    argument = own_argument (small % format.COMMAND_AIM) (slice_index ws 1);
+    count = slice_index ws 2 % format.UPPER;
   };
-  address = address_of (small / 128) ws;
+  address = address_of (small / format.COMMAND_ADDRESS) ws;
 }
 
 -- where the cases of a command begin in its row
@@ -119,45 +131,50 @@ state_of n = if n == 0 then states.Idle else (if n == 1 then states.Ready else (
     if n == 6 then states.Rcv else (if n == 7 then states.Prg else states.Dis)))))))
 
 abbrev pub guard_of : ℕ → Guard
-guard_of n = if n == 1 then Timeout else (if n == 2 then Answer else (if n == 3 then Clean else (
-    if n == 4 then Ready else (if n == 5 then App else (if n == 6 then Echo else (if n == 7 then OcrReady else (
-    if n == 8 then OcrBlock else (if n == 9 then WentWell else InState (state_of (n - 10))))))))))
+guard_of n = if n == format.GUARD_TIMEOUT then Timeout else (if n == format.GUARD_ANSWER then Answer else (
+    if n == format.GUARD_CLEAN then Clean else (if n == format.GUARD_READY then Ready else (
+    if n == format.GUARD_APP then App else (if n == format.GUARD_ECHO then Echo else (
+    if n == format.GUARD_OCR_READY then OcrReady else (if n == format.GUARD_OCR_BLOCK then OcrBlock else (
+    if n == format.GUARD_OK then WentWell else InState (state_of (n - format.GUARD_STATE))))))))))
 
 -- up to so many, the lowest digit first
 abbrev pub guards_of : (most word : ℕ) → List Guard
 guards_of zero w = []
-guards_of (suc n) w = if w == 0 then [] else guard_of (w % 32) ∷ guards_of n (w / 32)
+guards_of (suc n) w = if w == 0 then [] else guard_of (w % format.NEXT_GUARD) ∷ guards_of n (w / format.NEXT_GUARD)
 
 abbrev pub case_of : List ℕ → Case
-case_of ws = record { guards = guards_of 6 (slice_index ws 0); target = target_of (slice_index ws 1) }
+case_of ws = record { guards = guards_of format.MOST_GUARDS (slice_index ws 0); target = target_of (slice_index ws 1) }
 
 abbrev pub cases_of : (count : ℕ) → List ℕ → List Case
 cases_of zero ws = []
 cases_of (suc n) ws = case_of ws ∷ cases_of n (drop 2 ws)
 
 abbrev pub cases_count : List ℕ → ℕ
-cases_count ws = slice_index ws 2 / 16777216
+cases_count ws = slice_index ws 2 / format.ROW_CASES
 
 -- HOW A COMMAND IS SENT
 
 abbrev pub expect_read : (code index : ℕ) → Expect
-expect_read code index = if code == 0 then expects.Nothing else (if code == 1 then expects.R1 index else (
-    if code == 2 then expects.R2 else (if code == 3 then expects.R3 else (if code == 6 then expects.R6 else expects.R7))))
+expect_read code index = if code == format.EXPECT_NOTHING then expects.Nothing else (
+    if code == format.EXPECT_R1 then expects.R1 index else (
+    if code == format.EXPECT_R2 then expects.R2 else (if code == format.EXPECT_R3 then expects.R3 else (
+    if code == format.EXPECT_R6 then expects.R6 else expects.R7))))
 
 abbrev pub data_read : ℕ → Data
-data_read code = if code == 0 then uses.Nothing else (if code == 1 then uses.Busy else (
-    if code == 2 then uses.BlocksIn else (if code == 3 then uses.BlocksOut else (
-    if code == 4 then uses.Scr else (if code == 5 then uses.SdStatus else uses.ExtCsd)))))
+data_read code = if code == format.NO_DATA then uses.Nothing else (if code == format.BUSY then uses.Busy else (
+    if code == format.BLOCKS_IN then uses.BlocksIn else (if code == format.BLOCKS_OUT then uses.BlocksOut else (
+    if code == format.SCR then uses.Scr else (if code == format.SD_STATUS then uses.SdStatus else uses.ExtCsd)))))
 
 abbrev pub source_read : ℕ → Source
-source_read code = if code == 0 then sources.Own else (if code == 1 then sources.Rca else sources.Address)
+source_read code = if code == format.SOURCE_OWN then sources.Own else (
+    if code == format.SOURCE_RCA then sources.Rca else sources.Address)
 
 abbrev pub sending_read : ℕ → List ℕ → Sending
 sending_read small ws = record {
-  source = source_read (slice_index ws 2 / 4194304 % 4);
+  source = source_read (slice_index ws 2 / format.ROW_SOURCE % format.SOURCE_BOUND);
   argument = slice_index ws 1;
-  expect = expect_read (slice_index ws 2 / 65536 % 8) (small % 64);
-  follows = data_read (slice_index ws 2 / 524288 % 8);
+  expect = expect_read (slice_index ws 2 / format.ROW_EXPECT % format.EXPECT_BOUND) (small % format.COMMAND_AIM);
+  follows = data_read (slice_index ws 2 / format.ROW_DATA % format.DATA_BOUND);
 }
 
 -- NAMES: so many bytes, four a word
@@ -177,38 +194,42 @@ name_of (suc (suc (suc (suc n)))) ws =
 
 abbrev pub let_of : ℕ → List ℕ → Let
 let_of small ws = record {
-  target = small % 16;
-  atom = atom_of (small / 16 % 64) (number_at ws 1);
-  change = change_of (small / 1024) (number_at ws (1 + code_size (small / 16 % 64)));
+  target = small % format.LET_ATOM;
+  atom = atom_of (small / format.LET_ATOM % format.ATOM_BOUND) (number_at ws 1);
+  change = change_of (small / format.LET_CHANGE)
+      (number_at ws (1 + code_size (small / format.LET_ATOM % format.ATOM_BOUND)));
 }
 
 -- the statement of a kind, by its small parts and its row; there are ten kinds
 abbrev pub action_of : (kind small : ℕ) → List ℕ → Option Action
 action_of kind small ws =
-    if kind == 0 then Some (sends (command_of small ws) (cases_of (cases_count ws) (drop (cases_place (small / 128)) ws))
+    if kind == format.SEND then Some (sends (command_of small ws)
+    (cases_of (cases_count ws) (drop (cases_place (small / format.COMMAND_ADDRESS)) ws))
     (target_of (slice_index ws 0))) else (
-    if kind == 1 then Some (phase_point (phase_of small) (target_of (slice_index ws 0)) (target_of (slice_index ws 1))) else (
-    if kind == 2 then Some (lets (let_of small ws) (target_of (slice_index ws 0))) else (
-    if kind == 3 then Some (tests (condition_of small (number_at ws 2)) (target_of (slice_index ws 0))
+    if kind == format.PHASE then Some (phase_point (phase_of small) (target_of (slice_index ws 0))
     (target_of (slice_index ws 1))) else (
-    if kind == 4 then Some (flags (small / 2) (small % 2 == 1) (target_of (slice_index ws 0))) else (
-    if kind == 5 then Some (widths (width_of small) (target_of (slice_index ws 0))) else (
-    if kind == 6 then Some (heads (slice_index ws 2 % 65536) (target_of (slice_index ws 0))
+    if kind == format.LET then Some (lets (let_of small ws) (target_of (slice_index ws 0))) else (
+    if kind == format.IF then Some (tests (condition_of small (number_at ws 2)) (target_of (slice_index ws 0))
     (target_of (slice_index ws 1))) else (
-    if kind == 7 then Some (jumps (target_of (slice_index ws 0))) else (
-    if kind == 8 then Some (stops Finished) else (
-    if kind == 9 then Some (stops (Failed (name_of small ws))) else None)))))))))
+    if kind == format.FLAG then Some (flags (small / format.FLAG_NAMED) (small % format.FLAG_NAMED == 1)
+    (target_of (slice_index ws 0))) else (
+    if kind == format.LINES then Some (widths (width_of small) (target_of (slice_index ws 0))) else (
+    if kind == format.LOOP then Some (heads (slice_index ws 2 % format.UPPER) (target_of (slice_index ws 0))
+    (target_of (slice_index ws 1))) else (
+    if kind == format.BREAK then Some (jumps (target_of (slice_index ws 0))) else (
+    if kind == format.DONE then Some (stops Finished) else (
+    if kind == format.FAULT then Some (stops (Failed (name_of small ws))) else None)))))))))
 
 -- TABLES
 
 abbrev pub kind_read : List ℕ → Kind
-kind_read ws = if slice_index ws 1 / 256 % 256 == 0 then Sd else Emmc
+kind_read ws = if slice_index ws 1 / format.KIND % format.PART_BOUND == format.SD then Sd else Emmc
 
 abbrev pub counts_read : List ℕ → Counts
 counts_read ws = record {
-  numbers = slice_index ws 1 / 65536 % 256;
-  flags = slice_index ws 1 / 16777216;
-  points = slice_index ws 2 % 65536;
+  numbers = slice_index ws 1 / format.NUMBERS % format.PART_BOUND;
+  flags = slice_index ws 1 / format.FLAGS;
+  points = slice_index ws 2 % format.UPPER;
 }
 
 -- how many moves a run makes at most, and how many commands it sends at most
@@ -223,18 +244,18 @@ abbrev pub head_read : List ℕ → ℕ → ℕ
 head_read ws i = slice_index ws (header_size + i)
 
 abbrev pub place_read : List ℕ → ℕ → ℕ
-place_read ws i = head_read ws i / 65536
+place_read ws i = head_read ws i / format.UPPER
 
 abbrev pub small_read : List ℕ → ℕ → ℕ
-small_read ws i = head_read ws i / 16 % 4096
+small_read ws i = head_read ws i / format.SMALL % format.SMALL_BOUND
 
 abbrev pub row_read : List ℕ → ℕ → List ℕ
 row_read ws i = drop (place_read ws i) ws
 
 -- the statement at a point; none past the last one
 abbrev pub action_at : List ℕ → ℕ → Option Action
-action_at ws i = if nat_lt i (counts_read ws).points then action_of (head_read ws i % 16) (small_read ws i) (row_read ws i)
-    else None
+action_at ws i = if nat_lt i (counts_read ws).points then action_of (head_read ws i % format.SMALL) (small_read ws i)
+    (row_read ws i) else None
 
 -- how the command at a point is sent
 abbrev pub sending_at : List ℕ → ℕ → Sending

@@ -11,6 +11,7 @@ use Rattle.sdv_frames.specs.declared.reply.Expect.{Expect}
 use Rattle.sdv_frames.specs.declared.reply.Expect.TheVariants as expects
 use Rattle.sdv_registers.specs.declared.kind.Kind.{Kind}
 use Rattle.sdv_graph.specs.declared.graph.Target.{Target}
+use Rattle.sdv_graph.specs.declared.tree.ScriptCommand.{ScriptCommand}
 use Rattle.sdv_graph.specs.declared.tree.Phase.{Phase}
 use Rattle.sdv_graph.specs.declared.tree.Phase.TheVariants as phases
 use Rattle.sdv_graph.specs.declared.tree.Address.{Address}
@@ -25,6 +26,7 @@ use Rattle.sdv_graph.specs.declared.tree.Change.TheVariants as changes
 use Rattle.sdv_graph.specs.declared.tree.Condition.{Condition}
 use Rattle.sdv_graph.specs.declared.tree.Condition.TheVariants as conditions
 use Rattle.sdv_graph.specs.Walk.{Failed}
+use Rattle.sdv_table.specs.declared.format.TheConstants as format
 use Rattle.sdv_table.specs.declared.sending.Data.{Data}
 use Rattle.sdv_table.specs.declared.sending.Data.TheVariants as uses
 use Rattle.sdv_table.specs.declared.sending.Source.{Source}
@@ -41,34 +43,34 @@ turns_number None = 0
 turns_number (Some n) = n
 
 abbrev pub target_word : Target → ℕ
-target_word t = t.to + 8192 * t.leave + 65536 * turns_number t.enter
+target_word t = t.to + format.LEAVE * t.leave + format.UPPER * turns_number t.enter
 
 -- NUMBERS: two words, the low one first
 
 abbrev pub low : ℕ → ℕ
-low n = n % 4294967296
+low n = n % format.HIGH
 
 abbrev pub high : ℕ → ℕ
-high n = n / 4294967296
+high n = n / format.HIGH
 
 -- CASES: a word of guards and a target each
 
 abbrev pub guard_code : Guard → ℕ
-guard_code Timeout = 1
-guard_code Answer = 2
-guard_code Clean = 3
-guard_code Ready = 4
-guard_code App = 5
-guard_code Echo = 6
-guard_code OcrReady = 7
-guard_code OcrBlock = 8
-guard_code WentWell = 9
-guard_code (InState s) = 10 + state_number s
+guard_code Timeout = format.GUARD_TIMEOUT
+guard_code Answer = format.GUARD_ANSWER
+guard_code Clean = format.GUARD_CLEAN
+guard_code Ready = format.GUARD_READY
+guard_code App = format.GUARD_APP
+guard_code Echo = format.GUARD_ECHO
+guard_code OcrReady = format.GUARD_OCR_READY
+guard_code OcrBlock = format.GUARD_OCR_BLOCK
+guard_code WentWell = format.GUARD_OK
+guard_code (InState s) = format.GUARD_STATE + state_number s
 
--- five bits a guard, the first one lowest
+-- the first guard lowest
 abbrev pub guards_word : List Guard → ℕ
 guards_word [] = 0
-guards_word (g ∷ gs) = guard_code g + 32 * guards_word gs
+guards_word (g ∷ gs) = guard_code g + format.NEXT_GUARD * guards_word gs
 
 abbrev pub cases_words : List Case → List ℕ
 cases_words [] = []
@@ -77,15 +79,15 @@ cases_words (w ∷ ws) = guards_word w.guards ∷ target_word w.target ∷ cases
 -- ADDRESSES
 
 abbrev pub unit_code : AddressUnit → ℕ
-unit_code Block = 0
-unit_code Byte = 1
-unit_code (By flag) = 2 + 4 * flag
+unit_code Block = format.UNIT_BLOCK
+unit_code Byte = format.UNIT_BYTE
+unit_code (By flag) = format.UNIT_BY + format.NAMED * flag
 
--- bits 1..0 of 0: a number, 1: a variable, 2: a variable and a number; the variable above
+-- a number, a variable, or a number behind a variable; the variable above
 abbrev pub position_code : Position → ℕ
-position_code (positions.Number n) = 0
-position_code (positions.Variable x None) = 1 + 4 * x
-position_code (positions.Variable x (Some k)) = 2 + 4 * x
+position_code (positions.Number n) = format.POSITION_NUMBER
+position_code (positions.Variable x None) = format.POSITION_VARIABLE + format.NAMED * x
+position_code (positions.Variable x (Some k)) = format.POSITION_BEHIND + format.NAMED * x
 
 abbrev pub position_number : Position → ℕ
 position_number (positions.Number n) = n
@@ -95,7 +97,7 @@ position_number (positions.Variable x (Some k)) = k
 abbrev pub address_words : Option Address → List ℕ
 address_words None = []
 address_words (Some a) =
-    (unit_code a.unit + 16 * position_code a.position) ∷ low (position_number a.position) ∷ high
+    (unit_code a.unit + format.ADDRESS_POSITION * position_code a.position) ∷ low (position_number a.position) ∷ high
     (position_number a.position) ∷ []
 
 abbrev pub has_address : Option Address → ℕ
@@ -113,20 +115,20 @@ name_words (a ∷ b ∷ c ∷ d ∷ rest) = (a + 256 * b + 65536 * c + 16777216 
 -- LETS
 
 abbrev pub atom_code : Atom → ℕ
-atom_code (atoms.Number n) = 0
-atom_code (atoms.Variable y) = 1 + 8 * y
-atom_code atoms.CsdBlocks = 2
-atom_code atoms.ExtBlocks = 3
-atom_code atoms.ExtBoot = 4
+atom_code (atoms.Number n) = format.ATOM_NUMBER
+atom_code (atoms.Variable y) = format.ATOM_VARIABLE + format.ATOM_NAMED * y
+atom_code atoms.CsdBlocks = format.ATOM_CSD_BLOCKS
+atom_code atoms.ExtBlocks = format.ATOM_EXT_BLOCKS
+atom_code atoms.ExtBoot = format.ATOM_EXT_BOOT
 
 abbrev pub atom_words : Atom → List ℕ
 atom_words (atoms.Number n) = low n ∷ high n ∷ []
 atom_words atom = []
 
 abbrev pub change_code : Change → ℕ
-change_code changes.Same = 0
-change_code (changes.Plus k) = 1
-change_code (changes.Minus k) = 2
+change_code changes.Same = format.CHANGE_SAME
+change_code (changes.Plus k) = format.CHANGE_PLUS
+change_code (changes.Minus k) = format.CHANGE_MINUS
 
 abbrev pub change_words : Change → List ℕ
 change_words changes.Same = []
@@ -136,9 +138,9 @@ change_words (changes.Minus k) = low k ∷ high k ∷ []
 -- CONDITIONS
 
 abbrev pub condition_code : Condition → ℕ
-condition_code (conditions.Flag flag) = 0 + 4 * flag
-condition_code (conditions.AtLeast x n) = 1 + 4 * x
-condition_code (conditions.Below x n) = 2 + 4 * x
+condition_code (conditions.Flag flag) = format.CONDITION_FLAG + format.NAMED * flag
+condition_code (conditions.AtLeast x n) = format.CONDITION_AT_LEAST + format.NAMED * x
+condition_code (conditions.Below x n) = format.CONDITION_BELOW + format.NAMED * x
 
 abbrev pub condition_words : Condition → List ℕ
 condition_words (conditions.Flag flag) = []
@@ -147,83 +149,87 @@ condition_words (conditions.Below x n) = low n ∷ high n ∷ []
 
 -- COMMANDS
 
--- the response that is waited for: its number in the standard
 abbrev pub expect_code : Expect → ℕ
-expect_code expects.Nothing = 0
-expect_code (expects.R1 index) = 1
-expect_code expects.R2 = 2
-expect_code expects.R3 = 3
-expect_code expects.R6 = 6
-expect_code expects.R7 = 7
+expect_code expects.Nothing = format.EXPECT_NOTHING
+expect_code (expects.R1 index) = format.EXPECT_R1
+expect_code expects.R2 = format.EXPECT_R2
+expect_code expects.R3 = format.EXPECT_R3
+expect_code expects.R6 = format.EXPECT_R6
+expect_code expects.R7 = format.EXPECT_R7
 
 abbrev pub data_code : Data → ℕ
-data_code uses.Nothing = 0
-data_code uses.Busy = 1
-data_code uses.BlocksIn = 2
-data_code uses.BlocksOut = 3
-data_code uses.Scr = 4
-data_code uses.SdStatus = 5
-data_code uses.ExtCsd = 6
+data_code uses.Nothing = format.NO_DATA
+data_code uses.Busy = format.BUSY
+data_code uses.BlocksIn = format.BLOCKS_IN
+data_code uses.BlocksOut = format.BLOCKS_OUT
+data_code uses.Scr = format.SCR
+data_code uses.SdStatus = format.SD_STATUS
+data_code uses.ExtCsd = format.EXT_CSD
 
 abbrev pub source_code : Source → ℕ
-source_code sources.Own = 0
-source_code sources.Rca = 1
-source_code sources.Address = 2
+source_code sources.Own = format.SOURCE_OWN
+source_code sources.Rca = format.SOURCE_RCA
+source_code sources.Address = format.SOURCE_ADDRESS
 
 abbrev pub sending_code : Sending → ℕ
-sending_code s = expect_code s.expect + 8 * (data_code s.follows + 8 * source_code s.source)
+sending_code s =
+    expect_code s.expect + format.EXPECT_BOUND * (data_code s.follows + format.DATA_BOUND * source_code s.source)
 
 -- the announced count, how the command is sent, and how many cases there are
 abbrev pub counts_word : (count : ℕ) → Sending → (cases : ℕ) → ℕ
-counts_word count s cases = count + 65536 * (sending_code s + 256 * cases)
+counts_word count s cases = count + format.ROW_EXPECT * (sending_code s + format.SENDING_BOUND * cases)
 
 -- ROWS
 
 abbrev pub aim_code : Aim → ℕ
-aim_code Rca = 0
-aim_code Plain = 1
+aim_code Rca = format.AIM_RCA
+aim_code Plain = format.AIM_PLAIN
 
 abbrev pub phase_code : Phase → ℕ
-phase_code phases.ReceiveBlocks = 0
-phase_code phases.ReceiveRegister = 1
-phase_code phases.GiveBlocks = 2
-phase_code phases.Wait = 3
+phase_code phases.ReceiveBlocks = format.RECEIVE_BLOCKS
+phase_code phases.ReceiveRegister = format.RECEIVE_REGISTER
+phase_code phases.GiveBlocks = format.GIVE_BLOCKS
+phase_code phases.Wait = format.WAIT
 
 abbrev pub bool_code : Bool → ℕ
 bool_code false = 0
 bool_code true = 1
 
 abbrev pub width_code : Width → ℕ
-width_code One = 0
-width_code Four = 1
-width_code Eight = 2
+width_code One = format.ONE_LINE
+width_code Four = format.FOUR_LINES
+width_code Eight = format.EIGHT_LINES
 
--- what kind of statement it is: 4 bits
+-- what kind of statement it is
 abbrev pub kind_of_action : Action → ℕ
-kind_of_action (sends c cases other) = 0
-kind_of_action (phase_point p well other) = 1
-kind_of_action (lets l t) = 2
-kind_of_action (tests c holds other) = 3
-kind_of_action (flags f on t) = 4
-kind_of_action (widths width t) = 5
-kind_of_action (heads n body other) = 6
-kind_of_action (jumps t) = 7
-kind_of_action (stops (Failed name)) = 9
-kind_of_action (stops last) = 8
+kind_of_action (sends c cases other) = format.SEND
+kind_of_action (phase_point p well other) = format.PHASE
+kind_of_action (lets l t) = format.LET
+kind_of_action (tests c holds other) = format.IF
+kind_of_action (flags f on t) = format.FLAG
+kind_of_action (widths width t) = format.LINES
+kind_of_action (heads n body other) = format.LOOP
+kind_of_action (jumps t) = format.BREAK
+kind_of_action (stops (Failed name)) = format.FAULT
+kind_of_action (stops last) = format.DONE
 
--- its small parts: 12 bits
+-- its index, its aim, and whether it has an address
+abbrev pub command_code : ScriptCommand → ℕ
+command_code c = c.ask.index + format.COMMAND_AIM * (aim_code c.ask.aim + format.AIM_BOUND * has_address c.address)
+
+-- its small parts
 abbrev pub small_of_action : Action → ℕ
-small_of_action (sends c cases other) = c.ask.index + 64 * (aim_code c.ask.aim + 2 * has_address c.address)
+small_of_action (sends c cases other) = command_code c
 small_of_action (phase_point p well other) = phase_code p
-small_of_action (lets l t) = l.target + 16 * (atom_code l.atom + 64 * change_code l.change)
+small_of_action (lets l t) = l.target + format.LET_ATOM * (atom_code l.atom + format.ATOM_BOUND * change_code l.change)
 small_of_action (tests c holds other) = condition_code c
-small_of_action (flags f on t) = bool_code on + 2 * f
+small_of_action (flags f on t) = bool_code on + format.FLAG_NAMED * f
 small_of_action (widths width t) = width_code width
 small_of_action (stops (Failed name)) = length name
 small_of_action action = 0
 
 abbrev pub head_of_action : Action → ℕ
-head_of_action action = kind_of_action action + 16 * small_of_action action
+head_of_action action = kind_of_action action + format.SMALL * small_of_action action
 
 -- the other words
 abbrev pub row_of_action : Kind → Action → List ℕ

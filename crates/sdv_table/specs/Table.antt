@@ -4,6 +4,7 @@ use Rattle.sdv_registers.specs.declared.kind.Kind.{Kind}
 use Rattle.sdv_registers.specs.declared.kind.Kind.TheVariants.{Sd, Emmc}
 use Rattle.sdv_graph.specs.Path.{Point}
 use Rattle.sdv_graph.specs.Graph.{Graph}
+use Rattle.sdv_table.specs.declared.format.TheConstants as format
 use Rattle.sdv_table.specs.Row.{head_of_action, row_of_action, target_word, low, high}
 
 abbrev pub rows : Kind → List Point → List ℕ
@@ -13,21 +14,20 @@ rows k (p ∷ ps) = row_of_action k p.action ++ rows k ps
 -- each point's word: its statement's kind and small parts, and above them where its row stands
 abbrev pub heads : Kind → ℕ → List Point → List ℕ
 heads k at [] = []
-heads k at (p ∷ ps) = (head_of_action p.action + 65536 * at) ∷ heads k (at + length (row_of_action k p.action)) ps
+heads k at (p ∷ ps) = (head_of_action p.action + format.UPPER * at) ∷ heads k (at + length (row_of_action k p.action)) ps
 
 abbrev pub kind_code : Kind → ℕ
-kind_code Sd = 0
-kind_code Emmc = 1
+kind_code Sd = format.SD
+kind_code Emmc = format.EMMC
 
--- the letters SDVT, the first one in the lowest byte
 abbrev pub magic : ℕ
-magic = 0x54564453
+magic = format.MAGIC
 
 abbrev pub version : ℕ
-version = 2
+version = format.VERSION
 
 abbrev pub header_size : ℕ
-header_size = 8
+header_size = format.HEADER_SIZE
 
 abbrev pub first_row : Graph → ℕ
 first_row g = header_size + length g.points
@@ -38,7 +38,9 @@ size g = first_row g + length (rows g.kind g.points)
 -- it says of how many moves no run makes more, and of how many commands none sends more
 abbrev pub header : Graph → (most : ℕ) → List ℕ
 header g most =
-    magic ∷ (version + 256 * (kind_code g.kind + 256 * (g.numbers + 256 * g.flags))) ∷ (length g.points + 65536 * size g)
+    magic
+    ∷ (version + format.KIND * (kind_code g.kind + format.PART_BOUND * (g.numbers + format.PART_BOUND * g.flags)))
+    ∷ (length g.points + format.UPPER * size g)
     ∷ target_word g.first ∷ low g.steps ∷ high g.steps ∷ low most ∷ high most ∷ []
 
 unfoldable pub table_of : Graph → (most : ℕ) → List ℕ

@@ -1,6 +1,7 @@
 //! From a graph to its table.
 
 ghost use Rattle.std.specs.Prelude.{◌≡◌, ◌<◌, ◌^◌, ◌+◌, ◌*◌, ◌++◌, ◌∷◌, [], length, IfOk, IfErr};
+ghost use Rattle.sdv_table.specs.declared.format.TheConstants.{TOO_MANY_WORDS};
 ghost use Rattle.sdv_table.specs.Table.{heads, rows, header, header_size, size, kind_code};
 ghost use Rattle.sdv_table.specs.Fits.{CountsFit, PointsFit, TargetFits, IsTable, IsReason, counts_of};
 ghost use Rattle.sdv_table.specs.Loading.{IsWellFormed};
@@ -8,6 +9,7 @@ ghost use Rattle.sdv_table.specs.Loading.{IsWellFormed};
 use crate::counts::Counts;
 use crate::fault::{Part, TableFault};
 use crate::fits::{action_fits, target_fits};
+use crate::format;
 use crate::row::{head, put_number, put_row, target_word};
 use sdv_card::Kind;
 use sdv_graph::Graph;
@@ -40,13 +42,13 @@ fn counts_of(graph: &Graph<'_>) -> Result<Counts, TableFault>
         flags: graph.flags(),
         points: graph.len(),
     };
-    if counts.numbers > 8 {
+    if counts.numbers > format::MOST_NUMBERS {
         return Err(TableFault::Wide(Part::Numbers));
     }
-    if counts.flags > 4 {
+    if counts.flags > format::MOST_FLAGS {
         return Err(TableFault::Wide(Part::Flags));
     }
-    if counts.points > 8191 {
+    if counts.points > format::MOST_POINTS {
         return Err(TableFault::Wide(Part::Points));
     }
     Ok(counts)
@@ -63,7 +65,7 @@ fn points_of(alloc: Global, graph: &Graph<'_>, counts: Counts) -> Result<Points,
     ensures reason { IfErr result (IsReason graph.now) }
 {
     let kind = graph.kind();
-    let start = 8 + counts.points;
+    let start = format::HEADER_SIZE + counts.points;
     let mut heads = Vec::new(alloc);
     let mut rows = Vec::new(alloc);
     for number in 0..counts.points {
@@ -72,10 +74,10 @@ fn points_of(alloc: Global, graph: &Graph<'_>, counts: Counts) -> Result<Points,
             return Err(TableFault::Wide(Part::Point(number)));
         }
         let row = rows.len();
-        if row >= 65536 - start {
+        if row >= format::TOO_MANY_WORDS - start {
             return Err(TableFault::Wide(Part::Words));
         }
-        heads.push(head(action) + 65536 * (start + row) as u32)?;
+        heads.push(head(action) + format::UPPER * (start + row) as u32)?;
         put_row(&mut rows, kind, action)?;
     }
     Ok(Points { heads, rows })
@@ -86,8 +88,8 @@ fn kind_code(kind: Kind) -> u32
     ensures small { result < 2 }
 {
     match kind {
-        Kind::Sd => 0,
-        Kind::Emmc => 1,
+        Kind::Sd => format::SD,
+        Kind::Emmc => format::EMMC,
     }
 }
 
@@ -101,7 +103,7 @@ fn header_of(
 ) -> Result<Vec<u32>, TableFault>
     requires same { counts ≡ counts_of graph.now }
     requires fit { CountsFit counts }
-    requires few_words { total < 65536 }
+    requires few_words { total < TOO_MANY_WORDS }
     ensures words { IfOk result (λ words. total ≡ size graph.now → words.items ≡ header graph.now most) }
     ensures fits { IfOk result (λ _. TargetFits counts.points graph.now.first) }
     ensures few { IfOk result (λ _. graph.now.steps < 2 ^ 64) }
@@ -115,11 +117,12 @@ fn header_of(
     if !target_fits(counts.points, first) {
         return Err(TableFault::Wide(Part::First));
     }
-    let parts = kind_code(graph.kind()) + 256 * (counts.numbers as u32 + 256 * counts.flags as u32);
+    let counted = counts.numbers as u32 + format::PART_BOUND * counts.flags as u32;
+    let parts = kind_code(graph.kind()) + format::PART_BOUND * counted;
     let mut words = Vec::new(alloc);
-    words.push(0x5456_4453)?;
-    words.push(2 + 256 * parts)?;
-    words.push(counts.points as u32 + 65536 * total as u32)?;
+    words.push(format::MAGIC)?;
+    words.push(format::VERSION + format::KIND * parts)?;
+    words.push(counts.points as u32 + format::UPPER * total as u32)?;
     words.push(target_word(first))?;
     put_number(&mut words, steps as u64)?;
     put_number(&mut words, most)?;
@@ -133,9 +136,9 @@ fn table_of(alloc: Global, graph: &Graph<'_>, most: u64) -> Result<Vec<u32>, Tab
 {
     let counts = counts_of(graph)?;
     let points = points_of(alloc, graph, counts)?;
-    let start = 8 + counts.points;
+    let start = format::HEADER_SIZE + counts.points;
     let row_words = points.rows.len();
-    if row_words >= 65536 - start {
+    if row_words >= format::TOO_MANY_WORDS - start {
         return Err(TableFault::Wide(Part::Words));
     }
     let mut words = header_of(alloc, graph, most, counts, start + row_words)?;

@@ -6,6 +6,7 @@ ghost use Rattle.sdv_graph.specs.Graph.{seen_action, seen_case};
 ghost use Rattle.sdv_table.specs.Fits.{AreBytes, TurnsFit, EnterFits, TargetFits, CasesFit, UnitFits, PositionFits, AddressFits, CommandFits, AtomFits, ChangeFits, LetFits, ConditionFits, PartsFit, HasOrder, IsOfKind, ActionFits};
 
 use crate::counts::Counts;
+use crate::format;
 use sdv_card::state_table::order;
 use sdv_card::{Ask, Kind};
 use sdv_graph::{
@@ -24,7 +25,7 @@ pub(crate) fn target_fits(points: usize, target: Target) -> bool
     ensures yes { result ≡ true → TargetFits points target }
     ensures no { TargetFits points target → result ≡ true }
 {
-    if target.to > points || target.leave >= 8 {
+    if target.to > points || target.leave >= format::LEAVE_BOUND as usize {
         return false;
     }
     match target.enter {
@@ -77,7 +78,7 @@ pub(crate) fn command_fits(counts: Counts, command: ScriptCommand) -> bool
     ensures yes { result ≡ true → CommandFits counts command }
     ensures no { CommandFits counts command → result ≡ true }
 {
-    command.ask.index < 64 && address_fits(counts, command.address)
+    command.ask.index < format::INDEX_BOUND && address_fits(counts, command.address)
 }
 
 fn atom_fits(numbers: usize, atom: Atom) -> bool
@@ -143,7 +144,9 @@ fn cases_fit(points: usize, cases: &[Case]) -> bool
     match cases {
         [] => true,
         [case, rest @ ..] => {
-            case.guards.len() <= 6 && target_fits(points, case.target) && cases_fit(points, rest)
+            case.guards.len() <= format::MOST_GUARDS
+                && target_fits(points, case.target)
+                && cases_fit(points, rest)
         }
     }
 }
@@ -157,7 +160,7 @@ fn parts_fit(counts: Counts, action: &Action<'_>) -> bool
     match action {
         Action::Send(command, cases, other) => {
             command_fits(counts, *command)
-                && cases.len() < 256
+                && cases.len() < format::TOO_MANY_CASES
                 && cases_fit(points, cases)
                 && target_fits(points, *other)
         }

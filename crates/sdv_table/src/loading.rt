@@ -11,6 +11,7 @@ ghost use Rattle.sdv_table.specs.Loading.{IsSentRight, HasSize, HasCounts, IsPoi
 use crate::counts::Counts;
 use crate::fault::NoTable;
 use crate::fits::{command_fits, condition_fits, has_order, let_fits, target_fits, turns_fit};
+use crate::format;
 use crate::reading::{
     CaseRows, NameRow, Row, from_place, place_at, points_at, read_row, read_sending, target_at,
     word,
@@ -35,7 +36,7 @@ fn case_rows_fit(points: usize, cases: CaseRows<'_>) -> bool
     ensures no { CasesFit points (cases_of cases.entry.count cases.entry.words.now)
         → length (cases_of cases.entry.count cases.entry.words.now) < 256 → result ≡ true }
 {
-    if cases.count >= 256 {
+    if usize::from(cases.count) >= format::TOO_MANY_CASES {
         return false;
     }
     cases_fit(points, cases.count, cases.words)
@@ -182,7 +183,7 @@ fn is_point(words: &[u32], kind: Kind, counts: Counts, number: usize) -> bool
     let place = place_at(words, number);
     parts_fit(counts, row)
         && is_sent_right(kind, row, read_sending(words, number))
-        && 8 + counts.points <= place
+        && format::HEADER_SIZE + counts.points <= place
         && place + row_size(row) <= words.len()
 }
 
@@ -190,13 +191,14 @@ fn has_size(words: &[u32]) -> bool
     ensures yes { result ≡ true → HasSize words.now }
     ensures no { HasSize words.now → result ≡ true }
 {
-    (word(words, 2) / 65536) as usize == words.len() && 8 + points_at(words) <= words.len()
+    (word(words, 2) / format::UPPER) as usize == words.len()
+        && format::HEADER_SIZE + points_at(words) <= words.len()
 }
 
 fn kind_of(words: &[u32]) -> Kind
     ensures { result ≡ kind_read words.now }
 {
-    if word(words, 1) / 256 % 256 == 0 {
+    if word(words, 1) / format::KIND % format::PART_BOUND == format::SD {
         Kind::Sd
     } else {
         Kind::Emmc
@@ -207,8 +209,8 @@ fn counts_of(words: &[u32]) -> Counts
     ensures { result ≡ counts_read words.now }
 {
     Counts {
-        numbers: (word(words, 1) / 65536 % 256) as usize,
-        flags: (word(words, 1) / 16_777_216) as usize,
+        numbers: (word(words, 1) / format::NUMBERS % format::PART_BOUND) as usize,
+        flags: (word(words, 1) / format::FLAGS) as usize,
         points: points_at(words),
     }
 }
@@ -218,10 +220,10 @@ fn has_counts(words: &[u32], counts: Counts) -> bool
     ensures yes { result ≡ true → HasCounts words.now }
     ensures no { HasCounts words.now → result ≡ true }
 {
-    word(words, 1) / 256 % 256 < 2
-        && counts.numbers <= 8
-        && counts.flags <= 4
-        && counts.points <= 8191
+    word(words, 1) / format::KIND % format::PART_BOUND < format::KINDS
+        && counts.numbers <= format::MOST_NUMBERS
+        && counts.flags <= format::MOST_FLAGS
+        && counts.points <= format::MOST_POINTS
 }
 
 // Whether each point is well formed; otherwise the first one that is not.
@@ -250,10 +252,10 @@ pub fn is_table(words: &[u32]) -> Result<(), NoTable>
     ensures ok { OnOk result (IsWellFormed words.now) }
     ensures err { IfErr result (IsWrong words.now) }
 {
-    if word(words, 0) != 0x5456_4453 {
+    if word(words, 0) != format::MAGIC {
         return Err(NoTable::Magic);
     }
-    if word(words, 1) % 256 != 2 {
+    if word(words, 1) % format::KIND != format::VERSION {
         return Err(NoTable::Version);
     }
     if !has_size(words) {

@@ -8,6 +8,7 @@ ghost use Rattle.sdv_table.specs.Fits.{IsTable};
 ghost use Rattle.sdv_table.specs.Loading.{IsSentRight};
 ghost use Rattle.sdv_table.specs.Reading.{target_of, number_at, phase_of, width_of, aim_of, atom_of, code_size, change_of, condition_of, unit_of, position_of, address_of, own_argument, command_of, cases_place, cases_count, cases_of, let_of, name_of, expect_read, data_read, source_read, sending_read, action_of, head_read, place_read, small_read, row_read, counts_read, action_at, sending_at, seen_row};
 
+use crate::format;
 use crate::sending::{Data, Sending, Source};
 use sdv_card::{Aim, Ask, Width};
 use sdv_frames::Expect;
@@ -67,10 +68,10 @@ pub(crate) fn word(words: &[u32], at: usize) -> u32
 pub(crate) fn target_of(word: u32) -> Target
     ensures { result ≡ target_of word }
 {
-    let turns = (word / 65536) as u16;
+    let turns = (word / format::UPPER) as u16;
     Target {
-        to: (word % 8192) as usize,
-        leave: (word / 8192 % 8) as usize,
+        to: (word % format::LEAVE) as usize,
+        leave: (word / format::LEAVE % format::LEAVE_BOUND) as usize,
         enter: if turns == 0 { None } else { Some(turns) },
     }
 }
@@ -79,16 +80,16 @@ fn number_at(words: &[u32], at: usize) -> u64
     requires { at < 16 }
     ensures { result ≡ number_at words.now at }
 {
-    u64::from(word(words, at)) + 4_294_967_296 * u64::from(word(words, at + 1))
+    u64::from(word(words, at)) + format::HIGH * u64::from(word(words, at + 1))
 }
 
 fn phase_of(code: u32) -> Phase
     ensures { result ≡ phase_of code }
 {
     match code {
-        0 => Phase::ReceiveBlocks,
-        1 => Phase::ReceiveRegister,
-        2 => Phase::GiveBlocks,
+        format::RECEIVE_BLOCKS => Phase::ReceiveBlocks,
+        format::RECEIVE_REGISTER => Phase::ReceiveRegister,
+        format::GIVE_BLOCKS => Phase::GiveBlocks,
         _ => Phase::Wait,
     }
 }
@@ -97,8 +98,8 @@ fn width_of(code: u32) -> Width
     ensures { result ≡ width_of code }
 {
     match code {
-        0 => Width::One,
-        1 => Width::Four,
+        format::ONE_LINE => Width::One,
+        format::FOUR_LINES => Width::Four,
         _ => Width::Eight,
     }
 }
@@ -106,17 +107,21 @@ fn width_of(code: u32) -> Width
 fn aim_of(code: u32) -> Aim
     ensures { result ≡ aim_of code }
 {
-    if code == 0 { Aim::Rca } else { Aim::Plain }
+    if code == format::AIM_RCA {
+        Aim::Rca
+    } else {
+        Aim::Plain
+    }
 }
 
 fn atom_of(code: u32, number: u64) -> Atom
     ensures { result ≡ atom_of code number }
 {
-    match code % 8 {
-        0 => Atom::Number(number),
-        1 => Atom::Variable((code / 8) as usize),
-        2 => Atom::CsdBlocks,
-        3 => Atom::ExtBlocks,
+    match code % format::ATOM_NAMED {
+        format::ATOM_NUMBER => Atom::Number(number),
+        format::ATOM_VARIABLE => Atom::Variable((code / format::ATOM_NAMED) as usize),
+        format::ATOM_CSD_BLOCKS => Atom::CsdBlocks,
+        format::ATOM_EXT_BLOCKS => Atom::ExtBlocks,
         _ => Atom::ExtBoot,
     }
 }
@@ -125,15 +130,19 @@ fn code_size(code: u32) -> usize
     ensures size { result ≡ code_size code }
     ensures small { result < 3 }
 {
-    if code % 8 == 0 { 2 } else { 0 }
+    if code % format::ATOM_NAMED == format::ATOM_NUMBER {
+        2
+    } else {
+        0
+    }
 }
 
 fn change_of(code: u32, number: u64) -> Change
     ensures { result ≡ change_of code number }
 {
     match code {
-        0 => Change::Same,
-        1 => Change::Plus(number),
+        format::CHANGE_SAME => Change::Same,
+        format::CHANGE_PLUS => Change::Plus(number),
         _ => Change::Minus(number),
     }
 }
@@ -141,30 +150,32 @@ fn change_of(code: u32, number: u64) -> Change
 fn condition_of(code: u32, number: u64) -> Condition
     ensures { result ≡ condition_of code number }
 {
-    match code % 4 {
-        0 => Condition::Flag((code / 4) as usize),
-        1 => Condition::AtLeast((code / 4) as usize, number),
-        _ => Condition::Below((code / 4) as usize, number),
+    let named = (code / format::NAMED) as usize;
+    match code % format::NAMED {
+        format::CONDITION_FLAG => Condition::Flag(named),
+        format::CONDITION_AT_LEAST => Condition::AtLeast(named, number),
+        _ => Condition::Below(named, number),
     }
 }
 
 fn unit_of(code: u32) -> Unit
     ensures { result ≡ unit_of code }
 {
-    match code % 4 {
-        0 => Unit::Block,
-        1 => Unit::Byte,
-        _ => Unit::By((code / 4) as usize),
+    match code % format::NAMED {
+        format::UNIT_BLOCK => Unit::Block,
+        format::UNIT_BYTE => Unit::Byte,
+        _ => Unit::By((code / format::NAMED) as usize),
     }
 }
 
 fn position_of(code: u32, number: u64) -> Position
     ensures { result ≡ position_of code number }
 {
-    match code % 4 {
-        0 => Position::Number(number),
-        1 => Position::Variable((code / 4) as usize, None),
-        _ => Position::Variable((code / 4) as usize, Some(number)),
+    let named = (code / format::NAMED) as usize;
+    match code % format::NAMED {
+        format::POSITION_NUMBER => Position::Number(number),
+        format::POSITION_VARIABLE => Position::Variable(named, None),
+        _ => Position::Variable(named, Some(number)),
     }
 }
 
@@ -176,8 +187,8 @@ fn address_of(has: u32, row: &[u32]) -> Option<Address>
     }
     let how = word(row, 3);
     Some(Address {
-        unit: unit_of(how % 16),
-        position: position_of(how / 16, number_at(row, 4)),
+        unit: unit_of(how % format::ADDRESS_POSITION),
+        position: position_of(how / format::ADDRESS_POSITION, number_at(row, 4)),
     })
 }
 
@@ -193,26 +204,29 @@ fn own_argument(index: u8, word: u32) -> u32
 fn command_of(small: u32, row: &[u32]) -> ScriptCommand
     ensures { result ≡ command_of small row.now }
 {
-    let index = (small % 64) as u8;
+    let index = (small % format::COMMAND_AIM) as u8;
     ScriptCommand {
         ask: Ask {
             index,
-            aim: aim_of(small / 64 % 2),
+            aim: aim_of(small / format::COMMAND_AIM % format::AIM_BOUND),
             argument: own_argument(index, word(row, 1)),
-            count: (word(row, 2) % 65536) as u16,
+            count: (word(row, 2) % format::UPPER) as u16,
         },
-        address: address_of(small / 128, row),
+        address: address_of(small / format::COMMAND_ADDRESS, row),
     }
 }
 
 fn let_of(small: u32, row: &[u32]) -> Let
     ensures { result ≡ let_of small row.now }
 {
-    let code = small / 16 % 64;
+    let code = small / format::LET_ATOM % format::ATOM_BOUND;
     Let {
-        target: (small % 16) as usize,
+        target: (small % format::LET_ATOM) as usize,
         atom: atom_of(code, number_at(row, 1)),
-        change: change_of(small / 1024, number_at(row, 1 + code_size(code))),
+        change: change_of(
+            small / format::LET_CHANGE,
+            number_at(row, 1 + code_size(code)),
+        ),
     }
 }
 
@@ -220,11 +234,11 @@ fn expect_read(code: u32, index: u8) -> Expect
     ensures { result ≡ expect_read code index }
 {
     match code {
-        0 => Expect::Nothing,
-        1 => Expect::R1(index),
-        2 => Expect::R2,
-        3 => Expect::R3,
-        6 => Expect::R6,
+        format::EXPECT_NOTHING => Expect::Nothing,
+        format::EXPECT_R1 => Expect::R1(index),
+        format::EXPECT_R2 => Expect::R2,
+        format::EXPECT_R3 => Expect::R3,
+        format::EXPECT_R6 => Expect::R6,
         _ => Expect::R7,
     }
 }
@@ -233,12 +247,12 @@ fn data_read(code: u32) -> Data
     ensures { result ≡ data_read code }
 {
     match code {
-        0 => Data::Nothing,
-        1 => Data::Busy,
-        2 => Data::BlocksIn,
-        3 => Data::BlocksOut,
-        4 => Data::Scr,
-        5 => Data::SdStatus,
+        format::NO_DATA => Data::Nothing,
+        format::BUSY => Data::Busy,
+        format::BLOCKS_IN => Data::BlocksIn,
+        format::BLOCKS_OUT => Data::BlocksOut,
+        format::SCR => Data::Scr,
+        format::SD_STATUS => Data::SdStatus,
         _ => Data::ExtCsd,
     }
 }
@@ -247,8 +261,8 @@ fn source_read(code: u32) -> Source
     ensures { result ≡ source_read code }
 {
     match code {
-        0 => Source::Own,
-        1 => Source::Rca,
+        format::SOURCE_OWN => Source::Own,
+        format::SOURCE_RCA => Source::Rca,
         _ => Source::Address,
     }
 }
@@ -282,8 +296,8 @@ fn send_row(small: u32, row: &[u32]) -> Row<'_>
         (target_of (slice_index row.now 0)) }
 {
     let cases = CaseRows {
-        count: (word(row, 2) / 16_777_216) as u16,
-        words: from_place(row, cases_place(small / 128)),
+        count: (word(row, 2) / format::ROW_CASES) as u16,
+        words: from_place(row, cases_place(small / format::COMMAND_ADDRESS)),
     };
     Row::Send(command_of(small, row), cases, target_at(row, 0))
 }
@@ -311,20 +325,24 @@ fn row_of(kind: u32, small: u32, row: &[u32]) -> Option<Row<'_>>
     ensures { option_map seen_row result ≡ action_of kind small row.now }
 {
     let read = match kind {
-        0 => send_row(small, row),
-        1 => Row::Phase(phase_of(small), target_at(row, 0), target_at(row, 1)),
-        2 => Row::Let(let_of(small, row), target_at(row, 0)),
-        3 => if_row(small, row),
-        4 => Row::Flag((small / 2) as usize, small % 2 == 1, target_at(row, 0)),
-        5 => Row::Lines(width_of(small), target_at(row, 0)),
-        6 => Row::Loop(
-            (word(row, 2) % 65536) as u16,
+        format::SEND => send_row(small, row),
+        format::PHASE => Row::Phase(phase_of(small), target_at(row, 0), target_at(row, 1)),
+        format::LET => Row::Let(let_of(small, row), target_at(row, 0)),
+        format::IF => if_row(small, row),
+        format::FLAG => Row::Flag(
+            (small / format::FLAG_NAMED) as usize,
+            small % format::FLAG_NAMED == 1,
+            target_at(row, 0),
+        ),
+        format::LINES => Row::Lines(width_of(small), target_at(row, 0)),
+        format::LOOP => Row::Loop(
+            (word(row, 2) % format::UPPER) as u16,
             target_at(row, 0),
             target_at(row, 1),
         ),
-        7 => Row::Break(target_at(row, 0)),
-        8 => Row::Done,
-        9 => name_row(small, row),
+        format::BREAK => Row::Break(target_at(row, 0)),
+        format::DONE => Row::Done,
+        format::FAULT => name_row(small, row),
         _ => return None,
     };
     Some(read)
@@ -335,7 +353,7 @@ fn head_at(words: &[u32], number: usize) -> u32
     requires { number < 65536 }
     ensures { result ≡ head_read words.now number }
 {
-    word(words, 8 + number)
+    word(words, format::HEADER_SIZE + number)
 }
 
 // Where a point's row stands.
@@ -344,7 +362,7 @@ pub(crate) fn place_at(words: &[u32], number: usize) -> usize
     ensures place { result ≡ place_read words.now number }
     ensures small { result < 65536 }
 {
-    (head_at(words, number) / 65536) as usize
+    (head_at(words, number) / format::UPPER) as usize
 }
 
 /// How many points the header counts.
@@ -352,7 +370,7 @@ pub(crate) fn points_at(words: &[u32]) -> usize
     ensures points { result ≡ (counts_read words.now).points }
     ensures few { result < 65536 }
 {
-    (word(words, 2) % 65536) as usize
+    (word(words, 2) % format::UPPER) as usize
 }
 
 // The statement at a point, as the words say it.
@@ -364,8 +382,8 @@ pub(crate) fn read_row(words: &[u32], number: usize) -> Option<Row<'_>>
     }
     let head = head_at(words, number);
     row_of(
-        head % 16,
-        head / 16 % 4096,
+        head % format::SMALL,
+        head / format::SMALL % format::SMALL_BOUND,
         from_place(words, place_at(words, number)),
     )
 }
@@ -375,13 +393,16 @@ pub(crate) fn read_sending(words: &[u32], number: usize) -> Sending
     requires { number < 65536 }
     ensures { result ≡ sending_at words.now number }
 {
-    let small = head_at(words, number) / 16 % 4096;
+    let small = head_at(words, number) / format::SMALL % format::SMALL_BOUND;
     let row = from_place(words, place_at(words, number));
     Sending {
-        source: source_read(word(row, 2) / 4_194_304 % 4),
+        source: source_read(word(row, 2) / format::ROW_SOURCE % format::SOURCE_BOUND),
         argument: word(row, 1),
-        expect: expect_read(word(row, 2) / 65536 % 8, (small % 64) as u8),
-        follows: data_read(word(row, 2) / 524_288 % 8),
+        expect: expect_read(
+            word(row, 2) / format::ROW_EXPECT % format::EXPECT_BOUND,
+            (small % format::COMMAND_AIM) as u8,
+        ),
+        follows: data_read(word(row, 2) / format::ROW_DATA % format::DATA_BOUND),
     }
 }
 

@@ -3,10 +3,12 @@
 ghost use Rattle.std.specs.Prelude.{◌≡◌, ◌<◌, ◌≤◌, ◌^◌, ◌+◌, ◌*◌, ◌++◌, ◌∷◌, [], OnOk, map, length};
 ghost use Rattle.sdv_graph.specs.Path.{sends};
 ghost use Rattle.sdv_graph.specs.Graph.{seen_action, seen_case};
-ghost use Rattle.sdv_table.specs.Row.{target_word, low, high, guard_code, guards_word, cases_words, unit_code, position_code, position_number, address_words, name_words, atom_code, atom_words, change_code, change_words, condition_code, condition_words, aim_code, phase_code, width_code, has_address, head_of_action, row_of_action, counts_word};
+ghost use Rattle.sdv_table.specs.declared.format.TheConstants.{MOST_GUARDS};
+ghost use Rattle.sdv_table.specs.Row.{target_word, low, high, guard_code, guards_word, cases_words, unit_code, position_code, position_number, address_words, name_words, atom_code, atom_words, change_code, change_words, condition_code, condition_words, command_code, phase_code, width_code, head_of_action, row_of_action, counts_word};
 ghost use Rattle.sdv_table.specs.Sending.{sending_of};
 ghost use Rattle.sdv_table.specs.Fits.{TargetFits, CasesFit, UnitFits, PositionFits, AddressFits, CommandFits, AtomFits, ChangeFits, LetFits, ConditionFits, PartsFit, greatest};
 
+use crate::format;
 use crate::sending::{sending_code, sending_of};
 use sdv_card::{Aim, Guard, Kind, Width};
 use sdv_graph::{
@@ -16,28 +18,28 @@ use sdv_graph::{
 use std::alloc::AllocError;
 
 pub(crate) fn target_word(target: Target) -> u32
-    requires { TargetFits 8191 target }
+    requires { TargetFits greatest.points target }
     ensures { result ≡ target_word target }
 {
     let turns = match target.enter {
         None => 0,
         Some(turns) => u32::from(turns),
     };
-    target.to as u32 + 8192 * (target.leave as u32) + 65536 * turns
+    target.to as u32 + format::LEAVE * (target.leave as u32) + format::UPPER * turns
 }
 
 /// A number in two words.
 pub(crate) fn put_number(words: &mut Vec<u32>, number: u64) -> Result<(), AllocError>
     ensures { OnOk result (words.new.items ≡ words.old.items ++ low number ∷ high number ∷ []) }
 {
-    words.push((number % 4_294_967_296) as u32)?;
-    words.push((number / 4_294_967_296) as u32)?;
+    words.push((number % format::HIGH) as u32)?;
+    words.push((number / format::HIGH) as u32)?;
     Ok(())
 }
 
 fn put_two(words: &mut Vec<u32>, a: Target, b: Target) -> Result<(), AllocError>
-    requires first { TargetFits 8191 a }
-    requires second { TargetFits 8191 b }
+    requires first { TargetFits greatest.points a }
+    requires second { TargetFits greatest.points b }
     ensures { OnOk result (words.new.items ≡ words.old.items ++ target_word a ∷ target_word b ∷ []) }
 {
     words.push(target_word(a))?;
@@ -46,7 +48,7 @@ fn put_two(words: &mut Vec<u32>, a: Target, b: Target) -> Result<(), AllocError>
 }
 
 fn put_cases(words: &mut Vec<u32>, cases: &[Case]) -> Result<(), AllocError>
-    requires { CasesFit 8191 (map seen_case cases.now) }
+    requires { CasesFit greatest.points (map seen_case cases.now) }
     ensures { OnOk result (words.new.items ≡ words.old.items ++ cases_words (map seen_case cases.now)) }
 {
     match cases {
@@ -64,50 +66,54 @@ fn guard_code(guard: Guard) -> u32
     ensures small { result < 32 }
 {
     match guard {
-        Guard::Timeout => 1,
-        Guard::Answer => 2,
-        Guard::Clean => 3,
-        Guard::Ready => 4,
-        Guard::App => 5,
-        Guard::Echo => 6,
-        Guard::OcrReady => 7,
-        Guard::OcrBlock => 8,
-        Guard::Ok => 9,
-        Guard::State(state) => 10 + u32::from(state.number()),
+        Guard::Timeout => format::GUARD_TIMEOUT,
+        Guard::Answer => format::GUARD_ANSWER,
+        Guard::Clean => format::GUARD_CLEAN,
+        Guard::Ready => format::GUARD_READY,
+        Guard::App => format::GUARD_APP,
+        Guard::Echo => format::GUARD_ECHO,
+        Guard::OcrReady => format::GUARD_OCR_READY,
+        Guard::OcrBlock => format::GUARD_OCR_BLOCK,
+        Guard::Ok => format::GUARD_OK,
+        Guard::State(state) => format::GUARD_STATE + u32::from(state.number()),
     }
 }
 
 fn guards_word(guards: &[Guard]) -> u32
-    requires { length guards.now ≤ 6 }
+    requires { length guards.now ≤ MOST_GUARDS }
     ensures { result ≡ guards_word guards.now }
 {
     match guards {
         [] => 0,
-        [guard, rest @ ..] => guard_code(*guard) + 32 * guards_word(rest),
+        [guard, rest @ ..] => guard_code(*guard) + format::NEXT_GUARD * guards_word(rest),
     }
 }
 
 fn unit_code(unit: Unit) -> u32
-    requires { UnitFits 4 unit }
+    requires { UnitFits greatest.flags unit }
     ensures code { result ≡ unit_code unit }
     ensures small { result < 16 }
 {
     match unit {
-        Unit::Block => 0,
-        Unit::Byte => 1,
-        Unit::By(flag) => 2 + 4 * (flag as u32),
+        Unit::Block => format::UNIT_BLOCK,
+        Unit::Byte => format::UNIT_BYTE,
+        Unit::By(flag) => format::UNIT_BY + format::NAMED * (flag as u32),
     }
 }
 
 fn position_code(position: Position) -> u32
-    requires { PositionFits 8 position }
+    requires { PositionFits greatest.numbers position }
     ensures code { result ≡ position_code position }
     ensures small { result < 64 }
 {
     match position {
-        Position::Number(_) => 0,
-        Position::Variable(variable, None) => 1 + 4 * (variable as u32),
-        Position::Variable(variable, Some(_)) => 2 + 4 * (variable as u32),
+        Position::Number(_) => format::POSITION_NUMBER,
+        Position::Variable(variable, None) => {
+            format::POSITION_VARIABLE + format::NAMED * (variable as u32)
+        }
+        Position::Variable(variable, Some(_)) => {
+            format::POSITION_BEHIND + format::NAMED * (variable as u32)
+        }
     }
 }
 
@@ -128,7 +134,10 @@ fn put_address(words: &mut Vec<u32>, address: Option<Address>) -> Result<(), All
     match address {
         None => Ok(()),
         Some(address) => {
-            words.push(unit_code(address.unit) + 16 * position_code(address.position))?;
+            words.push(
+                unit_code(address.unit)
+                    + format::ADDRESS_POSITION * position_code(address.position),
+            )?;
             put_number(words, position_number(address.position))
         }
     }
@@ -152,16 +161,18 @@ fn put_name(words: &mut Vec<u32>, name: &[u8]) -> Result<(), AllocError>
 }
 
 fn atom_code(atom: Atom) -> u32
-    requires { AtomFits 8 atom }
+    requires { AtomFits greatest.numbers atom }
     ensures code { result ≡ atom_code atom }
     ensures small { result < 64 }
 {
     match atom {
-        Atom::Number(_) => 0,
-        Atom::Variable(variable) => 1 + 8 * (variable as u32),
-        Atom::CsdBlocks => 2,
-        Atom::ExtBlocks => 3,
-        Atom::ExtBoot => 4,
+        Atom::Number(_) => format::ATOM_NUMBER,
+        Atom::Variable(variable) => {
+            format::ATOM_VARIABLE + format::ATOM_NAMED * (variable as u32)
+        }
+        Atom::CsdBlocks => format::ATOM_CSD_BLOCKS,
+        Atom::ExtBlocks => format::ATOM_EXT_BLOCKS,
+        Atom::ExtBoot => format::ATOM_EXT_BOOT,
     }
 }
 
@@ -179,9 +190,9 @@ fn change_code(change: Change) -> u32
     ensures small { result < 3 }
 {
     match change {
-        Change::Same => 0,
-        Change::Plus(_) => 1,
-        Change::Minus(_) => 2,
+        Change::Same => format::CHANGE_SAME,
+        Change::Plus(_) => format::CHANGE_PLUS,
+        Change::Minus(_) => format::CHANGE_MINUS,
     }
 }
 
@@ -200,9 +211,13 @@ fn condition_code(condition: Condition) -> u32
     ensures small { result < 64 }
 {
     match condition {
-        Condition::Flag(flag) => 4 * (flag as u32),
-        Condition::AtLeast(variable, _) => 1 + 4 * (variable as u32),
-        Condition::Below(variable, _) => 2 + 4 * (variable as u32),
+        Condition::Flag(flag) => format::CONDITION_FLAG + format::NAMED * (flag as u32),
+        Condition::AtLeast(variable, _) => {
+            format::CONDITION_AT_LEAST + format::NAMED * (variable as u32)
+        }
+        Condition::Below(variable, _) => {
+            format::CONDITION_BELOW + format::NAMED * (variable as u32)
+        }
     }
 }
 
@@ -217,18 +232,18 @@ fn put_condition(words: &mut Vec<u32>, condition: Condition) -> Result<(), Alloc
 
 fn command_code(command: ScriptCommand) -> u32
     requires { CommandFits greatest command }
-    ensures code { result ≡ command.ask.index + 64 * (aim_code command.ask.aim + 2 * has_address command.address) }
+    ensures code { result ≡ command_code command }
     ensures small { result < 256 }
 {
     let aim = match command.ask.aim {
-        Aim::Rca => 0,
-        Aim::Plain => 1,
+        Aim::Rca => format::AIM_RCA,
+        Aim::Plain => format::AIM_PLAIN,
     };
     let address = match command.address {
         None => 0,
         Some(_) => 1,
     };
-    u32::from(command.ask.index) + 64 * (aim + 2 * address)
+    u32::from(command.ask.index) + format::COMMAND_AIM * (aim + format::AIM_BOUND * address)
 }
 
 fn phase_code(phase: Phase) -> u32
@@ -236,10 +251,10 @@ fn phase_code(phase: Phase) -> u32
     ensures small { result < 4 }
 {
     match phase {
-        Phase::ReceiveBlocks => 0,
-        Phase::ReceiveRegister => 1,
-        Phase::GiveBlocks => 2,
-        Phase::Wait => 3,
+        Phase::ReceiveBlocks => format::RECEIVE_BLOCKS,
+        Phase::ReceiveRegister => format::RECEIVE_REGISTER,
+        Phase::GiveBlocks => format::GIVE_BLOCKS,
+        Phase::Wait => format::WAIT,
     }
 }
 
@@ -248,9 +263,9 @@ fn width_code(width: Width) -> u32
     ensures small { result < 3 }
 {
     match width {
-        Width::One => 0,
-        Width::Four => 1,
-        Width::Eight => 2,
+        Width::One => format::ONE_LINE,
+        Width::Four => format::FOUR_LINES,
+        Width::Eight => format::EIGHT_LINES,
     }
 }
 
@@ -261,19 +276,23 @@ pub(crate) fn head(action: &Action<'_>) -> u32
     ensures small { result < 65536 }
 {
     match action {
-        Action::Send(command, _, _) => 16 * command_code(*command),
-        Action::Phase(phase, _, _) => 1 + 16 * phase_code(*phase),
+        Action::Send(command, _, _) => format::SEND + format::SMALL * command_code(*command),
+        Action::Phase(phase, _, _) => format::PHASE + format::SMALL * phase_code(*phase),
         Action::Let(setting, _) => {
-            let above = atom_code(setting.atom) + 64 * change_code(setting.change);
-            2 + 16 * (setting.target as u32 + 16 * above)
+            let change = format::ATOM_BOUND * change_code(setting.change);
+            let above = format::LET_ATOM * (atom_code(setting.atom) + change);
+            format::LET + format::SMALL * (setting.target as u32 + above)
         }
-        Action::If(condition, _, _) => 3 + 16 * condition_code(*condition),
-        Action::Flag(flag, on, _) => 4 + 16 * (u32::from(*on) + 2 * (*flag as u32)),
-        Action::Lines(width, _) => 5 + 16 * width_code(*width),
-        Action::Loop(_, _, _) => 6,
-        Action::Break(_) => 7,
-        Action::Done => 8,
-        Action::Fault(name) => 9 + 16 * (name.len() as u32),
+        Action::If(condition, _, _) => format::IF + format::SMALL * condition_code(*condition),
+        Action::Flag(flag, on, _) => {
+            let named = format::FLAG_NAMED * (*flag as u32);
+            format::FLAG + format::SMALL * (u32::from(*on) + named)
+        }
+        Action::Lines(width, _) => format::LINES + format::SMALL * width_code(*width),
+        Action::Loop(_, _, _) => format::LOOP,
+        Action::Break(_) => format::BREAK,
+        Action::Done => format::DONE,
+        Action::Fault(name) => format::FAULT + format::SMALL * (name.len() as u32),
     }
 }
 
@@ -289,16 +308,16 @@ fn put_send(
         ≡ words.old.items ++ row_of_action kind (sends command (map seen_case cases.now) other)) }
 {
     let sending = sending_of(kind, &command.ask);
-    let how = sending_code(sending) + 256 * cases.len() as u32;
+    let how = sending_code(sending) + format::SENDING_BOUND * cases.len() as u32;
     words.push(target_word(other))?;
     words.push(sending.argument)?;
-    words.push(u32::from(command.ask.count) + 65536 * how)?;
+    words.push(u32::from(command.ask.count) + format::ROW_EXPECT * how)?;
     put_address(words, command.address)?;
     put_cases(words, cases)
 }
 
 fn put_let(words: &mut Vec<u32>, setting: Let, target: Target) -> Result<(), AllocError>
-    requires { TargetFits 8191 target }
+    requires { TargetFits greatest.points target }
     ensures { OnOk result (words.new.items
         ≡ words.old.items ++ target_word target ∷ (atom_words setting.atom ++ change_words setting.change)) }
 {

@@ -5,6 +5,7 @@ ghost use Rattle.sdv_card.specs.CommandTable.{argument_or_none, expect_or_nothin
 ghost use Rattle.sdv_table.specs.Row.{expect_code, data_code, source_code, sending_code};
 ghost use Rattle.sdv_table.specs.Sending.{data_or_nothing, source_or_own, sending_of};
 
+use crate::format;
 use sdv_card::state_table::order;
 use sdv_card::{Ask, Kind, Order, argument, expect};
 use sdv_frames::Expect;
@@ -112,12 +113,12 @@ fn expect_code(expect: Expect) -> u32
     ensures small { result < 8 }
 {
     match expect {
-        Expect::Nothing => 0,
-        Expect::R1(_) => 1,
-        Expect::R2 => 2,
-        Expect::R3 => 3,
-        Expect::R6 => 6,
-        Expect::R7 => 7,
+        Expect::Nothing => format::EXPECT_NOTHING,
+        Expect::R1(_) => format::EXPECT_R1,
+        Expect::R2 => format::EXPECT_R2,
+        Expect::R3 => format::EXPECT_R3,
+        Expect::R6 => format::EXPECT_R6,
+        Expect::R7 => format::EXPECT_R7,
     }
 }
 
@@ -126,13 +127,13 @@ fn data_code(follows: Data) -> u32
     ensures small { result < 8 }
 {
     match follows {
-        Data::Nothing => 0,
-        Data::Busy => 1,
-        Data::BlocksIn => 2,
-        Data::BlocksOut => 3,
-        Data::Scr => 4,
-        Data::SdStatus => 5,
-        Data::ExtCsd => 6,
+        Data::Nothing => format::NO_DATA,
+        Data::Busy => format::BUSY,
+        Data::BlocksIn => format::BLOCKS_IN,
+        Data::BlocksOut => format::BLOCKS_OUT,
+        Data::Scr => format::SCR,
+        Data::SdStatus => format::SD_STATUS,
+        Data::ExtCsd => format::EXT_CSD,
     }
 }
 
@@ -141,9 +142,9 @@ fn source_code(source: Source) -> u32
     ensures small { result < 4 }
 {
     match source {
-        Source::Own => 0,
-        Source::Rca => 1,
-        Source::Address => 2,
+        Source::Own => format::SOURCE_OWN,
+        Source::Rca => format::SOURCE_RCA,
+        Source::Address => format::SOURCE_ADDRESS,
     }
 }
 
@@ -152,6 +153,7 @@ pub(crate) fn sending_code(sending: Sending) -> u32
     ensures code { result ≡ sending_code sending }
     ensures small { result < 256 }
 {
-    let follows = data_code(sending.follows);
-    expect_code(sending.expect) + 8 * (follows + 8 * source_code(sending.source))
+    let source = format::DATA_BOUND * source_code(sending.source);
+    let above = format::EXPECT_BOUND * (data_code(sending.follows) + source);
+    expect_code(sending.expect) + above
 }

@@ -2,8 +2,8 @@ use Rattle.std.proofs.Common.{arith}
 use Rattle.sdv_table.proofs.Lengths.{length-cases_of}
 use Rattle.sdv_table.proofs.loading.case_rows_fit.Goals as goal
 
-pub returns-then-cases-ge256-clause-no : goal.returns-then-cases-ge256-clause-no
-returns-then-cases-ge256-clause-no c = λ fits few.
+pub returns-then-from-ge-TOO_MANY_CASES-clause-no : goal.returns-then-from-ge-TOO_MANY_CASES-clause-no
+returns-then-from-ge-TOO_MANY_CASES-clause-no c = λ fits few.
     let l = length-cases_of c.args.cases.count c.args.cases.words.now in
     absurd (omega arith)
 
