@@ -1,6 +1,8 @@
 //! The state table of SD cards: what is legal at a shape, and what may follow.
 //!
-//! Begin at `SdTable` and `next`, a line a row. What stands there is proved to be the state table of `sdv_card`.
+//! Begin at `SdTable` and `next`, a line a row. `SdTable` implements `CardTable` of `sdv_card` with all its laws:
+//! `legal` is exact for every number and event. `outcomes` returns, for a legal event, exactly the outcomes of the
+//! definition, each once, in at most 32 places and without memory.
 #![tactic(auto)]
 
 mod rows;
