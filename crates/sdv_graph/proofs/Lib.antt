@@ -4,5 +4,6 @@ pub mod FewEvents
 pub mod GraphOf
 pub mod Nesting
 pub mod Paths
+pub mod Begun
 pub mod Sizes
 pub mod Standing

@@ -1,5 +1,5 @@
 -- The loops of a script's graph are nested: each target is reached with turns left that its point can have.
-use Rattle.std.proofs.Common.{◌≡◌, ℕ, zero, suc, ◌+◌, ◌-◌, List, [], ◌∷◌, ◌++◌, length, Some, None, refl, sym, subst, arith, add-one, true, false}
+use Rattle.std.proofs.Common.{◌≡◌, Bool, ℕ, zero, suc, ◌+◌, ◌-◌, List, [], ◌∷◌, ◌++◌, length, Some, None, refl, sym, subst, arith, add-one, true, false}
 use Rattle.std.specs.Prelude.{slice_get}
 use Rattle.std.proofs.lemmas.Option.{slice_get_past}
 use Rattle.sdv_graph.specs.declared.graph.Target.{Target}
@@ -207,7 +207,7 @@ first_leaves : (b : Statements) → (first_of b).leave ≡ 0
 first_leaves nothing = refl
 first_leaves (first s rest) = refl
 
-pub nested : (names : Declared) (b : Statements) (lines : List ℕ) (steps : ℕ)
+pub nested : (names : Declared) (b : Statements) (lines : List ℕ) (steps : ℕ) (begins : Bool)
     → Nested (record {
       kind = names.kind;
       numbers = length names.numbers;
@@ -217,8 +217,9 @@ pub nested : (names : Declared) (b : Statements) (lines : List ℕ) (steps : ℕ
       lines = lines;
       first = first_of b;
       steps = steps;
+      begins = begins;
     })
-nested names b lines steps =
+nested names b lines steps begins =
     let g = points_of b in
     let has = has_all g [] in
     let fit = statements_fit g b 0 (past b) (past b) [] has (past_in b []) (past_in b []) in

@@ -1,5 +1,5 @@
 -- What contracts see of a graph, and what is claimed of it.
-use Rattle.std.specs.Prelude.{◌↔◌, ℕ, zero, suc, List, [], length, map}
+use Rattle.std.specs.Prelude.{◌↔◌, Bool, ℕ, zero, suc, List, [], length, map}
 use Rattle.sdv_registers.specs.declared.kind.Kind.{Kind}
 use Rattle.sdv_card.specs.Host.{Host}
 use Rattle.sdv_card.specs.Profile.{host_at_start}
@@ -60,10 +60,12 @@ pub record Graph : Type 0 where
   pub first : Target
   -- no run has more moves
   pub steps : ℕ
+  -- the script begins with CMD0
+  pub begins : Bool
 
 -- the graph of these parts
-abbrev pub graph_with : Declared → List CodePoint → (lines : List ℕ) → Target → (steps : ℕ) → Graph
-graph_with names ps lines t m = record {
+abbrev pub graph_with : Declared → List CodePoint → (lines : List ℕ) → Target → (steps : ℕ) → (begins : Bool) → Graph
+graph_with names ps lines t m b = record {
   kind = names.kind;
   numbers = length names.numbers;
   flags = length names.flags;
@@ -72,6 +74,7 @@ graph_with names ps lines t m = record {
   lines = lines;
   first = t;
   steps = m;
+  begins = b;
 }
 
 abbrev pub begin : Graph → Stand

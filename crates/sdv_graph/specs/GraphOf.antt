@@ -5,9 +5,11 @@ use Rattle.sdv_registers.specs.declared.kind.Kind.{Kind}
 use Rattle.sdv_graph.specs.Tree.{Statements, Declared}
 use Rattle.sdv_graph.specs.Counts.{statements_break, statements_fall, statements_count, max_statements}
 use Rattle.sdv_graph.specs.Points.{points_of, first_of}
-use Rattle.sdv_graph.specs.Graph.{Graph, HasWalks, EachRunEnds}
+use Rattle.sdv_graph.specs.Begins.{BeginWithReset, begins}
+use Rattle.sdv_graph.specs.Graph.{Graph, begin, HasWalks, EachRunEnds}
 use Rattle.sdv_graph.specs.Moves.{statements_moves}
 use Rattle.sdv_graph.specs.Nested.{Nested}
+use Rattle.sdv_graph.specs.Path.{Path}
 use Rattle.sdv_graph.specs.Limits.{all_keep_limits}
 use Rattle.sdv_graph.specs.Suits.{all_suit}
 
@@ -32,6 +34,8 @@ pub record IsSound (g : Graph) : Type 0 where
   pub suits : all_suit g.kind g.points ≡ true
   -- each point has a line
   pub located : length g.lines ≡ length g.points
+  -- where it says so, each path begins with CMD0
+  pub begun : g.begins ≡ true → BeginWithReset g.kind (λ e es. Path g.kind g.points e (begin g) es)
 
 -- the graph of these statements, which stand on these lines
 pub record IsGraphOf (names : Declared) (script : Statements) (lines : List ℕ) (g : Graph) : Type 0 where
@@ -45,6 +49,7 @@ pub record IsGraphOf (names : Declared) (script : Statements) (lines : List ℕ)
   pub lines_same : g.lines ≡ lines
   pub first_same : g.first ≡ first_of script
   pub steps_same : g.steps ≡ statements_moves script
+  pub begins_same : g.begins ≡ begins names.kind script
   -- the walks are the paths
   pub walks : HasWalks names script g
   pub sound : IsSound g

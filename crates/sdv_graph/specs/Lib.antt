@@ -14,3 +14,4 @@ pub mod Suits
 pub mod Tree
 pub mod ValueOfLet
 pub mod Walk
+pub mod Begins

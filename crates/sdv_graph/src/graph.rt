@@ -95,6 +95,7 @@ pub struct Graph<'a> {
     lines: Vec<u32>,
     first: Target,
     steps: u128,
+    begins: bool,
 }
 
 impl Drop for Graph<'_> {
@@ -106,6 +107,7 @@ impl Drop for Graph<'_> {
             lines: _lines,
             first: _,
             steps: _,
+            begins: _,
         } = self;
     }
 }
@@ -116,10 +118,11 @@ impl<'a> Model for Graph<'a> {
 
     ghost Value = { Graph };
 
-    ghost view = { λ g. graph_with (declared_names g.names) g.points.items g.lines.items g.first g.steps };
+    ghost view = { λ g.
+        graph_with (declared_names g.names) g.points.items g.lines.items g.first g.steps g.begins };
 
     ghost invariant = { λ g.
-        IsSound (graph_with (declared_names g.names) g.points.items g.lines.items g.first g.steps) };
+        IsSound (graph_with (declared_names g.names) g.points.items g.lines.items g.first g.steps g.begins) };
 }
 
 impl<'a> Graph<'a> {
@@ -134,9 +137,10 @@ impl<'a> Graph<'a> {
         lines: Vec<u32>,
         first: Target,
         steps: u128,
+        begins: bool,
     ) -> Self
-        requires { IsSound (graph_with (declared_names names) points.items lines.items first steps) }
-        ensures { result ≡ graph_with (declared_names names.entry) points.entry.items lines.items first steps }
+        requires { IsSound (graph_with (declared_names names) points.items lines.items first steps begins) }
+        ensures { result ≡ graph_with (declared_names names.entry) points.entry.items lines.items first steps begins }
     {
         Graph {
             names,
@@ -144,6 +148,7 @@ impl<'a> Graph<'a> {
             lines,
             first,
             steps,
+            begins,
         }
     }
 
@@ -221,5 +226,14 @@ impl<'a> Graph<'a> {
         ensures sound { IsSound self.now }
     {
         self.steps
+    }
+
+    /// Whether the script begins with CMD0: each run that has an event begins so. Such a script keeps what was certified
+    /// beside a card in any state.
+    pub fn begins(&self) -> bool
+        ensures begins { result ≡ self.now.begins }
+        ensures sound { IsSound self.now }
+    {
+        self.begins
     }
 }

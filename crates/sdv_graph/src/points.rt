@@ -9,6 +9,7 @@ ghost use Rattle.sdv_graph.specs.Points.{start_of, point_with, entry, outside, a
 ghost use Rattle.sdv_graph.specs.Graph.{seen_case, seen_action, seen_point, seen_points, declared_names};
 ghost use Rattle.sdv_graph.specs.GraphOf.{CanRun, SuitsKind, IsGraphOf};
 
+use crate::begins::begins;
 use crate::graph::{Action, Case, Graph, Point, Target};
 use crate::moves::moves;
 use crate::tree::{Block, Cases, Names, ScriptCommand, Stmt};
@@ -31,9 +32,10 @@ pub fn graph_of<'a>(
     let mut points = Vec::new(alloc);
     put_block(alloc, &mut points, 0, block, end, end, &[])?;
     let lines = Vec::from_slice(alloc, lines)?;
+    let starts_with_reset = begins(names.kind, block);
     let names = copied(alloc, names)?;
     let first = entry_of(block, 0, end);
-    Ok(Graph::from_points(names, points, lines, first, moves(block)))
+    Ok(Graph::from_points(names, points, lines, first, moves(block), starts_with_reset))
 }
 
 // The same names, in memory of their own.

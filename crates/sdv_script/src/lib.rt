@@ -1,7 +1,17 @@
-//! Scripts for a host of an SD card or of an e.MMC device: their text, their syntax tree, and what can be said of both.
+//! Scripts for a host of an SD card or of an e.MMC device: their text, their syntax tree, and what can be said of
+//! both.
 //!
-//! Begin at `specs/Tokens.antt` and `specs/Grammar.antt`, which say what a script's text is, and at `specs/Rules.antt`,
-//! which says what its syntax tree must meet beside the grammar.
+//! Begin at `specs/Tokens.antt` and `specs/Grammar.antt`, which say what a script's text is, and at
+//! `specs/Rules.antt`, which says what its syntax tree must meet beside the grammar. `docs/SCRIPTS.md` has the
+//! language.
+//!
+//! - `parse` is Ok only with the tree that the grammar gives the text, within every rule. A text refused for another
+//!   reason than memory is no script. `one_tree`: no text has two trees.
+//! - `print` writes exactly the tokens of the text, one space after each, and a line feed (`specs/Printed.antt`).
+//!   `printed_tree`: the printed text, if within the size limit, is a script with the same tree, and prints as itself.
+//! - `asks_by_table`: each command of a script's graph is that of a line of the command table (`specs/Asks.antt`).
+//! - `Script::graph` is the graph of the script's tree, with its names and the line of each statement's first token
+//!   (`specs/Lines.antt`). `one_graph`: each script has exactly one graph.
 #![tactic(auto)]
 
 mod blocks;

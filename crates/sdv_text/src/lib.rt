@@ -1,8 +1,12 @@
-//! Texts that go out whole, or in part where the writer fails, the fronts of texts, and numbers in words.
+//! Texts that are written whole or in part, the fronts of texts, and numbers in words.
 //!
-//! `specs/Written.antt` says what a writer then holds. Whatever prints here, scripts, certificates, traces and the
-//! lines of the program, is said in its words. `specs/Fronts.antt` says what a text begins with, for the readers above,
-//! and `specs/Number.antt` what a number in words is.
+//! - `write_text` and `write_texts` write all that they are given. If the writer fails, a part and not all of it is
+//!   written (`specs/Written.antt`). All other crates describe what they print in these words.
+//! - `after`, `is_word`, `digits_len` and `capped_value` say what a text begins with: what follows a word, whether the
+//!   text is a word, how many digits it has, and their value up to a bound (`specs/Fronts.antt`). The readers of
+//!   certificates, descriptions, traces and requests use them.
+//! - `number_of` reads exactly the numbers of the program's words: decimal, or hexadecimal after `0x`, below 2^32
+//!   (`specs/Number.antt`).
 #![tactic(auto)]
 
 mod fronts;

@@ -21,10 +21,10 @@ from_points-requires c =
     let copied : declared_names c.in_ok-names.names ≡ names = c.in_ok-names.ensures in
     let located : c.in_ok-lines.lines.items ≡ lines = c.in_ok-lines.ensures.items in
     let same : parts (declared_names c.in_ok-names.names) (seen_points c.put_block.new.points.items) c.in_ok-lines.lines.items c.entry_of-first.result c.moves.result
-    ≡ graph_of_body names b lines =
-    ap (λ (n : Declared). parts n (seen_points c.put_block.new.points.items) c.in_ok-lines.lines.items c.entry_of-first.result c.moves.result) copied
-    ∙ ap (λ (l : List ℕ). parts names (seen_points c.put_block.new.points.items) l c.entry_of-first.result c.moves.result) located
-    ∙ graph_is names b lines places start c.moves.ensures in
+    c.begins-starts_with_reset.result ≡ graph_of_body names b lines =
+    ap (λ (n : Declared). parts n (seen_points c.put_block.new.points.items) c.in_ok-lines.lines.items c.entry_of-first.result c.moves.result c.begins-starts_with_reset.result) copied
+    ∙ ap (λ (l : List ℕ). parts names (seen_points c.put_block.new.points.items) l c.entry_of-first.result c.moves.result c.begins-starts_with_reset.result) located
+    ∙ graph_is names b lines places start c.moves.ensures c.begins-starts_with_reset.ensures in
     subst (λ (g : Graph). IsSound g) (sym same) (sound names b lines c.requires.runs c.requires.suits c.requires.located)
 
 pub returns : goal.returns
@@ -41,8 +41,8 @@ returns c =
     let copied : declared_names c.in_ok-names.names ≡ names = c.in_ok-names.ensures in
     let located : c.in_ok-lines.lines.items ≡ lines = c.in_ok-lines.ensures.items in
     let same : parts (declared_names c.in_ok-names.names) (seen_points c.put_block.new.points.items) c.in_ok-lines.lines.items c.entry_of-first.result c.moves.result
-    ≡ graph_of_body names b lines =
-    ap (λ (n : Declared). parts n (seen_points c.put_block.new.points.items) c.in_ok-lines.lines.items c.entry_of-first.result c.moves.result) copied
-    ∙ ap (λ (l : List ℕ). parts names (seen_points c.put_block.new.points.items) l c.entry_of-first.result c.moves.result) located
-    ∙ graph_is names b lines places start c.moves.ensures in
+    c.begins-starts_with_reset.result ≡ graph_of_body names b lines =
+    ap (λ (n : Declared). parts n (seen_points c.put_block.new.points.items) c.in_ok-lines.lines.items c.entry_of-first.result c.moves.result c.begins-starts_with_reset.result) copied
+    ∙ ap (λ (l : List ℕ). parts names (seen_points c.put_block.new.points.items) l c.entry_of-first.result c.moves.result c.begins-starts_with_reset.result) located
+    ∙ graph_is names b lines places start c.moves.ensures c.begins-starts_with_reset.ensures in
     subst (λ (g : Graph). IsGraphOf names b lines g) (sym (c.from_points.ensures ∙ same)) (is_graph_of names b lines c.requires.runs c.requires.suits c.requires.located)
