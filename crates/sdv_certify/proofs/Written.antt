@@ -1,5 +1,5 @@
 -- The text of a certificate piece by piece.
-use Rattle.std.proofs.Common.{◌≡◌, ℕ, suc, ◌+◌, ◌<◌, ◌≤◌, List, [], ◌∷◌, ◌++◌, length, drop, get_or, Option, Some, None, Result, Ok, Err, flat_map, codes, refl, IsErr, sym, ap, subst, ◌∙◌, append_assoc, append-nil, add-one, drop-cons, drop_of_length-le, arith}
+use Rattle.std.proofs.Common.{◌≡◌, ℕ, suc, ◌+◌, ◌<◌, ◌≤◌, List, [], ◌∷◌, ◌++◌, length, drop, get_or, Option, Some, None, Result, Ok, Err, flat_map, refl, IsErr, sym, ap, subst, ◌∙◌, append_assoc, append-nil, add-one, drop-cons, drop_of_length-le, arith}
 use Rattle.std.proofs.lemmas.List.Concat.{flat_map-cons}
 use Rattle.std.proofs.Math.ListN.{get_or-map}
 use Rattle.std.proofs.lemmas.List.{length-map}
@@ -14,6 +14,7 @@ use Rattle.sdv_facts.specs.declared.certificate.PointFacts.{PointFacts as Shared
 use Rattle.sdv_facts.specs.Facts.{PointFacts, Certificate}
 use Rattle.sdv_facts.specs.Shared.{point_in, points_in, certificate_in}
 use Rattle.sdv_facts.specs.CertificateText.{number_written, gap_written, boot_gap_written, boot_written, var_written, shape_written, each_written, numbers_written, point_written, points_written, version_written, text_of}
+use Rattle.sdv_facts.specs.declared.words.TheConstants.{POINTS, POINT, BOUND, BOOT_CAPACITY, CAPACITY, VARIABLE, SHAPES}
 use Rattle.sdv_certify.specs.Pieces.{number_text, gap_text, boot_gap_text, boot_text, var_text, shape_text, bound_text, numbers_text, shapes_text, line_text, lines_text, title_text, PassesOn}
 
 -- EACH PIECE, before what follows it
@@ -35,34 +36,34 @@ boot_gap_is Two gap others = gap_is gap others
 
 boot_is : (version : Version) (least : ℕ) (others : List ℕ) → boot_text version least ++ others ≡ boot_written version least others
 boot_is One least others = refl
-boot_is Two least others = append_assoc (codes " mb") (number_text least) others
+boot_is Two least others = append_assoc BOOT_CAPACITY.now (number_text least) others
 
 var_is : (version : Version) (v : VarFacts) (others : List ℕ) → var_text version v ++ others ≡ var_written version v others
 var_is version v others =
     let boot = boot_gap_text version v.bgap in
-    ap (λ (l : List ℕ). codes " v" ++ l) (append_assoc (number_text v.lo) (number_text v.hi ++ (gap_text v.gap ++ boot)) others
+    ap (λ (l : List ℕ). VARIABLE.now ++ l) (append_assoc (number_text v.lo) (number_text v.hi ++ (gap_text v.gap ++ boot)) others
     ∙ ap (number_written v.lo) (append_assoc (number_text v.hi) (gap_text v.gap ++ boot) others
     ∙ ap (number_written v.hi) (append_assoc (gap_text v.gap) boot others
     ∙ gap_is v.gap (boot ++ others) ∙ ap (gap_written v.gap) (boot_gap_is version v.bgap others))))
 
 bound_is : (place : ℕ) (p : PointFacts) (others : List ℕ)
-    → bound_text place p ++ others ≡ codes "p" ++ number_written place (codes " b" ++ number_written p.base (each_written number_written p.turns.items others))
+    → bound_text place p ++ others ≡ POINT.now ++ number_written place (BOUND.now ++ number_written p.base (each_written number_written p.turns.items others))
 bound_is place p others =
     let turns = flat_map number_text p.turns.items in
-    ap (λ (l : List ℕ). codes "p" ++ l) (append_assoc (number_text place) (codes " b" ++ (number_text p.base ++ flat_map number_text p.turns.items)) others
-    ∙ ap (λ (l : List ℕ). number_written place (codes " b" ++ l)) (append_assoc (number_text p.base) (flat_map number_text p.turns.items) others
+    ap (λ (l : List ℕ). POINT.now ++ l) (append_assoc (number_text place) (BOUND.now ++ (number_text p.base ++ flat_map number_text p.turns.items)) others
+    ∙ ap (λ (l : List ℕ). number_written place (BOUND.now ++ l)) (append_assoc (number_text p.base) (flat_map number_text p.turns.items) others
     ∙ ap (number_written p.base) (each_is number_text number_written (λ x rest. refl) p.turns.items others)))
 
 numbers_is : (version : Version) (p : PointFacts) (others : List ℕ) → numbers_text version p ++ others
-    ≡ numbers_written version p.facts.numbers (codes " s" ++ others)
+    ≡ numbers_written version p.facts.numbers (SHAPES.now ++ others)
 numbers_is version p others =
     let ns = p.facts.numbers in
     let vars = flat_map (var_text version) ns.vars.items in
-    ap (λ (l : List ℕ). codes " m" ++ l) (append_assoc (number_text ns.m) (boot_text version ns.mb ++ (vars ++ codes " s")) others
-    ∙ ap (number_written ns.m) (append_assoc (boot_text version ns.mb) (vars ++ codes " s") others
-    ∙ boot_is version ns.mb ((vars ++ codes " s") ++ others)
-    ∙ ap (boot_written version ns.mb) (append_assoc vars (codes " s") others
-    ∙ each_is (var_text version) (var_written version) (var_is version) ns.vars.items (codes " s" ++ others))))
+    ap (λ (l : List ℕ). CAPACITY.now ++ l) (append_assoc (number_text ns.m) (boot_text version ns.mb ++ (vars ++ SHAPES.now)) others
+    ∙ ap (number_written ns.m) (append_assoc (boot_text version ns.mb) (vars ++ SHAPES.now) others
+    ∙ boot_is version ns.mb ((vars ++ SHAPES.now) ++ others)
+    ∙ ap (boot_written version ns.mb) (append_assoc vars SHAPES.now others
+    ∙ each_is (var_text version) (var_written version) (var_is version) ns.vars.items (SHAPES.now ++ others))))
 
 line_is : (version : Version) (place : ℕ) (p : PointFacts) (others : List ℕ) → line_text version place p ++ others ≡ point_written version place p others
 line_is version place p others =
@@ -70,9 +71,9 @@ line_is version place p others =
     append_assoc (bound_text place p ++ numbers) (shapes_text p.facts.shapes) others
     ∙ append_assoc (bound_text place p) numbers (shapes_text p.facts.shapes ++ others)
     ∙ bound_is place p (numbers ++ (shapes_text p.facts.shapes ++ others))
-    ∙ ap (λ (l : List ℕ). codes "p" ++ number_written place (codes " b" ++ number_written p.base (each_written number_written p.turns.items l)))
+    ∙ ap (λ (l : List ℕ). POINT.now ++ number_written place (BOUND.now ++ number_written p.base (each_written number_written p.turns.items l)))
     (numbers_is version p (shapes_text p.facts.shapes ++ others)
-    ∙ ap (λ (l : List ℕ). numbers_written version p.facts.numbers (codes " s" ++ l))
+    ∙ ap (λ (l : List ℕ). numbers_written version p.facts.numbers (SHAPES.now ++ l))
     (append_assoc (flat_map shape_text p.facts.shapes) (10 ∷ []) others ∙ each_is shape_text shape_written (λ x rest. refl) p.facts.shapes (10 ∷ others)))
 
 lines_are : (version : Version) (place : ℕ) (ps : List PointFacts) → lines_text version place ps ≡ points_written version place ps
@@ -85,9 +86,9 @@ pub text_is : (c : Certificate) → text_of c ≡ title_text c.version (length c
 text_is c =
     let lines = lines_text c.version 0 c.points in
     let count = number_text (length c.points) in
-    sym (append_assoc (version_written c.version) (codes "points" ++ (count ++ 10 ∷ [])) lines
-    ∙ ap (λ (l : List ℕ). version_written c.version ++ l) (append_assoc (codes "points") (count ++ 10 ∷ []) lines
-    ∙ ap (λ (l : List ℕ). codes "points" ++ l) (append_assoc count (10 ∷ []) lines
+    sym (append_assoc (version_written c.version) (POINTS.now ++ (count ++ 10 ∷ [])) lines
+    ∙ ap (λ (l : List ℕ). version_written c.version ++ l) (append_assoc POINTS.now (count ++ 10 ∷ []) lines
+    ∙ ap (λ (l : List ℕ). POINTS.now ++ l) (append_assoc count (10 ∷ []) lines
     ∙ ap (λ (l : List ℕ). number_written (length c.points) (10 ∷ l)) (lines_are c.version 0 c.points))))
 
 -- ONE MORE PIECE: what is written, and all that is to be written
@@ -149,13 +150,13 @@ pub failed : {E : Type 0} (r : Result (Unit {0}) E) (old new : Option (List ℕ)
 failed (Ok x) old new text err p = absurd (cc err)
 failed (Err e) old new text err p = p
 
-pub title_made : (version : Version) (a b c d e : List ℕ) (n : ℕ) → a ≡ [] → b ≡ a ++ version_written version → c ≡ b ++ codes "points" → d ≡ c ++ number_text n
+pub title_made : (version : Version) (a b c d e : List ℕ) (n : ℕ) → a ≡ [] → b ≡ a ++ version_written version → c ≡ b ++ POINTS.now → d ≡ c ++ number_text n
     → e ≡ d ++ 10 ∷ [] → e ≡ title_text version n
 title_made version a b c d e n e0 e1 e2 e3 e4 =
     let first : b ≡ version_written version = e1 ∙ ap (λ (l : List ℕ). l ++ version_written version) e0 in
     let rest = number_text n ++ 10 ∷ [] in
     e4 ∙ ap (λ (l : List ℕ). l ++ 10 ∷ []) e3 ∙ append_assoc c (number_text n) (10 ∷ [])
-    ∙ ap (λ (l : List ℕ). l ++ rest) e2 ∙ append_assoc b (codes "points") rest ∙ ap (λ (l : List ℕ). l ++ (codes "points" ++ rest)) first
+    ∙ ap (λ (l : List ℕ). l ++ rest) e2 ∙ append_assoc b POINTS.now rest ∙ ap (λ (l : List ℕ). l ++ (POINTS.now ++ rest)) first
 
 pub front_made : (version : Version) (a b c : List ℕ) (place : ℕ) (p : PointFacts) → a ≡ [] → b ≡ a ++ bound_text place p → c ≡ b ++ numbers_text version p
     → c ≡ bound_text place p ++ numbers_text version p

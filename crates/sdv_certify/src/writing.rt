@@ -11,7 +11,7 @@ ghost use Rattle.sdv_certify.specs.Pieces.{number_text, gap_text, boot_gap_text,
 use arrayvec::ArrayVec;
 use itoa::Buffer;
 use sdv_card::Shape;
-use sdv_facts::{Certificate, PointFacts, SetTable, VarFacts, Version};
+use sdv_facts::{Certificate, PointFacts, SetTable, VarFacts, Version, words};
 use sdv_text::write_text;
 use std::io::{Error, Write};
 
@@ -44,7 +44,7 @@ fn push_gap(line: &mut LineBytes, gap: Option<u64>)
 {
     match gap {
         Some(gap) => push_number(line, gap),
-        None => push(line, b" -"),
+        None => push(line, words::NO_GAP),
     }
 }
 
@@ -69,7 +69,7 @@ fn push_boot(line: &mut LineBytes, version: Version, least: u64)
     match version {
         Version::One => {}
         Version::Two => {
-            push(line, b" mb");
+            push(line, words::BOOT_CAPACITY);
             push_number(line, least);
         }
     }
@@ -80,7 +80,7 @@ fn push_variable(line: &mut LineBytes, version: Version, known: &VarFacts)
     ensures items { line.new.items ≡ line.old.items ++ var_text version known.now }
     ensures len { array_vec_len line.new ≤ array_vec_len line.old + 86 }
 {
-    push(line, b" v");
+    push(line, words::VARIABLE);
     push_number(line, known.lo);
     push_number(line, known.hi);
     push_gap(line, known.gap);
@@ -94,9 +94,9 @@ fn push_bound(line: &mut LineBytes, place: u64, point: &PointFacts)
         ≡ line.old.items ++ bound_text place (point_in sets point.now) }
     ensures len { array_vec_len line.new ≤ array_vec_len line.old + 200 }
 {
-    push(line, b"p");
+    push(line, words::POINT);
     push_number(line, place);
-    push(line, b" b");
+    push(line, words::BOUND);
     push_number(line, point.base);
     let turns = point.turns.as_slice();
     for turn in turns {
@@ -112,14 +112,14 @@ fn push_numbers(line: &mut LineBytes, version: Version, point: &PointFacts)
     ensures len { array_vec_len line.new ≤ array_vec_len line.old + 740 }
 {
     let numbers = point.facts.numbers();
-    push(line, b" m");
+    push(line, words::CAPACITY);
     push_number(line, numbers.m);
     push_boot(line, version, numbers.mb);
     let vars = numbers.vars.as_slice();
     for known in vars {
         push_variable(line, version, known);
     }
-    push(line, b" s");
+    push(line, words::SHAPES);
 }
 
 fn push_shape(line: &mut LineBytes, shape: Shape)
@@ -177,8 +177,8 @@ fn push_version(line: &mut LineBytes, version: Version)
     ensures len { array_vec_len line.new ≡ array_vec_len line.old + 11 }
 {
     match version {
-        Version::One => push(line, b"sdv-cert 1\n"),
-        Version::Two => push(line, b"sdv-cert 2\n"),
+        Version::One => push(line, words::VERSION_1),
+        Version::Two => push(line, words::VERSION_2),
     }
 }
 
@@ -188,7 +188,7 @@ fn put_title<W: Write>(out: &mut W, version: Version, count: u64) -> Result<(), 
 {
     let mut line = LineBytes::new();
     push_version(&mut line, version);
-    push(&mut line, b"points");
+    push(&mut line, words::POINTS);
     push_number(&mut line, count);
     push(&mut line, b"\n");
     write_text(out, line.as_slice())

@@ -1,5 +1,5 @@
 -- Lines of points: what is read is what was written, and what was written is read again.
-use Rattle.std.proofs.Common.{◌≡◌, ℕ, zero, suc, ◌+◌, ◌-◌, ◌^◌, ◌<◌, ◌≤◌, true, false, cond, nat_eq, List, [], ◌∷◌, ◌++◌, length, get_or, Option, Some, None, IfSome, decimal, codes, refl, sym, ap, subst, ◌∙◌, arith, eqb-true, eq-eqb}
+use Rattle.std.proofs.Common.{◌≡◌, ℕ, zero, suc, ◌+◌, ◌-◌, ◌^◌, ◌<◌, ◌≤◌, true, false, cond, nat_eq, List, [], ◌∷◌, ◌++◌, length, get_or, Option, Some, None, IfSome, decimal, refl, sym, ap, subst, ◌∙◌, arith, eqb-true, eq-eqb}
 use Rattle.std.specs.List.{AllByRecursion}
 use Rattle.std.specs.Str.{all_ascii_digits}
 use Rattle.std.proofs.lemmas.Bool.{and_parts}
@@ -17,6 +17,7 @@ use Rattle.sdv_facts.specs.Facts.{AreRising, PointFacts}
 use Rattle.sdv_facts.specs.Limits.{IsInLimits, VarInLimits, NumbersInLimits, PointInLimits}
 use Rattle.sdv_facts.specs.CertificateText.{number_written, gap_written, boot_gap_written, boot_written, var_written, numbers_written, shape_written, each_written, point_written, points_written, shape_count, PointFits}
 use Rattle.sdv_facts.specs.Versions.{FitsVersion}
+use Rattle.sdv_facts.specs.declared.words.TheConstants.{POINT, BOUND, BOOT_CAPACITY, CAPACITY, VARIABLE, SHAPES, NO_GAP}
 use Rattle.sdv_check.specs.Reading.{ends_item, begins_number, begins_var, begins_shape, gap_from, some_gap, read_number, read_gap, read_boot_gap, read_var, read_rising, read_turns, read_vars, read_shapes, read_place, read_boot, read_numbers, read_bound, read_point, read_points}
 use Rattle.sdv_check.proofs.Numbers.{number_takes, number_again, decimal_digits}
 use Rattle.sdv_check.proofs.Codes.{IsNext, rising_takes, rising_again}
@@ -37,11 +38,11 @@ first_digit : (ds rest : List ℕ) → all_ascii_digits ds ≡ true → 0 < leng
 first_digit [] rest all some = absurd (omega arith)
 first_digit (d ∷ ds) rest all some = (and_parts (is_digit d) (all_ascii_digits ds) all).0
 
-gap_from_takes : (o : Option (List ℕ)) (bs : List ℕ) (gap : Option ℕ) (rest : List ℕ) → after (codes " -") bs ≡ o → gap_from o bs ≡ Some (gap, rest)
+gap_from_takes : (o : Option (List ℕ)) (bs : List ℕ) (gap : Option ℕ) (rest : List ℕ) → after NO_GAP.now bs ≡ o → gap_from o bs ≡ Some (gap, rest)
     → (bs ≡ gap_written gap rest) × IfSome gap IsInLimits
 gap_from_takes (Some r) bs gap rest e given =
     subst (λ (y : Option ℕ × List ℕ). (bs ≡ gap_written y.0 y.1) × IfSome y.0 IsInLimits) (some_is (None, r) (gap, rest) given)
-    (after_takes (codes " -") bs r e, tt)
+    (after_takes NO_GAP.now bs r e, tt)
 gap_from_takes None bs gap rest e given =
     let a = bind_some (read_number bs) some_gap (gap, rest) given in
     let n = number_takes bs a.0.0 a.0.1 a.1 in
@@ -49,13 +50,13 @@ gap_from_takes None bs gap rest e given =
 
 gap_takes : (bs : List ℕ) (gap : Option ℕ) (rest : List ℕ) → read_gap bs ≡ Some (gap, rest) → (bs ≡ gap_written gap rest) × IfSome gap IsInLimits
 unfolding read_gap
-gap_takes bs gap rest e = gap_from_takes (after (codes " -") bs) bs gap rest refl e
+gap_takes bs gap rest e = gap_from_takes (after NO_GAP.now bs) bs gap rest refl e
 
 gap_again : (gap : Option ℕ) (rest : List ℕ) → IfSome gap IsInLimits → ends_item rest ≡ true → read_gap (gap_written gap rest) ≡ Some (gap, rest)
 unfolding read_gap
 gap_again None rest fits end = refl
 gap_again (Some n) rest fits end =
-    let none : after (codes " -") (number_written n rest) ≡ None =
+    let none : after NO_GAP.now (number_written n rest) ≡ None =
     no_dash (decimal n) rest (decimal_digits n (omega arith)) (decimal_nonempty n (omega arith)) in
     rw (none, number_again n rest fits end) refl
 
@@ -93,9 +94,9 @@ boot_takes : (version : Version) (bs : List ℕ) (mb : ℕ) (rest : List ℕ) �
 boot_takes One bs mb rest e =
     subst (λ (y : ℕ × List ℕ). (bs ≡ y.1) × IsInLimits y.0 × (y.0 ≡ 0)) (some_is (0, bs) (mb, rest) e) (refl, omega arith, refl)
 boot_takes Two bs mb rest e =
-    let a = bind_some (after (codes " mb") bs) read_number (mb, rest) e in
+    let a = bind_some (after BOOT_CAPACITY.now bs) read_number (mb, rest) e in
     let n = number_takes a.0 mb rest a.2 in
-    (after_takes (codes " mb") bs a.0 a.1 ∙ ap (λ (l : List ℕ). codes " mb" ++ l) n.0, n.1, tt)
+    (after_takes BOOT_CAPACITY.now bs a.0 a.1 ∙ ap (λ (l : List ℕ). BOOT_CAPACITY.now ++ l) n.0, n.1, tt)
 
 boot_again : (version : Version) (mb : ℕ) (rest : List ℕ) → IsInLimits mb → BootFits version mb → ends_item rest ≡ true
     → read_boot version (boot_written version mb rest) ≡ Some (mb, rest)
@@ -116,7 +117,7 @@ var_takes : (version : Version) (bs : List ℕ) (v : VarFacts) (rest : List ℕ)
     → (bs ≡ var_written version v rest) × VarFits version v
 unfolding read_var
 var_takes version bs v rest e =
-    let a = bind_some (after (codes " v") bs) _ (v, rest) e in
+    let a = bind_some (after VARIABLE.now bs) _ (v, rest) e in
     let b = bind_some (read_number a.0) _ (v, rest) a.2 in
     let c = bind_some (read_number b.0.1) _ (v, rest) b.2 in
     let d = bind_some (read_gap c.0.1) _ (v, rest) c.2 in
@@ -127,7 +128,7 @@ var_takes version bs v rest e =
     let boot = boot_gap_takes version d.0.1 f.0.0 f.0.1 f.1 in
     let made : VarFacts = record { lo = b.0.0; hi = c.0.0; gap = d.0.0; bgap = f.0.0 } in
     let written : bs ≡ var_written version made f.0.1 =
-    after_takes (codes " v") bs a.0 a.1 ∙ ap (λ (l : List ℕ). codes " v" ++ l)
+    after_takes VARIABLE.now bs a.0 a.1 ∙ ap (λ (l : List ℕ). VARIABLE.now ++ l)
     (lo.0 ∙ ap (number_written b.0.0) (hi.0 ∙ ap (number_written c.0.0) (gap.0 ∙ ap (gap_written d.0.0) boot.0))) in
     subst (λ (y : VarFacts × List ℕ). (bs ≡ var_written version y.0 y.1) × VarFits version y.0) (some_is (made, f.0.1) (v, rest) f.2)
     (written, record { limits = record { lo = lo.1; hi = hi.1; gap = gap.1; bgap = boot.1 }; boot = boot.2 })
@@ -217,7 +218,7 @@ numbers_take : (version : Version) (bs : List ℕ) (ns : Numbers) (rest : List �
     → (bs ≡ numbers_written version ns rest) × NumbersFit version ns
 unfolding read_numbers
 numbers_take version bs ns rest e =
-    let a = bind_some (after (codes " m") bs) _ (ns, rest) e in
+    let a = bind_some (after CAPACITY.now bs) _ (ns, rest) e in
     let b = bind_some (read_number a.0) _ (ns, rest) a.2 in
     let c = bind_some (read_boot version b.0.1) _ (ns, rest) b.2 in
     let d = bind_some (read_vars version c.0.1) _ (ns, rest) c.2 in
@@ -228,7 +229,7 @@ numbers_take version bs ns rest e =
     let limits : NumbersInLimits made =
     record { m = m.1; mb = mb.1; vars = All-from_recursion VarInLimits d.0.0 (vars_limited version d.0.0 vs.2) } in
     let written : bs ≡ numbers_written version made d.0.1 =
-    after_takes (codes " m") bs a.0 a.1 ∙ ap (λ (l : List ℕ). codes " m" ++ l)
+    after_takes CAPACITY.now bs a.0 a.1 ∙ ap (λ (l : List ℕ). CAPACITY.now ++ l)
     (m.0 ∙ ap (number_written b.0.0) (mb.0 ∙ ap (boot_written version c.0.0) vs.0)) in
     subst (λ (y : Numbers × List ℕ). (bs ≡ numbers_written version y.0 y.1) × NumbersFit version y.0) (some_is (made, d.0.1) (ns, rest) d.2)
     (written, record { limits = limits; few = vs.1; boot = mb.2; gaps = vs.2 })
@@ -281,23 +282,23 @@ numbers_fit version p fits f = record {
 }
 
 abbrev bound_written : (place base : ℕ) → List ℕ → List ℕ → List ℕ
-bound_written place base turns rest = codes "p" ++ number_written place (codes " b" ++ number_written base (each_written number_written turns rest))
+bound_written place base turns rest = POINT.now ++ number_written place (BOUND.now ++ number_written base (each_written number_written turns rest))
 
 bound_takes : (place : ℕ) (bs : List ℕ) (bound : ℕ × List ℕ) (rest : List ℕ) → read_bound place bs ≡ Some (bound, rest)
     → (bs ≡ bound_written place bound.0 bound.1 rest) × IsInLimits bound.0 × (length bound.1 ≤ 4) × AllByRecursion IsInLimits bound.1
 unfolding read_bound
 bound_takes place bs bound rest e =
-    let a = bind_some (after (codes "p") bs) _ (bound, rest) e in
+    let a = bind_some (after POINT.now bs) _ (bound, rest) e in
     let b = bind_some (read_place place a.0) _ (bound, rest) a.2 in
-    let c = bind_some (after (codes " b") b.0) _ (bound, rest) b.2 in
+    let c = bind_some (after BOUND.now b.0) _ (bound, rest) b.2 in
     let d = bind_some (read_number c.0) _ (bound, rest) c.2 in
     let f = bind_some (read_turns d.0.1) _ (bound, rest) d.2 in
     let base = number_takes c.0 d.0.0 d.0.1 d.1 in
     let ts = turns_take d.0.1 f.0.0 f.0.1 f.1 in
     let written : bs ≡ bound_written place d.0.0 f.0.0 f.0.1 =
-    after_takes (codes "p") bs a.0 a.1 ∙ ap (λ (l : List ℕ). codes "p" ++ l)
+    after_takes POINT.now bs a.0 a.1 ∙ ap (λ (l : List ℕ). POINT.now ++ l)
     (place_takes place a.0 b.0 b.1 ∙ ap (number_written place)
-    (after_takes (codes " b") b.0 c.0 c.1 ∙ ap (λ (l : List ℕ). codes " b" ++ l) (base.0 ∙ ap (number_written d.0.0) ts.0))) in
+    (after_takes BOUND.now b.0 c.0 c.1 ∙ ap (λ (l : List ℕ). BOUND.now ++ l) (base.0 ∙ ap (number_written d.0.0) ts.0))) in
     subst (λ (y : (ℕ × List ℕ) × List ℕ). (bs ≡ bound_written place y.0.0 y.0.1 y.1) × IsInLimits y.0.0 × (length y.0.1 ≤ 4) × AllByRecursion IsInLimits y.0.1)
     (some_is ((d.0.0, f.0.0), f.0.1) (bound, rest) f.2) (written, base.1, ts.1, ts.2)
 
@@ -308,7 +309,7 @@ unfolding read_bound
 bound_again place base turns rest fits small le each end off =
     let ends = each_ends begins_number (λ (last : Option ℕ). read_number) number_written (λ (last : Option ℕ). IsInLimits) (λ x r. refl) turns rest end in
     rw (
-      place_again place (codes " b" ++ number_written base (each_written number_written turns rest)) fits refl,
+      place_again place (BOUND.now ++ number_written base (each_written number_written turns rest)) fits refl,
       number_again base (each_written number_written turns rest) small ends,
       turns_again turns rest le each end off,
     ) refl
@@ -319,15 +320,15 @@ unfolding read_point
 point_takes version place room bs p rest e =
     let a = bind_some (read_bound place bs) _ (p, rest) e in
     let b = bind_some (read_numbers version a.0.1) _ (p, rest) a.2 in
-    let c = bind_some (after (codes " s") b.0.1) _ (p, rest) b.2 in
+    let c = bind_some (after SHAPES.now b.0.1) _ (p, rest) b.2 in
     let d = bind_some (read_shapes room c.0) _ (p, rest) c.2 in
     let f = bind_some (after (10 ∷ []) d.0.1) _ (p, rest) d.2 in
     let bound = bound_takes place bs a.0.0 a.0.1 a.1 in
     let ns = numbers_take version a.0.1 b.0.0 b.0.1 b.1 in
     let ss = shapes_take room c.0 d.0.0 d.0.1 d.1 in
     let made : PointFacts = record { facts = record { shapes = d.0.0; numbers = b.0.0 }; base = a.0.0.0; turns = record { items = a.0.0.1 } } in
-    let tail : b.0.1 ≡ codes " s" ++ each_written shape_written d.0.0 (10 ∷ f.0) =
-    after_takes (codes " s") b.0.1 c.0 c.1 ∙ ap (λ (l : List ℕ). codes " s" ++ l)
+    let tail : b.0.1 ≡ SHAPES.now ++ each_written shape_written d.0.0 (10 ∷ f.0) =
+    after_takes SHAPES.now b.0.1 c.0 c.1 ∙ ap (λ (l : List ℕ). SHAPES.now ++ l)
     (ss.0 ∙ ap (each_written shape_written d.0.0) (after_takes (10 ∷ []) d.0.1 f.0 f.1)) in
     let written : bs ≡ point_written version place made f.0 =
     bound.0 ∙ ap (bound_written place a.0.0.0 a.0.0.1) (ns.0 ∙ ap (numbers_written version b.0.0) tail) in
@@ -347,7 +348,7 @@ point_again : (version : Version) (place room : ℕ) (p : PointFacts) (rest : Li
     → FitsVersion version p → read_point version place room (point_written version place p rest) ≡ Some (p, rest)
 unfolding read_point
 point_again version place room p rest near le fits says =
-    let shapes : List ℕ = codes " s" ++ each_written shape_written p.facts.shapes (10 ∷ rest) in
+    let shapes : List ℕ = SHAPES.now ++ each_written shape_written p.facts.shapes (10 ∷ rest) in
     let numbers : List ℕ = numbers_written version p.facts.numbers shapes in
     let limits = fits.numbers in
     rw (

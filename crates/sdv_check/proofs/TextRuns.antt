@@ -12,6 +12,7 @@ use Rattle.sdv_graph.proofs.FaultNames.{names_fault}
 use Rattle.sdv_script.proofs.ScriptLaws.{one_tree_lem}
 use Rattle.sdv_facts.specs.Facts.{PointFacts}
 use Rattle.sdv_facts.specs.Beside.{RunsEnd, RunsWell}
+use Rattle.sdv_facts.proofs.AnyStart.{scripts_anywhere}
 use Rattle.sdv_facts.proofs.RunLaws.{same_runs, walks_end}
 use Rattle.sdv_check.specs.Headline.{EachRun, EachRunOf}
 use Rattle.sdv_check.specs.Promised.{Promised}
@@ -27,8 +28,10 @@ ends_of_kind k l names body n m is same ends = subst (λ m. RunsEnd (Walk l name
 pub runs_of_script : (s : Parsed) (g : Graph) (most : ℕ) → IsGraphOfScript s g → RunsWell g.kind (Walk g.kind s.names s.body) most → EachRun s most
 runs_of_script s g most of walks =
     let k : Kind = s.names.kind in
+    let runs : RunsWell k (Walk k s.names s.body) most = of_kind g.kind k s.names s.body most of.kind_same walks in
     record {
-      runs = of_kind g.kind k s.names s.body most of.kind_same walks;
+      runs = runs;
+      anywhere = λ begins. scripts_anywhere k s.names s.body most begins runs;
       ends =
           ends_of_kind g.kind k s.names s.body g.steps (statements_moves s.body) of.kind_same of.steps_same
           (walks_end g s.names s.body of.sound.ends of.walks);
@@ -38,14 +41,18 @@ runs_of_script s g most of walks =
 -- a script of the same tree has the same runs
 pub runs_of_tree : (s t : Parsed) (most : ℕ) → (s.names ≡ t.names) × (s.body ≡ t.body) → EachRun s most → EachRun t most
 runs_of_tree s t most tree each = record {
-  runs =
-      subst (λ b. RunsWell t.names.kind (Walk t.names.kind t.names b) most) tree.1
-      (subst (λ (n : Declared). RunsWell n.kind (Walk n.kind n s.body) most) tree.0 each.runs);
+  runs = runs;
+  anywhere = λ begins. scripts_anywhere t.names.kind t.names t.body most begins runs;
   ends =
       subst (λ b. RunsEnd (Walk t.names.kind t.names b) (statements_moves b)) tree.1
       (subst (λ (n : Declared). RunsEnd (Walk n.kind n s.body) (statements_moves s.body)) tree.0 each.ends);
   faults = λ e es walk. names_fault t.names.kind t.names t.body e es walk;
 }
+  where
+    runs : RunsWell t.names.kind (Walk t.names.kind t.names t.body) most
+    runs =
+        subst (λ b. RunsWell t.names.kind (Walk t.names.kind t.names b) most) tree.1
+        (subst (λ (n : Declared). RunsWell n.kind (Walk n.kind n s.body) most) tree.0 each.runs)
 
 pub runs_of_text : (text : List ℕ) (g : Graph) (ps : List PointFacts) (most : ℕ) → IsGraphOfText text g → Promised g ps most → EachRunOf text most
 runs_of_text text g ps most of promised s same is_script =

@@ -1,5 +1,5 @@
 -- The text of a certificate: what is read is what was written, and what was written is read again.
-use Rattle.std.proofs.Common.{◌≡◌, ◌≢◌, ℕ, ◌≤◌, Bool, true, cond, nat_eq, nat_le, List, [], ◌∷◌, ◌++◌, length, Option, Some, None, All, codes, refl, sym, ap, subst, ◌∙◌, arith, eqb-true, le-leb, leb-true}
+use Rattle.std.proofs.Common.{◌≡◌, ◌≢◌, ℕ, ◌≤◌, Bool, true, cond, nat_eq, nat_le, List, [], ◌∷◌, ◌++◌, length, Option, Some, None, All, refl, sym, ap, subst, ◌∙◌, arith, eqb-true, le-leb, leb-true}
 use Rattle.std.specs.List.{AllByRecursion}
 use Rattle.std.proofs.lemmas.List.{nil_from_length}
 use Rattle.std.proofs.lemmas.List.Elements.{All-from_recursion, recursion_from_All}
@@ -11,33 +11,34 @@ use Rattle.sdv_facts.specs.Facts.{PointFacts, Certificate}
 use Rattle.sdv_facts.specs.Versions.{FitsVersion}
 use Rattle.sdv_facts.specs.Limits.{PointInLimits}
 use Rattle.sdv_facts.specs.CertificateText.{number_written, points_written, version_written, text_of, max_bytes, max_points, max_shapes, shape_count, PointFits, WithinLimits}
+use Rattle.sdv_facts.specs.declared.words.TheConstants.{VERSION_1, VERSION_2, POINTS}
 use Rattle.sdv_check.specs.declared.text.fault.CertFault.{CertFault}
 use Rattle.sdv_check.specs.declared.text.fault.CertFault.TheVariants.{Header, Syntax, Order, Limit, Memory}
 use Rattle.sdv_check.specs.Reading.{Fails, read_number, read_count, read_points, read_lines, version_from, read_version, read_certificate, read_text}
 use Rattle.sdv_check.proofs.Numbers.{number_takes, number_again}
 use Rattle.sdv_check.proofs.TextPoints.{points_take, points_again}
 
-count_takes : (bs : List ℕ) (n : ℕ) (rest : List ℕ) → read_count bs ≡ Some (n, rest) → (bs ≡ codes "points" ++ number_written n (10 ∷ rest)) × (n ≤ max_points)
+count_takes : (bs : List ℕ) (n : ℕ) (rest : List ℕ) → read_count bs ≡ Some (n, rest) → (bs ≡ POINTS.now ++ number_written n (10 ∷ rest)) × (n ≤ max_points)
 unfolding read_count
 count_takes bs n rest e =
-    let a = bind_some (after (codes "points") bs) _ (n, rest) e in
+    let a = bind_some (after POINTS.now bs) _ (n, rest) e in
     let b = bind_some (read_number a.0) (λ count. cond (nat_le count.0 max_points) (after (10 ∷ []) count.1 >>= λ bs. Some (count.0, bs)) None) (n, rest) a.2 in
     let t = tested (nat_le b.0.0 max_points) (after (10 ∷ []) b.0.1 >>= λ bs. Some (b.0.0, bs)) (n, rest) b.2 in
     let c = bind_some (after (10 ∷ []) b.0.1) (λ bs. Some (b.0.0, bs)) (n, rest) t.1 in
     let k = number_takes a.0 b.0.0 b.0.1 b.1 in
     let few : b.0.0 ≤ max_points = leb-true _ _ t.0 in
-    subst (λ (y : ℕ × List ℕ). (bs ≡ codes "points" ++ number_written y.0 (10 ∷ y.1)) × (y.0 ≤ max_points)) (some_is (b.0.0, c.0) (n, rest) c.2) (
-      after_takes (codes "points") bs a.0 a.1 ∙ ap (λ (l : List ℕ). codes "points" ++ l)
+    subst (λ (y : ℕ × List ℕ). (bs ≡ POINTS.now ++ number_written y.0 (10 ∷ y.1)) × (y.0 ≤ max_points)) (some_is (b.0.0, c.0) (n, rest) c.2) (
+      after_takes POINTS.now bs a.0 a.1 ∙ ap (λ (l : List ℕ). POINTS.now ++ l)
           (k.0 ∙ ap (number_written b.0.0) (after_takes (10 ∷ []) b.0.1 c.0 c.1)),
       few,
     )
 
-count_again : (n : ℕ) (rest : List ℕ) → n ≤ max_points → read_count (codes "points" ++ number_written n (10 ∷ rest)) ≡ Some (n, rest)
+count_again : (n : ℕ) (rest : List ℕ) → n ≤ max_points → read_count (POINTS.now ++ number_written n (10 ∷ rest)) ≡ Some (n, rest)
 unfolding read_count
 count_again n rest le = rw (number_again n (10 ∷ rest) (omega arith) refl, le-leb n max_points le) refl
 
 abbrev lines_written : Version → List PointFacts → List ℕ
-lines_written version ps = codes "points" ++ number_written (length ps) (10 ∷ points_written version 0 ps)
+lines_written version ps = POINTS.now ++ number_written (length ps) (10 ∷ points_written version 0 ps)
 
 lines_take : (version : Version) (bs : List ℕ) (ps : List PointFacts) → read_lines version bs ≡ Some ps
     → (bs ≡ lines_written version ps) × (length ps ≤ max_points) × (shape_count ps ≤ max_shapes) × AllByRecursion PointFits ps
@@ -53,8 +54,8 @@ lines_take version bs c e =
     subst (λ (y : List PointFacts). (bs ≡ lines_written version y) × (length y ≤ max_points) × (shape_count y ≤ max_shapes) × AllByRecursion PointFits y
     × AllByRecursion (FitsVersion version) y)
     (some_is b.0.0 c t.1) (
-      k.0 ∙ ap (λ (n : ℕ). codes "points" ++ number_written n (10 ∷ a.0.1)) (sym ps.1)
-          ∙ ap (λ (l : List ℕ). codes "points" ++ number_written (length b.0.0) (10 ∷ l)) ps.0,
+      k.0 ∙ ap (λ (n : ℕ). POINTS.now ++ number_written n (10 ∷ a.0.1)) (sym ps.1)
+          ∙ ap (λ (l : List ℕ). POINTS.now ++ number_written (length b.0.0) (10 ∷ l)) ps.0,
       omega (arith, ps.1, k.1),
       ps.2,
       ps.3,
@@ -71,18 +72,18 @@ lines_again c within = rw (
 
 -- THE VERSION
 
-version_from_takes : (o : Option (List ℕ)) (bs : List ℕ) (version : Version) (rest : List ℕ) → after (codes "sdv-cert 1\n") bs ≡ o
+version_from_takes : (o : Option (List ℕ)) (bs : List ℕ) (version : Version) (rest : List ℕ) → after VERSION_1.now bs ≡ o
     → version_from o bs ≡ Some (version, rest) → bs ≡ version_written version ++ rest
 version_from_takes (Some r) bs version rest e given =
-    subst (λ (y : Version × List ℕ). bs ≡ version_written y.0 ++ y.1) (some_is (One, r) (version, rest) given) (after_takes (codes "sdv-cert 1\n") bs r e)
+    subst (λ (y : Version × List ℕ). bs ≡ version_written y.0 ++ y.1) (some_is (One, r) (version, rest) given) (after_takes VERSION_1.now bs r e)
 version_from_takes None bs version rest e given =
-    let a = bind_some (after (codes "sdv-cert 2\n") bs) (λ rest. Some (Two, rest)) (version, rest) given in
+    let a = bind_some (after VERSION_2.now bs) (λ rest. Some (Two, rest)) (version, rest) given in
     subst (λ (y : Version × List ℕ). bs ≡ version_written y.0 ++ y.1) (some_is (Two, a.0) (version, rest) a.2)
-    (after_takes (codes "sdv-cert 2\n") bs a.0 a.1)
+    (after_takes VERSION_2.now bs a.0 a.1)
 
 version_takes : (bs : List ℕ) (version : Version) (rest : List ℕ) → read_version bs ≡ Some (version, rest) → bs ≡ version_written version ++ rest
 unfolding read_version
-version_takes bs version rest e = version_from_takes (after (codes "sdv-cert 1\n") bs) bs version rest refl e
+version_takes bs version rest e = version_from_takes (after VERSION_1.now bs) bs version rest refl e
 
 version_again : (version : Version) (rest : List ℕ) → read_version (version_written version ++ rest) ≡ Some (version, rest)
 unfolding read_version

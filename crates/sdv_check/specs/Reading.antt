@@ -1,6 +1,6 @@
 -- Reading the text of a certificate from left to right: the part that it begins with, and what follows; none where it
 -- begins with no such part. The laws of reading say that what is read is what is written.
-use Rattle.std.specs.Prelude.{◌≡◌, ℕ, zero, suc, ◌-◌, List, [], ◌∷◌, length, take, drop, Bool, true, false, ◌&&◌, ◌||◌, ◌==◌, nat_lt, nat_le, not, slice_index, codes, Option, Some, None, Result, Ok, Err, if◌then◌else◌}
+use Rattle.std.specs.Prelude.{◌≡◌, ℕ, zero, suc, ◌-◌, List, [], ◌∷◌, length, take, drop, Bool, true, false, ◌&&◌, ◌||◌, ◌==◌, nat_lt, nat_le, not, slice_index, Option, Some, None, Result, Ok, Err, if◌then◌else◌}
 use Rattle.std.specs.List.{list_any}
 use Rattle.std.specs.Int.{w64, from_be_bytes}
 use Rattle.hex.specs.Hex.{decode_sized}
@@ -15,6 +15,7 @@ use Rattle.sdv_facts.specs.declared.numbers.VarFacts.{VarFacts}
 use Rattle.sdv_facts.specs.declared.numbers.Numbers.{Numbers}
 use Rattle.sdv_facts.specs.Facts.{PointFacts, Certificate}
 use Rattle.sdv_facts.specs.CertificateText.{max_bytes, max_points, max_shapes}
+use Rattle.sdv_facts.specs.declared.words.TheConstants.{VERSION_1, VERSION_2, POINTS, POINT, BOUND, BOOT_CAPACITY, CAPACITY, VARIABLE, SHAPES, NO_GAP}
 use Rattle.sdv_check.specs.declared.text.fault.CertFault.{CertFault}
 use Rattle.sdv_check.specs.declared.text.fault.CertFault.TheVariants as faults
 
@@ -67,7 +68,7 @@ gap_from (Some rest) bs = Some (None, rest)
 gap_from None bs = read_number bs >>= some_gap
 
 unfoldable pub read_gap : List ℕ → Read (Option ℕ)
-read_gap bs = gap_from (after (codes " -") bs) bs
+read_gap bs = gap_from (after NO_GAP.now bs) bs
 
 -- VARIABLES
 
@@ -78,7 +79,7 @@ read_boot_gap Two bs = read_gap bs
 
 unfoldable pub read_var : Version → List ℕ → Read VarFacts
 read_var version bs = do
-  bs ← after (codes " v") bs
+  bs ← after VARIABLE.now bs
   lo ← read_number bs
   hi ← read_number lo.1
   gap ← read_gap hi.1
@@ -130,7 +131,7 @@ is_item None = false
 is_item (Some rest) = ends_item rest
 
 abbrev pub begins_var : List ℕ → Bool
-begins_var bs = is_item (after (codes " v") bs)
+begins_var bs = is_item (after VARIABLE.now bs)
 
 abbrev pub begins_shape : List ℕ → Bool
 begins_shape bs = slice_index bs 0 == 32
@@ -162,12 +163,12 @@ read_place place bs = read_number bs >>= λ n. if n.0 == place then Some n.1 els
 -- the least capacity of a boot partition, which version 1 does not say
 abbrev pub read_boot : Version → List ℕ → Read ℕ
 read_boot One bs = Some (0, bs)
-read_boot Two bs = after (codes " mb") bs >>= read_number
+read_boot Two bs = after BOOT_CAPACITY.now bs >>= read_number
 
 -- the least capacities, and what is known of the variables
 unfoldable pub read_numbers : Version → List ℕ → Read Numbers
 read_numbers version bs = do
-  bs ← after (codes " m") bs
+  bs ← after CAPACITY.now bs
   m ← read_number bs
   mb ← read_boot version m.1
   vars ← read_vars version mb.1
@@ -176,9 +177,9 @@ read_numbers version bs = do
 -- what stands before them
 unfoldable pub read_bound : (place : ℕ) → List ℕ → Read (ℕ × List ℕ)
 read_bound place bs = do
-  bs ← after (codes "p") bs
+  bs ← after POINT.now bs
   bs ← read_place place bs
-  bs ← after (codes " b") bs
+  bs ← after BOUND.now bs
   base ← read_number bs
   turns ← read_turns base.1
   Some ((base.0, turns.0), turns.1)
@@ -187,7 +188,7 @@ unfoldable pub read_point : Version → (place room : ℕ) → List ℕ → Read
 read_point version place room bs = do
   bound ← read_bound place bs
   numbers ← read_numbers version bound.1
-  bs ← after (codes " s") numbers.1
+  bs ← after SHAPES.now numbers.1
   shapes ← read_shapes room bs
   bs ← after (10 ∷ []) shapes.1
   Some (
@@ -212,7 +213,7 @@ read_points version (suc count) place room bs = do
 -- how many points there are
 unfoldable pub read_count : List ℕ → Read ℕ
 read_count bs = do
-  bs ← after (codes "points") bs
+  bs ← after POINTS.now bs
   count ← read_number bs
   if nat_le count.0 max_points then (after (10 ∷ []) count.1 >>= λ bs. Some (count.0, bs)) else None
 
@@ -226,10 +227,10 @@ read_lines version bs = do
 -- the first line, which says the version
 abbrev pub version_from : Option (List ℕ) → List ℕ → Read Version
 version_from (Some rest) bs = Some (One, rest)
-version_from None bs = after (codes "sdv-cert 2\n") bs >>= λ rest. Some (Two, rest)
+version_from None bs = after VERSION_2.now bs >>= λ rest. Some (Two, rest)
 
 unfoldable pub read_version : List ℕ → Read Version
-read_version bs = version_from (after (codes "sdv-cert 1\n") bs) bs
+read_version bs = version_from (after VERSION_1.now bs) bs
 
 unfoldable pub read_certificate : List ℕ → Option Certificate
 read_certificate bs = do

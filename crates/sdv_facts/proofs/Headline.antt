@@ -7,11 +7,12 @@ use Rattle.sdv_graph.specs.Walk.{Pair, Ending, Walk}
 use Rattle.sdv_card.specs.Card.{Card}
 use Rattle.sdv_card.specs.Profile.{IsAtStart}
 use Rattle.sdv_facts.specs.Facts.{PointFacts}
-use Rattle.std.specs.Prelude.{◌≡◌, List}
-use Rattle.sdv_facts.specs.Beside.{RunsWell}
+use Rattle.std.proofs.Common.{◌≡◌, inl, inr, List}
+use Rattle.sdv_facts.specs.Beside.{Walks, IsGood, RunsWell, MayStart}
 use Rattle.sdv_facts.specs.Bounds.{bound_of}
 use Rattle.sdv_facts.specs.Closed.{PointsMatch, Closed}
 use Rattle.sdv_facts.specs.Stands.{EachIsMade, PointsStepWell, StepsWell}
+use Rattle.sdv_facts.proofs.AnyStart.{runs_anywhere, made_anywhere}
 use Rattle.sdv_facts.proofs.RunLaws.{runs_well, each_is_made, text_runs_well}
 use Rattle.sdv_facts.proofs.StepLaws.{Laws, laws_of, points_step_well, steps_well}
 use Rattle.sdv_facts.proofs.SuitLaws.{each_action_suits}
@@ -36,3 +37,19 @@ module _ (g : Graph) (ps : List PointFacts) (laws : Laws g.kind) (sound : IsSoun
   -- and every run of the script's text
   pub each_walk : (names : Declared) (script : Statements) → HasWalks names script g → RunsWell g.kind (Walk g.kind names script) (bound_of g ps)
   each_walk names script walks = text_runs_well g ps names script laws sound.ends sound.nested (each_action_suits g sound) walks closed
+
+  -- THE CARDS beside which a run may start: those before their first command, and all where the script begins with CMD0
+
+  abbrev paths : Walks
+  paths e es = Path g.kind g.points e (begin g) es
+
+  pub good_from : (c : Card) → g.kind ≡ c.kind → MayStart g.begins c → (e : Ending) (es : List Pair) → Path g.kind g.points e (begin g) es
+      → IsGood (bound_of g ps) e es c
+  good_from c kind (inl start) e es path = each_path.good c kind start e es path
+  good_from c kind (inr (is, profile)) e es path =
+      (runs_anywhere g.kind paths (bound_of g ps) (sound.begun is) each_path).good c kind profile e es path
+
+  pub made_from : (c : Card) → g.kind ≡ c.kind → MayStart g.begins c → (e : Ending) (es : List Pair) → Path g.kind g.points e (begin g) es
+      → EachIsMade g.kind es c
+  made_from c kind (inl start) e es path = each_event c kind start e es path
+  made_from c kind (inr (is, profile)) e es path = made_anywhere g.kind paths (sound.begun is) each_event c kind profile e es path

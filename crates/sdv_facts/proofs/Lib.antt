@@ -1,4 +1,5 @@
 pub mod AddressLaws
+pub mod AnyStart
 pub mod ArgumentLaws
 pub mod BootLaws
 pub mod EdgeLaws

@@ -1,5 +1,5 @@
 -- Where the facts of a closed certificate hold, each event is legal and in bounds, and after it the facts of the target hold.
-use Rattle.std.proofs.Common.{◌≡◌, ℕ, zero, suc, ◌<◌, ◌≤◌, ◌%◌, refl, sym, ap, ◌∙◌, subst, arith, Bool, true, false, not, List, [], ◌∷◌, Option, Some, None, length}
+use Rattle.std.proofs.Common.{◌≡◌, ℕ, zero, suc, ◌<◌, ◌≤◌, refl, sym, ap, ◌∙◌, subst, arith, Bool, true, false, not, List, [], ◌∷◌, Option, Some, None, length}
 use Rattle.std.specs.Prelude.{slice_get, IfSome, if◌then◌else◌, ◌&&◌, nat_lt, nat_le, slice_index}
 use Rattle.std.proofs.lemmas.List.{length-set}
 use Rattle.std.proofs.lemmas.Option.{slice_get_within}
@@ -20,7 +20,7 @@ use Rattle.sdv_card.specs.declared.state.State.TheVariants.{Tran, Data, Rcv}
 use Rattle.sdv_card.specs.declared.state.Transfer.{Transfer}
 use Rattle.sdv_card.specs.declared.state.Transfer.TheVariants.{ReadDue, OpenReadDue, ScrDue, SdStatusDue, ExtCsdDue, WriteDue, OpenWriteDue}
 use Rattle.sdv_card.specs.Card.{Card}
-use Rattle.sdv_card.specs.Code.{digits, state_of}
+use Rattle.sdv_card.specs.Code.{digits}
 use Rattle.sdv_card.specs.CommandTable.{order_of, argument_of, argument_or_none, order_argument, addressed_blocks}
 use Rattle.sdv_card.specs.Guards.{passes}
 use Rattle.sdv_card.specs.Host.{Host, host_after, host_after_order}
@@ -40,6 +40,7 @@ use Rattle.sdv_card.specs.Step.{Step}
 use Rattle.sdv_card.specs.Taken.{SameCard}
 use Rattle.sdv_card.proofs.Digits.{digits_law}
 use Rattle.sdv_card.proofs.Members.{here}
+use Rattle.sdv_card.proofs.PortLaws.{phase_on_card}
 use Rattle.sdv_card.proofs.TableLaws.{legal_is_exact, has_step, steps_are_outcomes, steps_are_expected, steps_keep_pairs, steps_keep_same, steps_keep_sound, steps_keep_on_card, asks_address, starts_hold, verdicts_hold}
 use Rattle.sdv_graph.specs.declared.graph.Target.{Target}
 use Rattle.sdv_graph.specs.declared.tree.Address.{Address}
@@ -216,13 +217,8 @@ register_blocks s t e = absurd (cc)
 
 -- THE TRANSFER STATE
 
-state_digit : (n : ℕ) → state_of (n % 16) ≡ (digits n).state
-unfolding digits
-state_digit n = refl
-
-in_tran : (k : Kind) (c : Card) (h : Host) → IsPair k c h → pair_code c h % 16 ≡ 4 → c.state ≡ Tran
-in_tran k c h pair e =
-    sym (ap (λ f. f.state) (digits_law (view c h) pair.flags pair.card.preset)) ∙ sym (state_digit (pair_code c h)) ∙ ap state_of e
+in_tran : (k : Kind) (c : Card) (h : Host) → IsPair k c h → (digits (pair_code c h)).state ≡ Tran → c.state ≡ Tran
+in_tran k c h pair e = sym (ap (λ f. f.state) (digits_law (view c h) pair.flags pair.card.preset)) ∙ e
 
 and_last : (b : Bool) → b && true ≡ b
 and_last true = refl
@@ -289,7 +285,7 @@ module _ (g : Graph) (ps : List PointFacts) (laws : Laws g.kind) (points : Point
       let pair : IsPair k c h = at.honest.pair in
       let fine : EventLegal e c = (laws.legal_is_exact e c h pair made).1 legal in
       let within : InBounds e c = bounds fine in (
-        record { pair = pair; made = made; legal = fine; bounds = within; on_card = at.on_card },
+        record { pair = pair; made = made; legal = fine; bounds = within; on_card = phase_on_card e c at.on_card },
         λ returned u step.
             let h' : Host = host_after k e returned h in
             let after : IsPair k u h' = laws.steps_keep_pairs e c h returned u pair made step in

@@ -1,11 +1,12 @@
 -- A RUN: a walk of a script whose events are steps of one card. What is asked of every run of an accepted script.
--- A card is one of the profile, before its first command; which steps it takes is open.
-use Rattle.std.specs.Prelude.{◌≡◌, ◌+◌, ◌≤◌, ℕ, List, [], ◌∷◌, ◌++◌, length}
+-- A card is one of the profile, before its first command, or in any state where the script begins with CMD0; which steps
+-- it takes is open.
+use Rattle.std.specs.Prelude.{◌≡◌, ◌+◌, ◌≤◌, ◌⊎◌, Bool, true, ℕ, List, [], ◌∷◌, ◌++◌, length}
 use Rattle.sdv_registers.specs.declared.kind.Kind.{Kind}
 use Rattle.sdv_card.specs.declared.state.State.TheVariants.{Tran}
 use Rattle.sdv_card.specs.Card.{Card}
 use Rattle.sdv_card.specs.Legal.{EventLegal, InBounds}
-use Rattle.sdv_card.specs.Profile.{IsAtStart}
+use Rattle.sdv_card.specs.Profile.{IsOfProfile, IsAtStart}
 use Rattle.sdv_card.specs.ScriptEvent.{ScriptEvent, SendCommand, Return}
 use Rattle.sdv_card.specs.Step.{Step}
 use Rattle.sdv_graph.specs.Walk.{Pair, Ending, Finished, Failed, Open}
@@ -73,3 +74,13 @@ pub record RunsWell (k : Kind) (walks : Walks) (most : ℕ) : Type 0 where
   pub good : (c : Card) → k ≡ c.kind → IsAtStart c → (e : Ending) (es : List Pair) → walks e es → IsGood most e es c
   pub goes_on : (c : Card) → k ≡ c.kind → IsAtStart c → (es : List Pair) (last : Card) → walks Open es
       → StepsOf c es last → GoesOn walks es last
+
+-- So it is beside any card of the kind and of the profile, whatever its state.
+pub record RunsWellAnywhere (k : Kind) (walks : Walks) (most : ℕ) : Type 0 where
+  pub good : (c : Card) → k ≡ c.kind → IsOfProfile c → (e : Ending) (es : List Pair) → walks e es → IsGood most e es c
+  pub goes_on : (c : Card) → k ≡ c.kind → IsOfProfile c → (es : List Pair) (last : Card) → walks Open es
+      → StepsOf c es last → GoesOn walks es last
+
+-- A run may start beside a card before its first command, and beside one in any state where its script begins with CMD0.
+abbrev pub MayStart : (begins : Bool) → Card → Type 0
+MayStart begins c = IsAtStart c ⊎ ((begins ≡ true) × IsOfProfile c)

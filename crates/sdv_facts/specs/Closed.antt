@@ -1,11 +1,13 @@
 -- When a certificate is CLOSED for a graph: what it says of each point holds at the start, and goes along each edge.
 --
 -- Each clause has a name, and is asked of each shape of a point: a point without shapes is one that no run reaches.
-use Rattle.std.specs.Prelude.{◌≡◌, ◌%◌, ◌<◌, ℕ, List, [], ◌∷◌, IsTrue, IfSome, length, slice_get, MatchOption, Option, Some, None}
+use Rattle.std.specs.Prelude.{◌≡◌, ◌<◌, ℕ, List, [], ◌∷◌, IsTrue, IfSome, length, slice_get, MatchOption, Option, Some, None}
 use Rattle.sdv_registers.specs.declared.kind.Kind.{Kind}
 use Rattle.sdv_card.specs.declared.event.Event.TheVariants.{Send}
 use Rattle.sdv_card.specs.declared.shape.Shape.{Shape}
 use Rattle.sdv_card.specs.CommandTable.{addressed_blocks}
+use Rattle.sdv_card.specs.Code.{digits}
+use Rattle.sdv_card.specs.declared.state.State.TheVariants.{Tran}
 use Rattle.sdv_card.specs.LegalShapes.{legal_code}
 use Rattle.sdv_card.specs.Lists.{May}
 use Rattle.sdv_card.specs.Shapes.{start_codes}
@@ -52,9 +54,9 @@ abbrev pub BoundRule : List PointFacts → Point → PointFacts → Rule
 BoundRule ps place p pass t s ns = IfSome (slice_get ps t.to)
     (λ q. BoundFalls p q place.most (commands_of place.action) pass t)
 
--- EndState: the card is not in the transfer state, which has the number 4, at a `done`
+-- EndState: the card is not in the transfer state at a `done`
 abbrev pub EndsAt : Action → Shape → Type 0
-EndsAt (stops Finished) s = s.0 % 16 ≡ 4
+EndsAt (stops Finished) s = (digits s.0).state ≡ Tran
 EndsAt action s = Unit {0}
 
 abbrev pub HoldsAt : Clause → Kind → List PointFacts → Point → PointFacts → Shape → Type 0

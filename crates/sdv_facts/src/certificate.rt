@@ -10,6 +10,9 @@ use crate::set_table::SetTable;
 use arrayvec::ArrayVec;
 use std::marker::Model;
 
+/// The text of a certificate has at most so many bytes.
+pub const MAX_BYTES: usize = 16_777_216;
+
 /// A certificate has at most so many shapes over all points.
 pub const MAX_SHAPES: usize = 65_536;
 

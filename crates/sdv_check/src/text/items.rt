@@ -8,7 +8,7 @@ use crate::text::cursor::{TextCursor, ends_item, expect, takes};
 use crate::text::fault::CertFault;
 use hex::FromHex;
 use sdv_card::Shape;
-use sdv_facts::{VarFacts, Version};
+use sdv_facts::{VarFacts, Version, words};
 use sdv_graph::MAX_NUMBER;
 use sdv_text::{capped_value, digits_len};
 
@@ -42,7 +42,7 @@ pub fn number(at: &mut TextCursor<'_>) -> Result<u64, CertFault>
 fn gap(at: &mut TextCursor<'_>) -> Result<Option<u64>, CertFault>
     ensures { Gives (λ x. (x, at.new.rest.now)) result (read_gap at.old.rest.now) }
 {
-    if takes(at, b" -") {
+    if takes(at, words::NO_GAP) {
         return Ok(None);
     }
     Ok(Some(number(at)?))
@@ -64,7 +64,7 @@ fn boot_gap(version: Version, at: &mut TextCursor<'_>) -> Result<Option<u64>, Ce
 pub fn variable(version: Version, at: &mut TextCursor<'_>) -> Result<VarFacts, CertFault>
     ensures { Gives (λ x. (x, at.new.rest.now)) result (read_var version at.old.rest.now) }
 {
-    expect(at, b" v")?;
+    expect(at, words::VARIABLE)?;
     let lo = number(at)?;
     let hi = number(at)?;
     let gap = gap(at)?;

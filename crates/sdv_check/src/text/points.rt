@@ -12,7 +12,7 @@ use crate::text::fault::CertFault;
 use crate::text::items::{number, shape, variable};
 use arrayvec::ArrayVec;
 use sdv_card::Shape;
-use sdv_facts::{Facts, MAX_SHAPES, Numbers, PointFacts, SetTable, VarFacts, Version};
+use sdv_facts::{Facts, MAX_SHAPES, Numbers, PointFacts, SetTable, VarFacts, Version, words};
 use std::alloc::Global;
 
 fn begins_number(at: &TextCursor<'_>) -> bool
@@ -42,9 +42,9 @@ fn turns(at: &mut TextCursor<'_>) -> Result<ArrayVec<u64, 4>, CertFault>
 fn begins_variable(at: &TextCursor<'_>) -> bool
     ensures { result ≡ begins_var at.now.rest.now }
 {
-    match at.rest {
-        [b' ', b'v', rest @ ..] => ends_item(rest),
-        _ => false,
+    match at.rest.strip_prefix(words::VARIABLE) {
+        Some(rest) => ends_item(rest),
+        None => false,
     }
 }
 
@@ -128,7 +128,7 @@ fn boot(version: Version, at: &mut TextCursor<'_>) -> Result<u64, CertFault>
     match version {
         Version::One => Ok(0),
         Version::Two => {
-            expect(at, b" mb")?;
+            expect(at, words::BOOT_CAPACITY)?;
             number(at)
         }
     }
@@ -139,7 +139,7 @@ fn boot(version: Version, at: &mut TextCursor<'_>) -> Result<u64, CertFault>
 fn numbers(version: Version, at: &mut TextCursor<'_>) -> Result<Numbers, CertFault>
     ensures { Gives (λ x. (x, at.new.rest.now)) result (read_numbers version at.old.rest.now) }
 {
-    expect(at, b" m")?;
+    expect(at, words::CAPACITY)?;
     let m = number(at)?;
     let mb = boot(version, at)?;
     let vars = variables(version, at)?;
@@ -151,9 +151,9 @@ fn numbers(version: Version, at: &mut TextCursor<'_>) -> Result<Numbers, CertFau
 fn bound(at: &mut TextCursor<'_>, place: u64) -> Result<(u64, ArrayVec<u64, 4>), CertFault>
     ensures { Gives (λ x. ((x.0, x.1.items), at.new.rest.now)) result (read_bound place at.old.rest.now) }
 {
-    expect(at, b"p")?;
+    expect(at, words::POINT)?;
     placed(at, place)?;
-    expect(at, b" b")?;
+    expect(at, words::BOUND)?;
     let base = number(at)?;
     let turns = turns(at)?;
     Ok((base, turns))
@@ -179,7 +179,7 @@ fn point(
 {
     let (base, turns) = bound(at, place)?;
     let numbers = numbers(version, at)?;
-    expect(at, b" s")?;
+    expect(at, words::SHAPES)?;
     shapes(list, room, at)?;
     line_end(at)?;
     let set = table.intern(list.as_slice())?;

@@ -11,12 +11,9 @@ use crate::text::cursor::{TextCursor, expect, line_end, takes};
 use crate::text::fault::CertFault;
 use crate::text::items::number;
 use crate::text::points::{NamedPoints, points};
-use sdv_facts::{Certificate, Version};
+use sdv_facts::{Certificate, MAX_BYTES, Version, words};
 use sdv_graph::MAX_STATEMENTS;
 use std::alloc::Global;
-
-/// A text has at most so many bytes.
-pub const MAX_BYTES: usize = 16_777_216;
 
 /// The certificate that a text is.
 ///
@@ -46,7 +43,7 @@ fn count(at: &mut TextCursor<'_>) -> Result<u64, CertFault>
     ensures read { Gives (λ x. (x, at.new.rest.now)) result (read_count at.old.rest.now) }
     ensures few { IfOk result (λ x. x ≤ max_points) }
 {
-    expect(at, b"points")?;
+    expect(at, words::POINTS)?;
     let count = number(at)?;
     if count > MAX_STATEMENTS as u64 {
         return Err(CertFault::Limit);
@@ -80,10 +77,10 @@ fn version(text: &[u8]) -> Result<(Version, TextCursor<'_>), CertFault>
         rest: text,
         line: 2,
     };
-    if takes(&mut at, b"sdv-cert 1\n") {
+    if takes(&mut at, words::VERSION_1) {
         return Ok((Version::One, at));
     }
-    if takes(&mut at, b"sdv-cert 2\n") {
+    if takes(&mut at, words::VERSION_2) {
         return Ok((Version::Two, at));
     }
     Err(CertFault::Header)
