@@ -1,5 +1,5 @@
 -- THE THEOREM for a run over a port: a batch that ran to its end served its requests as a plain disk.
-use Rattle.std.proofs.Common.{◌≡◌, ℕ, refl, sym, ap, ◌∙◌, subst, List, [], ◌∷◌, ◌++◌, Option}
+use Rattle.std.proofs.Common.{◌≡◌, ℕ, refl, sym, ap, ◌∙◌, subst, true, List, [], ◌∷◌, ◌++◌, Option}
 use Rattle.std.specs.Prelude.{Ok, Err}
 use Rattle.std.specs.List.{concat}
 use Rattle.std.specs.Io.KnownBytes.{Appends}
@@ -10,12 +10,15 @@ use Rattle.sdv_card.specs.declared.answer.DataEnd.TheVariants as ends
 use Rattle.sdv_card.specs.Card.{Card}
 use Rattle.sdv_card.specs.Port.{KeepsTables}
 use Rattle.sdv_card.specs.ScriptEvent.{Return, BlocksIn}
+use Rattle.sdv_graph.specs.Begins.{begins}
 use Rattle.sdv_graph.specs.Graph.{Graph}
+use Rattle.sdv_graph.specs.Tree.{Declared}
 use Rattle.sdv_graph.specs.Walk.{Pair, Ending, Open, Walk}
 use Rattle.sdv_script.specs.Lines.{statement_lines}
 use Rattle.sdv_script.specs.Script.{IsScript}
 use Rattle.sdv_script.proofs.ScriptLaws.{one_tree_lem}
 use Rattle.sdv_facts.specs.Facts.{PointFacts}
+use Rattle.sdv_facts.proofs.AnyStart.{profile_of}
 use Rattle.sdv_facts.specs.Bounds.{bound_of}
 use Rattle.sdv_facts.specs.Closed.{Closed}
 use Rattle.sdv_check.specs.declared.fault.CheckFault.{CheckFault}
@@ -36,7 +39,7 @@ use Rattle.sdv_block.specs.Disk.{after_batch, greatest_end}
 use Rattle.sdv_block.specs.Served.{blocks_in, blocks_read, disk_of, EndsAs, ServedBatch}
 use Rattle.sdv_block.specs.ServedOver.{ServedOver, KeptOver}
 use Rattle.sdv_block.specs.Serves.{IsCertified, RanWhole, RanOpen}
-use Rattle.sdv_block.proofs.BatchServed.{batch_served}
+use Rattle.sdv_block.proofs.BatchServed.{batch_begins, batch_served}
 
 -- a certificate that is closed fails by no clause
 pub no_fault : (g : Graph) (ps : List PointFacts) (fault : CheckFault) → Closed g ps → Fails g ps fault → ⊥
@@ -74,11 +77,11 @@ module _ (k : Kind) (rs : List Request) (g : Graph) (is : IsScript (batch_script
   kind_is : g.kind ≡ k
   kind_is = of.graph.kind_same ∙ ap (λ names. names.kind) same_tree.0
 
-  served_by : {S : Type 0} (steps : Steps S) (card : S → Option Card) (most : ℕ) (end : End) (w w' : World S) (c : Card) → ShowsStart card k w.port c →
+  served_by : {S : Type 0} (steps : Steps S) (card : S → Option Card) (most : ℕ) (end : End) (w w' : World S) (c : Card) → ShowsStart card k true w.port c →
       (ran : Ended steps g end w w') → OnCard card most (ending_of end) ran.events c w'.port → ServedOver card rs (ending_of end) c w w'
   served_by steps card most end w w' c start ran b =
       let s : ServedBatch rs (ending_of end) ran.events c b.last =
-      batch_served k rs most (ending_of end) ran.events c b.last start.kind start.start (walk_of (ending_of end) ran.events ran.walk) b.steps b.good in
+      batch_served k rs most (ending_of end) ran.events c b.last start.kind (profile_of true c start.start) (walk_of (ending_of end) ran.events ran.walk) b.steps b.good in
       record {
         last = b.last;
         shown = b.shown;
@@ -91,16 +94,20 @@ module _ (k : Kind) (rs : List Request) (g : Graph) (is : IsScript (batch_script
         beyond = s.beyond;
       }
 
-  kept_by : {S : Type 0} (steps : Steps S) (card : S → Option Card) (most : ℕ) (fault : RunFault) (w w' : World S) (c : Card) → ShowsStart card k w.port c →
+  kept_by : {S : Type 0} (steps : Steps S) (card : S → Option Card) (most : ℕ) (fault : RunFault) (w w' : World S) (c : Card) → ShowsStart card k true w.port c →
       (ran : Stopped steps g fault w w') → OnCard card most Open ran.events c w'.port → KeptOver card rs c w'
   kept_by steps card most fault w w' c start ran b =
       let s : ServedBatch rs Open ran.events c b.last =
-      batch_served k rs most Open ran.events c b.last start.kind start.start (walk_of Open ran.events ran.walk) b.steps b.good in
+      batch_served k rs most Open ran.events c b.last start.kind (profile_of true c start.start) (walk_of Open ran.events ran.walk) b.steps b.good in
       record { last = b.last; shown = b.shown; outside = s.outside; boot = s.boot }
 
-  -- the kind of the card is that of the graph
-  starts_so : {S : Type 0} (card : S → Option Card) (s : S) (c : Card) → ShowsStart card k s c → ShowsStart card g.kind s c
-  starts_so card s c start = subst (λ k. ShowsStart card k s c) (sym kind_is) start
+  begins_is : g.begins ≡ true
+  begins_is =
+      of.graph.begins_same ∙ ap (λ (n : Declared). begins n.kind of.script.body) same_tree.0 ∙ ap (begins k) same_tree.1 ∙ batch_begins k (greatest_end rs) rs
+
+  -- the kind of the card is that of the graph, which begins with CMD0
+  starts_so : {S : Type 0} (card : S → Option Card) (s : S) (c : Card) → ShowsStart card k true s c → ShowsStart card g.kind g.begins s c
+  starts_so card s c start = subst (λ b. ShowsStart card g.kind b s c) (sym begins_is) (subst (λ k. ShowsStart card k true s c) (sym kind_is) start)
 
   -- A RUN over a port that keeps the tables of the card that it shows
   module _ {S : Type 0} (steps : Steps S) (card : S → Option Card) (keeps : KeepsTables steps card) (certified : IsCertified g) (w w' : World S) where

@@ -62,7 +62,7 @@ pub record Served (rs : List Request) (e : Ending) (es : List Pair) (c last : Ca
   pub outside : SameOutside rs (disk_blocks c) (disk_blocks last)
   pub boot : SameBoot c last
 
--- A walk of a whole batch, from a card before its first command to another.
+-- A walk of a whole batch, from a card in any state to another.
 pub record ServedBatch (rs : List Request) (e : Ending) (es : List Pair) (c last : Card) : Type 0 where
   -- whatever is left of the input
   pub ends : (left : List Block) →

@@ -1,5 +1,5 @@
 -- WHAT `serve` ANSWERS: the end of a whole run of the batch's text, or why there is none and what happened then.
-use Rattle.std.specs.Prelude.{◌≡◌, ℕ, List, Option, Some, Result, Ok, Err}
+use Rattle.std.specs.Prelude.{◌≡◌, true, ℕ, List, Option, Some, Result, Ok, Err}
 use Rattle.sdv_registers.specs.declared.kind.Kind.{Kind}
 use Rattle.sdv_card.specs.Card.{Card}
 use Rattle.sdv_graph.specs.Graph.{Graph}
@@ -31,13 +31,13 @@ use Rattle.sdv_block.specs.BatchText.{batch_script}
 use Rattle.sdv_block.specs.ServedOver.{ServedOver, KeptOver}
 
 -- A whole run of the text: its events, its output and its trace, with this end. Over a port that shows a card of the
--- profile, of the kind, before its first command, it served the requests as a plain disk does.
+-- profile, of the kind, in any state, it served the requests as a plain disk does.
 pub record RanWhole {S : Type 0} (steps : Steps S) (card : S → Option Card) (k : Kind) (rs : List Request) (end : End)
     (w w' : World S) : Type 0 where
   pub graph : Graph
   pub of_text : IsGraphOfText (batch_script k rs).text graph
   pub ran : Ended steps graph end w w'
-  pub served : (c : Card) → ShowsStart card k w.port c → ∥ ServedOver card rs (ending_of end) c w w' ∥₁
+  pub served : (c : Card) → ShowsStart card k true w.port c → ∥ ServedOver card rs (ending_of end) c w w' ∥₁
 
 -- An open run of the text, for this reason. Over such a port no answer is refused, and no block
 -- changed that no request writes.
@@ -46,8 +46,8 @@ pub record RanOpen {S : Type 0} (steps : Steps S) (card : S → Option Card) (k 
   pub graph : Graph
   pub of_text : IsGraphOfText (batch_script k rs).text graph
   pub ran : Stopped steps graph fault w w'
-  pub kept : (c : Card) → ShowsStart card k w.port c → ∥ KeptOver card rs c w' ∥₁
-  pub no_reply : (c : Card) → ShowsStart card k w.port c → fault ≡ Reply → ⊥
+  pub kept : (c : Card) → ShowsStart card k true w.port c → ∥ KeptOver card rs c w' ∥₁
+  pub no_reply : (c : Card) → ShowsStart card k true w.port c → fault ≡ Reply → ⊥
 
 -- a certificate is closed for the graph
 pub record IsCertified (g : Graph) : Type 0 where

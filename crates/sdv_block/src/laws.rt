@@ -7,7 +7,7 @@ pub fn batches_are_scripts()
     ensures { BatchesAreScripts }
 {}
 
-/// Every run of a batch's script beside a card of the profile does what a plain disk does.
+/// Every run of a batch's script beside a card of the profile, in any state, does what a plain disk does.
 pub fn batches_serve()
     ensures { BatchesServe }
 {}

@@ -65,8 +65,8 @@ fn certified_graph<'a>(alloc: Global, text: &'a str) -> Result<Graph<'a>, BlockF
 ///
 /// Writes take the next blocks of `input`, and the blocks that are read go to `out`, in the order of the requests;
 /// `trace` gets a line for each event. What is so of every port: what happens there is nothing, or a run of the batch's
-/// text. Where the port shows a card of the profile, of this kind, before its first command, the requests are served as
-/// a plain disk serves them: in [`End::Done`] with its blocks, its output and the input that it leaves; in a fault with
+/// text. Where the port shows a card of the profile, of this kind, in any state, the requests are served as a plain disk
+/// serves them, since the text begins with CMD0: in [`End::Done`] with its blocks, its output and the input that it leaves; in a fault with
 /// a front of its output; and never is a block changed that no request writes. The fault `beyond` comes only where a
 /// request passes the end of the disk.
 ///

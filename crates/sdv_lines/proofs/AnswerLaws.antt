@@ -1,6 +1,6 @@
 -- What the text of an answer tells, and what it does not.
 use Rattle.std.proofs.Common.{◌≡◌, ℕ, ◌*◌, true, false, nat_eq, List, ◌++◌, length, take, drop, Some, None, Result, Ok, Err, refl, sym, ap, ◌∙◌, subst}
-use Rattle.std.specs.Prelude.{◌≢◌, MatchResult, codes}
+use Rattle.std.specs.Prelude.{◌≢◌, MatchResult}
 use Rattle.std.specs.Cmp.Lexicographic.{pointwise}
 use Rattle.hex.specs.declared.error.FromHexError.{FromHexError}
 use Rattle.hex.specs.Hex.{decode_sized}
@@ -13,7 +13,7 @@ use Rattle.sdv_frames.specs.declared.reply.Reply.{Reply}
 use Rattle.sdv_card.specs.declared.answer.Answer.{Answer}
 use Rattle.sdv_card.specs.declared.answer.Answer.TheVariants as answers
 use Rattle.sdv_lines.specs.Texts.{AreDigits}
-use Rattle.sdv_lines.specs.Answers.{IsReplyOf, TellsReply, TellsAnswer}
+use Rattle.sdv_lines.specs.Answers.{IsReplyOf, SaysLost, TellsReply, TellsAnswer}
 
 -- FORMATS
 
@@ -60,26 +60,26 @@ not_decoded format text digits out bytes n d r fault t is m err len reply =
 -- WORDS
 
 -- a response that was waited for and is told by no word and no format
-pub not_told : (expect : Expect) (text : List ℕ) → (text ≡ codes "timeout" → ⊥) → (text ≡ codes "damaged" → ⊥)
+pub not_told : (expect : Expect) (text : List ℕ) → (SaysLost text → ⊥)
     → ((reply : Reply) → TellsReply expect reply text → ⊥) → expect ≢ expects.Nothing → (answer : Answer) → TellsAnswer expect answer text → ⊥
-not_told expects.Nothing text a b r n answer t = n refl
-not_told (expects.R1 i) text a b r n answers.Sent t = t
-not_told (expects.R1 i) text a b r n answers.TimeOut t = a t
-not_told (expects.R1 i) text a b r n (answers.Damaged fault) t = b t.1
-not_told (expects.R1 i) text a b r n (answers.Reply reply) t = r reply t
-not_told expects.R2 text a b r n answers.Sent t = t
-not_told expects.R2 text a b r n answers.TimeOut t = a t
-not_told expects.R2 text a b r n (answers.Damaged fault) t = b t.1
-not_told expects.R2 text a b r n (answers.Reply reply) t = r reply t
-not_told expects.R3 text a b r n answers.Sent t = t
-not_told expects.R3 text a b r n answers.TimeOut t = a t
-not_told expects.R3 text a b r n (answers.Damaged fault) t = b t.1
-not_told expects.R3 text a b r n (answers.Reply reply) t = r reply t
-not_told expects.R6 text a b r n answers.Sent t = t
-not_told expects.R6 text a b r n answers.TimeOut t = a t
-not_told expects.R6 text a b r n (answers.Damaged fault) t = b t.1
-not_told expects.R6 text a b r n (answers.Reply reply) t = r reply t
-not_told expects.R7 text a b r n answers.Sent t = t
-not_told expects.R7 text a b r n answers.TimeOut t = a t
-not_told expects.R7 text a b r n (answers.Damaged fault) t = b t.1
-not_told expects.R7 text a b r n (answers.Reply reply) t = r reply t
+not_told expects.Nothing text l r n answer t = n refl
+not_told (expects.R1 i) text l r n answers.Sent t = t
+not_told (expects.R1 i) text l r n answers.TimeOut t = l t
+not_told (expects.R1 i) text l r n (answers.Damaged fault) t = t
+not_told (expects.R1 i) text l r n (answers.Reply reply) t = r reply t
+not_told expects.R2 text l r n answers.Sent t = t
+not_told expects.R2 text l r n answers.TimeOut t = l t
+not_told expects.R2 text l r n (answers.Damaged fault) t = t
+not_told expects.R2 text l r n (answers.Reply reply) t = r reply t
+not_told expects.R3 text l r n answers.Sent t = t
+not_told expects.R3 text l r n answers.TimeOut t = l t
+not_told expects.R3 text l r n (answers.Damaged fault) t = t
+not_told expects.R3 text l r n (answers.Reply reply) t = r reply t
+not_told expects.R6 text l r n answers.Sent t = t
+not_told expects.R6 text l r n answers.TimeOut t = l t
+not_told expects.R6 text l r n (answers.Damaged fault) t = t
+not_told expects.R6 text l r n (answers.Reply reply) t = r reply t
+not_told expects.R7 text l r n answers.Sent t = t
+not_told expects.R7 text l r n answers.TimeOut t = l t
+not_told expects.R7 text l r n (answers.Damaged fault) t = t
+not_told expects.R7 text l r n (answers.Reply reply) t = r reply t

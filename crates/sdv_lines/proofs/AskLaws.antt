@@ -3,23 +3,23 @@ use Rattle.std.proofs.Common.{◌≡◌, ℕ, List, Option, Result, Ok, Err, ref
 use Rattle.std.specs.Io.KnownBytes.{Appends}
 use Rattle.sdv_card.specs.Port.{Call}
 use Rattle.sdv_card.specs.ScriptEvent.{Return}
-use Rattle.sdv_lines.specs.declared.fault.LineFault.{LineFault}
-use Rattle.sdv_lines.specs.declared.fault.LineFault.TheVariants as faults
+use Rattle.sdv_lines.specs.declared.fault.ProtocolFault.{ProtocolFault}
+use Rattle.sdv_lines.specs.declared.fault.ProtocolFault.TheVariants as faults
 use Rattle.sdv_lines.specs.Requests.{request_of}
 use Rattle.sdv_lines.specs.Streams.{AppendsFront, Unheard, Hears, Failed, Asks}
 
-pub unsent : (call : Call) (a r r' : Option (List ℕ)) (fault : LineFault) → (fault ≡ faults.Write) × AppendsFront r r' (request_of call)
+pub unsent : (call : Call) (a r r' : Option (List ℕ)) (fault : ProtocolFault) → (fault ≡ faults.Write) × AppendsFront r r' (request_of call)
     → Failed fault call a a r r'
 unsent call a r r' fault (is, front) = subst (λ f. Failed f call a a r r') (sym is) (front, refl)
 
-unheard : (call : Call) (a a' r r' : Option (List ℕ)) (fault : LineFault) → Appends r r' (request_of call) → Unheard fault call a a'
+unheard : (call : Call) (a a' r r' : Option (List ℕ)) (fault : ProtocolFault) → Appends r r' (request_of call) → Unheard fault call a a'
     → Failed fault call a a' r r'
 unheard call a a' r r' faults.Write p u = absurd u
 unheard call a a' r r' faults.Read p u = (p, u)
 unheard call a a' r r' faults.Closed p u = (p, u)
 unheard call a a' r r' faults.Line p u = (p, u)
 
-pub then_heard : {A : Type 0} (call : Call) (returns : A → Return) (a a' r r' : Option (List ℕ)) (result : Result A LineFault)
+pub then_heard : {A : Type 0} (call : Call) (returns : A → Return) (a a' r r' : Option (List ℕ)) (result : Result A ProtocolFault)
     → Appends r r' (request_of call) → Hears call returns a a' result → Asks call returns a a' r r' result
 then_heard call returns a a' r r' (Ok x) p h = (p, h)
 then_heard call returns a a' r r' (Err fault) p h = unheard call a a' r r' fault p h

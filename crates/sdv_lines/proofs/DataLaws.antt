@@ -1,14 +1,15 @@
 -- Answers to phases from the card: a word, and lines of digits.
 use Rattle.std.proofs.Common.{◌≡◌, ℕ, ◌≤◌, List, [], ◌∷◌, ◌++◌, length, Option, Some, None, sym, ap, ◌∙◌, subst, append_assoc, arith}
-use Rattle.std.specs.Prelude.{IfSome, codes}
+use Rattle.std.specs.Prelude.{IfSome}
 use Rattle.std.specs.Io.KnownBytes.{Consumes}
 use Rattle.sdv_card.specs.declared.answer.DataEnd.TheVariants as ends
 use Rattle.sdv_card.specs.Card.{Block}
 use Rattle.sdv_card.specs.Port.{DataIn, DataInRegister}
 use Rattle.sdv_card.specs.ScriptEvent.{BlocksIn, RegisterIn}
 use Rattle.sdv_trace.specs.Trace.{line_feed}
-use Rattle.sdv_lines.specs.declared.fault.LineFault.{LineFault}
-use Rattle.sdv_lines.specs.declared.fault.LineFault.TheVariants as faults
+use Rattle.sdv_lines.specs.declared.words.TheConstants as words
+use Rattle.sdv_lines.specs.declared.fault.ProtocolFault.{ProtocolFault}
+use Rattle.sdv_lines.specs.declared.fault.ProtocolFault.TheVariants as faults
 use Rattle.sdv_lines.specs.Texts.{IsText, lines_of}
 use Rattle.sdv_lines.specs.Reading.{HasNoDigits, ReadsNoDigits, DigitsRead, HasNoBlocks, ReadsNoBlocks, BlocksRead}
 use Rattle.sdv_lines.specs.Streams.{Heard, HasNoAnswer, Unheard}
@@ -16,12 +17,12 @@ use Rattle.sdv_lines.proofs.LineLaws.{consumes_more}
 use Rattle.sdv_lines.proofs.HeardLaws.{split_one, nonempty, first_line}
 use Rattle.sdv_lines.proofs.DigitLaws.{behind_line}
 
-not_both : (text : List ℕ) → text ≡ codes "ok" → text ≡ codes "cut" → ⊥
+not_both : (text : List ℕ) → text ≡ words.OK.now → text ≡ words.CUT.now → ⊥
 not_both text a b = let clash : 2 ≡ 3 = ap length (sym a ∙ b) in absurd (omega (arith, clash))
 
 -- THE REGISTER
 
-pub heard_register : (lines count : ℕ) (old mid new : Option (List ℕ)) (text bytes : List ℕ) → IsText text → text ≡ codes "ok"
+pub heard_register : (lines count : ℕ) (old mid new : Option (List ℕ)) (text bytes : List ℕ) → IsText text → text ≡ words.OK.now
     → Consumes old mid (text ++ line_feed) → DigitsRead mid new bytes × (length bytes ≡ count)
     → Heard (DataInRegister lines count) (RegisterIn ends.Ok bytes) old new
 heard_register lines count old mid new text bytes t ok c (d, n) =
@@ -33,7 +34,7 @@ heard_register lines count old mid new text bytes t ok c (d, n) =
           (consumes_more old mid new (text ++ line_feed) (d.text ++ line_feed) c d.read);
     }
 
-register_none : (lines count : ℕ) (text ys xs : List ℕ) → IsText text → text ≡ codes "ok" → xs ≡ (text ++ line_feed) ++ ys → HasNoDigits count ys
+register_none : (lines count : ℕ) (text ys xs : List ℕ) → IsText text → text ≡ words.OK.now → xs ≡ (text ++ line_feed) ++ ys → HasNoDigits count ys
     → HasNoAnswer (DataInRegister lines count) xs
 register_none lines count text ys xs t ok c n [] rest returned a e = nonempty (DataInRegister lines count) returned a.says
 register_none lines count text ys xs t ok c n (first ∷ digits ∷ []) rest (RegisterIn ends.Ok bytes) a e =
@@ -45,13 +46,13 @@ register_none lines count text ys xs t ok c n (first ∷ []) rest (RegisterIn en
     not_both text ok (sym same.0 ∙ a.says.0)
 register_none lines count text ys xs t ok c n texts rest returned a e = absurd a.says
 
-register_if : (lines count : ℕ) (old mid : Option (List ℕ)) (text : List ℕ) → IsText text → text ≡ codes "ok" → Consumes old mid (text ++ line_feed)
+register_if : (lines count : ℕ) (old mid : Option (List ℕ)) (text : List ℕ) → IsText text → text ≡ words.OK.now → Consumes old mid (text ++ line_feed)
     → IfSome mid (HasNoDigits count) → IfSome old (HasNoAnswer (DataInRegister lines count))
 register_if lines count None mid text t ok c n = tt
 register_if lines count (Some xs) None text t ok c n = absurd c
 register_if lines count (Some xs) (Some ys) text t ok c n = register_none lines count text ys xs t ok c n
 
-pub unheard_register : (lines count : ℕ) (old mid new : Option (List ℕ)) (text : List ℕ) (fault : LineFault) → IsText text → text ≡ codes "ok"
+pub unheard_register : (lines count : ℕ) (old mid new : Option (List ℕ)) (text : List ℕ) (fault : ProtocolFault) → IsText text → text ≡ words.OK.now
     → Consumes old mid (text ++ line_feed) → ReadsNoDigits fault count mid new → Unheard fault (DataInRegister lines count) old new
 unheard_register lines count old mid new text faults.Closed t ok c n = (register_if lines count old mid text t ok c n.0, n.1)
 unheard_register lines count old mid new text faults.Line t ok c n = register_if lines count old mid text t ok c n
@@ -60,7 +61,7 @@ unheard_register lines count old mid new text faults.Write t ok c n = absurd n
 
 -- BLOCKS
 
-pub heard_blocks : (lines count : ℕ) (old mid new : Option (List ℕ)) (text : List ℕ) (blocks : List Block) → IsText text → text ≡ codes "ok"
+pub heard_blocks : (lines count : ℕ) (old mid new : Option (List ℕ)) (text : List ℕ) (blocks : List Block) → IsText text → text ≡ words.OK.now
     → Consumes old mid (text ++ line_feed) → BlocksRead mid new blocks × (length blocks ≡ count)
     → Heard (DataIn lines count) (BlocksIn ends.Ok blocks) old new
 heard_blocks lines count old mid new text blocks t ok c (b, n) =
@@ -71,7 +72,7 @@ heard_blocks lines count old mid new text blocks t ok c (b, n) =
           (consumes_more old mid new (text ++ line_feed) (lines_of b.texts) c b.read);
     }
 
-blocks_none : (lines count : ℕ) (text ys xs : List ℕ) → IsText text → text ≡ codes "ok" → xs ≡ (text ++ line_feed) ++ ys → HasNoBlocks count ys
+blocks_none : (lines count : ℕ) (text ys xs : List ℕ) → IsText text → text ≡ words.OK.now → xs ≡ (text ++ line_feed) ++ ys → HasNoBlocks count ys
     → HasNoAnswer (DataIn lines count) xs
 blocks_none lines count text ys xs t ok c n [] rest returned a e = nonempty (DataIn lines count) returned a.says
 blocks_none lines count text ys xs t ok c n (first ∷ texts) rest (BlocksIn ends.Ok blocks) a e =
@@ -82,13 +83,13 @@ blocks_none lines count text ys xs t ok c n (first ∷ []) rest (BlocksIn ends.C
     not_both text ok (sym same.0 ∙ a.says.0)
 blocks_none lines count text ys xs t ok c n texts rest returned a e = absurd a.says
 
-blocks_if : (lines count : ℕ) (old mid : Option (List ℕ)) (text : List ℕ) → IsText text → text ≡ codes "ok" → Consumes old mid (text ++ line_feed)
+blocks_if : (lines count : ℕ) (old mid : Option (List ℕ)) (text : List ℕ) → IsText text → text ≡ words.OK.now → Consumes old mid (text ++ line_feed)
     → IfSome mid (HasNoBlocks count) → IfSome old (HasNoAnswer (DataIn lines count))
 blocks_if lines count None mid text t ok c n = tt
 blocks_if lines count (Some xs) None text t ok c n = absurd c
 blocks_if lines count (Some xs) (Some ys) text t ok c n = blocks_none lines count text ys xs t ok c n
 
-pub unheard_blocks : (lines count : ℕ) (old mid new : Option (List ℕ)) (text : List ℕ) (fault : LineFault) → IsText text → text ≡ codes "ok"
+pub unheard_blocks : (lines count : ℕ) (old mid new : Option (List ℕ)) (text : List ℕ) (fault : ProtocolFault) → IsText text → text ≡ words.OK.now
     → Consumes old mid (text ++ line_feed) → ReadsNoBlocks fault count mid new → Unheard fault (DataIn lines count) old new
 unheard_blocks lines count old mid new text faults.Closed t ok c n = (blocks_if lines count old mid text t ok c n.0, n.1)
 unheard_blocks lines count old mid new text faults.Line t ok c n = blocks_if lines count old mid text t ok c n

@@ -7,8 +7,8 @@ use Rattle.std.specs.Io.KnownBytes.{Consumes}
 use Rattle.hex.proofs.HexLemmas.{decode_of-ok}
 use Rattle.sdv_card.specs.Card.{Block}
 use Rattle.sdv_trace.specs.Trace.{line_feed}
-use Rattle.sdv_lines.specs.declared.fault.LineFault.{LineFault}
-use Rattle.sdv_lines.specs.declared.fault.LineFault.TheVariants as faults
+use Rattle.sdv_lines.specs.declared.fault.ProtocolFault.{ProtocolFault}
+use Rattle.sdv_lines.specs.declared.fault.ProtocolFault.TheVariants as faults
 use Rattle.sdv_lines.specs.Texts.{IsText, AreDigits, AreBlocks, lines_of}
 use Rattle.sdv_lines.specs.Reading.{ReadsNoLine, HasNoDigits, ReadsNoDigits, DigitsRead, HasNoBlocks, ReadsNoBlocks, BlocksRead}
 use Rattle.sdv_lines.proofs.LineLaws.{consumes_none, consumes_more}
@@ -21,7 +21,7 @@ pub behind_line : (text ys xs : List ℕ) → xs ≡ (text ++ line_feed) ++ ys �
 behind_line text ys xs e = e ∙ append_assoc text line_feed ys
 
 -- there was no line
-pub no_digits : (count : ℕ) (old new : Option (List ℕ)) (fault : LineFault) → ReadsNoLine fault old new → ReadsNoDigits fault count old new
+pub no_digits : (count : ℕ) (old new : Option (List ℕ)) (fault : ProtocolFault) → ReadsNoLine fault old new → ReadsNoDigits fault count old new
 no_digits count None new faults.Closed r = (tt, r.1)
 no_digits count (Some xs) new faults.Closed r =
     (λ text bytes rest small t a len e. not_text text rest (subst (λ (l : List ℕ). IsText l) e r.0), r.1)
@@ -109,7 +109,7 @@ next_none count (Some xs) (Some ys) done lt r n =
     let less : length done < length blocks = omega (arith, lt, len) in
     next_of r.texts others done blocks ys rest r.lines r.are q b less (sym r.read ∙ e) n
 
-pub no_more : (count : ℕ) (old mid new : Option (List ℕ)) (blocks : List Block) (i : ℕ) (fault : LineFault) → i < length blocks
+pub no_more : (count : ℕ) (old mid new : Option (List ℕ)) (blocks : List Block) (i : ℕ) (fault : ProtocolFault) → i < length blocks
     → length blocks ≡ count → BlocksRead old mid (take i blocks) → ReadsNoDigits fault 512 mid new → ReadsNoBlocks fault count old new
 no_more count old mid new blocks i faults.Closed lt len r n =
     let n_done : length (take i blocks) ≡ i = length-take-le i blocks (omega (arith, lt)) in

@@ -1,6 +1,6 @@
 -- Answers of one line, and what is none.
-use Rattle.std.proofs.Common.{◌≡◌, ℕ, ◌≤◌, List, [], ◌∷◌, ◌++◌, length, Option, Some, None, refl, sym, ap, ◌∙◌, subst, append_assoc, arith, length-append}
-use Rattle.std.specs.Prelude.{IfSome, codes}
+use Rattle.std.proofs.Common.{◌≡◌, ℕ, ◌≤◌, List, [], ◌∷◌, ◌++◌, length, Option, Some, None, refl, sym, ap, ◌∙◌, subst, inl, inr, append_assoc, arith, length-append}
+use Rattle.std.specs.Prelude.{IfSome}
 use Rattle.std.specs.Int.{w32, to_be_bytes}
 use Rattle.std.specs.Io.KnownBytes.{Consumes}
 use Rattle.hex.proofs.HexLemmas.{decode_of-ok}
@@ -18,11 +18,13 @@ use Rattle.sdv_card.specs.declared.answer.WaitEnd.TheVariants as waits
 use Rattle.sdv_card.specs.Card.{Block}
 use Rattle.sdv_card.specs.Port.{Call, Exchange, DataIn, DataInRegister, DataOut, WaitWhileBusy}
 use Rattle.sdv_card.specs.ScriptEvent.{Return, Answered, BlocksIn, RegisterIn, BlocksOut, Waited}
-use Rattle.sdv_lines.specs.declared.fault.LineFault.{LineFault}
-use Rattle.sdv_lines.specs.declared.fault.LineFault.TheVariants as faults
+use Rattle.sdv_lines.specs.declared.line.TheConstants.{LONGEST}
+use Rattle.sdv_lines.specs.declared.words.TheConstants as words
+use Rattle.sdv_lines.specs.declared.fault.ProtocolFault.{ProtocolFault}
+use Rattle.sdv_lines.specs.declared.fault.ProtocolFault.TheVariants as faults
 use Rattle.sdv_trace.specs.Trace.{line_feed}
 use Rattle.sdv_lines.specs.Texts.{IsText, lines_of}
-use Rattle.sdv_lines.specs.Answers.{IsReplyOf, IsWordOf, TellsReply, TellsAnswer, data_end_text, wait_end_text, IsAnswer}
+use Rattle.sdv_lines.specs.Answers.{IsReplyOf, IsWordOf, SaysLost, TellsReply, TellsAnswer, data_end_text, wait_end_text, IsAnswer}
 use Rattle.sdv_lines.specs.Reading.{BeginsLong, ReadsNoLine}
 use Rattle.sdv_lines.specs.Streams.{Heard, HasNoAnswer, Unheard}
 
@@ -54,40 +56,39 @@ no_longer (x ∷ t) (y ∷ front) rest back p e =
 
 -- THE FIRST LINE OF AN ANSWER HAS 1,024 BYTES AT MOST
 
-word_short : (format text : List ℕ) (word : ℕ) → length format ≡ 3 → IsWordOf format word text → length text ≤ 1024
+word_short : (format text : List ℕ) (word : ℕ) → length format ≡ 3 → IsWordOf format word text → length text ≤ LONGEST
 word_short format text word n w =
     let digits = (decode_of-ok w.reply.digits (to_be_bytes w32 word) w.reply.are).2 in
     let four : length (to_be_bytes w32 word) ≡ 4 = refl in
     omega (arith, ap length w.reply.split, length-append format w.reply.digits, digits, four, n)
 
-register_short : (format text bytes : List ℕ) → length format ≡ 3 → length bytes ≡ 15 → IsReplyOf format bytes text → length text ≤ 1024
+register_short : (format text bytes : List ℕ) → length format ≡ 3 → length bytes ≡ 15 → IsReplyOf format bytes text → length text ≤ LONGEST
 register_short format text bytes n fifteen r =
     let digits = (decode_of-ok r.digits bytes r.are).2 in
     omega (arith, ap length r.split, length-append format r.digits, digits, fifteen, n)
 
-reply_short : (expect : Expect) (reply : Reply) (text : List ℕ) → TellsReply expect reply text → length text ≤ 1024
-reply_short (expects.R1 wanted) (R1 index status) text t = word_short (codes "R1 ") text status refl t.1
-reply_short expects.R2 (R2 register) text t = register_short (codes "R2 ") text register refl t.0 t.1
-reply_short expects.R3 (R3 ocr) text t = word_short (codes "R3 ") text ocr refl t
-reply_short expects.R6 (R6 word) text t = word_short (codes "R6 ") text word refl t
-reply_short expects.R7 (R7 word) text t = word_short (codes "R7 ") text word refl t
+reply_short : (expect : Expect) (reply : Reply) (text : List ℕ) → TellsReply expect reply text → length text ≤ LONGEST
+reply_short (expects.R1 wanted) (R1 index status) text t = word_short words.R1_CAME.now text status refl t.1
+reply_short expects.R2 (R2 register) text t = register_short words.R2_CAME.now text register refl t.0 t.1
+reply_short expects.R3 (R3 ocr) text t = word_short words.R3_CAME.now text ocr refl t
+reply_short expects.R6 (R6 word) text t = word_short words.R6_CAME.now text word refl t
+reply_short expects.R7 (R7 word) text t = word_short words.R7_CAME.now text word refl t
 reply_short expect reply text t = absurd t
 
-short_word : (word text : List ℕ) → length word ≤ 1024 → text ≡ word → length text ≤ 1024
+short_word : (word text : List ℕ) → length word ≤ LONGEST → text ≡ word → length text ≤ LONGEST
 short_word word text n e = omega (arith, n, ap length e)
 
-answer_short : (expect : Expect) (answer : Answer) (text : List ℕ) → TellsAnswer expect answer text → length text ≤ 1024
-answer_short expects.Nothing answers.Sent text t = short_word (codes "-") text (omega arith) t
-answer_short (expects.R1 i) answers.TimeOut text t = short_word (codes "timeout") text (omega arith) t
-answer_short expects.R2 answers.TimeOut text t = short_word (codes "timeout") text (omega arith) t
-answer_short expects.R3 answers.TimeOut text t = short_word (codes "timeout") text (omega arith) t
-answer_short expects.R6 answers.TimeOut text t = short_word (codes "timeout") text (omega arith) t
-answer_short expects.R7 answers.TimeOut text t = short_word (codes "timeout") text (omega arith) t
-answer_short (expects.R1 i) (answers.Damaged f) text t = short_word (codes "damaged") text (omega arith) t.1
-answer_short expects.R2 (answers.Damaged f) text t = short_word (codes "damaged") text (omega arith) t.1
-answer_short expects.R3 (answers.Damaged f) text t = short_word (codes "damaged") text (omega arith) t.1
-answer_short expects.R6 (answers.Damaged f) text t = short_word (codes "damaged") text (omega arith) t.1
-answer_short expects.R7 (answers.Damaged f) text t = short_word (codes "damaged") text (omega arith) t.1
+lost_short : (text : List ℕ) → SaysLost text → length text ≤ LONGEST
+lost_short text (inl t) = short_word words.TIMEOUT.now text (omega arith) t
+lost_short text (inr t) = short_word words.DAMAGED.now text (omega arith) t
+
+answer_short : (expect : Expect) (answer : Answer) (text : List ℕ) → TellsAnswer expect answer text → length text ≤ LONGEST
+answer_short expects.Nothing answers.Sent text t = short_word words.NOTHING.now text (omega arith) t
+answer_short (expects.R1 i) answers.TimeOut text t = lost_short text t
+answer_short expects.R2 answers.TimeOut text t = lost_short text t
+answer_short expects.R3 answers.TimeOut text t = lost_short text t
+answer_short expects.R6 answers.TimeOut text t = lost_short text t
+answer_short expects.R7 answers.TimeOut text t = lost_short text t
 answer_short (expects.R1 i) (answers.Reply reply) text t = reply_short (expects.R1 i) reply text t
 answer_short expects.R2 (answers.Reply reply) text t = reply_short expects.R2 reply text t
 answer_short expects.R3 (answers.Reply reply) text t = reply_short expects.R3 reply text t
@@ -95,16 +96,16 @@ answer_short expects.R6 (answers.Reply reply) text t = reply_short expects.R6 re
 answer_short expects.R7 (answers.Reply reply) text t = reply_short expects.R7 reply text t
 answer_short expect answer text t = absurd t
 
-first_short : (call : Call) (text : List ℕ) (texts : List (List ℕ)) (returned : Return) → IsAnswer call (text ∷ texts) returned → length text ≤ 1024
+first_short : (call : Call) (text : List ℕ) (texts : List (List ℕ)) (returned : Return) → IsAnswer call (text ∷ texts) returned → length text ≤ LONGEST
 first_short (Exchange command expect) text [] (Answered answer) a = answer_short expect answer text a
-first_short (DataIn lines count) text texts (BlocksIn ends.Ok blocks) a = short_word (codes "ok") text (omega arith) a.0
-first_short (DataIn lines count) text [] (BlocksIn ends.Cut blocks) a = short_word (codes "cut") text (omega arith) a.0
-first_short (DataInRegister lines count) text (digits ∷ []) (RegisterIn ends.Ok bytes) a = short_word (codes "ok") text (omega arith) a.0
-first_short (DataInRegister lines count) text [] (RegisterIn ends.Cut bytes) a = short_word (codes "cut") text (omega arith) a.0
-first_short (DataOut lines blocks) text [] (BlocksOut ends.Ok) a = short_word (codes "ok") text (omega arith) a
-first_short (DataOut lines blocks) text [] (BlocksOut ends.Cut) a = short_word (codes "cut") text (omega arith) a
-first_short WaitWhileBusy text [] (Waited waits.Ok) a = short_word (codes "ok") text (omega arith) a
-first_short WaitWhileBusy text [] (Waited waits.Late) a = short_word (codes "late") text (omega arith) a
+first_short (DataIn lines count) text texts (BlocksIn ends.Ok blocks) a = short_word words.OK.now text (omega arith) a.0
+first_short (DataIn lines count) text [] (BlocksIn ends.Cut blocks) a = short_word words.CUT.now text (omega arith) a.0
+first_short (DataInRegister lines count) text (digits ∷ []) (RegisterIn ends.Ok bytes) a = short_word words.OK.now text (omega arith) a.0
+first_short (DataInRegister lines count) text [] (RegisterIn ends.Cut bytes) a = short_word words.CUT.now text (omega arith) a.0
+first_short (DataOut lines blocks) text [] (BlocksOut ends.Ok) a = short_word words.OK.now text (omega arith) a
+first_short (DataOut lines blocks) text [] (BlocksOut ends.Cut) a = short_word words.CUT.now text (omega arith) a
+first_short WaitWhileBusy text [] (Waited waits.Ok) a = short_word words.OK.now text (omega arith) a
+first_short WaitWhileBusy text [] (Waited waits.Late) a = short_word words.LATE.now text (omega arith) a
 first_short call text texts returned a = absurd a
 
 -- no answer has no line
@@ -151,7 +152,7 @@ pub heard_one : (call : Call) (returned : Return) (old new : Option (List ℕ)) 
 heard_one call returned old new text t c a = record { texts = text ∷ []; answers = record { lines = (t, tt); says = a }; read = c }
 
 -- no line was read
-pub unread : (call : Call) (old new : Option (List ℕ)) (fault : LineFault) → ReadsNoLine fault old new → Unheard fault call old new
+pub unread : (call : Call) (old new : Option (List ℕ)) (fault : ProtocolFault) → ReadsNoLine fault old new → Unheard fault call old new
 unread call None new faults.Closed r = (tt, r.1)
 unread call (Some xs) new faults.Closed r = (unended call xs r.0, r.1)
 unread call None new faults.Line r = tt

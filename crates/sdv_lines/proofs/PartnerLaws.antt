@@ -1,13 +1,12 @@
 -- An answer tells one return, but for the blocks or bytes of a phase that was cut.
-use Rattle.std.proofs.Common.{◌≡◌, ℕ, List, [], ◌∷◌, Option, refl, sym, ap, ◌∙◌, subst, arith}
-use Rattle.std.specs.Prelude.{◌≢◌, codes}
+use Rattle.std.proofs.Common.{◌≡◌, ℕ, List, [], ◌∷◌, Option, refl, sym, ap, ◌∙◌, subst, inl, inr, arith}
+use Rattle.std.specs.Prelude.{◌≢◌}
 use Rattle.std.specs.Int.{w32, to_be_bytes, from_be_bytes}
 use Rattle.std.proofs.lemmas.Nat.{from_be_bytes-to_be_bytes_4}
 use Rattle.hex.proofs.HexLemmas.{decode_of-same}
 use Rattle.sdv_text.specs.Fronts.{after}
 use Rattle.sdv_text.proofs.FrontLaws.{after_again, some_is}
 use Rattle.sdv_registers.specs.declared.kind.Kind.{Kind}
-use Rattle.sdv_frames.specs.declared.fault.FrameFault.TheVariants.{Crc}
 use Rattle.sdv_frames.specs.declared.reply.Expect.{Expect}
 use Rattle.sdv_frames.specs.declared.reply.Expect.TheVariants as expects
 use Rattle.sdv_frames.specs.declared.reply.Reply.{Reply}
@@ -19,13 +18,15 @@ use Rattle.sdv_card.specs.declared.answer.DataEnd.TheVariants as ends
 use Rattle.sdv_card.specs.declared.answer.WaitEnd.{WaitEnd}
 use Rattle.sdv_card.specs.declared.answer.WaitEnd.TheVariants as waits
 use Rattle.sdv_card.specs.Card.{Card, Block}
-use Rattle.sdv_card.specs.Port.{Call, Exchange, DataIn, DataInRegister, DataOut, WaitWhileBusy, Shows, Kept, KeepsTables, command_of, call_of}
+use Rattle.sdv_card.specs.Damage.{KeepsTablesOverNoise, KeptOverNoise, counts_as}
+use Rattle.sdv_card.specs.Port.{Call, Exchange, DataIn, DataInRegister, DataOut, WaitWhileBusy, Shows, KeepsTables, command_of, call_of}
 use Rattle.sdv_card.specs.ScriptEvent.{ScriptEvent, SendCommand, ReceiveBlocks, ReceiveRegister, GiveBlocks, AwaitReady, Return, Answered, BlocksIn, RegisterIn, BlocksOut, Waited}
 use Rattle.sdv_card.specs.CommandTable.{expect_of}
 use Rattle.sdv_card.specs.Modes.{line_count}
 use Rattle.sdv_card.specs.Step.{Step}
+use Rattle.sdv_lines.specs.declared.words.TheConstants as words
 use Rattle.sdv_lines.specs.Texts.{AreDigits, AreBlocks}
-use Rattle.sdv_lines.specs.Answers.{IsReplyOf, IsWordOf, TellsReply, TellsAnswer, data_end_text, wait_end_text, IsAnswer}
+use Rattle.sdv_lines.specs.Answers.{IsReplyOf, IsWordOf, SaysLost, TellsReply, TellsAnswer, data_end_text, wait_end_text, IsAnswer}
 use Rattle.sdv_lines.specs.Partner.{BothSteps, other_card, ShowsOtherCard}
 
 -- ANSWERS TO COMMANDS
@@ -45,12 +46,12 @@ word_once format text a b p q =
 reply_once : (expect : Expect) (a b : Reply) (text : List ℕ) → TellsReply expect a text → TellsReply expect b text → a ≡ b
 reply_once (expects.R1 wanted) (R1 i s) (R1 j t) text p q =
     let index : i ≡ j = p.0 ∙ sym q.0 in
-    let status : s ≡ t = word_once (codes "R1 ") text s t p.1 q.1 in
+    let status : s ≡ t = word_once words.R1_CAME.now text s t p.1 q.1 in
     cc
-reply_once expects.R2 (R2 r) (R2 s) text p q = ap R2 (bytes_once (codes "R2 ") r s text p.1 q.1)
-reply_once expects.R3 (R3 a) (R3 b) text p q = ap R3 (word_once (codes "R3 ") text a b p q)
-reply_once expects.R6 (R6 a) (R6 b) text p q = ap R6 (word_once (codes "R6 ") text a b p q)
-reply_once expects.R7 (R7 a) (R7 b) text p q = ap R7 (word_once (codes "R7 ") text a b p q)
+reply_once expects.R2 (R2 r) (R2 s) text p q = ap R2 (bytes_once words.R2_CAME.now r s text p.1 q.1)
+reply_once expects.R3 (R3 a) (R3 b) text p q = ap R3 (word_once words.R3_CAME.now text a b p q)
+reply_once expects.R6 (R6 a) (R6 b) text p q = ap R6 (word_once words.R6_CAME.now text a b p q)
+reply_once expects.R7 (R7 a) (R7 b) text p q = ap R7 (word_once words.R7_CAME.now text a b p q)
 reply_once (expects.R1 wanted) (R1 i s) b text p q = absurd q
 reply_once expects.R2 (R2 r) b text p q = absurd q
 reply_once expects.R3 (R3 a) b text p q = absurd q
@@ -73,61 +74,51 @@ reply_first expect reply text p = absurd p
 -- what a text tells, by the answer
 abbrev Uniform : Expect → Answer → List ℕ → Type 0
 Uniform expect answers.Sent text = expect ≡ expects.Nothing
-Uniform expect answers.TimeOut text = (expect ≢ expects.Nothing) × (first text ≡ 116)
-Uniform expect (answers.Damaged fault) text = (expect ≢ expects.Nothing) × (first text ≡ 100) × (fault ≡ Crc)
+Uniform expect answers.TimeOut text = (expect ≢ expects.Nothing) × (first text ≢ 82)
+Uniform expect (answers.Damaged fault) text = ⊥
 Uniform expect (answers.Reply reply) text = (expect ≢ expects.Nothing) × (first text ≡ 82) × TellsReply expect reply text
+
+lost_first : (text : List ℕ) → SaysLost text → first text ≢ 82
+lost_first text (inl t) is = let clash : 116 ≡ 82 = sym (ap first t) ∙ is in absurd (omega (arith, clash))
+lost_first text (inr t) is = let clash : 100 ≡ 82 = sym (ap first t) ∙ is in absurd (omega (arith, clash))
 
 uniform : (expect : Expect) (answer : Answer) (text : List ℕ) → TellsAnswer expect answer text → Uniform expect answer text
 uniform expects.Nothing answers.Sent text t = refl
 uniform expects.Nothing answer text t = absurd t
-uniform (expects.R1 i) answers.Sent text t = absurd t
-uniform (expects.R1 i) answers.TimeOut text t = (λ e. absurd (cc), ap first t)
-uniform (expects.R1 i) (answers.Damaged fault) text t = (λ e. absurd (cc), ap first t.1, t.0)
+uniform (expects.R1 i) answers.TimeOut text t = (λ e. absurd (cc), lost_first text t)
 uniform (expects.R1 i) (answers.Reply reply) text t = (λ e. absurd (cc), reply_first (expects.R1 i) reply text t, t)
-uniform expects.R2 answers.Sent text t = absurd t
-uniform expects.R2 answers.TimeOut text t = (λ e. absurd (cc), ap first t)
-uniform expects.R2 (answers.Damaged fault) text t = (λ e. absurd (cc), ap first t.1, t.0)
+uniform expects.R2 answers.TimeOut text t = (λ e. absurd (cc), lost_first text t)
 uniform expects.R2 (answers.Reply reply) text t = (λ e. absurd (cc), reply_first expects.R2 reply text t, t)
-uniform expects.R3 answers.Sent text t = absurd t
-uniform expects.R3 answers.TimeOut text t = (λ e. absurd (cc), ap first t)
-uniform expects.R3 (answers.Damaged fault) text t = (λ e. absurd (cc), ap first t.1, t.0)
+uniform expects.R3 answers.TimeOut text t = (λ e. absurd (cc), lost_first text t)
 uniform expects.R3 (answers.Reply reply) text t = (λ e. absurd (cc), reply_first expects.R3 reply text t, t)
-uniform expects.R6 answers.Sent text t = absurd t
-uniform expects.R6 answers.TimeOut text t = (λ e. absurd (cc), ap first t)
-uniform expects.R6 (answers.Damaged fault) text t = (λ e. absurd (cc), ap first t.1, t.0)
+uniform expects.R6 answers.TimeOut text t = (λ e. absurd (cc), lost_first text t)
 uniform expects.R6 (answers.Reply reply) text t = (λ e. absurd (cc), reply_first expects.R6 reply text t, t)
-uniform expects.R7 answers.Sent text t = absurd t
-uniform expects.R7 answers.TimeOut text t = (λ e. absurd (cc), ap first t)
-uniform expects.R7 (answers.Damaged fault) text t = (λ e. absurd (cc), ap first t.1, t.0)
+uniform expects.R7 answers.TimeOut text t = (λ e. absurd (cc), lost_first text t)
 uniform expects.R7 (answers.Reply reply) text t = (λ e. absurd (cc), reply_first expects.R7 reply text t, t)
-
-differs : (text : List ℕ) (a b : ℕ) → first text ≡ a → first text ≡ b → (a ≡ b → ⊥) → ⊥
-differs text a b p q n = n (sym p ∙ q)
+uniform expect answer text t = absurd t
 
 uniform_once : (expect : Expect) (a b : Answer) (text : List ℕ) → Uniform expect a text → Uniform expect b text → a ≡ b
 uniform_once expect answers.Sent answers.Sent text p q = refl
 uniform_once expect answers.Sent answers.TimeOut text p q = absurd (q.0 p)
-uniform_once expect answers.Sent (answers.Damaged g) text p q = absurd (q.0 p)
 uniform_once expect answers.Sent (answers.Reply r) text p q = absurd (q.0 p)
 uniform_once expect answers.TimeOut answers.Sent text p q = absurd (p.0 q)
 uniform_once expect answers.TimeOut answers.TimeOut text p q = refl
-uniform_once expect answers.TimeOut (answers.Damaged g) text p q = absurd (differs text 116 100 p.1 q.1 (λ e. omega arith))
-uniform_once expect answers.TimeOut (answers.Reply r) text p q = absurd (differs text 116 82 p.1 q.1 (λ e. omega arith))
-uniform_once expect (answers.Damaged f) answers.Sent text p q = absurd (p.0 q)
-uniform_once expect (answers.Damaged f) answers.TimeOut text p q = absurd (differs text 100 116 p.1 q.1 (λ e. omega arith))
-uniform_once expect (answers.Damaged f) (answers.Damaged g) text p q = ap answers.Damaged (p.2 ∙ sym q.2)
-uniform_once expect (answers.Damaged f) (answers.Reply r) text p q = absurd (differs text 100 82 p.1 q.1 (λ e. omega arith))
+uniform_once expect answers.TimeOut (answers.Reply r) text p q = absurd (p.1 q.1)
 uniform_once expect (answers.Reply s) answers.Sent text p q = absurd (p.0 q)
-uniform_once expect (answers.Reply s) answers.TimeOut text p q = absurd (differs text 82 116 p.1 q.1 (λ e. omega arith))
-uniform_once expect (answers.Reply s) (answers.Damaged g) text p q = absurd (differs text 82 100 p.1 q.1 (λ e. omega arith))
+uniform_once expect (answers.Reply s) answers.TimeOut text p q = absurd (q.1 p.1)
 uniform_once expect (answers.Reply s) (answers.Reply r) text p q = ap answers.Reply (reply_once expect s r text p.2 q.2)
+uniform_once expect (answers.Damaged f) b text p q = absurd p
+uniform_once expect a (answers.Damaged f) text p q = absurd q
 
 pub answer_once : (expect : Expect) (a b : Answer) (text : List ℕ) → TellsAnswer expect a text → TellsAnswer expect b text → a ≡ b
 answer_once expect a b text p q = uniform_once expect a b text (uniform expect a text p) (uniform expect b text q)
 
 -- THE ENDS OF PHASES AND WAITS
 
-ok_or_cut : (text : List ℕ) → text ≡ codes "ok" → text ≡ codes "cut" → ⊥
+differs : (text : List ℕ) (a b : ℕ) → first text ≡ a → first text ≡ b → (a ≡ b → ⊥) → ⊥
+differs text a b p q n = n (sym p ∙ q)
+
+ok_or_cut : (text : List ℕ) → text ≡ words.OK.now → text ≡ words.CUT.now → ⊥
 ok_or_cut text p q = differs text 111 99 (ap first p) (ap first q) (λ e. omega arith)
 
 end_once : (a b : DataEnd) (text : List ℕ) → text ≡ data_end_text a → text ≡ data_end_text b → a ≡ b
@@ -210,14 +201,14 @@ same_step k AwaitReady texts returned gave c u p q step = same_wait AwaitReady t
 
 -- THE CARD OF THE OTHER SIDE
 
-module _ {S : Type 0} (steps : S → Call → Return → S → Type 0) (card : S → Option Card) (keeps : KeepsTables steps card) where
+module _ {S : Type 0} (steps : S → Call → Return → S → Type 0) (card : S → Option Card) (keeps : KeepsTablesOverNoise steps card) where
   both_keep : KeepsTables (BothSteps steps) (other_card card)
   both_keep b b' k event c h returned shown fine made =
       let seen : Shows card b.other c = record { shown = shown.shown; shows = shown.shows; same = shown.same; count = shown.count } in
-      let kept : Kept card event c made.gave b'.other = keeps b.other b'.other k event c h made.gave seen fine made.step in
+      let kept : KeptOverNoise card event c made.gave b'.other = keeps b.other b'.other k event c h made.gave seen fine made.step in
       record {
         after = kept.after;
-        step = same_step k event made.texts returned made.gave c kept.after made.heard.says made.told kept.step;
+        step = same_step k event made.texts returned (counts_as made.gave) c kept.after made.heard.says made.told kept.step;
         shown = record { shown = kept.shown.shown; shows = kept.shown.shows; same = kept.shown.same; count = kept.shown.count };
       }
 

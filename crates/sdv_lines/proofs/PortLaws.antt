@@ -3,7 +3,7 @@ use Rattle.std.proofs.Common.{◌≡◌, ◌⊎◌, arith, refl, subst, sym, inr
 use Rattle.std.specs.Prelude.{MatchOption}
 use Rattle.sdv_card.specs.Port.{Call}
 use Rattle.sdv_card.specs.ScriptEvent.{Return}
-use Rattle.sdv_lines.specs.declared.fault.LineFault.{LineFault}
+use Rattle.sdv_lines.specs.declared.fault.ProtocolFault.{ProtocolFault}
 use Rattle.sdv_lines.specs.declared.fault.PortFault.TheVariants.{Lines}
 use Rattle.sdv_lines.specs.Streams.{Asked, Asks, Failed, GaveUp, IsSilent, LineSteps, Spends, Streams, TakesCommand, commands_of, limited}
 
@@ -14,7 +14,7 @@ spends_none (Some n) =
     let all : n ≡ 0 + n = omega arith in
     (n, refl, all)
 
-failed_by : {A : Type 0} (call : Call) (returns : A → Return) (s s' : Streams) (result : Result A LineFault) (why : LineFault) → result ≡ Err why
+failed_by : {A : Type 0} (call : Call) (returns : A → Return) (s s' : Streams) (result : Result A ProtocolFault) (why : ProtocolFault) → result ≡ Err why
     → Asks call returns s.answers s'.answers s.requests s'.requests result → Failed why call s.answers s'.answers s.requests s'.requests
 failed_by call returns s s' (Ok x) why is asks = absurd (cc is)
 failed_by call returns s s' (Err fault) why is asks =
@@ -22,7 +22,7 @@ failed_by call returns s s' (Err fault) why is asks =
     subst (λ f. Failed f call s.answers s'.answers s.requests s'.requests) same asks
 
 -- its streams failed
-pub gave_up : {A : Type 0} (call : Call) (returns : A → Return) (returned : Return) (s s' : Streams) (result : Result A LineFault) (why : LineFault)
+pub gave_up : {A : Type 0} (call : Call) (returns : A → Return) (returned : Return) (s s' : Streams) (result : Result A ProtocolFault) (why : ProtocolFault)
     → s.fault ≡ None → Asks call returns s.answers s'.answers s.requests s'.requests result → result ≡ Err why → Spends (commands_of call) s.left s'.left
     → s'.fault ≡ Some (Lines why) → IsSilent call returned → LineSteps s call returned s'
 gave_up call returns returned s s' result why well asks is spent kept silent =
@@ -34,8 +34,8 @@ gave_up call returns returned s s' result why well asks is spent kept silent =
     subst (λ o. MatchOption o (Asked call returned s s' ⊎ GaveUp call returned s s') (λ _. (s' ≡ s) × IsSilent call returned)) (sym well) (inr gave)
 
 -- the same of a command, which was taken first
-pub command_gave_up : {A : Type 0} (call : Call) (returns : A → Return) (returned : Return) (s t s' : Streams) (result : Result A LineFault)
-    (why : LineFault) (taken : Bool) → s.fault ≡ None → taken ≡ true → TakesCommand taken s t → commands_of call ≡ 1
+pub command_gave_up : {A : Type 0} (call : Call) (returns : A → Return) (returned : Return) (s t s' : Streams) (result : Result A ProtocolFault)
+    (why : ProtocolFault) (taken : Bool) → s.fault ≡ None → taken ≡ true → TakesCommand taken s t → commands_of call ≡ 1
     → Asks call returns t.answers s'.answers t.requests s'.requests result → result ≡ Err why → s'.left ≡ t.left → s'.fault ≡ Some (Lines why)
     → IsSilent call returned → LineSteps s call returned s'
 command_gave_up call returns returned s t s' result why taken well is_taken takes one asks is left kept silent =

@@ -7,8 +7,8 @@ use Rattle.hex.specs.Hex.{encode_lower}
 use Rattle.sdv_card.specs.Card.{Block}
 use Rattle.sdv_trace.specs.Trace.{line_feed}
 use Rattle.sdv_text.proofs.WrittenLaws.{appends_more}
-use Rattle.sdv_lines.specs.declared.fault.LineFault.{LineFault}
-use Rattle.sdv_lines.specs.declared.fault.LineFault.TheVariants as faults
+use Rattle.sdv_lines.specs.declared.fault.ProtocolFault.{ProtocolFault}
+use Rattle.sdv_lines.specs.declared.fault.ProtocolFault.TheVariants as faults
 use Rattle.sdv_lines.specs.Texts.{lines_of}
 use Rattle.sdv_lines.specs.Requests.{block_texts}
 use Rattle.sdv_lines.specs.Streams.{AppendsFront, Sends}
@@ -22,7 +22,7 @@ pub front_after : (old mid new : Option (List ℕ)) (a b : List ℕ) → Appends
 front_after old mid new a b p q = (a ++ q.0, q.1, ap (λ l. a ++ l) q.2 ∙ sym (append_assoc a q.0 q.1), appends_more old mid new a q.0 p q.3)
 
 -- a text, and then one more
-pub sends_more : (old mid new : Option (List ℕ)) (a b : List ℕ) (result : Result (Unit {0}) LineFault) → Appends old mid a → Sends mid new result b
+pub sends_more : (old mid new : Option (List ℕ)) (a b : List ℕ) (result : Result (Unit {0}) ProtocolFault) → Appends old mid a → Sends mid new result b
     → Sends old new result (a ++ b)
 sends_more old mid new a b (Ok x) p q = appends_more old mid new a b p q
 sends_more old mid new a b (Err fault) p q = (q.0, front_after old mid new a b p q.1)
@@ -34,7 +34,7 @@ kept (Some xs) (Some ys) None a p k = absurd k
 kept (Some xs) (Some ys) (Some zs) a p k = k ∙ p
 
 -- what was written is handed on, or not
-pub flushed : (old mid new : Option (List ℕ)) (a : List ℕ) (result : Result (Unit {0}) LineFault) → Appends old mid a → Keeps mid new
+pub flushed : (old mid new : Option (List ℕ)) (a : List ℕ) (result : Result (Unit {0}) ProtocolFault) → Appends old mid a → Keeps mid new
     → IfErr result (λ fault. fault ≡ faults.Write) → Sends old new result a
 flushed old mid new a (Ok x) p k e = kept old mid new a p k
 flushed old mid new a (Err fault) p k e = (e, (a, [], sym (append-nil a), kept old mid new a p k))

@@ -6,8 +6,8 @@ use Rattle.sdv_card.specs.Card.{Block}
 use Rattle.sdv_card.specs.Port.{Call, DataOut}
 use Rattle.sdv_card.specs.ScriptEvent.{Return}
 use Rattle.sdv_trace.specs.Trace.{line_feed}
-use Rattle.sdv_lines.specs.declared.fault.LineFault.{LineFault}
-use Rattle.sdv_lines.specs.declared.fault.LineFault.TheVariants as faults
+use Rattle.sdv_lines.specs.declared.fault.ProtocolFault.{ProtocolFault}
+use Rattle.sdv_lines.specs.declared.fault.ProtocolFault.TheVariants as faults
 use Rattle.sdv_lines.specs.declared.hearing.Request.{Request}
 use Rattle.sdv_lines.specs.declared.hearing.Request.TheVariants as requests
 use Rattle.sdv_lines.specs.Texts.{IsText, AreBlocks, lines_of}
@@ -20,7 +20,7 @@ use Rattle.sdv_lines.proofs.DigitLaws.{behind_line}
 
 -- WHAT IS NO REQUEST
 
-pub not_heard : (room : ℕ) (a a' : Option (List ℕ)) (fault : LineFault) → ReadsNoLine fault a a' → NotHeard fault room a a'
+pub not_heard : (room : ℕ) (a a' : Option (List ℕ)) (fault : ProtocolFault) → ReadsNoLine fault a a' → NotHeard fault room a a'
 not_heard room None a' faults.Closed r = (tt, r.1)
 not_heard room (Some xs) a' faults.Closed r = (Unended r.0, r.1)
 not_heard room None a' faults.Line r = tt
@@ -47,7 +47,7 @@ no_blocks room count lines None mid text t c said n = tt
 no_blocks room count lines (Some xs) None text t c said n = absurd c
 no_blocks room count lines (Some xs) (Some ys) text t c said n = NoBlocks text ys count lines t (behind_line text ys xs c) said n
 
-not_blocks : (room count lines : ℕ) (a mid a' : Option (List ℕ)) (text : List ℕ) (fault : LineFault) → IsText text
+not_blocks : (room count lines : ℕ) (a mid a' : Option (List ℕ)) (text : List ℕ) (fault : ProtocolFault) → IsText text
     → Consumes a mid (text ++ line_feed) → read_request text ≡ Some (requests.DataOut count lines) → ReadsNoBlocks fault count mid a'
     → NotHeard fault room a a'
 not_blocks room count lines a mid a' text faults.Closed t c said n = (no_blocks room count lines a mid text t c said n.0, n.1)
@@ -64,27 +64,27 @@ same_length (text ∷ texts) [] a = absurd a
 same_length (text ∷ texts) (block ∷ blocks) a = let rest = same_length texts blocks a.2 in omega (arith, rest)
 
 module _ {S : Type 0} (steps : S → Call → Return → S → Type 0) where
-  pub stops : (room : ℕ) (p : S) (a a' r : Option (List ℕ)) (fault : LineFault) → NotHeard fault room a a' → Stops steps fault room p p a a' r r
+  pub stops : (room : ℕ) (p : S) (a a' r : Option (List ℕ)) (fault : ProtocolFault) → NotHeard fault room a a' → Stops steps fault room p p a a' r r
   stops room p a a' r faults.Closed n = (refl, refl, n)
   stops room p a a' r faults.Line n = (refl, refl, n)
   stops room p a a' r faults.Read n = (refl, refl, n)
   stops room p a a' r faults.Write n = absurd n
 
-  turn_done : (room lines : ℕ) (turn : Turn) (p p' : S) (a a' r r' : Option (List ℕ)) (result : Result (Unit {0}) LineFault) → length turn.texts ≡ lines
+  turn_done : (room lines : ℕ) (turn : Turn) (p p' : S) (a a' r r' : Option (List ℕ)) (result : Result (Unit {0}) ProtocolFault) → length turn.texts ≡ lines
       → Made steps turn p p' a a' → Sends r r' result (answer_of turn.returned)
       → Serves steps room lines p p' a a' r r' result
   turn_done room lines turn p p' a a' r r' (Ok x) n made sent = (turn, record { made = made; answered = sent }, n)
   turn_done room lines turn p p' a a' r r' (Err fault) n made (is, front) =
       subst (λ f. Stops steps f room p p' a a' r r') (sym is) (record { turn = turn; made = made; front = front })
 
-  pub one_line : (room : ℕ) (call : Call) (text : List ℕ) (p p' : S) (a a' r r' : Option (List ℕ)) (result : Result (Unit {0}) LineFault) → IsText text
+  pub one_line : (room : ℕ) (call : Call) (text : List ℕ) (p p' : S) (a a' r r' : Option (List ℕ)) (result : Result (Unit {0}) ProtocolFault) → IsText text
       → Consumes a a' (text ++ line_feed) → IsRequest call (text ∷ []) → Does steps call p p' r r' result → Serves steps room 1 p p' a a' r r' result
   one_line room call text p p' a a' r r' result t c asks (returned, step, sent) =
       turn_done room 1 (record { texts = text ∷ []; call = call; returned = returned }) p p' a a' r r' result refl
       (record { lines = (t, tt); asks = asks; read = c; step = step }) sent
 
   pub out_lines : (room lines : ℕ) (blocks : List Block) (text : List ℕ) (p p' : S) (a mid a' r r' : Option (List ℕ))
-      (result : Result (Unit {0}) LineFault) → IsText text → Consumes a mid (text ++ line_feed)
+      (result : Result (Unit {0}) ProtocolFault) → IsText text → Consumes a mid (text ++ line_feed)
       → read_request text ≡ Some (requests.DataOut (length blocks) lines) → BlocksRead mid a' blocks → Does steps (DataOut lines blocks) p p' r r' result
       → Serves steps room (1 + length blocks) p p' a a' r r' result
   out_lines room lines blocks text p p' a mid a' r r' result t c said b (returned, step, sent) =
@@ -99,14 +99,14 @@ module _ {S : Type 0} (steps : S → Call → Return → S → Type 0) where
         step = step;
       }) sent
 
-  pub blocks_stop : (room count lines : ℕ) (text : List ℕ) (p : S) (a mid a' r : Option (List ℕ)) (fault : LineFault) → IsText text
+  pub blocks_stop : (room count lines : ℕ) (text : List ℕ) (p : S) (a mid a' r : Option (List ℕ)) (fault : ProtocolFault) → IsText text
       → Consumes a mid (text ++ line_feed) → read_request text ≡ Some (requests.DataOut count lines) → ReadsNoBlocks fault count mid a'
       → Stops steps fault room p p a a' r r
   blocks_stop room count lines text p a mid a' r fault t c said n =
       stops room p a a' r fault (not_blocks room count lines a mid a' text fault t c said n)
 
   -- a request is the one that was read
-  pub as_asked : (room : ℕ) (request actual : Request) (p p' : S) (a a' r r' : Option (List ℕ)) (result : Result (Unit {0}) LineFault) → request ≡ actual
+  pub as_asked : (room : ℕ) (request actual : Request) (p p' : S) (a a' r r' : Option (List ℕ)) (result : Result (Unit {0}) ProtocolFault) → request ≡ actual
       → Serves steps room (lines_in actual) p p' a a' r r' result → Serves steps room (lines_in request) p p' a a' r r' result
   as_asked room request actual p p' a a' r r' result e s = subst (λ n. Serves steps room n p p' a a' r r' result) (ap lines_in (sym e)) s
 

@@ -1,11 +1,12 @@
 -- What the text of a request's first line says, read from left to right.
-use Rattle.std.specs.Prelude.{◌==◌, ◌&&◌, ◌||◌, ◌<◌, ◌≤◌, is_some, nat_le, nat_lt, ℕ, List, [], ◌∷◌, length, take, drop, Bool, true, false, codes, Option, Some, None, Result, Ok, Err, if◌then◌else◌}
+use Rattle.std.specs.Prelude.{◌==◌, ◌&&◌, ◌||◌, ◌<◌, ◌≤◌, is_some, nat_le, nat_lt, ℕ, List, length, take, drop, Bool, Option, Some, None, Result, Ok, Err, if◌then◌else◌}
 use Rattle.std.specs.Int.{w32, from_be_bytes}
 use Rattle.hex.specs.declared.error.FromHexError.{FromHexError}
 use Rattle.hex.specs.Hex.{decode_sized}
 use Rattle.sdv_text.specs.Fronts.{◌>>=◌, Read, after, is_end, is_word, is_digit, run, number_after}
 use Rattle.sdv_frames.specs.declared.reply.Expect.{Expect}
 use Rattle.sdv_frames.specs.declared.reply.Expect.TheVariants as expects
+use Rattle.sdv_lines.specs.declared.words.TheConstants as words
 use Rattle.sdv_lines.specs.declared.hearing.Request.{Request}
 use Rattle.sdv_lines.specs.declared.hearing.Request.TheVariants as requests
 
@@ -34,12 +35,12 @@ read_word bs = if nat_le 8 (length bs) then word_if (decode_sized (take 8 bs) 4)
 -- the response that is waited for, to the command of this index
 unfoldable pub read_expect : (index : ℕ) → List ℕ → Option Expect
 read_expect index bs =
-    if is_word (codes "-") bs then Some expects.Nothing
-    else if is_word (codes "R1") bs then Some (expects.R1 index)
-    else if is_word (codes "R2") bs then Some expects.R2
-    else if is_word (codes "R3") bs then Some expects.R3
-    else if is_word (codes "R6") bs then Some expects.R6
-    else if is_word (codes "R7") bs then Some expects.R7
+    if is_word words.NOTHING.now bs then Some expects.Nothing
+    else if is_word words.R1.now bs then Some (expects.R1 index)
+    else if is_word words.R2.now bs then Some expects.R2
+    else if is_word words.R3.now bs then Some expects.R3
+    else if is_word words.R6.now bs then Some expects.R6
+    else if is_word words.R7.now bs then Some expects.R7
     else None
 
 -- a command, behind its word
@@ -51,9 +52,9 @@ command_if index argument (Some expect) =
 unfoldable pub read_command : List ℕ → Option Request
 read_command bs =
     read_number bs >>= λ index.
-    after (codes " ") index.1 >>= λ rest.
+    after words.SPACE.now index.1 >>= λ rest.
     read_word rest >>= λ word.
-    after (codes " ") word.1 >>= λ expect.
+    after words.SPACE.now word.1 >>= λ expect.
     command_if index.0 word.0 (read_expect index.0 expect)
 
 -- how many blocks or bytes a phase has, and over how many data lines, behind its word
@@ -64,7 +65,7 @@ phase_if count lines rest =
 unfoldable pub read_phase : List ℕ → Option (ℕ × ℕ)
 read_phase bs =
     read_number bs >>= λ count.
-    after (codes " lines ") count.1 >>= λ rest.
+    after words.LINES.now count.1 >>= λ rest.
     read_number rest >>= λ lines.
     phase_if count.0 lines.0 lines.1
 
@@ -80,14 +81,14 @@ register_in bs = read_phase bs >>= λ p. if nat_le p.0 512 then Some (requests.R
 
 unfoldable pub read_request : List ℕ → Option Request
 read_request bs =
-    or_else (after (codes "CMD") bs) read_command
-    (or_else (after (codes "IN ") bs) blocks_in
-    (or_else (after (codes "OUT ") bs) blocks_out
-    (or_else (after (codes "REG ") bs) register_in (if is_word (codes "WAIT") bs then Some requests.Wait else None))))
+    or_else (after words.COMMAND.now bs) read_command
+    (or_else (after words.DATA_IN.now bs) blocks_in
+    (or_else (after words.DATA_OUT.now bs) blocks_out
+    (or_else (after words.REGISTER.now bs) register_in (if is_word words.WAIT.now bs then Some requests.Wait else None))))
 
 -- the last line of a host
 abbrev pub is_last : List ℕ → Bool
-is_last text = is_word (codes "done") text || is_some (after (codes "fault ") text)
+is_last text = is_word words.DONE.now text || is_some (after words.FAULT.now text)
 
 -- an index has 6 bits, and a register 512 bytes at most
 abbrev pub IsInRange : Request → Type 0

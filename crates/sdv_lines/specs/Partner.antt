@@ -1,8 +1,9 @@
 -- The other side of the lines as a port of its own: it makes each call that it is asked for, once, and its answer tells
--- what that gave. Where that port shows a card, so does the port of lines.
+-- what that gave. Where that port shows a card, over a bus that may damage responses, so does the port of lines.
 use Rattle.std.specs.Prelude.{◌≡◌, ℕ, List, Option, None}
 use Rattle.std.specs.Io.KnownBytes.{Appends, Consumes}
 use Rattle.sdv_card.specs.Card.{Card}
+use Rattle.sdv_card.specs.Damage.{counts_as}
 use Rattle.sdv_card.specs.Port.{Call, KeepsTables}
 use Rattle.sdv_card.specs.ScriptEvent.{Return}
 use Rattle.sdv_lines.specs.Texts.{lines_of}
@@ -15,6 +16,10 @@ pub record Both (S : Type 0) : Type 0 where
   pub streams : Streams
   pub other : S
 
+-- texts tell what a call of the other side gave; a damaged response counts as a lost one
+abbrev pub Tells : Call → List (List ℕ) → Return → Type 0
+Tells call texts gave = IsAnswer call texts (counts_as gave)
+
 -- one call of each: the lines that the port read are an answer that tells what the other side's call gave
 pub record BothMade {S : Type 0} (steps : S → Call → Return → S → Type 0) (call : Call) (returned : Return)
     (b b' : Both S) : Type 0 where
@@ -23,7 +28,7 @@ pub record BothMade {S : Type 0} (steps : S → Call → Return → S → Type 0
   pub written : Appends b.streams.requests b'.streams.requests (request_of call)
   pub read : Consumes b.streams.answers b'.streams.answers (lines_of texts)
   pub heard : Answers call texts returned
-  pub told : IsAnswer call texts gave
+  pub told : Tells call texts gave
   pub step : steps b.other call gave b'.other
   pub spent : Spends (commands_of call) b.streams.left b'.streams.left
   pub well : b'.streams.fault ≡ None

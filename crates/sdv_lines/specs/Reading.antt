@@ -2,14 +2,15 @@
 use Rattle.std.specs.Prelude.{◌≡◌, ◌<◌, ◌≤◌, ℕ, List, [], ◌∷◌, ◌++◌, length, Option, Result, Ok, Err, MatchResult, IfSome}
 use Rattle.std.specs.List.{AllByRecursion}
 use Rattle.std.specs.Io.KnownBytes.{Consumes, IsAtEnd}
-use Rattle.sdv_lines.specs.declared.fault.LineFault.{LineFault}
-use Rattle.sdv_lines.specs.declared.fault.LineFault.TheVariants as faults
+use Rattle.sdv_lines.specs.declared.fault.ProtocolFault.{ProtocolFault}
+use Rattle.sdv_lines.specs.declared.fault.ProtocolFault.TheVariants as faults
+use Rattle.sdv_lines.specs.declared.line.TheConstants.{LONGEST}
 use Rattle.sdv_trace.specs.Trace.{line_feed}
 use Rattle.sdv_card.specs.Card.{Block}
 use Rattle.sdv_lines.specs.Texts.{IsText, AreDigits, AreBlocks, lines_of}
 
 -- a byte was read, or none is left, or the reader failed
-abbrev pub ReadsByte : Option (List ℕ) → Option (List ℕ) → Result ℕ LineFault → Type 0
+abbrev pub ReadsByte : Option (List ℕ) → Option (List ℕ) → Result ℕ ProtocolFault → Type 0
 ReadsByte old new (Ok byte) = Consumes old new (byte ∷ [])
 ReadsByte old new (Err faults.Closed) = IsAtEnd old × IsAtEnd new
 ReadsByte old new (Err faults.Read) = Unit {0}
@@ -17,20 +18,25 @@ ReadsByte old new (Err fault) = ⊥
 
 -- bytes begin with a text of more than 1,024 bytes
 abbrev pub BeginsLong : List ℕ → Type 0
-BeginsLong bytes = (front back : List ℕ) × (bytes ≡ front ++ back) × IsText front × (1024 < length front)
+BeginsLong bytes = (front back : List ℕ) × (bytes ≡ front ++ back) × IsText front × (LONGEST < length front)
 
 -- no line was read: the bytes end before a line feed, or a line is too long, or the reader failed
-abbrev pub ReadsNoLine : LineFault → Option (List ℕ) → Option (List ℕ) → Type 0
+abbrev pub ReadsNoLine : ProtocolFault → Option (List ℕ) → Option (List ℕ) → Type 0
 ReadsNoLine faults.Closed old new = IfSome old IsText × IsAtEnd new
 ReadsNoLine faults.Line old new = IfSome old BeginsLong
 ReadsNoLine faults.Read old new = Unit {0}
 ReadsNoLine fault old new = ⊥
 
+-- the same, with the text that was read of the line: where the bytes ended, all of them
+abbrev pub ReadsNone : ProtocolFault → (old new : Option (List ℕ)) → (text : List ℕ) → Type 0
+ReadsNone fault old new text =
+    ReadsNoLine fault old new × (fault ≡ faults.Closed → IfSome old (λ bytes. bytes ≡ text))
+
 -- a line was read, without its line feed, or none was
-abbrev pub ReadsLine : {A : Type 0} → (old new : Option (List ℕ)) → (text : List ℕ) → Result A LineFault → Type 0
+abbrev pub ReadsLine : {A : Type 0} → (old new : Option (List ℕ)) → (text : List ℕ) → Result A ProtocolFault → Type 0
 ReadsLine old new text result =
-    MatchResult result (λ _. IsText text × (length text ≤ 1024) × Consumes old new (text ++ line_feed))
-    (λ fault. ReadsNoLine fault old new)
+    MatchResult result (λ _. IsText text × (length text ≤ LONGEST) × Consumes old new (text ++ line_feed))
+    (λ fault. ReadsNone fault old new text)
 
 -- DIGITS: a line of digits of so many bytes, 512 at most
 
@@ -40,7 +46,7 @@ HasNoDigits count xs =
     (text bytes rest : List ℕ) → count ≤ 512 → IsText text → AreDigits text bytes → length bytes ≡ count →
     xs ≡ text ++ 10 ∷ rest → ⊥
 
-abbrev pub ReadsNoDigits : LineFault → ℕ → Option (List ℕ) → Option (List ℕ) → Type 0
+abbrev pub ReadsNoDigits : ProtocolFault → ℕ → Option (List ℕ) → Option (List ℕ) → Type 0
 ReadsNoDigits faults.Closed count old new = IfSome old (HasNoDigits count) × IsAtEnd new
 ReadsNoDigits faults.Line count old new = IfSome old (HasNoDigits count)
 ReadsNoDigits faults.Read count old new = Unit {0}
@@ -55,7 +61,7 @@ pub record DigitsRead (old new : Option (List ℕ)) (bytes : List ℕ) : Type 0 
   pub read : Consumes old new (text ++ line_feed)
 
 abbrev pub ReadsDigits : {A : Type 0} → (old new : Option (List ℕ)) → (count : ℕ) → (bytes : List ℕ) →
-    Result A LineFault → Type 0
+    Result A ProtocolFault → Type 0
 ReadsDigits old new count bytes result =
     MatchResult result (λ _. DigitsRead old new bytes × (length bytes ≡ count))
     (λ fault. ReadsNoDigits fault count old new)
@@ -68,7 +74,7 @@ HasNoBlocks count xs =
     (texts : List (List ℕ)) (blocks : List Block) (rest : List ℕ) → AllByRecursion IsText texts → AreBlocks texts blocks →
     length blocks ≡ count → xs ≡ lines_of texts ++ rest → ⊥
 
-abbrev pub ReadsNoBlocks : LineFault → ℕ → Option (List ℕ) → Option (List ℕ) → Type 0
+abbrev pub ReadsNoBlocks : ProtocolFault → ℕ → Option (List ℕ) → Option (List ℕ) → Type 0
 ReadsNoBlocks faults.Closed count old new = IfSome old (HasNoBlocks count) × IsAtEnd new
 ReadsNoBlocks faults.Line count old new = IfSome old (HasNoBlocks count)
 ReadsNoBlocks faults.Read count old new = Unit {0}
@@ -82,7 +88,7 @@ pub record BlocksRead (old new : Option (List ℕ)) (blocks : List Block) : Type
   pub read : Consumes old new (lines_of texts)
 
 abbrev pub ReadsBlocks : {A : Type 0} → (old new : Option (List ℕ)) → (count : ℕ) → (blocks : List Block) →
-    Result A LineFault → Type 0
+    Result A ProtocolFault → Type 0
 ReadsBlocks old new count blocks result =
     MatchResult result (λ _. BlocksRead old new blocks × (length blocks ≡ count))
     (λ fault. ReadsNoBlocks fault count old new)

@@ -1,25 +1,26 @@
 -- The lines of a request: what is written for each call of a port.
-use Rattle.std.specs.Prelude.{ℕ, List, [], ◌∷◌, ◌++◌, length, codes, decimal}
+use Rattle.std.specs.Prelude.{ℕ, List, [], ◌∷◌, ◌++◌, length, decimal}
 use Rattle.hex.specs.Hex.{encode_lower}
 use Rattle.sdv_frames.specs.declared.reply.Expect.{Expect}
 use Rattle.sdv_frames.specs.declared.reply.Expect.TheVariants as expects
 use Rattle.sdv_card.specs.Card.{Block}
 use Rattle.sdv_card.specs.Port.{Call, Exchange, DataIn, DataInRegister, DataOut, WaitWhileBusy}
 use Rattle.sdv_trace.specs.Trace.{command_text}
+use Rattle.sdv_lines.specs.declared.words.TheConstants as words
 use Rattle.sdv_lines.specs.Texts.{lines_of}
 
 -- the response that is waited for
 abbrev pub expect_text : Expect → List ℕ
-expect_text expects.Nothing = codes "-"
-expect_text (expects.R1 index) = codes "R1"
-expect_text expects.R2 = codes "R2"
-expect_text expects.R3 = codes "R3"
-expect_text expects.R6 = codes "R6"
-expect_text expects.R7 = codes "R7"
+expect_text expects.Nothing = words.NOTHING.now
+expect_text (expects.R1 index) = words.R1.now
+expect_text expects.R2 = words.R2.now
+expect_text expects.R3 = words.R3.now
+expect_text expects.R6 = words.R6.now
+expect_text expects.R7 = words.R7.now
 
--- a data phase, by its word, how many blocks or bytes it has, and over how many data lines
+-- a data phase, by what it begins with, how many blocks or bytes it has, and over how many data lines
 abbrev pub phase_text : List ℕ → (count lines : ℕ) → List ℕ
-phase_text word count lines = word ++ (codes " " ++ (decimal count ++ (codes " lines " ++ decimal lines)))
+phase_text front count lines = front ++ (decimal count ++ (words.LINES.now ++ decimal lines))
 
 -- a line of digits for each block
 abbrev pub block_texts : List Block → List (List ℕ)
@@ -29,10 +30,10 @@ block_texts (block ∷ blocks) = encode_lower block ∷ block_texts blocks
 -- the texts of a request: one line, and a line for each block that is given
 abbrev pub request_texts : Call → List (List ℕ)
 request_texts (Exchange command expect) = (command_text command ++ expect_text expect) ∷ []
-request_texts (DataIn lines count) = phase_text (codes "IN") count lines ∷ []
-request_texts (DataInRegister lines count) = phase_text (codes "REG") count lines ∷ []
-request_texts (DataOut lines blocks) = phase_text (codes "OUT") (length blocks) lines ∷ block_texts blocks
-request_texts WaitWhileBusy = codes "WAIT" ∷ []
+request_texts (DataIn lines count) = phase_text words.DATA_IN.now count lines ∷ []
+request_texts (DataInRegister lines count) = phase_text words.REGISTER.now count lines ∷ []
+request_texts (DataOut lines blocks) = phase_text words.DATA_OUT.now (length blocks) lines ∷ block_texts blocks
+request_texts WaitWhileBusy = words.WAIT.now ∷ []
 
 abbrev pub request_of : Call → List ℕ
 request_of call = lines_of (request_texts call)

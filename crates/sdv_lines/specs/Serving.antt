@@ -1,5 +1,5 @@
 -- What the side of the card does: each request is a call of a port, in order, and each answer tells what it gave.
-use Rattle.std.specs.Prelude.{◌≡◌, ◌⊎◌, ◌+◌, ◌-◌, ◌<◌, ◌^◌, ℕ, min, List, [], ◌∷◌, ◌++◌, length, codes, true, Option, Some, None, Result, Ok, Err, MatchResult, IfSome}
+use Rattle.std.specs.Prelude.{◌≡◌, ◌⊎◌, ◌+◌, ◌-◌, ◌<◌, ◌^◌, ℕ, min, List, [], ◌∷◌, ◌++◌, length, true, Option, Some, None, Result, Ok, Err, MatchResult, IfSome}
 use Rattle.std.specs.List.{AllByRecursion}
 use Rattle.std.specs.Io.KnownBytes.{Appends, Consumes, IsAtEnd}
 use Rattle.hex.specs.Hex.{encode_lower}
@@ -7,8 +7,9 @@ use Rattle.sdv_card.specs.declared.answer.DataEnd.TheVariants as ends
 use Rattle.sdv_card.specs.Port.{Call, Exchange, DataIn, DataInRegister, DataOut, WaitWhileBusy}
 use Rattle.sdv_card.specs.ScriptEvent.{Return, Answered, BlocksIn, RegisterIn, BlocksOut, Waited}
 use Rattle.sdv_trace.specs.Trace.{answer_text, line_feed}
-use Rattle.sdv_lines.specs.declared.fault.LineFault.{LineFault}
-use Rattle.sdv_lines.specs.declared.fault.LineFault.TheVariants as faults
+use Rattle.sdv_lines.specs.declared.words.TheConstants as words
+use Rattle.sdv_lines.specs.declared.fault.ProtocolFault.{ProtocolFault}
+use Rattle.sdv_lines.specs.declared.fault.ProtocolFault.TheVariants as faults
 use Rattle.sdv_lines.specs.declared.fault.ServeFault.{ServeFault}
 use Rattle.sdv_lines.specs.declared.hearing.Request.{Request}
 use Rattle.sdv_lines.specs.declared.hearing.Request.TheVariants as requests
@@ -34,10 +35,10 @@ IsRequest call texts = ⊥
 -- the texts of the answer that tells what a call gave
 abbrev pub answer_texts : Return → List (List ℕ)
 answer_texts (Answered answer) = answer_text answer ∷ []
-answer_texts (BlocksIn ends.Ok blocks) = codes "ok" ∷ block_texts blocks
-answer_texts (BlocksIn ends.Cut blocks) = codes "cut" ∷ []
-answer_texts (RegisterIn ends.Ok bytes) = codes "ok" ∷ encode_lower bytes ∷ []
-answer_texts (RegisterIn ends.Cut bytes) = codes "cut" ∷ []
+answer_texts (BlocksIn ends.Ok blocks) = words.OK.now ∷ block_texts blocks
+answer_texts (BlocksIn ends.Cut blocks) = words.CUT.now ∷ []
+answer_texts (RegisterIn ends.Ok bytes) = words.OK.now ∷ encode_lower bytes ∷ []
+answer_texts (RegisterIn ends.Cut bytes) = words.CUT.now ∷ []
 answer_texts (BlocksOut end) = data_end_text end ∷ []
 answer_texts (Waited end) = wait_end_text end ∷ []
 
@@ -75,7 +76,7 @@ pub record ServedInPart {S : Type 0} (steps : S → Call → Return → S → Ty
 
 -- a call was made once, and its answer written
 abbrev pub Does : {S A : Type 0} → (S → Call → Return → S → Type 0) → Call → (p p' : S) → (r r' : Option (List ℕ)) →
-    Result A LineFault → Type 0
+    Result A ProtocolFault → Type 0
 Does steps call p p' r r' result =
     (returned : Return) × steps p call returned p' × Sends r r' result (answer_of returned)
 
@@ -98,14 +99,14 @@ pub data NoRequest (room : ℕ) (bytes : List ℕ) : Type 0 where
       → read_request text ≡ Some (requests.DataOut count lines) → HasNoBlocks count rest → NoRequest room bytes
 
 -- why no request was read
-abbrev pub NotHeard : LineFault → (room : ℕ) → (a a' : Option (List ℕ)) → Type 0
+abbrev pub NotHeard : ProtocolFault → (room : ℕ) → (a a' : Option (List ℕ)) → Type 0
 NotHeard faults.Read room a a' = Unit {0}
 NotHeard faults.Closed room a a' = IfSome a (NoRequest room) × IsAtEnd a'
 NotHeard faults.Line room a a' = IfSome a (NoRequest room)
 NotHeard faults.Write room a a' = ⊥
 
 -- why a request was not served: its answer was not written, or it is none, and nothing was done
-abbrev pub Stops : {S : Type 0} → (S → Call → Return → S → Type 0) → LineFault → (room : ℕ) → (p p' : S) →
+abbrev pub Stops : {S : Type 0} → (S → Call → Return → S → Type 0) → ProtocolFault → (room : ℕ) → (p p' : S) →
     (a a' r r' : Option (List ℕ)) → Type 0
 Stops steps faults.Write room p p' a a' r r' = ServedInPart steps p p' a a' r r'
 Stops steps fault room p p' a a' r r' = (p' ≡ p) × (r' ≡ r) × NotHeard fault room a a'
@@ -117,19 +118,19 @@ lines_in request = 1
 
 -- a request that was read was served, or not
 abbrev pub Serves : {S : Type 0} → (S → Call → Return → S → Type 0) → (room : ℕ) → (lines : ℕ) → (p p' : S) →
-    (a a' r r' : Option (List ℕ)) → Result (Unit {0}) LineFault → Type 0
+    (a a' r r' : Option (List ℕ)) → Result (Unit {0}) ProtocolFault → Type 0
 Serves steps room lines p p' a a' r r' result =
     MatchResult result (λ _. (turn : Turn) × Served steps turn p p' a a' r r' × (length turn.texts ≡ lines))
     (λ fault. Stops steps fault room p p' a a' r r')
 
--- the last line of a host was read, or its lines ended
+-- the last line of a host was read, or no byte was left where a request would begin
 abbrev pub Ends : (a a' : Option (List ℕ)) → Type 0
 Ends a a' =
     ((text : List ℕ) × IsText text × (is_last text ≡ true) × Consumes a a' (text ++ line_feed))
-    ⊎ (IfSome a IsText × IsAtEnd a')
+    ⊎ (IsAtEnd a × IsAtEnd a')
 
 -- the first line of a request was read, or the host ended, or what came is none, whatever room there is
-abbrev pub ReadsRequest : (a a' : Option (List ℕ)) → Result (Option Request) LineFault → Type 0
+abbrev pub ReadsRequest : (a a' : Option (List ℕ)) → Result (Option Request) ProtocolFault → Type 0
 ReadsRequest a a' (Ok None) = Ends a a'
 ReadsRequest a a' (Ok (Some request)) =
     ((text : List ℕ) × IsText text × (read_request text ≡ Some request) × Consumes a a' (text ++ line_feed)) × IsInRange request

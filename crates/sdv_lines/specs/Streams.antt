@@ -8,8 +8,8 @@ use Rattle.sdv_card.specs.declared.answer.DataEnd.TheVariants.{Cut}
 use Rattle.sdv_card.specs.declared.answer.WaitEnd.TheVariants.{Late}
 use Rattle.sdv_card.specs.Port.{Call, Exchange, DataIn, DataInRegister, DataOut, WaitWhileBusy}
 use Rattle.sdv_card.specs.ScriptEvent.{Return, Answered, BlocksIn, RegisterIn, BlocksOut, Waited}
-use Rattle.sdv_lines.specs.declared.fault.LineFault.{LineFault}
-use Rattle.sdv_lines.specs.declared.fault.LineFault.TheVariants as faults
+use Rattle.sdv_lines.specs.declared.fault.ProtocolFault.{ProtocolFault}
+use Rattle.sdv_lines.specs.declared.fault.ProtocolFault.TheVariants as faults
 use Rattle.sdv_lines.specs.declared.fault.PortFault.{PortFault}
 use Rattle.sdv_lines.specs.declared.fault.PortFault.TheVariants.{Lines, Commands}
 use Rattle.sdv_lines.specs.declared.port.LinePort.{LinePort}
@@ -57,7 +57,7 @@ abbrev pub AppendsFront : Option (List ℕ) → Option (List ℕ) → List ℕ �
 AppendsFront old new text = (front back : List ℕ) × (text ≡ front ++ back) × Appends old new front
 
 -- a text was written and flushed, or the writer failed
-abbrev pub Sends : {A : Type 0} → Option (List ℕ) → Option (List ℕ) → Result A LineFault → List ℕ → Type 0
+abbrev pub Sends : {A : Type 0} → Option (List ℕ) → Option (List ℕ) → Result A ProtocolFault → List ℕ → Type 0
 Sends old new result text =
     MatchResult result (λ _. Appends old new text) (λ fault. (fault ≡ faults.Write) × AppendsFront old new text)
 
@@ -74,26 +74,26 @@ HasNoAnswer call bytes =
     Answers call texts returned → bytes ≡ lines_of texts ++ rest → ⊥
 
 -- no answer was read: what came is none, or it ended before there was one, or the reader failed
-abbrev pub Unheard : LineFault → Call → Option (List ℕ) → Option (List ℕ) → Type 0
+abbrev pub Unheard : ProtocolFault → Call → Option (List ℕ) → Option (List ℕ) → Type 0
 Unheard faults.Line call old new = IfSome old (HasNoAnswer call)
 Unheard faults.Closed call old new = IfSome old (HasNoAnswer call) × IsAtEnd new
 Unheard faults.Read call old new = Unit {0}
 Unheard fault call old new = ⊥
 
 -- a call's answer was read, or none
-abbrev pub Hears : {A : Type 0} → Call → (A → Return) → Option (List ℕ) → Option (List ℕ) → Result A LineFault → Type 0
+abbrev pub Hears : {A : Type 0} → Call → (A → Return) → Option (List ℕ) → Option (List ℕ) → Result A ProtocolFault → Type 0
 Hears call returns old new result =
     MatchResult result (λ a. Heard call (returns a) old new) (λ fault. Unheard fault call old new)
 
 -- A CALL
 
 -- its streams failed: the request was written in part and nothing was read, or it was written and no answer was read
-abbrev pub Failed : LineFault → Call → (a a' r r' : Option (List ℕ)) → Type 0
+abbrev pub Failed : ProtocolFault → Call → (a a' r r' : Option (List ℕ)) → Type 0
 Failed faults.Write call a a' r r' = AppendsFront r r' (request_of call) × (a' ≡ a)
 Failed fault call a a' r r' = Appends r r' (request_of call) × Unheard fault call a a'
 
 -- its request was written and its answer read, or its streams failed
-abbrev pub Asks : {A : Type 0} → Call → (A → Return) → (a a' r r' : Option (List ℕ)) → Result A LineFault → Type 0
+abbrev pub Asks : {A : Type 0} → Call → (A → Return) → (a a' r r' : Option (List ℕ)) → Result A ProtocolFault → Type 0
 Asks call returns a a' r r' result =
     MatchResult result (λ x. Appends r r' (request_of call) × Heard call (returns x) a a')
     (λ fault. Failed fault call a a' r r')

@@ -6,10 +6,11 @@ ghost use Rattle.sdv_card.specs.declared.answer.DataEnd.{DataEnd};
 ghost use Rattle.sdv_card.specs.declared.answer.WaitEnd.{WaitEnd};
 ghost use Rattle.sdv_frames.specs.declared.reply.Reply.{Reply};
 ghost use Rattle.sdv_lines.specs.Texts.{AreDigits};
-ghost use Rattle.sdv_lines.specs.Answers.{IsWordOf, IsReplyOf, TellsReply, TellsAnswer, data_end_text, wait_end_text};
+ghost use Rattle.sdv_lines.specs.Answers.{IsWordOf, IsReplyOf, SaysLost, TellsReply, TellsAnswer, data_end_text, wait_end_text};
 
+use crate::words;
 use sdv_card::{Answer, DataEnd, WaitEnd};
-use sdv_frames::{Expect, FrameFault, Reply};
+use sdv_frames::{Expect, Reply};
 
 /// The bytes of a response, which follow the name of its format.
 fn bytes_after<const N: usize>(format: &[u8], text: &[u8]) -> Option<[u8; N]>
@@ -45,12 +46,12 @@ fn reply_of(expect: Expect, text: &[u8]) -> Option<Reply>
         Expect::Nothing => None,
         Expect::R1(index) => Some(Reply::R1 {
             index,
-            status: word_after(b"R1 ", text)?,
+            status: word_after(words::R1_CAME, text)?,
         }),
-        Expect::R2 => Some(Reply::R2(bytes_after(b"R2 ", text)?)),
-        Expect::R3 => Some(Reply::R3(word_after(b"R3 ", text)?)),
-        Expect::R6 => Some(Reply::R6(word_after(b"R6 ", text)?)),
-        Expect::R7 => Some(Reply::R7(word_after(b"R7 ", text)?)),
+        Expect::R2 => Some(Reply::R2(bytes_after(words::R2_CAME, text)?)),
+        Expect::R3 => Some(Reply::R3(word_after(words::R3_CAME, text)?)),
+        Expect::R6 => Some(Reply::R6(word_after(words::R6_CAME, text)?)),
+        Expect::R7 => Some(Reply::R7(word_after(words::R7_CAME, text)?)),
     }
 }
 
@@ -61,16 +62,20 @@ fn is_word(text: &[u8], word: &[u8]) -> bool
     text == word
 }
 
-/// What came of a command that has a response, if the text tells it.
+/// Whether no response came that says anything: none in time, or a damaged one.
+fn is_lost(text: &[u8]) -> bool
+    ensures { MatchBool result (SaysLost text.now) (SaysLost text.now → ⊥) }
+{
+    is_word(text, words::TIMEOUT) || is_word(text, words::DAMAGED)
+}
+
+/// What came of a command that has a response, if the text tells it. A damaged response counts as none.
 fn response_of(expect: Expect, text: &[u8]) -> Option<Answer>
     ensures { expect ≢ Expect.Nothing → MatchOption result ((answer : Answer) → TellsAnswer expect answer text.now → ⊥)
         (λ answer. TellsAnswer expect answer text.now) }
 {
-    if is_word(text, b"timeout") {
+    if is_lost(text) {
         return Some(Answer::TimeOut);
-    }
-    if is_word(text, b"damaged") {
-        return Some(Answer::Damaged(FrameFault::Crc));
     }
     match reply_of(expect, text) {
         Some(reply) => Some(Answer::Reply(reply)),
@@ -85,7 +90,7 @@ pub fn answer_of(expect: Expect, text: &[u8]) -> Option<Answer>
 {
     if expect != Expect::Nothing {
         response_of(expect, text)
-    } else if is_word(text, b"-") {
+    } else if is_word(text, words::NOTHING) {
         Some(Answer::Sent)
     } else {
         None
@@ -97,9 +102,9 @@ pub fn data_end_of(text: &[u8]) -> Option<DataEnd>
     ensures { MatchOption result ((end : DataEnd) → text.now ≡ data_end_text end → ⊥)
         (λ end. text.now ≡ data_end_text end) }
 {
-    if is_word(text, b"ok") {
+    if is_word(text, words::OK) {
         Some(DataEnd::Ok)
-    } else if is_word(text, b"cut") {
+    } else if is_word(text, words::CUT) {
         Some(DataEnd::Cut)
     } else {
         None
@@ -111,9 +116,9 @@ pub fn wait_end_of(text: &[u8]) -> Option<WaitEnd>
     ensures { MatchOption result ((end : WaitEnd) → text.now ≡ wait_end_text end → ⊥)
         (λ end. text.now ≡ wait_end_text end) }
 {
-    if is_word(text, b"ok") {
+    if is_word(text, words::OK) {
         Some(WaitEnd::Ok)
-    } else if is_word(text, b"late") {
+    } else if is_word(text, words::LATE) {
         Some(WaitEnd::Late)
     } else {
         None

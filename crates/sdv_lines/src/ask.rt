@@ -10,15 +10,16 @@ ghost use Rattle.sdv_lines.specs.Streams.{Sends, Hears, Asks};
 
 use crate::answer::{answer_of, data_end_of, wait_end_of};
 use crate::digits::{read_blocks, read_digits, send_blocks_behind};
-use crate::fault::LineFault;
+use crate::fault::ProtocolFault;
 use crate::line::{Line, read_line, send};
 use crate::request::{exchange_request, phase_request};
+use crate::words;
 use sdv_card::{Answer, DataEnd, WaitEnd};
 use sdv_frames::{Command, Expect};
 use std::io::{Read, Write};
 
 /// Reads the answer to a command.
-fn hear_answer<R: Read>(reader: &mut R, expect: Expect) -> Result<Answer, LineFault>
+fn hear_answer<R: Read>(reader: &mut R, expect: Expect) -> Result<Answer, ProtocolFault>
     ensures { (command : Command) → Hears (Exchange command expect) Answered (R.remaining reader.old)
         (R.remaining reader.new) result }
 {
@@ -26,24 +27,24 @@ fn hear_answer<R: Read>(reader: &mut R, expect: Expect) -> Result<Answer, LineFa
     read_line(reader, &mut line)?;
     match answer_of(expect, line.as_slice()) {
         Some(answer) => Ok(answer),
-        None => Err(LineFault::Line),
+        None => Err(ProtocolFault::Line),
     }
 }
 
 /// Reads the answer to a wait.
-fn hear_wait<R: Read>(reader: &mut R) -> Result<WaitEnd, LineFault>
+fn hear_wait<R: Read>(reader: &mut R) -> Result<WaitEnd, ProtocolFault>
     ensures { Hears WaitWhileBusy Waited (R.remaining reader.old) (R.remaining reader.new) result }
 {
     let mut line = Line::new();
     read_line(reader, &mut line)?;
     match wait_end_of(line.as_slice()) {
         Some(end) => Ok(end),
-        None => Err(LineFault::Line),
+        None => Err(ProtocolFault::Line),
     }
 }
 
 /// Reads the answer to a phase of blocks from the card, and the blocks.
-fn hear_blocks<R: Read>(reader: &mut R, blocks: &mut [[u8; 512]]) -> Result<DataEnd, LineFault>
+fn hear_blocks<R: Read>(reader: &mut R, blocks: &mut [[u8; 512]]) -> Result<DataEnd, ProtocolFault>
     ensures { (lines : ℕ) → Hears (DataIn lines (length blocks.old)) (λ end. BlocksIn end blocks.new)
         (R.remaining reader.old) (R.remaining reader.new) result }
 {
@@ -55,12 +56,12 @@ fn hear_blocks<R: Read>(reader: &mut R, blocks: &mut [[u8; 512]]) -> Result<Data
             Err(fault) => Err(fault),
         },
         Some(DataEnd::Cut) => Ok(DataEnd::Cut),
-        None => Err(LineFault::Line),
+        None => Err(ProtocolFault::Line),
     }
 }
 
 /// Reads the answer to a phase of a register, and its bytes.
-fn hear_register<R: Read>(reader: &mut R, bytes: &mut [u8]) -> Result<DataEnd, LineFault>
+fn hear_register<R: Read>(reader: &mut R, bytes: &mut [u8]) -> Result<DataEnd, ProtocolFault>
     ensures { (lines : ℕ) → Hears (DataInRegister lines (length bytes.old)) (λ end. RegisterIn end bytes.new)
         (R.remaining reader.old) (R.remaining reader.new) result }
 {
@@ -72,12 +73,12 @@ fn hear_register<R: Read>(reader: &mut R, bytes: &mut [u8]) -> Result<DataEnd, L
             Err(fault) => Err(fault),
         },
         Some(DataEnd::Cut) => Ok(DataEnd::Cut),
-        None => Err(LineFault::Line),
+        None => Err(ProtocolFault::Line),
     }
 }
 
 /// Reads the answer to a phase of blocks to the card.
-fn hear_data_end<R: Read>(reader: &mut R) -> Result<DataEnd, LineFault>
+fn hear_data_end<R: Read>(reader: &mut R) -> Result<DataEnd, ProtocolFault>
     ensures { (lines : ℕ) (blocks : List Block) → Hears (DataOut lines blocks) BlocksOut (R.remaining reader.old)
         (R.remaining reader.new) result }
 {
@@ -85,15 +86,19 @@ fn hear_data_end<R: Read>(reader: &mut R) -> Result<DataEnd, LineFault>
     read_line(reader, &mut line)?;
     match data_end_of(line.as_slice()) {
         Some(end) => Ok(end),
-        None => Err(LineFault::Line),
+        None => Err(ProtocolFault::Line),
     }
 }
 
 /// Writes the request of a phase of blocks to the card, with the blocks, and flushes it.
-fn send_blocks<W: Write>(writer: &mut W, lines: u8, blocks: &[[u8; 512]]) -> Result<(), LineFault>
+fn send_blocks<W: Write>(
+    writer: &mut W,
+    lines: u8,
+    blocks: &[[u8; 512]],
+) -> Result<(), ProtocolFault>
     ensures { Sends (W.contents writer.old) (W.contents writer.new) result (request_of (DataOut lines blocks.now)) }
 {
-    let line = phase_request(b"OUT", blocks.len(), lines);
+    let line = phase_request(words::DATA_OUT, blocks.len(), lines);
     send_blocks_behind(writer, line.as_slice(), blocks)
 }
 
@@ -101,13 +106,13 @@ fn send_blocks<W: Write>(writer: &mut W, lines: u8, blocks: &[[u8; 512]]) -> Res
 ///
 /// # Errors
 ///
-/// Each [`LineFault`].
+/// Each [`ProtocolFault`].
 pub fn exchange<R: Read, W: Write>(
     reader: &mut R,
     writer: &mut W,
     command: Command,
     expect: Expect,
-) -> Result<Answer, LineFault>
+) -> Result<Answer, ProtocolFault>
     ensures { Asks (Exchange command expect) Answered (R.remaining reader.old) (R.remaining reader.new)
         (W.contents writer.old) (W.contents writer.new) result }
 {
@@ -119,12 +124,12 @@ pub fn exchange<R: Read, W: Write>(
 ///
 /// # Errors
 ///
-/// Each [`LineFault`].
-pub fn wait<R: Read, W: Write>(reader: &mut R, writer: &mut W) -> Result<WaitEnd, LineFault>
+/// Each [`ProtocolFault`].
+pub fn wait<R: Read, W: Write>(reader: &mut R, writer: &mut W) -> Result<WaitEnd, ProtocolFault>
     ensures { Asks WaitWhileBusy Waited (R.remaining reader.old) (R.remaining reader.new)
         (W.contents writer.old) (W.contents writer.new) result }
 {
-    send(writer, b"WAIT\n")?;
+    send(writer, words::WAIT_LINE)?;
     hear_wait(reader)
 }
 
@@ -132,17 +137,20 @@ pub fn wait<R: Read, W: Write>(reader: &mut R, writer: &mut W) -> Result<WaitEnd
 ///
 /// # Errors
 ///
-/// Each [`LineFault`].
+/// Each [`ProtocolFault`].
 pub fn data_in<R: Read, W: Write>(
     reader: &mut R,
     writer: &mut W,
     lines: u8,
     blocks: &mut [[u8; 512]],
-) -> Result<DataEnd, LineFault>
+) -> Result<DataEnd, ProtocolFault>
     ensures { Asks (DataIn lines (length blocks.old)) (λ end. BlocksIn end blocks.new) (R.remaining reader.old)
         (R.remaining reader.new) (W.contents writer.old) (W.contents writer.new) result }
 {
-    send(writer, phase_request(b"IN", blocks.len(), lines).as_slice())?;
+    send(
+        writer,
+        phase_request(words::DATA_IN, blocks.len(), lines).as_slice(),
+    )?;
     hear_blocks(reader, blocks)
 }
 
@@ -150,17 +158,20 @@ pub fn data_in<R: Read, W: Write>(
 ///
 /// # Errors
 ///
-/// Each [`LineFault`].
+/// Each [`ProtocolFault`].
 pub fn data_in_register<R: Read, W: Write>(
     reader: &mut R,
     writer: &mut W,
     lines: u8,
     bytes: &mut [u8],
-) -> Result<DataEnd, LineFault>
+) -> Result<DataEnd, ProtocolFault>
     ensures { Asks (DataInRegister lines (length bytes.old)) (λ end. RegisterIn end bytes.new) (R.remaining reader.old)
         (R.remaining reader.new) (W.contents writer.old) (W.contents writer.new) result }
 {
-    send(writer, phase_request(b"REG", bytes.len(), lines).as_slice())?;
+    send(
+        writer,
+        phase_request(words::REGISTER, bytes.len(), lines).as_slice(),
+    )?;
     hear_register(reader, bytes)
 }
 
@@ -168,13 +179,13 @@ pub fn data_in_register<R: Read, W: Write>(
 ///
 /// # Errors
 ///
-/// Each [`LineFault`].
+/// Each [`ProtocolFault`].
 pub fn data_out<R: Read, W: Write>(
     reader: &mut R,
     writer: &mut W,
     lines: u8,
     blocks: &[[u8; 512]],
-) -> Result<DataEnd, LineFault>
+) -> Result<DataEnd, ProtocolFault>
     ensures { Asks (DataOut lines blocks.now) BlocksOut (R.remaining reader.old) (R.remaining reader.new)
         (W.contents writer.old) (W.contents writer.new) result }
 {

@@ -8,7 +8,7 @@ ghost use Rattle.sdv_lines.specs.Hearing.{read_request, IsInRange};
 ghost use Rattle.sdv_lines.specs.Serving.{lines_in, Serves, ReadsRequest, ServesAll};
 
 use crate::digits::read_blocks;
-use crate::fault::{LineFault, ServeFault};
+use crate::fault::{ProtocolFault, ServeFault};
 use crate::hearing::{Request, is_last, request_in};
 use crate::line::{Line, read_line};
 use crate::serving::{serve_data_in, serve_data_out, serve_exchange, serve_register, serve_wait};
@@ -16,13 +16,13 @@ use sdv_card::CardPort;
 use std::io::{Read, Write};
 
 /// Reads the first line of the next request; none where the host ended.
-fn next_request<R: Read>(reader: &mut R) -> Result<Option<Request>, LineFault>
+fn next_request<R: Read>(reader: &mut R) -> Result<Option<Request>, ProtocolFault>
     ensures { ReadsRequest (R.remaining reader.old) (R.remaining reader.new) result }
 {
     let mut line = Line::new();
     match read_line(reader, &mut line) {
         Ok(()) => {}
-        Err(LineFault::Closed) if line.is_empty() => return Ok(None),
+        Err(ProtocolFault::Closed) if line.is_empty() => return Ok(None),
         Err(fault) => return Err(fault),
     }
     if is_last(line.as_slice()) {
@@ -30,7 +30,7 @@ fn next_request<R: Read>(reader: &mut R) -> Result<Option<Request>, LineFault>
     }
     match request_in(line.as_slice()) {
         Some(request) => Ok(Some(request)),
-        None => Err(LineFault::Line),
+        None => Err(ProtocolFault::Line),
     }
 }
 
@@ -51,7 +51,7 @@ fn serve_request<P: CardPort, R: Read, W: Write>(
     writer: &mut W,
     room: &mut [[u8; 512]],
     request: Request,
-) -> Result<(), LineFault>
+) -> Result<(), ProtocolFault>
     requires { IsInRange request }
     ensures { (text : List ℕ) (before : Option (List ℕ)) → IsText text → read_request text ≡ Some request →
         Consumes before (R.remaining reader.old) (text ++ line_feed) →
@@ -63,7 +63,7 @@ fn serve_request<P: CardPort, R: Read, W: Write>(
         Request::DataIn(count, lines) => {
             let count = count as usize;
             if count > room.len() {
-                return Err(LineFault::Line);
+                return Err(ProtocolFault::Line);
             }
             serve_data_in(port, writer, lines, &mut room[..count])
         }
@@ -74,7 +74,7 @@ fn serve_request<P: CardPort, R: Read, W: Write>(
         Request::DataOut(count, lines) => {
             let count = count as usize;
             if count > room.len() {
-                return Err(LineFault::Line);
+                return Err(ProtocolFault::Line);
             }
             let blocks = &mut room[..count];
             let mut line = Line::new();
@@ -93,8 +93,8 @@ fn serve_request<P: CardPort, R: Read, W: Write>(
 /// # Errors
 ///
 /// The first request that is none of the protocol, asks for more blocks than there is room for, or is not complete, by
-/// the number of its first line: nothing is done for it. [`LineFault::Write`]: it was done, and its answer was not
-/// written whole. [`LineFault::Read`].
+/// the number of its first line: nothing is done for it. [`ProtocolFault::Write`]: it was done, and its answer was not
+/// written whole. [`ProtocolFault::Read`].
 pub fn serve<P: CardPort, R: Read, W: Write>(
     port: &mut P,
     reader: &mut R,
@@ -119,6 +119,6 @@ pub fn serve<P: CardPort, R: Read, W: Write>(
     // After 2^64 requests.
     Err(ServeFault {
         line,
-        fault: LineFault::Read,
+        fault: ProtocolFault::Read,
     })
 }

@@ -8,7 +8,7 @@ ghost use Rattle.sdv_lines.specs.Requests.{block_texts};
 ghost use Rattle.sdv_lines.specs.Streams.{Sends};
 ghost use Rattle.sdv_lines.specs.Texts.{lines_of};
 
-use crate::fault::LineFault;
+use crate::fault::ProtocolFault;
 use crate::line::{Line, flush, put, read_line, send};
 use std::io::{Read, Write};
 
@@ -22,7 +22,7 @@ fn digits_of(block: &[u8; 512]) -> [u8; 1024]
 }
 
 /// Writes the line of a block.
-fn put_block<W: Write>(writer: &mut W, block: &[u8; 512]) -> Result<(), LineFault>
+fn put_block<W: Write>(writer: &mut W, block: &[u8; 512]) -> Result<(), ProtocolFault>
     ensures { Sends (W.contents writer.old) (W.contents writer.new) result (encode_lower block.now ++ line_feed) }
 {
     let digits = digits_of(block);
@@ -34,8 +34,8 @@ fn put_block<W: Write>(writer: &mut W, block: &[u8; 512]) -> Result<(), LineFaul
 ///
 /// # Errors
 ///
-/// [`LineFault::Write`].
-pub fn put_blocks<W: Write>(writer: &mut W, blocks: &[[u8; 512]]) -> Result<(), LineFault>
+/// [`ProtocolFault::Write`].
+pub fn put_blocks<W: Write>(writer: &mut W, blocks: &[[u8; 512]]) -> Result<(), ProtocolFault>
     ensures { Sends (W.contents writer.old) (W.contents writer.new) result (lines_of (block_texts blocks.now)) }
 {
     for block in blocks {
@@ -48,12 +48,12 @@ pub fn put_blocks<W: Write>(writer: &mut W, blocks: &[[u8; 512]]) -> Result<(), 
 ///
 /// # Errors
 ///
-/// [`LineFault::Write`].
+/// [`ProtocolFault::Write`].
 pub fn send_blocks_behind<W: Write>(
     writer: &mut W,
     line: &[u8],
     blocks: &[[u8; 512]],
-) -> Result<(), LineFault>
+) -> Result<(), ProtocolFault>
     ensures { Sends (W.contents writer.old) (W.contents writer.new) result
         (line.now ++ lines_of (block_texts blocks.now)) }
 {
@@ -66,12 +66,12 @@ pub fn send_blocks_behind<W: Write>(
 ///
 /// # Errors
 ///
-/// [`LineFault::Write`].
+/// [`ProtocolFault::Write`].
 pub fn send_digits_behind<W: Write>(
     writer: &mut W,
     line: &[u8],
     bytes: &[u8],
-) -> Result<(), LineFault>
+) -> Result<(), ProtocolFault>
     requires { length bytes.now ≤ 512 }
     ensures { Sends (W.contents writer.old) (W.contents writer.new) result
         (line.now ++ (encode_lower bytes.now ++ line_feed)) }
@@ -92,7 +92,7 @@ fn encode_digits(bytes: &[u8], digits: &mut [u8])
 }
 
 /// Writes the line of these digits, and flushes it.
-fn put_digits<W: Write>(writer: &mut W, digits: &[u8]) -> Result<(), LineFault>
+fn put_digits<W: Write>(writer: &mut W, digits: &[u8]) -> Result<(), ProtocolFault>
     ensures { Sends (W.contents writer.old) (W.contents writer.new) result (digits.now ++ line_feed) }
 {
     put(writer, digits)?;
@@ -103,18 +103,18 @@ fn put_digits<W: Write>(writer: &mut W, digits: &[u8]) -> Result<(), LineFault>
 ///
 /// # Errors
 ///
-/// [`LineFault::Closed`], [`LineFault::Read`], and [`LineFault::Line`] for any other line.
+/// [`ProtocolFault::Closed`], [`ProtocolFault::Read`], and [`ProtocolFault::Line`] for any other line.
 pub fn read_digits<R: Read>(
     reader: &mut R,
     line: &mut Line,
     bytes: &mut [u8],
-) -> Result<(), LineFault>
+) -> Result<(), ProtocolFault>
     ensures { ReadsDigits (R.remaining reader.old) (R.remaining reader.new) (length bytes.old) bytes.new result }
 {
     read_line(reader, line)?;
     match hex::decode_to_slice(line.as_slice(), bytes) {
         Ok(()) => Ok(()),
-        Err(_) => Err(LineFault::Line),
+        Err(_) => Err(ProtocolFault::Line),
     }
 }
 
@@ -123,7 +123,7 @@ fn read_block<R: Read>(
     reader: &mut R,
     line: &mut Line,
     block: &mut [u8; 512],
-) -> Result<(), LineFault>
+) -> Result<(), ProtocolFault>
     ensures { ReadsDigits (R.remaining reader.old) (R.remaining reader.new) 512 block.new result }
 {
     read_digits(reader, line, block)
@@ -138,7 +138,7 @@ pub fn read_blocks<R: Read>(
     reader: &mut R,
     line: &mut Line,
     blocks: &mut [[u8; 512]],
-) -> Result<(), LineFault>
+) -> Result<(), ProtocolFault>
     ensures { ReadsBlocks (R.remaining reader.old) (R.remaining reader.new) (length blocks.old) blocks.new result }
 {
     for i in 0..blocks.len() {

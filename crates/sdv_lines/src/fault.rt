@@ -4,7 +4,7 @@ use thiserror::Error;
 
 /// Why a side of the lines stopped. It neither reads nor writes after that.
 #[derive(Clone, Copy, Debug, PartialEq, Eq, Error)]
-pub enum LineFault {
+pub enum ProtocolFault {
     /// The writer failed.
     #[error("a line could not be written")]
     Write,
@@ -24,7 +24,7 @@ pub enum LineFault {
 pub enum PortFault {
     /// Its streams failed, or what came is no answer.
     #[error("{0}")]
-    Lines(LineFault),
+    Lines(ProtocolFault),
     /// A command was to be sent, and none was left of those that it may send.
     #[error("a command was to be sent, and none was left")]
     Commands,
@@ -37,5 +37,5 @@ pub struct ServeFault {
     /// The first line of the request that was not served, or 2^64 - 1 where that is more.
     pub line: u64,
     /// Why it was not served.
-    pub fault: LineFault,
+    pub fault: ProtocolFault,
 }

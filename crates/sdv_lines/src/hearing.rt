@@ -4,6 +4,7 @@ ghost use Rattle.std.specs.Prelude.{◌≡◌, ◌^◌, min, option_map, IfSome}
 ghost use Rattle.sdv_text.specs.Fronts.{after, is_word, is_digit, run, number_after};
 ghost use Rattle.sdv_lines.specs.Hearing.{read_number, read_word, read_expect, read_command, read_phase, register_in, read_request, is_last, IsInRange};
 
+use crate::words;
 use sdv_frames::{Command, Expect};
 use sdv_text::{after, capped_value, digits_len, is_word};
 
@@ -59,17 +60,17 @@ fn word(text: &[u8]) -> Read<'_, u32>
 fn expect(index: u8, text: &[u8]) -> Option<Expect>
     ensures { result ≡ read_expect index text.now }
 {
-    if is_word(text, b"-") {
+    if is_word(text, words::NOTHING) {
         Some(Expect::Nothing)
-    } else if is_word(text, b"R1") {
+    } else if is_word(text, words::R1) {
         Some(Expect::R1(index))
-    } else if is_word(text, b"R2") {
+    } else if is_word(text, words::R2) {
         Some(Expect::R2)
-    } else if is_word(text, b"R3") {
+    } else if is_word(text, words::R3) {
         Some(Expect::R3)
-    } else if is_word(text, b"R6") {
+    } else if is_word(text, words::R6) {
         Some(Expect::R6)
-    } else if is_word(text, b"R7") {
+    } else if is_word(text, words::R7) {
         Some(Expect::R7)
     } else {
         None
@@ -83,9 +84,9 @@ fn command(text: &[u8]) -> Option<Request>
     ensures range { IfSome result IsInRange }
 {
     let (index, rest) = number(text)?;
-    let rest = after(rest, b" ")?;
+    let rest = after(rest, words::SPACE)?;
     let (argument, rest) = word(rest)?;
-    let rest = after(rest, b" ")?;
+    let rest = after(rest, words::SPACE)?;
     if index > 63 {
         return None;
     }
@@ -102,7 +103,7 @@ fn phase(text: &[u8]) -> Option<(u32, u8)>
     ensures { result ≡ read_phase text.now }
 {
     let (count, rest) = number(text)?;
-    let rest = after(rest, b" lines ")?;
+    let rest = after(rest, words::LINES)?;
     let (lines, rest) = number(rest)?;
     if !rest.is_empty() {
         return None;
@@ -131,7 +132,7 @@ fn register(text: &[u8]) -> Option<Request>
 pub fn is_last(text: &[u8]) -> bool
     ensures { result ≡ is_last text.now }
 {
-    is_word(text, b"done") || after(text, b"fault ").is_some()
+    is_word(text, words::DONE) || after(text, words::FAULT).is_some()
 }
 
 /// What the first line of a request says, if it is one.
@@ -140,21 +141,21 @@ pub fn request_in(text: &[u8]) -> Option<Request>
     ensures said { result ≡ read_request text.now }
     ensures range { IfSome result IsInRange }
 {
-    if let Some(rest) = after(text, b"CMD") {
+    if let Some(rest) = after(text, words::COMMAND) {
         return command(rest);
     }
-    if let Some(rest) = after(text, b"IN ") {
+    if let Some(rest) = after(text, words::DATA_IN) {
         let (count, lines) = phase(rest)?;
         return Some(Request::DataIn(count, lines));
     }
-    if let Some(rest) = after(text, b"OUT ") {
+    if let Some(rest) = after(text, words::DATA_OUT) {
         let (count, lines) = phase(rest)?;
         return Some(Request::DataOut(count, lines));
     }
-    if let Some(rest) = after(text, b"REG ") {
+    if let Some(rest) = after(text, words::REGISTER) {
         return register(rest);
     }
-    if is_word(text, b"WAIT") {
+    if is_word(text, words::WAIT) {
         return Some(Request::Wait);
     }
     None

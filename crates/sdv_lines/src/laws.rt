@@ -1,12 +1,16 @@
 //! Laws of the lines.
 
+ghost use Rattle.std.specs.Prelude.{Option};
+ghost use Rattle.sdv_card.specs.Card.{Card};
+ghost use Rattle.sdv_card.specs.Damage.{KeepsTablesOverNoise};
 ghost use Rattle.sdv_lines.specs.Partner.{ShowsOtherCard};
 
 use sdv_card::CardPort;
 
 /// Where the other side of the lines makes each call of a request once, by a port that shows a card, and its answers tell what
 /// that gave, a port of lines shows that card: each call is a step of the card, if its event is legal there and in bounds, a host
-/// beside the card makes it, and the transfer that is due lies on the card.
+/// beside the card makes it, and the transfer that is due lies on the card. The other side's bus may damage responses: the
+/// card then does what it does where its response is lost, and the answer says `damaged`, or `timeout`.
 pub fn shows_the_card_of_the_other_side<P: CardPort>()
-    ensures { ShowsOtherCard P.steps P.card }
+    ensures { (card : P → Option Card) → KeepsTablesOverNoise P.steps card → ShowsOtherCard P.steps card }
 {}

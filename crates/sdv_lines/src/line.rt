@@ -5,7 +5,7 @@ ghost use Rattle.std.specs.Io.KnownBytes.{Keeps};
 ghost use Rattle.sdv_lines.specs.Reading.{ReadsByte, ReadsLine};
 ghost use Rattle.sdv_lines.specs.Streams.{Sends};
 
-use crate::fault::LineFault;
+use crate::fault::ProtocolFault;
 use arrayvec::ArrayVec;
 use sdv_text::write_text;
 use std::io::{Read, Write};
@@ -20,13 +20,13 @@ pub type Line = ArrayVec<u8, LONGEST>;
 ///
 /// # Errors
 ///
-/// [`LineFault::Write`].
-pub fn put<W: Write>(writer: &mut W, text: &[u8]) -> Result<(), LineFault>
+/// [`ProtocolFault::Write`].
+pub fn put<W: Write>(writer: &mut W, text: &[u8]) -> Result<(), ProtocolFault>
     ensures { Sends (W.contents writer.old) (W.contents writer.new) result text.now }
 {
     match write_text(writer, text) {
         Ok(()) => Ok(()),
-        Err(_) => Err(LineFault::Write),
+        Err(_) => Err(ProtocolFault::Write),
     }
 }
 
@@ -34,14 +34,14 @@ pub fn put<W: Write>(writer: &mut W, text: &[u8]) -> Result<(), LineFault>
 ///
 /// # Errors
 ///
-/// [`LineFault::Write`].
-pub fn flush<W: Write>(writer: &mut W) -> Result<(), LineFault>
+/// [`ProtocolFault::Write`].
+pub fn flush<W: Write>(writer: &mut W) -> Result<(), ProtocolFault>
     ensures same { Keeps (W.contents writer.old) (W.contents writer.new) }
-    ensures fault { IfErr result (λ fault. fault ≡ LineFault.Write) }
+    ensures fault { IfErr result (λ fault. fault ≡ ProtocolFault.Write) }
 {
     match writer.flush() {
         Ok(()) => Ok(()),
-        Err(_) => Err(LineFault::Write),
+        Err(_) => Err(ProtocolFault::Write),
     }
 }
 
@@ -49,8 +49,8 @@ pub fn flush<W: Write>(writer: &mut W) -> Result<(), LineFault>
 ///
 /// # Errors
 ///
-/// [`LineFault::Write`].
-pub fn send<W: Write>(writer: &mut W, request: &[u8]) -> Result<(), LineFault>
+/// [`ProtocolFault::Write`].
+pub fn send<W: Write>(writer: &mut W, request: &[u8]) -> Result<(), ProtocolFault>
     ensures { Sends (W.contents writer.old) (W.contents writer.new) result request.now }
 {
     put(writer, request)?;
@@ -61,15 +61,15 @@ pub fn send<W: Write>(writer: &mut W, request: &[u8]) -> Result<(), LineFault>
 ///
 /// # Errors
 ///
-/// [`LineFault::Closed`] at the end of the stream, and [`LineFault::Read`].
-fn read_byte<R: Read>(reader: &mut R) -> Result<u8, LineFault>
+/// [`ProtocolFault::Closed`] at the end of the stream, and [`ProtocolFault::Read`].
+fn read_byte<R: Read>(reader: &mut R) -> Result<u8, ProtocolFault>
     ensures { ReadsByte (R.remaining reader.old) (R.remaining reader.new) result }
 {
     let mut byte = [0];
     match reader.read(&mut byte) {
-        Ok(0) => Err(LineFault::Closed),
+        Ok(0) => Err(ProtocolFault::Closed),
         Ok(_) => Ok(byte[0]),
-        Err(_) => Err(LineFault::Read),
+        Err(_) => Err(ProtocolFault::Read),
     }
 }
 
@@ -77,9 +77,9 @@ fn read_byte<R: Read>(reader: &mut R) -> Result<u8, LineFault>
 ///
 /// # Errors
 ///
-/// [`LineFault::Closed`] where the stream ends before a line feed, [`LineFault::Line`] where a line is longer than
-/// any of the protocol, and [`LineFault::Read`].
-pub fn read_line<R: Read>(reader: &mut R, line: &mut Line) -> Result<(), LineFault>
+/// [`ProtocolFault::Closed`] where the stream ends before a line feed, [`ProtocolFault::Line`] where a line is longer than
+/// any of the protocol, and [`ProtocolFault::Read`].
+pub fn read_line<R: Read>(reader: &mut R, line: &mut Line) -> Result<(), ProtocolFault>
     ensures { ReadsLine (R.remaining reader.old) (R.remaining reader.new) line.new.items result }
 {
     line.clear();
@@ -94,6 +94,6 @@ pub fn read_line<R: Read>(reader: &mut R, line: &mut Line) -> Result<(), LineFau
     if byte == b'\n' {
         Ok(())
     } else {
-        Err(LineFault::Line)
+        Err(ProtocolFault::Line)
     }
 }

@@ -80,7 +80,7 @@ impl<R: Read, W: Write> LinePort<R, W> {
     ///
     /// # Errors
     ///
-    /// [`LineFault::Write`](crate::LineFault::Write), which the port then keeps; or why it gave up before, and nothing is
+    /// [`ProtocolFault::Write`](crate::ProtocolFault::Write), which the port then keeps; or why it gave up before, and nothing is
     /// written.
     pub fn tell_end(&mut self, end: &End) -> Result<(), PortFault>
         ensures { TellsEnd (streams_of R.remaining W.contents self.old) (end_line end.now) result

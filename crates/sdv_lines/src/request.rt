@@ -8,6 +8,7 @@ ghost use Rattle.sdv_trace.specs.Trace.{line_feed};
 ghost use Rattle.sdv_lines.specs.Requests.{expect_text, phase_text, request_of};
 ghost use Rattle.sdv_lines.specs.Serving.{answer_of};
 
+use crate::words;
 use sdv_card::Answer;
 use sdv_frames::{Command, Expect};
 use sdv_trace::{LineBytes, put, put_answer, put_command, put_decimal};
@@ -19,12 +20,12 @@ fn put_expect(line: &mut LineBytes, expect: Expect)
     ensures len { array_vec_len line.new ≤ array_vec_len line.old + 2 }
 {
     match expect {
-        Expect::Nothing => put(line, b"-"),
-        Expect::R1(_) => put(line, b"R1"),
-        Expect::R2 => put(line, b"R2"),
-        Expect::R3 => put(line, b"R3"),
-        Expect::R6 => put(line, b"R6"),
-        Expect::R7 => put(line, b"R7"),
+        Expect::Nothing => put(line, words::NOTHING),
+        Expect::R1(_) => put(line, words::R1),
+        Expect::R2 => put(line, words::R2),
+        Expect::R3 => put(line, words::R3),
+        Expect::R6 => put(line, words::R6),
+        Expect::R7 => put(line, words::R7),
     }
 }
 
@@ -39,16 +40,15 @@ pub fn exchange_request(command: Command, expect: Expect) -> LineBytes
     line
 }
 
-/// The line of a phase, by its word, how many blocks or bytes it has, and over how many data lines.
-pub fn phase_request(word: &[u8], count: usize, lines: u8) -> LineBytes
-    requires { length word.now ≤ 3 }
-    ensures { result.items ≡ phase_text word.now count lines ++ line_feed }
+/// The line of a phase, by what it begins with, how many blocks or bytes it has, and over how many data lines.
+pub fn phase_request(front: &[u8], count: usize, lines: u8) -> LineBytes
+    requires { length front.now ≤ 4 }
+    ensures { result.items ≡ phase_text front.now count lines ++ line_feed }
 {
     let mut line = LineBytes::new();
-    put(&mut line, word);
-    put(&mut line, b" ");
+    put(&mut line, front);
     put_decimal(&mut line, count as u64);
-    put(&mut line, b" lines ");
+    put(&mut line, words::LINES);
     put_decimal(&mut line, u64::from(lines));
     put(&mut line, b"\n");
     line

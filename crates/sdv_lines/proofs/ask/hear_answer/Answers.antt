@@ -8,7 +8,7 @@ use Rattle.sdv_lines.proofs.ask.hear_answer.Goals as goal
 pub returns-in_err-read_line : goal.returns-in_err-read_line
 returns-in_err-read_line g c = λ command.
     let none = unread (Exchange command c.args.expect) (g.R.Read.remaining c.args.reader.now) (g.R.Read.remaining c.read_line.new.reader)
-    c.in_err-read_line.field-0.0 c.in_err-read_line.ensures in
+    c.in_err-read_line.field-0.0 c.in_err-read_line.ensures.0 in
     search rules
 
 pub returns-in-Some : goal.returns-in-Some

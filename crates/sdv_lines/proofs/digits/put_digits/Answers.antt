@@ -1,6 +1,6 @@
 use Rattle.std.proofs.Common.{◌≡◌, ◌++◌, rules}
 use Rattle.sdv_trace.specs.Trace.{line_feed}
-use Rattle.sdv_lines.specs.declared.fault.LineFault.TheVariants.{Write}
+use Rattle.sdv_lines.specs.declared.fault.ProtocolFault.TheVariants.{Write}
 use Rattle.sdv_lines.specs.Streams.{AppendsFront}
 use Rattle.sdv_lines.proofs.SendLaws.{front_before, sends_more}
 use Rattle.sdv_lines.proofs.digits.put_digits.Goals as goal

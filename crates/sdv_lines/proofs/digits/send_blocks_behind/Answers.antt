@@ -1,6 +1,6 @@
 use Rattle.std.proofs.Common.{◌≡◌, ◌++◌, rules}
 use Rattle.std.specs.Io.KnownBytes.{Appends}
-use Rattle.sdv_lines.specs.declared.fault.LineFault.TheVariants.{Write}
+use Rattle.sdv_lines.specs.declared.fault.ProtocolFault.TheVariants.{Write}
 use Rattle.sdv_lines.specs.Texts.{lines_of}
 use Rattle.sdv_lines.specs.Requests.{block_texts}
 use Rattle.sdv_lines.specs.Streams.{AppendsFront}

@@ -1,7 +1,7 @@
 use Rattle.std.proofs.Common.{◌≡◌, ◌++◌, List, ℕ, rules, subst}
 use Rattle.hex.specs.Hex.{encode_lower}
 use Rattle.sdv_trace.specs.Trace.{line_feed}
-use Rattle.sdv_lines.specs.declared.fault.LineFault.TheVariants.{Write}
+use Rattle.sdv_lines.specs.declared.fault.ProtocolFault.TheVariants.{Write}
 use Rattle.sdv_lines.specs.Streams.{AppendsFront, Sends}
 use Rattle.sdv_lines.proofs.SendLaws.{front_before, sends_more}
 use Rattle.sdv_lines.proofs.digits.send_digits_behind.Goals as goal
