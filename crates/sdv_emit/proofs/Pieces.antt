@@ -8,16 +8,6 @@ three_pieces (Ok u) old one two three a b c p q r =
     r ∙ (ap (λ (l : Text). l ++ c) (q ∙ ap (λ (l : Text). l ++ b) p) ∙ (append_assoc (old ++ a) b c ∙ append_assoc old a (b ++ c)))
 three_pieces (Err e) old one two three a b c p q r = tt
 
--- the last two pieces are one
-joined : {E : Type 0} (r : Result (Unit {0}) E) (two three four c d : Text) → three ≡ two ++ c → OnOk r (four ≡ three ++ d) → OnOk r (four ≡ two ++ (c ++ d))
-joined (Ok u) two three four c d s t = t ∙ (ap (λ (l : Text). l ++ d) s ∙ append_assoc two c d)
-joined (Err e) two three four c d s t = tt
-
-pub four_pieces : {E : Type 0} (r : Result (Unit {0}) E) (old one two three four a b c d : Text) → one ≡ old ++ a → two ≡ one ++ b → three ≡ two ++ c
-    → OnOk r (four ≡ three ++ d) → OnOk r (four ≡ old ++ (a ++ (b ++ (c ++ d))))
-four_pieces r old one two three four a b c d p q s t =
-    three_pieces r old one two four a b (c ++ d) p q (joined r two three four c d s t)
-
 -- from the beginning of a text on
 pub whole_of_four : (zero one two three four a b c d : Text) → zero ≡ [] → one ≡ zero ++ a → two ≡ one ++ b → three ≡ two ++ c → four ≡ three ++ d
     → four ≡ (a ++ b) ++ (c ++ d)

@@ -1,5 +1,5 @@
 -- What is EMITTED of the texts of a script and a certificate.
-use Rattle.std.specs.Prelude.{◌≡◌, true, false, Err}
+use Rattle.std.specs.Prelude.{◌≡◌, true, false, Some, Err}
 use Rattle.sdv_check.specs.Headline.{EachRunOf}
 use Rattle.sdv_check.specs.Verified.{Acceptance, IsAccepted, Verified}
 use Rattle.sdv_graph.specs.Graph.{Graph}
@@ -21,7 +21,7 @@ pub record EmitsGraph (a : Acceptance) (file name : Text) (e : Emitted) : Type 0
   pub text : e.text.items ≡ c_text file name a.bound a.graph (table_of a.graph a.bound)
   pub binary : e.binary.items ≡ little_endian (table_of a.graph a.bound)
   -- what a compiler reads in the text, and a loader in the bytes, is that table
-  pub text_read : words_in e.text.items ≡ table_of a.graph a.bound
+  pub text_read : words_in e.text.items ≡ Some (table_of a.graph a.bound)
   pub binary_read : words_of_bytes e.binary.items ≡ table_of a.graph a.bound
 
 -- The certificate is closed for the graph of the script, with the bound that is printed, and the table of that graph was

@@ -1,23 +1,15 @@
 -- IDENTIFIERS of C, for an array in a text that includes `stddef.h` and `stdint.h`: ISO/IEC 9899:1999, sections 6.4.1
 -- (keywords), 6.4.2 (identifiers), 7.1.3 (names that are reserved), 7.17 and 7.18 (the names of the headers) and 7.26.8 (the
 -- names that `stdint.h` may add).
-use Rattle.std.specs.Prelude.{ℕ, List, [], ◌∷◌, Bool, true, false, ◌==◌, ◌||◌, ◌&&◌, nat_eq, nat_le, codes, if◌then◌else◌}
+use Rattle.std.specs.Prelude.{ℕ, List, [], ◌∷◌, Bool, true, false, ◌==◌, ◌||◌, ◌&&◌, nat_eq, nat_le, if◌then◌else◌}
 use Rattle.std.specs.List.{ends_with, list_all, list_any, starts_with}
 use Rattle.std.specs.Str.{bytes_eq}
+use Rattle.sdv_emit.specs.declared.identifier.TheConstants.{KEYWORDS, OTHER_NAMES, SIGNED_TYPE, UNSIGNED_TYPE, TYPE_END, SIGNED_MACRO, UNSIGNED_MACRO, LEAST_END, MOST_END, CONSTANT_END}
 
 -- KEYWORDS of C99
 
-abbrev pub keywords : List (List ℕ)
-keywords =
-    codes "auto" ∷ codes "break" ∷ codes "case" ∷ codes "char" ∷ codes "const" ∷ codes "continue" ∷ codes "default"
-    ∷ codes "do" ∷ codes "double" ∷ codes "else" ∷ codes "enum" ∷ codes "extern" ∷ codes "float" ∷ codes "for"
-    ∷ codes "goto" ∷ codes "if" ∷ codes "inline" ∷ codes "int" ∷ codes "long" ∷ codes "register" ∷ codes "restrict"
-    ∷ codes "return" ∷ codes "short" ∷ codes "signed" ∷ codes "sizeof" ∷ codes "static" ∷ codes "struct"
-    ∷ codes "switch" ∷ codes "typedef" ∷ codes "union" ∷ codes "unsigned" ∷ codes "void" ∷ codes "volatile"
-    ∷ codes "while" ∷ codes "_Bool" ∷ codes "_Complex" ∷ codes "_Imaginary" ∷ []
-
 abbrev pub is_keyword : List ℕ → Bool
-is_keyword name = list_any (λ keyword. bytes_eq keyword name) keywords
+is_keyword name = list_any (λ keyword. bytes_eq keyword.now name) KEYWORDS
 
 -- TAKEN by C, though they are identifiers
 
@@ -33,28 +25,23 @@ begins_and_ends front back name = starts_with nat_eq name front && ends_with nat
 
 -- `int8_t`, `uint_fast16_t`, ..
 abbrev pub is_integer_type : List ℕ → Bool
-is_integer_type name = begins_and_ends (codes "int") (codes "_t") name || begins_and_ends (codes "uint") (codes "_t") name
+is_integer_type name =
+    begins_and_ends SIGNED_TYPE.now TYPE_END.now name || begins_and_ends UNSIGNED_TYPE.now TYPE_END.now name
 
 -- `INT8_MIN`, `UINT32_C`, .. begin so
 abbrev pub is_integer_macro : (front name : List ℕ) → Bool
 is_integer_macro front name =
-    begins_and_ends front (codes "_MIN") name
-    || (begins_and_ends front (codes "_MAX") name || begins_and_ends front (codes "_C") name)
+    begins_and_ends front LEAST_END.now name
+    || (begins_and_ends front MOST_END.now name || begins_and_ends front CONSTANT_END.now name)
 
 -- the other names of the two headers, and the function that a program begins with
-abbrev pub other_names : List (List ℕ)
-other_names =
-    codes "main" ∷ codes "size_t" ∷ codes "ptrdiff_t" ∷ codes "wchar_t" ∷ codes "NULL" ∷ codes "offsetof"
-    ∷ codes "PTRDIFF_MIN" ∷ codes "PTRDIFF_MAX" ∷ codes "SIG_ATOMIC_MIN" ∷ codes "SIG_ATOMIC_MAX" ∷ codes "SIZE_MAX"
-    ∷ codes "WCHAR_MIN" ∷ codes "WCHAR_MAX" ∷ codes "WINT_MIN" ∷ codes "WINT_MAX" ∷ []
-
 abbrev pub is_other_name : List ℕ → Bool
-is_other_name name = list_any (λ other. bytes_eq other name) other_names
+is_other_name name = list_any (λ other. bytes_eq other.now name) OTHER_NAMES
 
 abbrev pub is_in_headers : List ℕ → Bool
 is_in_headers name =
     is_integer_type name
-    || (is_integer_macro (codes "INT") name || (is_integer_macro (codes "UINT") name || is_other_name name))
+    || (is_integer_macro SIGNED_MACRO.now name || (is_integer_macro UNSIGNED_MACRO.now name || is_other_name name))
 
 abbrev pub is_taken : List ℕ → Bool
 is_taken name = is_keyword name || (is_reserved name || is_in_headers name)

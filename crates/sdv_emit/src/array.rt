@@ -1,6 +1,6 @@
 //! The text of a table in C, and its bytes.
 
-ghost use Rattle.std.specs.Prelude.{◌≡◌, ◌++◌, ◌+◌, ◌≤◌, IfOk, OnOk, length, true};
+ghost use Rattle.std.specs.Prelude.{◌≡◌, ◌++◌, ◌+◌, ◌≤◌, IfOk, OnOk, Some, length, true};
 ghost use Rattle.sdv_table.specs.Table.{header_size};
 ghost use Rattle.sdv_emit.specs.Identifier.{is_identifier};
 ghost use Rattle.sdv_emit.specs.Reading.{words_in, words_of_bytes};
@@ -10,7 +10,8 @@ use crate::points::put_points;
 use crate::text::put_comment;
 use crate::words::put_words;
 use sdv_graph::Graph;
-use sdv_telling::{Text, put, put_with_number};
+use sdv_table::format::HEADER_SIZE;
+use sdv_telling::{Text, put, put_all, put_with_number};
 use std::alloc::{AllocError, Global};
 
 /// What the array of a table is called, and where it comes from.
@@ -33,15 +34,40 @@ const PROMISE: &str = "
  * the table as docs/TABLES.md says, and its driver does what firmware/README.md asks. No player in C is proved. */
 ";
 
+const SCRIPT: &str = "Table of the script ";
+
+const BOUND: &str = ", certified to send at most ";
+
+const COMMANDS: &str = " commands a run.";
+
+/// What stands before the array's name.
+const INCLUDES: &str = "#include <stddef.h>\n#include <stdint.h>\n\nconst uint32_t ";
+
+/// What begins the array. The header ends in the two words of the number of commands.
+const ARRAY_START: &str =
+    "[] = {\n    /* header; a player sends no more commands than its last two words say */";
+
+const ROWS: &str = "\n    /* rows */";
+
+const ARRAY_END: &str = "\n};\n";
+
+// the pieces of `const size_t NAME_words = sizeof NAME / sizeof NAME[0];`
+const COUNT: &str = "\nconst size_t ";
+
+const COUNT_IS: &str = "_words = sizeof ";
+
+const DIVIDED_BY: &str = " / sizeof ";
+
+const FIRST_WORD: &str = "[0];\n";
+
 /// Which script the table is of, and what its certificate says.
 fn title(alloc: Global, file: &str, bound: u64) -> Result<Text, AllocError>
     ensures { IfOk result (λ words. words.items ≡ title file.now bound) }
 {
     let mut words = Vec::new(alloc);
-    put(&mut words, "Table of the script ")?;
-    put(&mut words, file)?;
-    put_with_number(&mut words, ", certified to send at most ", bound)?;
-    put(&mut words, " commands a run.")?;
+    put_all(&mut words, &[SCRIPT, file])?;
+    put_with_number(&mut words, BOUND, bound)?;
+    put(&mut words, COMMANDS)?;
     Ok(words)
 }
 
@@ -57,24 +83,16 @@ fn put_top(alloc: Global, text: &mut Text, file: &str, bound: u64) -> Result<(),
 fn put_declaration(text: &mut Text, name: &str) -> Result<(), AllocError>
     ensures { OnOk result (text.new.items ≡ text.old.items ++ declaration name.now) }
 {
-    put(
-        text,
-        "#include <stddef.h>\n#include <stdint.h>\n\nconst uint32_t ",
-    )?;
-    put(text, name)?;
-    put(
-        text,
-        "[] = {\n    /* header; a player sends no more commands than its last two words say */",
-    )
+    put_all(text, &[INCLUDES, name, ARRAY_START])
 }
 
 /// Adds the rows, and the end of the array.
 fn put_rows(text: &mut Text, rows: &[u32]) -> Result<(), AllocError>
     ensures { OnOk result (text.new.items ≡ text.old.items ++ rows_text rows.now) }
 {
-    put(text, "\n    /* rows */")?;
+    put(text, ROWS)?;
     put_words(text, rows)?;
-    put(text, "\n};\n")
+    put(text, ARRAY_END)
 }
 
 /// Adds the words of the array, and its end.
@@ -87,27 +105,19 @@ fn put_array(
     requires heads { header_size + length graph.now.points ≤ length words.now }
     ensures { OnOk result (text.new.items ≡ text.old.items ++ array_text graph.now words.now) }
 {
-    put_words(text, &words[..8])?;
+    put_words(text, &words[..HEADER_SIZE])?;
     put_points(alloc, text, graph, words)?;
-    put_rows(text, &words[8 + graph.len()..])
-}
-
-/// Adds words, and the name behind them.
-fn put_with_name(text: &mut Text, words: &str, name: &str) -> Result<(), AllocError>
-    ensures { OnOk result (text.new.items ≡ text.old.items ++ (words.now ++ name.now)) }
-{
-    put(text, words)?;
-    put(text, name)
+    put_rows(text, &words[HEADER_SIZE + graph.len()..])
 }
 
 /// Adds the number of the array's words.
 fn put_count(text: &mut Text, name: &str) -> Result<(), AllocError>
     ensures { OnOk result (text.new.items ≡ text.old.items ++ count_text name.now) }
 {
-    put_with_name(text, "\nconst size_t ", name)?;
-    put_with_name(text, "_words = sizeof ", name)?;
-    put_with_name(text, " / sizeof ", name)?;
-    put(text, "[0];\n")
+    put_all(
+        text,
+        &[COUNT, name, COUNT_IS, name, DIVIDED_BY, name, FIRST_WORD],
+    )
 }
 
 /// The text in C of the table of a graph, whose words are these.
@@ -122,7 +132,7 @@ pub fn c_text(
     ensures text { IfOk result (λ text.
         text.items ≡ c_text labels.now.file.now labels.now.name.now bound graph.now words.now) }
     ensures read { IfOk result (λ text.
-        is_identifier labels.now.name.now ≡ true → words_in text.items ≡ words.now) }
+        is_identifier labels.now.name.now ≡ true → words_in text.items ≡ Some words.now) }
 {
     let mut text = Vec::new(alloc);
     put_top(alloc, &mut text, labels.file, bound)?;

@@ -95,20 +95,36 @@ fn begins_and_ends(front: &[u8], back: &[u8], name: &[u8]) -> bool
     name.starts_with(front) && name.ends_with(back)
 }
 
+const SIGNED_TYPE: &[u8] = b"int";
+
+const UNSIGNED_TYPE: &[u8] = b"uint";
+
+const TYPE_END: &[u8] = b"_t";
+
 /// `int8_t`, `uint_fast16_t` and the like.
 fn is_integer_type(name: &[u8]) -> bool
     ensures { result ≡ is_integer_type name.now }
 {
-    begins_and_ends(b"int", b"_t", name) || begins_and_ends(b"uint", b"_t", name)
+    begins_and_ends(SIGNED_TYPE, TYPE_END, name) || begins_and_ends(UNSIGNED_TYPE, TYPE_END, name)
 }
+
+const SIGNED_MACRO: &[u8] = b"INT";
+
+const UNSIGNED_MACRO: &[u8] = b"UINT";
+
+const LEAST_END: &[u8] = b"_MIN";
+
+const MOST_END: &[u8] = b"_MAX";
+
+const CONSTANT_END: &[u8] = b"_C";
 
 /// `INT8_MIN`, `UINT32_C` and the like, by how they begin.
 fn is_integer_macro(front: &[u8], name: &[u8]) -> bool
     ensures { result ≡ is_integer_macro front.now name.now }
 {
-    begins_and_ends(front, b"_MIN", name)
-        || begins_and_ends(front, b"_MAX", name)
-        || begins_and_ends(front, b"_C", name)
+    begins_and_ends(front, LEAST_END, name)
+        || begins_and_ends(front, MOST_END, name)
+        || begins_and_ends(front, CONSTANT_END, name)
 }
 
 fn is_in_headers(name: &str) -> bool
@@ -116,8 +132,8 @@ fn is_in_headers(name: &str) -> bool
 {
     let bytes = name.as_bytes();
     is_integer_type(bytes)
-        || is_integer_macro(b"INT", bytes)
-        || is_integer_macro(b"UINT", bytes)
+        || is_integer_macro(SIGNED_MACRO, bytes)
+        || is_integer_macro(UNSIGNED_MACRO, bytes)
         || is_other_name(name)
 }
 

@@ -7,18 +7,25 @@ ghost use Rattle.sdv_emit.specs.CText.{head_line, place_words, point_line, point
 ghost use Rattle.sdv_telling.specs.Numbered.{numbered};
 
 use crate::text::put_comment;
-use crate::words::put_word;
+use crate::words::{LINE_START, SPACE, put_word};
 use sdv_graph::{Action, Graph, Names};
+use sdv_table::format::HEADER_SIZE;
 use sdv_telling::{Text, put, put_statement, put_with_number};
 use std::alloc::{AllocError, Global};
+
+const POINT: &str = "point ";
+
+const LINE: &str = ", line ";
+
+const STATEMENT: &str = ": ";
 
 /// Where a statement is: `point 3, line 7`.
 fn place_words(alloc: Global, number: usize, line: u32) -> Result<Text, AllocError>
     ensures { IfOk result (λ words. words.items ≡ place_words number line) }
 {
     let mut words = Vec::new(alloc);
-    put_with_number(&mut words, "point ", number as u64)?;
-    put_with_number(&mut words, ", line ", u64::from(line))?;
+    put_with_number(&mut words, POINT, number as u64)?;
+    put_with_number(&mut words, LINE, u64::from(line))?;
     Ok(words)
 }
 
@@ -34,7 +41,7 @@ fn point_words(
         ≡ point_words (declared_names names.now) number line (seen_action action.now)) }
 {
     let mut words = place_words(alloc, number, line)?;
-    put(&mut words, ": ")?;
+    put(&mut words, STATEMENT)?;
     put_statement(&mut words, action, names)?;
     Ok(words)
 }
@@ -43,9 +50,9 @@ fn point_words(
 fn put_head(text: &mut Text, word: u32, about: &[u8]) -> Result<(), AllocError>
     ensures { OnOk result (text.new.items ≡ text.old.items ++ head_line word about.now) }
 {
-    put(text, "\n    ")?;
+    put(text, LINE_START)?;
     put_word(text, word)?;
-    put(text, " ")?;
+    put(text, SPACE)?;
     put_comment(text, about)
 }
 
@@ -64,7 +71,7 @@ pub fn put_points(
     for number in 0..graph.len() {
         let action = &graph.point(number).action;
         let about = point_words(alloc, number, lines[number], action, names)?;
-        put_head(text, words[8 + number], about.as_slice())?;
+        put_head(text, words[HEADER_SIZE + number], about.as_slice())?;
     }
     Ok(())
 }

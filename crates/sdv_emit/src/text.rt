@@ -6,6 +6,13 @@ ghost use Rattle.sdv_emit.specs.CText.{comment, is_plain, plain, plain_byte};
 use sdv_telling::{Text, put};
 use std::alloc::AllocError;
 
+const COMMENT_START: &str = "/* ";
+
+const COMMENT_END: &str = " */";
+
+/// What two hexadecimal digits of a byte follow.
+const ESCAPE: &str = "\\x";
+
 /// Whether a byte of a comment stands for itself.
 fn is_plain(byte: u8) -> bool
     ensures { result ≡ is_plain byte }
@@ -23,7 +30,7 @@ fn put_plain_byte(text: &mut Text, byte: u8) -> Result<(), AllocError>
     }
     let mut digits = [0; 2];
     hex::encode_to_slice([byte], &mut digits).unwrap();
-    put(text, "\\x")?;
+    put(text, ESCAPE)?;
     text.extend_from_slice(&digits)
 }
 
@@ -41,7 +48,7 @@ fn put_plain(text: &mut Text, bytes: &[u8]) -> Result<(), AllocError>
 pub fn put_comment(text: &mut Text, body: &[u8]) -> Result<(), AllocError>
     ensures { OnOk result (text.new.items ≡ text.old.items ++ comment body.now) }
 {
-    put(text, "/* ")?;
+    put(text, COMMENT_START)?;
     put_plain(text, body)?;
-    put(text, " */")
+    put(text, COMMENT_END)
 }
