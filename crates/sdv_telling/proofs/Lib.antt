@@ -1,4 +1,1 @@
-pub mod BeginsLaws
-pub mod PieceLaws
-pub mod PlaceLaws
 pub mod NumberedLaws

@@ -1,11 +1,6 @@
-pub mod Begins
 pub mod Cards
-pub mod Columns
 pub mod Guards
-pub mod Known
 pub mod Numbered
 pub mod Places
-pub mod Refusals
-pub mod Seen
+pub mod Quoted
 pub mod Statements
-pub mod Taken

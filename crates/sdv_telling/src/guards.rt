@@ -3,7 +3,7 @@
 ghost use Rattle.std.specs.Prelude.{◌≡◌, ◌++◌, OnOk, flat_map};
 ghost use Rattle.sdv_telling.specs.Guards.{further_words, guard_words, guards_words, state_word};
 
-use crate::text::{Text, put};
+use crate::text::{Text, put, put_all};
 use sdv_card::{Guard, State};
 use std::alloc::AllocError;
 
@@ -66,6 +66,5 @@ fn put_further(text: &mut Text, guards: &[Guard]) -> Result<(), AllocError>
 fn put_one_more(text: &mut Text, guard: Guard) -> Result<(), AllocError>
     ensures { OnOk result (text.new.items ≡ text.old.items ++ further_words guard) }
 {
-    put(text, " & ")?;
-    put(text, guard_words(guard))
+    put_all(text, &[" & ", guard_words(guard)])
 }

@@ -1,15 +1,14 @@
-//! What is known at the points of a script, why one is refused, and a way there, in words.
+//! Words for shapes, statements, numbers, refusals and ways, for everything that tells a person of a script.
 //!
-//! Begin at `put_listing`, `put_refused` and `put_way`. What a refusal says is proved to the letter
-//! (`specs/Refusals.antt`), with the first words of its statement (`specs/Statements.antt`), the line on which that begins
-//! (`specs/Places.antt`), the card (`specs/Cards.antt`), and what is known of numbers (`specs/Known.antt`). Of a listing and
-//! of a way only this is proved: they are added, and what stood before them stays (`specs/Begins.antt`).
+//! Begin at `put_listing`, `put_refused` and `put_way`. A refusal tells the line of `certify`, the place of the point,
+//! a card and the reason; the line is that of the point's statement. The words are tested, not proved (`tests/`).
 #![tactic(auto)]
 
 mod cases;
 mod guards;
 mod illegality;
 mod listing;
+mod quoted;
 mod refused;
 mod shapes;
 mod statements;
@@ -20,6 +19,7 @@ mod way;
 pub use guards::put_guards;
 pub use illegality::{Illegality, Reason};
 pub use listing::{put_listing, put_place};
+pub use quoted::put_quoted;
 pub use refused::{Beside, Why, put_refused};
 pub use shapes::{lines_words, numbered_state_word, put_card, state_word};
 pub use statements::{put_name, put_statement};

@@ -1,13 +1,10 @@
 //! The shapes of cards, in words.
 
-ghost use Rattle.std.specs.Prelude.{◌≡◌, ◌++◌, OnOk, codes};
-ghost use Rattle.sdv_card.specs.Modes.{same_width};
-ghost use Rattle.sdv_graph.specs.Graph.{texts};
-ghost use Rattle.sdv_telling.specs.Begins.{BeginsWith};
-ghost use Rattle.sdv_telling.specs.Refusals.{flag_words, flags_words, shape_words, sign_words};
-ghost use Rattle.sdv_telling.specs.Cards.{state_word, numbered_state_word, transfer_words, erase_words, partition_words, lines_words, preset_words, both_lines_words, doing_words, left_words, mode_words, state_words, unit_of_addresses_words, card_words};
+ghost use Rattle.std.specs.Prelude.{◌≡◌};
+ghost use Rattle.sdv_telling.specs.Cards.{state_word};
 
-use crate::text::{Text, put, put_with_number, words_if};
+use crate::text::{Text, put, put_all, words_if};
+use itoa::Buffer;
 use sdv_card::{EraseStage, Fields, Partition, Shape, State, Transfer, Width};
 use std::alloc::{AllocError, Global};
 
@@ -29,9 +26,7 @@ pub fn state_word(state: State) -> &'static str
 }
 
 /// The word of the state with a number.
-pub fn numbered_state_word(number: u8) -> &'static str
-    ensures { result.now ≡ numbered_state_word number }
-{
+pub fn numbered_state_word(number: u8) -> &'static str {
     match number {
         0 => "idle",
         1 => "ready",
@@ -45,9 +40,7 @@ pub fn numbered_state_word(number: u8) -> &'static str
     }
 }
 
-fn transfer_words(transfer: Transfer) -> &'static str
-    ensures { result.now ≡ transfer_words transfer }
-{
+fn transfer_words(transfer: Transfer) -> &'static str {
     match transfer {
         Transfer::Nothing => "",
         Transfer::ReadDue => ", a read is due",
@@ -64,9 +57,7 @@ fn transfer_words(transfer: Transfer) -> &'static str
     }
 }
 
-fn erase_words(erase: EraseStage) -> &'static str
-    ensures { result.now ≡ erase_words erase }
-{
+fn erase_words(erase: EraseStage) -> &'static str {
     match erase {
         EraseStage::Outside => "",
         EraseStage::Begun => ", the first block of an erase set",
@@ -74,9 +65,7 @@ fn erase_words(erase: EraseStage) -> &'static str
     }
 }
 
-fn partition_words(partition: Partition) -> &'static str
-    ensures { result.now ≡ partition_words partition }
-{
+fn partition_words(partition: Partition) -> &'static str {
     match partition {
         Partition::User => "",
         Partition::Boot1 => ", boot partition 1 in access",
@@ -85,9 +74,7 @@ fn partition_words(partition: Partition) -> &'static str
 }
 
 /// The words of data lines.
-pub fn lines_words(width: Width) -> &'static str
-    ensures { result.now ≡ lines_words width }
-{
+pub fn lines_words(width: Width) -> &'static str {
     match width {
         Width::One => "1 data line",
         Width::Four => "4 data lines",
@@ -95,138 +82,77 @@ pub fn lines_words(width: Width) -> &'static str
     }
 }
 
-/// Adds the data lines of a card and of its host, unless both use one.
-fn put_lines(text: &mut Text, card: Width, host: Width) -> Result<(), AllocError>
-    ensures { OnOk result (text.new.items ≡ text.old.items ++ both_lines_words card host) }
-{
+/// The words of the data lines of a card and of its host: none where both use one.
+fn both_lines_words(card: Width, host: Width) -> [&'static str; 4] {
     if card != host {
-        put(text, ", the card on ")?;
-        put(text, lines_words(card))?;
-        put(text, " and the host on ")?;
-        return put(text, lines_words(host));
+        return [
+            ", the card on ",
+            lines_words(card),
+            " and the host on ",
+            lines_words(host),
+        ];
     }
-    if card == Width::One {
-        return Ok(());
+    match card {
+        Width::One => ["", "", "", ""],
+        Width::Four | Width::Eight => [", on ", lines_words(card), "", ""],
     }
-    put(text, ", on ")?;
-    put(text, lines_words(card))
 }
 
-/// Adds the preset count of a card, if there is one.
-fn put_preset(text: &mut Text, preset: u16) -> Result<(), AllocError>
-    ensures { OnOk result (text.new.items ≡ text.old.items ++ preset_words preset) }
-{
-    if preset == 0 {
-        return Ok(());
-    }
-    put_with_number(text, ", preset count ", u64::from(preset))
-}
-
-/// Adds the state of a card, its transfer, and whether it takes the next command as an application command.
-fn put_doing(text: &mut Text, fields: &Fields) -> Result<(), AllocError>
-    ensures { OnOk result (text.new.items ≡ text.old.items ++ doing_words fields.now) }
-{
-    put(text, state_word(fields.state))?;
-    put(text, transfer_words(fields.transfer))?;
-    put(text, words_if(fields.app, ", application command next"))
-}
-
-/// Adds what commands before left of a card.
-fn put_left(text: &mut Text, fields: &Fields) -> Result<(), AllocError>
-    ensures { OnOk result (text.new.items ≡ text.old.items ++ left_words fields.now) }
-{
-    put(text, erase_words(fields.erase))?;
-    put_preset(text, fields.preset)?;
-    let other = words_if(
-        !fields.matched,
-        ", at an address that the host does not hold",
-    );
-    put(text, other)
-}
-
-/// Adds what CMD6 and ACMD6 left of a card.
-fn put_mode(text: &mut Text, fields: &Fields) -> Result<(), AllocError>
-    ensures { OnOk result (text.new.items ≡ text.old.items ++ mode_words fields.now) }
-{
-    put_lines(text, fields.mode.width, fields.lines)?;
-    put(text, partition_words(fields.mode.partition))?;
-    put(
-        text,
-        words_if(fields.mode.error, ", a switch error not yet shown"),
-    )
-}
-
-/// Adds the state of a card and all else of it but what varies on a line.
-fn put_state(text: &mut Text, fields: &Fields) -> Result<(), AllocError>
-    ensures { OnOk result (text.new.items ≡ text.old.items ++ state_words fields.now) }
-{
-    put_doing(text, fields)?;
-    put_left(text, fields)?;
-    put_mode(text, fields)
-}
-
-/// Adds the unit of addresses and the block length of a card.
-fn put_unit(text: &mut Text, fields: &Fields) -> Result<(), AllocError>
-    ensures { OnOk result
-        (text.new.items ≡ text.old.items ++ unit_of_addresses_words fields.now.block_unit fields.now.length_512) }
-{
+/// The unit of addresses and the block length of a card.
+fn unit_words(fields: &Fields) -> &'static str {
     match (fields.block_unit, fields.length_512) {
-        (true, _) => put(text, "block addresses"),
-        (false, true) => put(text, "byte addresses, block length 512"),
-        (false, false) => put(text, "byte addresses, block length not 512"),
+        (true, _) => "block addresses",
+        (false, true) => "byte addresses, block length 512",
+        (false, false) => "byte addresses, block length not 512",
     }
 }
 
 /// Adds all of a card but the script's flags.
-pub fn put_card(text: &mut Text, fields: &Fields) -> Result<(), AllocError>
-    ensures { OnOk result (text.new.items ≡ text.old.items ++ card_words fields.now) }
-{
-    put_state(text, fields)?;
-    put(text, ": ")?;
-    put_unit(text, fields)
+pub fn put_card(text: &mut Text, fields: &Fields) -> Result<(), AllocError> {
+    let mut buffer = Buffer::new();
+    let preset = match fields.preset {
+        0 => ["", ""],
+        count => [", preset count ", buffer.format(count)],
+    };
+    let left = [
+        state_word(fields.state),
+        transfer_words(fields.transfer),
+        words_if(fields.app, ", application command next"),
+        erase_words(fields.erase),
+    ];
+    let mode = [
+        partition_words(fields.mode.partition),
+        words_if(fields.mode.error, ", a switch error not yet shown"),
+        ": ",
+        unit_words(fields),
+    ];
+    put_all(text, &left)?;
+    put_all(text, &preset)?;
+    put(
+        text,
+        words_if(
+            !fields.matched,
+            ", at an address that the host does not hold",
+        ),
+    )?;
+    put_all(text, &both_lines_words(fields.mode.width, fields.lines))?;
+    put_all(text, &mode)
 }
 
 /// Adds the names of the flags that are set.
-fn put_flags(text: &mut Text, shape: Shape, names: &[&str]) -> Result<(), AllocError>
-    ensures { OnOk result (text.new.items ≡ text.old.items ++ flags_words (texts names.now) shape) }
-{
-    let mut is_open = false;
+fn put_flags(text: &mut Text, shape: Shape, names: &[&str]) -> Result<(), AllocError> {
+    let mut sign = " [";
     for place in 0..names.len() {
-        put_flag(text, is_open, shape, place, names[place])?;
-        let now = shape.flag(place);
-        is_open |= now;
+        if shape.flag(place) {
+            put_all(text, &[sign, names[place]])?;
+            sign = " ";
+        }
     }
-    put(text, words_if(is_open, "]"))
-}
-
-/// Adds the name of the flag in a place, if it is set, behind others that are or behind none.
-fn put_flag(
-    text: &mut Text,
-    is_open: bool,
-    shape: Shape,
-    place: usize,
-    name: &str,
-) -> Result<(), AllocError>
-    ensures { OnOk result (text.new.items ≡ text.old.items ++ flag_words is_open shape place name.now) }
-{
-    if shape.flag(place) {
-        put(text, sign_of(is_open))?;
-        return put(text, name);
-    }
-    Ok(())
-}
-
-/// The bracket before the first of the flags that are set, or a space before another.
-fn sign_of(is_open: bool) -> &'static str
-    ensures { result.now ≡ sign_words is_open }
-{
-    if is_open { " " } else { " [" }
+    put(text, words_if(sign == " ", "]"))
 }
 
 /// Adds a shape, with the names of the script's flags.
-pub fn put_shape(text: &mut Text, shape: Shape, names: &[&str]) -> Result<(), AllocError>
-    ensures { OnOk result (text.new.items ≡ text.old.items ++ shape_words (texts names.now) shape) }
-{
+pub fn put_shape(text: &mut Text, shape: Shape, names: &[&str]) -> Result<(), AllocError> {
     let Some(fields) = shape.decode() else {
         return put(text, "no card");
     };
@@ -247,19 +173,15 @@ fn line_of(shape: Shape) -> Option<u64> {
 }
 
 /// Adds a shape behind another one: what varies, where both stand on one line, and else a line of its own.
-#[tactic(auto, using(crate::proofs::BeginsLaws::begins_itself, crate::proofs::BeginsLaws::begins_by, crate::proofs::BeginsLaws::begins_then))]
 fn put_behind(
     text: &mut Text,
     last: Option<Shape>,
     shape: Shape,
     names: &[&str],
-) -> Result<(), AllocError>
-    ensures { OnOk result (BeginsWith text.old.items text.new.items) }
-{
+) -> Result<(), AllocError> {
     match (last, shape.decode()) {
         (Some(last), Some(fields)) if line_of(last) == line_of(shape) => {
-            put(text, "; ")?;
-            put_unit(text, &fields)?;
+            put_all(text, &["; ", unit_words(&fields)])?;
             put_flags(text, shape, names)
         }
         (Some(_), _) => {
@@ -274,15 +196,12 @@ fn put_behind(
 }
 
 /// Adds shapes, which rise: a line for each state, with the units, lengths and flags that are possible in it.
-#[tactic(auto, using(crate::proofs::BeginsLaws::begins_itself, crate::proofs::BeginsLaws::begins_by, crate::proofs::BeginsLaws::begins_then))]
 pub fn put_shapes(
     alloc: Global,
     text: &mut Text,
     shapes: &[Shape],
     names: &[&str],
-) -> Result<(), AllocError>
-    ensures { OnOk result (BeginsWith text.old.items text.new.items) }
-{
+) -> Result<(), AllocError> {
     let mut sorted = Vec::from_slice(alloc, shapes)?;
     sorted.sort_by_key(|shape| line_of(*shape))?;
     let mut last = None;

@@ -5,24 +5,31 @@ ghost use Rattle.sdv_graph.specs.Graph.{declared_names, seen_action, texts};
 ghost use Rattle.sdv_telling.specs.Statements.{address_if_any, address_words, aim_words, atom_words, change_words, command_words};
 ghost use Rattle.sdv_telling.specs.Statements.{condition_words, count_words, let_words, more_words, name_at, phase_words, position_words};
 ghost use Rattle.sdv_telling.specs.Statements.{set_words, setting_words, statement_words, unit_words};
-ghost use Rattle.sdv_telling.specs.Seen.{block_words, cut_word, is_known, ready_words, seen_words, status_words};
 
 use crate::shapes::numbered_state_word;
-use crate::text::{Text, put, put_number, put_numbered, words_if};
+use crate::text::{Text, put, put_all, put_number, put_with_number, words_if};
+use itoa::Buffer;
 use sdv_card::{Aim, Ask, Seen};
 use sdv_graph::{
     Action, Address, Atom, Change, Condition, Let, Names, Phase, Position, ScriptCommand, Unit,
 };
 use std::alloc::AllocError;
 
+/// The name in a place.
+fn name_at<'n>(names: &[&'n str], place: usize) -> &'n str
+    ensures { result.now ≡ name_at (texts names.now) place }
+{
+    match names.get(place) {
+        Some(name) => name,
+        None => "?",
+    }
+}
+
 /// Adds the name in a place.
 pub fn put_name(text: &mut Text, names: &[&str], place: usize) -> Result<(), AllocError>
     ensures { OnOk result (text.new.items ≡ text.old.items ++ name_at (texts names.now) place) }
 {
-    match names.get(place) {
-        Some(name) => put(text, name),
-        None => put(text, "?"),
-    }
+    put(text, name_at(names, place))
 }
 
 /// Adds what is added to a number, if anything is.
@@ -30,7 +37,7 @@ fn put_more(text: &mut Text, more: Option<u64>) -> Result<(), AllocError>
     ensures { OnOk result (text.new.items ≡ text.old.items ++ more_words more) }
 {
     match more {
-        Some(number) => put_numbered(text, " + ", number, ""),
+        Some(number) => put_with_number(text, " + ", number),
         None => Ok(()),
     }
 }
@@ -53,11 +60,7 @@ fn put_unit(text: &mut Text, unit: Unit, names: &Names<'_>) -> Result<(), AllocE
     match unit {
         Unit::Block => put(text, "at block "),
         Unit::Byte => put(text, "at byte "),
-        Unit::By(flag) => {
-            put(text, "at by ")?;
-            put_name(text, &names.flags, flag)?;
-            put(text, " ")
-        }
+        Unit::By(flag) => put_all(text, &["at by ", name_at(&names.flags, flag), " "]),
     }
 }
 
@@ -124,7 +127,7 @@ fn put_announced(text: &mut Text, ask: &Ask) -> Result<(), AllocError>
     ensures { OnOk result (text.new.items ≡ text.old.items ++ count_words ask.now) }
 {
     match ask.index {
-        18 | 23 | 25 => put_numbered(text, " count ", u64::from(ask.count), ""),
+        18 | 23 | 25 => put_with_number(text, " count ", u64::from(ask.count)),
         _ => Ok(()),
     }
 }
@@ -137,9 +140,17 @@ fn put_command(
 ) -> Result<(), AllocError>
     ensures { OnOk result (text.new.items ≡ text.old.items ++ command_words (declared_names names.now) command.now) }
 {
-    put_numbered(text, "CMD", u64::from(command.ask.index), "")?;
-    put(text, aim_words(&command.ask))?;
-    put(text, setting_words(&command.ask))?;
+    let mut buffer = Buffer::new();
+    let index = buffer.format(command.ask.index);
+    put_all(
+        text,
+        &[
+            "CMD",
+            index,
+            aim_words(&command.ask),
+            setting_words(&command.ask),
+        ],
+    )?;
     put_address_if_any(text, &command.address, names)?;
     put_announced(text, &command.ask)
 }
@@ -172,17 +183,15 @@ fn put_change(text: &mut Text, change: Change) -> Result<(), AllocError>
 {
     match change {
         Change::Same => Ok(()),
-        Change::Plus(number) => put_numbered(text, " + ", number, ""),
-        Change::Minus(number) => put_numbered(text, " - ", number, ""),
+        Change::Plus(number) => put_with_number(text, " + ", number),
+        Change::Minus(number) => put_with_number(text, " - ", number),
     }
 }
 
 fn put_let(text: &mut Text, set: &Let, names: &Names<'_>) -> Result<(), AllocError>
     ensures { OnOk result (text.new.items ≡ text.old.items ++ let_words (declared_names names.now) set.now) }
 {
-    put(text, "let ")?;
-    put_name(text, &names.numbers, set.target)?;
-    put(text, " = ")?;
+    put_all(text, &["let ", name_at(&names.numbers, set.target), " = "])?;
     put_atom(text, set.atom, names)?;
     put_change(text, set.change)
 }
@@ -193,12 +202,12 @@ fn put_condition(text: &mut Text, condition: Condition, names: &Names<'_>) -> Re
     match condition {
         Condition::Flag(flag) => put_name(text, &names.flags, flag),
         Condition::AtLeast(variable, number) => {
-            put_name(text, &names.numbers, variable)?;
-            put_numbered(text, " >= ", number, "")
+            put_all(text, &[name_at(&names.numbers, variable), " >= "])?;
+            put_number(text, number)
         }
         Condition::Below(variable, number) => {
-            put_name(text, &names.numbers, variable)?;
-            put_numbered(text, " < ", number, "")
+            put_all(text, &[name_at(&names.numbers, variable), " < "])?;
+            put_number(text, number)
         }
     }
 }
@@ -221,89 +230,66 @@ pub fn put_statement(
             put_condition(text, *condition, names)
         }
         Action::Flag(flag, on, _) => {
-            put(text, if *on { "set " } else { "clear " })?;
-            put_name(text, &names.flags, *flag)
+            let word = if *on { "set " } else { "clear " };
+            put_all(text, &[word, name_at(&names.flags, *flag)])
         }
-        Action::Lines(width, _) => put_numbered(text, "bus.lines ", u64::from(width.lines()), ""),
-        Action::Loop(turns, _, _) => put_numbered(text, "loop ", u64::from(*turns), ""),
+        Action::Lines(width, _) => put_with_number(text, "bus.lines ", u64::from(width.lines())),
+        Action::Loop(turns, _, _) => put_with_number(text, "loop ", u64::from(*turns)),
         Action::Break(_) => put(text, "break"),
         Action::Done => put(text, "done"),
-        Action::Fault(name) => {
-            put(text, "fault ")?;
-            put(text, name)
-        }
+        Action::Fault(name) => put_all(text, &["fault ", name]),
     }
-}
-
-/// It is known to be so.
-fn is_known(shown: Option<bool>) -> bool
-    ensures { result ≡ is_known shown }
-{
-    match shown {
-        Some(holds) => holds,
-        None => false,
-    }
-}
-
-/// How a data phase or a wait is said not to have ended well.
-fn cut_word(action: &Action<'_>) -> &'static str
-    ensures { result.now ≡ cut_word (seen_action action.now) }
-{
-    match action {
-        Action::Phase(Phase::Wait, _, _) => "late",
-        _ => "cut",
-    }
-}
-
-fn put_ocr(text: &mut Text, ready: bool, block: Option<bool>) -> Result<(), AllocError>
-    ensures { OnOk result (text.new.items ≡ text.old.items ++ (ready_words ready ++ block_words block)) }
-{
-    let answer = if ready {
-        "answer, ready"
-    } else {
-        "answer, not ready"
-    };
-    let unit = match block {
-        Some(true) => ", block addresses",
-        Some(false) => ", byte addresses",
-        None => "",
-    };
-    put(text, answer)?;
-    put(text, unit)
-}
-
-fn put_status(
-    text: &mut Text,
-    state: u8,
-    doubt: bool,
-    app: bool,
-    switch: bool,
-) -> Result<(), AllocError>
-    ensures { OnOk result (text.new.items ≡ text.old.items ++ status_words state doubt app switch) }
-{
-    put(text, "status ")?;
-    put(text, numbered_state_word(state))?;
-    put(text, words_if(app, ", application command next"))?;
-    put(text, words_if(doubt, ", error"))?;
-    put(text, words_if(switch, ", switch error"))
 }
 
 /// Adds what was seen of the event of a statement.
-pub fn put_seen(text: &mut Text, action: &Action<'_>, seen: Seen) -> Result<(), AllocError>
-    ensures { OnOk result (text.new.items ≡ text.old.items ++ seen_words (seen_action action.now) seen) }
-{
+pub fn put_seen(text: &mut Text, action: &Action<'_>, seen: Seen) -> Result<(), AllocError> {
     match seen {
         Seen::Sent => put(text, "-"),
         Seen::TimeOut => put(text, "timeout"),
         Seen::Bare => put(text, "answer"),
-        Seen::Ocr { ready, block } => put_ocr(text, ready, block),
+        Seen::Ocr { ready, block } => put_all(text, &[ready_words(ready), block_words(block)]),
         Seen::Status {
             state,
             doubt,
             app,
             switch,
-        } => put_status(text, state, doubt, is_known(app), is_known(switch)),
+        } => put_all(
+            text,
+            &[
+                "status ",
+                numbered_state_word(state),
+                words_if(app == Some(true), ", application command next"),
+                words_if(doubt, ", error"),
+                words_if(switch == Some(true), ", switch error"),
+            ],
+        ),
         Seen::Ok => put(text, "ok"),
         Seen::NotOk => put(text, cut_word(action)),
+    }
+}
+
+/// Whether the card of an OCR is ready.
+fn ready_words(ready: bool) -> &'static str {
+    if ready {
+        "answer, ready"
+    } else {
+        "answer, not ready"
+    }
+}
+
+/// Which addresses an OCR shows, where that is known.
+fn block_words(block: Option<bool>) -> &'static str {
+    match block {
+        Some(true) => ", block addresses",
+        Some(false) => ", byte addresses",
+        None => "",
+    }
+}
+
+/// How a data phase or a wait is said not to have ended well.
+fn cut_word(action: &Action<'_>) -> &'static str {
+    match action {
+        Action::Phase(Phase::Wait, _, _) => "late",
+        _ => "cut",
     }
 }

@@ -1,9 +1,6 @@
 //! Texts that are put together piece by piece.
 
-ghost use Rattle.std.specs.Prelude.{◌≡◌, ◌++◌, ◌+◌, ◌-◌, OnOk, decimal, flat_map, length, replicate};
-ghost use Rattle.sdv_telling.specs.Cards.{words_if};
-ghost use Rattle.sdv_telling.specs.Known.{counted_words};
-ghost use Rattle.sdv_telling.specs.Columns.{padding};
+ghost use Rattle.std.specs.Prelude.{◌≡◌, ◌++◌, OnOk, decimal, flat_map};
 
 use itoa::Buffer;
 use std::alloc::AllocError;
@@ -29,19 +26,8 @@ pub fn put_all(text: &mut Text, pieces: &[&str]) -> Result<(), AllocError>
 }
 
 /// The words where that holds, and none otherwise.
-pub fn words_if(holds: bool, words: &str) -> &str
-    ensures { result.now ≡ words_if holds words.now }
-{
+pub fn words_if(holds: bool, words: &str) -> &str {
     if holds { words } else { "" }
-}
-
-/// Adds words between others.
-pub fn put_around(text: &mut Text, before: &str, words: &str, after: &str) -> Result<(), AllocError>
-    ensures { OnOk result (text.new.items ≡ text.old.items ++ (before.now ++ (words.now ++ after.now))) }
-{
-    put(text, before)?;
-    put(text, words)?;
-    put(text, after)
 }
 
 /// Adds a number, in decimal digits.
@@ -75,26 +61,15 @@ pub fn put_numbered(
 }
 
 /// Adds a number of things, by the words for one and for more.
-pub fn put_count(text: &mut Text, number: u64, one: &str, more: &str) -> Result<(), AllocError>
-    ensures { OnOk result (text.new.items ≡ text.old.items ++ counted_words number one.now more.now) }
-{
-    put_numbered(text, "", number, " ")?;
-    put(text, if number == 1 { one } else { more })
+pub fn put_count(text: &mut Text, number: u64, one: &str, more: &str) -> Result<(), AllocError> {
+    put_numbered(text, "", number, if number == 1 { one } else { more })
 }
 
 /// Adds spaces until the text has so many bytes from a place on, and one in any case.
-pub fn pad(text: &mut Text, from: usize, width: usize) -> Result<(), AllocError>
-    ensures { OnOk result (text.new.items ≡ text.old.items ++ padding (length text.old.items + 1 - from) width) }
-{
+pub fn pad(text: &mut Text, from: usize, width: usize) -> Result<(), AllocError> {
     put(text, " ")?;
     let len = text.len().saturating_sub(from);
-    put_spaces(text, width.saturating_sub(len))
-}
-
-fn put_spaces(text: &mut Text, count: usize) -> Result<(), AllocError>
-    ensures { OnOk result (text.new.items ≡ text.old.items ++ replicate count 32) }
-{
-    for _ in 0..count {
+    for _ in len..width {
         put(text, " ")?;
     }
     Ok(())

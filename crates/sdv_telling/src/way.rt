@@ -1,7 +1,6 @@
 //! A way in words: the events by which it leads, and the shapes after them.
 
-ghost use Rattle.std.specs.Prelude.{◌<◌, length, OnOk};
-ghost use Rattle.sdv_telling.specs.Begins.{BeginsWith};
+ghost use Rattle.std.specs.Prelude.{◌<◌, length};
 
 use crate::cases::put_taken;
 use crate::shapes::put_shape;
@@ -26,10 +25,8 @@ fn tests_at(graph: &Graph<'_>, visit: &Visit) -> bool {
 }
 
 /// Adds the line of a point and its statement, as a step of a way.
-#[tactic(auto, using(crate::proofs::BeginsLaws::begins_itself, crate::proofs::BeginsLaws::begins_by, crate::proofs::BeginsLaws::begins_then))]
 fn put_step(text: &mut Text, graph: &Graph<'_>, point: usize) -> Result<(), AllocError>
     requires { point < length graph.now.points }
-    ensures { OnOk result (BeginsWith text.old.items text.new.items) }
 {
     let start = text.len();
     put_numbered(text, "    line ", u64::from(graph.line(point)), "")?;
@@ -38,7 +35,6 @@ fn put_step(text: &mut Text, graph: &Graph<'_>, point: usize) -> Result<(), Allo
 }
 
 /// Adds that a loop has no turn left, where its else block comes next.
-#[tactic(auto, using(crate::proofs::BeginsLaws::begins_itself, crate::proofs::BeginsLaws::begins_by, crate::proofs::BeginsLaws::begins_then))]
 fn put_last_turn(
     text: &mut Text,
     graph: &Graph<'_>,
@@ -46,7 +42,6 @@ fn put_last_turn(
     after: &Visit,
 ) -> Result<(), AllocError>
     requires { before.now.point < length graph.now.points }
-    ensures { OnOk result (BeginsWith text.old.items text.new.items) }
 {
     match &graph.point(before.point).action {
         Action::Loop(_, body, other) if after.point == other.to && after.point != body.to => {
@@ -58,15 +53,12 @@ fn put_last_turn(
 }
 
 /// Adds the event of a visit, what was seen of it, and the shape after it.
-#[tactic(auto, using(crate::proofs::BeginsLaws::begins_itself, crate::proofs::BeginsLaws::begins_by, crate::proofs::BeginsLaws::begins_then))]
 fn put_event(
     text: &mut Text,
     graph: &Graph<'_>,
     before: &Visit,
     after: &Visit,
-) -> Result<(), AllocError>
-    ensures { OnOk result (BeginsWith text.old.items text.new.items) }
-{
+) -> Result<(), AllocError> {
     if graph.len() <= before.point {
         return Ok(());
     }
@@ -88,10 +80,7 @@ fn put_event(
 }
 
 /// Adds the events of a way.
-#[tactic(auto, using(crate::proofs::BeginsLaws::begins_itself, crate::proofs::BeginsLaws::begins_by, crate::proofs::BeginsLaws::begins_then))]
-pub fn put_way(text: &mut Text, graph: &Graph<'_>, way: &[Visit]) -> Result<(), AllocError>
-    ensures { OnOk result (BeginsWith text.old.items text.new.items) }
-{
+pub fn put_way(text: &mut Text, graph: &Graph<'_>, way: &[Visit]) -> Result<(), AllocError> {
     let Some(first) = way.first() else {
         return Ok(());
     };
