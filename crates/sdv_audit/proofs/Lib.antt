@@ -2,6 +2,7 @@ pub mod Printed
 pub mod ShapeSets
 pub mod Counts
 pub mod Possibles
+pub mod Meant
 pub mod Sound
 pub mod Audits
 pub mod Living
@@ -9,3 +10,8 @@ pub mod Bounded
 pub mod Courses
 pub mod FindingLaws
 pub mod RoomLaws
+pub mod InputLaws
+pub mod NoteLaws
+pub mod ReportLaws
+pub mod TraceLaws
+pub mod TraceLines

@@ -175,7 +175,7 @@ lines_fit k known width false e = tt
 
 fits_line : (k : Kind) (known : HostKnown) (line : TraceLine) (next : Option TraceLine) → FitsLine k known (turn_of_line k known line next) line
 fits_line k known (Exchange command answer) next =
-    ask_fits k known (begins command.index next) (command.index == 25) (ask_told k known.rca command next) command answer
+    ask_fits k known (begins command.index next) (command.index == 25) (ask_told k known.rca command answer next) command answer
 fits_line k known (BlocksIn count end) next = phase_fits k known RecvBlocks (BlocksIn count end) count known.announced (λ m. m)
 fits_line k known (RegisterIn count end) next = phase_fits k known RecvReg (RegisterIn count end) count (Some known.register_length) (λ m. tt)
 fits_line k known (BlocksOut count end) next = phase_fits k known Give (BlocksOut count end) count known.announced (λ m. m)

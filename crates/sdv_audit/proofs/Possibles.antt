@@ -1,11 +1,11 @@
 -- Each answer of a card is one that some card gives.
-use Rattle.std.proofs.Common.{◌≡◌, ℕ, ◌<◌, ◌==◌, ◌||◌, refl, ap, subst, sym, ◌∙◌, Bool, true, false, not, List, [], ◌∷◌, Option, Some, None, inl, inr, eq-eqb, eqb-true, ◌/◌, arith}
+use Rattle.std.proofs.Common.{◌≡◌, ℕ, ◌<◌, ◌==◌, ◌||◌, refl, ap, subst, sym, ◌∙◌, Bool, true, false, not, List, Option, Some, None, inl, inr, eq-eqb, ◌/◌, arith}
 use Rattle.std.proofs.lemmas.Bool.{ne_eqb}
-use Rattle.sdv_frames.specs.Bits.{bits_of}
+use Rattle.sdv_frames.specs.Bits.{Bits, bits_of}
 use Rattle.sdv_frames.specs.declared.reply.Reply.{Reply}
 use Rattle.sdv_frames.specs.declared.reply.Reply.TheVariants.{R2, R3, R6, R7}
 use Rattle.sdv_registers.specs.declared.kind.Kind.{Kind}
-use Rattle.sdv_registers.specs.Csd.{fault}
+use Rattle.sdv_registers.specs.Csd.{csd_structure, read_bl_len, c_size, c_size_mult_of, layout, fault}
 use Rattle.sdv_registers.specs.Ocr.{voltage_windows}
 use Rattle.sdv_registers.specs.Status.{rca as published_rca}
 use Rattle.sdv_card.specs.declared.answer.Answer.TheVariants.{Reply as Replied}
@@ -18,31 +18,30 @@ use Rattle.sdv_card.specs.Settled.{Settled}
 use Rattle.sdv_card.specs.Exchange.{Exchanges, SettledAnswer}
 use Rattle.sdv_card.specs.Agrees.{AddressAgrees}
 use Rattle.sdv_card.specs.ResponseStatus.{in_doubt}
-use Rattle.sdv_card.proofs.Members.{and_left, and_right}
-use Rattle.sdv_audit.specs.Possible.{same_bytes, is_same_csd, is_possible_csd, is_possible_reply}
+use Rattle.sdv_audit.specs.Possible.{same_mult, same_capacity, agrees, is_possible_csd, is_possible_reply}
 
 -- a card's CSD, which tells a capacity, and is the one that the host knows
 pub record ReadableCsd (k : Kind) (known : Option (List ℕ)) (csd : List ℕ) : Type 0 where
   pub readable : fault k (bits_of csd) ≡ None
   pub same : (bytes : List ℕ) → known ≡ Some bytes → bytes ≡ csd
 
-same_itself : (xs : List ℕ) → same_bytes xs xs ≡ true
-same_itself [] = refl
-same_itself (x ∷ xs) = rw (eq-eqb x x refl) (same_itself xs)
+mult_itself : (o : Option ℕ) → same_mult o o ≡ true
+mult_itself None = refl
+mult_itself (Some n) = eq-eqb n n refl
 
-pub bytes_same : (xs ys : List ℕ) → same_bytes xs ys ≡ true → xs ≡ ys
-bytes_same [] [] e = refl
-bytes_same [] (y ∷ ys) e = absurd (let f : false ≡ true = e in cc)
-bytes_same (x ∷ xs) [] e = absurd (let f : false ≡ true = e in cc)
-bytes_same (x ∷ xs) (y ∷ ys) e =
-    ap (λ v. v ∷ xs) (eqb-true x y (and_left (x == y) (same_bytes xs ys) e)) ∙ ap (λ v. y ∷ v) (bytes_same xs ys (and_right (x == y) (same_bytes xs ys) e))
+capacity_itself : (k : Kind) (csd : Bits) → same_capacity k csd csd ≡ true
+capacity_itself k csd =
+    rw (
+      eq-eqb (csd_structure csd) (csd_structure csd) refl,
+      eq-eqb (read_bl_len csd) (read_bl_len csd) refl,
+      eq-eqb (c_size (layout k csd) csd) (c_size (layout k csd) csd) refl,
+    )
+    (mult_itself (c_size_mult_of (layout k csd) csd))
 
-pub same_bytes_are : (xs ys : List ℕ) → xs ≡ ys → same_bytes xs ys ≡ true
-same_bytes_are xs ys e = subst (λ v. same_bytes xs v ≡ true) e (same_itself xs)
-
-csd_itself : (k : Kind) (known : Option (List ℕ)) (csd : List ℕ) → ReadableCsd k known csd → is_same_csd known csd ≡ true
+csd_itself : (k : Kind) (known : Option (List ℕ)) (csd : List ℕ) → ReadableCsd k known csd → agrees k known (bits_of csd) ≡ true
 csd_itself k None csd r = refl
-csd_itself k (Some bytes) csd r = same_bytes_are bytes csd (r.same bytes refl)
+csd_itself k (Some bytes) csd r =
+    subst (λ v. agrees k (Some v) (bits_of csd) ≡ true) (sym (r.same bytes refl)) (rw r.readable (capacity_itself k (bits_of csd)))
 
 csd_possible : (k : Kind) (known : Option (List ℕ)) (csd bytes : List ℕ) → ReadableCsd k known csd → bytes ≡ csd → is_possible_csd k known bytes ≡ true
 csd_possible k known csd bytes r e =

@@ -54,7 +54,8 @@ use Rattle.sdv_audit.specs.Turns.{is_count, transfer_ask, event_at, known_after_
 use Rattle.sdv_audit.specs.Possible.{is_possible}
 use Rattle.sdv_audit.proofs.Possibles.{ReadableCsd, reply_possible}
 use Rattle.sdv_audit.specs.Carried.{has_address, pending_at, CarriedFrom, CarriedBy, Follows}
-use Rattle.sdv_audit.specs.Standing.{IsToldBy, StepTold, DeedTold, Goes, known_of, turn_behind, StartPair, Stood, shape_of, shape_with, start_set, Covers}
+use Rattle.sdv_audit.proofs.Meant.{DeedMeant, GoesMeant, goes_meant}
+use Rattle.sdv_audit.specs.Standing.{IsToldBy, StepTold, known_of, turn_behind, StartPair, Stood, shape_of, shape_with, start_set, Covers}
 use Rattle.sdv_audit.proofs.ShapeSets.{not_true}
 use Rattle.sdv_audit.proofs.Counts.{transfer_order, order_is, counted_legal, waits_same, carried_at_count}
 
@@ -152,7 +153,7 @@ step_keeps k event line known c h u g i s =
     }
 
 deed_keeps : (k : Kind) (deed : Deed) (line : TraceLine) (known : HostKnown) (c : Card) (h : Host) (u : Card) (g : Host) → StillKnown k known c h →
-    DeedTold k deed line c h u g → StillKnown k (known_after k (Does deed) line known) u g
+    DeedMeant k deed line c h u g → StillKnown k (known_after k (Does deed) line known) u g
 deed_keeps k (Known event) line known c h u g i s = step_keeps k event line known c h u g i s
 deed_keeps k (Begins w) line known c h u g i (n, s) =
     let kept : StillKnown k (known_after k (Does (Known (Send (transfer_ask w n)))) line known) u g =
@@ -160,7 +161,7 @@ deed_keeps k (Begins w) line known c h u g i (n, s) =
     record { pair = kept.pair; is_known = forget k w n line known g kept.is_known }
 
 goes_keeps : (k : Kind) (turn : Turn) (line : TraceLine) (known : HostKnown) (c : Card) (h : Host) (u : Card) (g : Host) → StillKnown k known c h →
-    Goes k turn line c h u g → StillKnown k (known_after k turn line known) u g
+    GoesMeant k turn line c h u g → StillKnown k (known_after k turn line known) u g
 goes_keeps k (Does deed) line known c h u g i goes = deed_keeps k deed line known c h u g i goes
 goes_keeps k (Uses width) line known c h u g i goes =
     same_pair k (record known { lines = width }) c u (record h { lines = width }) g goes.0 goes.1 (uses k known c h width i goes.2)
@@ -179,7 +180,9 @@ stood_known k [] c h s =
     let start : StartPair k c h = s in
     subst (λ v. StillKnown k nothing_known c v) (sym start.host) (start_known k c (starts_hold k c 0 start.kind start.start))
 stood_known k (told ∷ past) u g (c, h, stood, goes) =
-    goes_keeps k (turn_behind k past told) told.line (known_of k past) c h u g (stood_known k past c h stood) goes
+    let known : StillKnown k (known_of k past) c h = stood_known k past c h stood in
+    goes_keeps k (turn_behind k past told) told.line (known_of k past) c h u g known
+    (goes_meant k past told c h u g known.pair.kind known.is_known.rca goes)
 
 -- WHAT A CARD TELLS of its capacity, and its host of it
 
@@ -219,12 +222,12 @@ step_tells k event line c h u g pair s t = record {
   readable = still_readable c u (steps_keep_same k s.made_event c s.returned u pair.kind s.step) t.readable;
 }
 
-deed_tells : (k : Kind) (deed : Deed) (line : TraceLine) (c : Card) (h : Host) (u : Card) (g : Host) → IsPair k c h → DeedTold k deed line c h u g → Tells c h →
+deed_tells : (k : Kind) (deed : Deed) (line : TraceLine) (c : Card) (h : Host) (u : Card) (g : Host) → IsPair k c h → DeedMeant k deed line c h u g → Tells c h →
     Tells u g
 deed_tells k (Known event) line c h u g pair s t = step_tells k event line c h u g pair s t
 deed_tells k (Begins w) line c h u g pair (n, s) t = step_tells k (Send (transfer_ask w n)) line c h u g pair s t
 
-goes_tells : (k : Kind) (turn : Turn) (line : TraceLine) (c : Card) (h : Host) (u : Card) (g : Host) → IsPair k c h → Goes k turn line c h u g → Tells c h →
+goes_tells : (k : Kind) (turn : Turn) (line : TraceLine) (c : Card) (h : Host) (u : Card) (g : Host) → IsPair k c h → GoesMeant k turn line c h u g → Tells c h →
     Tells u g
 goes_tells k (Does deed) line c h u g pair goes t = deed_tells k deed line c h u g pair goes t
 goes_tells k (Uses width) line c h u g pair goes t = same_tells c u (record h { lines = width }) g goes.0 goes.1 (other_lines c h width t)
@@ -239,7 +242,8 @@ stood_tells k [] c h s =
     subst (λ v. Tells c v) (sym start.host) (record { sound = holds.sound; told = start.start.profile.told; readable = start.start.profile.readable })
 stood_tells k (told ∷ past) u g (c, h, stood, goes) =
     let known : StillKnown k (known_of k past) c h = stood_known k past c h stood in
-    goes_tells k (turn_behind k past told) told.line c h u g known.pair goes (stood_tells k past c h stood)
+    goes_tells k (turn_behind k past told) told.line c h u g known.pair
+    (goes_meant k past told c h u g known.pair.kind known.is_known.rca goes) (stood_tells k past c h stood)
 
 -- WHAT IS SEEN of what a line tells
 
@@ -316,7 +320,7 @@ step_from k event line known c h u g i s =
     }
 
 deed_from : (k : Kind) (deed : Deed) (line : TraceLine) (known : HostKnown) (c : Card) (h : Host) (u : Card) (g : Host) → StillKnown k known c h →
-    DeedTold k deed line c h u g → CarriedFrom k (event_at deed (shape_of c h).0) line (has_address known) (shape_of c h) (shape_of u g)
+    DeedMeant k deed line c h u g → CarriedFrom k (event_at deed (shape_of c h).0) line (has_address known) (shape_of c h) (shape_of u g)
 deed_from k (Known event) line known c h u g i s = step_from k event line known c h u g i s
 deed_from k (Begins w) line known c h u g i (n, s) =
     carried_at_count k w n line (has_address known) (shape_of c h) (shape_of u g) (step_from k (Send (transfer_ask w n)) line known c h u g i s)
@@ -365,7 +369,7 @@ known_expected k csd Waits line e f = refl
 
 deed_expected : (k : Kind) (deed : Deed) (line : TraceLine) (known : HostKnown) (c : Card) (h : Host) (u : Card) (g : Host) → StillKnown k known c h →
     Tells c h →
-    DeedTold k deed line c h u g → is_expected k known.csd deed line ≡ true
+    DeedMeant k deed line c h u g → is_expected k known.csd deed line ≡ true
 deed_expected k (Known event) line known c h u g i t s =
     known_expected k known.csd event line (step_format k event line c h u g i.pair.kind s)
     (subst (λ v. possible_at k known.csd v line ≡ true) s.is
@@ -377,7 +381,7 @@ deed_expected k (Begins w) line known c h u g i t (n, s) =
     (step_format k (Send (transfer_ask w n)) line c h u g i.pair.kind s)
 
 pub follows : (k : Kind) (turn : Turn) (line : TraceLine) (known : HostKnown) (shapes : List Shape) (c : Card) (h : Host) (u : Card) (g : Host) →
-    StillKnown k known c h → Tells c h → May shapes (shape_of c h) → Goes k turn line c h u g → Follows k turn line known shapes (shape_of u g)
+    StillKnown k known c h → Tells c h → May shapes (shape_of c h) → GoesMeant k turn line c h u g → Follows k turn line known shapes (shape_of u g)
 follows k (Does deed) line known shapes c h u g i tells among goes =
     subst (λ b. CarriedBy b k deed line (has_address known) shapes (shape_of u g)) (sym (deed_expected k deed line known c h u g i tells goes))
     (record { source = shape_of c h; among = among; from = deed_from k deed line known c h u g i goes })
@@ -397,8 +401,9 @@ pub covers_more : (k : Kind) (past : List Told) (told : Told) (shapes after : Li
     ((s : Shape) → Follows k (turn_behind k past told) told.line (known_of k past) shapes s → May after s) →
     Covers k (told ∷ past) after
 covers_more k past told shapes after covers has u g (c, h, stood, goes) =
-    has (shape_of u g) (follows k (turn_behind k past told) told.line (known_of k past) shapes c h u g (stood_known k past c h stood)
-    (stood_tells k past c h stood) (covers c h stood) goes)
+    let known : StillKnown k (known_of k past) c h = stood_known k past c h stood in
+    has (shape_of u g) (follows k (turn_behind k past told) told.line (known_of k past) shapes c h u g known (stood_tells k past c h stood)
+    (covers c h stood) (goes_meant k past told c h u g known.pair.kind known.is_known.rca goes))
 
 -- before the first line
 pub start_covers : (k : Kind) → Covers k [] start_set

@@ -11,3 +11,9 @@ pub mod Lived
 pub mod Beyond
 pub mod Course
 pub mod Room
+pub mod PrintedLines
+pub mod Faults
+pub mod Notes
+pub mod Report
+pub mod Input
+pub mod AuditedTrace

@@ -1,12 +1,12 @@
 -- Answers that no card gives, in any state: what the tables do not see of an answer.
 -- SD Physical Layer Simplified Specification, sections 4.3.13 (CMD8), 4.2.3.1 (ACMD41), 4.2.2.3 (CMD3) and 5.3 (CSD);
 -- JESD84-B51, sections 6.4 and 7.3.
-use Rattle.std.specs.Prelude.{ℕ, ◌%◌, ◌==◌, ◌||◌, ◌&&◌, not, Bool, true, false, List, [], ◌∷◌, Option, Some, None, is_none}
-use Rattle.sdv_frames.specs.Bits.{bits_of}
+use Rattle.std.specs.Prelude.{ℕ, ◌%◌, ◌==◌, ◌||◌, ◌&&◌, not, Bool, true, false, List, Option, Some, None, is_none}
+use Rattle.sdv_frames.specs.Bits.{Bits, bits_of}
 use Rattle.sdv_frames.specs.declared.reply.Reply.{Reply}
 use Rattle.sdv_frames.specs.declared.reply.Reply.TheVariants.{R2, R3, R6, R7}
 use Rattle.sdv_registers.specs.declared.kind.Kind.{Kind}
-use Rattle.sdv_registers.specs.Csd.{fault}
+use Rattle.sdv_registers.specs.Csd.{csd_structure, read_bl_len, c_size, c_size_mult_of, layout, fault}
 use Rattle.sdv_registers.specs.Ocr.{voltage_windows}
 use Rattle.sdv_registers.specs.Status.{rca}
 use Rattle.sdv_card.specs.declared.answer.Answer.TheVariants.{Reply as Replied}
@@ -16,18 +16,27 @@ use Rattle.sdv_card.specs.ResponseStatus.{in_doubt}
 use Rattle.sdv_audit.specs.declared.line.TraceLine.{TraceLine}
 use Rattle.sdv_audit.specs.declared.line.TraceLine.TheVariants.{Exchange}
 
-abbrev pub same_bytes : List ℕ → List ℕ → Bool
-same_bytes [] [] = true
-same_bytes (x ∷ xs) (y ∷ ys) = (x == y) && same_bytes xs ys
-same_bytes xs ys = false
+-- C_SIZE_MULT, where the layout has it
+abbrev pub same_mult : Option ℕ → Option ℕ → Bool
+same_mult None None = true
+same_mult (Some a) (Some b) = a == b
+same_mult a b = false
 
--- a card has one CSD
-abbrev pub is_same_csd : (known : Option (List ℕ)) → (bytes : List ℕ) → Bool
-is_same_csd None bytes = true
-is_same_csd (Some known) bytes = same_bytes known bytes
+-- the fields by which the capacity is computed are the same
+abbrev pub same_capacity : Kind → (a b : Bits) → Bool
+same_capacity k a b =
+    (csd_structure a == csd_structure b) && (read_bl_len a == read_bl_len b)
+    && (c_size (layout k a) a == c_size (layout k b) b)
+    && same_mult (c_size_mult_of (layout k a) a) (c_size_mult_of (layout k b) b)
+
+-- A card has one capacity. The rest of its CSD may change: some bits can be written, and a switch of the bus speed
+-- changes TRAN_SPEED.
+abbrev pub agrees : Kind → (known : Option (List ℕ)) → Bits → Bool
+agrees k None csd = true
+agrees k (Some known) csd = is_none (fault k (bits_of known)) && same_capacity k (bits_of known) csd
 
 abbrev pub is_possible_csd : Kind → (known : Option (List ℕ)) → (bytes : List ℕ) → Bool
-is_possible_csd k known bytes = is_none (fault k (bits_of bytes)) && is_same_csd known bytes
+is_possible_csd k known bytes = is_none (fault k (bits_of bytes)) && agrees k known (bits_of bytes)
 
 -- Some card may respond so: with the pattern that the host sent, with all voltage windows, with a relative card address
 -- other than 0 unless an error leaves a doubt, and with a CSD that tells a capacity, the one that the host knows.

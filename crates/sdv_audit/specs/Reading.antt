@@ -12,8 +12,8 @@ use Rattle.sdv_card.specs.declared.answer.Answer.TheVariants.{Sent, TimeOut, Rep
 use Rattle.sdv_card.specs.declared.answer.DataEnd.{DataEnd}
 use Rattle.sdv_card.specs.declared.answer.DataEnd.TheVariants as data_ends
 use Rattle.sdv_card.specs.declared.answer.WaitEnd.TheVariants as wait_ends
-use Rattle.sdv_audit.specs.declared.fault.LineFault.{LineFault}
-use Rattle.sdv_audit.specs.declared.fault.LineFault.TheVariants as faults
+use Rattle.sdv_audit.specs.declared.fault.TraceLineFault.{TraceLineFault}
+use Rattle.sdv_audit.specs.declared.fault.TraceLineFault.TheVariants as faults
 use Rattle.sdv_audit.specs.declared.line.TraceLine.{TraceLine}
 use Rattle.sdv_audit.specs.declared.line.TraceLine.TheVariants.{Exchange, BlocksIn, RegisterIn, BlocksOut, Wait, Lines, End}
 
@@ -21,12 +21,12 @@ use Rattle.sdv_audit.specs.declared.line.TraceLine.TheVariants.{Exchange, Blocks
 
 -- one step of reading behind another
 infixl 10 ◌>>=◌
-abbrev pub ◌>>=◌ : {A B : Type 0} → Result A LineFault → (A → Result B LineFault) → Result B LineFault
+abbrev pub ◌>>=◌ : {A B : Type 0} → Result A TraceLineFault → (A → Result B TraceLineFault) → Result B TraceLineFault
 (Ok x) >>= f = f x
 (Err fault) >>= f = Err fault
 
 -- where nothing is read, the fault
-abbrev pub or_fault : {A : Type 0} → LineFault → Option A → Result A LineFault
+abbrev pub or_fault : {A : Type 0} → TraceLineFault → Option A → Result A TraceLineFault
 or_fault fault None = Err fault
 or_fault fault (Some x) = Ok x
 
@@ -85,7 +85,7 @@ read_reply index bs =
     or_else (after (codes "R6 ") bs) (λ rest. map_some R6 (last_word rest)) (
     or_else (after (codes "R7 ") bs) (λ rest. map_some R7 (last_word rest)) None))))
 
-unfoldable pub read_answer : (index : ℕ) → List ℕ → Result Answer LineFault
+unfoldable pub read_answer : (index : ℕ) → List ℕ → Result Answer TraceLineFault
 read_answer index bs =
     if is_word (codes "-") bs then Ok Sent
     else (if is_word (codes "timeout") bs then Ok TimeOut
@@ -93,19 +93,19 @@ read_answer index bs =
 
 -- COMMANDS
 
-abbrev pub index_and : ℕ → Option (List ℕ) → Result (ℕ × List ℕ) LineFault
+abbrev pub index_and : ℕ → Option (List ℕ) → Result (ℕ × List ℕ) TraceLineFault
 index_and index None = Err faults.Index
 index_and index (Some rest) = if nat_le index 63 then Ok (index, rest) else Err faults.Index
 
-unfoldable pub read_index : List ℕ → Result (ℕ × List ℕ) LineFault
+unfoldable pub read_index : List ℕ → Result (ℕ × List ℕ) TraceLineFault
 read_index bs = or_fault faults.Index (read_number bs) >>= λ n. index_and n.0 (after (codes " ") n.1)
 
-unfoldable pub read_argument : List ℕ → Result (ℕ × List ℕ) LineFault
+unfoldable pub read_argument : List ℕ → Result (ℕ × List ℕ) TraceLineFault
 read_argument bs =
     or_fault faults.Argument (read_word bs) >>= λ word.
     or_fault faults.Argument (after (codes " ") word.1) >>= λ rest. Ok (word.0, rest)
 
-unfoldable pub read_exchange : List ℕ → Result TraceLine LineFault
+unfoldable pub read_exchange : List ℕ → Result TraceLine TraceLineFault
 read_exchange bs =
     read_index bs >>= λ index.
     read_argument index.1 >>= λ argument.
@@ -114,24 +114,24 @@ read_exchange bs =
 
 -- PHASES AND WAITS
 
-unfoldable pub read_data_end : List ℕ → Result DataEnd LineFault
+unfoldable pub read_data_end : List ℕ → Result DataEnd TraceLineFault
 read_data_end bs =
     if is_word (codes " ok") bs then Ok data_ends.Ok
     else (if is_word (codes " cut") bs then Ok data_ends.Cut else Err faults.End)
 
-unfoldable pub read_phase : List ℕ → Result (ℕ × DataEnd) LineFault
+unfoldable pub read_phase : List ℕ → Result (ℕ × DataEnd) TraceLineFault
 read_phase bs =
     or_fault faults.Count (read_number bs) >>= λ count.
     read_data_end count.1 >>= λ end. Ok (count.0, end)
 
-unfoldable pub read_wait : List ℕ → Result TraceLine LineFault
+unfoldable pub read_wait : List ℕ → Result TraceLine TraceLineFault
 read_wait bs =
     if is_word (codes "ok") bs then Ok (Wait wait_ends.Ok)
     else (if is_word (codes "late") bs then Ok (Wait wait_ends.Late) else Err faults.End)
 
 -- DATA LINES
 
-unfoldable pub read_lines : List ℕ → Result TraceLine LineFault
+unfoldable pub read_lines : List ℕ → Result TraceLine TraceLineFault
 read_lines bs =
     if is_word (codes "1") bs then Ok (Lines One)
     else (if is_word (codes "4") bs then Ok (Lines Four)
@@ -140,21 +140,21 @@ read_lines bs =
 -- A LINE, without the end of line
 
 -- the last line of a run: it was done, or ended in a fault with some name
-unfoldable pub read_end : List ℕ → Result TraceLine LineFault
+unfoldable pub read_end : List ℕ → Result TraceLine TraceLineFault
 read_end bs =
     if is_word (codes "done") bs then Ok End else or_else (after (codes "fault ") bs) (λ rest. Ok End) (Err faults.Word)
 
 -- a line of the host alone, or the last one
-unfoldable pub read_other : List ℕ → Result TraceLine LineFault
+unfoldable pub read_other : List ℕ → Result TraceLine TraceLineFault
 read_other bs =
     or_else (after (codes "WAIT ") bs) read_wait (or_else (after (codes "LINES ") bs) read_lines (read_end bs))
 
 -- a line of a data phase, or another one
-unfoldable pub read_data : List ℕ → Result TraceLine LineFault
+unfoldable pub read_data : List ℕ → Result TraceLine TraceLineFault
 read_data bs =
     or_else (after (codes "IN ") bs) (λ rest. read_phase rest >>= λ x. Ok (BlocksIn x.0 x.1)) (
     or_else (after (codes "REG ") bs) (λ rest. read_phase rest >>= λ x. Ok (RegisterIn x.0 x.1)) (
     or_else (after (codes "OUT ") bs) (λ rest. read_phase rest >>= λ x. Ok (BlocksOut x.0 x.1)) (read_other bs)))
 
-unfoldable pub read_line : List ℕ → Result TraceLine LineFault
+unfoldable pub read_line : List ℕ → Result TraceLine TraceLineFault
 read_line bs = or_else (after (codes "CMD") bs) read_exchange (read_data bs)

@@ -1,50 +1,20 @@
--- How the lines of a trace are printed, without the end of line; and that each of them is read as it was meant.
+-- How the lines of a trace are printed, without the end of line; and that each of them is read as it was meant. The
+-- answers and ends are spelled as a run prints them.
 use Rattle.std.specs.Prelude.{◌≡◌, ◌<◌, ◌≤◌, ◌^◌, ℕ, List, ◌++◌, codes, decimal, length, Ok}
-use Rattle.std.specs.Int.{w32, to_be_bytes}
-use Rattle.hex.specs.Hex.{IsBytes, encode_lower}
+use Rattle.hex.specs.Hex.{IsBytes}
+use Rattle.sdv_frames.specs.declared.command.Command.{Command}
 use Rattle.sdv_frames.specs.declared.reply.Reply.{Reply}
 use Rattle.sdv_frames.specs.declared.reply.Reply.TheVariants.{R1, R2, R3, R6, R7}
-use Rattle.sdv_frames.specs.declared.command.Command.{Command}
 use Rattle.sdv_card.specs.declared.answer.Answer.{Answer}
 use Rattle.sdv_card.specs.declared.answer.Answer.TheVariants.{Sent, TimeOut, Reply as Replied, Damaged}
 use Rattle.sdv_card.specs.declared.answer.DataEnd.{DataEnd}
-use Rattle.sdv_card.specs.declared.answer.DataEnd.TheVariants.{Ok as Whole, Cut}
-use Rattle.sdv_card.specs.declared.answer.WaitEnd.{WaitEnd}
-use Rattle.sdv_card.specs.declared.answer.WaitEnd.TheVariants.{Ok as Over, Late}
 use Rattle.sdv_card.specs.Modes.{line_count}
+use Rattle.sdv_trace.specs.Trace.{answer_text, command_text, end_text, wait_text, word_text}
 use Rattle.sdv_audit.specs.declared.line.TraceLine.{TraceLine}
 use Rattle.sdv_audit.specs.declared.line.TraceLine.TheVariants.{Exchange, BlocksIn, RegisterIn, BlocksOut, Wait, Lines, End}
 use Rattle.sdv_audit.specs.Reading.{read_line}
 
--- a word as eight lower-case hexadecimal digits
-abbrev pub word_text : ℕ → List ℕ
-word_text word = encode_lower (to_be_bytes w32 word)
-
-abbrev pub reply_text : Reply → List ℕ
-reply_text (R1 index status) = codes "R1 " ++ word_text status
-reply_text (R2 register) = codes "R2 " ++ encode_lower register
-reply_text (R3 ocr) = codes "R3 " ++ word_text ocr
-reply_text (R6 word) = codes "R6 " ++ word_text word
-reply_text (R7 word) = codes "R7 " ++ word_text word
-
--- what came of a command; a damaged response ends a run, and is not printed
-abbrev pub answer_text : Answer → List ℕ
-answer_text Sent = codes "-"
-answer_text TimeOut = codes "timeout"
-answer_text (Replied reply) = reply_text reply
-answer_text (Damaged fault) = codes "damaged"
-
-abbrev pub command_text : Command → List ℕ
-command_text c = codes "CMD" ++ (decimal c.index ++ (codes " " ++ (word_text c.argument ++ codes " ")))
-
-abbrev pub end_text : DataEnd → List ℕ
-end_text Whole = codes " ok"
-end_text Cut = codes " cut"
-
-abbrev pub wait_text : WaitEnd → List ℕ
-wait_text Over = codes " ok"
-wait_text Late = codes " late"
-
+-- the line of a phase, by its word and how many blocks or bytes it has
 abbrev pub phase_text : List ℕ → ℕ → DataEnd → List ℕ
 phase_text word count end = word ++ (codes " " ++ (decimal count ++ end_text end))
 
@@ -56,6 +26,14 @@ line_text (BlocksOut count end) = phase_text (codes "OUT") count end
 line_text (Wait end) = codes "WAIT" ++ wait_text end
 line_text (Lines width) = codes "LINES " ++ decimal (line_count width)
 line_text End = codes "done"
+
+-- a line without its answer
+abbrev pub command_told : Command → List ℕ
+command_told c = codes "CMD" ++ (decimal c.index ++ (codes " " ++ word_text c.argument))
+
+abbrev pub told_text : TraceLine → List ℕ
+told_text (Exchange command answer) = command_told command
+told_text line = line_text line
 
 -- WHICH LINES CAN BE PRINTED
 

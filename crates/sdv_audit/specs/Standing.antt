@@ -2,6 +2,7 @@
 use Rattle.std.specs.Prelude.{◌≡◌, IsTrue, ℕ, List, [], ◌∷◌, length, map}
 use Rattle.sdv_registers.specs.declared.kind.Kind.{Kind}
 use Rattle.sdv_card.specs.declared.shape.Shape.{Shape}
+use Rattle.sdv_card.specs.declared.event.Ask.{Ask}
 use Rattle.sdv_card.specs.declared.event.Event.{Event}
 use Rattle.sdv_card.specs.declared.event.Event.TheVariants.{Send}
 use Rattle.sdv_card.specs.Lists.{May}
@@ -24,7 +25,7 @@ use Rattle.sdv_audit.specs.declared.turn.Deed.TheVariants.{Known, Begins}
 use Rattle.sdv_audit.specs.declared.turn.Turn.{Turn}
 use Rattle.sdv_audit.specs.declared.turn.Turn.TheVariants.{Uses, OtherLength, Does}
 use Rattle.sdv_audit.specs.Known.{nothing_known}
-use Rattle.sdv_audit.specs.Turns.{turn_of, known_after, transfer_ask}
+use Rattle.sdv_audit.specs.Turns.{turn_of, known_after}
 
 -- AN EVENT AND WHAT IT RETURNED, as a line tells them. Blocks and the bytes of registers that go over the data lines are
 -- in no line.
@@ -49,10 +50,15 @@ pub record StepTold (k : Kind) (event : Event) (line : TraceLine) (c : Card) (h 
   pub step : Step made_event c returned u
   pub host : host_after k made_event returned h ≡ g
 
--- so it is of what the host does, with some count where none is told
+-- so it is by any ask that sends the bits of the line, with a count that lines allow
+abbrev pub AskTold : Kind → (IsCount : ℕ → Type 0) → TraceLine → Card → Host → Card → Host → Type 0
+AskTold k IsCount line c h u g = (ask : Ask) × IsCount ask.count × StepTold k (Send ask) line c h u g
+
+-- so it is of what the host does: by any ask with the count that lines tell, or with any count where none is told
 abbrev pub DeedTold : Kind → Deed → TraceLine → Card → Host → Card → Host → Type 0
+DeedTold k (Known (Send told)) line c h u g = AskTold k (λ count. count ≡ told.count) line c h u g
 DeedTold k (Known event) line c h u g = StepTold k event line c h u g
-DeedTold k (Begins write) line c h u g = (count : ℕ) × StepTold k (Send (transfer_ask write count)) line c h u g
+DeedTold k (Begins write) line c h u g = AskTold k (λ count. Unit {0}) line c h u g
 
 -- from a card beside its host to another one, by one line; a data phase of another length is none that the host makes
 abbrev pub Goes : Kind → Turn → TraceLine → Card → Host → Card → Host → Type 0

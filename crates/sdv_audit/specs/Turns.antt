@@ -11,6 +11,8 @@ use Rattle.sdv_card.specs.declared.event.Event.{Event}
 use Rattle.sdv_card.specs.declared.event.Event.TheVariants.{Send, RecvBlocks, RecvReg, Give, Wait as Waits}
 use Rattle.sdv_card.specs.declared.event.Seen.{Seen}
 use Rattle.sdv_card.specs.declared.event.Seen.TheVariants.{Sent as SeenSent}
+use Rattle.sdv_card.specs.declared.answer.Answer.{Answer}
+use Rattle.sdv_card.specs.declared.answer.Answer.TheVariants.{Sent}
 use Rattle.sdv_card.specs.CommandTable.{order_of, order_argument, expect_of}
 use Rattle.sdv_card.specs.Expected.{is_of_kind}
 use Rattle.sdv_card.specs.Code.{digits}
@@ -75,15 +77,23 @@ ask_with index aim argument count = record { index = index; aim = aim; argument 
 abbrev pub ask_if : Bool → Ask → Option Ask → Option Ask
 ask_if is ask other = if is then Some ask else other
 
--- a command without an argument of its own; with one; or with the host's relative card address
-abbrev pub ask_told : Kind → (rca : ℕ) → Command → Option TraceLine → Option Ask
-ask_told k rca c next =
+-- the host waits for an answer, be there one or not
+abbrev pub is_awaited : Answer → Bool
+is_awaited Sent = false
+is_awaited answer = true
+
+-- A command with the host's relative card address; without an argument of its own; or with one. A host whose address
+-- is 0 sends the same bits by two asks: one CMD7 addresses the card, the other one addresses none. What came of it tells
+-- which one it was, as the host waits for an answer where it addresses a card.
+abbrev pub ask_told : Kind → (rca : ℕ) → Command → Answer → Option TraceLine → Option Ask
+ask_told k rca c answer next =
     let counted : Ask = ask_with c.index Plain 0 (count_told c.index c.argument next) in
     let own : Ask = ask_with c.index Plain c.argument 0 in
     let addressed : Ask = ask_with c.index Rca 0 0 in
+    ask_if (is_sent k rca c.argument addressed && is_awaited answer) addressed (
     ask_if (is_sent k rca c.argument counted) counted (
     ask_if (is_sent k rca c.argument own) own (
-    ask_if (is_sent k rca c.argument addressed) addressed None))
+    ask_if (is_sent k rca c.argument addressed) addressed None)))
 
 -- WHAT THE HOST DOES. Where no line tells how many blocks a command announces, it does so with any number.
 
@@ -116,7 +126,7 @@ turn_of_phase event count (Some due) = if count == due then Does (Known event) e
 
 abbrev pub turn_of_line : Kind → HostKnown → TraceLine → Option TraceLine → Turn
 turn_of_line k known (Exchange command answer) next =
-    turn_of_ask (begins command.index next) (command.index == 25) (ask_told k known.rca command next)
+    turn_of_ask (begins command.index next) (command.index == 25) (ask_told k known.rca command answer next)
 turn_of_line k known (BlocksIn count end) next = turn_of_phase RecvBlocks count known.announced
 turn_of_line k known (RegisterIn count end) next = turn_of_phase RecvReg count (Some known.register_length)
 turn_of_line k known (BlocksOut count end) next = turn_of_phase Give count known.announced

@@ -4,34 +4,56 @@ ghost use Rattle.std.specs.Prelude.{◌≡◌, ◌↔◌, ◌==◌, IsTrue};
 ghost use Rattle.sdv_frames.specs.Bits.{bits_of};
 ghost use Rattle.sdv_registers.specs.Csd.{fault};
 ghost use Rattle.sdv_registers.specs.Ocr.{voltage_windows};
-ghost use Rattle.sdv_audit.specs.Possible.{same_bytes, is_same_csd, is_possible_csd, is_possible_reply, is_possible};
+ghost use Rattle.sdv_audit.specs.Possible.{same_mult, same_capacity, agrees, is_possible_csd, is_possible_reply, is_possible};
 
 use crate::line::TraceLine;
 use sdv_card::{Answer, Order};
 use sdv_frames::Reply;
 use sdv_registers::{Csd, Kind, Ocr, PublishedRca};
 
-fn is_same(a: &[u8; 15], b: &[u8; 15]) -> bool
-    ensures { result ≡ same_bytes a.now b.now }
+/// C_SIZE_MULT is the same, where the layout has it.
+fn is_same_mult(a: Option<u8>, b: Option<u8>) -> bool
+    ensures { result ≡ same_mult a b }
 {
-    *a == *b
-}
-
-/// The CSD is the one that the host knows, if it knows one.
-fn is_same_csd(known: Option<[u8; 15]>, register: &[u8; 15]) -> bool
-    ensures { result ≡ is_same_csd known register.now }
-{
-    match known {
-        Some(known) => is_same(&known, register),
-        None => true,
+    match (a, b) {
+        (Some(a), Some(b)) => a == b,
+        (None, None) => true,
+        _ => false,
     }
 }
 
-/// The CSD tells a capacity, and is the one that the host knows, if it knows one.
+/// The fields by which the capacity is computed are the same.
+fn has_same_capacity(a: &Csd, b: &Csd) -> bool
+    requires { a.now.kind ≡ b.now.kind }
+    ensures { result ≡ same_capacity a.now.kind (bits_of a.now.register) (bits_of b.now.register) }
+{
+    a.csd_structure() == b.csd_structure()
+        && a.read_bl_len() == b.read_bl_len()
+        && a.c_size() == b.c_size()
+        && is_same_mult(a.c_size_mult(), b.c_size_mult())
+}
+
+/// The CSD tells the capacity of the one that the host knows, if it knows one.
+fn agrees(known: Option<[u8; 15]>, csd: &Csd) -> bool
+    ensures { result ≡ agrees csd.now.kind known (bits_of csd.now.register) }
+{
+    let Some(known) = known else {
+        return true;
+    };
+    match Csd::read(csd.kind, &known) {
+        Ok(known) => has_same_capacity(&known, csd),
+        Err(_) => false,
+    }
+}
+
+/// The CSD tells a capacity, that of the one that the host knows, if it knows one.
 fn is_possible_csd(kind: Kind, known: Option<[u8; 15]>, register: &[u8; 15]) -> bool
     ensures { result ≡ is_possible_csd kind known register.now }
 {
-    Csd::read(kind, register).is_ok() && is_same_csd(known, register)
+    match Csd::read(kind, register) {
+        Ok(csd) => agrees(known, &csd),
+        Err(_) => false,
+    }
 }
 
 /// All voltage windows are there.

@@ -5,7 +5,7 @@ ghost use Rattle.sdv_text.specs.Fronts.{after, is_word, is_digit, run, number_af
 ghost use Rattle.sdv_audit.specs.Reading.{read_number, read_word, last_word, last_register, read_reply, read_answer, read_index, read_argument, read_exchange, read_data_end, read_phase, read_wait, read_lines, read_end, read_other, read_data, read_line};
 ghost use Rattle.sdv_audit.specs.ReadParts.{read_part};
 
-use crate::fault::LineFault;
+use crate::fault::TraceLineFault;
 use crate::line::TraceLine;
 use hex::FromHex;
 use sdv_card::{Answer, DataEnd, WaitEnd, Width};
@@ -84,7 +84,7 @@ fn reply(index: u8, text: &[u8]) -> Option<Reply>
 
 /// What came of the command with this index.
 #[tactic(auto, unfolding(crate::specs::Reading::read_answer))]
-fn answer(index: u8, text: &[u8]) -> Result<Answer, LineFault>
+fn answer(index: u8, text: &[u8]) -> Result<Answer, TraceLineFault>
     ensures { result ≡ read_answer index text.now }
 {
     if is_word(text, b"-") {
@@ -95,41 +95,41 @@ fn answer(index: u8, text: &[u8]) -> Result<Answer, LineFault>
     }
     match reply(index, text) {
         Some(reply) => Ok(Answer::Reply(reply)),
-        None => Err(LineFault::Answer),
+        None => Err(TraceLineFault::Answer),
     }
 }
 
 /// A command index, and what follows its space.
 #[tactic(auto, unfolding(crate::specs::Reading::read_index))]
-fn index(text: &[u8]) -> Result<(u8, &[u8]), LineFault>
+fn index(text: &[u8]) -> Result<(u8, &[u8]), TraceLineFault>
     ensures { read_part (λ x. (x.0, x.1.now)) result ≡ read_index text.now }
 {
     let Some((index, rest)) = number(text) else {
-        return Err(LineFault::Index);
+        return Err(TraceLineFault::Index);
     };
     match after(rest, b" ") {
         Some(rest) if index < 64 => Ok((index as u8, rest)),
-        _ => Err(LineFault::Index),
+        _ => Err(TraceLineFault::Index),
     }
 }
 
 /// An argument, and what follows its space.
 #[tactic(auto, unfolding(crate::specs::Reading::read_argument))]
-fn argument(text: &[u8]) -> Result<(u32, &[u8]), LineFault>
+fn argument(text: &[u8]) -> Result<(u32, &[u8]), TraceLineFault>
     ensures { read_part (λ x. (x.0, x.1.now)) result ≡ read_argument text.now }
 {
     let Some((argument, rest)) = word(text) else {
-        return Err(LineFault::Argument);
+        return Err(TraceLineFault::Argument);
     };
     match after(rest, b" ") {
         Some(rest) => Ok((argument, rest)),
-        None => Err(LineFault::Argument),
+        None => Err(TraceLineFault::Argument),
     }
 }
 
 /// A command, and what came of it.
 #[tactic(auto, unfolding(crate::specs::Reading::read_exchange))]
-fn exchange(text: &[u8]) -> Result<TraceLine, LineFault>
+fn exchange(text: &[u8]) -> Result<TraceLine, TraceLineFault>
     ensures { result ≡ read_exchange text.now }
 {
     let (index, rest) = index(text)?;
@@ -143,7 +143,7 @@ fn exchange(text: &[u8]) -> Result<TraceLine, LineFault>
 
 /// How a data phase ended.
 #[tactic(auto, unfolding(crate::specs::Reading::read_data_end))]
-fn data_end(text: &[u8]) -> Result<DataEnd, LineFault>
+fn data_end(text: &[u8]) -> Result<DataEnd, TraceLineFault>
     ensures { result ≡ read_data_end text.now }
 {
     if is_word(text, b" ok") {
@@ -151,17 +151,17 @@ fn data_end(text: &[u8]) -> Result<DataEnd, LineFault>
     } else if is_word(text, b" cut") {
         Ok(DataEnd::Cut)
     } else {
-        Err(LineFault::End)
+        Err(TraceLineFault::End)
     }
 }
 
 /// The length of a data phase, and how it ended.
 #[tactic(auto, unfolding(crate::specs::Reading::read_phase))]
-fn phase(text: &[u8]) -> Result<(u16, DataEnd), LineFault>
+fn phase(text: &[u8]) -> Result<(u16, DataEnd), TraceLineFault>
     ensures { result ≡ read_phase text.now }
 {
     let Some((count, rest)) = number(text) else {
-        return Err(LineFault::Count);
+        return Err(TraceLineFault::Count);
     };
     let end = data_end(rest)?;
     Ok((count, end))
@@ -169,7 +169,7 @@ fn phase(text: &[u8]) -> Result<(u16, DataEnd), LineFault>
 
 /// How a wait ended.
 #[tactic(auto, unfolding(crate::specs::Reading::read_wait))]
-fn wait(text: &[u8]) -> Result<TraceLine, LineFault>
+fn wait(text: &[u8]) -> Result<TraceLine, TraceLineFault>
     ensures { result ≡ read_wait text.now }
 {
     if is_word(text, b"ok") {
@@ -177,13 +177,13 @@ fn wait(text: &[u8]) -> Result<TraceLine, LineFault>
     } else if is_word(text, b"late") {
         Ok(TraceLine::Wait { end: WaitEnd::Late })
     } else {
-        Err(LineFault::End)
+        Err(TraceLineFault::End)
     }
 }
 
 /// The data lines that the host uses from here on.
 #[tactic(auto, unfolding(crate::specs::Reading::read_lines))]
-fn lines(text: &[u8]) -> Result<TraceLine, LineFault>
+fn lines(text: &[u8]) -> Result<TraceLine, TraceLineFault>
     ensures { result ≡ read_lines text.now }
 {
     if is_word(text, b"1") {
@@ -195,13 +195,13 @@ fn lines(text: &[u8]) -> Result<TraceLine, LineFault>
             width: Width::Eight,
         })
     } else {
-        Err(LineFault::Lines)
+        Err(TraceLineFault::Lines)
     }
 }
 
 /// The last line of a run.
 #[tactic(auto, unfolding(crate::specs::Reading::read_end))]
-fn end(text: &[u8]) -> Result<TraceLine, LineFault>
+fn end(text: &[u8]) -> Result<TraceLine, TraceLineFault>
     ensures { result ≡ read_end text.now }
 {
     if is_word(text, b"done") {
@@ -209,12 +209,12 @@ fn end(text: &[u8]) -> Result<TraceLine, LineFault>
     }
     match after(text, b"fault ") {
         Some(_) => Ok(TraceLine::End),
-        None => Err(LineFault::Word),
+        None => Err(TraceLineFault::Word),
     }
 }
 
 #[tactic(auto, unfolding(crate::specs::Reading::read_other))]
-fn other_line(text: &[u8]) -> Result<TraceLine, LineFault>
+fn other_line(text: &[u8]) -> Result<TraceLine, TraceLineFault>
     ensures { result ≡ read_other text.now }
 {
     if let Some(rest) = after(text, b"WAIT ") {
@@ -227,7 +227,7 @@ fn other_line(text: &[u8]) -> Result<TraceLine, LineFault>
 }
 
 #[tactic(auto, unfolding(crate::specs::Reading::read_data))]
-fn data_line(text: &[u8]) -> Result<TraceLine, LineFault>
+fn data_line(text: &[u8]) -> Result<TraceLine, TraceLineFault>
     ensures { result ≡ read_data text.now }
 {
     if let Some(rest) = after(text, b"IN ") {
@@ -251,7 +251,7 @@ fn data_line(text: &[u8]) -> Result<TraceLine, LineFault>
 ///
 /// The first fault from the left.
 #[tactic(auto, unfolding(crate::specs::Reading::read_line))]
-pub fn read_line(text: &[u8]) -> Result<TraceLine, LineFault>
+pub fn read_line(text: &[u8]) -> Result<TraceLine, TraceLineFault>
     ensures { result ≡ read_line text.now }
 {
     match after(text, b"CMD") {

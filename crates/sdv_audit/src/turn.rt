@@ -2,13 +2,13 @@
 
 ghost use Rattle.std.specs.Prelude.{◌≡◌};
 ghost use Rattle.sdv_card.specs.CommandTable.{order_argument, argument_or_none, expect_of};
-ghost use Rattle.sdv_audit.specs.Turns.{phase_count, is_counted, count_or_one, count_told, begins, is_count, is_sent, ask_told, transfer_ask, count_at, event_at, turn_of_ask, turn_of_phase, turn_of, known_after_phase, known_after_deed, known_after, is_expected_answer, is_expected};
+ghost use Rattle.sdv_audit.specs.Turns.{phase_count, is_counted, count_or_one, count_told, begins, is_count, is_sent, is_awaited, ask_told, transfer_ask, count_at, event_at, turn_of_ask, turn_of_phase, turn_of, known_after_phase, known_after_deed, known_after, is_expected_answer, is_expected};
 
 use crate::known::HostKnown;
 use crate::line::TraceLine;
 use crate::possible::is_possible;
 use sdv_card::state_table::{has_width, order};
-use sdv_card::{Aim, Ask, Event, Shape, Width, argument as sent_argument, expect};
+use sdv_card::{Aim, Answer, Ask, Event, Shape, Width, argument as sent_argument, expect};
 use sdv_frames::Command;
 use sdv_registers::Kind;
 
@@ -137,17 +137,41 @@ fn is_sent(kind: Kind, rca: u16, argument: u32, ask: &Ask) -> bool
     }
 }
 
-/// The line of the command table by which the host sends the command, if there is one.
-fn ask_told(kind: Kind, known: &HostKnown, command: Command, next: Option<TraceLine>) -> Option<Ask>
-    ensures { result ≡ ask_told kind known.now.rca command next }
+/// The host waits for an answer, be there one or not.
+fn is_awaited(answer: &Answer) -> bool
+    ensures { result ≡ is_awaited answer.now }
 {
+    !matches!(answer, Answer::Sent)
+}
+
+/// The line of the command table by which the host sends the command, if there is one. Where two send the same bits, what
+/// came of it tells which one it was.
+fn ask_told(
+    kind: Kind,
+    rca: u16,
+    command: Command,
+    answer: &Answer,
+    next: Option<TraceLine>,
+) -> Option<Ask>
+    ensures { result ≡ ask_told kind rca command answer.now next }
+{
+    let addressed = Ask {
+        index: command.index,
+        aim: Aim::Rca,
+        argument: 0,
+        count: 0,
+    };
+    let is_addressed = is_sent(kind, rca, command.argument, &addressed);
+    if is_addressed && is_awaited(answer) {
+        return Some(addressed);
+    }
     let counted = Ask {
         index: command.index,
         aim: Aim::Plain,
         argument: 0,
         count: count_told(command, next),
     };
-    if is_sent(kind, known.rca, command.argument, &counted) {
+    if is_sent(kind, rca, command.argument, &counted) {
         return Some(counted);
     }
     let own = Ask {
@@ -156,19 +180,10 @@ fn ask_told(kind: Kind, known: &HostKnown, command: Command, next: Option<TraceL
         argument: command.argument,
         count: 0,
     };
-    if is_sent(kind, known.rca, command.argument, &own) {
+    if is_sent(kind, rca, command.argument, &own) {
         return Some(own);
     }
-    let addressed = Ask {
-        index: command.index,
-        aim: Aim::Rca,
-        argument: 0,
-        count: 0,
-    };
-    if is_sent(kind, known.rca, command.argument, &addressed) {
-        return Some(addressed);
-    }
-    None
+    if is_addressed { Some(addressed) } else { None }
 }
 
 fn turn_of_ask(untold: bool, write: bool, ask: Option<Ask>) -> Turn
@@ -198,8 +213,8 @@ impl Told {
         ensures { result ≡ turn_of kind known.now self.now }
     {
         match self.line {
-            TraceLine::Exchange { command, .. } => {
-                let ask = ask_told(kind, known, command, self.next);
+            TraceLine::Exchange { command, answer } => {
+                let ask = ask_told(kind, known.rca, command, &answer, self.next);
                 turn_of_ask(begins(command.index, self.next), command.index == 25, ask)
             }
             TraceLine::BlocksIn { count, .. } => {

@@ -1,6 +1,7 @@
 //! The text of a trace: one line for each event of a run with what it returned, and one for the end of the run.
 //!
-//! Begin at `specs/Trace.antt`, which says what each line is.
+//! Begin at `specs/Trace.antt`, which says what each line is; the writers here write exactly that. `docs/TRACES.md`
+//! has the lines for a user.
 #![tactic(auto)]
 
 mod end;

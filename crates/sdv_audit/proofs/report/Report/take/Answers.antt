@@ -1,0 +1,37 @@
+use Rattle.std.proofs.Common.{◌≡◌, ◌∙◌, Err, ap, rules, subst}
+use Rattle.std.specs.Io.KnownBytes.{Appends}
+use Rattle.sdv_audit.specs.Course.{IsAt, course_after, found_at}
+use Rattle.sdv_audit.specs.Faults.{fault_of_audit}
+use Rattle.sdv_audit.specs.Notes.{tally_after}
+use Rattle.sdv_audit.proofs.ReportLaws.{notes_same, report_after, take_room}
+use Rattle.sdv_audit.proofs.report.Report.take.Goals as goal
+
+pub returns-in-Ok-clause-course : goal.returns-in-Ok-clause-course
+returns-in-Ok-clause-course g c p at =
+    report_after c.args.self.now.kind c.args.self.now.style c.args.self.now
+    (record {
+      alloc = c.args.self.now.alloc;
+      kind = c.args.self.now.kind;
+      style = c.args.self.now.style;
+      audit = c.next.new.self;
+      tally = c.after-self.result;
+      csd_line = c.csd_line_after-self.result;
+    })
+    p c.args.told.now c.in_ok-found.found at
+    (c.in_ok-found.ensures.found p.course at.course ∙ ap (λ v. found_at v c.args.told.now p.course) at.kind)
+    (c.in_ok-found.ensures.kind ∙ at.kind)
+    (subst (λ v. IsAt c.next.new.self (course_after v c.args.told.now p.course)) at.kind (c.in_ok-found.ensures.course p.course at.course))
+    (c.after-self.ensures ∙ ap (λ b. tally_after b c.in_ok-found.found c.args.self.now.tally) c.numbers.ensures)
+
+pub returns-in-Ok-clause-written : goal.returns-in-Ok-clause-written
+returns-in-Ok-clause-written g c p at = (
+  c.in_ok-text.text.items,
+  notes_same c.args.self.now.kind c.args.self.now.style c.args.self.now p c.args.told.now c.in_ok-found.found c.counted.result c.in_ok-text.text.items at
+      (c.in_ok-found.ensures.found p.course at.course ∙ ap (λ v. found_at v c.args.told.now p.course) at.kind) c.counted.ensures c.in_ok-text.ensures,
+  subst (λ v. Appends (g.W.Write.contents c.args.out.now) (g.W.Write.contents c.write_text.new.out) v) c.as_slice.ensures.value c.in-Ok.ensures,
+)
+
+pub returns-in_err-found-clause-room : goal.returns-in_err-found-clause-room
+returns-in_err-found-clause-room g c =
+    let is : c.from_residual-in_err-found.result ≡ Err (fault_of_audit c.in_err-found.field-0.0) = search rules in
+    rw is (take_room c.in_err-found.field-0.0 c.args.self.now c.args.told.now c.in_err-found.ensures.room)

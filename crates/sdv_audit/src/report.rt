@@ -1,0 +1,131 @@
+//! A report, line by line.
+
+ghost use Rattle.std.specs.Prelude.{◌≡◌, ◌≢◌, IfErr, IfOk, OnOk};
+ghost use Rattle.sdv_card.specs.Lists.{May};
+ghost use Rattle.sdv_audit.specs.Room.{AreMany};
+ghost use Rattle.sdv_audit.specs.Report.{AddsEnding, AddsNotes, Progress, ReportAt, at_start, line_notes, progress_after};
+
+use crate::audit::{Audit, Findings};
+use crate::fault::NoteFault;
+use crate::line::TraceLine;
+use crate::notes::{Place, TOPICS, notes_text, put_ending};
+use crate::style::{Style, Tally, counted};
+use crate::turn::{Deed, Told, Turn};
+use crate::words::{Before, put_standing};
+use sdv_card::{Answer, Event};
+use sdv_frames::Reply;
+use sdv_registers::Kind;
+use sdv_telling::Text;
+use sdv_text::write_text;
+use std::alloc::{AllocError, Global};
+use std::io::Write;
+
+/// A report, as far as it has come.
+#[derive(Drop)]
+pub struct Report {
+    alloc: Global,
+    kind: Kind,
+    pub style: Style,
+    audit: Audit,
+    pub tally: Tally,
+    // the number of the line that has the CSD that the host read last
+    csd_line: u64,
+}
+
+impl Report {
+    /// Before the first line.
+    pub fn new(alloc: Global, kind: Kind, style: Style) -> Result<Report, NoteFault>
+        ensures kind { IfOk result (λ report. report.kind ≡ kind) }
+        ensures style { IfOk result (λ report. report.style ≡ style) }
+        ensures start { IfOk result (λ report. ReportAt report at_start) }
+        ensures memory { IfErr result (λ fault. fault ≡ NoteFault.Memory) }
+    {
+        Ok(Report {
+            alloc,
+            kind,
+            style,
+            audit: Audit::new(alloc, kind)?,
+            tally: Tally::nothing(),
+            csd_line: 0,
+        })
+    }
+
+    /// The states in which a card may be, where they are asked for.
+    fn states(&self) -> Result<Text, AllocError> {
+        let mut text = Vec::new(self.alloc);
+        if self.style.annotate {
+            put_standing(&mut text, self.audit.shapes())?;
+        }
+        Ok(text)
+    }
+
+    /// What is known before the next line.
+    fn before<'s>(&self, states: &'s [u8]) -> Before<'s> {
+        Before {
+            kind: self.kind,
+            csd: self.audit.known().csd,
+            csd_line: self.csd_line,
+            bounded: self.audit.is_bounded(),
+            behind: self.tally.outside != 0,
+            states,
+        }
+    }
+
+    /// Takes in a line, and writes the notes on it.
+    pub fn take<W: Write>(&mut self, told: &Told, out: &mut W) -> Result<(), NoteFault>
+        ensures kind { self.new.kind ≡ self.old.kind }
+        ensures style { self.new.style ≡ self.old.style }
+        ensures course { OnOk result ((p : Progress) → ReportAt self.old p →
+            ReportAt self.new (progress_after self.old.kind self.old.style p told.now)) }
+        ensures written { OnOk result ((p : Progress) → ReportAt self.old p →
+            AddsNotes self.old.style (line_notes self.old.kind self.old.style p told.now)
+            (W.contents out.old) (W.contents out.new)) }
+        ensures room { IfErr result (λ fault. fault ≡ NoteFault.Room → (p : Progress) → ReportAt self.old p →
+            AreMany (May (progress_after self.old.kind self.old.style p told.now).course.shapes)) }
+    {
+        let at = Place {
+            alloc: self.alloc,
+            style: self.style,
+            number: counted(true, self.tally.lines),
+            line: &told.line,
+        };
+        let states = self.states()?;
+        let before = self.before(&states);
+        let found = self.audit.next(told)?;
+        let text = notes_text(at, &found, &before, &TOPICS)?;
+        self.csd_line = csd_line_after(at.number, &found, &told.line, self.csd_line);
+        self.tally = self.tally.after(self.style.numbers(&told.line), &found);
+        match write_text(out, text.as_slice()) {
+            Ok(()) => Ok(()),
+            Err(_) => Err(NoteFault::Write),
+        }
+    }
+
+    /// Writes what stands behind the notes on all lines.
+    pub fn finish<W: Write>(&self, out: &mut W) -> Result<(), NoteFault>
+        ensures written { OnOk result (AddsEnding self.now.style self.now.tally (W.contents out.old) (W.contents out.new)) }
+        ensures room { IfErr result (λ fault. fault ≢ NoteFault.Room) }
+    {
+        let states = self.states()?;
+        let mut text = Vec::new(self.alloc);
+        put_ending(&mut text, self.style, self.tally, &states)?;
+        match write_text(out, text.as_slice()) {
+            Ok(()) => Ok(()),
+            Err(_) => Err(NoteFault::Write),
+        }
+    }
+}
+
+/// The number of the line that has the CSD that the host read last.
+fn csd_line_after(number: u64, found: &Findings, line: &TraceLine, before: u64) -> u64 {
+    match (found.turn, line) {
+        (
+            Turn::Does(Deed::Known(Event::Send(ask))),
+            TraceLine::Exchange {
+                answer: Answer::Reply(Reply::R2(_)),
+                ..
+            },
+        ) if ask.index == 9 => number,
+        _ => before,
+    }
+}

@@ -1,0 +1,118 @@
+//! How a report is printed, and what it counts.
+
+ghost use Rattle.std.specs.Prelude.{◌≡◌};
+ghost use Rattle.sdv_audit.specs.Notes.{is_reckless, is_outside, is_other_length, counted, has_number, tally_after, no_tally, has_findings};
+
+use crate::audit::Findings;
+use crate::line::TraceLine;
+use crate::turn::Turn;
+
+/// How a report is printed.
+#[derive(Clone, Copy, Debug, PartialEq, Eq)]
+pub struct Style {
+    /// An object of JSON a line in place of words.
+    pub json: bool,
+    /// Each line of the trace, with the states in which a card may be before it.
+    pub annotate: bool,
+    /// The lines `LINES n` were put into the trace: they have no number of their own, and are not counted.
+    pub put_in: bool,
+}
+
+impl Style {
+    /// The line has a number of its own.
+    pub(crate) fn numbers(self, line: &TraceLine) -> bool
+        ensures { result ≡ has_number self line.now }
+    {
+        match line {
+            TraceLine::Lines { .. } => !self.put_in,
+            _ => true,
+        }
+    }
+}
+
+/// What a report counts; no count passes 2^64 - 1.
+#[derive(Clone, Copy, Debug, PartialEq, Eq)]
+pub struct Tally {
+    /// The lines.
+    pub lines: u64,
+    /// Those at which the host was reckless.
+    pub reckless: u64,
+    /// Those to which no card answers so.
+    pub unanswered: u64,
+    /// Data phases of another length than was due.
+    pub lengths: u64,
+    /// Those with an address beyond the capacity that the CSD gives.
+    pub beyond: u64,
+    /// Those outside the tables.
+    pub outside: u64,
+}
+
+impl Tally {
+    /// Before the first line.
+    pub(crate) fn nothing() -> Tally
+        ensures { result ≡ no_tally }
+    {
+        Tally {
+            lines: 0,
+            reckless: 0,
+            unanswered: 0,
+            lengths: 0,
+            beyond: 0,
+            outside: 0,
+        }
+    }
+
+    /// After one line more.
+    pub(crate) fn after(&self, numbered: bool, found: &Findings) -> Tally
+        ensures { result ≡ tally_after numbered found.now self.now }
+    {
+        Tally {
+            lines: counted(numbered, self.lines),
+            reckless: counted(found.reckless.is_some(), self.reckless),
+            unanswered: counted(
+                found.unanswered && !is_other_length(&found.turn),
+                self.unanswered,
+            ),
+            lengths: counted(
+                found.unanswered && is_other_length(&found.turn),
+                self.lengths,
+            ),
+            beyond: counted(found.beyond, self.beyond),
+            outside: counted(is_outside(&found.turn), self.outside),
+        }
+    }
+
+    /// Whether the host or the card left the rules: a line outside the tables says nothing of that.
+    pub fn has_findings(&self) -> bool
+        ensures { result ≡ has_findings self.now }
+    {
+        self.reckless != 0 || self.unanswered != 0 || self.lengths != 0 || self.beyond != 0
+    }
+}
+
+/// A count, and one more if there is one.
+pub fn counted(more: bool, count: u64) -> u64
+    ensures { result ≡ counted more count }
+{
+    if more { count.saturating_add(1) } else { count }
+}
+
+/// A data phase has another length than was due.
+pub fn is_other_length(turn: &Turn) -> bool
+    ensures { result ≡ is_other_length turn.now }
+{
+    match turn {
+        Turn::OtherLength { .. } => true,
+        _ => false,
+    }
+}
+
+/// The host of the tables sends no such command, or has no such data lines or data phase.
+pub fn is_outside(turn: &Turn) -> bool
+    ensures { result ≡ is_outside turn.now }
+{
+    match turn {
+        Turn::Outside => true,
+        _ => false,
+    }
+}

@@ -1,4 +1,0 @@
-pub mod WordLaws
-pub mod InputLaws
-pub mod ReportLaws
-pub mod TraceLaws
