@@ -1,4 +1,5 @@
 pub mod ListLaws
+pub mod ToldLaws
 pub mod FoundLaws
 pub mod ComesLaws
 pub mod MeaningLaws

@@ -99,10 +99,3 @@ one_further xs i d x lt one = let on : suc i ≡ i + 1 = omega arith in go xs i 
           | inl n ↦ inl (inr n)
           | inr e ↦ inr e
         ]
-
--- three pieces behind a text
-pub joined : (old one two new front what back : List ℕ) → one ≡ old ++ front → two ≡ one ++ what → new ≡ two ++ back
-    → new ≡ old ++ (front ++ (what ++ back))
-joined old one two new front what back e f g =
-    g ∙ ap (λ (l : List ℕ). l ++ back) (f ∙ ap (λ (l : List ℕ). l ++ what) e)
-    ∙ append_assoc (old ++ front) what back ∙ append_assoc old front (what ++ back)

@@ -1,14 +1,15 @@
--- THAT THE DATA IS THERE where a run is done: of each write phase the blocks stand on the card as they were given, in
--- the place that the script asked for, unless a later write phase reaches one of them or an erase follows in their
--- partition.
+-- THAT THE DATA IS THERE where a run is done: the blocks of each write command, CMD24 or CMD25, stand on the card as a
+-- write phase gave them, in the place that the script asked for, unless a later write phase reaches one of them or an erase
+-- follows in their partition. Where a command is sent again to the same place, that is the phase of the later one.
 use Rattle.std.specs.Prelude.{◌≡◌, ◌⊎◌, ◌+◌, ◌<◌, ℕ, Bool, true, List, [], ◌∷◌, length, take, drop, if◌then◌else◌}
+use Rattle.sdv_card.specs.declared.answer.DataEnd.TheVariants.{Ok}
 use Rattle.sdv_card.specs.declared.event.Ask.{Ask}
 use Rattle.sdv_card.specs.declared.state.Partition.{Partition}
 use Rattle.sdv_card.specs.declared.state.Partition.TheVariants.{User}
 use Rattle.sdv_card.specs.declared.command.Row.TheVariants.{Cmd38}
 use Rattle.sdv_card.specs.Card.{Card, Block, Partitions, blocks_of}
 use Rattle.sdv_card.specs.Profile.{IsAtStart}
-use Rattle.sdv_card.specs.ScriptEvent.{ScriptEvent, SendCommand, GiveBlocks}
+use Rattle.sdv_card.specs.ScriptEvent.{ScriptEvent, SendCommand, GiveBlocks, Return, BlocksOut}
 use Rattle.sdv_card.specs.Settled.{Settled}
 use Rattle.sdv_card.specs.Taken.{Taken}
 use Rattle.sdv_facts.specs.Beside.{StepsOf}
@@ -83,11 +84,27 @@ no_aim = record { partition = User; first = 0 }
 abbrev pub given_to : Aim → List Block → Given
 given_to a blocks = record { partition = a.partition; first = a.first; blocks = blocks }
 
+-- a write phase that ended well gave so many blocks, and they are kept from there on
+abbrev pub GaveWell : Aim → (count : ℕ) → ScriptEvent → Return → (u : Card) (es : List Pair) (last : Card) → StepsOf u es last
+    → Type 0
+GaveWell a count (GiveBlocks lines blocks) (BlocksOut Ok) u es last steps =
+    (length blocks ≡ count) × IsKept (given_to a blocks) u es last steps
+GaveWell a count event returned u es last steps = ⊥
+
+-- some write phase of the run did
+abbrev pub IsWritten : Aim → (count : ℕ) → (c : Card) (es : List Pair) (last : Card) → StepsOf c es last → Type 0
+IsWritten a count c [] last steps = ⊥
+IsWritten a count c (p ∷ es) last steps =
+    GaveWell a count p.0 p.1 steps.0 es last steps.2 ⊎ IsWritten a count steps.0 es last steps.2
+
+-- the blocks of a write command are written after it, and those of a write phase are kept
 abbrev pub KeptAfter : Aim → ScriptEvent → (u : Card) (es : List Pair) (last : Card) → StepsOf u es last → Type 0
 KeptAfter a (GiveBlocks lines blocks) u es last steps = IsKept (given_to a blocks) u es last steps
+KeptAfter a (SendCommand ask position argument) u es last steps =
+    is_write ask ≡ true → IsWritten (aim_after (SendCommand ask position argument) a) ask.count u es last steps
 KeptAfter a event u es last steps = Unit {0}
 
--- so it is of each write phase of a run
+-- so it is of each write command and each write phase of a run
 abbrev pub AreKept : Aim → (c : Card) (es : List Pair) (last : Card) → StepsOf c es last → Type 0
 AreKept a c [] last steps = Unit {0}
 AreKept a c (p ∷ es) last steps =

@@ -1,10 +1,11 @@
 -- THE MOST BLOCKS that a run gives, by the statements alone. A command that begins a write counts the blocks that it
 -- announces, since a write phase needs a command of its own. Of the ways of a statement the one with the most counts, and
 -- a loop counts for each of its turns.
-use Rattle.std.specs.Prelude.{ℕ, zero, suc, ◌+◌, ◌*◌, max, [], ◌++◌, Option, Some, None, codes, decimal, if◌then◌else◌}
+use Rattle.std.specs.Prelude.{ℕ, zero, suc, ◌+◌, ◌*◌, max, [], ◌++◌, Bool, Option, Some, None, codes, decimal, if◌then◌else◌}
 use Rattle.sdv_card.specs.declared.event.Ask.{Ask}
 use Rattle.sdv_graph.specs.Tree.{Statements, nothing, first, Ways, otherwise, way, Statement, send, phase, setting, choice, set, clear, bus_lines, turns, break, done, fault}
 use Rattle.sdv_telling.specs.Statements.{Text}
+use Rattle.sdv_review.specs.Lines.{finding_end}
 use Rattle.sdv_review.specs.Statuses.{is_write}
 
 abbrev pub announced_by : Ask → ℕ
@@ -32,25 +33,19 @@ abbrev mutual
   most_of_statement done = 0
   most_of_statement (fault name) = 0
 
--- IN WORDS, where a script gives any
+-- IN WORDS, where a script gives any; a number above 64 bits is not told
 
 abbrev pub block_word : (count : ℕ) → Text
 block_word (suc zero) = codes " block"
 block_word count = codes " blocks"
 
-abbrev pub count_words : (count : ℕ) → Text
-count_words count = codes "gives at most " ++ (decimal count ++ block_word count)
+abbrev pub count_front : (json : Bool) → Text
+count_front json = if json then codes "{\"kind\":\"blocks\",\"text\":\"gives at most " else codes "gives at most "
 
--- a number above 64 bits is not told
-abbrev pub given_line : Option ℕ → Text
-given_line None = []
-given_line (Some zero) = []
-given_line (Some (suc n)) = count_words (suc n) ++ codes "\n"
+abbrev pub count_text : (json : Bool) → (count : ℕ) → Text
+count_text json count = count_front json ++ (decimal count ++ (block_word count ++ finding_end json))
 
-abbrev pub count_object : (count : ℕ) → Text
-count_object count = codes "{\"kind\":\"blocks\",\"text\":\"" ++ (count_words count ++ codes "\"}\n")
-
-abbrev pub given_object : Option ℕ → Text
-given_object None = []
-given_object (Some zero) = []
-given_object (Some (suc n)) = count_object (suc n)
+abbrev pub given_text : (json : Bool) → Option ℕ → Text
+given_text json None = []
+given_text json (Some zero) = []
+given_text json (Some (suc n)) = count_text json (suc n)

@@ -18,10 +18,15 @@ use Rattle.sdv_review.specs.declared.finding.Finding.{Finding}
 use Rattle.sdv_review.specs.declared.reviewing.Report.{Report}
 use Rattle.sdv_review.specs.CertainData.{CertainData}
 use Rattle.sdv_review.specs.Findings.{findings_of}
-use Rattle.sdv_review.specs.Given.{given_line, given_object, most_of_statements}
-use Rattle.sdv_review.specs.Lines.{lines_of, objects_of}
+use Rattle.sdv_review.specs.Given.{given_text, most_of_statements}
+use Rattle.sdv_review.specs.Lines.{IsTold}
 use Rattle.sdv_review.specs.Meaning.{AreCertain, NoneComes, PartitionsAreTold, TestsComeOut}
 use Rattle.sdv_review.specs.Writes.{WritesFound}
+
+-- what is printed of it, as lines or as objects
+abbrev pub IsTextOf : (json : Bool) → Graph → Report → (text : List ℕ) → Type 0
+IsTextOf json g r text =
+    (told : List ℕ) × IsTold json g r.found.items r.writes.items told × (text ≡ told ++ given_text json r.given)
 
 -- of a script
 pub record ReviewsScript (s : Tree) (r : Report) : Type 0 where
@@ -30,8 +35,8 @@ pub record ReviewsScript (s : Tree) (r : Report) : Type 0 where
   pub points : List PointFacts
   pub certified : CertificateOf s points
   pub found : r.found.items ≡ findings_of graph points
-  pub lines : r.lines.items ≡ lines_of graph r.found.items r.writes.items ++ given_line r.given
-  pub objects : r.objects.items ≡ objects_of graph r.found.items r.writes.items ++ given_object r.given
+  pub lines : IsTextOf false graph r r.lines.items
+  pub objects : IsTextOf true graph r r.objects.items
   -- the most blocks that a run gives, by the statements, exactly where the number has 64 bits
   pub given : SomeIff r.given (most_of_statements (shown s).body < 2 ^ 64) (most_of_statements (shown s).body)
   -- what is found of writes, erases and places, by sets that are carried along the edges

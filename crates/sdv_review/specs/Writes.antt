@@ -1,5 +1,5 @@
--- What a review finds of WRITES AND ERASES: each status at a reached `done` that leaves open whether a write is stored or
--- an erase done.
+-- What a review finds of WRITES AND ERASES: each status at a reached `done` that leaves open whether the blocks of a write
+-- command are stored or an erase is done.
 use Rattle.std.specs.Prelude.{◌≡◌, ◌⊎◌, ◌≤◌, ◌*◌, ℕ, zero, suc, List, [], ◌∷◌, ◌++◌, length, Bool, true, false, Option, Some, slice_get, if◌then◌else◌}
 use Rattle.sdv_card.specs.declared.shape.Shape.{Shape}
 use Rattle.sdv_graph.specs.Graph.{Graph}
@@ -9,15 +9,14 @@ use Rattle.sdv_facts.specs.Facts.{PointFacts}
 use Rattle.sdv_review.specs.declared.finding.Finding.{Finding}
 use Rattle.sdv_review.specs.declared.finding.Matter.TheVariants.{Unstored}
 use Rattle.sdv_review.specs.declared.status.Status.{Status}
-use Rattle.sdv_review.specs.declared.status.Status.TheVariants.{Quiet, Begun, Unknown}
+use Rattle.sdv_review.specs.declared.status.Status.TheVariants.{Quiet, Unknown}
 use Rattle.sdv_review.specs.Asked.{PlacesFound}
 use Rattle.sdv_review.specs.Carried.{Table, IsCarried}
 use Rattle.sdv_review.specs.Weights.{most_passes}
 
--- each write phase is known to have stored its blocks, and each erase to be done
+-- the blocks of each write command are known to be stored, and each erase to be done
 abbrev pub is_stored : Status → Bool
 is_stored Quiet = true
-is_stored (Begun point) = true
 is_stored status = false
 
 abbrev pub unstored : (point : ℕ) → Status → Finding

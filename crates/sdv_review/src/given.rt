@@ -2,9 +2,10 @@
 
 ghost use Rattle.std.specs.Prelude.{◌≡◌, ◌++◌, ◌<◌, ◌^◌, OnOk, SomeIff, max};
 ghost use Rattle.sdv_graph.specs.Tree.{statements_of, ways_of, statement_of};
-ghost use Rattle.sdv_review.specs.Given.{announced_by, block_word, count_object, count_words, given_line, given_object, most_of_statement, most_of_statements, most_of_ways};
+ghost use Rattle.sdv_review.specs.Given.{announced_by, block_word, count_front, count_text, given_text, most_of_statement, most_of_statements, most_of_ways};
 
 use crate::status::is_write;
+use crate::text::finding_end;
 use sdv_card::Ask;
 use sdv_graph::{Block, Cases, Stmt};
 use sdv_telling::{Text, put, put_numbered};
@@ -89,41 +90,25 @@ fn block_word(count: u64) -> &'static str
     if count == 1 { " block" } else { " blocks" }
 }
 
-/// Adds the words of a number of blocks.
-fn put_count(text: &mut Text, count: u64) -> Result<(), AllocError>
-    ensures { OnOk result (text.new.items ≡ text.old.items ++ count_words count) }
+fn count_front(json: bool) -> &'static str
+    ensures { result.now ≡ count_front json }
 {
-    put_numbered(text, "gives at most ", count, block_word(count))
+    if json {
+        "{\"kind\":\"blocks\",\"text\":\"gives at most "
+    } else {
+        "gives at most "
+    }
 }
 
-/// Adds the line with the most blocks that a run gives, where it gives any.
-pub fn put_given_line(text: &mut Text, given: Option<u64>) -> Result<(), AllocError>
-    ensures { OnOk result (text.new.items ≡ text.old.items ++ given_line given) }
+/// Adds the most blocks that a run gives, where it gives any.
+pub fn put_given(text: &mut Text, given: Option<u64>, json: bool) -> Result<(), AllocError>
+    ensures { OnOk result (text.new.items ≡ text.old.items ++ given_text json given) }
 {
     match given {
         None | Some(0) => Ok(()),
         Some(count) => {
-            put_count(text, count)?;
-            put(text, "\n")
+            put_numbered(text, count_front(json), count, block_word(count))?;
+            put(text, finding_end(json))
         }
-    }
-}
-
-/// Adds the object of JSON of a number of blocks.
-fn put_count_object(text: &mut Text, count: u64) -> Result<(), AllocError>
-    ensures { OnOk result (text.new.items ≡ text.old.items ++ count_object count) }
-{
-    put(text, "{\"kind\":\"blocks\",\"text\":\"")?;
-    put_count(text, count)?;
-    put(text, "\"}\n")
-}
-
-/// Adds the object of JSON with the most blocks that a run gives, where it gives any.
-pub fn put_given_object(text: &mut Text, given: Option<u64>) -> Result<(), AllocError>
-    ensures { OnOk result (text.new.items ≡ text.old.items ++ given_object given) }
-{
-    match given {
-        None | Some(0) => Ok(()),
-        Some(count) => put_count_object(text, count),
     }
 }

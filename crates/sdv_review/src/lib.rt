@@ -1,16 +1,22 @@
 //! What a certificate leaves open: a review of an accepted script.
 //!
-//! Begin at `review`, and at `specs/Findings.antt`, which says what is found; `specs/Lines.antt` has its words.
-//! `specs/Given.antt` says how many blocks a run gives at most, by its statements.
-//! `specs/Meaning.antt` says what a finding means for every run beside any card of the profile, and `specs/Comes.antt`
-//! when a run comes to a point.
+//! Begin at `review`, and at `specs/Findings.antt` and `specs/Writes.antt`, which say what is found.
+//! `specs/Meaning.antt` and `specs/CertainData.antt` say what findings, and none, mean for every run beside any card
+//! of the profile; `specs/Comes.antt` when a run comes to a point.
 //!
-//! `specs/Statuses.antt` says what each statement makes of the status of writes, `specs/Carried.antt` when the statuses of
-//! points are carried along the edges, `specs/Weights.antt` why that comes to an end, and `specs/Writes.antt` what is found
-//! by them. `specs/Asked.antt` says which partition a script asked for last. `specs/Confirmed.antt` says when an answer
-//! confirms a write of a card. `specs/CertainData.antt` says what it means that the data is there where a run is done: so it
-//! is where `find_writes` finds nothing. `proofs/KeptLaws.antt` says what a status means for a run, and
-//! `proofs/DataLaws.antt` follows it along a path.
+//! `specs/Statuses.antt` says what each statement makes of the status of writes and erases, `specs/Carried.antt` and
+//! `specs/Asked.antt` when statuses, and the partitions that may have been asked for last, go along each edge, and
+//! `specs/Weights.antt` why that comes to an end. `specs/Confirmed.antt` says when an answer confirms a write of a
+//! card. `specs/Given.antt` has the blocks of the last line. `proofs/KeptLaws.antt` says what a status means for a
+//! run, and `proofs/DataLaws.antt` follows it along a path.
+//!
+//! - `find` returns exactly the findings of `specs/Findings.antt`. Where one says that no run comes to a statement,
+//!   none does (`NoneComes`); a test that is said to come out one way does so in every run (`TestsComeOut`); where an
+//!   address has no finding of partitions, it meets in every run the partition that is told (`PartitionsAreTold`).
+//! - `find_writes`: where nothing is found of partitions, writes and erases, the data is there (`CertainData`;
+//!   `docs/PROVED.md`).
+//! - A review may find more than there is: statuses are joined where paths meet, and a set with more than eight holds
+//!   only that nothing is known. The words of a finding are tested; JSON is exact.
 #![tactic(auto)]
 
 mod asked;
@@ -29,12 +35,12 @@ mod status;
 mod table;
 mod text;
 mod visiting;
+mod words;
 mod writes;
 
 pub use fault::ReviewFault;
 pub use finding::{Finding, Matter, Name, Reach};
 pub use finds::find;
 pub use reviewing::{Report, review};
-pub use status::Status;
-pub use text::{put_lines, put_objects};
+pub use status::{Erase, ErasePart, Status};
 pub use writes::find_writes;

@@ -7,14 +7,13 @@ ghost use Rattle.sdv_script.specs.OneGraph.{IsGraphOfScript};
 ghost use Rattle.sdv_script.specs.Shown.{shown};
 ghost use Rattle.sdv_certify.specs.Assembled.{CertificateOf, RefusedFor};
 ghost use Rattle.sdv_review.specs.Findings.{findings_of};
-ghost use Rattle.sdv_review.specs.Lines.{lines_of, objects_of};
 ghost use Rattle.sdv_review.specs.Reviewed.{Reviews, ReviewsScript, Unreviewed, UnreviewedScript, has_findings, text_of};
 
 use crate::fault::ReviewFault;
 use crate::finding::Finding;
 use crate::finds::find;
-use crate::given::{most_of_block, put_given_line, put_given_object};
-use crate::text::{put_lines, put_objects};
+use crate::given::{most_of_block, put_given};
+use crate::text::findings_text;
 use crate::writes::find_writes;
 use sdv_certify::{CertifyFault, ScriptSurvey, survey};
 use sdv_facts::Certificate;
@@ -103,12 +102,10 @@ fn review_script(alloc: Global, script: &Script<'_>) -> Result<Report, ReviewFau
     let found = find(alloc, &graph, &known)?;
     let writes = find_writes(alloc, &graph, &known)?;
     let given = most_of_block(script.body());
-    let mut lines = Vec::new(alloc);
-    put_lines(&mut lines, &graph, &found, &writes)?;
-    put_given_line(&mut lines, given)?;
-    let mut objects = Vec::new(alloc);
-    put_objects(&mut objects, &graph, &found, &writes)?;
-    put_given_object(&mut objects, given)?;
+    let mut lines = findings_text(alloc, &graph, &found, &writes, false)?;
+    put_given(&mut lines, given, false)?;
+    let mut objects = findings_text(alloc, &graph, &found, &writes, true)?;
+    put_given(&mut objects, given, true)?;
     Ok(Report {
         found,
         writes,

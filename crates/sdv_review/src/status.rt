@@ -1,9 +1,9 @@
-//! The status of writes, and how each statement changes it.
+//! The status of writes and erases, and how each statement changes it.
 
 ghost use Rattle.std.specs.Prelude.{◌≡◌, slice_get};
 ghost use Rattle.sdv_graph.specs.Graph.{seen_action};
 ghost use Rattle.sdv_review.specs.declared.status.Status.TheVariants.{EraseLeft, Left};
-ghost use Rattle.sdv_review.specs.Statuses.{action_reads, after_event, after_let, after_phase, answered, begun, confirms, ends_well, erase_sent, erased, given, is_erase, is_moved, is_write, keeps, moved, place_reads, sent};
+ghost use Rattle.sdv_review.specs.Statuses.{action_reads, after_event, after_let, after_phase, answered, begun, confirms, ends_well, erase_begun, erase_on, erase_reads, erase_sent, erased, given, is_erase, is_first, is_last, is_moved, is_or_lacks, is_write, keeps, last_reads, moved, part_of, place_reads, sent, suits, with_part};
 
 use crate::asked::moves;
 use crate::finding::Name;
@@ -11,27 +11,48 @@ use crate::names::address_reads;
 use sdv_card::{Ask, Seen};
 use sdv_graph::{Action, Graph, Phase};
 
-/// Whether the write phases so far are known to have stored their blocks, and the erases to be done. A write is named by the
-/// point of its command, an erase by that of CMD38.
+/// The commands of an erase that were sent so far, by their points.
+#[derive(Clone, Copy, Debug, PartialEq, Eq)]
+pub struct Erase {
+    /// CMD32 or CMD35, with the first block.
+    pub first: usize,
+    /// CMD33 or CMD36, with the last block.
+    pub last: Option<usize>,
+    /// CMD38.
+    pub cmd38: Option<usize>,
+}
+
+/// A command of an erase.
+#[derive(Clone, Copy, Debug, PartialEq, Eq)]
+pub enum ErasePart {
+    /// CMD32 or CMD35.
+    First,
+    /// CMD33 or CMD36.
+    Last,
+    /// CMD38.
+    Cmd38,
+}
+
+/// Whether the blocks of the write commands so far are known to be stored, and the erases to be done. A write is named by the
+/// point of its command. An erase is its first block, its last block and CMD38 together.
 #[derive(Clone, Copy, Debug, Default, PartialEq, Eq)]
 pub enum Status {
-    /// Each did, or there was none.
+    /// Each is, or there was none.
     #[default]
     Quiet,
-    /// Each did, and this write has begun.
-    Begun(usize),
     /// The blocks of this write were given, and no status has shown yet that they are stored.
     Open(usize),
-    /// The blocks of this write were cut, or an error may have gone unseen.
+    /// The blocks of this write were not given yet or were cut, or an error may have gone unseen.
     Failed(usize),
-    /// This write may have failed, and was left for another one or for another place, by the statement at this point.
+    /// This write may have failed, and was left for another one, for an erase or for another place, by the statement at this
+    /// point.
     Left { write: usize, next: usize },
     /// This erase was sent, and no status has shown yet that it is done.
-    EraseOpen(usize),
-    /// This erase was lost, or an error may have gone unseen.
-    EraseFailed(usize),
-    /// This erase may have failed, and was left for another one, for a write or for another place, by the statement at this
-    /// point.
+    EraseOpen(Erase),
+    /// This erase has begun and is not sent yet, or it was lost, or an error may have gone unseen.
+    EraseFailed(Erase),
+    /// The erase with its first block at a point may have failed, and was left for another one, for a write or for another
+    /// place, by the statement at this point.
     EraseLeft { erase: usize, next: usize },
     /// Nothing is known.
     Unknown,
@@ -71,7 +92,7 @@ fn answered(ask: &Ask, seen: Seen, status: Status) -> Status
         Status::Open(point) => Status::Failed(point),
         Status::EraseOpen(_) if confirms(ask, seen) => Status::Quiet,
         Status::EraseOpen(_) if keeps(ask, seen) => status,
-        Status::EraseOpen(point) => Status::EraseFailed(point),
+        Status::EraseOpen(erase) => Status::EraseFailed(erase),
         _ => status,
     }
 }
@@ -97,16 +118,34 @@ fn erase_left(erase: usize, next: usize) -> Status
     Status::EraseLeft { erase, next }
 }
 
-/// After the command of a write at a point.
+/// After the command of a write at a point: it counts as failed until a phase of its blocks ends well.
 fn begun(point: usize, status: Status) -> Status
     ensures { result ≡ begun point status }
 {
     match status {
-        Status::Quiet | Status::Begun(_) => Status::Begun(point),
-        Status::Open(other) | Status::Failed(other) if other != point => { left(other, point) }
-        Status::EraseOpen(other) | Status::EraseFailed(other) => erase_left(other, point),
+        Status::Quiet => Status::Failed(point),
+        Status::Open(other) | Status::Failed(other) => {
+            if other == point {
+                Status::Failed(other)
+            } else {
+                left(other, point)
+            }
+        }
+        Status::EraseOpen(erase) | Status::EraseFailed(erase) => erase_left(erase.first, point),
         _ => status,
     }
+}
+
+fn is_first(ask: &Ask) -> bool
+    ensures { result ≡ is_first ask.now }
+{
+    ask.index == 32 || ask.index == 35
+}
+
+fn is_last(ask: &Ask) -> bool
+    ensures { result ≡ is_last ask.now }
+{
+    ask.index == 33 || ask.index == 36
 }
 
 fn is_erase(ask: &Ask) -> bool
@@ -115,43 +154,118 @@ fn is_erase(ask: &Ask) -> bool
     ask.index == 38
 }
 
-/// After an erase was sent from a point, with a response without a doubt or not.
-fn erase_sent(point: usize, kept: bool) -> Status
-    ensures { result ≡ erase_sent point kept }
+/// The command of an erase that this is, if it is one.
+fn part_of(ask: &Ask) -> Option<ErasePart>
+    ensures { result ≡ part_of ask.now }
 {
-    if kept {
-        Status::EraseOpen(point)
+    if is_first(ask) {
+        return Some(ErasePart::First);
+    }
+    if is_last(ask) {
+        return Some(ErasePart::Last);
+    }
+    if is_erase(ask) {
+        Some(ErasePart::Cmd38)
     } else {
-        Status::EraseFailed(point)
+        None
     }
 }
 
-/// After CMD38 at a point.
-fn erased(point: usize, kept: bool, status: Status) -> Status
-    ensures { result ≡ erased point kept status }
+/// The erase has no such command yet, or the one at the point.
+fn is_or_lacks(known: Option<usize>, point: usize) -> bool
+    ensures { result ≡ is_or_lacks known point }
+{
+    match known {
+        Some(other) => other == point,
+        None => true,
+    }
+}
+
+/// The command at the point is one of this erase.
+fn suits(part: ErasePart, point: usize, erase: Erase) -> bool
+    ensures { result ≡ suits part point erase }
+{
+    match part {
+        ErasePart::First => erase.first == point,
+        ErasePart::Last => is_or_lacks(erase.last, point),
+        ErasePart::Cmd38 => is_or_lacks(erase.cmd38, point),
+    }
+}
+
+/// The erase with the command at the point.
+fn with_part(part: ErasePart, point: usize, erase: Erase) -> Erase
+    ensures { result ≡ with_part part point erase }
+{
+    let Erase { first, last, cmd38 } = erase;
+    match part {
+        ErasePart::First => erase,
+        ErasePart::Last => Erase {
+            first,
+            last: Some(point),
+            cmd38,
+        },
+        ErasePart::Cmd38 => Erase {
+            first,
+            last,
+            cmd38: Some(point),
+        },
+    }
+}
+
+/// After a command of the erase, with a response without a doubt or not.
+fn erase_sent(part: ErasePart, kept: bool, erase: Erase) -> Status
+    ensures { result ≡ erase_sent part kept erase }
+{
+    match (part, kept) {
+        (ErasePart::Cmd38, true) => Status::EraseOpen(erase),
+        _ => Status::EraseFailed(erase),
+    }
+}
+
+/// After a command of an erase at a point, where this erase is not known to be done: it is the same one, or it is left.
+fn erase_on(part: ErasePart, point: usize, kept: bool, erase: Erase) -> Status
+    ensures { result ≡ erase_on (suits part point erase) part point kept erase }
+{
+    if suits(part, point, erase) {
+        erase_sent(part, kept, with_part(part, point, erase))
+    } else {
+        erase_left(erase.first, point)
+    }
+}
+
+/// After the command of an erase at a point, where none has begun.
+fn erase_begun(part: ErasePart, point: usize) -> Status
+    ensures { result ≡ erase_begun part point }
+{
+    match part {
+        ErasePart::First => Status::EraseFailed(Erase {
+            first: point,
+            last: None,
+            cmd38: None,
+        }),
+        _ => Status::Unknown,
+    }
+}
+
+/// After a command of an erase at a point.
+fn erased(part: ErasePart, point: usize, kept: bool, status: Status) -> Status
+    ensures { result ≡ erased part point kept status }
 {
     match status {
-        Status::Quiet | Status::Begun(_) => erase_sent(point, kept),
-        Status::Open(other) | Status::Failed(other) => left(other, point),
-        Status::EraseOpen(other) | Status::EraseFailed(other) => {
-            if other == point {
-                erase_sent(point, kept)
-            } else {
-                erase_left(other, point)
-            }
-        }
+        Status::Quiet => erase_begun(part, point),
+        Status::Open(write) | Status::Failed(write) => left(write, point),
+        Status::EraseOpen(erase) | Status::EraseFailed(erase) => erase_on(part, point, kept, erase),
         _ => status,
     }
 }
 
-/// After the blocks that the command names became others, by the statement at a point.
+/// After the blocks that the commands name became others, by the statement at a point.
 fn moved(point: usize, status: Status) -> Status
     ensures { result ≡ moved point status }
 {
     match status {
-        Status::Begun(_) => Status::Quiet,
         Status::Open(write) | Status::Failed(write) => left(write, point),
-        Status::EraseOpen(erase) | Status::EraseFailed(erase) => erase_left(erase, point),
+        Status::EraseOpen(erase) | Status::EraseFailed(erase) => erase_left(erase.first, point),
         _ => status,
     }
 }
@@ -164,8 +278,8 @@ fn sent(point: usize, ask: &Ask, seen: Seen, status: Status) -> Status
     if is_write(ask) {
         return begun(point, status);
     }
-    if is_erase(ask) {
-        return erased(point, keeps(ask, seen), status);
+    if let Some(part) = part_of(ask) {
+        return erased(part, point, keeps(ask, seen), status);
     }
     if moves(ask) {
         moved(point, status)
@@ -185,7 +299,7 @@ fn given(seen: Seen, status: Status) -> Status
     ensures { result ≡ given seen status }
 {
     match status {
-        Status::Begun(point) | Status::Open(point) | Status::Failed(point) => {
+        Status::Open(point) | Status::Failed(point) => {
             if ends_well(seen) {
                 Status::Open(point)
             } else {
@@ -237,14 +351,30 @@ fn place_reads(graph: &Graph<'_>, point: usize, variable: usize) -> bool
     action_reads(&graph.point(point).action, variable)
 }
 
+/// The same of the last block of an erase, if it has one yet.
+fn last_reads(graph: &Graph<'_>, last: Option<usize>, variable: usize) -> bool
+    ensures { result ≡ last_reads graph.now.points last variable }
+{
+    match last {
+        Some(point) => place_reads(graph, point, variable),
+        None => false,
+    }
+}
+
+fn erase_reads(graph: &Graph<'_>, erase: Erase, variable: usize) -> bool
+    ensures { result ≡ erase_reads graph.now.points erase variable }
+{
+    place_reads(graph, erase.first, variable) || last_reads(graph, erase.last, variable)
+}
+
 fn is_moved(graph: &Graph<'_>, variable: usize, status: Status) -> bool
     ensures { result ≡ is_moved graph.now.points variable status }
 {
     match status {
-        Status::Begun(point) | Status::Open(point) | Status::Failed(point) => {
-            place_reads(graph, point, variable)
+        Status::Open(point) | Status::Failed(point) => place_reads(graph, point, variable),
+        Status::EraseOpen(erase) | Status::EraseFailed(erase) => {
+            erase_reads(graph, erase, variable)
         }
-        Status::EraseOpen(_) | Status::EraseFailed(_) => true,
         _ => false,
     }
 }
