@@ -1,5 +1,4 @@
 pub mod LineLaws
-pub mod OpenLaws
-pub mod PieceLaws
-pub mod StepLaws
 pub mod ReadLaws
+pub mod StepLaws
+pub mod LinedLaws

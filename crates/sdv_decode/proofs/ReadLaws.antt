@@ -1,20 +1,14 @@
 -- A trace read line by line: what was printed so far, and what is to be of the lines that are left.
-use Rattle.std.proofs.Common.{◌≡◌, ◌∙◌, ◌<◌, ◌+◌, ℕ, List, [], ◌∷◌, ◌++◌, Option, None, inl, inr, refl, sym, ap, subst, drop, length, get_or, map, ◌≤◌, append_assoc}
-use Rattle.std.proofs.lemmas.List.{append-nil, length-map}
+use Rattle.std.proofs.Common.{◌≡◌, ◌∙◌, ◌<◌, ◌+◌, ℕ, List, [], ◌∷◌, ◌++◌, Option, None, inl, inr, refl, sym, ap, subst, drop, length, get_or, map, ◌≤◌, append_assoc, add-one, drop-cons}
+use Rattle.std.proofs.lemmas.List.{append-nil}
 use Rattle.sdv_telling.specs.Statements.{Text}
 use Rattle.sdv_graph.specs.Graph.{Graph}
-use Rattle.sdv_decode.specs.Decoded.{Decodes, Passes, Place, Reads, StopsAt, at_first, framed, line_behind, rows_in}
-use Rattle.sdv_audit.specs.declared.fault.AuditFault.{AuditFault}
-use Rattle.sdv_audit.specs.declared.fault.AuditFault.TheVariants as audits
-use Rattle.sdv_check.specs.Verified.{IsGraphOfText}
-use Rattle.sdv_decode.specs.DecodedText.{IsUndecoded}
-use Rattle.sdv_decode.specs.Faults.{fault_of_audit}
+use Rattle.sdv_decode.specs.Decoded.{Decodes, IsFramed, Passes, Place, Reads, StopsAt, at_first, line_behind}
 use Rattle.sdv_decode.specs.Lines.{lines_in}
 use Rattle.sdv_decode.specs.Room.{LacksRoom, StopsByRoom}
 use Rattle.sdv_decode.specs.Steps.{IsPlace, Steps}
 use Rattle.sdv_decode.specs.declared.reading.Step.{Step}
 use Rattle.sdv_decode.specs.declared.reading.Step.TheVariants.{Passed, Stopped}
-use Rattle.sdv_audit_report.proofs.WordLaws.{from_place}
 use Rattle.std.proofs.Math.ListN.{drop_of_length-le}
 use Rattle.sdv_decode.specs.declared.fault.TraceOff.{TraceOff}
 use Rattle.sdv_decode.specs.declared.form.Form.{Form}
@@ -87,6 +81,10 @@ lacks_on form first all lefts left behind text line line' r so_far split same_li
     (subst (λ (t : Text). LacksRoom here.at t (line_behind left)) same_line
     (subst (λ (b : List Text). LacksRoom here.at line' (line_behind b)) same_left (lacks here.at here.stands))))
 
+-- the list from a place on
+from_place : {A : Type 0} (xs : List A) (i : ℕ) (d : A) → i < length xs → drop i xs ≡ get_or xs i d ∷ drop (i + 1) xs
+from_place xs i d lt = drop-cons xs i d lt ∙ ap (λ n. get_or xs i d ∷ drop n xs) (sym (add-one i))
+
 -- the lines that are left, from a place on
 pub left_from : {A B : Type 0} (f : A → B) (xs : List A) (i : ℕ) (x : A) → i < length xs → x ≡ get_or xs i x
     → map f (drop i xs) ≡ f x ∷ map f (drop (i + 1) xs)
@@ -97,17 +95,10 @@ none_left f xs i le = ap (map f) (drop_of_length-le xs le)
 
 -- all lines were read, and what was told of them stands in the whole of its form
 pub decodes_by : (g : Graph) (form : Form) (given : Option (List ℕ)) (trace told words : Text) (off : Option TraceOff)
-    {A : Type 0} (lines : List A) (f : A → Text) (count : ℕ) → map f lines ≡ lines_in trace → count ≡ length lines
-    → Reads form (at_first g given) (map f lines) told off → words ≡ framed form (rows_in count off) told
-    → Decodes g form given trace words off
-decodes_by g form given trace told words off lines f count split counted reads is = record {
-  told = told;
+    {A : Type 0} (lines : List A) (f : A → Text) → map f lines ≡ lines_in trace
+    → Reads form (at_first g given) (map f lines) told off → IsFramed form told words → Decodes g form given trace words off
+decodes_by g form given trace told words off lines f split reads is = record {
+  body = told;
   reads = subst (λ (ls : List Text). Reads form (at_first g given) ls told off) split reads;
-  printed = is ∙ ap (λ (n : ℕ). framed form (rows_in n off) told) (counted ∙ (sym (length-map lines f) ∙ ap length split));
+  framed = is;
 }
-
--- why nothing is told of a trace, by the fault of an audit
-pub undecoded_by : (script : Text) (form : Form) (given : Option (List ℕ)) (trace : Text) (g : Graph) → IsGraphOfText script g → (fault : AuditFault)
-    → (fault ≡ audits.Room → StopsByRoom form (at_first g given) (lines_in trace)) → IsUndecoded script form given trace (fault_of_audit fault)
-undecoded_by script form given trace g is_graph audits.Memory stops = tt
-undecoded_by script form given trace g is_graph audits.Room stops = record { graph = g; is_graph = is_graph; stops = stops refl }

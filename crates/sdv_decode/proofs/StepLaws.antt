@@ -6,7 +6,7 @@ use Rattle.sdv_audit.specs.Course.{Course, IsAt, course_after}
 use Rattle.sdv_audit.specs.Reading.{read_line}
 use Rattle.sdv_audit.specs.declared.fault.AuditFault.{AuditFault}
 use Rattle.sdv_audit.specs.declared.line.TraceLine.{TraceLine}
-use Rattle.sdv_audit_report.specs.Notes.{counted}
+use Rattle.sdv_audit.specs.Notes.{counted}
 use Rattle.sdv_registers.specs.declared.kind.Kind.{Kind}
 use Rattle.sdv_run.specs.Machine.{Asked, Came, Machine, TookOn, Went}
 use Rattle.sdv_run.specs.declared.fault.RunFault.{RunFault}
@@ -16,20 +16,17 @@ use Rattle.sdv_run.specs.declared.next_event.NextEvent.{NextEvent}
 use Rattle.sdv_run.specs.declared.returned.Returned.{Returned}
 use Rattle.sdv_trace.specs.declared.end.End.{End}
 use Rattle.sdv_decode.specs.Decoded.{ComesNext, Misfits, Place, Strays, course_before, line_behind, off_behind, place_after, spot_of, told_with}
-use Rattle.sdv_decode.specs.LineWords.{Spot, announces}
-use Rattle.sdv_decode.specs.Matches.{came_in, given_after, is_end, is_of, register_told, returned_of}
+use Rattle.sdv_decode.specs.LineWords.{AddsLine, Spot, announces, end_told, printed, spot_seen, told}
+use Rattle.sdv_decode.specs.Matches.{given_after, is_end, is_of, register_told, returned_of}
 use Rattle.sdv_decode.specs.Room.{AreTooMany, LacksRoom}
-use Rattle.sdv_decode.specs.Rows.{event_line, last_line, stray_line}
 use Rattle.sdv_decode.specs.declared.form.Form.{Form}
 use Rattle.sdv_graph.specs.Graph.{Graph}
-use Rattle.sdv_decode.specs.Spots.{spot_seen}
 use Rattle.sdv_decode.specs.declared.line_words.Spot.{Spot as CodeSpot}
 use Rattle.sdv_decode.specs.Steps.{GoesOn, IsAsked, IsCrowded, IsPlace, Steps, given_of}
 use Rattle.sdv_decode.specs.declared.fault.TraceOff.TheVariants.{Script}
 use Rattle.sdv_decode.specs.declared.reading.Reading.{Reading}
 use Rattle.sdv_decode.specs.declared.reading.Step.{Step}
 use Rattle.sdv_decode.specs.declared.reading.Step.TheVariants.{Passed, Stopped}
-use Rattle.sdv_decode.proofs.OpenLaws.{event_line_same}
 
 -- where the reading stands after the line of an event
 pub went_on : (r r' : Reading) (event : NextEvent) (line : TraceLine) (next : Option TraceLine)
@@ -82,8 +79,8 @@ module _ (r : Reading) (at : Place) (asked : IsAsked r at) (text : Text) (behind
   -- a line that the run does not come to
   module _ (line : TraceLine) (read : read_line text ≡ Ok line) (answer : Result Next RunFault) (next : Asked r.runner answer)
       (misfits : Misfits r.runner text line (register_told (given_of r) line) answer) where
-    strays : Strays r.form at text (stray_line (spot_at r) line)
-    strays = record {
+    strays : (words : Text) → Strays r.form at text (printed (spot_at r) (told false line) words)
+    strays words = record {
       line = line;
       read = read;
       here = r.runner;
@@ -91,24 +88,31 @@ module _ (r : Reading) (at : Place) (asked : IsAsked r at) (text : Text) (behind
       asked = answer;
       next = next;
       misfits = subst (λ (given : Option (List ℕ)). Misfits r.runner text line (register_told given line) answer) asked.beside.given misfits;
-      told = ap (λ (spot : Spot). stray_line spot line) spot_is;
+      told_is = (words, ap (λ (spot : Spot). printed spot (told false line) words) spot_is);
     }
 
-    pub stopped_astray : (old new : Text) (r' : Reading) (step : Step) → new ≡ old ++ stray_line (spot_at r) line → step ≡ Stopped (Some (Script r.number))
+    pub stopped_astray : (old new : Text) (r' : Reading) (step : Step) → AddsLine (spot_at r) (told false line) old new → step ≡ Stopped (Some (Script r.number))
         → Steps r.form at text behind old new r' step
-    stopped_astray old new r' step words is =
+    stopped_astray old new r' step (words, added) is =
         subst (λ (s : Step). Steps r.form at text behind old new r' s) (sym is)
-        (stray_line (spot_at r) line, words, inr (inr (strays, ap (λ (n : ℕ). Some (Script n)) asked.beside.number)))
+        (printed (spot_at r) (told false line) words, added, inr (inr (strays words, ap (λ (n : ℕ). Some (Script n)) asked.beside.number)))
 
   -- the end of the run
   pub stopped_at_end : (end : End) → Asked r.runner (Ok (nexts.End end)) → is_end text end ≡ true → (old new : Text) (r' : Reading) (step : Step)
-      → new ≡ old ++ last_line (spot_at r) end → step ≡ Stopped (off_behind (counted true r.number) behind) → Steps r.form at text behind old new r' step
-  stopped_at_end end next fits old new r' step words is =
+      → AddsLine (spot_at r) (end_told end) old new → step ≡ Stopped (off_behind (counted true r.number) behind) → Steps r.form at text behind old new r' step
+  stopped_at_end end next fits old new r' step (words, added) is =
       subst (λ (s : Step). Steps r.form at text behind old new r' s) (sym is) (
-        last_line (spot_at r) end,
-        words,
+        printed (spot_at r) (end_told end) words,
+        added,
         inl (
-          record { here = r.runner; came = asked.came; end = end; asked = next; fits = fits; told = ap (λ (spot : Spot). last_line spot end) spot_is },
+          record {
+            here = r.runner;
+            came = asked.came;
+            end = end;
+            asked = next;
+            fits = fits;
+            told_is = (words, ap (λ (spot : Spot). printed spot (end_told end) words) spot_is);
+          },
           ap (λ (n : ℕ). off_behind (counted true n) behind) asked.beside.number,
         ),
       )
@@ -116,23 +120,23 @@ module _ (r : Reading) (at : Place) (asked : IsAsked r at) (text : Text) (behind
   -- the line of an event
   pub passed_by : (event : NextEvent) (line : TraceLine) (r' : Reading) → read_line text ≡ Ok line → Asked r.runner (Ok (nexts.Event event))
       → is_of event line ≡ true → GoesOn r event line (line_behind behind) r' true → (old new : Text)
-      → new ≡ old ++ event_line (spot_at r) r.app line r'.audit.shapes.items (came_in (given_of r) line) → Steps r.form at text behind old new r' Passed
-  passed_by event line r' read next fits on old new words =
+      → AddsLine (spot_at r) (told r.app line) old new → Steps r.form at text behind old new r' Passed
+  passed_by event line r' read next fits on old new (words, added) =
       let went = on at asked in
       let at' : Place = place_after at went.0 event line (line_behind behind) in
       let stands : IsPlace r' at' = went.2 in (
-        event_line (spot_at r) r.app line r'.audit.shapes.items (came_in (given_of r) line),
-        words,
+        printed (spot_at r) (told r.app line) words,
+        added,
         (
           at',
           record {
             comes = comes_next r at asked text event line went.0 read next fits went.1;
             leads = refl;
-            told = event_line_same (spot_at r) r.app line r'.audit.shapes.items at'.course.shapes (came_in (given_of r) line) stands.beside.course.shapes
-                ∙ (ap (λ (spot : Spot). event_line spot r.app line at'.course.shapes (came_in (given_of r) line)) spot_is
-                ∙ (ap (λ (app : Bool). event_line (spot_of r.form at r.runner) app line at'.course.shapes (came_in (given_of r) line)) asked.beside.app
-                ∙ ap (λ (given : Option (List ℕ)). event_line (spot_of r.form at r.runner) at.app line at'.course.shapes (came_in given line))
-                asked.beside.given));
+            told_is = (
+              words,
+              ap (λ (spot : Spot). printed spot (told r.app line) words) spot_is
+                  ∙ ap (λ (app : Bool). printed (spot_of r.form at r.runner) (told app line) words) asked.beside.app,
+            );
           },
           stands,
         ),
@@ -193,7 +197,7 @@ refused r m' returned (Ok done) failed took = cc
 refused r m' returned (Err fault) failed took = (ap (λ (m : Machine). record r { runner = m }) took.0, (fault, (refl, took.1)))
 
 module _ (r r' : Reading) (line : TraceLine) (behind : List Text) (old new : Text) (result : Result Step AuditFault)
-    (words : OnOk result (new ≡ old ++ stray_line (spot_at r) line)) (is : IfOk result (λ step. step ≡ Stopped (Some (Script r.number)))) where
+    (words : OnOk result (AddsLine (spot_at r) (told false line) old new)) (is : IfOk result (λ step. step ≡ Stopped (Some (Script r.number)))) where
   -- a line that the run does not come to, by the answer of a function
   pub stray_step : (event : NextEvent)
       → ((text : Text) → Misfits r.runner text line (register_told (given_of r) line) (Ok (nexts.Event event)))
@@ -201,7 +205,7 @@ module _ (r r' : Reading) (line : TraceLine) (behind : List Text) (old new : Tex
       → Steps r.form at text behind old new r' step)
   stray_step event misfits = go result words is
     where
-      go : (result : Result Step AuditFault) → OnOk result (new ≡ old ++ stray_line (spot_at r) line)
+      go : (result : Result Step AuditFault) → OnOk result (AddsLine (spot_at r) (told false line) old new)
           → IfOk result (λ step. step ≡ Stopped (Some (Script r.number)))
           → IfOk result (λ step. (at : Place) (text : Text) → read_line text ≡ Ok line → IsAsked r at → Asked r.runner (Ok (nexts.Event event))
           → Steps r.form at text behind old new r' step)
@@ -215,7 +219,7 @@ module _ (r r' : Reading) (line : TraceLine) (behind : List Text) (old new : Tex
       → IfOk result (λ step. (at : Place) → read_line text ≡ Ok line → IsAsked r at → Steps r.form at text behind old new r' step)
   stray_answer answer next text misfits = go result words is
     where
-      go : (result : Result Step AuditFault) → OnOk result (new ≡ old ++ stray_line (spot_at r) line)
+      go : (result : Result Step AuditFault) → OnOk result (AddsLine (spot_at r) (told false line) old new)
           → IfOk result (λ step. step ≡ Stopped (Some (Script r.number)))
           → IfOk result (λ step. (at : Place) → read_line text ≡ Ok line → IsAsked r at → Steps r.form at text behind old new r' step)
       go (Ok step) words is = λ at read asked.
@@ -223,14 +227,14 @@ module _ (r r' : Reading) (line : TraceLine) (behind : List Text) (old new : Tex
       go (Err fault) words is = tt
 
 module _ (r r' : Reading) (behind : List Text) (old new : Text) (result : Result Step AuditFault) (end : End)
-    (words : OnOk result (new ≡ old ++ last_line (spot_at r) end))
+    (words : OnOk result (AddsLine (spot_at r) (end_told end) old new))
     (is : IfOk result (λ step. step ≡ Stopped (off_behind (counted true r.number) behind))) where
   -- the end of the run, by the answer of a function
   pub end_step : Asked r.runner (Ok (nexts.End end)) → (text : Text) → is_end text end ≡ true
       → IfOk result (λ step. (at : Place) → IsAsked r at → Steps r.form at text behind old new r' step)
   end_step next text fits = go result words is
     where
-      go : (result : Result Step AuditFault) → OnOk result (new ≡ old ++ last_line (spot_at r) end)
+      go : (result : Result Step AuditFault) → OnOk result (AddsLine (spot_at r) (end_told end) old new)
           → IfOk result (λ step. step ≡ Stopped (off_behind (counted true r.number) behind))
           → IfOk result (λ step. (at : Place) → IsAsked r at → Steps r.form at text behind old new r' step)
       go (Ok step) words is = λ at asked. stopped_at_end r at asked text behind end next fits old new r' step words is

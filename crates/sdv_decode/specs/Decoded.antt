@@ -1,16 +1,16 @@
 -- A TRACE READ BESIDE A SCRIPT: which point of the script each of its lines is of, and what is printed of it.
-use Rattle.std.specs.Prelude.{◌≡◌, ◌⊎◌, ℕ, List, [], ◌∷◌, ◌++◌, ◌-◌, Bool, true, false, Option, Some, None, Result, Ok, Err, length}
+use Rattle.std.specs.Prelude.{◌≡◌, ◌⊎◌, ℕ, List, [], ◌∷◌, ◌++◌, Bool, true, false, Option, Some, None, Result, Ok, Err, codes}
 use Rattle.sdv_card.specs.declared.state.Width.{Width}
 use Rattle.sdv_graph.specs.Graph.{Graph}
 use Rattle.sdv_registers.specs.declared.kind.Kind.{Kind}
 use Rattle.sdv_telling.specs.Statements.{Text}
-use Rattle.sdv_audit.specs.declared.fault.LineFault.{LineFault}
+use Rattle.sdv_audit.specs.declared.fault.TraceLineFault.{TraceLineFault}
 use Rattle.sdv_audit.specs.declared.line.TraceLine.{TraceLine}
 use Rattle.sdv_audit.specs.declared.turn.Told.{Told}
 use Rattle.sdv_audit.specs.Audited.{lines_told}
 use Rattle.sdv_audit.specs.Course.{Course, begun, course_after}
 use Rattle.sdv_audit.specs.Reading.{read_line}
-use Rattle.sdv_audit_report.specs.Notes.{counted}
+use Rattle.sdv_audit.specs.Notes.{counted}
 use Rattle.sdv_trace.specs.declared.end.End.{End}
 use Rattle.sdv_run.specs.declared.fault.RunFault.{RunFault}
 use Rattle.sdv_run.specs.declared.next_event.Next.{Next}
@@ -18,11 +18,9 @@ use Rattle.sdv_run.specs.declared.next_event.Next.TheVariants as nexts
 use Rattle.sdv_run.specs.declared.next_event.NextEvent.{NextEvent}
 use Rattle.sdv_run.specs.declared.next_event.NextEvent.TheVariants as events
 use Rattle.sdv_run.specs.Machine.{Machine, Asked, Came, TookOn, Went, at_start}
-use Rattle.sdv_decode.specs.LineWords.{Spot, announces}
+use Rattle.sdv_decode.specs.LineWords.{IsLine, Spot, announces, end_told, told}
 use Rattle.sdv_decode.specs.Lines.{lines_in}
-use Rattle.sdv_decode.specs.Matches.{came_in, given_after, is_end, is_of, register_told, returned_of}
-use Rattle.sdv_decode.specs.Picture.{whole}
-use Rattle.sdv_decode.specs.Rows.{event_line, last_line, stray_line}
+use Rattle.sdv_decode.specs.Matches.{given_after, is_end, is_of, register_told, returned_of}
 use Rattle.sdv_decode.specs.declared.fault.TraceOff.{TraceOff}
 use Rattle.sdv_decode.specs.declared.fault.TraceOff.TheVariants.{Line, Script}
 use Rattle.sdv_decode.specs.declared.form.Form.{Form}
@@ -55,7 +53,7 @@ course_before k (events.GiveBlocks lines count) c = uses k lines c
 course_before k event c = c
 
 -- the line behind, where it is one
-abbrev pub line_read : Result TraceLine LineFault → Option TraceLine
+abbrev pub line_read : Result TraceLine TraceLineFault → Option TraceLine
 line_read (Ok line) = Some line
 line_read (Err fault) = None
 
@@ -95,11 +93,11 @@ pub record ComesNext (at : Place) (text : Text) : Type 0 where
   pub after : Machine
   pub went : Went here (returned_of line (register_told at.given line)) after
 
--- it comes next, these words are told of it, and the reading stands here behind it
+-- it comes next, its line is printed of it, and the reading stands here behind it
 pub record Passes (form : Form) (at : Place) (text : Text) (next : Option TraceLine) (words : Text) (at' : Place) : Type 0 where
   pub comes : ComesNext at text
   pub leads : at' ≡ place_after at comes.after comes.event comes.line next
-  pub told : words ≡ event_line (spot_of form at comes.here) at.app comes.line at'.course.shapes (came_in at.given comes.line)
+  pub told_is : IsLine (spot_of form at comes.here) (told at.app comes.line) words
 
 -- it is that of the end of the run
 pub record IsLast (form : Form) (at : Place) (text words : Text) : Type 0 where
@@ -108,7 +106,7 @@ pub record IsLast (form : Form) (at : Place) (text words : Text) : Type 0 where
   pub end : End
   pub asked : Asked here (Ok (nexts.End end))
   pub fits : is_end text end ≡ true
-  pub told : words ≡ last_line (spot_of form at here) end
+  pub told_is : IsLine (spot_of form at here) (end_told end) words
 
 -- it is of nothing that the run does next
 abbrev pub Misfits : Machine → (text : Text) → TraceLine → (register : List ℕ) → Result Next RunFault → Type 0
@@ -126,7 +124,7 @@ pub record Strays (form : Form) (at : Place) (text words : Text) : Type 0 where
   pub asked : Result Next RunFault
   pub next : Asked here asked
   pub misfits : Misfits here text line (register_told at.given line) asked
-  pub told : words ≡ stray_line (spot_of form at here) line
+  pub told_is : IsLine (spot_of form at here) (told false line) words
 
 -- ALL LINES
 
@@ -139,7 +137,7 @@ off_behind number (text ∷ texts) = Some (Script number)
 abbrev pub StopsAt : (form : Form) → Place → (text : Text) → (texts : List Text) → (words : Text) → Option TraceOff → Type 0
 StopsAt form at text texts words off =
     (IsLast form at text words × (off ≡ off_behind (counted true at.number) texts))
-    ⊎ (((fault : LineFault) × (read_line text ≡ Err fault) × (words ≡ []) × (off ≡ Some (Line fault at.number)))
+    ⊎ (((fault : TraceLineFault) × (read_line text ≡ Err fault) × (words ≡ []) × (off ≡ Some (Line fault at.number)))
     ⊎ (Strays form at text words × (off ≡ Some (Script at.number))))
 
 -- the texts of lines are read from a place on: this is printed of them, and the trace is off at a line, or at none
@@ -150,19 +148,15 @@ Reads form at (text ∷ texts) words off =
     × Reads form at' texts rest off)
     ⊎ StopsAt form at text texts words off
 
--- A PICTURE has a row for each line that is told, and one for a line behind the end of the run
-abbrev pub rows_in : (lines : ℕ) → Option TraceOff → ℕ
-rows_in lines None = lines
-rows_in lines (Some (Line fault number)) = number - 1
-rows_in lines (Some (Script number)) = number
+-- IN THE WHOLE OF ITS FORM: the rows of a picture stand behind its head
 
-abbrev pub framed : Form → (rows : ℕ) → Text → Text
-framed Picture rows told = whole rows told
-framed form rows told = told
+abbrev pub IsFramed : Form → (body words : Text) → Type 0
+IsFramed Picture body words = (head : Text) × (words ≡ head ++ (body ++ codes "</svg>\n"))
+IsFramed form body words = words ≡ body
 
 -- what is printed of a trace beside the graph of a script
 pub record Decodes (g : Graph) (form : Form) (given : Option (List ℕ)) (trace words : Text) (off : Option TraceOff)
     : Type 0 where
-  pub told : Text
-  pub reads : Reads form (at_first g given) (lines_in trace) told off
-  pub printed : words ≡ framed form (rows_in (length (lines_in trace)) off) told
+  pub body : Text
+  pub reads : Reads form (at_first g given) (lines_in trace) body off
+  pub framed : IsFramed form body words

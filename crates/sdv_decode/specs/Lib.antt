@@ -1,13 +1,8 @@
-pub mod Faults
 pub mod Lines
 pub mod Matches
-pub mod Registers
-pub mod Meaning
 pub mod LineWords
-pub mod Picture
-pub mod Rows
-pub mod Spots
 pub mod Decoded
 pub mod Room
 pub mod Steps
-pub mod DecodedText
+pub mod Lined
+pub mod Beside

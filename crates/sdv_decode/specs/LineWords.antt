@@ -1,20 +1,21 @@
--- The LINE that is printed of a line of a trace: its number, the line of the script, what the trace says there, and
--- what that means; in words, or as an object of JSON. `Rows.antt` has the rows of a picture.
-use Rattle.std.specs.Prelude.{ℕ, [], ◌++◌, ◌==◌, ◌&&◌, ◌||◌, Bool, false, codes, decimal, if◌then◌else◌}
+-- The LINE that is printed of a line of a trace: its number, the line of the script, what the trace says there, and words
+-- on what that means, of which nothing is said here; as a line of text, as an object of JSON, or as a row of a picture.
+use Rattle.std.specs.Prelude.{◌≡◌, ℕ, [], ◌++◌, ◌==◌, ◌&&◌, ◌||◌, Bool, codes, decimal, false, if◌then◌else◌}
 use Rattle.sdv_graph.specs.Graph.{Graph}
 use Rattle.sdv_registers.specs.Status.{is_app_cmd}
 use Rattle.sdv_frames.specs.declared.reply.Reply.TheVariants.{R1}
 use Rattle.sdv_card.specs.declared.answer.Answer.TheVariants.{Reply as Replied}
-use Rattle.sdv_telling.specs.Places.{line_at, words_at}
+use Rattle.sdv_telling.specs.Places.{line_at}
+use Rattle.sdv_telling.specs.Quoted.{quoted}
 use Rattle.sdv_telling.specs.Statements.{Text}
 use Rattle.sdv_audit.specs.declared.line.TraceLine.{TraceLine}
 use Rattle.sdv_audit.specs.declared.line.TraceLine.TheVariants.{Exchange, End}
-use Rattle.sdv_audit.specs.Spelling.{answer_text}
-use Rattle.sdv_audit_report.specs.Words.{told_words}
+use Rattle.sdv_audit.specs.Spelling.{line_text}
 use Rattle.sdv_trace.specs.declared.end.End.{End as RunEnd}
 use Rattle.sdv_trace.specs.declared.end.End.TheVariants.{Done, Fault}
 use Rattle.sdv_decode.specs.declared.form.Form.{Form}
-use Rattle.sdv_decode.specs.declared.form.Form.TheVariants.{Json}
+use Rattle.sdv_decode.specs.declared.form.Form.TheVariants.{Json, Picture, Words}
+use Rattle.sdv_decode.specs.declared.line_words.Spot.{Spot as CodeSpot}
 
 -- APPLICATION COMMANDS
 
@@ -31,15 +32,11 @@ abbrev pub mark : (app : Bool) → TraceLine → Text
 mark app (Exchange command answer) = if app && has_other_meaning command.index then codes "A" else []
 mark app line = []
 
--- what the trace says
-abbrev pub answer_if_any : TraceLine → Text
-answer_if_any (Exchange command answer) = codes " " ++ answer_text answer
-answer_if_any line = []
+-- WHAT THE TRACE SAYS; the end of a run without its name
 
--- the end of a run without its name
 abbrev pub told : (app : Bool) → TraceLine → Text
 told app End = codes "the end"
-told app line = mark app line ++ (told_words line ++ answer_if_any line)
+told app line = mark app line ++ line_text line
 
 abbrev pub end_told : RunEnd → Text
 end_told Done = codes "done"
@@ -47,25 +44,23 @@ end_told (Fault name) = codes "fault " ++ name.bytes
 
 -- A LINE
 
-abbrev pub plain_front : (number script_line : ℕ) → Text
-plain_front number script_line =
-    codes "line " ++ (decimal number ++ (codes ", script line " ++ (decimal script_line ++ codes ": ")))
+abbrev pub plain : (number script_line : ℕ) → (told words : Text) → Text
+plain number script_line told words =
+    codes "line " ++ (decimal number ++ (codes ", script line " ++ (decimal script_line ++ (codes ": " ++ (told
+    ++ (codes ": " ++ (quoted words ++ codes "\n")))))))
 
-abbrev pub json_front : (number script_line : ℕ) → Text
-json_front number script_line =
-    codes "{\"line\":" ++ (decimal number ++ (codes ",\"script\":" ++ (decimal script_line ++ codes ",\"told\":\"")))
+abbrev pub object : (number script_line : ℕ) → (told words : Text) → Text
+object number script_line told words =
+    codes "{\"line\":" ++ (decimal number ++ (codes ",\"script\":" ++ (decimal script_line ++ (codes ",\"told\":\"" ++ (told
+    ++ (codes "\",\"text\":\"" ++ (quoted words ++ codes "\"}\n")))))))
 
-abbrev pub front : Form → (number script_line : ℕ) → Text
-front Json number script_line = json_front number script_line
-front form number script_line = plain_front number script_line
-
-abbrev pub between : Form → Text
-between Json = codes "\",\"text\":\""
-between form = codes ": "
-
-abbrev pub line_end : Form → Text
-line_end Json = codes "\"}\n"
-line_end form = codes "\n"
+-- a row is 10 millimetres high, and begins n0 from the top
+abbrev pub row : (number script_line : ℕ) → (drawn : Text) → Text
+row number script_line drawn =
+    codes "<g transform=\"translate(0 " ++ (decimal number ++ (codes "0)\">\n"
+    ++ (codes "<text x=\"4\" y=\"3.4\" font-size=\"2.4\">script line " ++ (decimal script_line ++ (codes "</text>"
+    ++ (codes "<text x=\"4\" y=\"7\" font-size=\"2\" fill=\"gray\">trace line " ++ (decimal number ++ (codes "</text>\n"
+    ++ (drawn ++ codes "</g>\n")))))))))
 
 -- where it stands
 pub record Spot : Type 0 where
@@ -76,25 +71,22 @@ pub record Spot : Type 0 where
   -- the point of the script
   pub point : ℕ
 
-abbrev pub spot_front : Spot → Text
-spot_front at = front at.form at.number (line_at at.graph at.point)
+-- the code's spot, without where it lies in memory
+abbrev pub spot_seen : CodeSpot → Spot
+spot_seen at = record { graph = at.graph.now; form = at.form; number = at.number; point = at.point }
 
--- the line of an event, by what it means
-abbrev pub event_words : Spot → (app : Bool) → TraceLine → (meant : Text) → Text
-event_words at app line meant =
-    spot_front at ++ (told app line ++ (between at.form ++ (meant ++ line_end at.form)))
+abbrev pub printed_in : Form → (number script_line : ℕ) → (told words : Text) → Text
+printed_in Words number script_line told words = plain number script_line told words
+printed_in Json number script_line told words = object number script_line told words
+printed_in Picture number script_line told words = row number script_line words
 
--- of the end of the run
-abbrev pub last_words : Spot → RunEnd → Text
-last_words at end =
-    spot_front at ++ (end_told end
-    ++ (between at.form ++ (codes "the run ends" ++ line_end at.form)))
+abbrev pub printed : Spot → (told words : Text) → Text
+printed at told words = printed_in at.form at.number (line_at at.graph at.point) told words
 
--- of a line that the script does not lead to
-abbrev pub stray_words : Spot → Text
-stray_words at = codes "the script does not come here; it stands at " ++ words_at at.graph at.point
+-- the text is that line, with some words
+abbrev pub IsLine : Spot → (told text : Text) → Type 0
+IsLine at told text = (words : Text) × (text ≡ printed at told words)
 
-abbrev pub strayed_words : Spot → TraceLine → Text
-strayed_words at line =
-    spot_front at ++ (told false line
-    ++ (between at.form ++ (stray_words at ++ line_end at.form)))
+-- and was added
+abbrev pub AddsLine : Spot → (told old new : Text) → Type 0
+AddsLine at told old new = (words : Text) × (new ≡ old ++ printed at told words)

@@ -1,5 +1,5 @@
 -- Which LINE of a trace an event of a script has, and what that line tells that the event returned.
-use Rattle.std.specs.Prelude.{ℕ, List, ◌++◌, ◌==◌, ◌&&◌, ◌||◌, Bool, true, false, Option, Some, None, option_map, nat_lt, length, take, drop, replicate, codes, if◌then◌else◌}
+use Rattle.std.specs.Prelude.{ℕ, List, ◌++◌, ◌==◌, ◌&&◌, ◌||◌, Bool, true, false, Option, Some, None, nat_lt, length, take, drop, replicate, codes, if◌then◌else◌}
 use Rattle.sdv_text.specs.Fronts.{after, is_word}
 use Rattle.sdv_card.specs.declared.answer.DataEnd.{DataEnd}
 use Rattle.sdv_card.specs.declared.answer.DataEnd.TheVariants.{Ok as Whole, Cut}
@@ -57,15 +57,6 @@ bytes_told Cut count = 0
 abbrev pub register_told : Option (List ℕ) → TraceLine → List ℕ
 register_told given (RegisterIn count end) = register_of given (bytes_told end count)
 register_told given line = greatest_register
-
--- so many bytes at the front of those that are given, or all
-abbrev pub front_of : Option (List ℕ) → (count : ℕ) → Option (List ℕ)
-front_of given count = option_map (take count) given
-
--- the bytes that are given of the register that a line tells of
-abbrev pub came_in : Option (List ℕ) → TraceLine → Option (List ℕ)
-came_in given (RegisterIn count end) = front_of given count
-came_in given line = None
 
 abbrev pub given_after : Option (List ℕ) → TraceLine → Option (List ℕ)
 given_after given (RegisterIn count end) = left_behind given (bytes_told end count)

@@ -1,20 +1,18 @@
 //! What is told of a trace.
 
 ghost use Rattle.std.specs.Prelude.{◌≡◌, ◌<◌, ◌+◌, IfErr, IfOk, drop, length, map, option_map};
-ghost use Rattle.sdv_decode.specs.Decoded.{Decodes, Reads, at_first, framed, rows_in};
-ghost use Rattle.sdv_decode.specs.DecodedText.{DecodesText, IsUndecoded};
+ghost use Rattle.sdv_decode.specs.Decoded.{Decodes, IsFramed, Reads, at_first};
 ghost use Rattle.sdv_decode.specs.Lines.{lines_in};
 ghost use Rattle.sdv_decode.specs.Room.{StopsByRoom};
 
-use crate::fault::{DecodeFault, TraceOff};
+use crate::fault::TraceOff;
 use crate::form::Form;
 use crate::lines::lines_of;
-use crate::picture::put_whole;
+use crate::picture::head;
 use crate::reading::{Reading, Step};
 use sdv_audit::AuditFault;
 use sdv_graph::Graph;
-use sdv_script::parse;
-use sdv_telling::Text;
+use sdv_telling::{Text, put};
 use std::alloc::{AllocError, Global};
 
 /// What is told of a trace.
@@ -26,35 +24,14 @@ pub struct Decoding {
     pub off: Option<TraceOff>,
 }
 
-/// Tells of a trace beside the script of a text: which statement each line is of, and what it means. The bytes of the
+/// Tells of a trace beside the graph of a script: which statement each line is of, and what it means. The bytes of the
 /// registers that came may be given besides. The trace may end before the run does.
 ///
 /// # Errors
 ///
-/// [`DecodeFault::Script`] for a text that is no script; [`DecodeFault::Room`] where a card could be in more shapes than an
-/// audit follows; [`DecodeFault::Memory`] where memory was refused.
+/// [`AuditFault::Room`] where a card could be in more shapes than an audit follows; [`AuditFault::Memory`] where memory was
+/// refused.
 pub fn decode(
-    alloc: Global,
-    script: &str,
-    trace: &[u8],
-    given: Option<&[u8]>,
-    form: Form,
-) -> Result<Decoding, DecodeFault>
-    ensures decoded { IfOk result
-        (DecodesText script.now form (option_map (λ bytes. bytes.now) given.entry) trace.now) }
-    ensures refused { IfErr result
-        (IsUndecoded script.now form (option_map (λ bytes. bytes.now) given.entry) trace.now) }
-{
-    let script = parse(alloc, script)?;
-    let Ok(graph) = script.graph(alloc) else {
-        return Err(DecodeFault::Memory);
-    };
-    let decoding = decode_trace(alloc, &graph, trace, given, form)?;
-    Ok(decoding)
-}
-
-/// Tells of a trace beside a graph.
-fn decode_trace(
     alloc: Global,
     graph: &Graph<'_>,
     trace: &[u8],
@@ -77,9 +54,7 @@ fn decode_trace(
 }
 
 /// The rows of a picture, of a trace with so many lines.
-fn rows_in(lines: u64, off: Option<TraceOff>) -> u64
-    ensures { result ≡ rows_in lines off }
-{
+fn rows_in(lines: u64, off: Option<TraceOff>) -> u64 {
     match off {
         None => lines,
         Some(TraceOff::Line(_, number)) => number.saturating_sub(1),
@@ -89,12 +64,13 @@ fn rows_in(lines: u64, off: Option<TraceOff>) -> u64
 
 /// What was told, in the whole of its form.
 fn framed(alloc: Global, form: Form, rows: u64, told: Text) -> Result<Text, AllocError>
-    ensures { IfOk result (λ text. text.items ≡ framed form rows told.items) }
+    ensures { IfOk result (λ text. IsFramed form told.items text.items) }
 {
     match form {
         Form::Picture => {
-            let mut text = Vec::new(alloc);
-            put_whole(&mut text, rows, told.as_slice())?;
+            let mut text = head(alloc, rows)?;
+            text.extend_from_slice(&told)?;
+            put(&mut text, "</svg>\n")?;
             Ok(text)
         }
         Form::Words | Form::Json => Ok(told),
@@ -102,7 +78,7 @@ fn framed(alloc: Global, form: Form, rows: u64, told: Text) -> Result<Text, Allo
 }
 
 /// The lines behind the one in this place.
-fn lines_behind(lines: &[Vec<u8>], place: usize) -> &[Vec<u8>]
+pub(crate) fn lines_behind(lines: &[Vec<u8>], place: usize) -> &[Vec<u8>]
     requires { place < length lines.now }
     ensures { result.now ≡ drop (place + 1) lines.now }
 {

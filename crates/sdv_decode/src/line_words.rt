@@ -1,20 +1,18 @@
 //! The line that is printed of a line of a trace.
 
-ghost use Rattle.std.specs.Prelude.{◌≡◌, ◌<◌, ◌++◌, OnOk, length};
-ghost use Rattle.sdv_decode.specs.LineWords.{announces, between, end_told, event_words, has_other_meaning, json_front, last_words, line_end, mark, plain_front, spot_front, stray_words, strayed_words, told};
-ghost use Rattle.sdv_decode.specs.Meaning.{meaning};
-ghost use Rattle.sdv_decode.specs.Spots.{came_of, spot_seen};
+ghost use Rattle.std.specs.Prelude.{◌≡◌, ◌<◌, ◌++◌, IfOk, OnOk, codes, decimal, false, length};
+ghost use Rattle.sdv_decode.specs.LineWords.{AddsLine, announces, end_told, has_other_meaning, mark, object, plain, printed, row, spot_seen, told};
 
 use crate::form::Form;
-use crate::meaning::{Behind, put_meaning};
+use crate::meaning::{Behind, meaning};
+use crate::rows::{event_drawn, last_drawn, stray_drawn};
 use sdv_audit::TraceLine;
-use sdv_audit_report::{put_answer, put_told};
 use sdv_card::Answer;
 use sdv_frames::Reply;
 use sdv_graph::Graph;
 use sdv_registers::Status;
 use sdv_run::End;
-use sdv_telling::{Text, put, put_number, put_statement};
+use sdv_telling::{Text, put, put_numbered, put_quoted, put_statement};
 use std::alloc::{AllocError, Global};
 
 /// Where a line stands.
@@ -50,99 +48,118 @@ fn has_other_meaning(index: u8) -> bool
     index == 6 || index == 13 || index == 41 || index == 51
 }
 
-/// Adds the mark of an application command.
-pub fn put_mark(text: &mut Text, app: bool, line: &TraceLine) -> Result<(), AllocError>
-    ensures { OnOk result (text.new.items ≡ text.old.items ++ mark app line.now) }
+/// The mark of an application command.
+pub fn mark(app: bool, line: &TraceLine) -> &'static str
+    ensures { result.now ≡ mark app line.now }
 {
     match line {
-        TraceLine::Exchange { command, .. } if app && has_other_meaning(command.index) => {
-            put(text, "A")
-        }
-        _ => Ok(()),
+        TraceLine::Exchange { command, .. } if app && has_other_meaning(command.index) => "A",
+        _ => "",
     }
 }
 
-/// Adds what the trace says.
-pub fn put_line_told(text: &mut Text, app: bool, line: &TraceLine) -> Result<(), AllocError>
-    ensures { OnOk result (text.new.items ≡ text.old.items ++ told app line.now) }
+/// What the trace says.
+pub fn told(alloc: Global, app: bool, line: &TraceLine) -> Result<Text, AllocError>
+    ensures { IfOk result (λ text. text.items ≡ told app line.now) }
 {
+    let mut text = Vec::new(alloc);
     match line {
-        TraceLine::Exchange { answer, .. } => {
-            put_mark(text, app, line)?;
-            put_told(text, line)?;
-            put(text, " ")?;
-            put_answer(text, answer)
+        TraceLine::End => put(&mut text, "the end")?,
+        _ => {
+            put(&mut text, mark(app, line))?;
+            text.extend_from_slice(line.spelled().as_slice())?;
         }
-        TraceLine::End => put(text, "the end"),
-        _ => put_told(text, line),
     }
+    Ok(text)
 }
 
-/// Adds how the run ended.
-pub fn put_end_told(text: &mut Text, end: &End) -> Result<(), AllocError>
-    ensures { OnOk result (text.new.items ≡ text.old.items ++ end_told end.now) }
+/// How the run ended.
+pub fn end_told(alloc: Global, end: &End) -> Result<Text, AllocError>
+    ensures { IfOk result (λ text. text.items ≡ end_told end.now) }
 {
+    let mut text = Vec::new(alloc);
     match end {
-        End::Done => put(text, "done"),
+        End::Done => put(&mut text, "done")?,
         End::Fault(name) => {
-            put(text, "fault ")?;
-            put(text, name.as_str())
+            put(&mut text, "fault ")?;
+            put(&mut text, name.as_str())?;
         }
     }
+    Ok(text)
 }
 
-fn put_plain_front(text: &mut Text, number: u64, script_line: u64) -> Result<(), AllocError>
-    ensures { OnOk result (text.new.items ≡ text.old.items ++ plain_front number script_line) }
+/// Adds a line of words.
+fn put_plain(
+    text: &mut Text,
+    number: u64,
+    script_line: u64,
+    told: &[u8],
+    words: &[u8],
+) -> Result<(), AllocError>
+    ensures { OnOk result (text.new.items ≡ text.old.items ++ plain number script_line told.now words.now) }
 {
-    put(text, "line ")?;
-    put_number(text, number)?;
-    put(text, ", script line ")?;
-    put_number(text, script_line)?;
-    put(text, ": ")
+    put_numbered(text, "line ", number, ", script line ")?;
+    put_numbered(text, "", script_line, ": ")?;
+    text.extend_from_slice(told)?;
+    put(text, ": ")?;
+    put_quoted(text, words)?;
+    put(text, "\n")
 }
 
-fn put_json_front(text: &mut Text, number: u64, script_line: u64) -> Result<(), AllocError>
-    ensures { OnOk result (text.new.items ≡ text.old.items ++ json_front number script_line) }
+/// Adds an object of JSON on a line.
+fn put_object(
+    text: &mut Text,
+    number: u64,
+    script_line: u64,
+    told: &[u8],
+    words: &[u8],
+) -> Result<(), AllocError>
+    ensures { OnOk result (text.new.items ≡ text.old.items ++ object number script_line told.now words.now) }
 {
-    put(text, "{\"line\":")?;
-    put_number(text, number)?;
-    put(text, ",\"script\":")?;
-    put_number(text, script_line)?;
-    put(text, ",\"told\":\"")
+    put_numbered(text, "{\"line\":", number, ",\"script\":")?;
+    put_numbered(text, "", script_line, ",\"told\":\"")?;
+    text.extend_from_slice(told)?;
+    put(text, "\",\"text\":\"")?;
+    put_quoted(text, words)?;
+    put(text, "\"}\n")
 }
 
-/// Adds what stands before the words of a line.
-fn put_front(text: &mut Text, at: &Spot<'_, '_>) -> Result<(), AllocError>
+/// Adds a row of a picture.
+fn put_row(text: &mut Text, number: u64, script_line: u64, drawn: &[u8]) -> Result<(), AllocError>
+    ensures { OnOk result (text.new.items ≡ text.old.items ++ row number script_line drawn.now) }
+{
+    put_numbered(text, "<g transform=\"translate(0 ", number, "0)\">\n")?;
+    put_numbered(
+        text,
+        "<text x=\"4\" y=\"3.4\" font-size=\"2.4\">script line ",
+        script_line,
+        "</text>",
+    )?;
+    put_numbered(
+        text,
+        "<text x=\"4\" y=\"7\" font-size=\"2\" fill=\"gray\">trace line ",
+        number,
+        "</text>\n",
+    )?;
+    text.extend_from_slice(drawn)?;
+    put(text, "</g>\n")
+}
+
+/// Adds what is told of a line, with its words or with what is drawn of it.
+fn put_line(text: &mut Text, at: &Spot<'_, '_>, told: &[u8], words: &[u8]) -> Result<(), AllocError>
     requires { at.now.point < length at.now.graph.now.points }
-    ensures { OnOk result (text.new.items ≡ text.old.items ++ spot_front (spot_seen at.now)) }
+    ensures { OnOk result (text.new.items ≡ text.old.items ++ printed (spot_seen at.now) told.now words.now) }
 {
     let script_line = u64::from(at.graph.line(at.point));
     match at.form {
-        Form::Json => put_json_front(text, at.number, script_line),
-        Form::Words | Form::Picture => put_plain_front(text, at.number, script_line),
+        Form::Words => put_plain(text, at.number, script_line, told, words),
+        Form::Json => put_object(text, at.number, script_line, told, words),
+        Form::Picture => put_row(text, at.number, script_line, words),
     }
 }
 
-fn between(form: Form) -> &'static str
-    ensures { result.now ≡ between form }
-{
-    match form {
-        Form::Json => "\",\"text\":\"",
-        Form::Words | Form::Picture => ": ",
-    }
-}
-
-fn line_end(form: Form) -> &'static str
-    ensures { result.now ≡ line_end form }
-{
-    match form {
-        Form::Json => "\"}\n",
-        Form::Words | Form::Picture => "\n",
-    }
-}
-
-/// Adds the line of an event, in words or JSON.
-pub fn put_event_words(
+/// Adds the line of an event.
+pub fn put_event(
     text: &mut Text,
     at: &Spot<'_, '_>,
     app: bool,
@@ -150,49 +167,68 @@ pub fn put_event_words(
     behind: &Behind<'_>,
 ) -> Result<(), AllocError>
     requires { at.now.point < length at.now.graph.now.points }
-    ensures { OnOk result (text.new.items ≡ text.old.items ++ event_words (spot_seen at.now) app line.now
-        (meaning at.now.graph.now.kind line.now behind.now.shapes.now (came_of behind.now))) }
+    ensures { OnOk result (AddsLine (spot_seen at.now) (told app line.now) text.old.items text.new.items) }
 {
-    put_front(text, at)?;
-    put_line_told(text, app, line)?;
-    put(text, between(at.form))?;
-    put_meaning(text, at.graph.kind(), line, behind)?;
-    put(text, line_end(at.form))
+    let told = told(at.alloc, app, line)?;
+    let words = event_words(at, app, line, behind)?;
+    put_line(text, at, &told, &words)
 }
 
-/// Adds the line of the end of the run, in words or JSON.
-pub fn put_last_words(text: &mut Text, at: &Spot<'_, '_>, end: &End) -> Result<(), AllocError>
-    requires { at.now.point < length at.now.graph.now.points }
-    ensures { OnOk result (text.new.items ≡ text.old.items ++ last_words (spot_seen at.now) end.now) }
-{
-    put_front(text, at)?;
-    put_end_told(text, end)?;
-    put(text, between(at.form))?;
-    put(text, "the run ends")?;
-    put(text, line_end(at.form))
-}
-
-/// Adds where the script stands.
-pub fn put_stray_words(text: &mut Text, at: &Spot<'_, '_>) -> Result<(), AllocError>
-    requires { at.now.point < length at.now.graph.now.points }
-    ensures { OnOk result (text.new.items ≡ text.old.items ++ stray_words (spot_seen at.now)) }
-{
-    put(text, "the script does not come here; it stands at ")?;
-    put_statement(text, &at.graph.point(at.point).action, at.graph.names())
-}
-
-/// Adds the line of what the script does not lead to, in words or JSON.
-pub fn put_strayed_words(
-    text: &mut Text,
+/// What an event means, in the form of the spot.
+fn event_words(
     at: &Spot<'_, '_>,
+    app: bool,
     line: &TraceLine,
-) -> Result<(), AllocError>
+    behind: &Behind<'_>,
+) -> Result<Text, AllocError> {
+    let meant = meaning(at.alloc, at.graph.kind(), line, behind)?;
+    match at.form {
+        Form::Picture => event_drawn(at.alloc, app, line, &meant),
+        Form::Words | Form::Json => Ok(meant),
+    }
+}
+
+/// Adds the line of the end of the run.
+pub fn put_last(text: &mut Text, at: &Spot<'_, '_>, end: &End) -> Result<(), AllocError>
     requires { at.now.point < length at.now.graph.now.points }
-    ensures { OnOk result (text.new.items ≡ text.old.items ++ strayed_words (spot_seen at.now) line.now) }
+    ensures { OnOk result (AddsLine (spot_seen at.now) (end_told end.now) text.old.items text.new.items) }
 {
-    put_front(text, at)?;
-    put_line_told(text, false, line)?;
-    put(text, between(at.form))?;
-    put_stray_words(text, at)?;
-    put(text, line_end(at.form))
+    let told = end_told(at.alloc, end)?;
+    let words = last_words(at, end, &told)?;
+    put_line(text, at, &told, &words)
+}
+
+fn last_words(at: &Spot<'_, '_>, end: &End, told: &[u8]) -> Result<Text, AllocError> {
+    let mut meant = Vec::new(at.alloc);
+    put(&mut meant, "the run ends")?;
+    match at.form {
+        Form::Picture => last_drawn(at.alloc, end, told, &meant),
+        Form::Words | Form::Json => Ok(meant),
+    }
+}
+
+/// Adds the line of what the script does not lead to.
+pub fn put_stray(text: &mut Text, at: &Spot<'_, '_>, line: &TraceLine) -> Result<(), AllocError>
+    requires { at.now.point < length at.now.graph.now.points }
+    ensures { OnOk result (AddsLine (spot_seen at.now) (told false line.now) text.old.items text.new.items) }
+{
+    let told = told(at.alloc, false, line)?;
+    let words = stray_words(at, &told)?;
+    put_line(text, at, &told, &words)
+}
+
+fn stray_words(at: &Spot<'_, '_>, told: &[u8]) -> Result<Text, AllocError>
+    requires { at.now.point < length at.now.graph.now.points }
+{
+    let mut meant = Vec::new(at.alloc);
+    put(&mut meant, "the script does not come here; it stands at ")?;
+    put_statement(
+        &mut meant,
+        &at.graph.point(at.point).action,
+        at.graph.names(),
+    )?;
+    match at.form {
+        Form::Picture => stray_drawn(at.alloc, told, &meant),
+        Form::Words | Form::Json => Ok(meant),
+    }
 }

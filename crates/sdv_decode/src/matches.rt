@@ -1,7 +1,7 @@
 //! Lines of a trace beside the events of a script.
 
 ghost use Rattle.std.specs.Prelude.{◌≡◌, option_map};
-ghost use Rattle.sdv_decode.specs.Matches.{bytes_told, came_in, front_of, given_after, greatest_register, is_end, is_of, left_behind, register_of, register_told, returned_of};
+ghost use Rattle.sdv_decode.specs.Matches.{bytes_told, given_after, greatest_register, is_end, is_of, left_behind, register_of, register_told, returned_of};
 
 use sdv_audit::TraceLine;
 use sdv_card::{DataEnd, WaitEnd};
@@ -100,9 +100,7 @@ fn left_behind(given: Option<&[u8]>, count: u16) -> Option<&[u8]>
 }
 
 /// The bytes that are given of the register that a line tells of.
-pub fn came_in<'r>(given: Option<&'r [u8]>, line: &TraceLine) -> Option<&'r [u8]>
-    ensures { option_map (λ bytes. bytes.now) result ≡ came_in (option_map (λ bytes. bytes.now) given.entry) line.now }
-{
+pub fn came_in<'r>(given: Option<&'r [u8]>, line: &TraceLine) -> Option<&'r [u8]> {
     match line {
         TraceLine::RegisterIn { count, .. } => front_of(given, *count),
         _ => None,
@@ -110,9 +108,7 @@ pub fn came_in<'r>(given: Option<&'r [u8]>, line: &TraceLine) -> Option<&'r [u8]
 }
 
 /// So many bytes at the front, or all.
-fn front_of(given: Option<&[u8]>, count: u16) -> Option<&[u8]>
-    ensures { option_map (λ bytes. bytes.now) result ≡ front_of (option_map (λ bytes. bytes.now) given.entry) count }
-{
+fn front_of(given: Option<&[u8]>, count: u16) -> Option<&[u8]> {
     let bytes = given?;
     Some(bytes.get(..usize::from(count)).unwrap_or(bytes))
 }

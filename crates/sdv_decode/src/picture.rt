@@ -1,10 +1,7 @@
-//! Pictures of traces in SVG: their texts, marks and frame.
-
-ghost use Rattle.std.specs.Prelude.{◌≡◌, ◌++◌, OnOk};
-ghost use Rattle.sdv_decode.specs.Picture.{beside, beside_front, bottom, card_box, element, escaped, escaped_byte, ground, head, host_box, lifelines, mark_front, mark_words, marked, root_front, row_front, row_place, row_script, row_trace, size, whole};
+//! Pictures of traces in SVG: their texts, marks and frame. Lengths are in millimetres.
 
 use sdv_telling::{Text, put, put_numbered};
-use std::alloc::AllocError;
+use std::alloc::{AllocError, Global};
 
 /// What is drawn of an event, between the host and the card.
 #[derive(Clone, Copy, Debug, PartialEq, Eq)]
@@ -33,32 +30,22 @@ pub enum Mark {
     Fault,
 }
 
-fn put_escaped_byte(text: &mut Text, byte: u8) -> Result<(), AllocError>
-    ensures { OnOk result (text.new.items ≡ text.old.items ++ escaped_byte byte) }
-{
-    match byte {
-        b'&' => put(text, "&amp;"),
-        b'<' => put(text, "&lt;"),
-        b'>' => put(text, "&gt;"),
-        b'"' => put(text, "&quot;"),
-        _ => Ok(text.push(byte)?),
-    }
-}
-
 /// Adds words as XML reads them.
-fn put_escaped(text: &mut Text, words: &[u8]) -> Result<(), AllocError>
-    ensures { OnOk result (text.new.items ≡ text.old.items ++ escaped words.now) }
-{
+fn put_escaped(text: &mut Text, words: &[u8]) -> Result<(), AllocError> {
     for byte in words {
-        put_escaped_byte(text, *byte)?;
+        match *byte {
+            b'&' => put(text, "&amp;")?,
+            b'<' => put(text, "&lt;")?,
+            b'>' => put(text, "&gt;")?,
+            b'"' => put(text, "&quot;")?,
+            byte => text.push(byte)?,
+        }
     }
     Ok(())
 }
 
-/// The size at which words of this length fit, in millimetres.
-fn size(room: u8, length: usize) -> &'static str
-    ensures { result.now ≡ size room length }
-{
+/// The size at which words of this length fit, where so many fit at the size of 2.8: a half of it, or a quarter.
+fn size(room: u8, length: usize) -> &'static str {
     let room = usize::from(room);
     if room * 2 < length {
         "0.7"
@@ -70,9 +57,7 @@ fn size(room: u8, length: usize) -> &'static str
 }
 
 /// Adds words behind the front of an element, where so many fit at the full size.
-fn put_element(text: &mut Text, front: &str, room: u8, words: &[u8]) -> Result<(), AllocError>
-    ensures { OnOk result (text.new.items ≡ text.old.items ++ element front.now room words.now) }
-{
+fn put_element(text: &mut Text, front: &str, room: u8, words: &[u8]) -> Result<(), AllocError> {
     put(text, front)?;
     put(text, size(room, words.len()))?;
     put(text, "\">")?;
@@ -80,26 +65,17 @@ fn put_element(text: &mut Text, front: &str, room: u8, words: &[u8]) -> Result<(
     put(text, "</text>\n")
 }
 
-fn beside_front(answer: bool) -> &'static str
-    ensures { result.now ≡ beside_front answer }
-{
-    if answer {
+/// Adds words right of the card, beside the arrow of an answer or in the middle of the row.
+pub fn put_beside(text: &mut Text, answer: bool, words: &[u8]) -> Result<(), AllocError> {
+    let front = if answer {
         "<text x=\"124\" y=\"8.4\" font-size=\""
     } else {
         "<text x=\"124\" y=\"5.6\" font-size=\""
-    }
+    };
+    put_element(text, front, 100, words)
 }
 
-/// Adds words right of the card, beside the arrow of an answer or in the middle of the row.
-pub fn put_beside(text: &mut Text, answer: bool, words: &[u8]) -> Result<(), AllocError>
-    ensures { OnOk result (text.new.items ≡ text.old.items ++ beside answer words.now) }
-{
-    put_element(text, beside_front(answer), 100, words)
-}
-
-fn mark_words(mark: Mark) -> &'static str
-    ensures { result.now ≡ mark_words mark }
-{
+fn mark_words(mark: Mark) -> &'static str {
     match mark {
         Mark::Command =>
             "<path d=\"M40 3.4H108\" stroke=\"black\" stroke-width=\"0.4\"/><path d=\"M110 3.4l-3 -1.2v2.4z\"/>\n",
@@ -126,136 +102,60 @@ fn mark_words(mark: Mark) -> &'static str
     }
 }
 
-/// The front of the words of a mark.
-fn mark_front(mark: Mark) -> &'static str
-    ensures { result.now ≡ mark_front mark }
-{
+/// The front of the words of a mark, which stand above an arrow, or in a box.
+fn mark_front(mark: Mark) -> &'static str {
     match mark {
         Mark::Command => "<text x=\"75\" y=\"2.4\" text-anchor=\"middle\" font-size=\"",
         Mark::Answer => "<text x=\"75\" y=\"6.6\" text-anchor=\"middle\" font-size=\"",
         Mark::Lost => "<text x=\"93\" y=\"6.6\" text-anchor=\"middle\" font-size=\"",
-        Mark::In => "<text x=\"75\" y=\"2.8\" text-anchor=\"middle\" font-size=\"",
-        Mark::CutIn => "<text x=\"75\" y=\"2.8\" text-anchor=\"middle\" font-size=\"",
-        Mark::Out => "<text x=\"75\" y=\"2.8\" text-anchor=\"middle\" font-size=\"",
-        Mark::CutOut => "<text x=\"75\" y=\"2.8\" text-anchor=\"middle\" font-size=\"",
-        Mark::Free => "<text x=\"110\" y=\"5.6\" text-anchor=\"middle\" font-size=\"",
-        Mark::Busy => "<text x=\"110\" y=\"5.6\" text-anchor=\"middle\" font-size=\"",
-        Mark::Done => "<text x=\"75\" y=\"5.6\" text-anchor=\"middle\" font-size=\"",
-        Mark::Fault => "<text x=\"75\" y=\"5.6\" text-anchor=\"middle\" font-size=\"",
+        Mark::In | Mark::CutIn | Mark::Out | Mark::CutOut => {
+            "<text x=\"75\" y=\"2.8\" text-anchor=\"middle\" font-size=\""
+        }
+        Mark::Free | Mark::Busy => {
+            "<text x=\"110\" y=\"5.6\" text-anchor=\"middle\" font-size=\""
+        }
+        Mark::Done | Mark::Fault => {
+            "<text x=\"75\" y=\"5.6\" text-anchor=\"middle\" font-size=\""
+        }
     }
 }
 
 /// Adds a mark with its words.
-pub fn put_marked(text: &mut Text, mark: Mark, words: &[u8]) -> Result<(), AllocError>
-    ensures { OnOk result (text.new.items ≡ text.old.items ++ marked mark words.now) }
-{
+pub fn put_marked(text: &mut Text, mark: Mark, words: &[u8]) -> Result<(), AllocError> {
     put(text, mark_words(mark))?;
     put_element(text, mark_front(mark), 38, words)
 }
 
-/// Adds the beginning of a row, by the number of its line and that of the script.
-pub fn put_row_front(text: &mut Text, number: u64, script_line: u64) -> Result<(), AllocError>
-    ensures { OnOk result (text.new.items ≡ text.old.items ++ row_front number script_line) }
-{
-    put_row_place(text, number)?;
-    put_row_script(text, script_line)?;
-    put_row_trace(text, number)
-}
+const HOST: &str =
+    "<rect x=\"30\" y=\"2\" width=\"20\" height=\"6\" fill=\"white\" stroke=\"black\" stroke-width=\"0.2\"/><text x=\"40\" y=\"6\" text-anchor=\"middle\" font-size=\"2.8\">host</text>\n";
 
-fn put_row_place(text: &mut Text, number: u64) -> Result<(), AllocError>
-    ensures { OnOk result (text.new.items ≡ text.old.items ++ row_place number) }
-{
-    put_numbered(text, "<g transform=\"translate(0 ", number, "0)\">\n")
-}
+const CARD: &str =
+    "<rect x=\"100\" y=\"2\" width=\"20\" height=\"6\" fill=\"white\" stroke=\"black\" stroke-width=\"0.2\"/><text x=\"110\" y=\"6\" text-anchor=\"middle\" font-size=\"2.8\">card</text>\n";
 
-fn put_row_script(text: &mut Text, script_line: u64) -> Result<(), AllocError>
-    ensures { OnOk result (text.new.items ≡ text.old.items ++ row_script script_line) }
-{
-    put_numbered(
-        text,
-        "<text x=\"4\" y=\"3.4\" font-size=\"2.4\">script line ",
-        script_line,
-        "</text>",
-    )
-}
-
-fn put_row_trace(text: &mut Text, number: u64) -> Result<(), AllocError>
-    ensures { OnOk result (text.new.items ≡ text.old.items ++ row_trace number) }
-{
-    put_numbered(
-        text,
-        "<text x=\"4\" y=\"7\" font-size=\"2\" fill=\"gray\">trace line ",
-        number,
-        "</text>\n",
-    )
-}
-
-/// Adds where a picture ends.
-fn put_bottom(text: &mut Text, rows: u64) -> Result<(), AllocError>
-    ensures { OnOk result (text.new.items ≡ text.old.items ++ bottom rows) }
-{
-    put_numbered(text, "", rows, "9")
-}
-
-fn put_root_front(text: &mut Text, rows: u64) -> Result<(), AllocError>
-    ensures { OnOk result (text.new.items ≡ text.old.items ++ root_front rows) }
-{
+/// A picture before its rows, by the number of the last one: the host and the card as two lines, down to 9 below the
+/// beginning of that row.
+pub fn head(alloc: Global, rows: u64) -> Result<Text, AllocError> {
+    let mut text = Vec::new(alloc);
     put(
-        text,
+        &mut text,
         "<svg xmlns=\"http://www.w3.org/2000/svg\" version=\"1.1\" width=\"297mm\" height=\"",
     )?;
-    put_bottom(text, rows)?;
-    put(text, "mm\" viewBox=\"0 0 297 ")?;
-    put_bottom(text, rows)?;
-    put(text, "\" font-family=\"monospace\">\n")
-}
-
-fn put_ground(text: &mut Text, rows: u64) -> Result<(), AllocError>
-    ensures { OnOk result (text.new.items ≡ text.old.items ++ ground rows) }
-{
-    put(text, "<rect width=\"297\" height=\"")?;
-    put_bottom(text, rows)?;
-    put(text, "\" fill=\"white\"/>\n")
-}
-
-/// Adds the lines of host and card.
-fn put_lifelines(text: &mut Text, rows: u64) -> Result<(), AllocError>
-    ensures { OnOk result (text.new.items ≡ text.old.items ++ lifelines rows) }
-{
-    put(text, "<path d=\"M40 8V")?;
-    put_bottom(text, rows)?;
-    put(text, "M110 8V")?;
-    put_bottom(text, rows)?;
-    put(text, "\" stroke=\"gray\" stroke-width=\"0.3\"/>\n")
-}
-
-fn host_box() -> &'static str
-    ensures { result.now ≡ host_box }
-{
-    "<rect x=\"30\" y=\"2\" width=\"20\" height=\"6\" fill=\"white\" stroke=\"black\" stroke-width=\"0.2\"/><text x=\"40\" y=\"6\" text-anchor=\"middle\" font-size=\"2.8\">host</text>\n"
-}
-
-fn card_box() -> &'static str
-    ensures { result.now ≡ card_box }
-{
-    "<rect x=\"100\" y=\"2\" width=\"20\" height=\"6\" fill=\"white\" stroke=\"black\" stroke-width=\"0.2\"/><text x=\"110\" y=\"6\" text-anchor=\"middle\" font-size=\"2.8\">card</text>\n"
-}
-
-fn put_head(text: &mut Text, rows: u64) -> Result<(), AllocError>
-    ensures { OnOk result (text.new.items ≡ text.old.items ++ head rows) }
-{
-    put_root_front(text, rows)?;
-    put_ground(text, rows)?;
-    put_lifelines(text, rows)?;
-    put(text, host_box())?;
-    put(text, card_box())
-}
-
-/// Adds a whole picture, by its rows and the number of the last one.
-pub fn put_whole(text: &mut Text, rows: u64, drawn: &[u8]) -> Result<(), AllocError>
-    ensures { OnOk result (text.new.items ≡ text.old.items ++ whole rows drawn.now) }
-{
-    put_head(text, rows)?;
-    text.extend_from_slice(drawn)?;
-    put(text, "</svg>\n")
+    put_numbered(&mut text, "", rows, "9mm\" viewBox=\"0 0 297 ")?;
+    put_numbered(&mut text, "", rows, "9\" font-family=\"monospace\">\n")?;
+    put_numbered(
+        &mut text,
+        "<rect width=\"297\" height=\"",
+        rows,
+        "9\" fill=\"white\"/>\n",
+    )?;
+    put_numbered(&mut text, "<path d=\"M40 8V", rows, "9M110 8V")?;
+    put_numbered(
+        &mut text,
+        "",
+        rows,
+        "9\" stroke=\"gray\" stroke-width=\"0.3\"/>\n",
+    )?;
+    put(&mut text, HOST)?;
+    put(&mut text, CARD)?;
+    Ok(text)
 }

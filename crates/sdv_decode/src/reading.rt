@@ -1,6 +1,6 @@
 //! A trace that is read beside a script, line by line.
 
-ghost use Rattle.std.specs.Prelude.{◌≡◌, ◌<◌, ◌++◌, ℕ, true, IfErr, IfOk, List, OnOk, Ok, Some, length, map, option_map};
+ghost use Rattle.std.specs.Prelude.{◌≡◌, ◌<◌, ℕ, false, true, IfErr, IfOk, List, OnOk, Ok, Some, length, map, option_map};
 ghost use Rattle.sdv_audit.specs.Course.{Course, IsAt, course_after};
 ghost use Rattle.sdv_audit.specs.Reading.{read_line};
 ghost use Rattle.sdv_audit.specs.Room.{AreMany};
@@ -8,17 +8,16 @@ ghost use Rattle.sdv_card.specs.Lists.{May};
 ghost use Rattle.sdv_run.specs.Machine.{Asked};
 ghost use Rattle.sdv_run.specs.declared.next_event.Next.TheVariants.{Event};
 ghost use Rattle.sdv_decode.specs.Decoded.{Place, at_first, course_before, line_behind, off_behind, uses};
-ghost use Rattle.sdv_audit_report.specs.Notes.{counted};
+ghost use Rattle.sdv_audit.specs.Notes.{counted};
+ghost use Rattle.sdv_decode.specs.LineWords.{AddsLine, end_told, told};
 ghost use Rattle.sdv_decode.specs.Room.{AreTooMany, LacksRoom};
-ghost use Rattle.sdv_decode.specs.Rows.{last_line, stray_line};
 ghost use Rattle.sdv_decode.specs.Steps.{GoesOn, IsAsked, IsCrowded, IsPlace, Steps};
 
 use crate::fault::TraceOff;
 use crate::form::Form;
-use crate::line_words::{Spot, announces};
+use crate::line_words::{Spot, announces, put_event, put_last, put_stray};
 use crate::matches::{came_in, given_after, is_end, is_of, register_told, returned_of};
 use crate::meaning::Behind;
-use crate::rows::{put_event, put_last, put_stray};
 use sdv_audit::{Audit, AuditFault, Told, TraceLine, read_line};
 use sdv_card::Width;
 use sdv_graph::Graph;
@@ -137,6 +136,13 @@ impl<'g, 'a, 'r> Reading<'g, 'a, 'r> {
             given,
             number: 1,
         })
+    }
+
+    /// The data lines that the host uses.
+    pub fn lines(&self) -> Width
+        ensures { result ≡ self.now.runner.stand.host.lines }
+    {
+        self.runner.lines()
     }
 
     /// Takes in a line, before those behind it, and adds its words.
@@ -264,12 +270,12 @@ impl<'g, 'a, 'r> Reading<'g, 'a, 'r> {
 
     /// Stops at a line that the run does not come to.
     fn stray(&self, line: &TraceLine, out: &mut Text) -> Result<Step, AuditFault>
-        ensures words { OnOk result (out.new.items ≡ out.old.items ++ stray_line (record {
+        ensures words { OnOk result (AddsLine (record {
           graph = self.now.runner.graph;
           form = self.now.form;
           number = self.now.number;
           point = self.now.runner.stand.point;
-        }) line.now) }
+        }) (told false line.now) out.old.items out.new.items) }
         ensures step { IfOk result (λ step. step ≡ Step.Stopped (Some (TraceOff.Script self.now.number))) }
         ensures memory { IfErr result (λ fault. fault ≡ AuditFault.Memory) }
     {
@@ -279,12 +285,12 @@ impl<'g, 'a, 'r> Reading<'g, 'a, 'r> {
 
     /// Stops at the end of the run.
     fn end(&self, end: &End, behind: &[Vec<u8>], out: &mut Text) -> Result<Step, AuditFault>
-        ensures words { OnOk result (out.new.items ≡ out.old.items ++ last_line (record {
+        ensures words { OnOk result (AddsLine (record {
           graph = self.now.runner.graph;
           form = self.now.form;
           number = self.now.number;
           point = self.now.runner.stand.point;
-        }) end.now) }
+        }) (end_told end.now) out.old.items out.new.items) }
         ensures step { IfOk result (λ step. step ≡ Step.Stopped (off_behind (counted true self.now.number)
             (map (λ text. text.items) behind.now))) }
         ensures memory { IfErr result (λ fault. fault ≡ AuditFault.Memory) }

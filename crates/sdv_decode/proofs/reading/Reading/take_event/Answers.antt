@@ -1,9 +1,7 @@
-use Rattle.std.proofs.Common.{◌≡◌, ◌∙◌, ◌++◌, false, true, Err, inl, inr, ap, subst, rules, ℕ, List, Option, Bool, OnOk, option_map}
+use Rattle.std.proofs.Common.{◌≡◌, false, true, Err, inl, inr, subst, rules, Option, Bool, OnOk}
 use Rattle.sdv_audit.specs.declared.line.TraceLine.{TraceLine}
-use Rattle.sdv_card.specs.declared.shape.Shape.{Shape}
-use Rattle.sdv_decode.specs.LineWords.{Spot}
+use Rattle.sdv_decode.specs.LineWords.{AddsLine, Spot, told}
 use Rattle.sdv_decode.specs.Matches.{is_of}
-use Rattle.sdv_decode.specs.Rows.{event_line, stray_line}
 use Rattle.sdv_decode.specs.Steps.{GoesOn}
 use Rattle.sdv_decode.specs.declared.reading.Reading.{Reading}
 use Rattle.sdv_decode.proofs.StepLaws.{lacks_room, passed_by, spot_at, spot_same, stray_step}
@@ -21,23 +19,19 @@ returns-in_ok-put_event-clause-steps c = λ at text read asked next.
     let event = c.args.event.now in
     let line = c.args.line in
     let r' = c.go_on.new.self in
-    let came = option_map (λ bytes. bytes.now) c.came_in-came.result in
     let fits : is_of event line ≡ true = search rules in
     let on = subst (λ (n : Option TraceLine). GoesOn r event line n r' true) c.line_behind.ensures
     (subst (λ (b : Bool). GoesOn r event line c.line_behind.result r' b) c.if-branch.true c.in_ok-go_on.ensures.on) in
     let spot = spot_same c.spot-spot.result r c.spot-spot.ensures.graph c.spot-spot.ensures.form c.spot-spot.ensures.number c.spot-spot.ensures.point in
     passed_by r at asked text _ event line r' read next fits on _ _
-    (c.in_ok-put_event.ensures
-    ∙ (ap (λ (s : Spot). c.args.out.now.items ++ event_line s r.app line c.shapes-shapes.result.now came) spot
-    ∙ (ap (λ (shapes : List Shape). c.args.out.now.items ++ event_line (spot_at r) r.app line shapes came) c.shapes-shapes.ensures
-    ∙ ap (λ (bytes : Option (List ℕ)). c.args.out.now.items ++ event_line (spot_at r) r.app line r'.audit.shapes.items bytes) c.came_in-came.ensures)))
+    (subst (λ (s : Spot). AddsLine s (told r.app line) c.args.out.now.items c.put_event.new.text.items) spot c.in_ok-put_event.ensures)
 
 pub returns-else-branch-clause-steps : goal.returns-else-branch-clause-steps
 returns-else-branch-clause-steps c =
     let r = c.args.self.now in
     let refused = subst (λ (b : Bool). GoesOn r c.args.event.now c.args.line c.line_behind.result c.go_on.new.self b) c.if-branch.false c.in_ok-go_on.ensures.on in
     let words = subst (λ (s : Reading). OnOk c.stray-else-branch.result
-    (c.stray-else-branch.new.out.items ≡ c.args.out.now.items ++ stray_line (spot_at s) c.args.line)) refused.0 c.stray-else-branch.ensures.words in
+    (AddsLine (spot_at s) (told false c.args.line) c.args.out.now.items c.stray-else-branch.new.out.items)) refused.0 c.stray-else-branch.ensures.words in
     stray_step r c.go_on.new.self c.args.line _ _ _ c.stray-else-branch.result words (rw refused.0 at c.stray-else-branch.ensures.step)
     c.args.event.now (λ text. inr refused.1)
 
