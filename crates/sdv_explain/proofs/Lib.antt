@@ -10,6 +10,8 @@ pub mod ExplainedLaws
 pub mod StandLaws
 mod RefusedLaws
 mod KnownLaws
-mod HeadingLaws
 mod FailingLaws
-pub mod TellLaws
+pub mod LineLaws
+pub mod MisfitLaws
+mod ScheduleLaws
+mod PieceLaws

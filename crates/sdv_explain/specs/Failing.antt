@@ -10,7 +10,7 @@ use Rattle.sdv_certify.specs.declared.fault.CertifyFault.{CertifyFault}
 use Rattle.sdv_certify.specs.declared.fault.CertifyFault.TheVariants as certifies
 use Rattle.sdv_certify.specs.Refusal.{AllEnd}
 use Rattle.sdv_explain.specs.declared.failing.Failure.{Failure}
-use Rattle.sdv_explain.specs.Reason.{illegality_there}
+use Rattle.sdv_explain.specs.Reason.{illegality_there, why_refused}
 use Rattle.sdv_explain.specs.Refused.{AllTake, IsOtherEnd, IsUntaken}
 
 -- the first of the shapes at which the event is not legal
@@ -35,8 +35,11 @@ FailsBy (certifies.EndState number) k action known point shape = (number ≡ poi
 FailsBy certifies.TooMany k action known point shape = ⊥
 FailsBy certifies.Memory k action known point shape = ⊥
 
-abbrev pub IsFailureAt : Kind → Action → Facts → (point : ℕ) → Failure → Type 0
-IsFailureAt k action known point f = FailsBy f.fault k action known point f.shape
+-- for this reason
+pub record IsFailureAt (k : Kind) (action : Action) (known : Facts) (point : ℕ) (f : Failure) : Type 0 where
+  pub there : f.point ≡ point
+  pub fails : FailsBy f.fault k action known point f.shape
+  pub why : why_refused f.fault k action f.shape ≡ Some f.why
 
 -- each clause is kept at each shape
 abbrev pub IsFineAt : Kind → Action → Facts → Type 0

@@ -6,6 +6,14 @@ pub mod Way
 pub mod Found
 pub mod Laws
 pub mod Explained
-pub mod Headings
 pub mod Failing
-pub mod Told
+pub mod Lines
+pub mod Page
+pub mod Places
+pub mod Hints
+pub mod Judged
+pub mod Drawing
+pub mod Fields
+pub mod Misfits
+pub mod Described
+pub mod Schedules

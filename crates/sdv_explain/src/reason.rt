@@ -4,13 +4,19 @@ ghost use Rattle.std.specs.Prelude.{◌≡◌, ◌&&◌, is_none};
 ghost use Rattle.sdv_card.specs.LegalShapes.{row_legal, settled_legal, order_legal, event_legal, legal_code};
 ghost use Rattle.sdv_card.specs.Modes.{same_width};
 ghost use Rattle.sdv_card.specs.Takes.{taken_as_of};
-ghost use Rattle.sdv_explain.specs.Reason.{event_illegality, first_broken, illegality_of, order_illegality, order_rules, phase_rules, row_rules};
+ghost use Rattle.sdv_graph.specs.Graph.{seen_action};
+ghost use Rattle.sdv_explain.specs.Reason.{event_illegality, event_of, first_broken, illegality_of, illegality_there};
+ghost use Rattle.sdv_explain.specs.Reason.{order_illegality, order_rules, phase_rules, row_rules};
 
 use sdv_card::state_table::{
     Rows, erase_allows, give_legal, is_shape, length_allows, order, own_step, own_target,
     preset_allows, recv_legal, recv_reg_legal, same_width, taken_as, wait_legal,
 };
-use sdv_card::{Event, Fields, Order, Row, Shape, TakenAs};
+use sdv_card::{Event, Fields, Kind, Order, Row, Shape, TakenAs};
+use sdv_emmc::EmmcTable;
+use sdv_facts::event_of_phase;
+use sdv_graph::Action;
+use sdv_sd::SdTable;
 use sdv_telling::{Illegality, Reason};
 
 /// Why a settled card does not take a row.
@@ -130,5 +136,27 @@ pub fn reason_of<T: Rows>(event: &Event, shape: Shape) -> Option<Illegality>
             reason: Reason::NoCard,
             after_step: None,
         }),
+    }
+}
+
+/// The event of a statement, if it makes one.
+fn event_of(action: &Action<'_>) -> Option<Event>
+    ensures { result ≡ event_of (seen_action action.now) }
+{
+    match action {
+        Action::Send(command, _, _) => Some(Event::Send(command.ask)),
+        Action::Phase(phase, _, _) => Some(event_of_phase(*phase)),
+        _ => None,
+    }
+}
+
+/// Why the event of a statement is not legal at a shape, by the table of the kind.
+pub fn illegality(kind: Kind, action: &Action<'_>, shape: Shape) -> Option<Illegality>
+    ensures { result ≡ illegality_there kind (seen_action action.now) shape }
+{
+    let event = event_of(action)?;
+    match kind {
+        Kind::Sd => reason_of::<SdTable>(&event, shape),
+        Kind::Emmc => reason_of::<EmmcTable>(&event, shape),
     }
 }

@@ -1,14 +1,11 @@
-//! The shape at which a refusal is explained.
+//! The shapes at which the address of a command does not fit, or the script may not end.
 
 ghost use Rattle.std.specs.Prelude.{◌↔◌, IsTrue, IfSome, IfNone};
 ghost use Rattle.sdv_graph.specs.Graph.{seen_action};
-ghost use Rattle.sdv_explain.specs.Known.{facts_here};
-ghost use Rattle.sdv_explain.specs.Refused.{AllTake, IsOtherEnd, IsRefusedAt, IsRefusedNowhere, IsUntaken, TakesAddress};
+ghost use Rattle.sdv_explain.specs.Refused.{AllTake, IsOtherEnd, IsUntaken, TakesAddress};
 ghost use Rattle.sdv_certify.specs.Refusal.{AllEnd};
 
-use crate::known::Known;
 use sdv_card::Shape;
-use sdv_certify::CertifyFault;
 use sdv_facts::{Numbers, addresses_on_card, ends_at};
 use sdv_graph::Action;
 
@@ -45,17 +42,4 @@ pub fn other_end(action: &Action<'_>, shapes: &[Shape]) -> Option<Shape>
         }
     }
     None
-}
-
-/// The shape at which a point is refused.
-pub fn refused_shape(fault: CertifyFault, action: &Action<'_>, here: &Known<'_>) -> Option<Shape>
-    ensures shape { IfSome result (IsRefusedAt fault (seen_action action.now) (facts_here here.now)) }
-    ensures none { IfNone result (IsRefusedNowhere fault (seen_action action.now) (facts_here here.now)) }
-{
-    match fault {
-        CertifyFault::Illegal { shape, .. } => Some(shape),
-        CertifyFault::Address { .. } => untaken(action, here.numbers, here.shapes),
-        CertifyFault::EndState { .. } => other_end(action, here.shapes),
-        CertifyFault::TooMany | CertifyFault::Memory => None,
-    }
 }

@@ -1,7 +1,0 @@
-use Rattle.std.proofs.Common.{◌≡◌, ◌++◌, drop}
-use Rattle.sdv_drawing.specs.Drawing.{escaped}
-use Rattle.sdv_drawing.proofs.text.put_escaped.Given as goal
-
--- what is written, and what is still to be, are all
-abbrev pub invariant-loop-byte : goal.invariant-loop-byte
-invariant-loop-byte l = l.text.items ++ escaped (drop l.byte-index l.bytes) ≡ l.fn.text.items ++ escaped l.bytes

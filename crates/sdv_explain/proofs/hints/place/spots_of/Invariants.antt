@@ -1,0 +1,6 @@
+use Rattle.std.proofs.Common.{length}
+use Rattle.sdv_script.specs.Place.{tokens_at}
+use Rattle.sdv_explain.proofs.hints.place.spots_of.Given as goal
+
+abbrev pub decreases-loop-at : goal.decreases-loop-at
+decreases-loop-at l = length (tokens_at l.at)

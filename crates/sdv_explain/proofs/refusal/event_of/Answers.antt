@@ -1,5 +1,0 @@
-use Rattle.std.proofs.Common.{rules}
-use Rattle.sdv_explain.proofs.refusal.event_of.Goals as goal
-
-pub returns-in-Phase : goal.returns-in-Phase
-returns-in-Phase c = search rules

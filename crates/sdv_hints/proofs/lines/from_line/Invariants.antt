@@ -1,6 +1,0 @@
-use Rattle.std.proofs.Common.{◌≡◌}
-use Rattle.sdv_hints.specs.Lines.{from_line}
-use Rattle.sdv_hints.proofs.lines.from_line.Given as goal
-
-abbrev pub invariant-loop-passed : goal.invariant-loop-passed
-invariant-loop-passed l = l.rest ≡ from_line l.passed l.text

@@ -1,8 +1,0 @@
-use Rattle.std.proofs.Common.{◌≡◌, ◌++◌, drop, flat_map}
-use Rattle.sdv_hints.specs.Lines.{blank}
-use Rattle.sdv_hints.proofs.lines.put_blanks.Given as goal
-
--- what is written, and what is still to be, are all
-abbrev pub invariant-loop-byte : goal.invariant-loop-byte
-invariant-loop-byte l =
-    l.page.items ++ flat_map blank (drop l.byte-index l.text) ≡ l.fn.page.items ++ flat_map blank l.text
