@@ -9,14 +9,14 @@ use sdv_frames::{Expect, FrameFault, Reply};
 use sdv_player::State;
 use sdv_table::sending_at;
 
-/// Bits 127..8 of an R2; zeros where C gave not 15 bytes.
-fn register_of(r2: &[u8]) -> [u8; 15]
+/// An R2, if bits 127..8 of its register came: 15 bytes.
+fn register_of(r2: &[u8]) -> Answer
     ensures { result ≡ register_of r2.now }
 {
     if let Ok(register) = <&[u8; 15]>::try_from(r2) {
-        *register
+        Answer::Reply(Reply::R2(*register))
     } else {
-        [0; 15]
+        Answer::Damaged(FrameFault::Length)
     }
 }
 
@@ -30,7 +30,7 @@ fn response_of(expect: Expect, word: u32, r2: &[u8]) -> Answer
             index,
             status: word,
         }),
-        Expect::R2 => Answer::Reply(Reply::R2(register_of(r2))),
+        Expect::R2 => register_of(r2),
         Expect::R3 => Answer::Reply(Reply::R3(word)),
         Expect::R6 => Answer::Reply(Reply::R6(word)),
         Expect::R7 => Answer::Reply(Reply::R7(word)),

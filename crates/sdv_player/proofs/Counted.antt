@@ -16,7 +16,7 @@ use Rattle.sdv_table.specs.Fits.{IsTable}
 use Rattle.sdv_player.specs.declared.next_step.Next.{Next}
 use Rattle.sdv_player.specs.declared.next_step.Next.TheVariants as nexts
 use Rattle.sdv_player.specs.declared.state.State.{State}
-use Rattle.sdv_player.specs.Play.{commands_of, commands_said, commands_told}
+use Rattle.sdv_player.specs.Play.{commands_of, moves_said, commands_said, commands_told}
 use Rattle.sdv_player.specs.Plays.{TellsOne, PlaysFromStart, PlaysAreCounted}
 
 -- AN EVENT counts as what it returns
@@ -51,11 +51,22 @@ one_off ws here next (nexts.Event event) p (returned, held, t, takes, off) enoug
     let asked = deed_alike event p.0 t.is in
     let answered = told_alike returned held p.1 t.tells in
     let returns = may_alike p.0 p.1 t.fits in
-    omega (arith, asked, answered, returns, off, enough)
+    let taken = off.commands in
+    omega (arith, asked, answered, returns, taken, enough)
 one_off ws here next nexts.Done p one enough = absurd one
 one_off ws here next (nexts.Fault name) p one enough = absurd one
 one_off ws here next nexts.Number p one enough = absurd one
 one_off ws here next nexts.Stopped p one enough = absurd one
+
+one_move : (ws : List ℕ) (here next : State) (said : Next) (p : Pair) → TellsOne ws here next said p → moves_said said ≤ here.moves →
+    1 + next.moves ≡ here.moves
+one_move ws here next (nexts.Event event) p (returned, held, t, takes, off) one_more =
+    let taken = off.move in
+    omega (arith, taken, one_more)
+one_move ws here next nexts.Done p one one_more = absurd one
+one_move ws here next (nexts.Fault name) p one one_more = absurd one
+one_move ws here next nexts.Number p one one_more = absurd one
+one_move ws here next nexts.Stopped p one one_more = absurd one
 
 -- PLAYS
 
@@ -63,15 +74,20 @@ pub plays_are_counted : PlaysAreCounted
 plays_are_counted ws [] s s' said (advances, keeps, stops) =
     let left = keeps.left in
     let enough = keeps.enough in
-    (omega (arith, left), omega (arith, enough))
+    let moves = keeps.moves in
+    let one_more = keeps.one_more in
+    record { left = omega (arith, left); asked = omega (arith, enough); events = omega (arith, moves, one_more) }
 plays_are_counted ws (p ∷ ps) s s' said (here, next, event, advances, keeps, stops, tells, plays) =
     let rest = plays_are_counted ws ps next s' said plays in
-    let all = rest.0 in
-    let last = rest.1 in
+    let all = rest.left in
+    let last = rest.asked in
+    let events = rest.events in
     let left = keeps.left in
+    let moves = keeps.moves in
     let enough : commands_said event ≤ here.commands = subst (λ n. commands_said event ≤ n) (sym left) keeps.enough in
     let one = one_off ws here next event p tells enough in
-    (omega (arith, all, left, one), omega (arith, last, left, one))
+    let move = one_move ws here next event p tells keeps.one_more in
+    record { left = omega (arith, all, left, one); asked = omega (arith, last, left, one); events = omega (arith, events, moves, move) }
 
 -- from the start of the run of a table
 pub counted_from_start : (g : Graph) (most : ℕ) (ws : List ℕ) (es : List Pair) (s' : State) (said : Next) → IsTable g most ws → IsSound g →
@@ -79,4 +95,4 @@ pub counted_from_start : (g : Graph) (most : ℕ) (ws : List ℕ) (es : List Pai
 counted_from_start g most ws es s' said table sound (s, starts, plays) =
     let first = (starts g most table sound).commands in
     let all = plays_are_counted ws es s s' said plays in
-    (subst (λ n. commands es + s'.commands ≡ n) first all.0, subst (λ n. commands es + commands_said said ≤ n) first all.1)
+    (subst (λ n. commands es + s'.commands ≡ n) first all.left, subst (λ n. commands es + commands_said said ≤ n) first all.asked)

@@ -1,11 +1,12 @@
 pub mod Alike
+pub mod AsHeard
 pub mod Begun
 pub mod Cases
 pub mod Counted
+pub mod NothingSaid
 pub mod Passed
 pub mod Heard
 pub mod Here
-pub mod Judged
 pub mod Onward
 pub mod RowsRead
 pub mod Silent

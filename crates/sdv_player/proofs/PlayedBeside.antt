@@ -9,7 +9,6 @@ use Rattle.sdv_card.specs.Step.{Step}
 use Rattle.sdv_card.specs.declared.event.Ask.{Ask}
 use Rattle.sdv_card.specs.Card.{Card}
 use Rattle.sdv_card.specs.Host.{Host, host_after}
-use Rattle.sdv_card.specs.Profile.{IsAtStart}
 use Rattle.sdv_card.specs.Expected.{Expected}
 use Rattle.sdv_card.specs.Laws.{SomeStep}
 use Rattle.sdv_card.specs.ScriptEvent.{ScriptEvent, SendCommand, ReceiveBlocks, ReceiveRegister, GiveBlocks, AwaitReady, Return, Answered, BlocksIn, RegisterIn, BlocksOut, Waited, MayReturn}
@@ -20,12 +19,12 @@ use Rattle.sdv_graph.specs.Graph.{Graph, begin}
 use Rattle.sdv_graph.specs.GraphOf.{IsSound}
 use Rattle.sdv_graph.proofs.Paths.{roll}
 use Rattle.sdv_facts.specs.Facts.{PointFacts}
-use Rattle.sdv_facts.specs.Beside.{StepsOf, IsAllowed, IsGood, commands, commands_in}
+use Rattle.sdv_facts.specs.Beside.{StepsOf, IsAllowed, IsGood, MayStart, commands, commands_in}
 use Rattle.sdv_facts.specs.Bounds.{bound_of}
 use Rattle.sdv_facts.specs.Stands.{IsMade}
 use Rattle.sdv_facts.specs.Closed.{Closed}
 use Rattle.sdv_facts.proofs.ArgumentLaws.{narrow}
-use Rattle.sdv_facts.proofs.Headline.{each_path, each_event}
+use Rattle.sdv_facts.proofs.Headline.{good_from, made_from}
 use Rattle.sdv_facts.proofs.StepLaws.{Laws, laws_of}
 use Rattle.sdv_run.specs.declared.fault.RunFault.TheVariants.{Reply}
 use Rattle.sdv_run.specs.declared.next_event.NextEvent.{NextEvent}
@@ -140,11 +139,11 @@ module _ (g : Graph) (s : Stand) (ask : Ask) (position argument : ℕ) (answer :
 
 module _ (g : Graph) (ps : List PointFacts) (laws : Laws g.kind) (sound : IsSound g) (closed : Closed g ps) where
   -- no argument is too wide beside a card
-  never_wide : (es : List Pair) (s : Stand) (c last : Card) → g.kind ≡ c.kind → IsAtStart c → StepsOf c es last →
+  never_wide : (es : List Pair) (s : Stand) (c last : Card) → g.kind ≡ c.kind → MayStart g.begins c → StepsOf c es last →
       LeadsBy g (begin g) es s → Wide g s → ⊥
   never_wide es s c last kind start steps leads wide =
       let event = SendCommand wide.ask wide.position wide.argument in
-      let made = each_event g ps laws sound closed c kind start Open (es ++ (event, Answered Sent) ∷ [])
+      let made = made_from g ps laws sound closed c kind start Open (es ++ (event, Answered Sent) ∷ [])
       (leads Open ((event, Answered Sent) ∷ []) wide.path) es event (Answered Sent) [] last refl steps in
       let small : wide.argument < 2 ^ 32 =
       narrow g.kind wide.ask wide.position wide.argument last made.host laws.asks_address made.fine made.honest.profile in
@@ -152,13 +151,13 @@ module _ (g : Graph) (ps : List PointFacts) (laws : Laws g.kind) (sound : IsSoun
       omega (arith, small, large)
 
   -- a card's answers are taken
-  never_refused : (es : List Pair) (s : Stand) (c last after : Card) → g.kind ≡ c.kind → IsAtStart c → StepsOf c es last → LeadsBy g (begin g) es s →
+  never_refused : (es : List Pair) (s : Stand) (c last after : Card) → g.kind ≡ c.kind → MayStart g.begins c → StepsOf c es last → LeadsBy g (begin g) es s →
       (ask : Ask) (position argument : ℕ) (answer : Answer) →
       Path g.kind g.points Open s ((SendCommand ask position argument, Answered answer) ∷ []) →
       Step (SendCommand ask position argument) last (Answered answer) after → is_taken g.kind ask answer ≡ false → ⊥
   never_refused es s c last after kind start steps leads ask position argument answer path step refused =
       let event = SendCommand ask position argument in
-      let made = each_event g ps laws sound closed c kind start Open (es ++ (event, Answered answer) ∷ [])
+      let made = made_from g ps laws sound closed c kind start Open (es ++ (event, Answered answer) ∷ [])
       (leads Open ((event, Answered answer) ∷ []) path) es event (Answered answer) [] last refl steps in
       let takes : is_taken g.kind ask answer ≡ true = taken g.kind laws ask position argument last answer after made step in
       let clash : true ≡ false = sym takes ∙ refused in
@@ -170,13 +169,13 @@ module _ (g : Graph) (ps : List PointFacts) (laws : Laws g.kind) (sound : IsSoun
       Path g.kind g.points Open s ((made, returned) ∷ []) → Path g.kind g.points Open (begin g) (es ++ (made, returned) ∷ [])
   comes es s leads made returned path = leads Open ((made, returned) ∷ []) path
 
-  is_made : (es : List Pair) (c last : Card) → g.kind ≡ c.kind → IsAtStart c → StepsOf c es last → (made : ScriptEvent) (returned : Return) →
+  is_made : (es : List Pair) (c last : Card) → g.kind ≡ c.kind → MayStart g.begins c → StepsOf c es last → (made : ScriptEvent) (returned : Return) →
       Path g.kind g.points Open (begin g) (es ++ (made, returned) ∷ []) → IsMade g.kind made last
   is_made es c last kind start steps made returned path =
-      each_event g ps laws sound closed c kind start Open (es ++ (made, returned) ∷ []) path es made returned [] last refl steps
+      made_from g ps laws sound closed c kind start Open (es ++ (made, returned) ∷ []) path es made returned [] last refl steps
 
   -- it is one more command, or none
-  counted : (es : List Pair) (c last : Card) → g.kind ≡ c.kind → IsAtStart c → StepsOf c es last → (made : ScriptEvent) → IsMade g.kind made last →
+  counted : (es : List Pair) (c last : Card) → g.kind ≡ c.kind → MayStart g.begins c → StepsOf c es last → (made : ScriptEvent) → IsMade g.kind made last →
       ((returned : Return) → MayReturn made returned → Path g.kind g.points Open (begin g) (es ++ (made, returned) ∷ [])) →
       commands es + commands_in made ≤ bound_of g ps
   counted es c last kind start steps made is path =
@@ -184,11 +183,11 @@ module _ (g : Graph) (ps : List PointFacts) (laws : Laws g.kind) (sound : IsSoun
       let may : MayReturn made step.returned =
       may_return g.kind made step.returned (laws.steps_are_expected made last step.returned step.after is.honest.pair.kind step.step) in
       let all : List Pair = es ++ (made, step.returned) ∷ [] in
-      let good = (each_path g ps laws sound closed).good c kind start Open all (path step.returned may) in
+      let good = good_from g ps laws sound closed c kind start Open all (path step.returned may) in
       subst (λ n. n ≤ bound_of g ps) (commands_more es made step.returned)
       (good.sent step.after (steps_more es c last step.after made step.returned steps step.step))
 
-  next_is_good : (es : List Pair) (s : Stand) (c last : Card) → g.kind ≡ c.kind → IsAtStart c → StepsOf c es last → LeadsBy g (begin g) es s →
+  next_is_good : (es : List Pair) (s : Stand) (c last : Card) → g.kind ≡ c.kind → MayStart g.begins c → StepsOf c es last → LeadsBy g (begin g) es s →
       (event : NextEvent) (made : ScriptEvent) (m : Move) → AsksFor m (Ok (Some event)) → move_from g.kind g.points s ≡ m → IsDeed (deed_of event) made →
       IsAllowed made last × (commands es + commands_in made ≤ bound_of g ps)
   next_is_good es s c last kind start steps leads event made m asks at is =
@@ -218,7 +217,7 @@ plays_are_good script certificate a ws es s said c last accepted table played ki
     let all = from_start g a.bound ws es s said table sound played in
     let m = run_of g s all.registers in
     let good : IsGood a.bound run.last es c =
-    subst (λ n. IsGood n run.last es c) (sym accepted.bound) ((each_path g ps laws sound accepted.closed).good c kind start run.last es run.walk.path) in
+    subst (λ n. IsGood n run.last es c) (sym accepted.bound) (good_from g ps laws sound accepted.closed c kind start run.last es run.walk.path) in
     record {
       end = run.last;
       how = run.how;

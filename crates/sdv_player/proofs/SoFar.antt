@@ -1,14 +1,15 @@
 -- What a player over a port has done so far.
-use Rattle.std.proofs.Common.{ℕ, List, [], ◌∷◌, ◌++◌, true, false, Err, refl, sym, ap, ◌∙◌, subst, append_assoc}
+use Rattle.std.proofs.Common.{◌≡◌, ℕ, List, [], ◌∷◌, ◌++◌, true, false, Err, refl, sym, ap, ◌∙◌, subst, append_assoc}
 use Rattle.std.proofs.lemmas.List.{append-nil}
 use Rattle.sdv_registers.specs.declared.kind.Kind.{Kind}
 use Rattle.sdv_card.specs.Card.{Block}
+use Rattle.sdv_card.specs.Damage.{counts_as}
 use Rattle.sdv_graph.specs.Walk.{Pair, given_by, given}
 use Rattle.sdv_run.specs.declared.fault.RunFault.{RunFault}
 use Rattle.sdv_run.specs.declared.fault.RunFault.TheVariants.{Reply, Input, Output, Trace, Memory}
 use Rattle.sdv_run.specs.declared.next_event.NextEvent.{NextEvent}
 use Rattle.sdv_run.specs.declared.returned.Returned.{Returned}
-use Rattle.sdv_run.specs.Asks.{CanPerform}
+use Rattle.sdv_run.specs.Asks.{deed_of, CanPerform}
 use Rattle.sdv_run.specs.Performs.{Source, Performed, Performs, IsShort}
 use Rattle.sdv_run.specs.Run.{Steps}
 use Rattle.sdv_run.proofs.Made.{moved_more, given_more}
@@ -16,15 +17,16 @@ use Rattle.sdv_player.specs.declared.next_step.Next.{Next}
 use Rattle.sdv_player.specs.declared.next_step.Next.TheVariants as nexts
 use Rattle.sdv_player.specs.declared.state.State.{State}
 use Rattle.sdv_player.specs.OverPort.{Made, Played, NotMade, WasRefused, PlaysOver}
-use Rattle.sdv_player.specs.Play.{Advances, Keeps, Stops, Takes, TakesOff}
-use Rattle.sdv_player.specs.Plays.{Plays}
+use Rattle.sdv_player.specs.Play.{IsStopped, Advances, Keeps, Stops, Takes, TakesOff, as_heard}
+use Rattle.sdv_player.specs.Plays.{heard_in, Plays}
+use Rattle.sdv_player.proofs.AsHeard.{heard_more, told_heard}
 
 module _ {S : Type 0} (k : Kind) (steps : Steps S) (words : List ℕ) (s₀ : State) (from : Source S) where
   -- what is played from here on comes after these events
   pub record SoFar (s : State) (to : Source S) : Type 0 where
     pub events : List Pair
     pub made : Made k steps events from to
-    pub plays : (rest : List Pair) (s' : State) (said : Next) → Plays words s rest s' said → Plays words s₀ (events ++ rest) s' said
+    pub plays : (rest : List Pair) (s' : State) (said : Next) → Plays words s rest s' said → Plays words s₀ (heard_in events ++ rest) s' said
 
   -- an event more was made
   pub made_more : (es : List Pair) (u v : Source S) (event : NextEvent) (held : List Block) (returned : Returned) → Made k steps es from u →
@@ -42,30 +44,34 @@ module _ {S : Type 0} (k : Kind) (steps : Steps S) (words : List ℕ) (s₀ : St
   says s s' to said so advances keeps stops = record {
     events = so.events;
     made = so.made;
-    plays = subst (λ es. Plays words s₀ es s' said) (append-nil so.events) (so.plays [] s' said (advances, keeps, stops));
+    plays = subst (λ es. Plays words s₀ es s' said) (append-nil (heard_in so.events)) (so.plays [] s' said (advances, keeps, stops));
   }
 
   -- it went on by the event that it said
   pub more : (s here next : State) (u v : Source S) (event : NextEvent) (held : List Block) (returned : Returned) → SoFar s u →
       Advances words s here (nexts.Event event) → Keeps s here (nexts.Event event) → Stops s here (nexts.Event event) →
       Performed k steps event u v held returned →
-      Takes words here next returned true → TakesOff here next returned → SoFar next v
+      Takes words here next (as_heard returned) true → TakesOff here next (as_heard returned) → SoFar next v
   more s here next u v event held returned so advances keeps stops p takes off = record {
     events = so.events ++ (p.event, p.seen) ∷ [];
     made = made_more so.events u v event held returned so.made p;
     plays = λ rest s' said played.
-        subst (λ es. Plays words s₀ es s' said) (sym (append_assoc so.events ((p.event, p.seen) ∷ []) rest))
-        (so.plays ((p.event, p.seen) ∷ rest) s' said
-        (here, next, nexts.Event event, advances, keeps, stops, (returned, held, p.told, takes, off), played));
+        let last : Pair = (p.event, counts_as p.seen) in
+        let whole : heard_in (so.events ++ (p.event, p.seen) ∷ []) ++ rest ≡ heard_in so.events ++ last ∷ rest =
+        ap (λ l. l ++ rest) (heard_more so.events ((p.event, p.seen) ∷ [])) ∙ append_assoc (heard_in so.events) (last ∷ []) rest in
+        let t = told_heard (deed_of event) returned held p.event p.seen p.told in
+        subst (λ es. Plays words s₀ es s' said) (sym whole)
+        (so.plays (last ∷ rest) s' said
+        (here, next, nexts.Event event, advances, keeps, stops, (as_heard returned, held, t, takes, off), played));
   }
 
   -- or does not go on with what it returned
   pub refused : (s here next : State) (u v : Source S) (event : NextEvent) (held : List Block) (returned : Returned) → SoFar s u →
       Advances words s here (nexts.Event event) → Keeps s here (nexts.Event event) → Stops s here (nexts.Event event) →
       Performed k steps event u v held returned →
-      Takes words here next returned false → WasRefused k steps words s₀ next from v
+      Takes words here next (as_heard returned) false → IsStopped next → WasRefused k steps words s₀ next from v
   unfolding says
-  refused s here next u v event held returned so advances keeps stops p takes = record {
+  refused s here next u v event held returned so advances keeps stops p takes stopped = record {
     events = so.events;
     last = (p.event, p.seen);
     made = made_more so.events u v event held returned so.made p;
@@ -76,6 +82,7 @@ module _ {S : Type 0} (k : Kind) (steps : Steps S) (words : List ℕ) (s₀ : St
     held = held;
     told = p.told;
     refused = takes;
+    stopped = stopped;
   }
 
   -- it says an event that cannot be made

@@ -8,7 +8,7 @@ use Rattle.sdv_registers.specs.Csd.{fault}
 use Rattle.sdv_registers.specs.Status.{is_app_cmd}
 use Rattle.sdv_card.specs.declared.event.Ask.{Ask}
 use Rattle.sdv_card.specs.declared.answer.Answer.{Answer}
-use Rattle.sdv_card.specs.declared.answer.Answer.TheVariants.{Reply}
+use Rattle.sdv_card.specs.declared.answer.Answer.TheVariants.{TimeOut, Reply, Damaged}
 use Rattle.sdv_card.specs.Expected.{is_of_kind}
 use Rattle.sdv_graph.specs.declared.tree.Phase.{Phase}
 use Rattle.sdv_graph.specs.declared.tree.Phase.TheVariants as phases
@@ -16,6 +16,11 @@ use Rattle.sdv_graph.specs.Path.{Action, sends}
 use Rattle.sdv_table.specs.declared.sending.Sending.{Sending}
 use Rattle.sdv_table.specs.Sending.{csd_by}
 use Rattle.sdv_player.specs.Seen.{Registers}
+
+-- A DAMAGED ANSWER IS A LOST ONE: bytes that are no response of the format that was waited for are none in time
+abbrev pub heard : Answer → Answer
+heard (Damaged fault) = TimeOut
+heard answer = answer
 
 -- an R2 to CMD9 has a CSD that can be read
 abbrev pub is_csd : Kind → Answer → Bool

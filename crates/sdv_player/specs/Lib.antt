@@ -1,6 +1,5 @@
 pub mod Asking
 pub mod Hearing
-pub mod Judging
 pub mod OverPort
 pub mod Passing
 pub mod Play

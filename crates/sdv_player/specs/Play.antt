@@ -24,7 +24,7 @@ use Rattle.sdv_player.specs.declared.next_step.Next.{Next}
 use Rattle.sdv_player.specs.declared.next_step.Next.TheVariants as nexts
 use Rattle.sdv_player.specs.declared.state.State.{State}
 use Rattle.sdv_player.specs.Seen.{Registers, no_registers, nowhere}
-use Rattle.sdv_player.specs.Hearing.{is_app_taken}
+use Rattle.sdv_player.specs.Hearing.{heard, is_app_taken}
 use Rattle.sdv_player.specs.Passing.{EndsAs}
 use Rattle.sdv_player.specs.StandsFor.{run_of, StandsFor}
 
@@ -51,7 +51,12 @@ pub record Begins (g : Graph) (most : ℕ) (words : List ℕ) (s : State) : Type
 abbrev pub Starts : List ℕ → State → Type 0
 Starts words s = (g : Graph) (most : ℕ) → IsTable g most words → IsSound g → Begins g most words s
 
--- COMMANDS, whatever the words are
+-- MOVES AND COMMANDS, whatever the words are
+
+-- each event is a move
+abbrev pub moves_said : Next → ℕ
+moves_said (nexts.Event event) = 1
+moves_said end = 0
 
 -- each command counts; phases and waits do not
 abbrev pub commands_of : NextEvent → ℕ
@@ -66,14 +71,18 @@ abbrev pub commands_told : Returned → ℕ
 commands_told (told.Answered answer) = 1
 commands_told returned = 0
 
--- one is left for a command that is said, and none is taken off before its answer
 pub record Keeps (s s' : State) (said : Next) : Type 0 where
+  -- no more moves are made than are left, and one is left for an event that is said
+  pub moves : s'.moves ≤ s.moves
+  pub one_more : moves_said said ≤ s'.moves
+  -- one is left for a command that is said, and none is taken off before its answer
   pub left : s'.commands ≡ s.commands
   pub enough : commands_said said ≤ s.commands
 
--- it is taken off with its answer
-abbrev pub TakesOff : (s s' : State) → Returned → Type 0
-TakesOff s s' returned = s'.commands ≡ s.commands - commands_told returned
+-- a move is taken off with what an event returned, and a command with its answer
+pub record TakesOff (s s' : State) (returned : Returned) : Type 0 where
+  pub move : s'.moves ≡ s.moves - 1
+  pub commands : s'.commands ≡ s.commands - commands_told returned
 
 -- APPLICATION COMMANDS, whatever the words are
 
@@ -89,6 +98,11 @@ NotesApp words s s' returned taken = s'.app ≡ s.app
 -- where no move is left the run stops, and stands where it stood, whatever the words are
 abbrev pub Stops : (s s' : State) → Next → Type 0
 Stops s s' said = s.moves ≡ 0 → (said ≡ nexts.Stopped) × (s' ≡ s)
+
+-- the run is over, or stopped: no event is still to be made
+abbrev pub HasEnded : Next → Type 0
+HasEnded (nexts.Event event) = ⊥
+HasEnded end = Unit {0}
 
 -- the run ends where it stands, and so
 pub record Ends (m : Machine) (end : Next) : Type 0 where
@@ -124,6 +138,11 @@ abbrev pub Advances : List ℕ → (s s' : State) → Next → Type 0
 Advances words s s' result = (g : Graph) (r : Registers) → StandsFor g words s r → GoesTo g words s s' r result
 
 -- ANSWER AND ENDED
+
+-- what an event returned, as the player hears it
+abbrev pub as_heard : Returned → Returned
+as_heard (told.Answered answer) = told.Answered (heard answer)
+as_heard returned = returned
 
 -- it went on by the event, as the run does that is told this
 pub record GoesOn (g : Graph) (words : List ℕ) (s s' : State) (r : Registers) (returned : Returned) : Type 0 where

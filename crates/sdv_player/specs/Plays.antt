@@ -3,13 +3,13 @@ use Rattle.std.specs.Prelude.{◌≡◌, ◌+◌, ◌≤◌, ℕ, List, [], ◌�
 use Rattle.sdv_card.specs.declared.answer.Answer.{Answer}
 use Rattle.sdv_card.specs.declared.event.Ask.{Ask}
 use Rattle.sdv_card.specs.Card.{Card, Block}
-use Rattle.sdv_card.specs.Profile.{IsAtStart}
+use Rattle.sdv_card.specs.Damage.{counts_as}
 use Rattle.sdv_card.specs.ScriptEvent.{ScriptEvent, SendCommand, GiveBlocks, Return, Answered}
 use Rattle.sdv_card.specs.Step.{Step}
 use Rattle.sdv_graph.specs.Walk.{Pair, Ending, Open, Deed, IsDeed, exactly, giving}
 use Rattle.sdv_graph.specs.Graph.{Graph}
 use Rattle.sdv_graph.specs.GraphOf.{IsSound}
-use Rattle.sdv_facts.specs.Beside.{StepsOf, IsAllowed, commands, commands_in, IsOver, EndsWell, IsGood}
+use Rattle.sdv_facts.specs.Beside.{StepsOf, IsAllowed, commands, commands_in, IsOver, EndsWell, IsGood, MayStart}
 use Rattle.sdv_check.specs.Verified.{Acceptance, IsAccepted}
 use Rattle.sdv_run.specs.declared.next_event.NextEvent.{NextEvent}
 use Rattle.sdv_run.specs.declared.next_event.NextEvent.TheVariants as events
@@ -23,18 +23,22 @@ use Rattle.sdv_player.specs.declared.next_step.Next.{Next}
 use Rattle.sdv_player.specs.declared.next_step.Next.TheVariants as nexts
 use Rattle.sdv_player.specs.declared.state.State.{State}
 use Rattle.sdv_player.specs.Passing.{EndsAs}
-use Rattle.sdv_player.specs.Play.{Starts, Advances, Keeps, Stops, Takes, TakesOff, commands_said}
+use Rattle.sdv_player.specs.Play.{Starts, Advances, Keeps, Stops, Takes, TakesOff, moves_said, commands_said}
 
 -- THE CALLS, each as its contract says
 
--- it said an event, and was told what that returned
+-- the events, each with what the player heard of what it returned: a damaged answer counts as a lost one
+abbrev pub heard_in : List Pair → List Pair
+heard_in es = map (λ p. (p.0, counts_as p.1)) es
+
+-- it said an event, and heard what that returned
 abbrev pub TellsOne : List ℕ → (here next : State) → Next → Pair → Type 0
 TellsOne words here next (nexts.Event event) p =
     (returned : Returned) × (held : List Block) × Told (deed_of event) returned held p.0 p.1
     × Takes words here next returned true × TakesOff here next returned
 TellsOne words here next end p = ⊥
 
--- it was asked, and told what these events returned, in turn; asked once more, it said this
+-- it was asked, and heard what these events returned, in turn; asked once more, it said this
 abbrev pub Plays : List ℕ → State → List Pair → State → Next → Type 0
 Plays words s [] s' said = Advances words s s' said × Keeps s s' said × Stops s s' said
 Plays words s (p ∷ ps) s' said =
@@ -53,14 +57,18 @@ IsEnding (nexts.Event event) last = last ≡ Open
 IsEnding nexts.Stopped last = last ≡ Open
 IsEnding end last = EndsAs end last
 
--- Whatever the words, the state and the answers are, no more commands are asked for than the state has left: those that were
--- answered are taken off, and one is left for the command that was said last.
+-- Whatever the words, the state and the answers are, no more commands are asked for than the state has left, and no more events
+-- than it has moves left: those that returned are taken off, and one is left for the event that was said last.
+pub record AreCounted (s s' : State) (es : List Pair) (said : Next) : Type 0 where
+  pub left : commands es + s'.commands ≡ s.commands
+  pub asked : commands es + commands_said said ≤ s.commands
+  pub events : length es + moves_said said ≤ s.moves
+
 abbrev pub PlaysAreCounted : Type 0
 PlaysAreCounted =
-    (words : List ℕ) (es : List Pair) (s s' : State) (said : Next) → Plays words s es s' said
-    → (commands es + s'.commands ≡ s.commands) × (commands es + commands_said said ≤ s.commands)
+    (words : List ℕ) (es : List Pair) (s s' : State) (said : Next) → Plays words s es s' said → AreCounted s s' es said
 
--- The events, each with what it returned, are a path of the graph, and so a walk of its script, which ends so. No more commands
+-- The events, each with what was heard of it, are a path of the graph, and so a walk of its script, which ends so. No more commands
 -- were asked for than this, the one counted that was said last.
 pub record IsRun (g : Graph) (most : ℕ) (es : List Pair) (said : Next) : Type 0 where
   pub last : Ending
@@ -97,7 +105,7 @@ abbrev pub PlaysAreGood : Type 0
 PlaysAreGood =
     (script certificate : List ℕ) (a : Acceptance) (words : List ℕ) (es : List Pair) (s : State) (said : Next)
     (c last : Card) → IsAccepted script certificate a → IsTable a.graph a.bound words → PlaysFromStart words es s said
-    → a.graph.kind ≡ c.kind → IsAtStart c → StepsOf c es last → IsGoodRun words a.bound es s said c last
+    → a.graph.kind ≡ c.kind → MayStart a.graph.begins c → StepsOf c es last → IsGoodRun words a.bound es s said c last
 
 -- LIKE ANY RUN of the script that sends no more commands than the table says: while the events return the same, they are the
 -- same, whichever blocks are given; then the player says the run's next event, or the same end. So the player and the runner

@@ -3,7 +3,7 @@
 ghost use Rattle.std.specs.Prelude.{◌≡◌, true};
 ghost use Rattle.sdv_table.specs.Sending.{rca_by, announced_from, length_from, host_by};
 ghost use Rattle.sdv_player.specs.Seen.{Registers, Remembers, kind_of, host_of};
-ghost use Rattle.sdv_player.specs.Hearing.{is_heard, is_readable, registers_after, bytes_of, registers_kept, registers_ended};
+ghost use Rattle.sdv_player.specs.Hearing.{heard, is_heard, is_readable, registers_after, bytes_of, registers_kept, registers_ended};
 
 use crate::host::HostNumbers;
 use sdv_card::{Answer, Ask};
@@ -11,6 +11,16 @@ use sdv_frames::{Expect, Reply};
 use sdv_graph::Phase;
 use sdv_registers::{Csd, ExtCsd, PublishedRca};
 use sdv_table::{Data, Sending};
+
+/// What a player hears of an answer: a damaged one is a lost one.
+pub fn heard(answer: &Answer) -> Answer
+    ensures { result ≡ heard answer.now }
+{
+    match answer {
+        Answer::Damaged(_) => Answer::TimeOut,
+        whole => *whole,
+    }
+}
 
 /// The relative card address after a command.
 fn rca_after(index: u8, expect: Expect, answer: &Answer, rca: u16) -> u16

@@ -2,13 +2,13 @@
 
 ghost use Rattle.sdv_player.specs.Plays.{PlaysAreCounted, PlaysAreWalks, PlaysAreGood, PlaysAreAlike};
 
-/// Whatever the words, the state and the answers are, no more commands are asked for than the state has left: each that was
-/// answered is taken off, and one is left for the command that was just said.
+/// Whatever the words, the state and the answers are, no more commands are asked for than the state has left, and no more events
+/// than it has moves left: each that returned is taken off, and one is left for the event that was just said.
 pub fn plays_are_counted()
     ensures { PlaysAreCounted }
 {}
 
-/// The events that a player said from the start of a table, each with what it was told that it returned, are a path of
+/// The events that a player said from the start of a table, each with what it heard that it returned, are a path of
 /// the table's graph, and so a walk of its script. It ends as the player says. At most as many commands were asked for as the
 /// table says, whatever came of them.
 pub fn plays_are_walks()

@@ -4,7 +4,7 @@ ghost use Rattle.std.specs.Prelude.{◌≡◌, IfErr, IfSome, OnErr};
 ghost use Rattle.sdv_table.specs.Reading.{seen_row};
 ghost use Rattle.sdv_player.specs.Seen.{Registers, Remembers};
 ghost use Rattle.sdv_player.specs.Passing.{StepsBy, PassesBy};
-ghost use Rattle.sdv_player.specs.Play.{commands_said};
+ghost use Rattle.sdv_player.specs.Play.{HasEnded};
 
 use crate::next_step::Next;
 use crate::state::State;
@@ -15,7 +15,7 @@ use sdv_table::Row;
 fn step<'a>(row: Row<'a>, state: &mut State) -> Result<Target, Next<'a>>
     ensures steps { StepsBy (seen_row row.entry) state.old state.new result }
     ensures stays { OnErr result (state.new ≡ state.old) }
-    ensures silent { IfErr result (λ end. commands_said end ≡ 0) }
+    ensures ended { IfErr result HasEnded }
     ensures remembers { (r : Registers) → Remembers state.old.host r → Remembers state.new.host r }
     ensures kind { state.new.host.kind ≡ state.old.host.kind }
     ensures moves { state.new.moves ≡ state.old.moves }
@@ -65,7 +65,7 @@ fn step<'a>(row: Row<'a>, state: &mut State) -> Result<Target, Next<'a>>
 pub fn pass<'a>(row: Row<'a>, state: &mut State) -> Option<Next<'a>>
     ensures passes { PassesBy (seen_row row.entry) state.old state.new result }
     ensures stays { IfSome result (λ _. state.new ≡ state.old) }
-    ensures silent { IfSome result (λ end. commands_said end ≡ 0) }
+    ensures ended { IfSome result HasEnded }
     ensures remembers { (r : Registers) → Remembers state.old.host r → Remembers state.new.host r }
     ensures kind { state.new.host.kind ≡ state.old.host.kind }
     ensures moves { state.new.moves ≡ state.old.moves }

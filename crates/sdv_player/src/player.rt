@@ -1,15 +1,16 @@
 //! The calls of a player.
 
-ghost use Rattle.std.specs.Prelude.{◌≡◌, ◌<◌, ◌≤◌, ◌⊎◌, ◌-◌, [], true, false};
+ghost use Rattle.std.specs.Prelude.{◌≡◌, ◌<◌, ◌≤◌, ◌-◌, [], true, false};
 ghost use Rattle.sdv_card.specs.Profile.{host_at_start};
 ghost use Rattle.sdv_run.specs.declared.returned.Returned.{Returned};
 ghost use Rattle.sdv_run.specs.declared.returned.Returned.TheVariants.{Answered};
 ghost use Rattle.sdv_player.specs.declared.next_step.Next.TheVariants.{Stopped};
 ghost use Rattle.sdv_player.specs.Seen.{Gone, Remembers, no_registers, turns_of, host_of, nowhere};
-ghost use Rattle.sdv_player.specs.Hearing.{has_app, bytes_of};
+ghost use Rattle.sdv_player.specs.Hearing.{heard, has_app, bytes_of};
 ghost use Rattle.sdv_table.specs.Reading.{commands_read};
-ghost use Rattle.sdv_player.specs.Play.{commands_of, has_header, IsStopped, Starts, Advances, Keeps, Stops, Takes, NotesApp, IsEnd};
+ghost use Rattle.sdv_player.specs.Play.{commands_of, has_header, IsStopped, Starts, Advances, Keeps, Stops, IsAsked, Takes, NotesApp, IsEnd};
 
+use crate::answering::heard;
 use crate::asking::ask;
 use crate::guards::way;
 use crate::host::HostNumbers;
@@ -44,6 +45,19 @@ impl State {
             asked: 0,
             app: 0,
         }
+    }
+
+    /// The run goes on no more.
+    fn stop(&mut self)
+        ensures stopped { IsStopped self.new }
+        ensures app { self.new.app ≡ self.old.app }
+    {
+        *self = State {
+            moves: 0,
+            place: Place::nowhere(),
+            asked: 0,
+            ..*self
+        };
     }
 
     /// Goes on to a target, by the event that was asked for.
@@ -106,12 +120,13 @@ fn is_left(event: &NextEvent, commands: u64) -> bool
 /// The event that the run makes next, or its end. Asked again, it answers the same. It stops at a command where none is
 /// left.
 ///
-/// Any words may be played, with any state: the run ends within the moves that the state allows, and asks for no more commands
-/// than it has left.
+/// Any words may be played, with any state: it makes at most as many moves as the state has left, so the run ends, and asks for no
+/// more commands than are left.
 pub fn next<'a>(words: &'a [u32], state: &mut State) -> Next<'a>
     ensures advances { Advances words.now state.old state.new result }
     ensures keeps { Keeps state.old state.new result }
     ensures stopped { Stops state.old state.new result }
+    ensures asked { IsAsked result state.new.asked }
     ensures nowhere { state.old.place.point ≡ nowhere → (result ≡ Stopped) × (state.new ≡ state.old) }
     ensures kind { state.new.host.kind ≡ state.old.host.kind }
     ensures app { state.new.app ≡ state.old.app }
@@ -143,36 +158,37 @@ pub fn next<'a>(words: &'a [u32], state: &mut State) -> Next<'a>
     Next::Stopped
 }
 
-/// Goes on by what came of the command that was asked for, and takes that command off.
+/// Goes on by what came of the command that was asked for, and takes that command off. A damaged answer is a lost one: it
+/// does what a time-out does.
 ///
-/// False where no command was asked for: the run stands where it stood. False too for an answer that a run does not go
-/// on with: the run stops.
+/// False where no event was asked for: the run stands where it stood. False too for an answer that a run does not go on
+/// with, and where the event was no command: the run stops.
 pub fn answer(words: &[u32], state: &mut State, answer: &Answer) -> bool
-    ensures takes { Takes words.now state.old state.new (Answered answer.now) result }
+    ensures takes { Takes words.now state.old state.new (Answered (heard answer.now)) result }
     ensures unasked { state.old.asked ≡ 0 → (result ≡ false) × (state.new ≡ state.old) }
     ensures once { result ≡ true → state.new.asked ≡ 0 }
     ensures counted { result ≡ true → state.new.moves ≡ state.old.moves - 1 }
     ensures commands { result ≡ true → state.new.commands ≡ state.old.commands - 1 }
-    ensures refused { result ≡ false → (state.new ≡ state.old) ⊎ IsStopped state.new }
+    ensures refused { result ≡ false → (state.old.asked ≡ 0 → ⊥) → IsStopped state.new }
     ensures kind { result ≡ true → state.new.host.kind ≡ state.old.host.kind }
-    ensures app { NotesApp words.now state.old state.new (Answered answer.now) result }
+    ensures app { NotesApp words.now state.old state.new (Answered (heard answer.now)) result }
 {
     let point = state.place.point;
     if state.asked == 0 {
         return false;
     }
     let Some(row) = command_at(words, point) else {
+        state.stop();
         return false;
     };
-    if !state.host.hear(row.ask, sending_at(words, point), answer) {
-        state.moves = 0;
-        state.place = Place::nowhere();
-        state.asked = 0;
+    let came = heard(answer);
+    if !state.host.hear(row.ask, sending_at(words, point), &came) {
+        state.stop();
         return false;
     }
-    state.app = u32::from(row.ask.index == 55 && is_app(answer));
+    state.app = u32::from(row.ask.index == 55 && is_app(&came));
     state.commands = state.commands.saturating_sub(1);
-    let target = way(state.host.kind(), row.cases, row.other, answer);
+    let target = way(state.host.kind(), row.cases, row.other, &came);
     state.go_on(target);
     true
 }
@@ -189,7 +205,8 @@ fn is_app(answer: &Answer) -> bool
 
 /// Goes on by how the phase or the wait ended that was asked for, with the bytes of an EXT_CSD that came well.
 ///
-/// False where none was asked for: the run stands where it stood.
+/// False where no event was asked for: the run stands where it stood. False too where the event was a command: the run
+/// stops.
 pub fn ended(words: &[u32], state: &mut State, well: bool, register: Option<&[u8; 512]>) -> bool
     ensures takes { (returned : Returned)
         → IsEnd returned state.old.host.register_length well (bytes_of register.entry)
@@ -198,7 +215,7 @@ pub fn ended(words: &[u32], state: &mut State, well: bool, register: Option<&[u8
     ensures once { result ≡ true → state.new.asked ≡ 0 }
     ensures counted { result ≡ true → state.new.moves ≡ state.old.moves - 1 }
     ensures commands { result ≡ true → state.new.commands ≡ state.old.commands }
-    ensures refused { result ≡ false → state.new ≡ state.old }
+    ensures refused { result ≡ false → (state.old.asked ≡ 0 → ⊥) → IsStopped state.new }
     ensures kind { result ≡ true → state.new.host.kind ≡ state.old.host.kind }
     ensures app { state.new.app ≡ state.old.app }
 {
@@ -206,6 +223,7 @@ pub fn ended(words: &[u32], state: &mut State, well: bool, register: Option<&[u8
         return false;
     }
     let Some(row) = phase_at(words, state.place.point) else {
+        state.stop();
         return false;
     };
     state.host.hear_end(row.phase, well, register);

@@ -8,7 +8,7 @@ returns-then-all_pass c =
     let a = Answered c.args.answer.now in
     let left : c.args.cases.count - c.loop.counter ≡ suc (c.args.cases.count - (c.loop.counter + 1)) = omega (arith, c.loop-test.true) in
     let more = one_case c.args.kind a (c.args.cases.count - c.loop.counter) (c.args.cases.count - (c.loop.counter + 1)) c.loop.rest.now c.args.other left in
-    let passed = c.all_pass.ensures c.args.kind a c.judge-verdicts.ensures in
+    let passed = c.all_pass.ensures in
     search (rules, more, c.loop.invariant, passed, c.word.ensures, c.word-then-all_pass.ensures, c.target_of.ensures, c.if-all_pass.true)
 
 pub loop-preserved : goal.loop-preserved
@@ -16,5 +16,5 @@ loop-preserved c =
     let a = Answered c.args.answer.now in
     let left : c.args.cases.count - c.loop.counter ≡ suc (c.args.cases.count - (c.loop.counter + 1)) = omega (arith, c.loop-test.true) in
     let more = one_case c.args.kind a (c.args.cases.count - c.loop.counter) (c.args.cases.count - (c.loop.counter + 1)) c.loop.rest.now c.args.other left in
-    let passed = c.all_pass.ensures c.args.kind a c.judge-verdicts.ensures in
+    let passed = c.all_pass.ensures in
     search (rules, more, c.loop.invariant, passed, c.word.ensures, c.from_place-rest.ensures, c.if-all_pass.false)

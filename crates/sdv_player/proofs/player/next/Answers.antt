@@ -2,8 +2,8 @@ use Rattle.std.proofs.Common.{◌≡◌, ◌∙◌, Some, None, Ok, false, arith
 use Rattle.sdv_table.specs.Reading.{seen_row}
 use Rattle.sdv_run.specs.Asks.{AsksFor}
 use Rattle.sdv_run.specs.Machine.{now}
-use Rattle.sdv_player.specs.Play.{commands_said}
 use Rattle.sdv_player.specs.StandsFor.{run_of}
+use Rattle.sdv_player.proofs.NothingSaid.{no_command_said, no_move_said, none_asked}
 use Rattle.sdv_player.proofs.Here.{Reads, some_row, asks_here}
 use Rattle.sdv_player.proofs.Silent.{says_event, says_no_more, says_stopped, says_ended, passed_on}
 use Rattle.sdv_player.proofs.Within.{row_within, at_row}
@@ -51,8 +51,21 @@ returns-then-not-is_left-clause-advances c = λ g r stands.
 
 pub returns-in-Some-pass-clause-keeps : goal.returns-in-Some-pass-clause-keeps
 returns-in-Some-pass-clause-keeps c =
-    let silent : commands_said c.in-Some-pass.end ≡ 0 = rw c.in-Some-pass.is at c.pass.ensures.silent in
-    record { left = c.pass.ensures.commands ∙ c.loop.invariant.commands; enough = omega (arith, silent) }
+    let end = c.in-Some-pass.end in
+    let ended = rw c.in-Some-pass.is at c.pass.ensures.ended in
+    let no_command = no_command_said end ended in
+    let no_move = no_move_said end ended in
+    let same = c.pass.ensures.moves in
+    let few = c.loop.invariant.few in
+    record {
+      moves = omega (arith, same, few);
+      one_more = omega (arith, no_move);
+      left = c.pass.ensures.commands ∙ c.loop.invariant.commands;
+      enough = omega (arith, no_command);
+    }
+
+pub returns-in-Some-pass-clause-asked : goal.returns-in-Some-pass-clause-asked
+returns-in-Some-pass-clause-asked c = none_asked c.in-Some-pass.end c.pass.new.state.asked (rw c.in-Some-pass.is at c.pass.ensures.ended)
 
 pub returns-in-Some-pass-clause-advances : goal.returns-in-Some-pass-clause-advances
 returns-in-Some-pass-clause-advances c = λ g r stands.
@@ -74,6 +87,7 @@ loop-preserved c =
     let passes = rw c.in_default-pass.is at c.pass.ensures.passes in
     record {
       moves = omega (arith, c.pass.ensures.moves, c.loop.invariant.moves);
+      few = omega (arith, c.pass.ensures.moves, c.loop.invariant.few);
       kind = c.pass.ensures.kind ∙ c.loop.invariant.kind;
       app = c.pass.ensures.app ∙ c.loop.invariant.app;
       commands = c.pass.ensures.commands ∙ c.loop.invariant.commands;

@@ -1,4 +1,4 @@
-use Rattle.std.proofs.Common.{◌≡◌, ◌-◌}
+use Rattle.std.proofs.Common.{◌≡◌, ◌≤◌, ◌-◌}
 use Rattle.sdv_graph.specs.Graph.{Graph}
 use Rattle.sdv_player.specs.Seen.{Registers, nowhere}
 use Rattle.sdv_player.specs.StandsFor.{StandsFor}
@@ -9,6 +9,7 @@ use Rattle.sdv_player.proofs.player.next.Given as goal
 abbrev pub invariant-loop : goal.invariant-loop
 invariant-loop l = record {
   moves : l.state.moves ≡ l.end - l.counter;
+  few : l.state.moves ≤ l.fn.state.moves;
   kind : l.state.host.kind ≡ l.fn.state.host.kind;
   app : l.state.app ≡ l.fn.state.app;
   commands : l.state.commands ≡ l.fn.state.commands;
