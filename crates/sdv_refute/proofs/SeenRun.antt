@@ -1,5 +1,5 @@
 -- A watched run over a port is one over what is seen of the port, where each step of the port is one of what is seen.
-use Rattle.std.proofs.Common.{◌≡◌, ◌∙◌, ap, inl, inr, ℕ, Option, List, [], ◌∷◌, Result, Ok, Err}
+use Rattle.std.proofs.Common.{◌≡◌, ◌∙◌, ap, Bool, false, inl, inr, ℕ, Option, Some, List, [], ◌∷◌, ◌++◌, Result, Ok, Err}
 use Rattle.sdv_registers.specs.declared.kind.Kind.{Kind}
 use Rattle.sdv_card.specs.Card.{Card}
 use Rattle.sdv_card.specs.Port.{Call, call_of, Exchange, DataIn, DataInRegister, DataOut, WaitWhileBusy}
@@ -18,6 +18,8 @@ use Rattle.sdv_run.specs.OnCard.{ShowsStart}
 use Rattle.sdv_refute.specs.declared.wrong.Watched.{Watched}
 use Rattle.sdv_refute.specs.declared.wrong.Watched.TheVariants as comes
 use Rattle.sdv_refute.specs.declared.wrong.Wrong.{Wrong}
+use Rattle.sdv_trace.specs.Trace.{lines}
+use Rattle.sdv_refute.specs.Told.{WatchesAs}
 use Rattle.sdv_refute.specs.Watched.{AllowsNext, CutShort, Halted, StandsBefore, StopsAllowed, Watches}
 
 module _ {S T : Type 0} (f : S → T) where
@@ -116,7 +118,7 @@ module _ {S T : Type 0} (f : S → T) (steps : Steps S) (steps' : Steps T)
   }
 
   module _ (card : S → Option Card) (card' : T → Option Card) (same : (s : S) → card s ≡ card' (f s)) where
-    seen_start : (k : Kind) (s : S) (c : Card) → ShowsStart card' k (f s) c → ShowsStart card k s c
+    seen_start : (k : Kind) (s : S) (c : Card) → ShowsStart card' k false (f s) c → ShowsStart card k false s c
     seen_start k s c start = record {
       shown = record { shown = start.shown.shown; shows = same s ∙ start.shown.shows; same = start.shown.same; count = start.shown.count };
       kind = start.kind;
@@ -169,6 +171,37 @@ module _ {S T : Type 0} (f : S → T) (steps : Steps S) (steps' : Steps T)
     }
     seen_watched g w w' (Ok (comes.Stopped wrong)) ran = record { stands = seen_stands g wrong w w' ran.stands; trace = ran.trace }
     seen_watched g w w' (Err fault) cut = seen_cut g fault w w' cut
+
+    pub seen_told : (telling : Bool) (g : Graph) (w w' : World S) (result : Result Watched RunFault) → WatchesAs telling steps card g w w' result →
+        WatchesAs telling steps' card' g (seen f w) (seen f w') result
+    seen_told telling g w w' result (inl told) = inl (record {
+      events = told.events;
+      more = told.more;
+      happened = seen_happened g.kind (told.events ++ told.more) w w' told.happened;
+      stand = told.stand;
+      text = told.text;
+      told = told.told;
+      last = told.last;
+      trace = told.trace;
+      watched = seen_watched g (record w { trace = Some [] }) (record w' { trace = Some (lines told.events ++ told.last) }) result told.watched;
+      nothing = λ is. ap (seen f) (told.nothing is);
+    })
+    seen_told telling g w w' result (inr (is, broke)) = inr (
+      is,
+      record {
+        asked = broke.asked;
+        events = broke.events;
+        happened = seen_happened g.kind broke.events w w' broke.happened;
+        walk = broke.walk;
+        stand = broke.stand;
+        text = broke.text;
+        width = broke.width;
+        told = broke.told;
+        output = broke.output;
+        trace = broke.trace;
+        allowed = λ c start. broke.allowed c (seen_start g.kind w.port c start);
+      },
+    )
 
 -- a controller steps as one over what is seen of its wire
 module _ {S T : Type 0} (f : S → T) (steps : T → WireCall → WireReturn → T → Type 0) where

@@ -13,7 +13,9 @@ use Rattle.sdv_card.specs.Card.{Card, Block}
 use Rattle.sdv_card.specs.Host.{Host, host_after}
 use Rattle.sdv_card.specs.HostEvents.{Makes}
 use Rattle.sdv_card.specs.Legal.{TransferOnCard}
+use Rattle.sdv_card.proofs.PortLaws.{phase_on_card}
 use Rattle.sdv_card.specs.Port.{Shows, Kept, IsFine, KeepsTables, call_of}
+use Rattle.sdv_card.specs.Profile.{IsAtStart}
 use Rattle.sdv_card.specs.ScriptEvent.{ScriptEvent, SendCommand, ReceiveBlocks, ReceiveRegister, GiveBlocks, AwaitReady, Return, Answered, BlocksIn, BlocksOut, MayReturn}
 use Rattle.sdv_card.specs.Step.{Step}
 use Rattle.sdv_graph.specs.Graph.{Graph, begin}
@@ -25,6 +27,7 @@ use Rattle.sdv_script.specs.OneGraph.{IsGraphOfScript}
 use Rattle.sdv_script.specs.Script.{Parsed}
 use Rattle.sdv_facts.specs.Beside.{IsAllowed, EndsWell}
 use Rattle.sdv_facts.specs.Keeps.{IsHonest}
+use Rattle.sdv_facts.proofs.AnyStart.{start_only}
 use Rattle.sdv_facts.proofs.ArgumentLaws.{narrow}
 use Rattle.sdv_facts.proofs.StepLaws.{laws_of, honest_after}
 use Rattle.sdv_facts.proofs.SuitLaws.{each_action_suits}
@@ -76,10 +79,11 @@ module _ {S : Type 0} (steps : Steps S) (card : S → Option Card) (g : Graph) w
     pub honest : IsHonest g.kind last s.host
     pub on_card : TransferOnCard last
 
-  begins_beside : (s : Stand) (w : World S) (c : Card) → s ≡ begin g → ShowsStart card g.kind w.port c → Beside [] s w c
+  pub begins_beside : (s : Stand) (w : World S) (c : Card) → s ≡ begin g → ShowsStart card g.kind false w.port c → Beside [] s w c
   begins_beside s w c at start =
-      let held = (laws_of g.kind).starts_hold c g.numbers start.kind start.start in
-      let honest : IsHonest g.kind c (begin g).host = record { pair = held.pair; profile = start.start.profile; sound = held.sound } in
+      let before : IsAtStart c = start_only c start.start in
+      let held = (laws_of g.kind).starts_hold c g.numbers start.kind before in
+      let honest : IsHonest g.kind c (begin g).host = record { pair = held.pair; profile = before.profile; sound = held.sound } in
       record {
         last = c;
         on = refl;
@@ -92,7 +96,7 @@ module _ {S : Type 0} (steps : Steps S) (card : S → Option Card) (g : Graph) w
   fine_of : (es : List Pair) (s : Stand) (w : World S) (c : Card) (b : Beside es s w c) (event : ScriptEvent) → Makes g.kind event s.host →
       IsAllowed event b.last → IsFine g.kind event b.last s.host
   fine_of es s w c b event makes allowed =
-      record { pair = b.honest.pair; made = makes; legal = allowed.legal; bounds = allowed.bounds; on_card = b.on_card }
+      record { pair = b.honest.pair; made = makes; legal = allowed.legal; bounds = allowed.bounds; on_card = phase_on_card event b.last b.on_card }
 
   -- the event that a move made, if it made one
   abbrev pub events_of : (m : Move) (w w' : World S) (s' : Stand) → Leads g.kind steps m w w' s' → List Pair
@@ -100,17 +104,17 @@ module _ {S : Type 0} (steps : Steps S) (card : S → Option Card) (g : Graph) w
   events_of (Does deed before next) w w' s' leads = (leads.0, leads.1) ∷ []
   events_of (Halts last) w w' s' leads = []
 
-  happened_of : (m : Move) (w w' : World S) (s' : Stand) (leads : Leads g.kind steps m w w' s') → Happened g.kind steps (events_of m w w' s' leads) w w'
+  pub happened_of : (m : Move) (w w' : World S) (s' : Stand) (leads : Leads g.kind steps m w w' s') → Happened g.kind steps (events_of m w w' s' leads) w w'
   happened_of (Goes next) w w' s' leads = subst (λ v. Happened g.kind steps [] w v) (sym leads.0) (none_happened g.kind steps w)
   happened_of (Does deed before next) w w' s' leads = one_happened g.kind steps leads.0 leads.1 w w' leads.3
   happened_of (Halts last) w w' s' leads = absurd leads
 
-  written_of : (m : Move) (w w' : World S) (s' : Stand) (leads : Leads g.kind steps m w w' s') → Written (events_of m w w' s' leads) w w'
+  pub written_of : (m : Move) (w w' : World S) (s' : Stand) (leads : Leads g.kind steps m w w' s') → Written (events_of m w w' s' leads) w w'
   written_of (Goes next) w w' s' leads = subst (λ v. Written [] w v) (sym leads.0) (none_written g.kind steps w)
   written_of (Does deed before next) w w' s' leads = one_written g.kind steps leads.0 leads.1 w w' leads.3
   written_of (Halts last) w w' s' leads = absurd leads
 
-  follows_of : (m : Move) (w w' : World S) (s' : Stand) (leads : Leads g.kind steps m w w' s') (e : Ending) (rest : List Pair) →
+  pub follows_of : (m : Move) (w w' : World S) (s' : Stand) (leads : Leads g.kind steps m w w' s') (e : Ending) (rest : List Pair) →
       Path g.kind g.points e s' rest → Follows g.kind e (Path g.kind g.points e) m (events_of m w w' s' leads ++ rest)
   follows_of (Goes next) w w' s' leads e rest path = subst (λ s. Path g.kind g.points e s rest) leads.1 path
   follows_of (Does deed before next) w w' s' leads e rest path =
@@ -118,7 +122,7 @@ module _ {S : Type 0} (steps : Steps S) (card : S → Option Card) (g : Graph) w
   follows_of (Halts last) w w' s' leads e rest path = absurd leads
 
   -- A MOVE that is allowed
-  by_move : KeepsTables steps card → (es : List Pair) (s s' : Stand) (w w' : World S) (c : Card) (b : Beside es s w c) (m : Move) →
+  pub by_move : KeepsTables steps card → (es : List Pair) (s s' : Stand) (w w' : World S) (c : Card) (b : Beside es s w c) (m : Move) →
       Moves g.kind (laws_of g.kind) b.last s.host b.honest m → MayMove true m b.last → (leads : Leads g.kind steps m w w' s') →
       Beside (es ++ events_of m w w' s' leads) s' w' c
   by_move keeps es s s' w w' c b (Goes next) known may leads = record {
@@ -154,9 +158,9 @@ module _ {S : Type 0} (steps : Steps S) (card : S → Option Card) (g : Graph) w
     pub happened : Happened g.kind steps events start w
     pub written : Written events start w
     pub leads : (e : Ending) (rest : List Pair) → Path g.kind g.points e s rest → Path g.kind g.points e (begin g) (events ++ rest)
-    pub beside : (c : Card) → ShowsStart card g.kind start.port c → Beside events s w c
+    pub beside : (c : Card) → ShowsStart card g.kind false start.port c → Beside events s w c
 
-  pub begins : (room : ℕ) (start : World S) (n : ℕ) (s : Stand) → IsSound g → n ≡ g.steps → s ≡ begin g → Watching room start n s start
+  unfoldable pub begins : (room : ℕ) (start : World S) (n : ℕ) (s : Stand) → IsSound g → n ≡ g.steps → s ≡ begin g → Watching room start n s start
   begins room start n s sound all at = record {
     so_far = begins_at steps g room start n s sound all at;
     events = [];
@@ -170,7 +174,7 @@ module _ {S : Type 0} (steps : Steps S) (card : S → Option Card) (g : Graph) w
   abbrev pub IsAllowedHere : Stand → World S → Point → Type 0
   IsAllowedHere s w p = IsAllowedAt card g.kind s w.port p
 
-  may_move : (s : Stand) (c : Card) (honest : IsHonest g.kind c s.host) (p : Point) (b : Bool) →
+  pub may_move : (s : Stand) (c : Card) (honest : IsHonest g.kind c s.host) (p : Point) (b : Bool) →
       allows_next g.kind s.host (sight_of c) (next_of g.kind p.action s.host) ≡ b → MayMove b (action_move g.kind p.action s.turns s.host) c
   may_move s c honest p b is =
       subst (λ v. MayMove v (action_move g.kind p.action s.turns s.host) c) is (allows_exactly g.kind (laws_of g.kind) c s.host honest p.action s.turns)
@@ -180,13 +184,13 @@ module _ {S : Type 0} (steps : Steps S) (card : S → Option Card) (g : Graph) w
     here_is : move_from g.kind g.points s ≡ action_move g.kind p.action s.turns s.host
     here_is = ap (λ o. move g.kind o s.turns s.host) here
 
-    onward : (m : Move) (e : Ending) (rest : List Pair) → action_move g.kind p.action s.turns s.host ≡ m → Follows g.kind e (Path g.kind g.points e) m rest →
+    pub onward : (m : Move) (e : Ending) (rest : List Pair) → action_move g.kind p.action s.turns s.host ≡ m → Follows g.kind e (Path g.kind g.points e) m rest →
         Path g.kind g.points e (begin g) (so.events ++ rest)
     onward m e rest is follows =
         so.leads e rest (roll g.kind g.points e s rest (inr (subst (λ m. Follows g.kind e (Path g.kind g.points e) m rest) (sym (here_is ∙ is)) follows)))
 
     -- it goes on
-    pub goes : AnnounceAtMost g.points room → IsAllowedHere s w p → (s' : Stand) (w' : World S) →
+    unfoldable pub goes : AnnounceAtMost g.points room → IsAllowedHere s w p → (s' : Stand) (w' : World S) →
         Leads g.kind steps (action_move g.kind p.action s.turns s.host) w w' s' → Watching room start (n - 1) s' w'
     goes few allowed s' w' leads =
         let m = action_move g.kind p.action s.turns s.host in
@@ -257,7 +261,7 @@ module _ {S : Type 0} (steps : Steps S) (card : S → Option Card) (g : Graph) w
     walked script of e es path = subst (λ k. Walk k script.names script.body e es) of.kind_same ((of.walks e es).1 path)
 
     refutes_by : (c : Card) (b : Beside so.events s w c) (wrong : Wrong) → wrong.sight ≡ sight_of b.last → (m : Move) →
-        action_move g.kind p.action s.turns s.host ≡ m → MayMove false m b.last → NamesMove wrong.next m → ShowsStart card g.kind start.port c →
+        action_move g.kind p.action s.turns s.host ≡ m → MayMove false m b.last → NamesMove wrong.next m → ShowsStart card g.kind false start.port c →
         RefutesGraph g c so.events wrong
     refutes_by c b wrong seen (Goes next) is may names shows = absurd may
     refutes_by c b wrong seen (Does deed before next) is may names shows =
@@ -268,7 +272,7 @@ module _ {S : Type 0} (steps : Steps S) (card : S → Option Card) (g : Graph) w
           refutes = λ script of. (
             record {
               kind = sym of.kind_same ∙ shows.kind;
-              start = shows.start;
+              start = start_only c shows.start;
               last = b.last;
               steps = b.on;
               comes = λ returned fits. walked script of Open (so.events ++ (event.0, returned) ∷ [])
@@ -285,7 +289,7 @@ module _ {S : Type 0} (steps : Steps S) (card : S → Option Card) (g : Graph) w
       refutes = λ script of. (
         record {
           kind = sym of.kind_same ∙ shows.kind;
-          start = shows.start;
+          start = start_only c shows.start;
           last = b.last;
           steps = b.on;
           comes = walked script of Finished so.events (halts_with (Halts Finished) Finished is (refl, refl));
@@ -402,7 +406,7 @@ module _ {S : Type 0} (steps : Steps S) (card : S → Option Card) (g : Graph) w
 
         -- A CARD'S ANSWERS are taken, and the arguments of its commands have 32 bits
         no_reply : (ask : Ask) (position argument : ℕ) → IsDeed deed (SendCommand ask position argument) →
-            CutDeed Reply g.kind steps (exactly (SendCommand ask position argument)) w w' → (c : Card) → ShowsStart card g.kind start.port c → ⊥
+            CutDeed Reply g.kind steps (exactly (SendCommand ask position argument)) w w' → (c : Card) → ShowsStart card g.kind false start.port c → ⊥
         no_reply ask position argument of (inl wide) c shows =
             let b = so.beside c shows in
             let event = SendCommand ask position argument in

@@ -4,4 +4,5 @@ pub mod Sight
 pub mod Allows
 pub mod WrongLine
 pub mod Watched
+pub mod Told
 pub mod Tries

@@ -1,10 +1,10 @@
 -- A RUN THAT WAS TRIED: beside the simulated card of a description, over an image, with the values of a schedule.
-use Rattle.std.specs.Prelude.{◌≡◌, ◌≢◌, ◌⊎◌, ℕ, List, Option, Some, Result, Ok}
+use Rattle.std.specs.Prelude.{◌≡◌, ◌≢◌, ◌⊎◌, Bool, ℕ, List, Option, Some, Result, Ok}
 use Rattle.sdv_card.specs.Card.{Block, Card}
-use Rattle.sdv_description.specs.declared.card_desc.CardDesc.{CardDesc}
-use Rattle.sdv_description.specs.Gives.{Describes}
-use Rattle.sdv_description.specs.Gives.{Refuses as IsNoCard}
-use Rattle.sdv_description.specs.Layout.{image_size}
+use Rattle.sdv_behavior.specs.declared.card_desc.CardDesc.{CardDesc}
+use Rattle.sdv_behavior.specs.Gives.{Describes}
+use Rattle.sdv_behavior.specs.Gives.{Refuses as IsNoCard}
+use Rattle.sdv_behavior.specs.Layout.{image_size}
 use Rattle.sdv_image.specs.declared.fault.SimFault.{SimFault}
 use Rattle.sdv_image.specs.declared.fault.SimFault.TheVariants.{Memory as NoMemory}
 use Rattle.sdv_behavior.specs.CardOf.{card_of, at_start}
@@ -24,19 +24,21 @@ use Rattle.sdv_refute.specs.declared.wrong.Wrong.{Wrong}
 use Rattle.sdv_refute.specs.declared.simulated.TryFault.{TryFault}
 use Rattle.sdv_refute.specs.declared.simulated.TryFault.TheVariants.{Script, Kind, Card as NoCard, Memory}
 use Rattle.sdv_refute.specs.Refutes.{Coming, Refutes}
-use Rattle.sdv_refute.specs.Watched.{Names, Watches}
+use Rattle.sdv_refute.specs.Told.{WatchesAs}
+use Rattle.sdv_refute.specs.Watched.{Names}
 
 -- The graph ran beside the card, which takes each event by the value of the schedule. `blocks` and `blocks'` are what is
--- known of the image before and after.
-pub record Tries (g : Graph) (desc : CardDesc) (codes : List ℕ) (input : List Block) (blocks blocks' : Option (List Block))
-    (out out' trace trace' : Option (List ℕ)) (result : Result Watched RunFault) : Type 0 where
+-- known of the image before and after. The trace tells the data lines of the host or not.
+pub record Tries (telling : Bool) (g : Graph) (desc : CardDesc) (codes : List ℕ) (input : List Block)
+    (blocks blocks' : Option (List Block)) (out out' trace trace' : Option (List ℕ)) (result : Result Watched RunFault)
+    : Type 0 where
   pub kind : g.kind ≡ desc.kind
   pub card : SimState
   pub made : IsMade desc codes blocks card
   pub card' : SimState
   pub shown : card'.blocks ≡ blocks'
   pub left : List Block
-  pub watched : Watches (ControllerSteps SimSteps) card_shown g
+  pub watched : WatchesAs telling (ControllerSteps SimSteps) card_shown g
       (record { port = card; input = input; out = out; trace = trace })
       (record { port = card'; input = left; out = out'; trace = trace' }) result
 
@@ -62,13 +64,14 @@ RefutesIfWrong text desc blocks (Ok (comes.Stopped wrong)) =
 RefutesIfWrong text desc blocks result = Unit {0}
 
 -- The script of a text ran beside the card of a description.
-pub record TriesText (text card : List ℕ) (codes : List ℕ) (input : List Block) (blocks blocks' : Option (List Block))
-    (out out' trace trace' : Option (List ℕ)) (result : Result Watched RunFault) : Type 0 where
+pub record TriesText (telling : Bool) (text card : List ℕ) (codes : List ℕ) (input : List Block)
+    (blocks blocks' : Option (List Block)) (out out' trace trace' : Option (List ℕ)) (result : Result Watched RunFault)
+    : Type 0 where
   pub graph : Graph
   pub of_text : IsGraphOfText text graph
   pub desc : CardDesc
   pub described : Describes card desc
-  pub tries : Tries graph desc codes input blocks blocks' out out' trace trace' result
+  pub tries : Tries telling graph desc codes input blocks blocks' out out' trace trace' result
   pub refutes : RefutesIfWrong text desc blocks result
 
 -- WHY NOTHING WAS RUN

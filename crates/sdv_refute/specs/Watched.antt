@@ -101,7 +101,7 @@ pub record StandsBefore {S : Type 0} (steps : Steps S) (card : S → Option Card
   pub next : next_of g.kind here.action halted.leads.stand.host ≡ Some wrong.next
   pub not_allowed : allows g.kind halted.leads.stand.host wrong.sight wrong.next ≡ false
   pub shape : wrong.shape.0 ≡ code_of (fields_seen wrong.sight halted.leads.stand.host)
-  pub refutes : (c : Card) → ShowsStart card g.kind w.port c → RefutesGraph g c halted.events wrong
+  pub refutes : (c : Card) → ShowsStart card g.kind false w.port c → RefutesGraph g c halted.events wrong
 
 pub record StopsBefore {S : Type 0} (steps : Steps S) (card : S → Option Card) (g : Graph) (wrong : Wrong)
     (w w' : World S) : Type 0 where
@@ -112,7 +112,7 @@ pub record StopsBefore {S : Type 0} (steps : Steps S) (card : S → Option Card)
 pub record EndsAllowed {S : Type 0} (steps : Steps S) (card : S → Option Card) (g : Graph) (end : End)
     (w w' : World S) : Type 0 where
   pub ran : Ended steps g end w w'
-  pub allowed : (c : Card) → ShowsStart card g.kind w.port c →
+  pub allowed : (c : Card) → ShowsStart card g.kind false w.port c →
       (last : Card) × AllowedStepsOf c ran.events last × EndsWell (ending_of end) last
 
 -- THE RUN THAT WAS CUT SHORT: beside a card each event was allowed, the last one too, and no answer is refused.
@@ -135,7 +135,7 @@ pub record IsAllowedUntil {S : Type 0} (fault : RunFault) (g : Graph) (es : List
 pub record StopsAllowed {S : Type 0} (steps : Steps S) (card : S → Option Card) (g : Graph) (fault : RunFault)
     (w w' : World S) : Type 0 where
   pub ran : Stopped steps g fault w w'
-  pub allowed : (c : Card) → ShowsStart card g.kind w.port c → IsAllowedUntil fault g ran.events w w' ran.because c
+  pub allowed : (c : Card) → ShowsStart card g.kind false w.port c → IsAllowedUntil fault g ran.events w w' ran.because c
 
 -- the trace failed at the last line of a run that stops
 pub record WrongLineBrokeOff {S : Type 0} (steps : Steps S) (card : S → Option Card) (g : Graph)

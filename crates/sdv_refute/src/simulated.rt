@@ -10,11 +10,10 @@ ghost use Rattle.sdv_refute.specs.Tries.{NotTried, Tries, TriesText, TryRefuses}
 ghost use Rattle.sdv_sim.specs.Made.{IsUnread};
 
 use crate::sight::{SeenPort, Sight};
-use crate::watching::{Nobody, Onlooker, watch_beside};
+use crate::watching::{Nobody, Onlooker, watch};
 use crate::wrong::Watched;
-use sdv_behavior::CardState;
+use sdv_behavior::{CardDesc, CardState};
 use sdv_controller::Controller;
-use sdv_description::CardDesc;
 use sdv_graph::Graph;
 use sdv_image::{Image, SimFault};
 use sdv_run::RunFault;
@@ -80,6 +79,8 @@ pub struct Beside<'a> {
     pub schedule: &'a [u8],
     /// The blocks that the script gives.
     pub input: &'a [[u8; 512]],
+    /// The trace has a line wherever the data lines of the host change.
+    pub lines: bool,
 }
 
 /// The texts and blocks of a run that is tried.
@@ -93,6 +94,8 @@ pub struct Given<'a> {
     pub schedule: &'a [u8],
     /// The blocks that the script gives.
     pub input: &'a [[u8; 512]],
+    /// The trace has a line wherever the data lines of the host change.
+    pub lines: bool,
 }
 
 /// A run that was tried.
@@ -118,7 +121,7 @@ pub fn try_graph<I: Image + Drop, O: Write, T: Write, L: Onlooker<Controller<Sim
     trace: &mut T,
     onlooker: &mut L,
 ) -> Result<Tried<I>, TryFault>
-    ensures tried { IfOk result (λ tried. Tries graph.now beside.entry.desc beside.entry.schedule.now
+    ensures tried { IfOk result (λ tried. Tries beside.entry.lines graph.now beside.entry.desc beside.entry.schedule.now
         beside.entry.input.now (I.blocks image) (I.blocks tried.image)
         (O.contents out.old) (O.contents out.new) (T.contents trace.old) (T.contents trace.new) tried.result) }
     ensures refused { IfErr result (NotTried graph.now beside.entry.desc beside.entry.schedule.now (I.size image)
@@ -133,7 +136,16 @@ pub fn try_graph<I: Image + Drop, O: Write, T: Write, L: Onlooker<Controller<Sim
         Err(fault) => return Err(TryFault::Card(fault)),
     };
     let mut port = Controller::new(sim);
-    let result = watch_beside(alloc, graph, &mut port, beside.input, out, trace, onlooker);
+    let result = watch(
+        alloc,
+        graph,
+        beside.lines,
+        &mut port,
+        beside.input,
+        out,
+        trace,
+        onlooker,
+    );
     Ok(Tried {
         result,
         image: port.into_wire().into_image(),
@@ -154,8 +166,8 @@ pub fn try_text<I: Image + Drop, O: Write, T: Write>(
     out: &mut O,
     trace: &mut T,
 ) -> Result<Tried<I>, TryFault>
-    ensures tried { IfOk result (λ tried. TriesText given.now.script.now given.now.card.now given.now.schedule.now
-        given.now.input.now (I.blocks image) (I.blocks tried.image)
+    ensures tried { IfOk result (λ tried. TriesText given.now.lines given.now.script.now given.now.card.now
+        given.now.schedule.now given.now.input.now (I.blocks image) (I.blocks tried.image)
         (O.contents out.old) (O.contents out.new) (T.contents trace.old) (T.contents trace.new) tried.result) }
     ensures refused { IfErr result (TryRefuses given.now.script.now given.now.card.now given.now.schedule.now
         (I.size image) (IsUnread I.size I.blocks I.failed image)) }
@@ -173,6 +185,7 @@ pub fn try_text<I: Image + Drop, O: Write, T: Write>(
         desc,
         schedule: given.schedule,
         input: given.input,
+        lines: given.lines,
     };
     try_graph(alloc, &graph, beside, image, out, trace, &mut Nobody)
 }

@@ -5,11 +5,13 @@ ghost use Rattle.sdv_card.specs.Card.{Block};
 ghost use Rattle.sdv_graph.specs.Graph.{seen_action};
 ghost use Rattle.sdv_graph.specs.Path.{Point};
 ghost use Rattle.sdv_run.specs.Standing.{stand_of};
-ghost use Rattle.sdv_refute.specs.Watched.{IsAllowedAt, IsWrongHere, StopsWith, Watches};
+ghost use Rattle.sdv_refute.specs.Told.{WatchesAs};
+ghost use Rattle.sdv_refute.specs.Watched.{IsAllowedAt, IsWrongHere, StopsWith};
 
 use crate::allows::allows;
 use crate::next::{Next, next_of};
 use crate::sight::{SeenPort, fields_seen};
+use crate::telling::tell_change;
 use crate::wrong::{Watched, Wrong, write_wrong};
 use sdv_graph::{Action, Graph};
 use sdv_run::step::{World, step};
@@ -34,35 +36,16 @@ impl<P> Onlooker<P> for Nobody {
 
 /// Runs a graph over a port as `run_graph` does, and stops before the first event that is not allowed at the card that
 /// the port shows, and at `done` if that card is not in the transfer state. Then the last line of the trace says what
-/// was not allowed.
+/// was not allowed. The onlooker is told of each event before it is made. If `lines` is set, the trace has a line
+/// wherever the data lines of the host change.
 ///
 /// # Errors
 ///
 /// Those of `run_graph`.
-pub fn watch<P: SeenPort, O: Write, T: Write>(
+pub fn watch<P: SeenPort, O: Write, T: Write, L: Onlooker<P>>(
     alloc: Global,
     graph: &Graph<'_>,
-    port: &mut P,
-    input: &[[u8; 512]],
-    out: &mut O,
-    trace: &mut T,
-) -> Result<Watched, RunFault>
-    ensures { (left : List Block)
-        × Watches P.steps P.card graph.now
-        (record { port = port.old; input = input.now; out = O.contents out.old; trace = T.contents trace.old })
-        (record { port = port.new; input = left; out = O.contents out.new; trace = T.contents trace.new }) result }
-{
-    watch_beside(alloc, graph, port, input, out, trace, &mut Nobody)
-}
-
-/// The same, beside somebody who is told of each event before it is made.
-///
-/// # Errors
-///
-/// Those of `run_graph`.
-pub fn watch_beside<P: SeenPort, O: Write, T: Write, L: Onlooker<P>>(
-    alloc: Global,
-    graph: &Graph<'_>,
+    lines: bool,
     port: &mut P,
     input: &[[u8; 512]],
     out: &mut O,
@@ -70,7 +53,7 @@ pub fn watch_beside<P: SeenPort, O: Write, T: Write, L: Onlooker<P>>(
     onlooker: &mut L,
 ) -> Result<Watched, RunFault>
     ensures { (left : List Block)
-        × Watches P.steps P.card graph.now
+        × WatchesAs lines P.steps P.card graph.now
         (record { port = port.old; input = input.now; out = O.contents out.old; trace = T.contents trace.old })
         (record { port = port.new; input = left; out = O.contents out.new; trace = T.contents trace.new }) result }
 {
@@ -84,6 +67,7 @@ pub fn watch_beside<P: SeenPort, O: Write, T: Write, L: Onlooker<P>>(
         if let Some(wrong) = wrong_at(graph, action, &standing, port, onlooker) {
             return stop_before(trace, wrong);
         }
+        let before = standing.host.lines;
         let world = World {
             port,
             input: left,
@@ -94,6 +78,7 @@ pub fn watch_beside<P: SeenPort, O: Write, T: Write, L: Onlooker<P>>(
             write_end(trace, &end)?;
             return Ok(Watched::Ended(end));
         }
+        tell_change(trace, lines, before, standing.host.lines)?;
     }
     unreachable!()
 }

@@ -29,7 +29,7 @@ use Rattle.sdv_facts.specs.Bounds.{bound_of}
 use Rattle.sdv_facts.specs.Closed.{Closed}
 use Rattle.sdv_facts.specs.Stands.{IsMade, EachIsMade}
 use Rattle.sdv_facts.proofs.ArgumentLaws.{narrow}
-use Rattle.sdv_facts.proofs.Headline.{each_path, each_event}
+use Rattle.sdv_facts.proofs.Headline.{good_from, made_from}
 use Rattle.sdv_facts.proofs.StepLaws.{Laws, laws_of, honest_after}
 use Rattle.sdv_trace.specs.declared.end.End.{End}
 use Rattle.sdv_run.specs.declared.fault.RunFault.{RunFault}
@@ -103,28 +103,28 @@ last_step (y ∷ front) x c last (u, step, more) =
 
 module _ {S : Type 0} (steps : Steps S) (card : S → Option Card) (keeps : KeepsTables steps card) (g : Graph) (ps : List PointFacts) (laws : Laws g.kind)
     (sound : IsSound g) (closed : Closed g ps) where
-  on_card : (e : Ending) (es : List Pair) (s s' : S) (c : Card) → ShowsStart card g.kind s c → Path g.kind g.points e (begin g) es →
+  on_card : (e : Ending) (es : List Pair) (s s' : S) (c : Card) → ShowsStart card g.kind g.begins s c → Path g.kind g.points e (begin g) es →
       RunMoved g.kind steps s es s' → OnCard card (bound_of g ps) e es c s'
   on_card e es s s' c start path moved =
-      let made = each_event g ps laws sound closed c start.kind start.start e es path in
+      let made = made_from g ps laws sound closed c start.kind start.start e es path in
       let b = beside steps card keeps g.kind es c s s' made start.shown moved in
-      let good : IsGood (bound_of g ps) e es c = (each_path g ps laws sound closed).good c start.kind start.start e es path in
+      let good : IsGood (bound_of g ps) e es c = good_from g ps laws sound closed c start.kind start.start e es path in
       record { last = b.last; steps = b.steps; shown = b.shown; good = good; sent = good.sent b.last b.steps; ends = good.ends b.last b.steps }
 
   -- a card's answers are taken, and the arguments of an accepted script have 32 bits
-  no_reply : (es : List Pair) (w w' : World S) (c : Card) → ShowsStart card g.kind w.port c → Path g.kind g.points Open (begin g) es →
+  no_reply : (es : List Pair) (w w' : World S) (c : Card) → ShowsStart card g.kind g.begins w.port c → Path g.kind g.points Open (begin g) es →
       OnCard card (bound_of g ps) Open es c w'.port → Because faults.Reply g es w w' → ⊥
   no_reply es w w' c start path on (inl refused) =
       let l = last_step refused.earlier (SendCommand refused.ask refused.position refused.argument, Answered refused.answer) c on.last
       (subst (λ es. StepsOf c es on.last) refused.last on.steps) in
-      let made = each_event g ps laws sound closed c start.kind start.start Open es path refused.earlier
+      let made = made_from g ps laws sound closed c start.kind start.start Open es path refused.earlier
       (SendCommand refused.ask refused.position refused.argument) (Answered refused.answer) [] l.before refused.last l.steps in
       let t : is_taken g.kind refused.ask refused.answer ≡ true =
       taken g.kind laws refused.ask refused.position refused.argument l.before refused.answer on.last made l.step in
       let clash : true ≡ false = sym t ∙ refused.refused in
       absurd (cc)
   no_reply es w w' c start path on (inr wide) =
-      let made = each_event g ps laws sound closed c start.kind start.start Open
+      let made = made_from g ps laws sound closed c start.kind start.start Open
       (es ++ (SendCommand wide.ask wide.position wide.argument, Answered answers.Sent) ∷ []) (wide.next answers.Sent) es
       (SendCommand wide.ask wide.position wide.argument) (Answered answers.Sent) [] on.last refl on.steps in
       let small : wide.argument < 2 ^ 32 =
@@ -142,12 +142,12 @@ pub record HasCertificate (g : Graph) (most : ℕ) : Type 0 where
 
 module _ {S : Type 0} (steps : Steps S) (card : S → Option Card) (keeps : KeepsTables steps card) (g : Graph) (most : ℕ) (sound : IsSound g)
     (has : ∥ HasCertificate g most ∥₁) where
-  beside_card : (e : Ending) (es : List Pair) (s s' : S) (c : Card) → ShowsStart card g.kind s c → Path g.kind g.points e (begin g) es →
+  beside_card : (e : Ending) (es : List Pair) (s s' : S) (c : Card) → ShowsStart card g.kind g.begins s c → Path g.kind g.points e (begin g) es →
       RunMoved g.kind steps s es s' → HasCertificate g most → OnCard card most e es c s'
   beside_card e es s s' c start path moved h =
       subst (λ n. OnCard card n e es c s') (sym h.bound) (on_card steps card keeps g h.points (laws_of g.kind) sound h.closed e es s s' c start path moved)
 
-  never_reply : (es : List Pair) (w w' : World S) (c : Card) → ShowsStart card g.kind w.port c → Path g.kind g.points Open (begin g) es →
+  never_reply : (es : List Pair) (w w' : World S) (c : Card) → ShowsStart card g.kind g.begins w.port c → Path g.kind g.points Open (begin g) es →
       RunMoved g.kind steps w.port es w'.port → Because faults.Reply g es w w' → HasCertificate g most → ⊥
   never_reply es w w' c start path moved because h =
       no_reply steps card keeps g h.points (laws_of g.kind) sound h.closed es w w' c start path

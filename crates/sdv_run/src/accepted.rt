@@ -14,9 +14,10 @@ use std::io::Write;
 
 /// Runs an accepted script over a port, as [`run_graph`] runs its graph.
 ///
-/// Where the port shows a card of the profile, of the script's kind, before its first command, the events of the run
-/// move that card step by step. Each is legal in the card's state and in bounds, at most [`Accepted::bound`] of them
-/// are commands, no answer is refused, and [`End::Done`] comes only with the card in the transfer state.
+/// Where the port shows a card of the profile, of the script's kind, before its first command, or in any state where the
+/// script begins with CMD0, the events of the run move that card step by step. Each is legal in the card's state and in
+/// bounds, at most [`Accepted::bound`] of them are commands, no answer is refused, and [`End::Done`] comes only with the
+/// card in the transfer state.
 ///
 /// # Errors
 ///

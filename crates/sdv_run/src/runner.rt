@@ -11,6 +11,7 @@ use crate::next_event::{Next, NextEvent};
 use crate::returned::Returned;
 use crate::standing::Standing;
 use crate::taking::take;
+use sdv_card::Width;
 use sdv_graph::Graph;
 use std::alloc::{AllocError, Global};
 use std::marker::Model;
@@ -120,6 +121,13 @@ impl<'g, 'a> Runner<'g, 'a> {
         ensures on { result < length self.now.graph.points }
     {
         self.standing.point
+    }
+
+    /// The data lines that the host uses.
+    pub fn lines(&self) -> Width
+        ensures { result ≡ self.now.stand.host.lines }
+    {
+        self.standing.host.lines
     }
 
     /// The event that the run makes next, or its end. Asked again, it answers the same.

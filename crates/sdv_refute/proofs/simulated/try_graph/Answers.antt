@@ -13,8 +13,8 @@ returns-clause-tried g c =
       kind = kind;
       card = state_of (wire_of c.new-port.result);
       made = subst (λ s. IsMade beside.desc beside.schedule.now (g.I.Image.blocks c.args.image) (state_of s)) (sym c.new-port.ensures) c.in-Ok.ensures.made;
-      card' = state_of (wire_of c.watch_beside-result.new.port);
+      card' = state_of (wire_of c.watch-result.new.port);
       shown = sym (ap g.I.Image.blocks c.into_image.ensures ∙ ap (λ s. g.I.Image.blocks (image_of s)) c.into_wire.ensures);
-      left = c.watch_beside-result.ensures.0;
-      watched = watched_of_sim _ _ _ _ c.watch_beside-result.ensures.1;
+      left = c.watch-result.ensures.0;
+      watched = watched_of_sim _ _ _ _ _ c.watch-result.ensures.1;
     }

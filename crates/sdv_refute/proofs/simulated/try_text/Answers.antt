@@ -14,15 +14,15 @@ returns-clause-tried g c =
     let trace = g.T.Write.contents c.args.trace.now in
     let trace' = g.T.Write.contents c.try_graph.new.trace in
     if_ok_more c.try_graph.result
-    (λ tried. Tries graph desc given.schedule.now given.input.now blocks (g.I.Image.blocks tried.image) out out' trace trace' tried.result)
-    (λ tried. TriesText given.script.now given.card.now given.schedule.now given.input.now blocks (g.I.Image.blocks tried.image) out out' trace trace' tried.result)
+    (λ tried. Tries given.lines graph desc given.schedule.now given.input.now blocks (g.I.Image.blocks tried.image) out out' trace trace' tried.result)
+    (λ tried. TriesText given.lines given.script.now given.card.now given.schedule.now given.input.now blocks (g.I.Image.blocks tried.image) out out' trace trace' tried.result)
     (λ tried tries. record {
       graph = graph;
       of_text = c.in-Ok.ensures.graph;
       desc = desc;
       described = c.in-Ok-parse.ensures;
       tries = tries;
-      refutes = refutes_text given.script.now graph desc given.schedule.now given.input.now blocks (g.I.Image.blocks tried.image) out out' trace trace' tried.result
+      refutes = refutes_text given.lines given.script.now graph desc given.schedule.now given.input.now blocks (g.I.Image.blocks tried.image) out out' trace trace' tried.result
           c.in-Ok.ensures.graph tries;
     }) c.try_graph.ensures.tried
 
