@@ -5,8 +5,8 @@ ghost use Rattle.sdv_named_schedules.specs.Naming.{AreNamed};
 
 use crate::blank::BlankImage;
 use crate::naming::{NamedMishap, SeenEvent, named_codes};
+use sdv_behavior::CardDesc;
 use sdv_controller::Controller;
-use sdv_description::CardDesc;
 use sdv_graph::Graph;
 use sdv_image::SimFault;
 use sdv_refute::{
@@ -158,6 +158,7 @@ fn settled_codes(
             desc,
             schedule,
             input,
+            lines: false,
         };
         let events = events_of(alloc, graph, beside)?;
         let mut named = named_codes(alloc, mishaps, events.as_slice())?;
@@ -172,6 +173,7 @@ fn settled_codes(
         desc,
         schedule,
         input,
+        lines: false,
     };
     let events = events_of(alloc, graph, beside)?;
     named_codes(alloc, mishaps, events.as_slice())

@@ -1,4 +1,4 @@
-pub mod BreakLaws
+pub mod RefutedLaws
 pub mod SweptLaws
 pub mod TableLaws
 pub mod ZeroLaws

@@ -4,8 +4,8 @@ use Rattle.std.proofs.lemmas.List.{length_push}
 use Rattle.std.proofs.lemmas.List.Elements.{All-push}
 use Rattle.sdv_card.specs.Card.{Block}
 use Rattle.sdv_check.specs.Verified.{IsGraphOfText}
-use Rattle.sdv_description.specs.declared.card_desc.CardDesc.{CardDesc}
-use Rattle.sdv_description.specs.Gives.{Describes}
+use Rattle.sdv_behavior.specs.declared.card_desc.CardDesc.{CardDesc}
+use Rattle.sdv_behavior.specs.Gives.{Describes}
 use Rattle.sdv_graph.specs.Graph.{Graph}
 use Rattle.sdv_image.specs.Images.{HasFailed}
 use Rattle.sdv_image.specs.MemBlocks.{blocks_in, bytes_of, shown_of, size_of}

@@ -1,12 +1,12 @@
 -- Every run with one mishap.
-use Rattle.std.specs.Prelude.{◌≡◌, ◌≢◌, ◌==◌, ◌-◌, ◌/◌, ◌%◌, ◌⊎◌, ℕ, suc, List, [], ◌∷◌, ◌++◌, All, Option, Some, Result, Ok, Err, if◌then◌else◌, length, replicate}
+use Rattle.std.specs.Prelude.{◌≡◌, ◌≢◌, ◌==◌, ◌-◌, ◌/◌, ◌%◌, ◌⊎◌, ℕ, suc, List, [], ◌∷◌, ◌++◌, All, Option, Some, Result, Ok, Err, if◌then◌else◌, length, replicate, false}
 use Rattle.std.specs.List.{slice_get}
 use Rattle.sdv_card.specs.Card.{Block}
 use Rattle.sdv_image.specs.MemBlocks.{blocks_in}
 use Rattle.sdv_image.specs.declared.fault.SimFault.TheVariants.{ImageLength}
 use Rattle.sdv_check.specs.Verified.{IsGraphOfText}
-use Rattle.sdv_description.specs.declared.card_desc.CardDesc.{CardDesc}
-use Rattle.sdv_description.specs.Gives.{Describes}
+use Rattle.sdv_behavior.specs.declared.card_desc.CardDesc.{CardDesc}
+use Rattle.sdv_behavior.specs.Gives.{Describes}
 use Rattle.sdv_graph.specs.Graph.{Graph}
 use Rattle.sdv_run.specs.declared.fault.RunFault.{RunFault}
 use Rattle.sdv_run.specs.declared.fault.RunFault.TheVariants.{Input, Reply}
@@ -46,7 +46,7 @@ pub record RunsTo (g : Graph) (desc : CardDesc) (image : List ℕ) (input : List
   pub blocks' : Option (List Block)
   pub out : Option (List ℕ)
   pub out' : Option (List ℕ)
-  pub tries : Tries g desc codes input (Some (blocks_of image)) blocks' out out' trace trace' result
+  pub tries : Tries false g desc codes input (Some (blocks_of image)) blocks' out out' trace trace' result
 
 abbrev pub HasEnd : Graph → CardDesc → (image : List ℕ) → (input : List Block) → (codes : List ℕ) → RunEnd → Type 0
 HasEnd g desc image input codes end =

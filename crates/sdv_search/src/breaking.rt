@@ -1,9 +1,8 @@
 //! What is told of a path of the state tables that breaks a script.
 
-ghost use Rattle.std.specs.Prelude.{◌≡◌, IfOk};
-ghost use Rattle.sdv_check.specs.Verified.{IsGraphOfText};
+ghost use Rattle.std.specs.Prelude.{◌≡◌};
 ghost use Rattle.sdv_graph.specs.Graph.{seen_action};
-ghost use Rattle.sdv_search.specs.Breaking.{IsBreakReport, Tells, heading_text, why_at, why_of};
+ghost use Rattle.sdv_search.specs.Breaking.{why_at, why_of};
 
 use sdv_broken_paths::Break;
 use sdv_card::{Event, Kind, Shape};
@@ -11,7 +10,6 @@ use sdv_emmc::EmmcTable;
 use sdv_explain::reason_of;
 use sdv_facts::event_of_phase;
 use sdv_graph::{Action, Graph};
-use sdv_refute::graph_of_text;
 use sdv_sd::SdTable;
 use sdv_telling::{Beside, Illegality, Why, put, put_refused, put_way};
 use std::alloc::{AllocError, Global};
@@ -42,9 +40,7 @@ fn why_at(kind: Kind, action: &Action<'_>, shape: Shape) -> Why
 }
 
 /// Which card breaks the script.
-fn heading(has_blocks: bool) -> &'static str
-    ensures { result.now ≡ heading_text has_blocks }
-{
+fn heading(has_blocks: bool) -> &'static str {
     if has_blocks {
         "no run beside a simulated card was found, but the greatest card with block addresses breaks the script:\n"
     } else {
@@ -52,25 +48,17 @@ fn heading(has_blocks: bool) -> &'static str
     }
 }
 
-/// What is told of a path of the state tables that breaks the script that a text is: the statement that is not allowed,
-/// beside which card, why, and the way there. No clause says which words tell of the way.
+/// What is told of a path of the state tables that breaks a script, by its graph: the statement that is not allowed, beside
+/// which card, why, and the way there.
 ///
 /// # Errors
 ///
-/// Memory was refused; or the text is no script.
-pub fn report_break(alloc: Global, script: &str, found: &Break) -> Result<Vec<u8>, AllocError>
-    ensures { IfOk result (λ text. IsBreakReport script.now found.now text.items) }
-{
-    let Ok(graph) = graph_of_text(alloc, script) else {
-        return Err(AllocError);
-    };
-    report_of(alloc, &graph, found)
-}
-
-/// The same by the graph of the script.
-fn report_of(alloc: Global, graph: &Graph<'_>, found: &Break) -> Result<Vec<u8>, AllocError>
-    ensures { IfOk result (λ text. Tells graph.now found.now text.items) }
-{
+/// Memory was refused.
+pub fn report_break(
+    alloc: Global,
+    graph: &Graph<'_>,
+    found: &Break,
+) -> Result<Vec<u8>, AllocError> {
     let mut text = Vec::new(alloc);
     put(&mut text, heading(found.has_block_addresses))?;
     if graph.len() <= found.point {

@@ -1,15 +1,11 @@
 //! The mishaps of a run in words, with the lines of the script.
 
-ghost use Rattle.std.specs.Prelude.{◌≡◌, ◌++◌, IfOk, OnOk, flat_map, slice_get};
-ghost use Rattle.sdv_search.specs.Mishaps.{AreMishapsOf, event_name, line_front, mishap_text, mishaps_text, times_text, words_after, words_before};
-
 use crate::refuting::{Refutation, image_blocks, input_of, zero_image};
-use sdv_behavior::Behavior;
+use sdv_behavior::{Behavior, CardDesc};
 use sdv_controller::Controller;
-use sdv_description::CardDesc;
 use sdv_graph::Graph;
 use sdv_image::MemImage;
-use sdv_refute::{Beside, Next, Onlooker, Watched, graph_of_text, try_graph};
+use sdv_refute::{Beside, Next, Onlooker, Watched, try_graph};
 use sdv_run::{RunFault, Standing};
 use sdv_sim::Sim;
 use sdv_telling::{Text, put, put_numbered};
@@ -92,6 +88,7 @@ fn mishaps_of(
         desc,
         schedule,
         input: &input,
+        lines: false,
     };
     let (mut out, mut trace) = (io::sink(), io::sink());
     let tried = try_graph(
@@ -118,97 +115,47 @@ fn is_short(end: &Result<Watched, RunFault>) -> bool {
 }
 
 /// Adds the name of an event.
-fn put_name(text: &mut Text, next: &Next) -> Result<(), AllocError>
-    ensures { OnOk result (text.new.items ≡ text.old.items ++ event_name next.now) }
-{
+fn put_name(text: &mut Text, next: &Next) -> Result<(), AllocError> {
     match next {
         Next::Send { ask, .. } => put_numbered(text, "CMD", u64::from(ask.index), ""),
-        Next::Receive(count) => put_numbered(
-            text,
-            "the phase of ",
-            u64::from(*count),
-            " blocks from the card",
-        ),
+        Next::Receive(1) => put(text, "the phase of 1 block from the card"),
+        Next::Receive(count) => {
+            let count = u64::from(*count);
+            put_numbered(text, "the phase of ", count, " blocks from the card")
+        }
         Next::ReceiveRegister(_) => put(text, "the phase of a register"),
-        Next::Give(count) => put_numbered(
-            text,
-            "the phase of ",
-            u64::from(*count),
-            " blocks to the card",
-        ),
+        Next::Give(1) => put(text, "the phase of 1 block to the card"),
+        Next::Give(count) => {
+            let count = u64::from(*count);
+            put_numbered(text, "the phase of ", count, " blocks to the card")
+        }
         Next::Wait => put(text, "the wait"),
         Next::Done => put(text, "done"),
     }
 }
 
-/// The words before the name of an event with this mishap.
-fn words_before(behavior: Behavior) -> &'static str
-    ensures { result.now ≡ words_before behavior }
-{
+/// The words before and after the name of an event with this mishap.
+fn words_around(behavior: Behavior) -> (&'static str, &'static str) {
     match behavior {
-        Behavior::LosesAnswer
-        | Behavior::ReportsError
-        | Behavior::OmitsAppCommand
-        | Behavior::ReportsErrorWhileBusy => "the answer to ",
-        Behavior::IsSlow => "the card is not ready at ",
-        Behavior::Refuses => "the card refuses ",
-        Behavior::FailsSwitch => "the switch by ",
-        Behavior::LosesCrcStatus => "the CRC status of ",
-        Behavior::Prompt
-        | Behavior::LosesCommand
-        | Behavior::CutsPhase
-        | Behavior::LosesCommandWhileBusy => "",
-    }
-}
-
-/// The words after it.
-fn words_after(behavior: Behavior) -> &'static str
-    ensures { result.now ≡ words_after behavior }
-{
-    match behavior {
-        Behavior::LosesCommand | Behavior::LosesAnswer => " is lost",
-        Behavior::ReportsError => " shows an error",
-        Behavior::Refuses => " with an error",
-        Behavior::CutsPhase => " is cut",
-        Behavior::FailsSwitch => " fails",
-        Behavior::LosesCrcStatus => " is lost, and the card programs the blocks",
-        Behavior::OmitsAppCommand => " lacks APP_CMD",
-        Behavior::LosesCommandWhileBusy => " is lost, and the card is still busy",
-        Behavior::ReportsErrorWhileBusy => " shows an error while the card is busy",
-        Behavior::IsSlow => "",
-        Behavior::Prompt => " is as it should be",
-    }
-}
-
-/// Adds the line of a point, if there is one.
-fn put_line_front(text: &mut Text, graph: &Graph<'_>, point: usize) -> Result<(), AllocError>
-    ensures { OnOk result (text.new.items
-        ≡ text.old.items ++ line_front (slice_get graph.now.lines point)) }
-{
-    match graph.lines().get(point) {
-        Some(line) => put_numbered(text, "line ", u64::from(*line), ": "),
-        None => Ok(()),
-    }
-}
-
-/// Adds the event of a mishap with what becomes of it.
-fn put_event(text: &mut Text, mishap: &Mishap) -> Result<(), AllocError>
-    ensures { OnOk result (text.new.items ≡ text.old.items
-        ++ (words_before mishap.now.behavior ++ (event_name mishap.now.next ++ words_after mishap.now.behavior))) }
-{
-    put(text, words_before(mishap.behavior))?;
-    put_name(text, &mishap.next)?;
-    put(text, words_after(mishap.behavior))
-}
-
-/// Adds how many times a mishap comes, if more than once, and ends the line.
-fn put_times(text: &mut Text, times: u64) -> Result<(), AllocError>
-    ensures { OnOk result (text.new.items ≡ text.old.items ++ times_text times) }
-{
-    if times > 1 {
-        put_numbered(text, ", ", times, " times\n")
-    } else {
-        put(text, "\n")
+        Behavior::Prompt => ("", " is as it should be"),
+        Behavior::LosesCommand => ("", " is lost"),
+        Behavior::LosesAnswer => ("the answer to ", " is lost"),
+        Behavior::IsSlow => ("the card is not ready at ", ""),
+        Behavior::ReportsError => ("the answer to ", " shows an error"),
+        Behavior::Refuses => ("the card refuses ", " with an error"),
+        Behavior::CutsPhase => ("", " is cut"),
+        Behavior::FailsSwitch => ("the switch by ", " fails"),
+        Behavior::LosesCrcStatus => {
+            (
+                "the CRC status of ",
+                " is lost, and the card programs the blocks",
+            )
+        }
+        Behavior::OmitsAppCommand => ("the answer to ", " lacks APP_CMD"),
+        Behavior::LosesCommandWhileBusy => ("", " is lost, and the card is still busy"),
+        Behavior::ReportsErrorWhileBusy => {
+            ("the answer to ", " shows an error while the card is busy")
+        }
     }
 }
 
@@ -218,66 +165,42 @@ fn put_mishap(
     label: &str,
     graph: &Graph<'_>,
     mishap: &Mishap,
-) -> Result<(), AllocError>
-    ensures { OnOk result (text.new.items ≡ text.old.items ++ mishap_text label.now graph.now.lines mishap.now) }
-{
+) -> Result<(), AllocError> {
     put(text, label)?;
-    put_line_front(text, graph, mishap.point)?;
-    put_event(text, mishap)?;
-    put_times(text, mishap.times)
-}
-
-/// Adds mishaps, each behind a label.
-fn put_each(
-    text: &mut Text,
-    label: &str,
-    graph: &Graph<'_>,
-    mishaps: &[Mishap],
-) -> Result<(), AllocError>
-    ensures { OnOk result (text.new.items
-        ≡ text.old.items ++ flat_map (mishap_text label.now graph.now.lines) mishaps.now) }
-{
-    for mishap in mishaps {
-        put_mishap(text, label, graph, mishap)?;
+    if let Some(line) = graph.lines().get(mishap.point) {
+        put_numbered(text, "line ", u64::from(*line), ": ")?;
     }
-    Ok(())
-}
-
-/// The mishaps in words, each behind a label; or, behind it, that there is none.
-fn text_of(
-    alloc: Global,
-    label: &str,
-    graph: &Graph<'_>,
-    mishaps: &[Mishap],
-) -> Result<Vec<u8>, AllocError>
-    ensures { IfOk result (λ text. text.items ≡ mishaps_text label.now graph.now.lines mishaps.now) }
-{
-    let mut text = Vec::new(alloc);
-    if mishaps.is_empty() {
-        put(&mut text, label)?;
-        put(&mut text, "none\n")?;
+    let (before, after) = words_around(mishap.behavior);
+    put(text, before)?;
+    put_name(text, &mishap.next)?;
+    put(text, after)?;
+    if mishap.times > 1 {
+        put_numbered(text, ", ", mishap.times, " times\n")
     } else {
-        put_each(&mut text, label, graph, mishaps)?;
+        put(text, "\n")
     }
-    Ok(text)
 }
 
-/// The mishaps of a run that refutes a script, a line each behind a label, with the lines of the script.
+/// The mishaps of a run that refutes a script, a line each behind a label, with the lines of the script; or, behind the
+/// label, that there is none.
 ///
 /// # Errors
 ///
 /// Memory was refused.
 pub(crate) fn mishaps_in_words(
     alloc: Global,
-    script: &str,
+    graph: &Graph<'_>,
     label: &str,
     refutation: &Refutation,
-) -> Result<Vec<u8>, AllocError>
-    ensures { IfOk result (λ text. AreMishapsOf script.now label.now text.items) }
-{
-    let Ok(graph) = graph_of_text(alloc, script) else {
-        return Err(AllocError);
-    };
-    let mishaps = mishaps_of(alloc, &graph, refutation)?;
-    text_of(alloc, label, &graph, &mishaps)
+) -> Result<Vec<u8>, AllocError> {
+    let mishaps = mishaps_of(alloc, graph, refutation)?;
+    let mut text = Vec::new(alloc);
+    if mishaps.is_empty() {
+        put(&mut text, label)?;
+        put(&mut text, "none\n")?;
+    }
+    for mishap in &mishaps {
+        put_mishap(&mut text, label, graph, mishap)?;
+    }
+    Ok(text)
 }

@@ -1,31 +1,19 @@
 //! What is told of a run that refutes a script.
 
 ghost use Rattle.std.specs.Prelude.{◌≡◌, IfOk};
-ghost use Rattle.sdv_search.specs.Report.{IsReport, IsWhy, report_text, schedule_lines};
+ghost use Rattle.sdv_search.specs.Report.{IsReport, report_text, schedule_lines};
 
 use crate::mishaps::mishaps_in_words;
 use crate::refuting::Refutation;
+use sdv_graph::Graph;
 use sdv_named_schedules::{has_digits, schedule_text};
 use sdv_refute::Wrong;
 use sdv_telling::{put, put_numbered};
 use sdv_wrong_words::{write_wrong_event, wrong_event};
 use std::alloc::{AllocError, Global};
 
-/// The text of a schedule, with the end of its last line.
-fn schedule_lines(alloc: Global, values: &[u8]) -> Result<Vec<u8>, AllocError>
-    ensures { IfOk result (λ text. text.items ≡ schedule_lines values.now) }
-{
-    let mut text = schedule_text(alloc, values)?;
-    if has_digits(values) {
-        put(&mut text, "\n")?;
-    }
-    Ok(text)
-}
-
 /// Why a run stopped, on a line.
-pub fn why(alloc: Global, wrong: &Wrong) -> Result<Vec<u8>, AllocError>
-    ensures { IfOk result (λ text. IsWhy wrong.now text.items) }
-{
+pub(crate) fn why(alloc: Global, wrong: &Wrong) -> Result<Vec<u8>, AllocError> {
     let mut text = Vec::new(alloc);
     match write_wrong_event(wrong_event(wrong), &mut text) {
         Ok(()) => Ok(text),
@@ -39,34 +27,29 @@ pub fn why(alloc: Global, wrong: &Wrong) -> Result<Vec<u8>, AllocError>
 /// # Errors
 ///
 /// Memory was refused.
-pub fn report(alloc: Global, script: &str, refutation: &Refutation) -> Result<Vec<u8>, AllocError>
-    ensures { IfOk result (λ text. IsReport script.now refutation.now text.items) }
+pub fn report(
+    alloc: Global,
+    graph: &Graph<'_>,
+    refutation: &Refutation,
+) -> Result<Vec<u8>, AllocError>
+    ensures { IfOk result (λ text. IsReport refutation.now text.items) }
 {
-    let Ok(mishaps) = mishaps_in_words(alloc, script, "", refutation) else {
-        return Err(AllocError);
-    };
-    let Ok(why) = why(alloc, &refutation.wrong) else {
-        return Err(AllocError);
-    };
-    let schedule = schedule_lines(alloc, refutation.schedule.as_slice())?;
-    report_of(alloc, refutation, &mishaps, &why, &schedule)
+    let words = words_of(alloc, graph, refutation)?;
+    let schedule = schedule_lines(alloc, &refutation.schedule)?;
+    report_of(alloc, refutation, &words, &schedule)
 }
 
 /// The same, of these parts.
 fn report_of(
     alloc: Global,
     refutation: &Refutation,
-    mishaps: &[u8],
-    why: &[u8],
+    words: &[u8],
     schedule: &[u8],
 ) -> Result<Vec<u8>, AllocError>
-    ensures { IfOk result (λ text. text.items ≡ report_text mishaps.now why.now schedule.now refutation.now) }
+    ensures { IfOk result (λ text. text.items ≡ report_text words.now schedule.now refutation.now) }
 {
     let mut text = Vec::new(alloc);
-    put(&mut text, "mishaps\n")?;
-    text.extend_from_slice(mishaps)?;
-    put(&mut text, "wrong\n")?;
-    text.extend_from_slice(why)?;
+    text.extend_from_slice(words)?;
     put_numbered(
         &mut text,
         "card over new:",
@@ -78,5 +61,30 @@ fn report_of(
     text.extend_from_slice(schedule)?;
     put(&mut text, "trace\n")?;
     text.extend_from_slice(&refutation.trace)?;
+    Ok(text)
+}
+
+/// The mishaps of a run, and why it stops.
+fn words_of(
+    alloc: Global,
+    graph: &Graph<'_>,
+    refutation: &Refutation,
+) -> Result<Vec<u8>, AllocError> {
+    let mut text = Vec::new(alloc);
+    put(&mut text, "mishaps\n")?;
+    text.extend_from_slice(&mishaps_in_words(alloc, graph, "", refutation)?)?;
+    put(&mut text, "wrong\n")?;
+    text.extend_from_slice(&why(alloc, &refutation.wrong)?)?;
+    Ok(text)
+}
+
+/// The text of a schedule, with the end of its last line.
+fn schedule_lines(alloc: Global, values: &[u8]) -> Result<Vec<u8>, AllocError>
+    ensures { IfOk result (λ text. text.items ≡ schedule_lines values.now) }
+{
+    let mut text = schedule_text(alloc, values)?;
+    if has_digits(values) {
+        put(&mut text, "\n")?;
+    }
     Ok(text)
 }

@@ -5,8 +5,8 @@ ghost use Rattle.sdv_image.specs.MemBlocks.{shown_of, size_of};
 ghost use Rattle.sdv_search.specs.Swept.{AreRows, EndsAs, HasEnd, IsNoImage, IsRow, IsSweep, NoEnd, NotSwept, RunsTo};
 ghost use Rattle.sdv_search.specs.Swept.{blocks_of, events_in, line_count, mishap_at};
 
+use sdv_behavior::CardDesc;
 use sdv_controller::Controller;
-use sdv_description::CardDesc;
 use sdv_graph::Graph;
 use sdv_image::MemImage;
 use sdv_refute::{Beside, Next, Nobody, Onlooker, TryFault, Watched, graph_of_text, try_graph};
@@ -164,6 +164,7 @@ impl Common<'_, '_, '_> {
             desc: self.desc,
             schedule,
             input: self.input,
+            lines: false,
         };
         let image = image_of(alloc, self.image)?;
         let mut out = io::sink();
