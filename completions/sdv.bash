@@ -39,13 +39,13 @@ _sdv() {
     last=$((${#words[@]} - 1))
     local word=${words[last]} before=${words[last - 1]}
     if [ "$last" -eq 1 ]; then
-        _sdv_words "$word" "frame certify check run batch explain graph print emit audit describe drive card review try refute sweep decode --help --version"
+        _sdv_words "$word" "frame certify check run batch explain emit audit drive card review try refute --help --version"
         return
     fi
     # which of the command's words this is, options and their files left out
     for ((at = 2; at < last; at++)); do
         case ${words[at]} in
-        --in | --out | --trace | --binary | --card | --schedule | --registers) at=$((at + 1)) ;;
+        --in | --out | --trace | --binary | --card | --schedule | --registers | --script) at=$((at + 1)) ;;
         -?*) ;;
         *) place=$((place + 1)) ;;
         esac
@@ -66,7 +66,7 @@ _sdv() {
     try:*)
         case $before:$word:$place in
         --in:* | --out:*) _sdv_files "$word" '*' ;;
-        *:-*:*) _sdv_words "$word" "--in --out" ;;
+        *:-*:*) _sdv_words "$word" "--in --out --each --lines" ;;
         *:0) _sdv_files "$word" '*.sdv' ;;
         *:1) _sdv_files "$word" '*.card' ;;
         *:2) _sdv_image "$word" ;;
@@ -78,14 +78,6 @@ _sdv() {
         *:-*:*) _sdv_words "$word" "--card --schedule" ;;
         *:0) _sdv_files "$word" '*.sdv' ;;
         esac ;;
-    sweep:*)
-        case $before:$word:$place in
-        --in:*) _sdv_files "$word" '*' ;;
-        *:-*:*) _sdv_words "$word" "--in" ;;
-        *:0) _sdv_files "$word" '*.sdv' ;;
-        *:1) _sdv_files "$word" '*.card' ;;
-        *:2) _sdv_image "$word" ;;
-        esac ;;
     drive:*)
         case $before:$word:$place in
         --in:* | --out:* | --trace:*) _sdv_files "$word" '*' ;;
@@ -93,9 +85,14 @@ _sdv() {
         *:0) _sdv_files "$word" '*.sdv' ;;
         *:1) _sdv_files "$word" '*.cert' ;;
         esac ;;
-    card:0) _sdv_files "$word" '*.card' ;;
-    card:1) _sdv_image "$word" ;;
-    card:2) _sdv_files "$word" '*' ;;
+    card:*)
+        case " ${words[*]} :$word:$place" in
+        *:-*:*) _sdv_words "$word" "--describe" ;;
+        *:0) _sdv_files "$word" '*.card' ;;
+        *" --describe "*:1) _sdv_files "$word" '*' ;;
+        *:1) _sdv_image "$word" ;;
+        *:2) _sdv_files "$word" '*' ;;
+        esac ;;
     emit:*)
         case $before:$word:$place in
         --binary:*) _sdv_files "$word" '*' ;;
@@ -104,16 +101,13 @@ _sdv() {
         *:1) _sdv_files "$word" '*.cert' ;;
         esac ;;
     audit:*)
+        case $before in
+        --script) _sdv_files "$word" '*.sdv' && return ;;
+        --registers) _sdv_files "$word" '*' && return ;;
+        esac
         case $word:$place in
-        -*) _sdv_words "$word" "--json --annotate" ;;
+        -*) _sdv_words "$word" "--json --annotate --script --registers --svg" ;;
         *:0) _sdv_words "$word" "sd emmc" ;;
-        *:1) _sdv_files "$word" '*.trace' ;;
-        esac ;;
-    decode:*)
-        case $before:$word:$place in
-        --registers:*) _sdv_files "$word" '*' ;;
-        *:-*:*) _sdv_words "$word" "--registers --json --svg" ;;
-        *:0) _sdv_files "$word" '*.sdv' ;;
         *:1) _sdv_files "$word" '*.trace' ;;
         esac ;;
     review:*)
@@ -123,20 +117,13 @@ _sdv() {
         esac ;;
     explain:*)
         case $word:$place in
-        -*) _sdv_words "$word" "--why" ;;
+        -*) _sdv_words "$word" "--why --dot --no-faults" ;;
         *:0) _sdv_files "$word" '*.sdv' ;;
         *:1) _sdv_files "$word" '*.cert' ;;
         esac ;;
-    graph:*)
-        case $word:$place in
-        -*) _sdv_words "$word" "--no-faults" ;;
-        *:0) _sdv_files "$word" '*.sdv' ;;
-        esac ;;
-    describe:0) _sdv_files "$word" '*.card' ;;
-    describe:1) _sdv_files "$word" '*' ;;
     batch:0) _sdv_words "$word" "sd emmc" ;;
     check:1) _sdv_files "$word" '*.cert' ;;
-    certify:0 | check:0 | print:0) _sdv_files "$word" '*.sdv' ;;
+    certify:0 | check:0) _sdv_files "$word" '*.sdv' ;;
     esac
 }
 complete -F _sdv sdv

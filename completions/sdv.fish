@@ -8,7 +8,7 @@ function __sdv_place
     for word in $words
         if test $skip -eq 1
             set skip 0
-        else if contains -- $word --in --out --trace --binary --card --schedule --registers
+        else if contains -- $word --in --out --trace --binary --card --schedule --registers --script
             set skip 1
         else
             set place (math $place + 1)
@@ -22,7 +22,7 @@ function __sdv_at
     __fish_seen_subcommand_from $argv[2..]; and test (__sdv_place) -eq $argv[1]
 end
 
-set -l commands frame certify check run batch explain graph print emit audit describe drive card review try refute sweep decode
+set -l commands frame certify check run batch explain emit audit drive card review try refute
 
 complete -c sdv -f
 complete -c sdv -n "not __fish_seen_subcommand_from $commands" -s h -l help -d "How the program is called"
@@ -33,31 +33,25 @@ complete -c sdv -n "not __fish_seen_subcommand_from $commands" -a check -d "Chec
 complete -c sdv -n "not __fish_seen_subcommand_from $commands" -a run -d "Run a script beside a simulated card"
 complete -c sdv -n "not __fish_seen_subcommand_from $commands" -a batch -d "A script that serves requests"
 complete -c sdv -n "not __fish_seen_subcommand_from $commands" -a explain -d "What is known at each statement"
-complete -c sdv -n "not __fish_seen_subcommand_from $commands" -a graph -d "The graph of a script for Graphviz"
-complete -c sdv -n "not __fish_seen_subcommand_from $commands" -a print -d "The tokens of a script"
 complete -c sdv -n "not __fish_seen_subcommand_from $commands" -a emit -d "The table of a script in C"
 complete -c sdv -n "not __fish_seen_subcommand_from $commands" -a audit -d "Where a trace leaves the rules"
-complete -c sdv -n "not __fish_seen_subcommand_from $commands" -a describe -d "A card description in words"
 complete -c sdv -n "not __fish_seen_subcommand_from $commands" -a drive -d "Run a script over lines"
 complete -c sdv -n "not __fish_seen_subcommand_from $commands" -a card -d "Answer requests by a simulated card"
 complete -c sdv -n "not __fish_seen_subcommand_from $commands" -a review -d "What an accepted script leaves open for the data"
 complete -c sdv -n "not __fish_seen_subcommand_from $commands" -a try -d "Run any script beside a simulated card"
 complete -c sdv -n "not __fish_seen_subcommand_from $commands" -a refute -d "A run that shows that a script is refused"
-complete -c sdv -n "not __fish_seen_subcommand_from $commands" -a sweep -d "How each run with one mishap ends"
-complete -c sdv -n "not __fish_seen_subcommand_from $commands" -a decode -d "What the lines of a trace are of, and mean"
 
-complete -c sdv -n "__sdv_at 0 certify check run explain graph print emit drive review try refute sweep decode" -k -a "(__fish_complete_suffix .sdv)"
+complete -c sdv -n "__sdv_at 0 certify check run explain emit drive review try refute" -k -a "(__fish_complete_suffix .sdv)"
 complete -c sdv -n "__sdv_at 1 check run emit drive explain" -k -a "(__fish_complete_suffix .cert)"
 complete -c sdv -n "__sdv_at 2 run" -k -a "(__fish_complete_suffix .card)"
 complete -c sdv -n "__sdv_at 3 run" -F -a "new:" -d "An image of zeros: new:BLOCKS"
 complete -c sdv -n "__sdv_at 4 run" -F -d "Schedule"
-complete -c sdv -n "__sdv_at 1 try sweep" -k -a "(__fish_complete_suffix .card)"
-complete -c sdv -n "__sdv_at 2 try sweep" -F -a "new:" -d "An image of zeros: new:BLOCKS"
+complete -c sdv -n "__sdv_at 1 try" -k -a "(__fish_complete_suffix .card)"
+complete -c sdv -n "__sdv_at 2 try" -F -a "new:" -d "An image of zeros: new:BLOCKS"
 complete -c sdv -n "__sdv_at 3 try" -F -d "Schedule"
-complete -c sdv -n "__sdv_at 1 card" -F -a "new:" -d "An image of zeros: new:BLOCKS"
+complete -c sdv -n "__sdv_at 1 card; and not __fish_contains_opt describe" -F -a "new:" -d "An image of zeros: new:BLOCKS"
 complete -c sdv -n "__sdv_at 2 card" -F -d "Schedule"
-complete -c sdv -n "__sdv_at 1 describe" -F -d "Schedule"
-complete -c sdv -n "__fish_seen_subcommand_from run drive try sweep" -l in -r -F -d "The blocks that the script gives"
+complete -c sdv -n "__fish_seen_subcommand_from run drive try" -l in -r -F -d "The blocks that the script gives"
 complete -c sdv -n "__fish_seen_subcommand_from run drive try" -l out -r -F -d "The file for the blocks that it receives"
 complete -c sdv -n "__fish_seen_subcommand_from run" -l registers -r -F -d "The file for the registers that it receives"
 complete -c sdv -n "__fish_seen_subcommand_from drive" -l trace -r -F -d "The file for the trace"
@@ -66,13 +60,16 @@ complete -c sdv -n "__fish_seen_subcommand_from refute" -l schedule -r -F -d "Th
 complete -c sdv -n "__fish_seen_subcommand_from emit" -l binary -r -F -d "The file for the words of the table as bytes"
 complete -c sdv -n "__fish_seen_subcommand_from audit" -l json -d "Print JSON"
 complete -c sdv -n "__fish_seen_subcommand_from audit" -l annotate -d "Print each line of the trace too"
-complete -c sdv -n "__sdv_at 1 decode" -k -a "(__fish_complete_suffix .trace)"
-complete -c sdv -n "__fish_seen_subcommand_from decode" -l registers -r -F -d "The bytes of the registers that came"
-complete -c sdv -n "__fish_seen_subcommand_from decode" -l json -d "Print JSON"
-complete -c sdv -n "__fish_seen_subcommand_from decode" -l svg -d "Print a picture in SVG"
+complete -c sdv -n "__fish_seen_subcommand_from audit" -l script -r -F -d "The script of the trace"
+complete -c sdv -n "__fish_seen_subcommand_from audit" -l registers -r -F -d "The bytes of the registers that came"
+complete -c sdv -n "__fish_seen_subcommand_from audit" -l svg -d "Print a picture in SVG"
 complete -c sdv -n "__fish_seen_subcommand_from review" -l json -d "Print JSON"
 complete -c sdv -n "__fish_seen_subcommand_from explain" -l why -d "Print only why it is refused"
-complete -c sdv -n "__fish_seen_subcommand_from graph" -l no-faults -d "Leave out the statements that end in a fault"
+complete -c sdv -n "__fish_seen_subcommand_from explain" -l dot -d "Print the graph for Graphviz"
+complete -c sdv -n "__fish_seen_subcommand_from explain" -l no-faults -d "Leave the statements that end in a fault out of the graph"
+complete -c sdv -n "__fish_seen_subcommand_from card" -l describe -d "Print the description in words"
+complete -c sdv -n "__fish_seen_subcommand_from try" -l each -d "Print how each run with one mishap ends"
+complete -c sdv -n "__fish_seen_subcommand_from try" -l lines -d "Print where the host changes its data lines"
 complete -c sdv -n "__sdv_at 1 audit" -k -a "(__fish_complete_suffix .trace)"
-complete -c sdv -n "__sdv_at 0 describe card" -k -a "(__fish_complete_suffix .card)"
+complete -c sdv -n "__sdv_at 0 card" -k -a "(__fish_complete_suffix .card)"
 complete -c sdv -n "__sdv_at 0 batch audit" -a "sd emmc"

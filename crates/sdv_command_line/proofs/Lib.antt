@@ -1,3 +1,0 @@
-pub mod CommandLineLaws
-pub mod WordsGiven
-mod MistakeLaws

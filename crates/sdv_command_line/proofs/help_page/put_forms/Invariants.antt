@@ -1,8 +1,0 @@
-use Rattle.std.proofs.Common.{◌≡◌, ◌++◌, drop, flat_map, map}
-use Rattle.sdv_command_line.specs.Commands.{seen_word, word_form}
-use Rattle.sdv_command_line.proofs.help_page.put_forms.Given as goal
-
--- what is written, and what is still to be, are all
-abbrev pub invariant-loop-word : goal.invariant-loop-word
-invariant-loop-word l =
-    l.page.items ++ flat_map word_form (map seen_word (drop l.word-index l.words)) ≡ l.fn.page.items ++ flat_map word_form (map seen_word l.words)

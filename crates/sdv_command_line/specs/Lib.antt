@@ -1,6 +1,0 @@
-pub mod Commands
-pub mod Requests
-pub mod CommandLine
-pub mod Meanings
-pub mod CommandPages
-pub mod Mistakes

@@ -1,3 +1,0 @@
-pub mod OutcomeLaws
-pub mod OutputLaws
-pub mod StartLaws

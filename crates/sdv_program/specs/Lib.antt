@@ -1,0 +1,11 @@
+pub mod Commands
+pub mod Requests
+pub mod Lines
+pub mod Together
+pub mod CommandLine
+pub mod Fault
+pub mod Refused
+pub mod Files
+pub mod Left
+pub mod Outcomes
+pub mod Uses

@@ -1,6 +1,0 @@
-pub mod TalkLaws
-pub mod BesideLaws
-pub mod LimitLaws
-pub mod DriveLaws
-pub mod ServedMaps
-pub mod CardLaws

@@ -1,4 +1,0 @@
-pub mod Talk
-pub mod Drive
-pub mod CardSide
-pub mod BesideCard
