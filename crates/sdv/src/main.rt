@@ -4,18 +4,14 @@
 #[cfg(test)]
 mod progress_tests;
 #[cfg(test)]
-mod start_tests;
+mod search_tests;
 #[cfg(test)]
 mod stream_tests;
-#[cfg(test)]
-mod testing;
-#[cfg(test)]
-mod tests;
 
 use sdv_commands::progress::{Below, Counted, Progress};
 use sdv_commands::start::start;
-use sdv_faults::Fault;
 use sdv_lines::LinePort;
+use sdv_program::Fault;
 use std::fs;
 use std::io::{self, BufReader, BufWriter, IsTerminal, Stdin, Stdout};
 use std::process::ExitCode;

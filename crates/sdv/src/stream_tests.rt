@@ -1,35 +1,18 @@
-//! The program over writers, readers and texts in memory.
-use crate::testing::{CERTIFICATE, Full, SMALLEST};
-use sdv_commands::program::{answer, program};
-use sdv_faults::Fault;
-use sdv_files::{Source, Store, bytes_within};
+//! The program over readers that are interrupted and that fail.
+use sdv_commands::new_image::NewImage;
+use sdv_commands::program::answer;
 use sdv_lines::LinePort;
-use sdv_run_command::NewImage;
+use sdv_program::{Fault, Source, Store, bytes_within};
 use std::alloc::{AllocError, Global};
-use std::fs;
-use std::io::{self, ErrorKind, Read};
-use std::process::Abort;
-use std::rt::Files;
+use std::io::{self, ErrorKind, Read, Write};
 
-/// A writer that takes one byte at a time, so many and no more, and keeps them.
+/// A writer that takes nothing.
 #[derive(Drop)]
-struct Small {
-    taken: Vec<u8>,
-    room: usize,
-}
+struct Full;
 
-impl io::Write for Small {
-    fn write(&mut self, buf: &[u8]) -> io::Result<usize> {
-        if self.taken.len() == self.room {
-            return Ok(0);
-        }
-        match buf {
-            [] => Ok(0),
-            [byte, ..] => {
-                self.taken.push(*byte)?;
-                Ok(1)
-            }
-        }
+impl Write for Full {
+    fn write(&mut self, _buf: &[u8]) -> io::Result<usize> {
+        Ok(0)
     }
 
     fn flush(&mut self) -> io::Result<()> {
@@ -37,19 +20,18 @@ impl io::Write for Small {
     }
 }
 
-/// A script beside its certificate in memory: whatever file is asked for by the name `script` or by another. A file that is
-/// used while it is read has three letters and comes slowly; reading the one of the name `broken` fails behind them.
+/// Files of three letters that come slowly. Reading the one of the name `broken` fails behind them.
 #[derive(Drop)]
-struct Pair;
+struct SlowFiles;
 
-impl Store for Pair {
+impl Store for SlowFiles {
     type Sink = Full;
 
     type Image = NewImage;
 
     type Source = Source<Slow>;
 
-    ghost use Rattle.sdv_files.specs.Files.{any_files, any_sink};
+    ghost use Rattle.sdv_program.specs.Files.{any_files, any_sink};
 
     ghost known = { λ _. any_files };
 
@@ -59,13 +41,8 @@ impl Store for Pair {
         a == b
     }
 
-    fn bytes_of(&self, alloc: Global, file: &str) -> Result<Option<Vec<u8>>, AllocError> {
-        let text = if file == "script" {
-            SMALLEST
-        } else {
-            CERTIFICATE
-        };
-        Ok(Some(text.as_bytes().to_vec(alloc)?))
+    fn bytes_of(&self, _alloc: Global, _file: &str) -> Result<Option<Vec<u8>>, AllocError> {
+        Ok(None)
     }
 
     fn open(&self, file: &str) -> Option<Source<Slow>> {
@@ -123,65 +100,19 @@ impl Read for Slow {
     }
 }
 
-/// Certifies the smallest script into a writer with room for so many bytes.
-fn certify_into<R: Files + AllocGlobal + Abort>(rt: &R, room: usize) {
-    let mut err = Vec::new(rt.alloc());
-    let mut out = Small {
-        taken: Vec::new(rt.alloc()),
-        room,
-    };
-    let status = if room == CERTIFICATE.len() { 0 } else { 2 };
-    let mut lines = LinePort::new(io::empty(), io::sink());
-    let found = program(
-        rt,
-        &["certify", "printed.sdv"],
-        &mut lines,
-        &mut out,
-        &mut err,
-    );
-    assert!(rt; found == status, "at {room}");
-    let is_front = CERTIFICATE.as_bytes().starts_with(&out.taken);
-    assert!(rt; out.taken.len() == room && is_front, "at {room}");
-    assert!(rt; err.is_empty());
-}
-
-#[test]
-fn certifies_into_a_full_writer(rt: HostRuntime) {
-    fs::write(&rt, "printed.sdv", SMALLEST).expect(&rt, "a file");
-    for room in 0..=CERTIFICATE.len() {
-        certify_into(&rt, room);
-    }
-}
-
-// Words, and what the program prints in answer to them.
-static ANSWERED: [(&[&str], &str); 2] = [
-    (&["certify", "script"], CERTIFICATE),
-    (&["check", "script", "certificate"], "accepted 1\n"),
-];
-
-#[test]
-fn answers_from_texts_in_memory(rt: HostRuntime) {
-    for row in ANSWERED.iter() {
-        let mut out = Vec::new(rt.alloc());
-        let mut lines = LinePort::new(io::empty(), io::sink());
-        answer(rt.alloc(), &Pair, row.0, &mut lines, &mut out).expect(&rt, row.1);
-        assert!(rt; out.as_slice() == row.1.as_bytes(), "{}", row.1);
-    }
-}
-
 #[test]
 fn audits_what_comes_slowly(rt: HostRuntime) {
     let mut out = Vec::new(rt.alloc());
     let mut lines = LinePort::new(io::empty(), io::sink());
     let letters = ["audit", "sd", "letters"];
-    let found = answer(rt.alloc(), &Pair, &letters, &mut lines, &mut out);
+    let found = answer(rt.alloc(), &SlowFiles, &letters, &mut lines, &mut out);
     assert!(rt;
         matches!(found, Err(Fault::Trace(_))),
         "letters are no trace"
     );
     let broken = ["audit", "sd", "broken"];
     let mut lines = LinePort::new(io::empty(), io::sink());
-    let found = answer(rt.alloc(), &Pair, &broken, &mut lines, &mut out);
+    let found = answer(rt.alloc(), &SlowFiles, &broken, &mut lines, &mut out);
     assert!(rt; found == Err(Fault::File("broken")));
     assert!(rt; out.is_empty());
 }

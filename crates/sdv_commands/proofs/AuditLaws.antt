@@ -2,19 +2,19 @@
 use Rattle.std.proofs.Common.{◌≡◌, ap, refl, subst, ℕ, Bool, List, Option, Some, None, Result, Ok, Err, IsErrAnd}
 use Rattle.std.specs.Prelude.{IfSome, if◌then◌else◌}
 use Rattle.sdv_registers.specs.declared.kind.Kind.{Kind}
-use Rattle.sdv_audit_report.specs.Audited.{Audits}
-use Rattle.sdv_audit_report.specs.Notes.{has_findings}
-use Rattle.sdv_audit_report.specs.declared.fault.TraceFault.{TraceFault}
-use Rattle.sdv_audit_report.specs.declared.style.Style.{Style}
-use Rattle.sdv_audit_report.specs.declared.style.Tally.{Tally}
-use Rattle.sdv_faults.specs.Fault.{fault_of_trace}
-use Rattle.sdv_faults.specs.declared.fault.Fault.{Fault}
-use Rattle.sdv_faults.specs.declared.fault.Fault.TheVariants.{Found}
-use Rattle.sdv_command_line.specs.Requests.{AuditNames}
-use Rattle.sdv_files.specs.Files.{Files}
-use Rattle.sdv_files.specs.Outcomes.{outcome_of}
-use Rattle.sdv_files.proofs.OutcomeLaws.{failed}
-use Rattle.sdv_files.proofs.StartLaws.{keeps_same}
+use Rattle.sdv_audit.specs.AuditedTrace.{Audits}
+use Rattle.sdv_audit.specs.Notes.{has_findings}
+use Rattle.sdv_audit.specs.declared.fault.TraceFault.{TraceFault}
+use Rattle.sdv_audit.specs.declared.style.Style.{Style}
+use Rattle.sdv_audit.specs.declared.style.Tally.{Tally}
+use Rattle.sdv_program.specs.Fault.{fault_of_trace}
+use Rattle.sdv_program.specs.declared.fault.Fault.{Fault}
+use Rattle.sdv_program.specs.declared.fault.Fault.TheVariants.{Found}
+use Rattle.sdv_program.specs.Requests.{AuditNames}
+use Rattle.sdv_program.specs.Files.{Files}
+use Rattle.sdv_program.specs.Outcomes.{outcome_of}
+use Rattle.sdv_program.proofs.OutcomeLaws.{failed}
+use Rattle.sdv_program.proofs.StartLaws.{keeps_same}
 use Rattle.sdv_commands.specs.Audit.{AuditEnds, AuditsFile, AuditsReader, NoTrace, no_trace, style_of}
 use Rattle.sdv_commands.specs.Batch.{kind_named}
 

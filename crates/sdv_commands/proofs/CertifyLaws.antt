@@ -14,9 +14,9 @@ use Rattle.sdv_check.specs.Verified.{IsGraphOfText}
 use Rattle.sdv_certify.specs.Assembled.{CertificateOf, VersionFor, ClosedFor, RefusedFor}
 use Rattle.sdv_certify.specs.declared.fault.CertifyFault.{CertifyFault}
 use Rattle.sdv_certify.specs.declared.fault.CertifyFault.TheVariants as certifies
-use Rattle.sdv_faults.specs.Fault.{fault_of_certify}
-use Rattle.sdv_files.specs.Outcomes.{Prints}
-use Rattle.sdv_files.proofs.StartLaws.{keeps_same}
+use Rattle.sdv_program.specs.Fault.{fault_of_certify}
+use Rattle.sdv_program.specs.Outcomes.{Prints}
+use Rattle.sdv_program.proofs.StartLaws.{keeps_same}
 use Rattle.sdv_commands.specs.Certify.{HasNoCertificate, HasNone, IsCertificate, IsCertificateOfText, IsTextOfScript}
 
 abbrev Same : Parsed → Parsed → Type 0

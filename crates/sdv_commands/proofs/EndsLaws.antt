@@ -1,38 +1,35 @@
 -- What the end of a request says of standard output.
-use Rattle.std.proofs.Common.{◌≡◌, ◌≢◌, ◌∙◌, inl, inr, refl, sym, ap, ℕ, IfErr, IsErrAnd, List, OnOk, Option, Result, Ok, Err, Some, None, option_map}
+use Rattle.std.proofs.Common.{◌≡◌, ◌≢◌, ◌∙◌, inl, inr, refl, sym, ap, ℕ, IfErr, IsErrAnd, List, OnOk, Option, Result, Ok, Err, Some, None, false}
 use Rattle.std.specs.Io.KnownBytes.{Keeps}
 use Rattle.clap.specs.Words.{Text}
-use Rattle.sdv_refute_commands.specs.Refute.{IsTold, RefuteEnds, Untold}
-use Rattle.sdv_refute_commands.specs.Sweep.{ImageEnds, InputEnds}
-use Rattle.sdv_refute_commands.specs.Try.{TryEnds}
-use Rattle.sdv_run_command.specs.Run.{RunEnds}
-use Rattle.sdv_command_line.specs.Requests.{CardNames, DecodeNames, EmitNames, ExplainNames, RefuteNames, RunNames, SweepNames, TryNames, Request, frame, certify, check, run, batch, explain, graph, print, emit, audit, describe, drive, serve, review, attempt, refute, sweep, decode}
-use Rattle.sdv_command_line.specs.CommandLine.{meaning_of}
-use Rattle.sdv_command_line.specs.declared.request.RequestFault.{RequestFault}
-use Rattle.sdv_command_line.specs.declared.request.RequestFault.TheVariants as requests
-use Rattle.sdv_commands.specs.Page.{PrintsPage, page_of, text_of}
-use Rattle.sdv_commands.specs.declared.page.Page.{Page}
-use Rattle.sdv_faults.specs.Fault.{fault_of_request, status_of}
-use Rattle.sdv_faults.specs.declared.fault.Fault.{Fault}
-use Rattle.sdv_faults.specs.declared.fault.Fault.TheVariants.{Memory, Output}
-use Rattle.sdv_files.specs.Files.{Files}
-use Rattle.sdv_files.specs.Outcomes.{Ending, OverText, Prints, PrintsText, Reports, outcome_of}
-use Rattle.sdv_files.proofs.OutcomeLaws.{failed, over-kept, prints-kept}
-use Rattle.sdv_files.proofs.StartLaws.{keeps_same}
-use Rattle.sdv_faults.specs.Refused.{Refuses}
+use Rattle.sdv_commands.specs.Refute.{IsTold, RefuteEnds, Untold}
+use Rattle.sdv_commands.specs.Sweep.{ImageEnds, InputEnds}
+use Rattle.sdv_commands.specs.Try.{TryEnds}
+use Rattle.sdv_commands.specs.Run.{RunEnds}
+use Rattle.sdv_program.specs.Requests.{CardNames, EmitNames, RefuteNames, RunNames, SweepNames, TryNames, Request, frame, certify, check, run, batch, explain, graph, emit, audit, decode, drive, serve, describe, review, attempt, sweep, refute}
+use Rattle.sdv_program.specs.CommandLine.{request_of_words}
+use Rattle.sdv_program.specs.declared.line.LineFault.{LineFault}
+use Rattle.sdv_program.specs.declared.line.LineFault.TheVariants as requests
+use Rattle.sdv_commands.specs.Page.{PrintsPage, asks_page}
+use Rattle.sdv_program.specs.Fault.{fault_of_request, status_of}
+use Rattle.sdv_program.specs.declared.fault.Fault.{Fault}
+use Rattle.sdv_program.specs.declared.fault.Fault.TheVariants.{Memory, Output}
+use Rattle.sdv_program.specs.Files.{Files}
+use Rattle.sdv_program.specs.Outcomes.{Ending, OverText, Prints, PrintsText, Reports, outcome_of}
+use Rattle.sdv_program.proofs.OutcomeLaws.{failed, over-kept, prints-kept}
+use Rattle.sdv_program.proofs.StartLaws.{keeps_same}
+use Rattle.sdv_program.specs.Refused.{Refuses}
 use Rattle.sdv_lines.specs.Streams.{Streams}
-use Rattle.sdv_emit_command.specs.Emit.{EmitEnds, IsTableText, TableEnds, Unemitted}
-use Rattle.sdv_streams.specs.CardSide.{CardEnds, CardFails, EndsCard}
+use Rattle.sdv_commands.specs.Emit.{EmitEnds, IsTableText, TableEnds, Unemitted}
+use Rattle.sdv_commands.specs.CardSide.{CardEnds, CardFails, EndsCard}
 use Rattle.sdv_commands.specs.Batch.{HasNoBatch, IsBatchText}
 use Rattle.sdv_commands.specs.Certify.{HasNone, IsCertificate}
 use Rattle.sdv_commands.specs.Check.{IsBoundLine}
-use Rattle.sdv_commands.specs.Decode.{DecodeEnds, DecodesScript, DecodesTexts, DecodesTrace, form_of}
 use Rattle.sdv_commands.specs.Describe.{DescribesText, HasNoPage, IsPageOf}
 use Rattle.sdv_commands.specs.Given.{OverGiven}
 use Rattle.sdv_commands.specs.Explain.{ExplainsText, HasNoAnswer, IsJudgement}
 use Rattle.sdv_commands.specs.Frame.{IsFrameText, WriteNone}
 use Rattle.sdv_commands.specs.Graph.{IsDrawing, IsUndrawn}
-use Rattle.sdv_commands.specs.Print.{HasNoTokens, IsPrinted}
 use Rattle.sdv_commands.specs.Review.{IsReview}
 use Rattle.sdv_commands.specs.Ends.{AreQuiet, AreWhole, EndsRequest, EndsWords, IsQuiet, IsWhole, for_memory, for_nothing, for_page, for_request}
 
@@ -82,9 +79,6 @@ module _ (files : Files) (s s' : Streams) (before after : Option (List ℕ)) whe
       prints-kept before after (IsBatchText kind requests) (HasNoBatch kind requests) fault other ends.1
   quiet-kept (explain names) quiet fault other ends = absurd quiet
   quiet-kept (graph names) quiet fault other ends = absurd quiet
-  quiet-kept (print script) quiet fault other ends =
-      over-kept before after files script (λ (text : Text). Prints (IsPrinted text) (HasNoTokens text)) (Some fault)
-      (λ text. prints-kept before after (IsPrinted text) (HasNoTokens text) fault other) ends.1
   quiet-kept (emit names) quiet fault other ends = emit-kept names fault other ends.1
   quiet-kept (audit names) quiet fault other ends = absurd quiet
   quiet-kept (describe card schedule) quiet fault other ends = absurd quiet
@@ -97,12 +91,12 @@ module _ (files : Files) (s s' : Streams) (before after : Option (List ℕ)) whe
   quiet-kept (decode names) quiet fault other ends = absurd quiet
 
   run-memory : (names : RunNames) → RunEnds files names (Some Memory) before after → Keeps before after
-  run-memory names (inl taken) = taken.1
-  run-memory names (inr apart) = apart.1
+  run-memory names (image, is, inl taken) = taken.1
+  run-memory names (image, is, inr apart) = apart.1
 
   try-memory : (names : TryNames) → TryEnds files names (Some Memory) before after → Keeps before after
-  try-memory names (inl taken) = taken.1
-  try-memory names (inr apart) = apart.1
+  try-memory names (image, is, inl taken) = taken.1
+  try-memory names (image, is, inr apart) = apart.1
 
   input-memory : (names : SweepNames) (script card image : Text) → InputEnds files names script card image (Some Memory) before after → Keeps before after
   input-memory names script card image (inl none) = none.1
@@ -112,10 +106,10 @@ module _ (files : Files) (s s' : Streams) (before after : Option (List ℕ)) whe
   image-memory names script card (inl none) = none.1
   image-memory names script card (inr given) = input-memory names script card given.0 given.2
 
-  explain-memory : (names : ExplainNames) (script : Text) (certificate : Option Text)
-      → ExplainsText files names script certificate (Some Memory) before after → Keeps before after
-  explain-memory names script None ends = ends
-  explain-memory names script (Some file) ends =
+  explain-memory : (script : Text) (certificate : Option Text)
+      → ExplainsText files script certificate (Some Memory) before after → Keeps before after
+  explain-memory script None ends = ends
+  explain-memory script (Some file) ends =
       over-kept before after files file (λ (text : Text). Reports (IsJudgement script text) HasNoAnswer) (Some Memory) (λ text kept. kept) ends
 
   given-memory : (file : Option Text) (Ends : Option (List ℕ) → Ending)
@@ -124,13 +118,6 @@ module _ (files : Files) (s s' : Streams) (before after : Option (List ℕ)) whe
   given-memory None Ends kept ends = kept None ends
   given-memory (Some file) Ends kept (inl none) = none.1
   given-memory (Some file) Ends kept (inr given) = kept (Some given.0) given.2
-
-  decode-memory : (names : DecodeNames) → DecodeEnds files names (Some Memory) before after → Keeps before after
-  decode-memory names (inl both) = both.2
-  decode-memory names (inr one) =
-      over-kept before after files names.script (λ (script : Text). DecodesScript files names script) (Some Memory)
-      (λ script. over-kept before after files names.trace (λ (trace : Text). DecodesTrace files names script trace) (Some Memory)
-      (λ trace. given-memory names.registers (DecodesTexts (form_of names) script trace) (λ given kept. kept))) one.1
 
   -- nothing is printed for want of memory, but by an audit
   memory-kept : (request : Request) → IsWhole request → EndsRequest files s s' request (Some Memory) before after → Keeps before after
@@ -145,13 +132,11 @@ module _ (files : Files) (s s' : Streams) (before after : Option (List ℕ)) whe
   memory-kept (run names) whole ends = run-memory names ends.1
   memory-kept (batch kind requests) whole ends = ends.1
   memory-kept (explain names) whole ends =
-      over-kept before after files names.script (λ (text : Text). ExplainsText files names text names.certificate) (Some Memory)
-      (λ text. explain-memory names text names.certificate) ends.1
+      over-kept before after files names.script (λ (text : Text). ExplainsText files text names.certificate) (Some Memory)
+      (λ text. explain-memory text names.certificate) ends.1
   memory-kept (graph names) whole ends =
       over-kept before after files names.script (λ (text : Text). Reports (IsDrawing names.no_faults text) (IsUndrawn text)) (Some Memory)
       (λ text kept. kept) ends.1
-  memory-kept (print script) whole ends =
-      over-kept before after files script (λ (text : Text). Prints (IsPrinted text) (HasNoTokens text)) (Some Memory) (λ text kept. kept) ends.1
   memory-kept (emit names) whole ends = emit-memory names ends.1
   memory-kept (audit names) whole ends = absurd whole
   memory-kept (describe card schedule) whole ends =
@@ -166,30 +151,18 @@ module _ (files : Files) (s s' : Streams) (before after : Option (List ℕ)) whe
   memory-kept (sweep names) whole ends =
       over-kept before after files names.script (λ (script : Text). OverText files names.card (ImageEnds files names script)) (Some Memory)
       (λ script. over-kept before after files names.card (ImageEnds files names script) (Some Memory) (image-memory names script)) ends.1
-  memory-kept (decode names) whole ends = decode-memory names ends.1
-
-  printed-fault : (page : Text) (fault : Fault) → PrintsText page (Some fault) before after → fault ≡ Output
-  printed-fault page Output ends = refl
-  printed-fault page _ ends = absurd ends
-
-  -- a page that was not printed leaves standard output as it was
-  page-kept : (page : Text) (fault : Fault) → fault ≢ Output → PrintsPage page (Some fault) before after → Keeps before after
-  page-kept page fault other (inl printed) = absurd (other (printed-fault page fault printed))
-  page-kept page fault other (inr memory) = memory.1
-
-  page-memory : (page : Text) → PrintsPage page (Some Memory) before after → Keeps before after
-  page-memory page (inl printed) = absurd printed
-  page-memory page (inr memory) = memory.1
+  memory-kept (decode names) whole ends = absurd whole
 
   pub words-kept : (words : List Text) → AreQuiet words → (fault : Fault) → fault ≢ Output → EndsWords files s s' words (Some fault) before after
       → Keeps before after
-  words-kept words quiet fault other (for_page page asked silent ends) = page-kept page fault other ends
+  words-kept words quiet fault other (for_page asked silent ends) =
+      prints-kept before after (λ (page : Text). Unit {0}) (λ (fault : Fault). ⊥) fault other ends
   words-kept words quiet fault other (for_request request means ends) = quiet-kept request (quiet request means) fault other ends
   words-kept words quiet fault other (for_nothing no_page none is silent kept) = kept
   words-kept words quiet fault other (for_memory is silent kept) = kept
 
   pub words-memory-kept : (words : List Text) → AreWhole words → EndsWords files s s' words (Some Memory) before after → Keeps before after
-  words-memory-kept words whole (for_page page asked silent ends) = page-memory page ends
+  words-memory-kept words whole (for_page asked silent ends) = ends
   words-memory-kept words whole (for_request request means ends) = memory-kept request (whole request means) ends
   words-memory-kept words whole (for_nothing no_page none is silent kept) = kept
   words-memory-kept words whole (for_memory is silent kept) = kept
@@ -205,15 +178,12 @@ of_memory _ three = cc
 
 -- WORDS that are no request
 
-pub no_page : (found : Option Page) (page : Option Text) → option_map text_of found ≡ page → found ≡ None → page ≡ None
-no_page found page same none = sym same ∙ ap (option_map text_of) none
-
-module _ (files : Files) (s : Streams) (words : List Text) (known : Option (List ℕ)) (none_asked : page_of words ≡ None) where
-  unread : (fault : RequestFault) → (fault ≡ requests.Usage → meaning_of words ≡ None) → EndsWords files s s words (Some (fault_of_request fault)) known known
+module _ (files : Files) (s : Streams) (words : List Text) (known : Option (List ℕ)) (none_asked : asks_page words ≡ false) where
+  unread : (fault : LineFault) → (fault ≡ requests.Usage → request_of_words words ≡ None) → EndsWords files s s words (Some (fault_of_request fault)) known known
   unread requests.Usage none = for_nothing none_asked (none refl) refl refl (keeps_same known)
   unread requests.Memory none = for_memory refl refl (keeps_same known)
 
-  pub no_request : {T : Type 0} (fault : RequestFault) → (fault ≡ requests.Usage → meaning_of words ≡ None) → (r : Result T Fault)
+  pub no_request : {T : Type 0} (fault : LineFault) → (fault ≡ requests.Usage → request_of_words words ≡ None) → (r : Result T Fault)
       → IsErrAnd r (λ f. f ≡ fault_of_request fault) → EndsWords files s s words (outcome_of r) known known
   no_request fault none r is = failed (λ outcome. EndsWords files s s words outcome known known) _ r is (unread fault none)
 

@@ -6,11 +6,11 @@ use Rattle.sdv_certify.specs.declared.fault.CertifyFault.TheVariants as certifie
 use Rattle.sdv_review.specs.declared.fault.ReviewFault.{ReviewFault}
 use Rattle.sdv_review.specs.declared.fault.ReviewFault.TheVariants.{Script, Refused, Memory}
 use Rattle.sdv_review.specs.Reviewed.{Unreviewed}
-use Rattle.sdv_faults.specs.Fault.{fault_of_certify, fault_of_review}
-use Rattle.sdv_faults.specs.declared.fault.Fault.{Fault}
-use Rattle.sdv_faults.specs.declared.fault.Fault.TheVariants as faults
-use Rattle.sdv_files.specs.Outcomes.{Reports}
-use Rattle.sdv_files.proofs.StartLaws.{keeps_same}
+use Rattle.sdv_program.specs.Fault.{fault_of_certify, fault_of_review}
+use Rattle.sdv_program.specs.declared.fault.Fault.{Fault}
+use Rattle.sdv_program.specs.declared.fault.Fault.TheVariants as faults
+use Rattle.sdv_program.specs.Outcomes.{Reports}
+use Rattle.sdv_program.proofs.StartLaws.{keeps_same}
 use Rattle.sdv_commands.specs.Certify.{HasNone}
 use Rattle.sdv_commands.proofs.CertifyLaws.{no_certificate}
 

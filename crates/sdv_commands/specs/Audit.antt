@@ -1,18 +1,18 @@
 -- `audit KIND TRACE`: the report on the trace of a file is printed while the trace is read.
-use Rattle.std.specs.Prelude.{◌≡◌, ℕ, List, Option, Some, None, Result, Ok, Err, IfSome, if◌then◌else◌}
+use Rattle.std.specs.Prelude.{◌≡◌, ℕ, List, Option, Some, None, Result, Ok, Err, IfSome, false, if◌then◌else◌}
 use Rattle.std.specs.Io.KnownBytes.{Keeps}
 use Rattle.clap.specs.Words.{Text}
 use Rattle.sdv_registers.specs.declared.kind.Kind.{Kind}
-use Rattle.sdv_audit_report.specs.Audited.{Audits}
-use Rattle.sdv_audit_report.specs.Notes.{has_findings}
-use Rattle.sdv_audit_report.specs.declared.fault.TraceFault.{TraceFault}
-use Rattle.sdv_audit_report.specs.declared.style.Style.{Style}
-use Rattle.sdv_audit_report.specs.declared.style.Tally.{Tally}
-use Rattle.sdv_command_line.specs.Requests.{AuditNames}
-use Rattle.sdv_faults.specs.Fault.{fault_of_trace}
-use Rattle.sdv_faults.specs.declared.fault.Fault.{Fault}
-use Rattle.sdv_faults.specs.declared.fault.Fault.TheVariants.{Usage, File, Found, Memory}
-use Rattle.sdv_files.specs.Files.{Files}
+use Rattle.sdv_audit.specs.AuditedTrace.{Audits}
+use Rattle.sdv_audit.specs.Notes.{has_findings}
+use Rattle.sdv_audit.specs.declared.fault.TraceFault.{TraceFault}
+use Rattle.sdv_audit.specs.declared.style.Style.{Style}
+use Rattle.sdv_audit.specs.declared.style.Tally.{Tally}
+use Rattle.sdv_program.specs.Requests.{AuditNames}
+use Rattle.sdv_program.specs.Fault.{fault_of_trace}
+use Rattle.sdv_program.specs.declared.fault.Fault.{Fault}
+use Rattle.sdv_program.specs.declared.fault.Fault.TheVariants.{Usage, File, Found, Memory}
+use Rattle.sdv_program.specs.Files.{Files}
 use Rattle.sdv_commands.specs.Batch.{kind_named}
 
 -- an audit that found something ends by a fault, but not where it found lines outside the tables alone
@@ -29,7 +29,7 @@ pub record AuditsReader (kind : Kind) (style : Style) (trace : Option (List ℕ)
   pub outcome_is : outcome ≡ ended_by result
 
 abbrev pub style_of : AuditNames → Style
-style_of names = record { json = names.json; annotate = names.annotate }
+style_of names = record { json = names.json; annotate = names.annotate; put_in = false }
 
 -- the file of this name could not be opened or read
 abbrev pub IsUnread : Files → (wanted : Text) → Option Fault → Type 0

@@ -16,9 +16,9 @@ use Rattle.sdv_block.specs.declared.request.Request.TheVariants.{Read, Write}
 use Rattle.sdv_block.specs.Batch.{batch_refusal}
 use Rattle.sdv_block.specs.BatchText.{batch_script}
 use Rattle.sdv_text.specs.Number.{IsNumber, value_of}
-use Rattle.sdv_faults.specs.declared.fault.Fault.{Fault}
-use Rattle.sdv_faults.specs.declared.fault.Fault.TheVariants.{Usage, Unserved, Memory}
-use Rattle.sdv_files.specs.Outcomes.{Ending, Prints}
+use Rattle.sdv_program.specs.declared.fault.Fault.{Fault}
+use Rattle.sdv_program.specs.declared.fault.Fault.TheVariants.{Usage, Unserved, Memory}
+use Rattle.sdv_program.specs.Outcomes.{Ending, Prints}
 
 abbrev pub kind_named : Text → Option Kind
 kind_named word = if bytes_eq word (codes "sd") then Some Sd else

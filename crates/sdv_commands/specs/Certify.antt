@@ -12,10 +12,10 @@ use Rattle.sdv_check.specs.Verified.{IsGraphOfText, IsNoScript}
 use Rattle.sdv_certify.specs.declared.fault.CertifyFault.{CertifyFault}
 use Rattle.sdv_certify.specs.declared.fault.CertifyFault.TheVariants.{Memory as NoMemory}
 use Rattle.sdv_certify.specs.Assembled.{CertificateOf, VersionFor, RefusedFor}
-use Rattle.sdv_files.specs.Files.{Files}
-use Rattle.sdv_files.specs.Outcomes.{Ending, OverText, Prints}
-use Rattle.sdv_faults.specs.declared.fault.Fault.{Fault}
-use Rattle.sdv_faults.specs.declared.fault.Fault.TheVariants.{Script, Uncertified}
+use Rattle.sdv_program.specs.Files.{Files}
+use Rattle.sdv_program.specs.Outcomes.{Ending, OverText, Prints}
+use Rattle.sdv_program.specs.declared.fault.Fault.{Fault}
+use Rattle.sdv_program.specs.declared.fault.Fault.TheVariants.{Script, Uncertified}
 
 -- TEXTS
 

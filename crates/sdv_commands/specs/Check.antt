@@ -3,9 +3,9 @@ use Rattle.std.specs.Prelude.{◌≡◌, ℕ, [], ◌∷◌, ◌++◌, codes, de
 use Rattle.clap.specs.Words.{Text}
 use Rattle.sdv_check.specs.Headline.{EachRunOf}
 use Rattle.sdv_check.specs.Verified.{Acceptance, IsAccepted}
-use Rattle.sdv_faults.specs.Refused.{Refuses}
-use Rattle.sdv_files.specs.Files.{Files}
-use Rattle.sdv_files.specs.Outcomes.{Ending, OverText, Prints}
+use Rattle.sdv_program.specs.Refused.{Refuses}
+use Rattle.sdv_program.specs.Files.{Files}
+use Rattle.sdv_program.specs.Outcomes.{Ending, OverText, Prints}
 
 abbrev pub accepted_text : (bound : ℕ) → Text
 accepted_text bound = codes "accepted " ++ (decimal bound ++ 10 ∷ [])

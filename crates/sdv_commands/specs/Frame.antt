@@ -7,9 +7,9 @@ use Rattle.hex.specs.Hex.{encode_lower}
 use Rattle.sdv_frames.specs.Frame.{IsCommand, IsCommandFrame}
 use Rattle.sdv_frames.specs.declared.command.Command.{Command}
 use Rattle.sdv_text.specs.Number.{IsNumber, value_of}
-use Rattle.sdv_files.specs.Outcomes.{Ending, Prints}
-use Rattle.sdv_faults.specs.declared.fault.Fault.{Fault}
-use Rattle.sdv_faults.specs.declared.fault.Fault.TheVariants.{Usage}
+use Rattle.sdv_program.specs.Outcomes.{Ending, Prints}
+use Rattle.sdv_program.specs.declared.fault.Fault.{Fault}
+use Rattle.sdv_program.specs.declared.fault.Fault.TheVariants.{Usage}
 
 -- the texts write the index and the argument of a command, which are in their ranges
 pub record Writes (index argument : List ℕ) (c : Command) : Type 0 where

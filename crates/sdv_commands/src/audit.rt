@@ -1,13 +1,11 @@
 //! `audit KIND TRACE`: where the host or the card of a trace leaves the rules.
-ghost use Rattle.sdv_files.specs.Outcomes.{outcome_of};
-ghost use Rattle.sdv_command_line.specs.Requests.{audit_names_of};
+ghost use Rattle.sdv_program.specs.Outcomes.{outcome_of};
+ghost use Rattle.sdv_program.specs.Requests.{audit_names_of};
 ghost use Rattle.sdv_commands.specs.Audit.{AuditEnds, AuditsReader};
 
 use crate::batch::kind_of;
-use sdv_audit_report::{Style, audit_trace};
-use sdv_command_line::AuditWords;
-use sdv_faults::Fault;
-use sdv_files::{Store, buffered};
+use sdv_audit::{Style, audit_trace};
+use sdv_program::{AuditWords, Fault, Store, buffered};
 use sdv_registers::Kind;
 use std::alloc::Global;
 use std::io::{Read, Write};
@@ -31,6 +29,7 @@ pub fn audit_file<'a, S: Store, O: Write>(
     let style = Style {
         json: words.json,
         annotate: words.annotate,
+        put_in: false,
     };
     let kind = kind_of(words.kind).ok_or(Fault::Usage)?;
     let source = files.open(words.trace).ok_or(Fault::File(words.trace))?;

@@ -1,11 +1,10 @@
 //! `batch KIND REQUESTS`: the script that serves requests to a disk.
 ghost use Rattle.std.specs.Prelude.{◌≡◌, IfErr, IfNone, IfOk, IfSome};
-ghost use Rattle.sdv_files.specs.Outcomes.{outcome_of};
+ghost use Rattle.sdv_program.specs.Outcomes.{outcome_of};
 ghost use Rattle.sdv_commands.specs.Batch.{AreRequests, BatchEnds, IsRequest, NoRequest, NoRequests, kind_named};
 
 use sdv_block::{Request, batch};
-use sdv_faults::Fault;
-use sdv_files::print_text;
+use sdv_program::{Fault, print_text};
 use sdv_registers::Kind;
 use sdv_text::number_of;
 use std::alloc::Global;

@@ -1,10 +1,9 @@
 //! `certify SCRIPT`: the certificate of a script.
 ghost use Rattle.sdv_commands.specs.Certify.{CertifyEnds, HasNone, IsCertificate};
-ghost use Rattle.sdv_files.specs.Outcomes.{Prints, outcome_of};
+ghost use Rattle.sdv_program.specs.Outcomes.{Prints, outcome_of};
 
 use sdv_certify::{certify, write};
-use sdv_faults::Fault;
-use sdv_files::{Store, text_in};
+use sdv_program::{Fault, Store, text_in};
 use sdv_script::parse;
 use std::alloc::Global;
 use std::io::Write;

@@ -1,13 +1,12 @@
 //! `check SCRIPT CERT`: what the checker says of a script and a certificate.
 ghost use Rattle.sdv_text.specs.Written.{Writes};
-ghost use Rattle.sdv_faults.specs.Refused.{Refuses};
-ghost use Rattle.sdv_files.specs.Outcomes.{Prints, outcome_of};
+ghost use Rattle.sdv_program.specs.Refused.{Refuses};
+ghost use Rattle.sdv_program.specs.Outcomes.{Prints, outcome_of};
 ghost use Rattle.sdv_commands.specs.Check.{CheckEnds, IsBoundLine, accepted_text};
 
 use itoa::Buffer;
 use sdv_check::verify;
-use sdv_faults::Fault;
-use sdv_files::{Store, text_in};
+use sdv_program::{Fault, Store, text_in};
 use sdv_text::write_texts;
 use std::alloc::Global;
 use std::io::{self, Write};

@@ -1,24 +1,30 @@
-//! `decode SCRIPT TRACE [--registers FILE] [--json] [--svg]`: which statement of a script each line of a trace is of, and
-//! what it means.
+//! `audit KIND TRACE --script SCRIPT [--registers FILE] [--json] [--svg]`: which statement of a script each line of a trace is
+//! of, and what it means; and then where the host or the card of the trace leaves the rules.
 ghost use Rattle.std.specs.Prelude.{◌≡◌, Some, option_map};
-ghost use Rattle.sdv_command_line.specs.Requests.{decode_names_of};
-ghost use Rattle.sdv_files.specs.Outcomes.{outcome_of};
+ghost use Rattle.sdv_program.specs.Requests.{decode_names_of};
+ghost use Rattle.sdv_program.specs.Outcomes.{outcome_of};
 ghost use Rattle.sdv_commands.specs.Given.{OverGiven};
-ghost use Rattle.sdv_commands.specs.Decode.{DecodeEnds, DecodesFiles, DecodesScript, DecodesTexts, DecodesTrace, fault_of_decode, fault_of_off, asks_both, form_of};
+ghost use Rattle.sdv_commands.specs.Decode.{AuditsGraph, AuditsIn, AuditsLined, DecodeEnds, DecodesFiles, DecodesTexts};
+ghost use Rattle.sdv_commands.specs.Decode.{DecodesTrace, fault_of_audit, form_of, told_off};
+ghost use Rattle.sdv_commands.specs.Report.{CanBeTold, found_if};
 
-use sdv_audit_report::TraceFault;
-use sdv_command_line::DecodeWords;
-use sdv_decode::{DecodeFault, Form, TraceOff, decode};
-use sdv_faults::Fault;
-use sdv_files::{Store, bytes_in, print_text, text_in};
+use crate::batch::kind_of;
+use crate::report::print_report;
+use sdv_audit::{AuditFault, Style, TraceFault};
+use sdv_decode::{Form, TraceOff, audit_beside, decode};
+use sdv_graph::Graph;
+use sdv_program::{DecodeWords, Fault, Store, bytes_in, text_in};
+use sdv_registers::Kind;
+use sdv_script::parse;
 use std::alloc::Global;
-use std::io::Write;
+use std::io::{self, Write};
 
-/// Prints the lines of the trace of a file, each with the line of the script of another that it is of.
+/// Prints the lines of the trace of a file, each with the line of the script of another that it is of, and then the report on
+/// the trace.
 ///
 /// # Errors
 ///
-/// - [`Fault::Usage`]: both JSON and a picture are asked for. Nothing was printed.
+/// - [`Fault::Usage`]: there is no such kind of card. Nothing was printed.
 /// - [`Fault::File`]: a file cannot be used; each before it could. Nothing was printed.
 /// - The faults of [`decode_texts`].
 pub fn decode_files<'a, S: Store, O: Write>(
@@ -30,31 +36,31 @@ pub fn decode_files<'a, S: Store, O: Write>(
     ensures { DecodeEnds (S.known files.now) (decode_names_of words.entry)
         (outcome_of result) (O.contents out.old) (O.contents out.new) }
 {
-    if asks_both(&words) {
+    let Some(kind) = kind_of(words.kind) else {
         return Err(Fault::Usage);
-    }
-    decode_in_form(alloc, files, words, out)
+    };
+    decode_in_files(alloc, files, words, kind, out)
 }
 
-/// Both JSON and a picture are asked for.
-fn asks_both(words: &DecodeWords<'_>) -> bool
-    ensures { result ≡ asks_both (decode_names_of words.now) }
-{
-    words.json && words.svg
-}
-
-/// The same in the one form that is asked for.
-fn decode_in_form<'a, S: Store, O: Write>(
+/// The same for a card of a kind.
+fn decode_in_files<'a, S: Store, O: Write>(
     alloc: Global,
     files: &S,
     words: DecodeWords<'a>,
+    kind: Kind,
     out: &mut O,
 ) -> Result<(), Fault<'a>>
-    ensures { DecodesFiles (S.known files.now) (decode_names_of words.entry)
+    ensures { DecodesFiles (S.known files.now) kind (decode_names_of words.entry)
         (outcome_of result) (O.contents out.old) (O.contents out.new) }
 {
     let script = text_in(alloc, files, words.script)?;
-    decode_script(alloc, files, words, script.as_str(), out)
+    let trace = text_in(alloc, files, words.trace)?;
+    let texts = Texts {
+        kind,
+        script: script.as_str(),
+        trace: trace.as_str(),
+    };
+    decode_trace(alloc, files, words, texts, out)
 }
 
 /// The form that is asked for.
@@ -70,33 +76,15 @@ fn form_of(words: &DecodeWords<'_>) -> Form
     }
 }
 
-/// The same of the text of the script.
-fn decode_script<'a, S: Store, O: Write>(
-    alloc: Global,
-    files: &S,
-    words: DecodeWords<'a>,
-    script: &str,
-    out: &mut O,
-) -> Result<(), Fault<'a>>
-    ensures { DecodesScript (S.known files.now) (decode_names_of words.entry) script.now
-        (outcome_of result) (O.contents out.old) (O.contents out.new) }
-{
-    let trace = text_in(alloc, files, words.trace)?;
-    let texts = Texts {
-        script,
-        trace: trace.as_str(),
-    };
-    decode_trace(alloc, files, words, texts, out)
-}
-
-/// The texts of a script and of a trace.
+/// The kind of the card, and the texts of a script and of a trace.
 #[derive(Clone, Copy)]
 pub struct Texts<'t> {
+    pub kind: Kind,
     pub script: &'t str,
     pub trace: &'t str,
 }
 
-/// The same of the text of the trace.
+/// The same of these texts.
 fn decode_trace<'a, S: Store, O: Write>(
     alloc: Global,
     files: &S,
@@ -104,8 +92,8 @@ fn decode_trace<'a, S: Store, O: Write>(
     texts: Texts<'_>,
     out: &mut O,
 ) -> Result<(), Fault<'a>>
-    ensures { DecodesTrace (S.known files.now) (decode_names_of words.entry) texts.entry.script.now
-        texts.entry.trace.now (outcome_of result) (O.contents out.old) (O.contents out.new) }
+    ensures { DecodesTrace (S.known files.now) texts.entry.kind (decode_names_of words.entry)
+        texts.entry.script.now texts.entry.trace.now (outcome_of result) (O.contents out.old) (O.contents out.new) }
 {
     let form = form_of(&words);
     match words.registers {
@@ -124,24 +112,25 @@ fn decode_given<'a, S: Store, O: Write>(
     out: &mut O,
 ) -> Result<(), Fault<'a>>
     ensures { OverGiven (S.known files.now) (Some file.entry.now)
-        (DecodesTexts form texts.entry.script.now texts.entry.trace.now)
-        (outcome_of result) (O.contents out.old) (O.contents out.new) }
+        (DecodesTexts form texts.entry.kind texts.entry.script.now texts.entry.trace.now) (outcome_of result) (O.contents out.old) (O.contents out.new) }
 {
     let bytes = bytes_in(alloc, files, file)?;
     decode_texts(alloc, texts, Some(bytes.as_slice()), form, out)
 }
 
-/// Prints the lines of a trace in some form, each with the line of the script that it is of, by their texts. The bytes of the
-/// registers that came may be given besides.
+/// Prints the lines of a trace in some form, each with the line of the script that it is of, by their texts; and in words the
+/// report on the trace behind them. The bytes of the registers that came may be given besides.
 ///
 /// # Errors
 ///
 /// - [`Fault::Script`]: the text is no script. Nothing was printed.
+/// - [`Fault::OtherKind`]: it is one for another kind of card. Nothing was printed.
 /// - [`Fault::Trace`]: a line is none of a trace, and the lines before it were printed; or a card could be in too many shapes,
-///   and nothing was printed.
+///   and nothing was printed but, perhaps, the lines and a part of the report.
 /// - [`Fault::Stray`]: the script does not come to a line of the trace. It was printed, and so were the lines before it.
-/// - [`Fault::Output`]: the output failed. A part of the lines was printed.
-/// - [`Fault::Memory`]: memory was refused. Nothing was printed.
+/// - [`Fault::Found`]: the host or the card left the rules. All was printed.
+/// - [`Fault::Output`]: the output failed. A part of it was printed.
+/// - [`Fault::Memory`]: memory was refused.
 pub fn decode_texts<'a, O: Write>(
     alloc: Global,
     texts: Texts<'_>,
@@ -149,38 +138,111 @@ pub fn decode_texts<'a, O: Write>(
     form: Form,
     out: &mut O,
 ) -> Result<(), Fault<'a>>
-    ensures { DecodesTexts form texts.entry.script.now texts.entry.trace.now
-        (option_map (λ bytes. bytes.now) given.entry)
+    ensures { DecodesTexts form texts.entry.kind texts.entry.script.now texts.entry.trace.now
+        (option_map (λ bytes. bytes.now) given.entry) (outcome_of result) (O.contents out.old) (O.contents out.new) }
+{
+    let script = parse(alloc, texts.script)?;
+    let Ok(graph) = script.graph(alloc) else {
+        return Err(Fault::Memory);
+    };
+    if graph.kind() != texts.kind {
+        return Err(Fault::OtherKind);
+    }
+    let traced = Traced {
+        trace: texts.trace.as_bytes(),
+        given,
+    };
+    decode_graph(alloc, &graph, traced, form, out)
+}
+
+/// A trace, and the bytes of the registers that came, if they are given.
+#[derive(Clone, Copy)]
+struct Traced<'t> {
+    trace: &'t [u8],
+    given: Option<&'t [u8]>,
+}
+
+/// The same beside the graph of the script.
+fn decode_graph<'a, O: Write>(
+    alloc: Global,
+    graph: &Graph<'_>,
+    traced: Traced<'_>,
+    form: Form,
+    out: &mut O,
+) -> Result<(), Fault<'a>>
+    ensures { AuditsGraph form graph.now traced.entry.trace.now
+        (option_map (λ bytes. bytes.now) traced.entry.given)
         (outcome_of result) (O.contents out.old) (O.contents out.new) }
 {
-    let decoded = match decode(alloc, texts.script, texts.trace.as_bytes(), given, form) {
+    let decoded = match decode(alloc, graph, traced.trace, traced.given, form) {
         Ok(decoded) => decoded,
         Err(fault) => return Err(fault_of(fault)),
     };
-    print_text(decoded.text.as_slice(), out)?;
-    match decoded.off {
-        None => Ok(()),
-        Some(off) => Err(fault_of_off(off)),
+    print_report(&decoded.text, told_off(decoded.off), out)?;
+    audit_in(alloc, graph, traced, form, out)
+}
+
+/// Prints the report on a trace, if the form is that of words; or else only ends as it.
+fn audit_in<'a, O: Write>(
+    alloc: Global,
+    graph: &Graph<'_>,
+    traced: Traced<'_>,
+    form: Form,
+    out: &mut O,
+) -> Result<(), Fault<'a>>
+    ensures { AuditsIn form graph.now traced.entry.trace.now (option_map (λ bytes. bytes.now) traced.entry.given)
+        (outcome_of result) (O.contents out.old) (O.contents out.new) }
+{
+    match form {
+        Form::Words => audit_lined(alloc, graph, traced, out),
+        Form::Json | Form::Picture => audit_lined(alloc, graph, traced, &mut io::sink()),
     }
+}
+
+/// Prints the report on a trace, to which the data lines of the script's host were added.
+fn audit_lined<'a, O: Write>(
+    alloc: Global,
+    graph: &Graph<'_>,
+    traced: Traced<'_>,
+    out: &mut O,
+) -> Result<(), Fault<'a>>
+    ensures { AuditsLined graph.now traced.entry.trace.now (option_map (λ bytes. bytes.now) traced.entry.given)
+        (outcome_of result) (O.contents out.old) (O.contents out.new) }
+{
+    let style = Style {
+        json: false,
+        annotate: false,
+        put_in: false,
+    };
+    let audited = audit_beside(alloc, graph, traced.trace, traced.given, style, out)?;
+    end_of(audited.tally.has_findings())
+}
+
+/// An audit that found something ends by a fault.
+fn end_of(is_found: bool) -> Result<(), Fault<'static>>
+    ensures { outcome_of result ≡ found_if is_found }
+{
+    if is_found { Err(Fault::Found) } else { Ok(()) }
 }
 
 /// Why nothing is told of a trace.
-fn fault_of(fault: DecodeFault) -> Fault<'static>
-    ensures { result ≡ fault_of_decode fault }
+fn fault_of(fault: AuditFault) -> Fault<'static>
+    ensures { result ≡ fault_of_audit fault }
 {
     match fault {
-        DecodeFault::Script(fault) => Fault::Script(fault),
-        DecodeFault::Room => Fault::Trace(TraceFault::Room),
-        DecodeFault::Memory => Fault::Memory,
+        AuditFault::Room => Fault::Trace(TraceFault::Room),
+        AuditFault::Memory => Fault::Memory,
     }
 }
 
-/// Where a trace is off.
-fn fault_of_off(off: TraceOff) -> Fault<'static>
-    ensures { result ≡ fault_of_off off }
+/// Where a trace is off, if it is.
+fn told_off(off: Option<TraceOff>) -> Option<Fault<'static>>
+    ensures same { result ≡ told_off off }
+    ensures can { CanBeTold result }
 {
     match off {
-        TraceOff::Line(fault, line) => Fault::Trace(TraceFault::Line { fault, line }),
-        TraceOff::Script(line) => Fault::Stray(line),
+        None => None,
+        Some(TraceOff::Line(fault, line)) => Some(Fault::Trace(TraceFault::Line { fault, line })),
+        Some(TraceOff::Script(line)) => Some(Fault::Stray(line)),
     }
 }

@@ -1,12 +1,14 @@
-//! `describe CARD [SCHEDULE]`: what a card description says, or the line at which it is none, and whether a schedule is one.
-ghost use Rattle.std.specs.Prelude.{Some, option_map};
-ghost use Rattle.sdv_files.specs.Outcomes.{Reports, outcome_of};
+//! `card --describe CARD [SCHEDULE]`: what a card description says, or the line at which it is none, and whether a schedule is one.
+ghost use Rattle.std.specs.Prelude.{◌≡◌, Some, option_map};
+ghost use Rattle.sdv_program.specs.Outcomes.{Reports, outcome_of};
 ghost use Rattle.sdv_commands.specs.Describe.{DescribeEnds, DescribesText, HasNoPage, IsPageOf};
 ghost use Rattle.sdv_commands.specs.Given.{OverGiven};
+ghost use Rattle.sdv_commands.specs.Report.{CanBeTold};
 
-use sdv_describe::{Page, describe_given};
-use sdv_faults::Fault;
-use sdv_files::{Store, bytes_in, print_text, text_in};
+use crate::report::print_report;
+use sdv_explain::{CardPage, describe_given};
+use sdv_image::SimFault;
+use sdv_program::{Fault, Store, bytes_in, text_in};
 use std::alloc::Global;
 use std::io::Write;
 
@@ -79,10 +81,17 @@ pub fn describe_text<'a, O: Write>(
     ensures { Reports (IsPageOf description.now (option_map (λ bytes. bytes.now) schedule.entry)) HasNoPage
         (outcome_of result) (O.contents out.old) (O.contents out.new) }
 {
-    let Page { words, fault } = describe_given(alloc, description, schedule)?;
-    print_text(words.as_slice(), out)?;
+    let CardPage { words, fault, .. } = describe_given(alloc, description, schedule)?;
+    print_report(&words, told_by(fault), out)
+}
+
+/// How the program tells of a card that there is not, or is.
+fn told_by(fault: Option<SimFault>) -> Option<Fault<'static>>
+    ensures same { result ≡ option_map Fault.Card fault }
+    ensures can { CanBeTold result }
+{
     match fault {
-        None => Ok(()),
-        Some(fault) => Err(Fault::Card(fault)),
+        None => None,
+        Some(fault) => Some(Fault::Card(fault)),
     }
 }

@@ -1,21 +1,22 @@
 //! `explain SCRIPT [CERT] [--why]`: what is known at each point of a script, and why it is refused where it is, with a run that
 //! refutes it; of a text that is no script, where it is wrong; of a certificate, why the checker refuses it.
-ghost use Rattle.std.specs.Prelude.{◌≡◌, ◌≢◌, IfOk, IfSome, if◌then◌else◌};
+ghost use Rattle.std.specs.Prelude.{◌≡◌, ◌≢◌, IfOk};
 ghost use Rattle.sdv_check.specs.Verified.{IsNoScript};
-ghost use Rattle.sdv_command_line.specs.Requests.{explain_names_of};
-ghost use Rattle.sdv_files.specs.Outcomes.{OverText, Reports, outcome_of};
-ghost use Rattle.sdv_commands.specs.Explain.{ExplainEnds, ExplainsText, HasNoAnswer, IsExplanation, IsFaultPage, IsJudgement};
-ghost use Rattle.sdv_commands.specs.Explain.{IsRefusedAt, IsTooMany, IsVerdict, MayShowRun, fault_of_refusal};
-ghost use Rattle.sdv_commands.specs.Explain.{behind_reason, put_behind_reason};
+ghost use Rattle.sdv_script.specs.OneGraph.{IsGraphOfScript};
+ghost use Rattle.sdv_script.specs.Script.{IsScript};
+ghost use Rattle.sdv_script.specs.Shown.{shown};
+ghost use Rattle.sdv_program.specs.Requests.{explain_names_of};
+ghost use Rattle.sdv_program.specs.Outcomes.{OverText, Reports, outcome_of};
+ghost use Rattle.sdv_commands.specs.Explain.{ExplainEnds, ExplainsText, HasNoAnswer, IsExplanation, IsFaultPage, IsJudgement, IsTold};
+ghost use Rattle.sdv_commands.specs.Explain.{fault_of_refusal, told_by};
+ghost use Rattle.sdv_commands.specs.Report.{CanBeTold};
 
-use sdv_certify::CertifyFault;
-use sdv_check_words::{Refusal, Verdict, judge};
-use sdv_command_line::ExplainWords;
-use sdv_explain::{ExplainFault, Explanation, Refusal as ScriptRefusal, explain};
-use sdv_faults::Fault;
-use sdv_files::{Store, print_text, text_in};
-use sdv_hints::{fault_page, from_line};
-use sdv_script::{FaultKind, ScriptFault};
+use crate::report::{Report, print_report};
+use sdv_certify::{CertifyFault, ScriptSurvey, survey};
+use sdv_explain::{CertificateRefusal, Explanation, Verdict, explain, fault_page, judge};
+use sdv_graph::Graph;
+use sdv_program::{ExplainWords, Fault, Store, text_in};
+use sdv_script::{FaultKind, Script, ScriptFault, parse};
 use sdv_search::shown_run;
 use std::alloc::{AllocError, Global};
 use std::io::Write;
@@ -26,7 +27,7 @@ use std::io::Write;
 ///
 /// - [`Fault::File`]: a file cannot be used; that of the certificate is read only where that of the script gave a text.
 ///   Nothing was printed.
-/// - The faults of [`explain_text`] or of [`judge_texts`].
+/// - The faults of [`explain_text`] or of [`judge_file`].
 pub fn explain_file<'a, S: Store, O: Write>(
     alloc: Global,
     files: &S,
@@ -48,8 +49,8 @@ fn explain_given<'a, S: Store, O: Write>(
     script: &str,
     out: &mut O,
 ) -> Result<(), Fault<'a>>
-    ensures { ExplainsText (S.known files.now) (explain_names_of words.entry) script.now
-        (explain_names_of words.entry).certificate (outcome_of result) (O.contents out.old) (O.contents out.new) }
+    ensures { ExplainsText (S.known files.now) script.now (explain_names_of words.entry).certificate
+        (outcome_of result) (O.contents out.old) (O.contents out.new) }
 {
     match words.certificate {
         None => explain_text(alloc, script, words.why, out),
@@ -58,6 +59,14 @@ fn explain_given<'a, S: Store, O: Write>(
 }
 
 /// Prints what the checker says of a script with the certificate of a file.
+///
+/// # Errors
+///
+/// - [`Fault::File`]: the file cannot be used. Nothing was printed.
+/// - [`Fault::Script`]: the first text is no script. The page of the fault was printed.
+/// - [`Fault::Certificate`], [`Fault::Refused`]: the checker does not accept them, and the reason was printed.
+/// - [`Fault::Output`]: the output failed. A part of the answer was printed.
+/// - [`Fault::Memory`]: memory was refused. Nothing was printed.
 fn judge_file<'a, S: Store, O: Write>(
     alloc: Global,
     files: &S,
@@ -88,22 +97,36 @@ pub fn explain_text<'a, O: Write>(
     only_why: bool,
     out: &mut O,
 ) -> Result<(), Fault<'a>>
-    ensures { Reports (IsExplanation only_why script.now) HasNoAnswer
+    ensures { Reports (IsExplanation script.now) HasNoAnswer
         (outcome_of result) (O.contents out.old) (O.contents out.new) }
 {
-    let Explanation { text, why, refusal } = match explain(alloc, script) {
-        Ok(explanation) => explanation,
-        Err(ExplainFault::Script(fault)) => return print_page(alloc, script, fault, out),
-        Err(ExplainFault::TooMany) => return print_too_many(out),
-        Err(ExplainFault::Memory) => return Err(Fault::Memory),
-    };
-    let shown = shown_of(only_why, text, why);
-    let page = with_run(alloc, script, &refusal, shown)?;
-    print_text(page.as_slice(), out)?;
-    match refusal {
-        None => Ok(()),
-        Some(refusal) => Err(Fault::Uncertified(refusal.fault)),
+    let Report { page, told } = explained(alloc, script, only_why)?;
+    print_report(&page, told, out)
+}
+
+/// What is explained of a text.
+fn explained(alloc: Global, text: &str, only_why: bool) -> Result<Report, AllocError>
+    ensures is { IfOk result (λ report. IsExplanation text.now report.told report.page.items) }
+    ensures can { IfOk result (λ report. CanBeTold report.told) }
+{
+    match parse(alloc, text) {
+        Ok(script) => script_explained(alloc, &script, only_why),
+        Err(fault) => fault_shown(alloc, text, fault),
     }
+}
+
+/// The page of the fault of a text that is no script.
+fn fault_shown(alloc: Global, text: &str, fault: ScriptFault) -> Result<Report, AllocError>
+    requires { fault.kind ≢ FaultKind.Memory → IsNoScript text.now }
+    ensures is { IfOk result (λ report. IsFaultPage text.now report.told report.page.items) }
+    ensures can { IfOk result (λ report. CanBeTold report.told) }
+{
+    if fault.kind == FaultKind::Memory {
+        return Err(AllocError);
+    }
+    let page = fault_page(alloc, text, fault)?;
+    let told = Some(Fault::Script(fault));
+    Ok(Report { page, told })
 }
 
 /// What is said where too many commands may be sent, or there are too many shapes.
@@ -111,82 +134,87 @@ const TOO_MANY: &str =
     "why: a run may send more than 1099511627776 commands, or its statements meet more than 65536 shapes of cards in all\n\
      hint: give loops fewer turns, or make two scripts of it, each with a bring-up of its own\n";
 
-/// Says so.
-fn print_too_many<'a, O: Write>(out: &mut O) -> Result<(), Fault<'a>>
-    ensures { Reports IsTooMany HasNoAnswer (outcome_of result) (O.contents out.old) (O.contents out.new) }
-{
-    print_text(TOO_MANY.as_bytes(), out)?;
-    Err(Fault::Uncertified(CertifyFault::TooMany))
-}
-
-/// What is shown of an explanation.
-fn shown_of(only_why: bool, text: Vec<u8>, why: Vec<u8>) -> Vec<u8>
-    ensures { result.items ≡ if only_why then why.items else text.items }
-{
-    if only_why { why } else { text }
-}
-
-/// What is shown of a script, and behind the reason of its refusal a run that refutes it, if one was found.
-fn with_run(
+/// What is explained of a script.
+fn script_explained(
     alloc: Global,
-    script: &str,
-    refusal: &Option<ScriptRefusal>,
-    shown: Vec<u8>,
-) -> Result<Vec<u8>, AllocError>
-    ensures { IfOk result (λ page. MayShowRun script.now refusal.now shown.items page.items) }
+    script: &Script<'_>,
+    only_why: bool,
+) -> Result<Report, AllocError>
+    requires { IsScript (shown script.now) }
+    ensures is { IfOk result (λ report. IsTold script.now report.told) }
+    ensures can { IfOk result (λ report. CanBeTold report.told) }
 {
-    let Some(point) = refused_point(refusal) else {
-        return Ok(shown);
+    let Ok(graph) = script.graph(alloc) else {
+        return Err(AllocError);
     };
-    match shown_run(alloc, script, point)? {
-        Some(words) => put_behind_reason(alloc, &words, &shown),
-        None => Ok(shown),
+    match survey(alloc, script, &graph) {
+        Ok(known) => {
+            let page = page_of(alloc, script, &graph, &known, only_why)?;
+            let told = told_by(known.refusal);
+            Ok(Report { page, told })
+        }
+        Err(CertifyFault::Memory) => Err(AllocError),
+        Err(fault) => {
+            let page = Vec::from_slice(alloc, TOO_MANY.as_bytes())?;
+            let told = told_by(Some(fault));
+            Ok(Report { page, told })
+        }
     }
 }
 
-/// The point that is refused.
-fn refused_point(refusal: &Option<ScriptRefusal>) -> Option<usize>
-    ensures { IfSome result (IsRefusedAt refusal.now) }
+/// How the program tells of a script that is refused so, or not at all.
+pub(crate) fn told_by(refusal: Option<CertifyFault>) -> Option<Fault<'static>>
+    ensures same { result ≡ told_by refusal }
+    ensures can { CanBeTold result }
 {
     match refusal {
-        Some(refusal) => match refusal.fault {
-            CertifyFault::Illegal { point, .. }
-            | CertifyFault::Address { point }
-            | CertifyFault::EndState { point } => Some(point),
-            CertifyFault::TooMany | CertifyFault::Memory => None,
-        },
+        Some(fault) => Some(Fault::Uncertified(fault)),
         None => None,
     }
 }
 
-/// What follows the reason of a refusal, which has four lines.
-fn behind_reason(shown: &[u8]) -> &[u8]
-    ensures { result.now ≡ behind_reason shown.now }
+/// The words for what is known of a script: why it is refused, if it is, with a run that refutes it, if one is found; and then,
+/// unless that is left out, what is known at each point.
+fn page_of(
+    alloc: Global,
+    script: &Script<'_>,
+    graph: &Graph<'_>,
+    known: &ScriptSurvey,
+    only_why: bool,
+) -> Result<Vec<u8>, AllocError>
+    requires script { IsScript (shown script.now) }
+    requires graph { IsGraphOfScript (shown script.now) graph.now }
 {
-    from_line(shown, 5)
+    let Explanation {
+        mut reason,
+        way,
+        listing,
+        ..
+    } = explain(alloc, graph, known)?;
+    if let Some(point) = refused_point(known.refusal) {
+        if let Some(words) = shown_run(alloc, script, graph, point)? {
+            reason.extend_from_slice(&words)?;
+        }
+    }
+    reason.extend_from_slice(&way)?;
+    if !only_why {
+        reason.extend_from_slice(&listing)?;
+    }
+    Ok(reason)
 }
 
-/// What is shown, with words behind the reason.
-fn put_behind_reason(alloc: Global, words: &[u8], shown: &[u8]) -> Result<Vec<u8>, AllocError>
-    ensures { IfOk result (λ page. page.items ≡ put_behind_reason words.now shown.now) }
-{
-    let rest = behind_reason(shown);
-    let front = &shown[..shown.len().saturating_sub(rest.len())];
-    let mut page = Vec::from_slice(alloc, front)?;
-    page.extend_from_slice(words)?;
-    page.extend_from_slice(rest)?;
-    Ok(page)
+/// The point that is refused.
+fn refused_point(refusal: Option<CertifyFault>) -> Option<usize> {
+    match refusal? {
+        CertifyFault::Illegal { point, .. }
+        | CertifyFault::Address { point }
+        | CertifyFault::EndState { point } => Some(point),
+        CertifyFault::TooMany | CertifyFault::Memory => None,
+    }
 }
 
 /// Prints what the checker says of a script and a certificate, by their texts.
-///
-/// # Errors
-///
-/// - [`Fault::Script`]: the first text is no script. The page of the fault was printed.
-/// - [`Fault::Certificate`], [`Fault::Refused`]: the checker does not accept them, and the reason was printed.
-/// - [`Fault::Output`]: the output failed. A part of the answer was printed.
-/// - [`Fault::Memory`]: memory was refused. Nothing was printed.
-pub fn judge_texts<'a, O: Write>(
+fn judge_texts<'a, O: Write>(
     alloc: Global,
     script: &str,
     certificate: &str,
@@ -195,47 +223,35 @@ pub fn judge_texts<'a, O: Write>(
     ensures { Reports (IsJudgement script.now certificate.now) HasNoAnswer
         (outcome_of result) (O.contents out.old) (O.contents out.new) }
 {
-    match judge(alloc, script, certificate) {
-        Ok(verdict) => print_verdict(&verdict, out),
-        Err(fault) => print_page(alloc, script, fault, out),
-    }
+    let Report { page, told } = judged(alloc, script, certificate)?;
+    print_report(&page, told, out)
 }
 
-/// Prints the words of a verdict, and ends by its fault.
-fn print_verdict<'a, O: Write>(verdict: &Verdict, out: &mut O) -> Result<(), Fault<'a>>
-    ensures { Reports (IsVerdict verdict.now) HasNoAnswer
-        (outcome_of result) (O.contents out.old) (O.contents out.new) }
+/// What the checker says of a script and a certificate, by their texts.
+fn judged(alloc: Global, text: &str, certificate: &str) -> Result<Report, AllocError>
+    ensures is { IfOk result (λ report. IsJudgement text.now certificate.now report.told report.page.items) }
+    ensures can { IfOk result (λ report. CanBeTold report.told) }
 {
-    print_text(verdict.words.as_slice(), out)?;
-    end_of(verdict.refusal)
+    let script = match parse(alloc, text) {
+        Ok(script) => script,
+        Err(fault) => return fault_shown(alloc, text, fault),
+    };
+    let Ok(graph) = script.graph(alloc) else {
+        return Err(AllocError);
+    };
+    let Verdict { words, refusal } = judge(alloc, &graph, certificate)?;
+    let told = fault_of(refusal);
+    Ok(Report { page: words, told })
 }
 
-/// What the program answers to a certificate that is refused so, or not at all.
-fn end_of(refusal: Option<Refusal>) -> Result<(), Fault<'static>>
-    ensures { outcome_of result ≡ fault_of_refusal refusal }
+/// How the program tells of a certificate that is refused so, or not at all.
+fn fault_of(refusal: Option<CertificateRefusal>) -> Option<Fault<'static>>
+    ensures same { result ≡ fault_of_refusal refusal }
+    ensures can { CanBeTold result }
 {
     match refusal {
-        None => Ok(()),
-        Some(Refusal::NoCertificate(fault)) => Err(Fault::Certificate(fault)),
-        Some(Refusal::Open(fault)) => Err(Fault::Refused(fault)),
+        None => None,
+        Some(CertificateRefusal::NoCertificate(fault)) => Some(Fault::Certificate(fault)),
+        Some(CertificateRefusal::Open(fault)) => Some(Fault::Refused(fault)),
     }
-}
-
-/// Prints the page of the fault of a text that is no script.
-fn print_page<'a, O: Write>(
-    alloc: Global,
-    script: &str,
-    fault: ScriptFault,
-    out: &mut O,
-) -> Result<(), Fault<'a>>
-    requires { fault.kind ≢ FaultKind.Memory → IsNoScript script.now }
-    ensures { Reports (IsFaultPage script.now) HasNoAnswer
-        (outcome_of result) (O.contents out.old) (O.contents out.new) }
-{
-    if fault.kind == FaultKind::Memory {
-        return Err(Fault::Memory);
-    }
-    let page = fault_page(alloc, script, fault)?;
-    print_text(page.as_slice(), out)?;
-    Err(Fault::Script(fault))
 }

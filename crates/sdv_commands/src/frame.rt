@@ -1,14 +1,13 @@
 //! `frame INDEX ARG`: the frame of a command, as text.
 ghost use Rattle.std.specs.Prelude.{◌≡◌, ◌<◌, ◌≤◌, ◌+◌, ◌^◌, ◌++◌, IfNone, IfSome, length};
 ghost use Rattle.arrayvec.specs.ArrayVec.{array_vec_len};
-ghost use Rattle.sdv_files.specs.Outcomes.{outcome_of};
+ghost use Rattle.sdv_program.specs.Outcomes.{outcome_of};
 ghost use Rattle.sdv_commands.specs.Frame.{FrameEnds, IsFrameOf, Writes, frame_text, two_digits};
 ghost use Rattle.sdv_frames.specs.declared.command.Command.{Command};
 
 use arrayvec::ArrayVec;
-use sdv_faults::Fault;
-use sdv_files::print_text;
 use sdv_frames::{Command, encode};
+use sdv_program::{Fault, print_text};
 use sdv_text::number_of;
 use std::io::Write;
 

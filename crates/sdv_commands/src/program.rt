@@ -1,37 +1,37 @@
-//! The program over its words and its two output streams.
-ghost use Rattle.std.specs.Prelude.{◌≡◌, ◌⊎◌, None, Some};
+//! The program over its words, its two output streams, and two streams of lines.
+ghost use Rattle.std.specs.Prelude.{◌≡◌, ◌⊎◌, [], None, Some};
 ghost use Rattle.std.specs.Io.KnownBytes.{Keeps};
 ghost use Rattle.clap.specs.Walk.{texts};
-ghost use Rattle.sdv_command_line.specs.Requests.{seen};
-ghost use Rattle.sdv_files.specs.Files.{any_files};
-ghost use Rattle.sdv_lines.specs.Streams.{streams_of};
-ghost use Rattle.sdv_files.specs.Outcomes.{outcome_of};
-ghost use Rattle.sdv_commands.specs.Ends.{AreQuiet, AreWhole, Ends, EndsRequest, EndsWords, SaysLine, SaysWhy};
-ghost use Rattle.sdv_faults.specs.Fault.{status_of};
+ghost use Rattle.sdv_program.specs.Requests.{seen};
+ghost use Rattle.sdv_program.specs.Files.{any_files};
+ghost use Rattle.sdv_lines.specs.Streams.{IsNew, Streams, streams_of};
+ghost use Rattle.sdv_program.specs.Outcomes.{outcome_of};
+ghost use Rattle.sdv_commands.specs.Ends.{AreQuiet, AreWhole, Ends, EndsRequest, EndsWords};
+ghost use Rattle.sdv_program.specs.Fault.{Says, SaysLine, status_of};
 
+use crate::attempt::try_files;
 use crate::audit::audit_file;
 use crate::batch::print_batch;
+use crate::card::serve_card;
 use crate::certify::certify_file;
 use crate::check::check_files;
 use crate::decode::decode_files;
 use crate::describe::describe_file;
+use crate::drive::drive_files;
+use crate::emit::emit_files;
 use crate::explain::explain_file;
 use crate::frame::print_frame;
 use crate::graph::graph_file;
 use crate::page::{page_of, print_page};
-use crate::print::print_file;
+use crate::refutation::refute_file;
 use crate::review::review_file;
-use sdv_command_line::{Request, request_of, usage_line};
-use sdv_emit_command::emit_files;
-use sdv_faults::Fault;
-use sdv_files::{MachineFiles, Store};
+use crate::run::run_files;
+use crate::sweeping::sweep_files;
 use sdv_lines::LinePort;
-use sdv_refute_commands::{refute_file, sweep_files, try_files};
-use sdv_run_command::run_files;
-use sdv_streams::{drive_files, serve_card};
+use sdv_program::{Fault, MachineFiles, Request, Store, request_of, usage_line};
 use sdv_text::write_text;
 use std::alloc::Global;
-use std::io::{Read, Write};
+use std::io::{self, Read, Write};
 use std::rt::Files;
 
 /// Runs the program on the words that it is called with, without its own name, and gives the exit status: 0 where the
@@ -42,7 +42,7 @@ use std::rt::Files;
 ///
 /// Nothing is claimed of the files of the machine. So the clauses say that the answer is one to some texts that the named
 /// files may have given, and say nothing of what files took; [`answer`] says it of any files.
-pub fn program<R: Files + AllocGlobal, I: Read, L: Write, O: Write, E: Write>(
+pub fn program_over_lines<R: Files + AllocGlobal, I: Read, L: Write, O: Write, E: Write>(
     rt: &R,
     words: &[&str],
     lines: &mut LinePort<I, L>,
@@ -65,10 +65,30 @@ pub fn program<R: Files + AllocGlobal, I: Read, L: Write, O: Write, E: Write>(
     }
 }
 
+/// The same where nobody is at the other side of the lines: a command that speaks in lines reads none there, and what it
+/// writes is dropped.
+pub fn program<R: Files + AllocGlobal, O: Write, E: Write>(
+    rt: &R,
+    words: &[&str],
+    out: &mut O,
+    err: &mut E,
+) -> u8
+    ensures statuses { (result ≡ 0) ⊎ (result ≡ 1) ⊎ (result ≡ 2) ⊎ (result ≡ 3) }
+    ensures ended { (s s' : Streams) × IsNew (Some []) None s × Ends any_files s s' (texts words.now) result
+        (O.contents out.old) (O.contents out.new) (E.contents err.old) (E.contents err.new) }
+    ensures refused { AreQuiet (texts words.now) → result ≡ 1
+        → Keeps (O.contents out.old) (O.contents out.new) }
+    ensures no_memory { AreWhole (texts words.now) → result ≡ 3
+        → Keeps (O.contents out.old) (O.contents out.new) }
+{
+    let mut lines = LinePort::new(io::empty(), io::sink());
+    program_over_lines(rt, words, &mut lines, out, err)
+}
+
 /// Says why there is no answer, and gives the exit status. Of words that are no request it says which one is wrong.
 fn report<E: Write>(alloc: Global, words: &[&str], fault: Fault<'_>, err: &mut E) -> u8
     ensures status { result ≡ status_of fault.entry }
-    ensures said { SaysWhy (texts words.now) (Some fault.entry) (E.contents err.old) (E.contents err.new) }
+    ensures said { Says fault.entry (E.contents err.old) (E.contents err.new) }
 {
     match fault {
         Fault::Usage => report_usage(alloc, words, err),
@@ -79,7 +99,7 @@ fn report<E: Write>(alloc: Global, words: &[&str], fault: Fault<'_>, err: &mut E
 /// Says which word is wrong, or how the program is called where memory is refused for that.
 fn report_usage<E: Write>(alloc: Global, words: &[&str], err: &mut E) -> u8
     ensures status { result ≡ status_of Fault.Usage }
-    ensures said { SaysWhy (texts words.now) (Some Fault.Usage) (E.contents err.old) (E.contents err.new) }
+    ensures said { Says Fault.Usage (E.contents err.old) (E.contents err.new) }
 {
     match usage_line(alloc, words) {
         Ok(line) => say_line(line.as_slice(), err),
@@ -142,7 +162,6 @@ pub fn answer_request<'a, S: Store, I: Read, L: Write, O: Write>(
         Request::Batch { kind, requests } => print_batch(alloc, kind, requests, out),
         Request::Explain(words) => explain_file(alloc, files, words, out),
         Request::Graph(words) => graph_file(alloc, files, words, out),
-        Request::Print { script } => print_file(alloc, files, script, out),
         Request::Emit(words) => emit_files(alloc, files, words, out),
         Request::Audit(words) => audit_file(alloc, files, words, out),
         Request::Describe { card, schedule } => describe_file(alloc, files, card, schedule, out),

@@ -1,10 +1,10 @@
 //! `review SCRIPT`: what a script that has a certificate leaves open for the data.
-ghost use Rattle.sdv_files.specs.Outcomes.{Reports, outcome_of};
+ghost use Rattle.sdv_program.specs.Outcomes.{Reports, outcome_of};
 ghost use Rattle.sdv_commands.specs.Certify.{HasNone};
 ghost use Rattle.sdv_commands.specs.Review.{IsReview, ReviewEnds};
 
-use sdv_faults::Fault;
-use sdv_files::{Store, print_text, text_in};
+use crate::report::{found_if, print_report};
+use sdv_program::{Fault, Store, text_in};
 use sdv_review::review;
 use std::alloc::Global;
 use std::io::Write;
@@ -48,9 +48,5 @@ pub fn review_text<'a, O: Write>(
         (outcome_of result) (O.contents out.old) (O.contents out.new) }
 {
     let report = review(alloc, script)?;
-    print_text(report.text(json), out)?;
-    if report.has_findings() {
-        return Err(Fault::Found);
-    }
-    Ok(())
+    print_report(report.text(json), found_if(report.has_findings()), out)
 }

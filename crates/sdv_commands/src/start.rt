@@ -4,13 +4,13 @@ ghost use Rattle.std.specs.IoError.{error_kind};
 ghost use Rattle.std.specs.Io.KnownBytes.{Keeps};
 ghost use Rattle.clap.specs.Walk.{texts};
 ghost use Rattle.sdv_commands.specs.Ends.{Ends};
-ghost use Rattle.sdv_files.specs.Files.{any_files};
+ghost use Rattle.sdv_program.specs.Files.{any_files};
 ghost use Rattle.sdv_lines.specs.Streams.{streams_of};
-ghost use Rattle.sdv_faults.specs.Fault.{Says, fault_of_words, status_of};
+ghost use Rattle.sdv_program.specs.Fault.{Says, fault_of_words, status_of};
 
-use crate::program::program;
-use sdv_faults::Fault;
+use crate::program::program_over_lines;
 use sdv_lines::LinePort;
+use sdv_program::Fault;
 use std::alloc::{AllocError, Global};
 use std::io::{self, ErrorKind, Read, Write};
 use std::rt::Files;
@@ -53,7 +53,7 @@ fn start_on<R: Files + AllocGlobal, I: Read, L: Write, O: Write, E: Write>(
         (O.contents out.old) (O.contents out.new) (E.contents err.old) (E.contents err.new) }
 {
     match texts_of(rt.alloc(), but_the_first(words)) {
-        Ok(texts) => program(rt, texts.as_slice(), lines, out, err),
+        Ok(texts) => program_over_lines(rt, texts.as_slice(), lines, out, err),
         Err(_) => Fault::Memory.report(err),
     }
 }

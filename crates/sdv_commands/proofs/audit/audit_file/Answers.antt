@@ -1,8 +1,8 @@
 use Rattle.std.proofs.Common.{◌≡◌, refl, rules, Some, None}
-use Rattle.sdv_command_line.specs.Requests.{audit_names_of}
-use Rattle.sdv_faults.specs.declared.fault.Fault.TheVariants.{Usage, File, Memory}
-use Rattle.sdv_files.proofs.OutcomeLaws.{failed}
-use Rattle.sdv_files.proofs.StartLaws.{keeps_same}
+use Rattle.sdv_program.specs.Requests.{audit_names_of}
+use Rattle.sdv_program.specs.declared.fault.Fault.TheVariants.{Usage, File, Memory}
+use Rattle.sdv_program.proofs.OutcomeLaws.{failed}
+use Rattle.sdv_program.proofs.StartLaws.{keeps_same}
 use Rattle.sdv_commands.specs.Audit.{AuditEnds, audits, broken_off, no_kind}
 use Rattle.sdv_commands.specs.Batch.{kind_named}
 use Rattle.sdv_commands.proofs.AuditLaws.{of_reader, untraced}

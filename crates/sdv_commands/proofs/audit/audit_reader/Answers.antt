@@ -1,9 +1,9 @@
 use Rattle.std.proofs.Common.{◌≡◌, rules, subst, false, true, Result, Ok, Err}
-use Rattle.sdv_audit_report.specs.Audited.{Audits}
-use Rattle.sdv_audit_report.specs.Notes.{has_findings}
-use Rattle.sdv_audit_report.specs.declared.fault.TraceFault.{TraceFault}
-use Rattle.sdv_audit_report.specs.declared.style.Tally.{Tally}
-use Rattle.sdv_files.proofs.OutcomeLaws.{failed}
+use Rattle.sdv_audit.specs.AuditedTrace.{Audits}
+use Rattle.sdv_audit.specs.Notes.{has_findings}
+use Rattle.sdv_audit.specs.declared.fault.TraceFault.{TraceFault}
+use Rattle.sdv_audit.specs.declared.style.Tally.{Tally}
+use Rattle.sdv_program.proofs.OutcomeLaws.{failed}
 use Rattle.sdv_commands.specs.Audit.{AuditsReader}
 use Rattle.sdv_commands.proofs.AuditLaws.{by_fault, by_tally}
 use Rattle.sdv_commands.proofs.audit.audit_reader.Goals as goal

@@ -5,12 +5,12 @@ use Rattle.sdv_block.specs.Batch.{batch_refusal}
 use Rattle.sdv_block.specs.declared.fault.BlockFault.{BlockFault}
 use Rattle.sdv_block.specs.declared.fault.BlockFault.TheVariants as blocks
 use Rattle.sdv_block.specs.declared.request.Request.{Request as Blocks}
-use Rattle.sdv_faults.specs.Fault.{fault_of_block}
+use Rattle.sdv_program.specs.Fault.{fault_of_block}
 use Rattle.sdv_block.specs.BatchText.{batch_script}
 use Rattle.sdv_commands.specs.Batch.{AreRequests, AreWords, AsksBatch, BatchEnds, HasNoBatch, IsBatchText, kind_named}
-use Rattle.sdv_files.specs.Outcomes.{outcome_of}
-use Rattle.sdv_files.proofs.OutcomeLaws.{failed, prints}
-use Rattle.sdv_files.proofs.StartLaws.{keeps_same}
+use Rattle.sdv_program.specs.Outcomes.{outcome_of}
+use Rattle.sdv_program.proofs.OutcomeLaws.{failed, prints}
+use Rattle.sdv_program.proofs.StartLaws.{keeps_same}
 use Rattle.sdv_commands.proofs.batch.print_batch.Goals as goal
 
 -- a batch that is refused

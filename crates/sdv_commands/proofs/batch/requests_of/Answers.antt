@@ -1,7 +1,7 @@
 use Rattle.std.proofs.Common.{◌≡◌, ◌+◌, ◌*◌, ◌∷◌, ◌++◌, [], arith, rules}
 use Rattle.std.proofs.lemmas.Result.{err_from_is_err_and}
 use Rattle.sdv_commands.specs.Batch.{word, IsRequest, NoRequest}
-use Rattle.sdv_faults.specs.declared.fault.Fault.TheVariants.{Usage}
+use Rattle.sdv_program.specs.declared.fault.Fault.TheVariants.{Usage}
 use Rattle.sdv_commands.proofs.BatchWordsLaws.{one_more, all_so_far, none_here}
 use Rattle.sdv_commands.proofs.batch.requests_of.Goals as goal
 

@@ -1,8 +1,8 @@
 use Rattle.std.proofs.Common.{◌≡◌, inr, rules}
 use Rattle.std.specs.Prelude.{string_bytes}
 use Rattle.clap.specs.Words.{Text}
-use Rattle.sdv_files.specs.Outcomes.{Prints}
-use Rattle.sdv_files.proofs.OutcomeLaws.{no_text}
+use Rattle.sdv_program.specs.Outcomes.{Prints}
+use Rattle.sdv_program.proofs.OutcomeLaws.{no_text}
 use Rattle.sdv_commands.specs.Certify.{IsCertificate, HasNone}
 use Rattle.sdv_commands.proofs.certify.certify_file.Goals as goal
 

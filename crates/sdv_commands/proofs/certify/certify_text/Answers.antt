@@ -1,10 +1,10 @@
 use Rattle.std.proofs.Common.{◌≡◌, IfErr, refl, rules}
 use Rattle.sdv_commands.specs.Certify.{HasNone, IsCertificate, IsCertificateOfText}
 use Rattle.sdv_facts.specs.CertificateText.{text_of}
-use Rattle.sdv_faults.specs.declared.fault.Fault.TheVariants.{Output}
-use Rattle.sdv_files.specs.Outcomes.{Prints}
-use Rattle.sdv_files.proofs.OutcomeLaws.{failed, printed, prints}
-use Rattle.sdv_files.proofs.StartLaws.{keeps_same}
+use Rattle.sdv_program.specs.declared.fault.Fault.TheVariants.{Output}
+use Rattle.sdv_program.specs.Outcomes.{Prints}
+use Rattle.sdv_program.proofs.OutcomeLaws.{failed, printed, prints}
+use Rattle.sdv_program.proofs.StartLaws.{keeps_same}
 use Rattle.sdv_commands.proofs.CertifyLaws.{certificate_of_text, refused}
 use Rattle.sdv_commands.proofs.ScriptFaultLaws.{by_script}
 use Rattle.sdv_commands.proofs.certify.certify_text.Goals as goal

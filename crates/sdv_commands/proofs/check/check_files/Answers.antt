@@ -1,10 +1,10 @@
 use Rattle.std.proofs.Common.{◌≡◌, inr, rules}
 use Rattle.std.specs.Prelude.{string_bytes}
 use Rattle.clap.specs.Words.{Text}
-use Rattle.sdv_faults.specs.Refused.{Refuses}
-use Rattle.sdv_files.specs.Files.{Files}
-use Rattle.sdv_files.specs.Outcomes.{Ending, OverText, Prints}
-use Rattle.sdv_files.proofs.OutcomeLaws.{no_text}
+use Rattle.sdv_program.specs.Refused.{Refuses}
+use Rattle.sdv_program.specs.Files.{Files}
+use Rattle.sdv_program.specs.Outcomes.{Ending, OverText, Prints}
+use Rattle.sdv_program.proofs.OutcomeLaws.{no_text}
 use Rattle.sdv_commands.specs.Check.{IsBoundLine}
 use Rattle.sdv_commands.proofs.check.check_files.Goals as goal
 

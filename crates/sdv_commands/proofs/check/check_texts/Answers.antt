@@ -1,10 +1,10 @@
 use Rattle.std.proofs.Common.{◌≡◌, IfErr, refl, rules}
-use Rattle.sdv_faults.specs.Fault.{fault_of_verify}
-use Rattle.sdv_faults.specs.Refused.{Refuses}
-use Rattle.sdv_faults.specs.declared.fault.Fault.TheVariants.{Output}
+use Rattle.sdv_program.specs.Fault.{fault_of_verify}
+use Rattle.sdv_program.specs.Refused.{Refuses}
+use Rattle.sdv_program.specs.declared.fault.Fault.TheVariants.{Output}
 use Rattle.sdv_text.specs.Written.{Writes}
-use Rattle.sdv_files.specs.Outcomes.{Prints}
-use Rattle.sdv_files.proofs.OutcomeLaws.{failed, printed, prints}
+use Rattle.sdv_program.specs.Outcomes.{Prints}
+use Rattle.sdv_program.proofs.OutcomeLaws.{failed, printed, prints}
 use Rattle.sdv_commands.specs.Check.{IsBoundLine, accepted_text}
 use Rattle.sdv_commands.proofs.CheckLaws.{unaccepted}
 use Rattle.sdv_commands.proofs.check.check_texts.Goals as goal

@@ -1,15 +1,14 @@
-use Rattle.std.proofs.Common.{◌≡◌, ◌∙◌, false, true, inl, inr, refl, sym}
-use Rattle.sdv_command_line.specs.Requests.{decode_names_of}
-use Rattle.sdv_files.proofs.StartLaws.{keeps_same}
-use Rattle.sdv_commands.specs.Decode.{asks_both}
+use Rattle.std.proofs.Common.{◌≡◌, inl, inr, refl, rules, Some, None}
+use Rattle.sdv_program.proofs.StartLaws.{keeps_same}
+use Rattle.sdv_commands.specs.Batch.{kind_named}
 use Rattle.sdv_commands.proofs.decode.decode_files.Goals as goal
 
-pub returns-then-asks_both : goal.returns-then-asks_both
-returns-then-asks_both g c =
-    let both : asks_both (decode_names_of c.args.words) ≡ true = sym c.asks_both.ensures ∙ c.if-asks_both.true in
-    inl (both, refl, keeps_same (g.O.Write.contents c.args.out.now))
+pub returns-in_default : goal.returns-in_default
+returns-in_default g c =
+    let none : kind_named c.args.words.kind.now ≡ None = search rules in
+    inl (none, refl, keeps_same (g.O.Write.contents c.args.out.now))
 
 pub returns : goal.returns
 returns g c =
-    let one : asks_both (decode_names_of c.args.words) ≡ false = sym c.asks_both.ensures ∙ c.if-asks_both.false in
-    inr (one, c.decode_in_form.ensures)
+    let named : kind_named c.args.words.kind.now ≡ Some c.in-Some.kind = search rules in
+    inr (c.in-Some.kind, named, c.decode_in_files.ensures)

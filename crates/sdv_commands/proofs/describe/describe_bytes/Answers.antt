@@ -1,5 +1,5 @@
 use Rattle.std.proofs.Common.{◌≡◌, inr, rules, ℕ, List, Option}
-use Rattle.sdv_files.specs.Outcomes.{Reports}
+use Rattle.sdv_program.specs.Outcomes.{Reports}
 use Rattle.sdv_commands.proofs.DecodeLaws.{no_bytes}
 use Rattle.sdv_commands.specs.Describe.{HasNoPage, IsPageOf}
 use Rattle.sdv_commands.proofs.describe.describe_bytes.Goals as goal

@@ -1,7 +1,7 @@
 use Rattle.std.proofs.Common.{◌≡◌, inr, rules}
 use Rattle.std.specs.Prelude.{option_map, string_bytes}
 use Rattle.clap.specs.Words.{Text}
-use Rattle.sdv_files.proofs.OutcomeLaws.{no_text}
+use Rattle.sdv_program.proofs.OutcomeLaws.{no_text}
 use Rattle.sdv_commands.specs.Describe.{DescribesText}
 use Rattle.sdv_commands.proofs.describe.describe_file.Goals as goal
 

@@ -1,9 +1,9 @@
 use Rattle.std.proofs.Common.{◌≡◌, inr, rules, subst}
 use Rattle.std.specs.Prelude.{string_bytes}
 use Rattle.clap.specs.Words.{Text}
-use Rattle.sdv_command_line.specs.Requests.{explain_names_of}
-use Rattle.sdv_files.specs.Outcomes.{outcome_of}
-use Rattle.sdv_files.proofs.OutcomeLaws.{no_text}
+use Rattle.sdv_program.specs.Requests.{explain_names_of}
+use Rattle.sdv_program.specs.Outcomes.{outcome_of}
+use Rattle.sdv_program.proofs.OutcomeLaws.{no_text}
 use Rattle.sdv_commands.specs.Explain.{ExplainsText}
 use Rattle.sdv_commands.proofs.explain.explain_file.Goals as goal
 
@@ -11,7 +11,7 @@ pub returns-in_err-script : goal.returns-in_err-script
 returns-in_err-script g c =
     let names = explain_names_of c.args.words in
     no_text (g.S.Store.known c.args.files.now) c.args.words.script
-    (λ (script : Text). ExplainsText (g.S.Store.known c.args.files.now) names script names.certificate) (g.O.Write.contents c.args.out.now)
+    (λ (script : Text). ExplainsText (g.S.Store.known c.args.files.now) script names.certificate) (g.O.Write.contents c.args.out.now)
     c.in_err-script.field-0.0 c.in_err-script.ensures.refused c.in_err-script.ensures.no_text c.from_residual.result c.from_residual.ensures.1
 
 pub returns : goal.returns
@@ -21,6 +21,6 @@ returns g c =
     inr (
       string_bytes c.in_ok-script.script,
       c.in_ok-script.ensures.given,
-      subst (λ (script : Text). ExplainsText (g.S.Store.known c.args.files.now) names script names.certificate (outcome_of c.explain_given.result)
+      subst (λ (script : Text). ExplainsText (g.S.Store.known c.args.files.now) script names.certificate (outcome_of c.explain_given.result)
           (g.O.Write.contents c.args.out.now) (g.O.Write.contents c.explain_given.new.out)) text c.explain_given.ensures,
     )

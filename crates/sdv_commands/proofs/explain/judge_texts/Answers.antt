@@ -1,16 +1,20 @@
-use Rattle.std.proofs.Common.{inl, inr}
-use Rattle.sdv_commands.specs.Explain.{HasNoAnswer, IsFaultPage, IsJudgement, IsVerdict}
-use Rattle.sdv_commands.proofs.ReportLaws.{reports_too}
+use Rattle.std.proofs.Common.{◌≡◌, rules}
+use Rattle.sdv_program.specs.declared.fault.Fault.TheVariants.{Memory}
+use Rattle.sdv_program.specs.Outcomes.{Reports}
+use Rattle.sdv_program.proofs.OutcomeLaws.{failed}
+use Rattle.sdv_program.proofs.StartLaws.{keeps_same}
+use Rattle.sdv_commands.specs.Explain.{HasNoAnswer, IsJudgement}
+use Rattle.sdv_commands.proofs.ReportLaws.{reports}
 use Rattle.sdv_commands.proofs.explain.judge_texts.Goals as goal
 
-pub returns-in-Ok : goal.returns-in-Ok
-returns-in-Ok g c =
-    reports_too {IsReport = IsVerdict c.in-Ok.verdict} {IsOther = IsJudgement c.args.script.now c.args.certificate.now} {Because = HasNoAnswer}
-    {BecauseOther = HasNoAnswer} (g.O.Write.contents c.args.out.now) (g.O.Write.contents c.print_verdict.new.out)
-    (λ told text is. inl (c.in-Ok.verdict, c.in-Ok.ensures.judged, is)) (λ fault none. none) _ c.print_verdict.ensures
+pub returns-in_err-page : goal.returns-in_err-page
+returns-in_err-page g c =
+    let known = g.O.Write.contents c.args.out.now in
+    failed (λ outcome. Reports (IsJudgement c.args.script.now c.args.certificate.now) HasNoAnswer outcome known known) Memory c.from_residual.result
+    c.from_residual.ensures.1 (keeps_same known)
 
-pub returns-in-Err : goal.returns-in-Err
-returns-in-Err g c =
-    reports_too {IsReport = IsFaultPage c.args.script.now} {IsOther = IsJudgement c.args.script.now c.args.certificate.now} {Because = HasNoAnswer}
-    {BecauseOther = HasNoAnswer} (g.O.Write.contents c.args.out.now) (g.O.Write.contents c.print_page.new.out)
-    (λ told text page. inr page) (λ fault none. none) _ c.print_page.ensures
+pub returns : goal.returns
+returns g c =
+    let report = c.in_ok-page.field-0 in
+    reports (IsJudgement c.args.script.now c.args.certificate.now) HasNoAnswer (g.O.Write.contents c.args.out.now) (g.O.Write.contents c.print_report.new.out)
+    report.told report.page.items _ c.in_ok-page.ensures.can c.in_ok-page.ensures.is (rw c.deref.ensures.value at c.print_report.ensures)

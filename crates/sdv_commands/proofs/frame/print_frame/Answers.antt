@@ -1,7 +1,7 @@
 use Rattle.std.proofs.Common.{◌≡◌, rules}
 use Rattle.sdv_commands.specs.Frame.{IsFrameOf, IsFrameText, WriteNone, Writes}
-use Rattle.sdv_files.specs.Outcomes.{outcome_of}
-use Rattle.sdv_files.proofs.OutcomeLaws.{prints}
+use Rattle.sdv_program.specs.Outcomes.{outcome_of}
+use Rattle.sdv_program.proofs.OutcomeLaws.{prints}
 use Rattle.sdv_commands.proofs.frame.print_frame.Goals as goal
 
 pub returns : goal.returns

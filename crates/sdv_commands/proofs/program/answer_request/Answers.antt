@@ -1,8 +1,8 @@
 use Rattle.std.proofs.Common.{refl, subst, sym}
-use Rattle.sdv_command_line.specs.Requests.{card_names_of, seen}
-use Rattle.sdv_files.proofs.StartLaws.{keeps_same}
-use Rattle.sdv_command_line.specs.declared.request.Request.{Request}
-use Rattle.sdv_files.specs.Outcomes.{outcome_of}
+use Rattle.sdv_program.specs.Requests.{card_names_of, seen}
+use Rattle.sdv_program.proofs.StartLaws.{keeps_same}
+use Rattle.sdv_program.specs.declared.request.Request.{Request}
+use Rattle.sdv_program.specs.Outcomes.{outcome_of}
 use Rattle.sdv_lines.specs.Streams.{Streams, streams_of}
 use Rattle.sdv_commands.specs.Ends.{EndsRequest}
 use Rattle.sdv_commands.proofs.EndsLaws.{card_ends}

@@ -1,3 +1,0 @@
-pub mod ScheduleLaws
-pub mod TryLaws
-pub mod UntriedLaws

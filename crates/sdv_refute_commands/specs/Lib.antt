@@ -1,4 +1,0 @@
-pub mod Refute
-pub mod Schedules
-pub mod Sweep
-pub mod Try

@@ -1,4 +1,0 @@
-pub mod NewImages
-pub mod Registers
-pub mod Run
-pub mod RunImages
