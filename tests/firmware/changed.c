@@ -1,7 +1,8 @@
 /*
  * changed TABLE: plays a table with each of its words changed in many ways, and cut to each length, beside a partner that
  * answers anything. No run may read outside the table (build it with a sanitizer), and each has to end within the moves that
- * the table's header allows, and to ask for no more commands than it says.
+ * the table's header allows, and to ask for no more commands than it says. A damaged answer has to do what a time-out does,
+ * and an answer to another event than the one that was asked for has to stop the run.
  */
 #include <string.h>
 
@@ -44,6 +45,39 @@ static void draw_bytes(uint8_t *bytes, size_t count)
         bytes[i] = (uint8_t)(draw(4) ? (i < 15 ? csd[i] : 0) : draw(256));
 }
 
+/* A damaged answer leads where a time-out does: one that is said to be damaged, one of no kind, and an R2 without its bytes. */
+static void damage(const uint32_t *table, size_t words, const struct sdv_state *state, const struct sdv_event *event)
+{
+    struct sdv_state lost = *state;
+    struct sdv_event wanted, found;
+    int taken = sdv_answer(table, words, &lost, SDV_TIMEOUT, 0, NULL);
+    uint32_t reply;
+
+    sdv_next(table, words, &lost, &wanted);
+    for (reply = SDV_REPLY; reply < 6; reply++) {
+        struct sdv_state damaged = *state;
+
+        if (reply == SDV_REPLY && event->expect != 2)
+            continue;
+        if (sdv_answer(table, words, &damaged, reply, 0, NULL) != taken)
+            fail("a damaged answer is not taken as a lost one", "");
+        sdv_next(table, words, &damaged, &found);
+        if (memcmp(&wanted, &found, sizeof wanted) != 0)
+            fail("a damaged answer leads elsewhere than a lost one", "");
+    }
+}
+
+/* The answer to another event stops the run. */
+static void mistake(const uint32_t *table, size_t words, const struct sdv_state *state, const struct sdv_event *event)
+{
+    struct sdv_state wrong = *state;
+    struct sdv_event found;
+    int taken = event->what == SDV_SEND ? sdv_ended(table, words, &wrong, 1, NULL) : sdv_answer(table, words, &wrong, SDV_TIMEOUT, 0, NULL);
+
+    if (taken || sdv_next(table, words, &wrong, &found) != SDV_STOPPED)
+        fail("the answer to another event was taken", "");
+}
+
 static int answer(const uint32_t *table, size_t words, struct sdv_state *state, const struct sdv_event *event)
 {
     uint8_t bytes[512];
@@ -77,8 +111,11 @@ static void play(const uint32_t *table, size_t words)
             fail("a run has more events than moves", "");
         if (what == SDV_SEND && ++commands > most)
             fail("a run has more commands than the header says", "");
-        if (!answer(table, words, &state, &event) && sdv_next(table, words, &state, &event) < SDV_DONE)
-            fail("a run goes on behind its end", "");
+        if (what == SDV_SEND)
+            damage(table, words, &state, &event);
+        mistake(table, words, &state, &event);
+        if (!answer(table, words, &state, &event) && sdv_next(table, words, &state, &event) != SDV_STOPPED)
+            fail("a run goes on behind a refused answer", "");
     }
     if (what > SDV_STOPPED || (what == SDV_FAULT && event.count > sizeof event.name))
         fail("no end:", "");

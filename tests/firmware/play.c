@@ -231,7 +231,7 @@ int main(int count, char **arguments)
         sectors = (uint32_t)strtoul(arguments[3], NULL, 10);
         boot = (uint32_t)strtoul(arguments[4], NULL, 10);
     }
-    if (!sdv_start(table, words, &state))
+    if (!sdv_is_table(table, words) || !sdv_start(table, words, &state))
         wrong("no table:", arguments[1]);
     for (;;) {
         uint32_t what = sdv_next(table, words, &state, &event);

@@ -115,9 +115,39 @@ Answers that no card gives in any state.
   line 6: CMD3 00000000: no card answers so: R6 00000500
   6 lines, 0 reckless, 1 that no card answers, 0 of another length, 0 beyond the capacity, 0 outside
   [1]
-  $ (head -n 7 up; echo 'CMD9 45670000 R2 400e00325b5900001fff7f800a4001') | sdv audit sd -
-  line 8: CMD9 45670000: no card answers so: R2 400e00325b5900001fff7f800a4001
+
+A card has one capacity: another C_SIZE, C_SIZE_MULT, READ_BL_LEN or structure is no answer of it. TRAN_SPEED may change by a switch, and write protection by a write of the CSD.
+
+  $ (head -n 7 up; echo 'CMD9 45670000 R2 400e00325b5900001ffe7f800a4000') | sdv audit sd -
+  line 8: CMD9 45670000: no card answers so: R2 400e00325b5900001ffe7f800a4000
   8 lines, 0 reckless, 1 that no card answers, 0 of another length, 0 beyond the capacity, 0 outside
+  [1]
+  $ (head -n 7 up; echo 'CMD9 45670000 R2 400e00325b5a00001fff7f800a4000') | sdv audit sd - | head -n 1
+  line 8: CMD9 45670000: no card answers so: R2 400e00325b5a00001fff7f800a4000
+  $ (head -n 7 up; echo 'CMD9 45670000 R2 000e00325b5900001fff7f800a4000') | sdv audit sd - | head -n 1
+  line 8: CMD9 45670000: no card answers so: R2 000e00325b5900001fff7f800a4000
+  $ (head -n 7 up; echo 'CMD9 45670000 R2 400e005a5b5900001fff7f800a6000') | sdv audit sd -
+  8 lines, 0 reckless, 0 that no card answers, 0 of another length, 0 beyond the capacity, 0 outside
+
+CMD7 with argument 0 deselects the card where the host waits for no answer. A host whose relative address is 0 addresses the card by the same bits: so does an accepted script, where its second CMD3 is answered by an error and address 0.
+
+  $ printf '%s\n' 'card sd' 'send 0 { else { } }' 'send 8 { else { } }' > twice.sdv
+  $ printf '%s\n' 'loop 1000 { send 55 { app { send 41 0x40ff8000 { ocr.ready { break } answer { } else { fault lost41 } } } else { fault lost55 } } } else { fault busy }' >> twice.sdv
+  $ printf '%s\n' 'send 2 { answer { } else { fault cid } }' 'send 3 { clean { } else { fault rca } }' >> twice.sdv
+  $ printf '%s\n' 'send 3 { answer { } else { fault again } }' 'send 7 { clean { } else { fault select } }' 'done' >> twice.sdv
+  $ sdv certify twice.sdv > twice.cert
+  $ (head -n 6 up; printf '%s\n' 'CMD3 00000000 R6 00002700' 'CMD7 00000000 timeout' 'fault select') > twice.trace
+  $ sdv audit sd twice.trace --script twice.sdv | tail -n 3
+  line 8, script line 8: CMD7 00000000 timeout: no answer: the card may be in stby or tran
+  line 9, script line 8: fault select: the run ends
+  9 lines, 0 reckless, 0 that no card answers, 0 of another length, 0 beyond the capacity, 0 outside
+  $ sdv audit sd twice.trace
+  9 lines, 0 reckless, 0 that no card answers, 0 of another length, 0 beyond the capacity, 0 outside
+  $ sed 's/timeout/-/' twice.trace | sdv audit sd -
+  9 lines, 0 reckless, 0 that no card answers, 0 of another length, 0 beyond the capacity, 0 outside
+  $ (head -n 6 up; echo 'CMD7 00000000 timeout') | sdv audit sd -
+  line 7: CMD7 00000000: no card answers so: timeout
+  7 lines, 0 reckless, 1 that no card answers, 0 of another length, 0 beyond the capacity, 0 outside
   [1]
 
 A host that is reckless behind an address that lies on no card, and behind a line outside the tables too.

@@ -118,6 +118,15 @@ What is no script.
   hint: did you mean `send`?
   script fault Syntax line 2
   [1]
+  $ printf 'card emmc\nsend 0 { else { } }\nsend 55 { else { } }\ndone\n' | sdv explain -
+  line 3
+      send 55 { else { } }
+           ^
+  found: `55`, a number
+  can stand here: `0`, `1`, `2`, `3`, `6`, `7`, `8`, `9`, `10`, `12`, `13`, `16`, `17`, `18`, `23`, `24`, `25`, `35`, `36`, `38`
+  hint: the tables of this kind of card have no command with this number
+  script fault Command line 3
+  [1]
   $ sdv explain missing.sdv
   cannot use missing.sdv
   [2]
@@ -132,8 +141,12 @@ Why the checker refuses a certificate, or that it does not.
   refused Points
   [1]
   $ sed 's/^p 0 b 2007/p 0 b 2006/' $cert | sdv explain $up -
-  line 5, point 0: CMD0: the certificate does not count a command that may be sent from here on
+  line 5, point 0: CMD0: the certificate's bound is too low here, or too high at a point that follows
   refused Bound point 0
+  [1]
+  $ sed 's/^p 2 b 5/p 2 b 9000/' $cert | sdv explain $up -
+  line 6, point 1: CMD8: the certificate's bound is too low here, or too high at a point that follows
+  refused Bound point 1
   [1]
   $ sed 's/^p 22/p 21/' $cert | sdv explain $up -
   line 25 is not of the form of a certificate
@@ -151,6 +164,47 @@ Why the checker refuses a certificate, or that it does not.
   found: `sdv`, a name
   can stand here: `card`
   script fault Syntax line 1
+  [1]
+  $ cert() { printf 'sdv-cert 1\npoints %d\n' $#; n=0; for point; do echo "p $n $point"; n=$((n + 1)); done; }
+  $ idle='s 0000000000002000 0000000000002800 0000000000002c00' tran='s 0000000000002c04'
+  $ cert "b 1 m 1 $idle" "b 0 m 1 v 0 0 - $idle" | sdv explain a.sdv -
+  a point has other loops or number variables than in the script: the certificate is of another script
+  refused Points
+  [1]
+  $ cert 'b 1 m 1 s 0000000000002000 0000000000002800' "b 0 m 1 $idle" | sdv explain a.sdv -
+  the certificate says more than is known of a card before its first command
+  refused Start
+  [1]
+  $ cert "b 1 m 1 $idle" 'b 0 m 1 s 0000000000002000 0000000000002800' | sdv explain a.sdv -
+  line 2, point 0: CMD0: the certificate leaves out a card that may come after it
+  refused Shape point 0
+  [1]
+  $ cert "b 1 m 1 $idle" 'b 0 m 1 s 0000000000002800 0000000000002000' | sdv explain a.sdv -
+  the shapes of line 4 do not rise
+  certificate fault Order line 4
+  [1]
+  $ cert "b 1 m 1 $idle" "b 0 m 2 $idle" | sdv explain a.sdv -
+  line 2, point 0: CMD0: the certificate says more of the numbers after it than is known
+  refused Number point 0
+  [1]
+  $ printf 'sdv-cert 1\npoints 4097\n' | sdv explain a.sdv -
+  the certificate passes a limit
+  certificate fault Limit
+  [1]
+  $ printf 'card sd\nloop 3 { send 2 { else { } } } else { }\nfault stop\n' > b.sdv
+  $ cert "b 0 1 m 1 $idle" "b 1 1 m 1 $idle" "b 0 m 1 $idle" | sdv explain b.sdv -
+  line 2, point 1: CMD2: it is not legal for a card that the certificate lets come here
+  refused Illegal point 1
+  [1]
+  $ printf 'card sd\nflags f\nif f { send 17 at block 0 { else { } } } else { }\nfault stop' > c.sdv
+  $ cert "b 1 m 1 $idle" "b 1 m 0 $tran" "b 0 m 1 $idle 0000000000002c04" | sdv explain c.sdv -
+  line 3, point 1: CMD17 at block 0: the certificate does not show that the card has these blocks, or it lets a card with another unit of addresses come here
+  refused Address point 1
+  [1]
+  $ printf 'card sd\nflags f\nif f { done } else { }\nfault stop' > d.sdv
+  $ cert "b 0 m 1 $idle" 'b 0 m 1 s 0000000000002003' "b 0 m 1 $idle 0000000000002c04" | sdv explain d.sdv -
+  line 3, point 1: done: the certificate lets a card come here that is not in tran state
+  refused EndState point 1
   [1]
   $ sdv explain $up missing.cert
   cannot use missing.cert
@@ -180,7 +234,7 @@ A run that breaks the script, behind the reason and before the way. Such a run m
   $ sdv explain --why $EXAMPLES/hosts/linux_write.sdv 2> said | sed -n '4,9p'
   why: CMD12 is not legal in prg state
   a run that breaks the script, beside a simulated card:
-      mishap   line 31: the CRC status of the phase of 1 blocks to the card is lost, and the card programs the blocks
+      mishap   line 31: the CRC status of the phase of 1 block to the card is lost, and the card programs the blocks
       mishap   line 32: the card is not ready at CMD13
       wrong    line 32: CMD12 comes to a card in prg state, where it is not legal
       `sdv refute` prints its card, its schedule and its trace

@@ -4,6 +4,8 @@ The bytes of frames, as the standard prints them.
   40 00 00 00 00 95
   $ sdv frame 8 0x1AA
   48 00 00 01 aa 87
+  $ sdv frame 17 0
+  51 00 00 00 00 55
   $ sdv frame 41 0x40FF8000
   69 40 ff 80 00 17
   $ sdv frame 1 0x40ff8080

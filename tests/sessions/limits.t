@@ -1,4 +1,4 @@
-Cards at the limits of descriptions, beside `try`, `refute` and `sweep`. The least card of each sort.
+Cards at the limits of descriptions, beside `try`, `try --each` and `refute`. The least card of each sort.
 
   $ up=$EXAMPLES/sd_bring_up.sdv; mmc=$EXAMPLES/emmc_bring_up.sdv
   $ try() { printf "$2" > card; sdv try $1 card $3 > trace; status=$?; tail -n 1 trace; return $status; }
@@ -42,14 +42,14 @@ The last two blocks of the greatest card.
 
 Relative card addresses.
 
-  $ for rca in 1 65535; do printf "card sd\nversion 2\nunit block\ncsize 0\nrca $rca\n" > card; sdv try $up card new:1024 | grep -e CMD3 -e CMD7; sdv sweep $up card new:1024 | tail -n 1; done
+  $ for rca in 1 65535; do printf "card sd\nversion 2\nunit block\ncsize 0\nrca $rca\n" > card; sdv try $up card new:1024 | grep -e CMD3 -e CMD7; sdv try --each $up card new:1024 | tail -n 1; done
   CMD3 00000000 R6 00010500
   CMD7 00010000 R1 00000700
   8 done, 34 faults, 0 wrong, 0 stopped
   CMD3 00000000 R6 ffff0500
   CMD7 ffff0000 R1 00000700
   8 done, 34 faults, 0 wrong, 0 stopped
-  $ for rca in 0 65536 -1 99999999999999999999; do printf "card sd\nversion 2\nunit block\ncsize 0\nrca $rca\n" > card; sdv try $up card new:1024; sdv sweep $up card new:1024; done
+  $ for rca in 0 65536 -1 99999999999999999999; do printf "card sd\nversion 2\nunit block\ncsize 0\nrca $rca\n" > card; sdv try $up card new:1024; sdv try --each $up card new:1024; done
   card fault Description
   card fault Description
   card fault Description
@@ -65,7 +65,7 @@ Relative card addresses.
 
 Numbers beyond the limits, and images that do not fit.
 
-  $ refused() { printf "$2" > card; sdv try $1 card $3; sdv sweep $1 card $3; }
+  $ refused() { printf "$2" > card; sdv try $1 card $3; sdv try --each $1 card $3; }
   $ refused $up 'card sd\nversion 2\nunit byte\ncsize 4096\ncmult 0\nrbl 9\nrca 1\n' new:4
   card fault Description
   card fault Description

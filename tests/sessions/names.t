@@ -124,6 +124,17 @@ error is shown, the card is ready by then.
   CMD13 12340000 R1 00080900
   CMD13 12340000 R1 00000900
 
+So with a read whose phase is still to come: the card does not end it by itself.
+
+  $ sed 's/^done$/send 17 at by hc 3 { else { } } send 13 { else { } } send 13 { else { } } recv { ok { } else { fault cut } } send 13 { else { } } done/' $EXAMPLES/sd_bring_up.sdv > open.sdv
+  $ printf 'event 11: error while busy\nevent 12: lost while busy\nevent 14: error while busy\n' > names; sdv try open.sdv $EXAMPLES/sd_byte.card new:16 names | tail -n 6
+  CMD17 00000600 R1 00000900
+  CMD13 00010000 R1 00080b00
+  CMD13 00010000 timeout
+  IN 1 ok
+  CMD13 00010000 R1 00080900
+  done
+
 Where the card is not busy, these words say the same as the shorter ones. At phases and at CMD0 they say nothing.
 
   $ as 'CMD8: lost while busy' 01; as 'CMD3: error while busy' 000004
@@ -274,7 +285,7 @@ What `refute` tells of a run, written as names, shows the same run. On line 31 o
   line 13: the card refuses CMD55 with an error
   line 14: CMD41 comes to a card in idle state without the application flag
   $ again linux_write '2nd line 31: CRC status lost\nline 32: not ready\n'
-  line 31: the CRC status of the phase of 1 blocks to the card is lost, and the card programs the blocks
+  line 31: the CRC status of the phase of 1 block to the card is lost, and the card programs the blocks
   line 32: the card is not ready at CMD13
   line 32: CMD12 comes to a card in prg state, where it is not legal
   $ again uboot_read_many 'line 24: answer lost\n'
@@ -289,6 +300,6 @@ Names are for `try` alone.
   $ sdv card $card new:1024 names < /dev/null
   card fault Description
   [1]
-  $ sdv describe $card names | tail -n 1
+  $ sdv card --describe $card names | tail -n 1
   card fault Description
   the schedule is wrong, line 1: expected a digit from 0 to 7; `try` alone takes a schedule by name

@@ -97,7 +97,7 @@ Each refused script of the examples. `try` shows the same run.
   line 31: CMD33 comes to a card in tran state whose erase sequence is not so far
   linux_write.sdv
   mishaps
-  line 31: the CRC status of the phase of 1 blocks to the card is lost, and the card programs the blocks
+  line 31: the CRC status of the phase of 1 block to the card is lost, and the card programs the blocks
   line 32: the card is not ready at CMD13
   wrong
   line 32: CMD12 comes to a card in prg state, where it is not legal
@@ -401,10 +401,10 @@ Why there is none for another reason.
   $ sdv refute early.sdv > /dev/full
   [2]
 
-The pages of the three commands.
+The pages of the two commands.
 
-  $ for command in try refute sweep; do sdv $command --help; done
-  sdv try SCRIPT CARD IMAGE [SCHEDULE] [--in FILE] [--out FILE]
+  $ for command in try refute; do sdv $command --help; done
+  sdv try SCRIPT CARD IMAGE [SCHEDULE] [--in FILE] [--out FILE] [--each] [--lines]
       runs any script beside a simulated card, and stops before what is not allowed there
       SCRIPT: a file with a script
       CARD: a file with the description of a card
@@ -412,15 +412,11 @@ The pages of the three commands.
       SCHEDULE: a file with a digit from 0 to 7 for each event, or with mishaps by name: what the card does there
       --in FILE: the blocks that the script gives, a whole number of them
       --out FILE: the file that takes the blocks that the script receives
+      --each: prints how each run with one mishap ends
+      --lines: the trace says where the host changes its data lines
   sdv refute SCRIPT [--card FILE] [--schedule FILE]
       looks for a run that shows that a script is refused
       SCRIPT: a file with a script
       --card FILE: the file that takes the description of the card
       --schedule FILE: the file that takes the schedule
-  sdv sweep SCRIPT CARD IMAGE [--in FILE]
-      prints how each run with one mishap ends
-      SCRIPT: a file with a script
-      CARD: a file with the description of a card
-      IMAGE: a file with the blocks of the card, or new: and a number of blocks of zeros
-      --in FILE: the blocks that the script gives, a whole number of them
 

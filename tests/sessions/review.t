@@ -43,10 +43,10 @@ A write that a clean status in transfer state confirms, one that nothing confirm
   line 16: done may come before the write of line 15 is confirmed
   gives at most 1 block
   sd doubt
-  line 16: done may come where the write of line 15 was cut, or its error passed over
+  line 16: done may come where the write of line 15 was lost or cut, or its error passed over
   gives at most 1 block
   sd ready
-  line 16: done may come where the write of line 15 was cut, or its error passed over
+  line 16: done may come where the write of line 15 was lost or cut, or its error passed over
   gives at most 1 block
   emmc confirmed
   gives at most 1 block
@@ -54,10 +54,10 @@ A write that a clean status in transfer state confirms, one that nothing confirm
   line 15: done may come before the write of line 14 is confirmed
   gives at most 1 block
   emmc doubt
-  line 15: done may come where the write of line 14 was cut, or its error passed over
+  line 15: done may come where the write of line 14 was lost or cut, or its error passed over
   gives at most 1 block
   emmc ready
-  line 15: done may come where the write of line 14 was cut, or its error passed over
+  line 15: done may come where the write of line 14 was lost or cut, or its error passed over
   gives at most 1 block
 
 A write that was cut, and given up for a done; and one that was left for another place.
@@ -78,16 +78,55 @@ A write that was cut, and given up for a done; and one that was left for another
   > END
   >   sdv review cut.sdv; sdv review --json other.sdv
   > done
-  line 16: done may come where the write of line 15 was cut, or its error passed over
+  line 16: done may come where the write of line 15 was lost or cut, or its error passed over
   gives at most 1 block
   {"line":20,"kind":"unreached","text":"no run comes to fault write"}
   {"line":19,"kind":"write","text":"done may come where line 18 left the write of line 15, which may have failed"}
   {"kind":"blocks","text":"gives at most 2 blocks"}
-  line 15: done may come where the write of line 14 was cut, or its error passed over
+  line 15: done may come where the write of line 14 was lost or cut, or its error passed over
   gives at most 1 block
   {"line":19,"kind":"unreached","text":"no run comes to fault write"}
   {"line":18,"kind":"write","text":"done may come where line 17 left the write of line 14, which may have failed"}
   {"kind":"blocks","text":"gives at most 2 blocks"}
+  [1]
+
+A write command that was lost or refused, and stepped over: no blocks were given. And what leaves it: another write, an erase, a
+number of its address, a change of partition.
+
+  $ up() { sed '/^done/d; s/^nums cap/nums cap b/' $EXAMPLES/$1_bring_up.sdv; echo 'if cap >= 16 { let b = 8 } else { fault small }'; cat; }
+  $ wait='loop 1000 { wait { ok { break } else { } } } else { fault busy }'
+  $ back='loop 1000 { send 13 { state=rcv { send 12 { else { } } } ready & state=tran { break } else { } } } else { fault stuck }'
+  $ write() { echo "send 24 at by hc $1 { clean { give { ok { $wait send 13 { clean & state=tran { $2 } else { fault write } } } else { fault cut } } } else { $3 } }"; }
+  $ for kind in sd emmc; do
+  >   { write b '' ''; echo $back; echo done; } | up $kind | sdv review -
+  >   { write b '' ''; echo $back; write 9 done 'fault lost'; echo $back; } | up $kind | sdv review - | grep done
+  >   { write b '' ''; echo $back; echo 'let b = 8'; echo done; } | up $kind | sdv review - | grep done
+  >   { echo 'loop 3 {'; write b 'break' ''; echo $back; echo '} else { fault lost }'; echo done; } | up $kind | sdv review -
+  > done
+  line 17: done may come where the write of line 15 was lost or cut, or its error passed over
+  gives at most 1 block
+  line 17: done may come where line 17 left the write of line 15, which may have failed
+  line 18: done may come where line 17 left the write of line 15, which may have failed
+  nothing found
+  gives at most 3 blocks
+  line 16: done may come where the write of line 14 was lost or cut, or its error passed over
+  gives at most 1 block
+  line 16: done may come where line 16 left the write of line 14, which may have failed
+  line 17: done may come where line 16 left the write of line 14, which may have failed
+  nothing found
+  gives at most 3 blocks
+  $ { write b '' ''; echo $back; echo "send 32 at by hc 9 { clean { send 33 at by hc 9 { clean { send 38 { clean { $wait"
+  >   echo 'send 13 { clean & state=tran { done } else { fault e } } } else { fault e } } } else { fault e } } } else { fault e } }'; } | up sd | sdv review - | grep done
+  line 18: done may come where line 17 left the write of line 15, which may have failed
+  $ { write b '' ''; echo $back; echo 'send 6 part.access 0 { clean { } else { fault part } }'; echo $wait; echo 'send 13 { clean & state=tran { done } else { fault part } }'
+  >   } | up emmc | sdv review - | grep done
+  line 18: done may come where line 16 left the write of line 14, which may have failed
+
+A write that is sent once more after its blocks were given counts from there on.
+
+  $ { echo 'loop 2 {'; write b '' ''; echo $back; echo '} else { done }'; } | up sd | sdv review -
+  line 18: done may come where the write of line 16 was lost or cut, or its error passed over
+  gives at most 2 blocks
   [1]
 
 A write that comes again after a number changed is another one.
@@ -116,7 +155,7 @@ A number that is set between a command and its blocks, and more writes open at o
   >   send 13 { clean & state=tran { done } else { fault write } } } else { fault cut } } } else { fault lost } }
   > END
   $ sdv review set.sdv | head -1
-  line 17: it is not known whether each write is stored
+  line 17: done may come where line 16 left the write of line 16, which may have failed
   $ for most in 8 9; do
   >   awk -v most=$most 'BEGIN {
   >     printf "loop 1 {"
@@ -163,10 +202,43 @@ An erase that may have failed, and was left for another one.
   > done | up > left.sdv
   > sdv review left.sdv; done; done
   nothing found
-  line 24: done may come where line 22 left the erase of line 17, which may have failed
+  line 24: done may come where line 20 left the erase of line 15, which may have failed
   nothing found
-  line 23: done may come where line 21 left the erase of line 16, which may have failed
+  line 23: done may come where line 19 left the erase of line 14, which may have failed
   [1]
+
+An erase is its first block, its last block and CMD38: it is made good by the same three, and not by the same CMD38 behind another
+pair, nor by another last block; and without CMD38 it is not done.
+
+  $ up() { sed '/^done/d; s/^nums cap/nums cap b/' $EXAMPLES/$1_bring_up.sdv; echo 'if cap >= 16 { let b = 8 } else { fault small }'; cat; }
+  $ for kind in sd emmc; do
+  >   case $kind in sd) first=32 last=33 erase=38;; *) first=35 last=36 erase='38 0';; esac
+  >   range() { echo "send $first at by hc $1 { clean { send $last at by hc $2 { clean { $3 } else { $4 } } } else { $4 } }"; }
+  >   erase() { echo "send $erase { clean { $wait send 13 { clean & state=tran { $1 } else { $2 } } } else { $2 } }"; }
+  >   { range b 9 '' 'fault range'; echo $wait; echo done; } | up $kind | sdv review -
+  >   { echo 'loop 3 {'; range b 9 "$(erase done '')" ''; echo $wait; echo '} else { fault unerased }'; } | up $kind | sdv review -
+  >   { echo 'loop 3 {'; range b 9 "$(erase done '')" ''; echo $wait; echo 'let b = 8'; echo '} else { fault unerased }'; } | up $kind | sdv review -
+  >   { echo 'loop 3 {'; range 8 9 "$(erase done '')" ''; echo $wait; echo 'let b = b - 1'; echo '} else { fault unerased }'; } | up $kind | sdv review - | grep done
+  >   { echo 'loop 3 {'; echo 'if b >= 8 {'; range 8 9 '' 'fault range'; echo '} else {'; range 10 11 '' 'fault range'; echo '}'
+  >     erase done 'let b = 0'; echo $wait; echo '} else { fault unerased }'; } | up $kind | sdv review - | grep done
+  >   { echo "loop 3 { send $first at by hc 8 { clean {"; echo 'if b >= 8 {'; echo "send $last at by hc 9 { clean { } else { fault last } }"
+  >     echo '} else {'; echo "send $last at by hc 10 { clean { } else { fault last } }"; echo '}'
+  >     erase done 'let b = 0'; echo "} else { fault first } } $wait } else { fault unerased }"; } | up $kind | sdv review - | grep done
+  > done
+  line 17: done may come where the erase of line 15 was begun without CMD38
+  nothing found
+  line 16: done may come where line 18 left the erase of line 16, which may have failed
+  line 21: done may come where line 17 left the erase of line 19, which may have failed
+  line 21: done may come where line 19 left the erase of line 17, which may have failed
+  line 21: done may come where line 17 left the erase of line 15, which may have failed
+  line 21: done may come where line 19 left the erase of line 15, which may have failed
+  line 16: done may come where the erase of line 14 was begun without CMD38
+  nothing found
+  line 15: done may come where line 17 left the erase of line 15, which may have failed
+  line 20: done may come where line 16 left the erase of line 18, which may have failed
+  line 20: done may come where line 18 left the erase of line 16, which may have failed
+  line 20: done may come where line 16 left the erase of line 14, which may have failed
+  line 20: done may come where line 18 left the erase of line 14, which may have failed
 
 A CMD6 that was lost leaves open which partition a write reaches.
 

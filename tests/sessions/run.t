@@ -177,18 +177,19 @@ So is one that standard input comes from.
   $ sdv run up.sdv up.cert up.card new:1024 --in /dev/null --out /dev/null | tail -n 1
   done
 
-The registers that came, as `sdv decode` takes them: of an e.MMC device its EXT_CSD, of an SD card SCR and SD status.
+The registers that came, as `sdv audit --script` takes them: of an e.MMC device its EXT_CSD, of an SD card SCR and SD status.
 
   $ device=$EXAMPLES/emmc_bring_up.sdv; sed 's/^done$/if cap >= 4096 { done } else { fault small }/' $device > large.sdv; sdv certify large.sdv > large.cert
   $ sdv run large.sdv large.cert $EXAMPLES/emmc_block.card new:2048 --registers r > large.trace
   [1]
-  $ wc -c < r; od -An -v -tx1 -j 212 -N 4 r; sdv decode large.sdv large.trace | tail -n 1
+  $ wc -c < r; od -An -v -tx1 -j 212 -N 4 r; sdv audit emmc large.trace --script large.sdv | tail -n 1
   512
    00 08 00 00
   trace fault Script line 10
   line 10, script line 13: the end: the script does not come here; it stands at done
-  $ sdv decode large.sdv large.trace --registers r | tail -n 1
+  $ sdv audit emmc large.trace --script large.sdv --registers r | tail -n 2
   line 10, script line 13: fault small: the run ends
+  10 lines, 0 reckless, 0 that no card answers, 0 of another length, 0 beyond the capacity, 0 outside
   $ { sed '/^done$/d' $up; for index in 51 13; do
   >     echo "send 55 { app & state=tran { send $index { clean { recv reg { ok { } else { fault lost } } } else { fault no } } } else { fault no } }"
   > done; echo done; } > both.sdv; sdv certify both.sdv > both.cert
@@ -205,7 +206,7 @@ The registers that came, as `sdv decode` takes them: of an e.MMC device its EXT_
    00 00 00 00 00 00 00 00 00 00 00 00 00 00 00 00
    00 00 00 00 00 00 00 00 00 00 00 00 00 00 00 00
    00 00 00 00 00 00 00 00
-  $ sdv run both.sdv both.cert $card new:1024 --registers r > both.trace; sdv decode both.sdv both.trace --registers r | tail -n 7
+  $ sdv run both.sdv both.cert $card new:1024 --registers r > both.trace; sdv audit sd both.trace --script both.sdv --registers r | tail -n 8
   line 10, script line 14: CMD55 12340000 R1 00000920: tran, ready, APP_CMD
   line 11, script line 14: ACMD51 00000000 R1 00000920: tran, ready, APP_CMD
   line 12, script line 14: REG 8 ok: SCR 0205000000000000
@@ -213,6 +214,7 @@ The registers that came, as `sdv decode` takes them: of an e.MMC device its EXT_
   line 14, script line 15: ACMD13 12340000 R1 00000920: tran, ready, APP_CMD
   line 15, script line 15: REG 64 ok: SD status 00000000000000000000000000000000000000000000000000000000000000000000000000000000000000000000000000000000000000000000000000000000
   line 16, script line 16: done: the run ends
+  16 lines, 0 reckless, 0 that no card answers, 0 of another length, 0 beyond the capacity, 0 outside
 
 Where the second is cut, it is not there; of a script that reads none the file is empty.
 

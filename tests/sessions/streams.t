@@ -66,7 +66,7 @@ Cards and images that cannot be used.
   card fault Description
   [1]
   $ sdv card $card
-  usage: IMAGE is missing: sdv card CARD IMAGE [SCHEDULE]
+  usage: IMAGE is missing: sdv card CARD [IMAGE] [SCHEDULE] [--describe]
   [2]
 
 The host alone asks line by line. An answer that is none, and the end of its input, end the run.
@@ -103,15 +103,29 @@ The host alone asks line by line. An answer that is none, and the end of its inp
   CMD0 00000000 -
   CMD8 000001aa R7 000001aa
 
-An answer with wrong bits is none that a run goes on with.
+A damaged answer is as good as a lost one.
 
-  $ printf '%s\n' - damaged | sdv drive $up $cert --trace trace
+  $ printf '%s\n' - 'R7 000001aa' 'R1 00000120' damaged | sdv drive $up $cert --trace trace
   CMD0 00000000 -
   CMD8 000001aa R7
-  run fault Reply
+  CMD55 00000000 R1
+  CMD41 40ff8000 R3
+  fault lost41
   [1]
   $ cat trace
   CMD0 00000000 -
+  CMD8 000001aa R7 000001aa
+  CMD55 00000000 R1 00000120
+  CMD41 40ff8000 timeout
+  fault lost41
+
+Where no response is waited for, none is damaged.
+
+  $ echo damaged | sdv drive $up $cert --trace trace
+  CMD0 00000000 -
+  cannot use -
+  [2]
+  $ cat trace
 
 Nothing is asked where the script is not accepted, or a file cannot be used.
 

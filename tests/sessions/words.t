@@ -5,7 +5,7 @@ Words that are no line of the program.
   $ for words in "" frame "frame 0" "frame 0 0 0" "frames 0 0" "0 0" "-- frame 0 0" "frame 64 0" "frame 0 4294967296" \
   >     "frame 0 0x100000000" "frame 0x 0" "frame 0X1 0" "frame +1 0" "frame 1f 0" certify "certify a b" "certifies a" \
   >     "run a b c" "run a b c d e f" "run a b c d --out" "run a b c d --out e --out f" "run a b c d --in e --in f" "batch sd" \
-  >     "batch mmc read" help "--help frame" "frame 0 -h" graph "--help --help" "frame 0 --help" --versions; do
+  >     "batch mmc read" help "--help frame" "frame 0 -h" explain "--help --help" "frame 0 --help" --versions; do
   >     sdv $words > out 2> said; echo "$? $(cut -c 1-6 said) $(wc -c < out) ($words)"
   > done
   2 usage: 0 ()
@@ -35,7 +35,7 @@ Words that are no line of the program.
   2 usage: 0 (help)
   2 usage: 0 (--help frame)
   2 usage: 0 (frame 0 -h)
-  2 usage: 0 (graph)
+  2 usage: 0 (explain)
   2 usage: 0 (--help --help)
   2 usage: 0 (frame 0 --help)
   2 usage: 0 (--versions)
@@ -44,9 +44,18 @@ Words that are no line of the program.
   usage:
   usage:
 
+The program goes by its words alone, whatever it is called by. A word that is no text has all lines for an answer.
+
+  $ ln -s "$(command -v sdv)" frame; ./frame 0 0; ./frame frame 0 0
+  usage: 0 is no command; sdv --help lists them
+  40 00 00 00 00 95
+  $ sdv frame "$(printf '\377')" 0
+  usage: sdv --help lists the commands
+  [2]
+
 Which word is wrong.
 
-  $ for words in "" frames "frame 0" "frame 0 0 0" "run a b c" "run a b c d --out" "run a b c d --ot e" "graph --no-fault a" \
+  $ for words in "" frames "frame 0" "frame 0 0 0" "run a b c" "run a b c d --out" "run a b c d --ot e" "explain --no-fault a" \
   >     "batch mmc read" "frame 64 0"; do
   >     sdv $words
   > done
@@ -57,33 +66,33 @@ Which word is wrong.
   usage: IMAGE is missing: sdv run SCRIPT CERT CARD IMAGE [SCHEDULE] [--in FILE] [--out FILE] [--registers FILE]
   usage: --out needs FILE: sdv run SCRIPT CERT CARD IMAGE [SCHEDULE] [--in FILE] [--out FILE] [--registers FILE]
   usage: --ot is no option: sdv run SCRIPT CERT CARD IMAGE [SCHEDULE] [--in FILE] [--out FILE] [--registers FILE]
-  usage: --no-fault is no option: sdv graph SCRIPT [--no-faults]
+  usage: --no-fault is no option: sdv explain SCRIPT [CERT] [--why] [--dot] [--no-faults]
   usage: mmc is no KIND (sd or emmc): sdv batch KIND REQUESTS
   usage: 64 is no INDEX (from 0 to 63): sdv frame INDEX ARG
   [2]
-  $ for words in "frame x 0" "frame 0 4294967296" "frame 0x40 0" "frame 0 0x1 0" "try a b c --out e --out f" "decode a b --svg --svg" \
-  >     "decode a b --json --svg" "decode a b --json --svg --json" "decode a --json --svg" "run a b c d --in --in"; do
+  $ for words in "frame x 0" "frame 0 4294967296" "frame 0x40 0" "frame 0 0x1 0" "try a b c --out e --out f" "audit sd b --svg --svg" \
+  >     "audit sd b --json --svg" "audit sd b --json --svg --json" "audit sd --json --svg" "run a b c d --in --in"; do
   >     sdv $words
   > done
   usage: x is no INDEX (from 0 to 63): sdv frame INDEX ARG
   usage: 4294967296 is no ARG (from 0 to 4294967295): sdv frame INDEX ARG
   usage: 0x40 is no INDEX (from 0 to 63): sdv frame INDEX ARG
   usage: 0 is one word too many: sdv frame INDEX ARG
-  usage: --out stands twice: sdv try SCRIPT CARD IMAGE [SCHEDULE] [--in FILE] [--out FILE]
-  usage: --svg stands twice: sdv decode SCRIPT TRACE [--registers FILE] [--json] [--svg]
-  usage: --json and --svg exclude each other: sdv decode SCRIPT TRACE [--registers FILE] [--json] [--svg]
-  usage: --json stands twice: sdv decode SCRIPT TRACE [--registers FILE] [--json] [--svg]
-  usage: TRACE is missing: sdv decode SCRIPT TRACE [--registers FILE] [--json] [--svg]
+  usage: --out stands twice: sdv try SCRIPT CARD IMAGE [SCHEDULE] [--in FILE] [--out FILE] [--each] [--lines]
+  usage: --svg stands twice: sdv audit KIND TRACE [--json] [--annotate] [--script SCRIPT] [--registers FILE] [--svg]
+  usage: --json and --svg exclude each other: sdv audit KIND TRACE [--json] [--annotate] [--script SCRIPT] [--registers FILE] [--svg]
+  usage: --json stands twice: sdv audit KIND TRACE [--json] [--annotate] [--script SCRIPT] [--registers FILE] [--svg]
+  usage: TRACE is missing: sdv audit KIND TRACE [--json] [--annotate] [--script SCRIPT] [--registers FILE] [--svg]
   usage: --in needs FILE: sdv run SCRIPT CERT CARD IMAGE [SCHEDULE] [--in FILE] [--out FILE] [--registers FILE]
   [2]
-  $ for words in "frame 0x3f 0x100000000" "graph --no-fault=x a" "review a --json=x" "try a b c --in=e --in f" "sweep a b c d --in=e"; do
+  $ for words in "frame 0x3f 0x100000000" "explain --no-fault=x a" "review a --json=x" "try a b c --in=e --in f" "try a b c d e --in=e"; do
   >     sdv $words
   > done
   usage: 0x100000000 is no ARG (from 0 to 4294967295): sdv frame INDEX ARG
-  usage: --no-fault=x is no option: sdv graph SCRIPT [--no-faults]
+  usage: --no-fault=x is no option: sdv explain SCRIPT [CERT] [--why] [--dot] [--no-faults]
   usage: --json=x is no option: sdv review SCRIPT [--json]
-  usage: --in=e stands twice: sdv try SCRIPT CARD IMAGE [SCHEDULE] [--in FILE] [--out FILE]
-  usage: d is one word too many: sdv sweep SCRIPT CARD IMAGE [--in FILE]
+  usage: --in=e stands twice: sdv try SCRIPT CARD IMAGE [SCHEDULE] [--in FILE] [--out FILE] [--each] [--lines]
+  usage: e is one word too many: sdv try SCRIPT CARD IMAGE [SCHEDULE] [--in FILE] [--out FILE] [--each] [--lines]
   [2]
   $ up=$EXAMPLES/sd_bring_up.sdv cert=$EXAMPLES/sd_bring_up.cert
   $ sdv emit $up $cert 9x; sdv emit $up $cert for; sdv emit $up $cert a-b; sdv emit -- $up $cert for; sdv batch sd "erase 0 1"; sdv batch sd "read 0"
@@ -100,16 +109,16 @@ An option is no value, and behind `--` there is none.
   $ sdv drive $up $cert --in --out o; sdv frame -- -1 0; sdv explain -- --why a b; sdv review -- --json --json
   usage: --in needs FILE: sdv drive SCRIPT CERT [--in FILE] [--out FILE] [--trace FILE]
   usage: -1 is no INDEX (from 0 to 63): sdv frame INDEX ARG
-  usage: b is one word too many: sdv explain SCRIPT [CERT] [--why]
+  usage: b is one word too many: sdv explain SCRIPT [CERT] [--why] [--dot] [--no-faults]
   usage: --json is one word too many: sdv review SCRIPT [--json]
   [2]
 
 Help is asked for behind the name of a command.
 
-  $ sdv --help run; sdv -h frame; sdv help decode; sdv --help runs; sdv help
+  $ sdv --help run; sdv -h frame; sdv help audit; sdv --help runs; sdv help
   usage: write sdv run --help
   usage: write sdv frame --help
-  usage: write sdv decode --help
+  usage: write sdv audit --help
   usage: --help is no command; sdv --help lists them
   usage: help is no command; sdv --help lists them
   [2]
@@ -127,24 +136,46 @@ The page of a command.
       --in FILE: the blocks that the script gives, a whole number of them
       --out FILE: the file that takes the blocks that the script receives
       --registers FILE: the file that takes the bytes of the registers that come, one after another
-  $ sdv try -h | tail -n 3; sdv drive -h | tail -n 3; sdv card -h | tail -n 1
+  $ sdv try -h | tail -n 5; sdv drive -h | tail -n 3; sdv card -h | tail -n 2
       SCHEDULE: a file with a digit from 0 to 7 for each event, or with mishaps by name: what the card does there
       --in FILE: the blocks that the script gives, a whole number of them
       --out FILE: the file that takes the blocks that the script receives
+      --each: prints how each run with one mishap ends
+      --lines: the trace says where the host changes its data lines
       --in FILE: the blocks that the script gives, a whole number of them
       --out FILE: the file that takes the blocks that the script receives
       --trace FILE: the file that takes the trace of the run
       SCHEDULE: a file with a digit from 0 to 7 for each event: what the card does there
+      --describe: prints the description in words, or the line that is wrong; no IMAGE stands there
   $ sdv explain -h
-  sdv explain SCRIPT [CERT] [--why]
+  sdv explain SCRIPT [CERT] [--why] [--dot] [--no-faults]
       prints what is known at each statement, and why the script or the certificate is refused
       SCRIPT: a file with a script
       CERT: a file with a certificate
       --why: prints only why the script is refused
+      --dot: prints the graph of the script in the language of Graphviz
+      --no-faults: leaves out the statements that end in a fault
   $ sdv rum --help
   usage: rum is no command; sdv --help lists them
   [2]
   $ sdv run --help > /dev/full
+  [2]
+
+Commands that went say what stands in their places.
+
+  $ for command in graph sweep describe decode "print a" "graph --help"; do sdv $command; done
+  sdv graph: now sdv explain --dot
+  sdv sweep: now sdv try --each
+  sdv describe: now sdv card --describe
+  sdv decode: now sdv audit --script
+  sdv print: now a call of the library, print of sdv_script
+  sdv graph: now sdv explain --dot
+  [2]
+
+A card that answers lines has an image.
+
+  $ sdv card $EXAMPLES/sd_block.card
+  usage: IMAGE is missing: sdv card CARD [IMAGE] [SCHEDULE] [--describe]
   [2]
 
 A line of one word.

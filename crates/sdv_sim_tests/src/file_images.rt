@@ -1,7 +1,5 @@
-//! Images over files: how often they read and write the file, which buffer they give up, and what they keep where the
-//! file fails; the fuses that make a call fail; and a simulated card over such an image.
+//! Images over files: how often they read and write the file, which buffer they give up, and what they keep where a
+//! write fails. `counting_file` is such a file.
 
-mod counting_file;
+pub mod counting_file;
 mod file_image;
-mod fuses;
-mod simulated_card;

@@ -1,17 +1,15 @@
-//! Tests of simulated cards, of images over files, and of what runs beside such a card: scripts, and the block layer; and
-//! of what fails once.
+//! Tests of what fails beside a simulated card: a read or a write of its image, of the file below that, of the output or of
+//! the trace; and memory that is refused. Also how an image over a file keeps its buffers, and the texts of faults.
 //!
-//! A module stands for a group of subjects. `texts` has the scripts, cards and traces that several of them use,
-//! `requests` the requests, `scripts` accepts a script, and `shared` has what else they call. The crate has no code of
-//! its own.
+//! `texts` has the script, cards and traces that several tests use, `requests` the requests, `scripts` accepts a script,
+//! and `shared` has what else they call. The crate has no code of its own. What the built program shows stands in the
+//! folder `tests` of the repository.
 #![tactic(auto)]
 
 #[cfg(test)]
-mod blocks;
-#[cfg(test)]
-mod cards;
-#[cfg(test)]
 mod failing_once;
+#[cfg(test)]
+mod fault_texts;
 #[cfg(test)]
 mod file_images;
 #[cfg(test)]

@@ -1,20 +1,17 @@
 //! What several tests call.
 
 use sdv_card::{Answer, CardPort, DataEnd};
-use sdv_controller::Controller;
 use sdv_frames::{Command, Expect, Reply};
-use sdv_sim::{CardDesc, MemImage, Sim};
-use std::alloc::Global;
 use std::fmt::Debug;
 use std::process::Abort;
 
-/// A controller with a simulated card behind it.
-pub type Port = Controller<Sim<MemImage>>;
-
 /// The CID of an SD card.
-pub const SD_CID: [u8; 15] = [
+const CID: [u8; 15] = [
     0x00, 0x58, 0x58, 0x53, 0x44, 0x56, 0x20, 0x20, 0x10, 0x00, 0x00, 0x00, 0x01, 0x01, 0x81,
 ];
+
+/// The CSD of the block card.
+const CSD: [u8; 15] = [0x40, 0, 0, 0, 0, 0x09, 0, 0, 0, 0, 0, 0, 0, 0, 0];
 
 /// A command, what is waited for, and the answer.
 pub type Exchange = (u8, u32, Expect, Answer);
@@ -29,66 +26,27 @@ pub fn r1(index: u8, argument: u32, status: u32) -> Exchange {
     )
 }
 
-/// The bring-up of an SD card, without a schedule.
-pub fn bring_up(rca: u32, ocr: u32, echo: Answer, csd: [u8; 15]) -> [Exchange; 9] {
+/// The bring-up of the block card.
+pub fn block_bring_up() -> [Exchange; 9] {
+    let rca = 0x1234_0000;
+    let echo = Answer::Reply(Reply::R7(0x1aa));
+    let ready = Answer::Reply(Reply::R3(0xc0ff_8000));
     [
         (0, 0, Expect::Nothing, Answer::Sent),
         (8, 0x1aa, Expect::R7, echo),
         r1(55, 0, 0x120),
-        (41, 0x40ff_8000, Expect::R3, Answer::Reply(Reply::R3(ocr))),
-        (2, 0, Expect::R2, Answer::Reply(Reply::R2(SD_CID))),
+        (41, 0x40ff_8000, Expect::R3, ready),
+        (2, 0, Expect::R2, Answer::Reply(Reply::R2(CID))),
         (3, 0, Expect::R6, Answer::Reply(Reply::R6(rca | 0x500))),
-        (9, rca, Expect::R2, Answer::Reply(Reply::R2(csd))),
+        (9, rca, Expect::R2, Answer::Reply(Reply::R2(CSD))),
         r1(7, rca, 0x700),
         r1(16, 512, 0x900),
     ]
 }
 
-/// The bring-up of the block card.
-pub fn block_bring_up() -> [Exchange; 9] {
-    bring_up(
-        0x1234_0000,
-        0xc0ff_8000,
-        Answer::Reply(Reply::R7(0x1aa)),
-        [0x40, 0, 0, 0, 0, 0x09, 0, 0, 0, 0, 0, 0, 0, 0, 0],
-    )
-}
-
-/// An image of zeros, but for one block of equal bytes.
-pub fn image(rt: &impl Abort, alloc: Global, blocks: u64, block: u64, byte: u8) -> MemImage {
-    let mut bytes = Vec::new(alloc);
-    for place in 0..blocks {
-        let filled = [if place == block { byte } else { 0 }; 512];
-        bytes.extend_from_slice(&filled).expect(rt, "memory");
-    }
-    MemImage::from_bytes(bytes).expect(rt, "an image")
-}
-
-/// A card of a description over such an image.
-pub fn port(
-    rt: &impl Abort,
-    alloc: Global,
-    desc: &str,
-    schedule: &[u8],
-    block: u64,
-    byte: u8,
-) -> Port {
-    let desc = CardDesc::parse(desc).expect(rt, "a description");
-    let image = image(rt, alloc, desc.image_size(), block, byte);
-    Controller::new(Sim::with_named_values(alloc, desc, image, schedule).expect(rt, "a card"))
-}
-
 /// A command is answered with an R1 of this status.
 pub fn replies<P: CardPort>(rt: &impl Abort, port: &mut P, index: u8, argument: u32, status: u32) {
     play(rt, port, &[r1(index, argument, status)]);
-}
-
-/// A read of a block gives a byte 512 times.
-pub fn reads<P: CardPort>(rt: &impl Abort, port: &mut P, place: u32, byte: u8) {
-    let mut blocks = [[0xee; 512]];
-    replies(rt, port, 17, place, 0x900);
-    let end = port.data_in(1, &mut blocks);
-    same(rt, &(end, blocks), &(DataEnd::Ok, [[byte; 512]]), &place);
 }
 
 /// How a write of a block ends, which has a byte 512 times.
@@ -108,7 +66,7 @@ pub fn same_text<R: Debug>(rt: &impl Abort, found: &str, wanted: &str, row: &R) 
 }
 
 /// The answer to a command.
-pub fn ask<P: CardPort>(
+fn ask<P: CardPort>(
     rt: &impl Abort,
     port: &mut P,
     index: u8,

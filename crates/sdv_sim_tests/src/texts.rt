@@ -1,6 +1,4 @@
-//! Scripts, cards and traces that tests share.
-
-pub use sdv_sample_scripts::{BRING_UP, CERTIFICATE, DEVICE_BRING_UP, SMALLEST};
+//! A script, cards and traces that tests share.
 
 /// A script that brings a card up and then reads the last block.
 pub const LAST_BLOCK: &str = "card sd
@@ -28,9 +26,6 @@ pub const BYTE_CARD: &str = "card sd\nversion 1\nunit byte\ncsize 0\ncmult 0\nrb
 
 /// An e.MMC device with block addresses, of 2,048 blocks.
 pub const DEVICE: &str = "card emmc\nunit block\nsectors 2048\n";
-
-/// Such a device with boot partitions of 256 blocks each.
-pub const BOOT_DEVICE: &str = "card emmc\nunit block\nsectors 2048\nboot 1\n";
 
 /// The lines of the block card's bring-up.
 pub const BLOCK_CARD_UP: &str = "CMD0 00000000 -

@@ -4,8 +4,7 @@ use crate::failing_once::worked::{Outcome, Setting, Work, cut_at, fuse, outcome_
 use crate::requests::{INPUT, WRITE_AND_READ_OF_TWO, WRITES_AND_READ};
 use crate::shared::{same, same_text};
 use crate::texts::{
-    BLOCK_CARD, BLOCK_CARD_UP, BRING_UP, BYTE_CARD, BYTE_CARD_UP, DEVICE, DEVICE_BRING_UP,
-    DEVICE_UP, LAST_BLOCK,
+    BLOCK_CARD, BLOCK_CARD_UP, BYTE_CARD, BYTE_CARD_UP, DEVICE, DEVICE_UP, LAST_BLOCK,
 };
 use sdv_block::Request;
 use sdv_fuse::{Call, FuseImage};
@@ -20,9 +19,7 @@ const OLD: u8 = 0x5a;
 /// What is run on which card, and its lines: those of a bring-up, and others behind them.
 type Worked = (Work<'static>, &'static str, &'static str, &'static str);
 
-static WORKED: [Worked; 8] = [
-    (Work::Script(BRING_UP), BLOCK_CARD, BLOCK_CARD_UP, "done\n"),
-    (Work::Script(DEVICE_BRING_UP), DEVICE, DEVICE_UP, "done\n"),
+static WORKED: [Worked; 6] = [
     (
         Work::Script(LAST_BLOCK),
         BYTE_CARD,
@@ -145,55 +142,43 @@ type Row = (
     usize,
 );
 
-static ROWS: [Row; 28] = [
+static ROWS: [Row; 25] = [
     // the first read of an image tells whether it can be used
     (0, ImageRead, 0, ("", 0), "", "ImageRead", [OLD, OLD], 0),
-    (1, ImageRead, 0, ("", 0), "", "ImageRead", [OLD, OLD], 0),
-    (2, ImageRead, 0, ("", 0), "", "ImageRead", [OLD, OLD], 0),
-    (5, ImageRead, 0, ("", 0), "", "ImageRead", [OLD, OLD], 0),
-    (
-        0,
-        ImageRead,
-        1,
-        ("done", 0),
-        "done\n",
-        "done",
-        [OLD, OLD],
-        0,
-    ),
-    (
-        1,
-        ImageWrite,
-        0,
-        ("done", 0),
-        "done\n",
-        "done",
-        [OLD, OLD],
-        0,
-    ),
+    (3, ImageRead, 0, ("", 0), "", "ImageRead", [OLD, OLD], 0),
     // a phase is cut
     (
-        2,
+        0,
         ImageRead,
         1,
         ("IN", 0),
         "IN 1 cut\nfault read\n",
         "read",
+        [OLD, OLD],
+        0,
+    ),
+    (
+        1,
+        ImageRead,
+        1,
+        ("IN", 0),
+        "IN 1 cut\nfault read\n",
+        "read",
+        [OLD, OLD],
+        0,
+    ),
+    (
+        2,
+        ImageWrite,
+        0,
+        ("OUT", 0),
+        "OUT 1 cut\nfault write\n",
+        "write",
         [OLD, OLD],
         0,
     ),
     (
         3,
-        ImageRead,
-        1,
-        ("IN", 0),
-        "IN 1 cut\nfault read\n",
-        "read",
-        [OLD, OLD],
-        0,
-    ),
-    (
-        4,
         ImageWrite,
         0,
         ("OUT", 0),
@@ -203,17 +188,7 @@ static ROWS: [Row; 28] = [
         0,
     ),
     (
-        5,
-        ImageWrite,
-        0,
-        ("OUT", 0),
-        "OUT 1 cut\nfault write\n",
-        "write",
-        [OLD, OLD],
-        0,
-    ),
-    (
-        5,
+        3,
         ImageWrite,
         1,
         ("OUT", 1),
@@ -223,7 +198,7 @@ static ROWS: [Row; 28] = [
         0,
     ),
     (
-        5,
+        3,
         ImageRead,
         1,
         ("IN", 0),
@@ -233,7 +208,7 @@ static ROWS: [Row; 28] = [
         0,
     ),
     (
-        6,
+        4,
         ImageWrite,
         0,
         ("OUT", 0),
@@ -243,7 +218,7 @@ static ROWS: [Row; 28] = [
         0,
     ),
     (
-        6,
+        4,
         ImageWrite,
         1,
         ("OUT", 0),
@@ -253,7 +228,7 @@ static ROWS: [Row; 28] = [
         0,
     ),
     (
-        6,
+        4,
         ImageRead,
         1,
         ("IN", 0),
@@ -263,27 +238,7 @@ static ROWS: [Row; 28] = [
         0,
     ),
     (
-        6,
-        ImageRead,
-        2,
-        ("IN", 0),
-        "IN 2 cut\nfault read\n",
-        "read",
-        [0x11, 0x22],
-        0,
-    ),
-    (
-        7,
-        ImageWrite,
-        1,
-        ("OUT", 0),
-        "OUT 2 cut\nfault write\n",
-        "write",
-        [0x11, OLD],
-        0,
-    ),
-    (
-        7,
+        4,
         ImageRead,
         2,
         ("IN", 0),
@@ -295,6 +250,26 @@ static ROWS: [Row; 28] = [
     (
         5,
         ImageWrite,
+        1,
+        ("OUT", 0),
+        "OUT 2 cut\nfault write\n",
+        "write",
+        [0x11, OLD],
+        0,
+    ),
+    (
+        5,
+        ImageRead,
+        2,
+        ("IN", 0),
+        "IN 2 cut\nfault read\n",
+        "read",
+        [0x11, 0x22],
+        0,
+    ),
+    (
+        3,
+        ImageWrite,
         2,
         ("done", 0),
         "done\n",
@@ -303,7 +278,7 @@ static ROWS: [Row; 28] = [
         1,
     ),
     (
-        6,
+        4,
         ImageRead,
         3,
         ("done", 0),
@@ -312,15 +287,25 @@ static ROWS: [Row; 28] = [
         [0x11, 0x22],
         2,
     ),
+    (
+        0,
+        ImageWrite,
+        0,
+        ("done", 0),
+        "done\n",
+        "done",
+        [OLD, OLD],
+        1,
+    ),
     // the phase has happened, and its line is missing
-    (2, Output, 0, ("IN", 0), "", "Output", [OLD, OLD], 0),
-    (3, Output, 0, ("IN", 0), "", "Output", [OLD, OLD], 0),
-    (5, Output, 0, ("IN", 0), "", "Output", [0x22, OLD], 0),
-    (6, Output, 0, ("IN", 0), "", "Output", [0x11, 0x22], 0),
-    (7, Output, 1, ("done", 0), "done\n", "done", [0x11, 0x22], 2),
-    (4, Trace, 10, ("OUT", 0), "", "Trace", [0x11, OLD], 0),
-    (5, Trace, 14, ("OUT", 1), "", "Trace", [0x22, OLD], 0),
-    (6, Trace, 15, ("IN", 0), "", "Trace", [0x11, 0x22], 2),
+    (0, Output, 0, ("IN", 0), "", "Output", [OLD, OLD], 0),
+    (1, Output, 0, ("IN", 0), "", "Output", [OLD, OLD], 0),
+    (3, Output, 0, ("IN", 0), "", "Output", [0x22, OLD], 0),
+    (4, Output, 0, ("IN", 0), "", "Output", [0x11, 0x22], 0),
+    (5, Output, 1, ("done", 0), "done\n", "done", [0x11, 0x22], 2),
+    (2, Trace, 10, ("OUT", 0), "", "Trace", [0x11, OLD], 0),
+    (3, Trace, 14, ("OUT", 1), "", "Trace", [0x22, OLD], 0),
+    (4, Trace, 15, ("IN", 0), "", "Trace", [0x11, 0x22], 2),
 ];
 
 /// What comes of a run where one call fails, and what is left of its image.
@@ -352,26 +337,4 @@ fn comes_out(rt: &impl Abort, alloc: Global, row: usize, wanted: &Row) {
 /// The lines of a run that ends well.
 fn lines_of(rt: &impl Abort, alloc: Global, worked: &Worked) -> String {
     [worked.2, worked.3].concat(alloc).expect(rt, "memory")
-}
-
-/// Each line of each trace fails in turn: those before it were printed.
-#[test]
-fn each_line_fails(rt: HostRuntime) {
-    for worked in WORKED.iter() {
-        let lines = lines_of(&rt, rt.alloc(), worked);
-        for good in 0..21 {
-            line_fails(&rt, rt.alloc(), worked, &lines, good);
-        }
-    }
-}
-
-/// The line after so many good ones fails, or there is none, and the run is whole.
-fn line_fails(rt: &impl Abort, alloc: Global, worked: &Worked, lines: &str, good: u64) {
-    let place = place_of(lines, "", good);
-    let end = if place.is_some() { "Trace" } else { "done" };
-    let wanted = cut_at(rt, alloc, lines, place, "");
-    let (outcome, image) = failed(rt, alloc, worked, Trace, good);
-    same_text(rt, &outcome.end, end, &("line", good, lines));
-    same_text(rt, &outcome.lines, &wanted, &("line", good));
-    let _ = written(rt, &image);
 }

@@ -1,64 +1,30 @@
 //! One read or write of the file below an image fails, in a run that needs more blocks than there are buffers.
 
-ghost use Rattle.std.specs.Prelude.{None, ◌/◌, ◌^◌, ◌-◌};
-
 use crate::failing_once::worked::{Outcome, Setting, Work, cut_at, fuse, outcome_of, place_of};
+use crate::file_images::counting_file::CountingFile;
 use crate::shared::{same, same_text};
 use crate::texts::{BLOCK_CARD, BLOCK_CARD_UP};
 use sdv_block::Request;
-use sdv_file_image::{BlockFile, FileImage};
 use sdv_fuse::{Call, Fuse, FuseFile};
-use sdv_image::{Image, ImageFault, MemImage, SimFault};
+use sdv_image::{FileImage, MemImage, SimFault};
 use sdv_registers::Kind;
 use std::alloc::Global;
 use std::process::Abort;
 
-/// A file in memory, which claims nothing of its blocks. Its count of failures stands at its greatest.
-#[derive(Drop)]
-pub struct Blocks {
-    image: MemImage,
-    bytes: u64,
-}
-
-impl BlockFile for Blocks {
-    ghost byte_count = { λ file. file.bytes };
-
-    ghost blocks = { λ _. None };
-
-    ghost failed = { λ _. 2 ^ 64 - 1 };
-
-    fn bytes(&self) -> u64 {
-        self.bytes
-    }
-
-    fn read_at(&mut self, place: u64, block: &mut [u8; 512]) -> Result<(), ImageFault> {
-        if place < self.image.len() {
-            return self.image.read_block(place, block);
-        }
-        Err(ImageFault)
-    }
-
-    fn write_at(&mut self, place: u64, block: &[u8; 512]) -> Result<(), ImageFault> {
-        if place < self.image.len() {
-            return self.image.write_block(place, block);
-        }
-        Err(ImageFault)
-    }
-
-    fn failures(&self) -> u64 {
-        u64::MAX
-    }
-}
-
 /// A file of the block card, of which one call fails.
-pub fn file_of(alloc: Global, fuse: Fuse) -> Result<FuseFile<Blocks>, SimFault> {
+pub fn file_of(alloc: Global, fuse: Fuse) -> Result<FuseFile<CountingFile>, SimFault> {
     let bytes: u64 = 1024 * 512;
     let Ok(all) = vec![in alloc; 0xff; bytes as usize] else {
         return Err(SimFault::Memory);
     };
     let image = MemImage::from_bytes(all)?;
     Ok(FuseFile {
-        file: Blocks { image, bytes },
+        file: CountingFile {
+            image,
+            bytes,
+            reads: 0,
+            writes: 0,
+        },
         fuse,
     })
 }
@@ -117,7 +83,7 @@ fn served<'a>(requests: &'a [Request], input: &'a [[u8; 512]]) -> Setting<'a> {
 }
 
 /// An image over such a file, of which one call fails.
-type BlocksImage = FileImage<FuseFile<Blocks>>;
+type CountedImage = FileImage<FuseFile<CountingFile>>;
 
 /// What came of a run where one call of the file fails, and the image.
 fn outcome_over(
@@ -125,14 +91,14 @@ fn outcome_over(
     alloc: Global,
     setting: &Setting<'_>,
     fuse: Fuse,
-) -> (Outcome, Option<BlocksImage>) {
+) -> (Outcome, Option<CountedImage>) {
     let file = file_of(alloc, fuse).expect(rt, "a file");
     let image = FileImage::new(alloc, file).expect(rt, "an image");
     outcome_of(rt, alloc, setting, image)
 }
 
 /// What the file has once the image is finished, where a write-back that fails then is tried again.
-fn finished(rt: &impl Abort, image: BlocksImage) -> Vec<u8> {
+fn finished(rt: &impl Abort, image: CountedImage) -> Vec<u8> {
     let file = match image.finish() {
         Ok(file) => file,
         Err((image, _)) => image.finish().ok().expect(rt, "a second write-back"),

@@ -1,23 +1,20 @@
 //! Rows of which any allocation may be refused: each call then answers that memory ran out, and no run has begun.
 //!
-//! With ample memory each row is right. The script `.ci/each-allocation` runs the test once for each of its
+//! With ample memory each row is right. The script `checks/each-allocation` runs the test once for each of its
 //! allocations, which is refused then, so that one row at most is without an answer.
 
 use crate::failing_once::files::file_of;
 use crate::failing_once::worked::fuse;
 use crate::requests::{INPUT, WRITES_AND_READ};
 use crate::scripts::name_of;
-use crate::texts::{
-    BLOCK_CARD, BLOCK_CARD_UP, BRING_UP, CERTIFICATE, DEVICE, DEVICE_BRING_UP, DEVICE_UP, SMALLEST,
-};
+use crate::texts::{BLOCK_CARD, BLOCK_CARD_UP, BYTE_CARD, LAST_BLOCK};
 use sdv_block::{BlockFault, Request, batch, serve};
 use sdv_certify::{CertifyFault, certify, write};
-use sdv_check::{Accepted, CertFault, CheckFault, VerifyFault, verify};
+use sdv_check::{Accepted, VerifyFault, verify};
 use sdv_controller::Controller;
 use sdv_facts::Certificate;
-use sdv_file_image::FileImage;
 use sdv_fuse::Call;
-use sdv_image::Image;
+use sdv_image::{FileImage, Image};
 use sdv_registers::Kind;
 use sdv_run::{End, RunFault, run};
 use sdv_script::{FaultKind, ScriptFault, parse};
@@ -109,100 +106,6 @@ fn certificate_of(alloc: Global, script: &str) -> Result<String, Stopped> {
     text_of(alloc, &certified(alloc, script)?)
 }
 
-/// Texts, and the fault and the line of each.
-static TEXTS: [(&str, FaultKind, u32); 10] = [
-    ("", FaultKind::Syntax, 1),
-    ("card sd\n", FaultKind::NoEnd, 2),
-    ("card sd\nloop 0 { } else { }", FaultKind::Limit, 2),
-    ("card sd\nnums a b c d e f g h i", FaultKind::Limit, 2),
-    ("card sd\nsend 1 { else { } }", FaultKind::Command, 2),
-    (
-        "card sd\nsend 16 { ocr.ready { } else { } }",
-        FaultKind::Guard,
-        2,
-    ),
-    ("card sd\nset hc", FaultKind::Name, 2),
-    ("card sd\nsend 17 { else { } }", FaultKind::Argument, 2),
-    ("card sd\nbreak", FaultKind::Syntax, 2),
-    ("card sd\nsend 16 @", FaultKind::Token, 2),
-];
-
-/// The text is no script, for this fault.
-fn is_no_script(alloc: Global, text: &str, wanted: ScriptFault) -> Result<(), Stopped> {
-    match parse(alloc, text).err() {
-        Some(fault) if fault == wanted => Ok(()),
-        Some(fault) => Err(fault.into()),
-        None => Err(Stopped::Wrong("a text that is no script")),
-    }
-}
-
-fn long_text(alloc: Global) -> Result<(), Stopped> {
-    let long = " ".repeat(alloc, 65_537)?;
-    let (kind, line) = (FaultKind::Limit, 1);
-    is_no_script(alloc, &long, ScriptFault { kind, line })
-}
-
-fn texts(alloc: Global) -> Result<(), Stopped> {
-    long_text(alloc)?;
-    for &(text, kind, line) in TEXTS.iter() {
-        is_no_script(alloc, text, ScriptFault { kind, line })?;
-    }
-    Ok(())
-}
-
-/// Parts of a certificate, what stands in their place, and the fault.
-static CERTIFICATES: [(&str, &str, VerifyFault); 4] = [
-    (
-        "p 0 b 1",
-        "p 0 b 0",
-        VerifyFault::Check(CheckFault::Bound(0)),
-    ),
-    (
-        "cert 1",
-        "cert 3",
-        VerifyFault::Certificate(CertFault::Header),
-    ),
-    (
-        " m 1 s 0000000000002000 0000000000002800 0000000000002c00\np 1",
-        " m",
-        VerifyFault::Certificate(CertFault::Syntax { line: 3 }),
-    ),
-    (
-        "2000 0000000000002800",
-        "2800 0000000000002000",
-        VerifyFault::Certificate(CertFault::Order { line: 3 }),
-    ),
-];
-
-/// The certificate with another part is refused, for this fault.
-fn is_refused(alloc: Global, old: &str, new: &str, wanted: VerifyFault) -> Result<(), Stopped> {
-    let text = CERTIFICATE.replace(alloc, old, new)?;
-    match verify(alloc, SMALLEST, &text).err() {
-        Some(fault) if fault == wanted => Ok(()),
-        Some(fault) => Err(fault.into()),
-        None => Err(Stopped::Wrong("a certificate that is refused")),
-    }
-}
-
-fn written(alloc: Global) -> Result<(), Stopped> {
-    let certificate = certificate_of(alloc, SMALLEST)?;
-    right(certificate.as_str() == CERTIFICATE, "the certificate")
-}
-
-fn verified(alloc: Global) -> Result<(), Stopped> {
-    let accepted = verify(alloc, SMALLEST, CERTIFICATE)?;
-    right(accepted.bound() == 1, "the bound")
-}
-
-fn smallest(alloc: Global) -> Result<(), Stopped> {
-    written(alloc)?;
-    verified(alloc)?;
-    for &(old, new, wanted) in CERTIFICATES.iter() {
-        is_refused(alloc, old, new, wanted)?;
-    }
-    Ok(())
-}
-
 /// A card of a description, over an image of zeros.
 fn card(alloc: Global, text: &str, schedule: &[u8]) -> Result<Controller<Sim<MemImage>>, Stopped> {
     let desc = CardDesc::parse(text)?;
@@ -223,22 +126,21 @@ fn ended(is_right: bool, is_refused: bool) -> Result<(), Stopped> {
 /// As many bytes as a trace may have.
 const ROOM: usize = 2048;
 
-/// A script with its bound, a card with a schedule, and how the run ends.
-#[derive(Clone, Copy)]
-struct Script<'a> {
-    text: &'a str,
-    bound: u64,
-    card: &'a str,
-    schedule: &'a [u8],
-    lines: &'a str,
-    end: &'a str,
-}
+/// The schedule of the script's run, in which an answer is lost.
+const SCHEDULE: [u8; 4] = [0, 0, 0, 2];
+
+/// The lines up to the loss of that answer.
+const LOST: &str = "CMD0 00000000 -
+CMD8 000001aa timeout
+CMD55 00000000 R1 00000120
+CMD41 40ff8000 timeout
+fault lost41
+";
 
 /// An accepted script is run. Where the run is refused memory, it has not begun, and a second one is whole: an event
 /// more would have met another value of the schedule.
 fn ran(
     alloc: Global,
-    script: &Script<'_>,
     accepted: &Accepted<'_>,
     port: &mut Controller<Sim<MemImage>>,
 ) -> Result<(), Stopped> {
@@ -252,51 +154,18 @@ fn ran(
     }
     let count = ROOM.saturating_sub(left.len());
     let is_right = is_unbegun
-        && name_of(&outcome) == script.end
-        && trace.get(..count) == Some(script.lines.as_bytes());
+        && name_of(&outcome) == "lost41"
+        && trace.get(..count) == Some(LOST.as_bytes());
     ended(is_right, is_refused)
 }
 
-/// The script is certified, verified and run.
-fn whole(alloc: Global, script: &Script<'_>) -> Result<(), Stopped> {
-    let certificate = certificate_of(alloc, script.text)?;
-    let accepted = verify(alloc, script.text, &certificate)?;
-    right(accepted.bound() == script.bound, "the bound")?;
-    let mut port = card(alloc, script.card, script.schedule)?;
-    ran(alloc, script, &accepted, &mut port)
-}
-
-/// The lines up to the loss of an answer.
-const LOST: &str = "CMD0 00000000 -
-CMD8 000001aa R7 000001aa
-CMD55 00000000 R1 00000120
-CMD41 40ff8000 timeout
-fault lost41
-";
-
-fn bring_up(alloc: Global) -> Result<(), Stopped> {
-    let script = Script {
-        text: BRING_UP,
-        bound: 2007,
-        card: BLOCK_CARD,
-        schedule: &[0, 0, 0, 2],
-        lines: LOST,
-        end: "lost41",
-    };
-    whole(alloc, &script)
-}
-
-fn device(alloc: Global) -> Result<(), Stopped> {
-    let lines = format!(in alloc; "{DEVICE_UP}done\n")?;
-    let script = Script {
-        text: DEVICE_BRING_UP,
-        bound: 1007,
-        card: DEVICE,
-        schedule: &[],
-        lines: &lines,
-        end: "done",
-    };
-    whole(alloc, &script)
+/// A script is certified, verified and run.
+fn script(alloc: Global) -> Result<(), Stopped> {
+    let certificate = certificate_of(alloc, LAST_BLOCK)?;
+    let accepted = verify(alloc, LAST_BLOCK, &certificate)?;
+    right(accepted.bound() == 2008, "the bound")?;
+    let mut port = card(alloc, BYTE_CARD, &SCHEDULE)?;
+    ran(alloc, &accepted, &mut port)
 }
 
 /// The lines of the requests that are served, behind a bring-up.
@@ -398,31 +267,17 @@ fn files(alloc: Global) -> Result<(), Stopped> {
 
 #[derive(Clone, Copy, Debug)]
 enum Row {
-    Texts,
-    Smallest,
-    BringUp,
-    Device,
+    Script,
     Requests,
     Batches,
     Files,
 }
 
-static ROWS: [Row; 7] = [
-    Row::Texts,
-    Row::Smallest,
-    Row::BringUp,
-    Row::Device,
-    Row::Requests,
-    Row::Batches,
-    Row::Files,
-];
+static ROWS: [Row; 4] = [Row::Script, Row::Requests, Row::Batches, Row::Files];
 
 fn found(alloc: Global, row: Row) -> Result<(), Stopped> {
     match row {
-        Row::Texts => texts(alloc),
-        Row::Smallest => smallest(alloc),
-        Row::BringUp => bring_up(alloc),
-        Row::Device => device(alloc),
+        Row::Script => script(alloc),
         Row::Requests => requests(alloc),
         Row::Batches => batches(alloc),
         Row::Files => files(alloc),

@@ -2,8 +2,7 @@
 
 ghost use Rattle.std.specs.Prelude.{None, ◌^◌, ◌-◌};
 
-use sdv_file_image::BlockFile;
-use sdv_image::{Image, ImageFault, MemImage};
+use sdv_image::{BlockFile, Image, ImageFault, MemImage};
 use std::alloc::Global;
 use std::process::Abort;
 

@@ -1,10 +1,9 @@
-//! Images over files that count, fail and run out of fuel.
+//! Images over a file that counts, and over one of which a write fails.
 
 use crate::file_images::counting_file::CountingFile;
 use crate::shared::same;
-use sdv_file_image::{BlockFile, FileImage};
 use sdv_fuse::{Call, Fuse, FuseFile};
-use sdv_image::{Image, ImageFault, SimFault};
+use sdv_image::{FileImage, Image, ImageFault};
 use std::alloc::Global;
 use std::process::Abort;
 
@@ -116,38 +115,5 @@ fn failed_write_back(rt: HostRuntime) {
     play(&rt, &mut image, &[Read(0, 0), Write(16, 16), Read(0, 0)]);
     for place in 0..17u8 {
         play(&rt, &mut image, &[Read(place as u64, place)]);
-    }
-}
-
-/// A write-back fails once in `finish`: the image still has all blocks, and the next `finish` writes them.
-#[test]
-fn failed_finish(rt: HostRuntime) {
-    let mut image = failing_image(&rt, rt.alloc(), 1);
-    play(&rt, &mut image, &[Write(3, 3), Write(4, 4), Write(5, 5)]);
-    let (mut image, _) = image.finish().err().expect(&rt, "a write-back fails");
-    play(&rt, &mut image, &[Read(3, 3), Read(4, 4), Read(5, 5)]);
-    let file = image.finish().ok().expect(&rt, "no write-back fails");
-    assert!(rt; file.failures() == u64::MAX);
-    let mut image = file.file.image;
-    play(&rt, &mut image, &[Read(3, 3), Read(4, 4), Read(5, 5)]);
-}
-
-/// How many blocks an image has over a file of so many bytes.
-fn blocks_of(rt: &impl Abort, alloc: Global, bytes: u64) -> Result<u64, SimFault> {
-    let image = FileImage::new(alloc, CountingFile::new(rt, alloc, bytes))?;
-    Ok(image.len())
-}
-
-/// A file has to be whole blocks.
-#[test]
-fn lengths(rt: HostRuntime) {
-    for (bytes, blocks) in [
-        (0, Ok(0)),
-        (1024, Ok(2)),
-        (511, Err(SimFault::ImageLength)),
-        (1025, Err(SimFault::ImageLength)),
-    ] {
-        let found = blocks_of(&rt, rt.alloc(), bytes);
-        same(&rt, &found, &blocks, &bytes);
     }
 }

@@ -1,2 +1,0 @@
-pub mod FewShapes
-pub mod Counting
