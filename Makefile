@@ -6,19 +6,24 @@ JOBS ?= $(shell nproc)
 export PATH := /opt/rattle/bin:$(PATH)
 
 program := crates/sdv/out/sdv
-.PHONY: help quick build firmware check install uninstall
+.PHONY: help quick test build firmware check install uninstall
 
 help:
 	@echo "make quick       a first look in two minutes, without proofs; with SCRIPT=FILE at a script of yours"
+	@echo "make test        the tests and the scripts of checks/ without proofs, in less than ten minutes; over $(program)"
+	@echo "                 where no source is newer, and over a program without proofs else. It says what it leaves out"
 	@echo "make build       proves what changed, with JOBS=$(JOBS) crates side by side, and builds $(program)"
 	@echo "make firmware    builds the player of script tables as a static library, for x86-64 and aarch64"
-	@echo "make check       the gate: every proof from nothing, must-fail edits, tests and examples"
+	@echo "make check       the gate: every proof, must-fail edits, tests and examples"
 	@echo "make install     builds the program if its sources changed, and copies it, its man page and completions below"
 	@echo "                 PREFIX=$(PREFIX)"
 	@echo "make uninstall   removes what make install copied"
 
 quick:
 	sh examples/quick.sh $(if $(SCRIPT),"$(SCRIPT)")
+
+test:
+	checks/quick-test
 
 build:
 	rt all check --jobs $(JOBS)

@@ -23,7 +23,7 @@ class Card:
         return answer
 
     def command(self, index, argument, response="R1"):
-        """The word of the response; None where none came in time."""
+        """The word of the response; None where none came in time, or a damaged one: the card may have taken the command or not."""
         answer = self.ask(f"CMD{index} {argument:08x} {response}")
         if answer == "-":
             return 0

@@ -12,6 +12,7 @@
 #include <stdlib.h>
 #include <string.h>
 #include <sys/wait.h>
+#include <time.h>
 #include <unistd.h>
 
 #include "../../firmware/sdhci.h"
@@ -54,26 +55,34 @@ static uint64_t qtest(const char *line)
     return 0;
 }
 
-static char letter(unsigned size)
-{
-    return size == 1 ? 'b' : size == 2 ? 'w' : 'l';
-}
-
-uint32_t sdhci_register_read(unsigned size, uint32_t offset)
+static uint32_t read_register(void *board, uint32_t offset)
 {
     char line[64];
 
-    snprintf(line, sizeof line, "read%c 0x%" PRIx32, letter(size), BASE_ADDRESS + offset);
+    (void)board;
+    snprintf(line, sizeof line, "readl 0x%" PRIx32, BASE_ADDRESS + offset);
     return (uint32_t)qtest(line);
 }
 
-void sdhci_register_write(unsigned size, uint32_t offset, uint32_t value)
+static void write_register(void *board, uint32_t offset, uint32_t value)
 {
     char line[64];
 
-    snprintf(line, sizeof line, "write%c 0x%" PRIx32 " 0x%" PRIx32, letter(size), BASE_ADDRESS + offset, value);
+    (void)board;
+    snprintf(line, sizeof line, "writel 0x%" PRIx32 " 0x%" PRIx32, BASE_ADDRESS + offset, value);
     qtest(line);
 }
+
+static uint32_t milliseconds(void *board)
+{
+    struct timespec now;
+
+    (void)board;
+    clock_gettime(CLOCK_MONOTONIC, &now);
+    return (uint32_t)now.tv_sec * 1000 + (uint32_t)(now.tv_nsec / 1000000);
+}
+
+static struct sdhci host = {.port = {.read = read_register, .write = write_register, .milliseconds = milliseconds}};
 
 static void select_configuration(uint32_t device, uint32_t reg)
 {
@@ -137,7 +146,7 @@ static void find_controller(void)
         fail("no SDHCI controller");
     configuration_write(device, 0x10, BASE_ADDRESS);
     configuration_write(device, 0x04, configuration_read(device, 0x04) | 6);
-    if (!sdhci_start())
+    if (!sdhci_start(&host))
         fail("no card");
 }
 
@@ -173,12 +182,17 @@ static void read_block(uint8_t *block)
     }
 }
 
+/* The data lines that the card was told to use. */
+static uint32_t lines_of_card = 1;
+
 /* The data that follow a command: by its index, and for 13 and 51 by the application flag of the card. How many blocks there will be
  * comes with the phase. */
 static struct sdhci_data data_of(uint32_t index, bool application)
 {
-    struct sdhci_data data = {SDHCI_NO_DATA, 512, 0};
+    struct sdhci_data data = {SDHCI_NO_DATA, 512, 0, 0};
 
+    data.lines = lines_of_card;
+    data.blocks = index == 18 || index == 25 ? 0 : 1;
     if (index == 17 || index == 18)
         data.direction = SDHCI_TO_HOST;
     if (index == 24 || index == 25)
@@ -208,9 +222,11 @@ static bool answer_command(const char *line)
     command.response = response_of(name);
     command.busy = command.index == 7 || command.index == 12 || command.index == 38;
     command.data = data_of(command.index, application);
-    sdhci_exchange(&command, &answer);
+    sdhci_exchange(&host, &command, &answer);
     if (application && command.index == 6 && answer.outcome == SDHCI_ANSWERED)
-        sdhci_set_lines(command.argument == 2 ? 4 : 1);
+        lines_of_card = command.argument == 2 ? 4 : 1;
+    if (command.index == 0)
+        lines_of_card = 1;
     application = command.index == 55 && answer.outcome == SDHCI_ANSWERED && answer.word >> 5 & 1;
     switch (answer.outcome) {
     case SDHCI_SENT:
@@ -233,7 +249,8 @@ static bool answer_command(const char *line)
     return true;
 }
 
-static void answer_phase(const char *word, uint32_t count, uint32_t lines)
+/* The data lines of the phase are those that the card was told to use, and the command had them. */
+static void answer_phase(const char *word, uint32_t count)
 {
     uint32_t block_bytes = strcmp(word, "REG") == 0 ? count : 512, blocks = strcmp(word, "REG") == 0 ? 1 : count, i;
     uint8_t *bytes;
@@ -243,16 +260,15 @@ static void answer_phase(const char *word, uint32_t count, uint32_t lines)
         puts("ok");
         return;
     }
-    bytes = malloc((size_t)blocks * block_bytes + 4);
+    bytes = malloc((size_t)blocks * block_bytes);
     if (!bytes)
         fail("out of memory");
-    sdhci_set_lines(lines);
     if (strcmp(word, "OUT") == 0) {
         for (i = 0; i < blocks; i++)
             read_block(bytes + 512 * (size_t)i);
-        puts(sdhci_give(bytes, 512, blocks) ? "ok" : "cut");
+        puts(sdhci_give(&host, bytes, 512 * blocks) ? "ok" : "cut");
     } else {
-        ended = sdhci_receive(bytes, block_bytes, blocks);
+        ended = sdhci_receive(&host, bytes, block_bytes * blocks);
         puts(ended ? "ok" : "cut");
         for (i = 0; ended && i < blocks; i++) {
             put_digits(bytes + (size_t)block_bytes * i, block_bytes);
@@ -273,9 +289,9 @@ static void serve(void)
         if (strcmp(line, "done") == 0 || strncmp(line, "fault ", 6) == 0)
             return;
         if (strcmp(line, "WAIT") == 0)
-            puts(sdhci_await_ready() ? "ok" : "late");
+            puts(sdhci_await_ready(&host) ? "ok" : "late");
         else if (sscanf(line, "%3[INREGOUT] %" SCNu32 " lines %" SCNu32, word, &count, &lines) == 3 && count <= 65535)
-            answer_phase(word, count, lines);
+            answer_phase(word, count);
         else if (!answer_command(line))
             fail("a line is no request");
         fflush(stdout);
