@@ -1,10 +1,9 @@
 /*
- * A driver for a host controller of the SD Host Controller Simplified Specification, version 2.00 or later, by programmed I/O.
- * It is a sample: it was tried on QEMU's controller, and no proof covers it. It needs no heap and no C library.
+ * A driver for host controllers of the SD Host Controller Simplified Specification, version 2.00 or later, by programmed I/O. It is
+ * a sample: no proof covers it. checks/firmware tests it beside a model of the registers, bench/qemu.sh beside QEMU's controller.
+ * It needs no heap and no C library, and keeps what it knows in the structure that the caller gives. README.md says what a port owes.
  *
- * The caller gives the two functions that reach the controller's registers, and does the platform's part: the controller's memory
- * is mapped, and a millisecond passes between sdhci_start and the first command, in which the card gets power and 74 clocks. The
- * clock stays at the base clock divided by 256, which is at most 400 kHz for base clocks up to 102 MHz.
+ * The clock is at most 400 kHz until the card has answered CMD7, and at most 25 MHz from then on, until the next CMD0.
  */
 #ifndef SDHCI_H
 #define SDHCI_H
@@ -12,23 +11,32 @@
 #include <stdbool.h>
 #include <stdint.h>
 
-/* Reads and writes a register of 1, 2 or 4 bytes at this offset from the controller's base. */
-uint32_t sdhci_register_read(unsigned size, uint32_t offset);
-void sdhci_register_write(unsigned size, uint32_t offset, uint32_t value);
+#ifdef __cplusplus
+extern "C" {
+#endif
+
+/* What the board gives. */
+struct sdhci_port {
+    /* Reads and writes the 32 bits of a register at this offset from the controller's base, a multiple of 4, in one access. */
+    uint32_t (*read)(void *board, uint32_t offset);
+    void (*write)(void *board, uint32_t offset, uint32_t value);
+    uint32_t (*milliseconds)(void *board); /* a clock that goes on and on; from 2^32 - 1 it goes to 0 */
+    void *board;                           /* the first argument of the three; the driver does not look at it */
+    uint32_t base_khz;                     /* the controller's base clock if its capabilities do not tell it; otherwise 0 */
+    bool soldered;                         /* the device is soldered: nothing detects it as a card */
+};
 
 /* The response that a command has: its format by number. */
 enum sdhci_response { SDHCI_NONE = 0, SDHCI_R1 = 1, SDHCI_R2 = 2, SDHCI_R3 = 3, SDHCI_R6 = 6, SDHCI_R7 = 7 };
 
+enum sdhci_direction { SDHCI_NO_DATA, SDHCI_TO_HOST, SDHCI_TO_CARD };
+
 /* What crosses the data lines after a command. The controller has to know before the command is sent. */
 struct sdhci_data {
-    enum { SDHCI_NO_DATA, SDHCI_TO_HOST, SDHCI_TO_CARD } direction;
-    uint32_t block_bytes; /* bytes of a block: 512, or the length of a register */
-    /*
-     * How many blocks there will be, at most 65535; the controller then says when the last one is through. 0 where CMD18 or CMD25 is
-     * sent before that is known: the transfer goes on until CMD12, and a phase ends when its last block is in the controller's buffer
-     * (CMD25) or was taken from it (CMD18). That serves a controller that moves each block at once, as an emulated one.
-     */
-    uint32_t blocks;
+    enum sdhci_direction direction;
+    uint32_t block_bytes; /* bytes of a block: 512, or the length of a register, a multiple of 4 */
+    uint32_t blocks;      /* how many, at most 65,535; 0 if CMD18 or CMD25 is sent before that is known: until CMD12 */
+    uint32_t lines;       /* data lines: 1, 4 or 8 */
 };
 
 struct sdhci_command {
@@ -39,6 +47,7 @@ struct sdhci_command {
     struct sdhci_data data;
 };
 
+/* A damaged response (its CRC, end bit or index is wrong) tells no more than none: the card may have taken the command or not. */
 enum sdhci_outcome { SDHCI_SENT, SDHCI_ANSWERED, SDHCI_TIMEOUT, SDHCI_DAMAGED };
 
 struct sdhci_answer {
@@ -47,20 +56,47 @@ struct sdhci_answer {
     uint8_t contents[15]; /* bits 127..8 of R2, the highest first */
 };
 
-/* Resets the controller, turns on power at 3.3 V and the slowest clock. False where no card is there or the clock stays off. */
-bool sdhci_start(void);
+/* What goes on at the data lines. */
+enum sdhci_line {
+    SDHCI_FREE,    /* nothing */
+    SDHCI_READING, /* a command announced data, and its phase has not ended */
+    SDHCI_WRITING,
+    SDHCI_BUSY, /* an R1b came, and the controller waits for the end of busy */
+    SDHCI_STALE /* the controller has to be reset before the lines are used again */
+};
 
-/* The data lines of the phases that follow: 1, 4 or 8. Set before the command of a phase: its data may come right behind the response. */
-void sdhci_set_lines(uint32_t lines);
+/* A controller. The caller sets the port, and nothing else. */
+struct sdhci {
+    struct sdhci_port port;
+    uint32_t base_khz;    /* the base clock */
+    uint32_t clock;       /* clock control; timeout control from bit 16 on */
+    uint32_t khz;         /* the clock of the card is at most this, */
+    uint32_t wanted_khz;  /* and should be at most this: that of a selected card, or 400 */
+    uint32_t power;       /* power control, from bit 8 on */
+    uint32_t mode;        /* transfer mode */
+    uint32_t block_bytes; /* of the command that announced data */
+    enum sdhci_line line;
+    bool wide_divider; /* version 3.00: the clock's divider has 10 bits */
+};
 
-/* Sends a command, and waits for its response. A data phase that an earlier command left open is given up before it. */
-void sdhci_exchange(const struct sdhci_command *command, struct sdhci_answer *answer);
+/* Resets the controller, and gives the card power, its clock, and the time that it needs. False if there is no card, no voltage
+ * or no clock for it, or if the controller does not come out of its reset. */
+bool sdhci_start(struct sdhci *host);
 
-/* The data phase of the last command: its blocks one after another. False where it was cut. */
-bool sdhci_receive(uint8_t *to, uint32_t block_bytes, uint32_t blocks);
-bool sdhci_give(const uint8_t *from, uint32_t block_bytes, uint32_t blocks);
+/* Sends a command, and waits for its response. If the command needs the data lines and the card does not let go of them, it is not
+ * sent, and the outcome is SDHCI_TIMEOUT. */
+void sdhci_exchange(struct sdhci *host, const struct sdhci_command *command, struct sdhci_answer *answer);
 
-/* Waits while the card holds DAT0 low. False where it still does after a long time. */
-bool sdhci_await_ready(void);
+/* The data phase of the last command that announced data: the bytes of its blocks, one block after another. False if it was cut, if
+ * these are not all the bytes that were announced, or if that command was not answered. */
+bool sdhci_receive(struct sdhci *host, uint8_t *to, uint32_t bytes);
+bool sdhci_give(struct sdhci *host, const uint8_t *from, uint32_t bytes);
+
+/* Waits until busy has begun, if it comes, and has ended. False if the card is still busy after SDHCI_BUSY_MS, or twice as long. */
+bool sdhci_await_ready(struct sdhci *host);
+
+#ifdef __cplusplus
+}
+#endif
 
 #endif

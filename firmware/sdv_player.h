@@ -9,6 +9,10 @@
 #include <stddef.h>
 #include <stdint.h>
 
+#ifdef __cplusplus
+extern "C" {
+#endif
+
 enum sdv_what {
     SDV_SEND = 1, /* send a command, and pass what came of it to sdv_answer */
     SDV_DATA_IN,  /* receive `count` blocks of 512 bytes, and call sdv_ended */
@@ -55,6 +59,10 @@ struct sdv_state {
     uint32_t app;
 };
 
+/* Whether the words are well formed as a table (docs/TABLES.md): 1 or 0.  sdv_start looks at the magic, the version and the size
+ * alone.  Ask once where the words come from a disk or another program. */
+int32_t sdv_is_table(const uint32_t *table, size_t words);
+
 /* Begins a run.  1, or 0 where the words have not the magic, the version and the size of a table. */
 int32_t sdv_start(const uint32_t *table, size_t words, struct sdv_state *s);
 
@@ -68,19 +76,24 @@ int32_t sdv_ended_bytes(const uint32_t *table, size_t words, struct sdv_state *s
                         size_t count);
 
 /* What came of the command that sdv_next asked for: `reply` of enum sdv_reply, `word` the 32 bits of an R1, R3, R6 or R7,
- * and `r2` bits 127..8 of an R2, 15 bytes, the highest first, or NULL.  1, or 0 where the run stops, or where no command was
- * asked for: then nothing changes. */
+ * and `r2` bits 127..8 of an R2, 15 bytes, the highest first, or NULL.  A damaged answer does what a time-out does, and so does
+ * an R2 without its bytes.  1, or 0 where the answer is refused: the run has stopped.  0 too where nothing was asked for: then
+ * nothing changes. */
 static inline int sdv_answer(const uint32_t *table, size_t words, struct sdv_state *s, uint32_t reply, uint32_t word,
                              const uint8_t *r2)
 {
     return sdv_answer_bytes(table, words, s, reply, word, r2 ? r2 : (const uint8_t *)table, r2 ? 15 : 0);
 }
 
-/* How the phase or the wait ended that sdv_next asked for, with the `count` bytes of a register that came well, or NULL.
- * 1, or 0 where none was asked for: then nothing changes. */
+/* How the phase or the wait ended that sdv_next asked for, with the `count` bytes of a register that came well, or NULL.  1, or
+ * 0 as of sdv_answer. */
 static inline int sdv_ended(const uint32_t *table, size_t words, struct sdv_state *s, int well, const uint8_t *bytes)
 {
     return sdv_ended_bytes(table, words, s, well, bytes ? bytes : (const uint8_t *)table, bytes ? s->register_length : 0);
 }
+
+#ifdef __cplusplus
+}
+#endif
 
 #endif

@@ -206,16 +206,28 @@ static int passes(const struct sdv_state *s, uint32_t guard, uint32_t expect, ui
     }
 }
 
+/* whether an event of this kind was asked for, and its row; the run stops where another was */
+static int is_asked(const uint32_t *t, size_t n, struct sdv_state *s, struct row *r, uint32_t kind)
+{
+    if (!s->asked)
+        return 0;
+    if (row_of(t, n, s->point, r) && r->kind == kind)
+        return 1;
+    stop(s);
+    return 0;
+}
+
 int sdv_answer(const uint32_t *t, size_t n, struct sdv_state *s, uint32_t reply, uint32_t word, const uint8_t *r2)
 {
     struct row r;
     uint32_t w, g, index, expect, data, cases;
     size_t i;
-    if (!row_of(t, n, s->point, &r) || r.kind != SEND || !s->asked)
+    if (!is_asked(t, n, s, &r, SEND))
         return 0;
     w = row_word(&r, 2), index = r.small & 63, expect = w >> 16 & 7, data = w >> 19 & 7;
-    if (reply > SDV_TIMEOUT || (expect == 0) != (reply == SDV_SENT)
-        || (index == 9 && expect == 2 && reply == SDV_REPLY && (!r2 || !take_csd(s, r2)))) {
+    if (reply > SDV_TIMEOUT || (expect == 2 && reply == SDV_REPLY && !r2)) /* a damaged answer is a lost one */
+        reply = SDV_TIMEOUT;
+    if ((expect == 0) != (reply == SDV_SENT) || (index == 9 && expect == 2 && reply == SDV_REPLY && !take_csd(s, r2))) {
         stop(s);
         return 0;
     }
@@ -239,7 +251,7 @@ int sdv_answer(const uint32_t *t, size_t n, struct sdv_state *s, uint32_t reply,
 int sdv_ended(const uint32_t *t, size_t n, struct sdv_state *s, int well, const uint8_t *bytes)
 {
     struct row r;
-    if (!row_of(t, n, s->point, &r) || r.kind != PHASE || !s->asked)
+    if (!is_asked(t, n, s, &r, PHASE))
         return 0;
     if (r.small == 1 && well && s->length == 512 && bytes) {
         s->numbers[EXT_BLOCKS] = bytes[212] | (uint32_t)bytes[213] << 8 | (uint32_t)bytes[214] << 16 | (uint32_t)bytes[215] << 24;

@@ -1,11 +1,15 @@
 /* A player of script tables (docs/TABLES.md) in C99: no heap, no libc, no recursion, no floating point.  It is not
- * proved; .ci/firmware tests it.  It reads no word outside the table, whatever the words are, and each run ends: a
+ * proved; checks/firmware tests it.  It reads no word outside the table, whatever the words are, and each run ends: a
  * table bounds its moves, and the commands that are asked for.  A table that is not well formed may end a run early
  * (SDV_STOPPED), or in a fault that no script has. */
 #ifndef SDV_STEP_H
 #define SDV_STEP_H
 #include <stddef.h>
 #include <stdint.h>
+
+#ifdef __cplusplus
+extern "C" {
+#endif
 
 enum sdv_what {
     SDV_SEND = 1, /* send a command, and pass what came of it to sdv_answer */
@@ -43,6 +47,10 @@ struct sdv_state {
     uint16_t turns[4], rca, announced, length;
 };
 
+/* Whether the words are well formed as a table (docs/TABLES.md): 1 or 0.  sdv_start looks at the magic, the version and the size
+ * alone.  Ask once where the words come from a disk or another program.  It is in sdv_is_table.c. */
+int sdv_is_table(const uint32_t *table, size_t words);
+
 /* Begins a run.  1, or 0 where the words have not the magic, the version and the size of a table. */
 int sdv_start(const uint32_t *table, size_t words, struct sdv_state *s);
 
@@ -50,12 +58,18 @@ int sdv_start(const uint32_t *table, size_t words, struct sdv_state *s);
 uint32_t sdv_next(const uint32_t *table, size_t words, struct sdv_state *s, struct sdv_event *e);
 
 /* What came of the command that sdv_next asked for: `reply` of enum sdv_reply, `word` the 32 bits of an R1, R3, R6 or R7,
- * and `r2` bits 127..8 of an R2, 15 bytes, the highest first.  1, or 0 where the run stops. */
+ * and `r2` bits 127..8 of an R2, 15 bytes, the highest first, or NULL.  A damaged answer does what a time-out does, and so does
+ * an R2 without its bytes.  1, or 0 where the answer is refused: the run has stopped.  0 too where nothing was asked for: then
+ * nothing changes. */
 int sdv_answer(const uint32_t *table, size_t words, struct sdv_state *s, uint32_t reply, uint32_t word,
                const uint8_t *r2);
 
-/* How the phase or the wait ended that sdv_next asked for, with the `count` bytes of a register that came well.  1, or 0
- * where none was asked for. */
+/* How the phase or the wait ended that sdv_next asked for, with the `count` bytes of a register that came well, or NULL.  1, or
+ * 0 as of sdv_answer. */
 int sdv_ended(const uint32_t *table, size_t words, struct sdv_state *s, int well, const uint8_t *bytes);
+
+#ifdef __cplusplus
+}
+#endif
 
 #endif
