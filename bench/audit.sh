@@ -1,10 +1,6 @@
 #!/bin/sh
-# How fast `sdv audit` goes through a trace of a million lines, and how much memory it takes: of a careful host, of one that is
-# reckless at each write, and of one that is begun anew again and again. It needs GNU time.
-#
-# The lines a second are those of the time of the processor (user and system), since other work on the machine does not count
-# there; the clock's are printed too. Of each the least of five is taken. It takes the program that rt ci left, or the one that SDV
-# names, or else has rt make it.
+# How fast `sdv audit` goes through a million lines, and how much memory it takes: of a careful host, of one that is reckless at
+# each write, and of one that begins anew again and again. The lines a second are those of the processor's time.
 set -eu
 top=$(cd "$(dirname "$0")/.." && pwd)
 export PATH="/opt/rattle/bin:$PATH"

@@ -1,11 +1,6 @@
 #!/bin/sh
-# sh bench/bare.sh [SCRIPT..]: builds a bare image of the player, the sample driver and the table of a script, and runs it on
-# QEMU's board virt (aarch64) beside QEMU's SDHCI controller and an SD card of 64 MiB. It prints the size of the image and the
-# trace, or with no words the last line for some scripts of examples/. With PROVED=1 it takes the player in Rattle in place of the
-# one in C.
-#
-# It needs clang and lld; qemu-system-arm is installed where apt-get can do that. It takes the program that rt ci left, or the
-# one that SDV names, or else has rt make it.
+# Plays the tables of scripts on QEMU's board virt (aarch64) beside QEMU's SDHCI controller and an SD card of 64 MiB. It prints the
+# size of the image and the trace, or with no words the last line for some scripts of examples/.
 set -eu
 top=$(cd "$(dirname "$0")/.." && pwd)
 export PATH="$PATH:/opt/rattle/bin"

@@ -1,13 +1,7 @@
 #!/bin/sh
 # How long `sdv certify` takes on long scripts: 4,096 points in four nested loops; 4,023 with status commands after a bring-up,
-# where a card may have other shapes; three nested loops whose turns set one flag after another; and 2,000 commands before a
-# loop that does the same. In the last two, facts change in many passes, everywhere or at the end alone. `sdv check` has to
-# accept what it writes.
-#
-# With valgrind on the path it also says how many instructions that is for each point and each shape; the number does not
-# depend on what else the machine does.
-#
-# It takes the program that rt ci left, or the one that SDV names, or else has rt make it.
+# where a card may have other shapes; three nested loops whose turns set one flag after another; and 2,000 commands before such a
+# loop. In the last two, facts change in many passes, everywhere or at the end alone. `sdv check` has to accept what it writes.
 set -eu
 top=$(cd "$(dirname "$0")/.." && pwd)
 export PATH="/opt/rattle/bin:$PATH"

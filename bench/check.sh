@@ -1,10 +1,6 @@
 #!/bin/sh
-# How long `sdv check` takes at the limits: 4,096 points, 65,536 shapes, and eight number variables at each point.
-#
-# The least time of ten runs is taken, less that of a script of two points. The certificate beside another script is read
-# and then refused, which tells the time of reading from that of checking.
-#
-# It takes the program that rt ci left, or the one that SDV names, or else has rt make it.
+# How long `sdv check` takes at the limits: 4,096 points, 65,536 shapes, and eight number variables at each point. The certificate
+# beside another script is read and then refused, which tells the time of reading from that of checking.
 set -eu
 top=$(cd "$(dirname "$0")/.." && pwd)
 export PATH="/opt/rattle/bin:$PATH"

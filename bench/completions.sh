@@ -1,6 +1,5 @@
 #!/bin/sh
-# Asks bash, zsh and fish what may follow the words of a line, in shells that it installs where there are none, and compares the
-# three with what is wanted.
+# Asks bash, zsh and fish what may follow the words of a line, and compares the three with what is wanted.
 set -eu
 top=$(cd "$(dirname "$0")/.." && pwd)
 work=$(mktemp -d)
@@ -65,7 +64,7 @@ judge() {
     done
 }
 
-judge "sdv c" "certify check"
+judge "sdv c" "card certify check"
 judge "sdv batch " "emmc sd"
 judge "sdv check a" "a.sdv" "a.blocks a.card a.cert a.img a.sdv"
 judge "sdv check a.sdv a" "a.cert" "a.blocks a.card a.cert a.img a.sdv"
@@ -74,6 +73,8 @@ judge "sdv run a.sdv a.cert a.card n" "new:"
 judge "sdv run a.sdv --in a.blocks a.cert a" "a.card" "a.blocks a.card a.cert a.img a.sdv"
 judge "sdv run a.sdv a.cert a.card new:16 a.b" "a.blocks"
 judge "sdv run a.sdv --out m" "more"
+judge "sdv explain --d" "--dot"
+judge "sdv audit sd a.trace --script a.s" "a.sdv"
 
 echo "completions: $passed passed, $failed failed"
 [ "$failed" -eq 0 ]

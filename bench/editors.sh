@@ -1,6 +1,6 @@
 #!/bin/sh
-# Colours every example with vim's syntax file, in a vim that it installs where there is none: each character but white space has
-# a colour, and none is marked as an error. Texts that are wrong are marked where they are wrong.
+# Colours every example with vim's syntax file: each character but white space has a colour, and none is marked as an error.
+# Texts that are wrong are marked where they are wrong.
 set -eu
 top=$(cd "$(dirname "$0")/.." && pwd)
 work=$(mktemp -d)

@@ -1,10 +1,6 @@
 #!/bin/sh
-# sh bench/firmware.sh: how many bytes the player of tables in C has on four processors, and the player in Rattle on two; how many
-# the tables of the scripts of examples/ have; and how long the players take for a command.
-#
-# The player in C is compiled for size, by clang, and by the compilers of Debian's packages gcc-arm-none-eabi,
-# gcc-riscv64-unknown-elf and gcc-aarch64-linux-gnu, which are installed first where apt-get can do that. It takes the program
-# that rt ci left, or the one that SDV names, or else has rt make it.
+# How many bytes the players of tables, the test of tables and the sample driver have, compiled for size; how many the tables of the scripts of
+# examples/ have; and how long the players take for a command.
 set -eu
 top=$(cd "$(dirname "$0")/.." && pwd)
 export PATH="$PATH:/opt/rattle/bin"
@@ -24,14 +20,21 @@ install() {
 }
 [ "$(id -u)" -ne 0 ] || ! command -v apt-get > "$work/said" || install
 
-# code NAME COMPILER OPTION..: the bytes of code and constants of the player
+# bytes_of FILE COMPILER OPTION..: the bytes of code and constants of a file in C
+bytes_of() {
+    file=$1 compiler=$2
+    shift 2
+    "$compiler" "$@" -std=c99 -Os -ffreestanding -c "$top/firmware/$file.c" -o "$work/player.o"
+    "${SIZE:-size}" -A "$work/player.o" | awk '$1 ~ /^\.(text|rodata)/ { bytes += $2 } END { print bytes }'
+}
+
+# code NAME COMPILER OPTION..: the bytes of the player, of the test of tables, and of the sample driver
 code() {
     name=$1 compiler=$2
     shift 2
     command -v "$compiler" > "$work/said" || return 0
-    "$compiler" "$@" -std=c99 -Os -ffreestanding -c "$top/firmware/sdv_step.c" -o "$work/player.o"
-    bytes=$("${SIZE:-size}" -A "$work/player.o" | awk '$1 ~ /^\.(text|rodata)/ { bytes += $2 } END { print bytes }')
-    printf '%-10s %-24s %6d bytes\n' "$name" "$compiler" "$bytes"
+    printf '%-10s %-24s %6d bytes, sdv_is_table %6d bytes, sdhci %6d bytes\n' "$name" "$compiler" \
+        "$(bytes_of sdv_step "$compiler" "$@")" "$(bytes_of sdv_is_table "$compiler" "$@")" "$(bytes_of sdhci "$compiler" "$@")"
 }
 
 SIZE=$(command -v llvm-size || command -v llvm-size-14 || echo size)

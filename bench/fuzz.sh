@@ -1,17 +1,7 @@
 #!/bin/sh
-# Hands the program hostile scripts, certificates, card descriptions, schedules and words, and counts what it answers:
-#
-#     sh bench/fuzz.sh [SEED [COUNT [FIRST]]]
-#
-# runs COUNT cases (10,000), from number FIRST (0) on. A case depends on SEED (1) and its number alone: a run goes on where
-# another one ended, and a single case comes again with the COUNT 1.
-#
-# Each call has to end with a status from 0 to 3 within five seconds of the processor's time, and with an answer of that
-# status; what `certify` writes has to be accepted, and a run beside a card of the script's kind never stops at an answer.
-# What ends otherwise is told with its words, its files are kept under /tmp, and the status is 1.
-#
-# SDV may name another build of the program, PROCESSES how many are started at a time (4), and LIMIT how many kilobytes of
-# memory each may have (2,000,000).
+# Hands the program hostile scripts, certificates, card descriptions, schedules and words, and counts what it answers: COUNT cases
+# (10,000), from number FIRST (0) on. A case depends on SEED (1) and its number alone, so a single case comes again with the
+# COUNT 1. PROCESSES are started at a time (4), each with LIMIT kilobytes of memory (2,000,000).
 set -eu
 top=$(cd "$(dirname "$0")/.." && pwd)
 export PATH="/opt/rattle/bin:$PATH" LC_ALL=C

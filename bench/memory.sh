@@ -1,8 +1,6 @@
 #!/bin/sh
 # How much memory `sdv check` and `sdv certify` take at their peak: on a certificate at the limits, of 4,096 points with 65,536
-# shapes and eight number variables at each point, and on that of a batch of 80 requests. It needs valgrind on the path.
-#
-# It takes the program that rt ci left, or the one that SDV names, or else has rt make it.
+# shapes and eight number variables at each point, and on that of a batch of 80 requests.
 set -eu
 top=$(cd "$(dirname "$0")/.." && pwd)
 export PATH="/opt/rattle/bin:$PATH"

@@ -1,11 +1,6 @@
 #!/bin/sh
 # Kills the program in the midst of runs that write blocks to an image: before each of its calls that write to a file, and
-# behind each block of the image. Each block that the requests name has to hold its old bytes or its new ones then, and every
-# other block is as it was.
-#
-#     sh bench/power_cut.sh
-#
-# It needs strace, which kills the program at a call. SDV may name another build of the program. It takes some seconds.
+# behind each block of the image.
 set -eu
 top=$(cd "$(dirname "$0")/.." && pwd)
 export PATH="/opt/rattle/bin:$PATH" LC_ALL=C

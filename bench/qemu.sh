@@ -1,13 +1,9 @@
 #!/usr/bin/env bash
-# Drives every accepted SD script of examples/ over QEMU's SDHCI controller and SD card, by adapters/qemu-sdhci, and beside the
-# simulated card of the same size: over a card of 64 MiB, which has byte addresses, and over one of 4 GiB, which has block
-# addresses. Each script has to end as beside the simulated card, and to leave the same image. QEMU fills erased blocks with ff,
-# and the simulated card with 00; a card may do either, and says which in its SCR. Then the player in C plays the script's table
-# over the same controller and a fresh card, and has to have the trace of `sdv drive`, to the letter.
-#
-# It installs qemu-system-x86 with apt-get where it is not there. At its end it prints how the answers of the two cards differ,
-# and why, and runs bench/bare.sh twice: on QEMU's board virt, without an operating system, by the player in C and by the one in
-# Rattle, which rt then proves.
+# Drives every accepted SD script of examples/ over QEMU's SDHCI controller and SD card, beside the simulated card of the same size:
+# over a card of 64 MiB, which has byte addresses, and over one of 4 GiB, which has block addresses. QEMU fills erased blocks with
+# ff, and the simulated card with 00; a card may do either, and says which in its SCR. Then the player in C plays the script's
+# table over the same controller and a fresh card. At the end it prints how the answers of the two cards differ, and why, and runs
+# bench/bare.sh with both players.
 set -euo pipefail
 top=$(cd "$(dirname "$0")/.." && pwd)
 export PATH="/opt/rattle/bin:$PATH" LC_ALL=C
@@ -19,7 +15,7 @@ command -v qemu-system-x86_64 > /dev/null ||
     { apt-get update -qq && apt-get install -y -qq --no-install-recommends qemu-system-x86; } > "$work/built" 2>&1 ||
     { cat "$work/built"; exit 1; }
 make -s -C "$top/adapters/qemu-sdhci"
-cc -std=c99 -Wall -Wextra -O2 "$top/tests/firmware/play.c" "$top/firmware/sdv_step.c" -o "$work/play"
+cc -std=c99 -Wall -Wextra -O2 "$top/tests/firmware/play.c" "$top/firmware/sdv_step.c" "$top/firmware/sdv_is_table.c" -o "$work/play"
 cd "$work"
 mkfifo requests answers
 

@@ -1,11 +1,9 @@
 #!/usr/bin/env python3
-"""refute.py [COUNT [SEED]] [--numbers]: how many scripts that `sdv certify` refuses are refuted by `sdv refute`.
+"""How many scripts that `sdv certify` refuses are refuted by `sdv refute`.
 
-It takes scripts that tests/firmware/scripts.py writes and that have a certificate, without their numbers (with --numbers: as they
-are), and changes one to three places of each: a statement is dropped or comes twice, a command becomes another, a guard is dropped or
-becomes another. COUNT (100) of those that `certify` then refuses are handed to `sdv refute`, which has two seconds for each. The same
-words make the same scripts. It prints how many are refuted by a run beside a simulated card, of how many a path of the state tables is
-told that breaks them, of how many no path does, of how many nothing was found, and the times. SDV names the program. Scripts of which nothing was found stay in /tmp/sdv-refute.
+It takes scripts that tests/firmware/scripts.py writes and that have a certificate, without their numbers (with --numbers: as
+they are), and changes one to three places of each. COUNT (100) of those that `certify` then refuses are handed to `sdv refute`,
+with two seconds for each. The same words make the same scripts. Scripts of which nothing was found stay in /tmp/sdv-refute.
 """
 import os
 import random

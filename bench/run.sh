@@ -1,14 +1,9 @@
 #!/bin/sh
-# How fast `sdv run` writes and reads 32 MiB of an image file, by transfers of 64 blocks and by single blocks, beside `dd bs=512`
-# of the same bytes on the same file.
+# How fast `sdv run` writes and reads 32 MiB of an image file, by transfers of 64 blocks and by single blocks, beside `dd bs=512`.
 #
-# The transfers of 64 blocks are batches of `sdv batch`: a script has at most 4,096 statements and 65,536 bytes, so each run
-# writes or reads 4 MiB, with 128 requests, and eight runs in a row make the 32 MiB. Single blocks are as many statements as
-# blocks, so there one script goes through the card in a loop, from its last block to its first, with the statements of a batch.
-#
-# The least time of five is taken, of all runs with their starts, checks and bring-ups. With valgrind on the path it also says
-# how many instructions a block takes: the difference between a batch of two requests and one of the first alone, which does
-# not depend on what else the machine does.
+# The transfers of 64 blocks are batches of 128 requests, eight runs in a row. Single blocks are as many statements as blocks, so
+# there one script goes through the card in a loop. With valgrind it also says how many instructions a block takes: the difference
+# between a batch of two requests and one of the first alone.
 set -eu
 top=$(cd "$(dirname "$0")/.." && pwd)
 export PATH="/opt/rattle/bin:$PATH"

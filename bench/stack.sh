@@ -1,9 +1,6 @@
 #!/bin/sh
 # How many KiB of stack the program needs for the deepest and the widest scripts of a text at the size limit: to read and
-# free a script, to certify it, to check it with its certificate, and to explain it.
-#
-# The least stack is found by halving, to 4 KiB, with ulimit -s. With less the program ends by a signal. A program has 8,192
-# KiB by default. SDV may name another build of it.
+# free a script, to certify it, to check it with its certificate, and to explain it. The least stack is found by halving, to 4 KiB.
 set -eu
 top=$(cd "$(dirname "$0")/.." && pwd)
 export PATH="/opt/rattle/bin:$PATH" LC_ALL=C

@@ -1,9 +1,6 @@
 #!/usr/bin/env bash
 # How fast `sdv drive` joined to `sdv card` by two pipes writes and reads 4 MiB in transfers of 64 blocks, beside `sdv run` of
 # the same scripts on the same card. The aim is a fifth of the speed of `run`.
-#
-# The scripts are batches of `sdv batch`, of 128 requests. The least time of five is taken, with the starts of both programs,
-# the check of the certificate and the bring-up.
 set -euo pipefail
 top=$(cd "$(dirname "$0")/.." && pwd)
 export PATH="/opt/rattle/bin:$PATH"

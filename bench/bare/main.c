@@ -39,24 +39,24 @@ void *memcpy(void *to, const void *from, size_t count)
     return to;
 }
 
-uint32_t sdhci_register_read(unsigned size, uint32_t offset)
-{
-    uintptr_t at = CONTROLLER + offset;
+static uint32_t read_register(void *controller, uint32_t offset) { return *(volatile uint32_t *)((uintptr_t)controller + offset); }
 
-    return size == 1 ? *(volatile uint8_t *)at : size == 2 ? *(volatile uint16_t *)at : *(volatile uint32_t *)at;
+static void write_register(void *controller, uint32_t offset, uint32_t value) { *(volatile uint32_t *)((uintptr_t)controller + offset) = value; }
+
+/* By the processor's own counter. */
+static uint32_t milliseconds(void *controller)
+{
+    uint64_t count = 0, frequency = 1;
+
+    (void)controller;
+#ifdef __aarch64__
+    __asm__ volatile("isb\n\tmrs %0, cntvct_el0" : "=r"(count));
+    __asm__ volatile("mrs %0, cntfrq_el0" : "=r"(frequency));
+#endif
+    return (uint32_t)(count * 1000 / frequency);
 }
 
-void sdhci_register_write(unsigned size, uint32_t offset, uint32_t value)
-{
-    uintptr_t at = CONTROLLER + offset;
-
-    if (size == 1)
-        *(volatile uint8_t *)at = (uint8_t)value;
-    else if (size == 2)
-        *(volatile uint16_t *)at = (uint16_t)value;
-    else
-        *(volatile uint32_t *)at = value;
-}
+static struct sdhci host = {.port = {.read = read_register, .write = write_register, .milliseconds = milliseconds}};
 
 static volatile uint32_t *configuration(uint32_t device, uint32_t offset)
 {
@@ -73,6 +73,7 @@ static bool find_controller(void)
         return false;
     *configuration(device, 0x10) = (uint32_t)CONTROLLER;
     *configuration(device, 0x04) |= 6;
+    host.port.board = (void *)CONTROLLER;
     return true;
 }
 
@@ -131,7 +132,7 @@ static int exchange(struct sdv_state *state, const struct sdv_event *event)
     static const uint32_t replies[] = {SDV_SENT, SDV_REPLY, SDV_TIMEOUT, SDV_DAMAGED};
     struct sdhci_answer answer;
     struct sdhci_command command = {event->index, event->argument, (enum sdhci_response)event->expect, event->data == SDV_BUSY,
-                                    {SDHCI_NO_DATA, 512, event->count}};
+                                    {SDHCI_NO_DATA, 512, event->count, event->lines}};
 
     if (event->data == SDV_BLOCKS_OUT)
         command.data.direction = SDHCI_TO_CARD;
@@ -139,8 +140,7 @@ static int exchange(struct sdv_state *state, const struct sdv_event *event)
         command.data.direction = SDHCI_TO_HOST;
     if (event->data == SDV_REGISTER)
         command.data.block_bytes = event->count, command.data.blocks = 1;
-    sdhci_set_lines(event->lines);
-    sdhci_exchange(&command, &answer);
+    sdhci_exchange(&host, &command, &answer);
     put_exchange(event, &answer);
     return sdv_answer(table, table_words, state, replies[answer.outcome], answer.word, answer.contents);
 }
@@ -148,7 +148,7 @@ static int exchange(struct sdv_state *state, const struct sdv_event *event)
 static bool receive(uint32_t block_bytes, uint32_t blocks)
 {
     uint32_t i;
-    bool well = sdhci_receive(buffer, block_bytes, blocks);
+    bool well = sdhci_receive(&host, buffer, block_bytes * blocks);
 
     for (i = 0; well && block_bytes == 512 && i < 512 * blocks; i++)
         sum += buffer[i];
@@ -162,7 +162,7 @@ static bool give(uint32_t blocks)
     for (i = 0; i < 512 * blocks; i++)
         buffer[i] = (uint8_t)(i + i / 512 + given);
     given += blocks;
-    return sdhci_give(buffer, 512, blocks);
+    return sdhci_give(&host, buffer, 512 * blocks);
 }
 
 static int phase(struct sdv_state *state, const struct sdv_event *event)
@@ -182,7 +182,7 @@ static int phase(struct sdv_state *state, const struct sdv_event *event)
         put_phase("OUT ", event->count, well = give(event->count));
         break;
     default:
-        put_text((well = sdhci_await_ready()) ? "WAIT ok\n" : "WAIT late\n");
+        put_text((well = sdhci_await_ready(&host)) ? "WAIT ok\n" : "WAIT late\n");
         break;
     }
     return sdv_ended(table, table_words, state, well, buffer);
@@ -194,7 +194,7 @@ int main(void)
     struct sdv_event event;
     uint32_t i;
 
-    if (!find_controller() || !sdhci_start() || !sdv_start(table, table_words, &state)) {
+    if (!find_controller() || !sdhci_start(&host) || !sdv_start(table, table_words, &state)) {
         put_text("no controller, no card, or no table\n");
         return 1;
     }
