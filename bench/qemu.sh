@@ -2,8 +2,7 @@
 # Drives every accepted SD script of examples/ over QEMU's SDHCI controller and SD card, beside the simulated card of the same size:
 # over a card of 64 MiB, which has byte addresses, and over one of 4 GiB, which has block addresses. QEMU fills erased blocks with
 # ff, and the simulated card with 00; a card may do either, and says which in its SCR. Then the player in C plays the script's
-# table over the same controller and a fresh card. At the end it prints how the answers of the two cards differ, and why, and runs
-# bench/bare.sh with both players.
+# table over the same controller and a fresh card. At the end it prints how the answers of the two cards differ, and why.
 set -euo pipefail
 top=$(cd "$(dirname "$0")/.." && pwd)
 export PATH="/opt/rattle/bin:$PATH" LC_ALL=C
@@ -100,9 +99,4 @@ sort differences | uniq -c | sort -k3,3V -k4,4 -k2,2 | awk '{ $1 = sprintf("%4d"
 cut -d ' ' -f 2 differences | sort -uV | while read -r command; do echo "$command: $(why "$command")"; done
 echo
 echo "qemu: $passed ended as beside the simulated card, $played were played with the same trace, $failed otherwise"
-echo
-echo "the player in C on the board virt, without an operating system:"
-sh "$top/bench/bare.sh" || failed=$((failed + 1))
-echo "the player in Rattle on that board:"
-PROVED=1 sh "$top/bench/bare.sh" || failed=$((failed + 1))
 [ "$failed" -eq 0 ]

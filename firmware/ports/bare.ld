@@ -1,7 +1,7 @@
-/* QEMU's board virt has its memory from 0x40000000 on. */
+/* An image in the board's memory, from the symbol `base` on. */
 ENTRY(_start)
 SECTIONS {
-  . = 0x40080000;
+  . = base;
   .text : { *(.text.start) *(.text .text.*) }
   .rodata : { *(.rodata .rodata.*) }
   .data : { *(.data .data.*) }
