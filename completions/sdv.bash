@@ -81,7 +81,7 @@ _sdv() {
     drive:*)
         case $before:$word:$place in
         --in:* | --out:* | --trace:*) _sdv_files "$word" '*' ;;
-        *:-*:*) _sdv_words "$word" "--in --out --trace" ;;
+        *:-*:*) _sdv_words "$word" "--in --out --trace --plain" ;;
         *:0) _sdv_files "$word" '*.sdv' ;;
         *:1) _sdv_files "$word" '*.cert' ;;
         esac ;;

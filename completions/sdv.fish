@@ -55,6 +55,7 @@ complete -c sdv -n "__fish_seen_subcommand_from run drive try" -l in -r -F -d "T
 complete -c sdv -n "__fish_seen_subcommand_from run drive try" -l out -r -F -d "The file for the blocks that it receives"
 complete -c sdv -n "__fish_seen_subcommand_from run" -l registers -r -F -d "The file for the registers that it receives"
 complete -c sdv -n "__fish_seen_subcommand_from drive" -l trace -r -F -d "The file for the trace"
+complete -c sdv -n "__fish_seen_subcommand_from drive" -l plain -d "Print commands without their data phases"
 complete -c sdv -n "__fish_seen_subcommand_from refute" -l card -r -F -d "The file for the description of the card"
 complete -c sdv -n "__fish_seen_subcommand_from refute" -l schedule -r -F -d "The file for the schedule"
 complete -c sdv -n "__fish_seen_subcommand_from emit" -l binary -r -F -d "The file for the words of the table as bytes"

@@ -3,7 +3,7 @@ use Rattle.std.proofs.Common.{◌≡◌, ◌∙◌, ap, refl, sym, subst, append
 use Rattle.sdv_registers.specs.declared.kind.Kind.{Kind}
 use Rattle.sdv_card.specs.Card.{Card}
 use Rattle.sdv_card.specs.Damage.{KeepsTablesOverNoise}
-use Rattle.sdv_card.specs.Port.{Call, Kept, KeepsTables, Shows}
+use Rattle.sdv_card.specs.Port.{Call, Exchange, DataIn, DataInRegister, DataOut, WaitWhileBusy, Kept, KeepsTables, Shows, call_of}
 use Rattle.sdv_card.specs.ScriptEvent.{Return}
 use Rattle.sdv_graph.specs.Graph.{Graph}
 use Rattle.sdv_graph.specs.Walk.{Pair}
@@ -18,6 +18,7 @@ use Rattle.sdv_run.specs.Step.{World}
 use Rattle.sdv_run.specs.Ran.{Ran}
 use Rattle.sdv_run.proofs.OnCard.{Beside, HasCertificate, beside, ran_beside}
 use Rattle.sdv_commands.proofs.RunMaps.{moved_because}
+use Rattle.sdv_lines.specs.Due.{Announces}
 use Rattle.sdv_lines.specs.Streams.{Streams, LineSteps}
 use Rattle.sdv_lines.specs.Partner.{Both, other_card}
 use Rattle.sdv_lines.proofs.PartnerLaws.{shows_other}
@@ -29,10 +30,17 @@ pub made_front : (k : Kind) (es front back : List Pair) (c : Card) → es ≡ fr
 made_front k es front back c all made earlier event returned later u is steps =
     made earlier event returned (later ++ back) u (all ∙ ap (λ l. l ++ back) is ∙ append_assoc earlier ((event, returned) ∷ later) back) steps
 
+no_due : (call : Call) → Announces call None
+no_due (Exchange command expect) = tt
+no_due (DataIn lines count) = refl
+no_due (DataInRegister lines count) = refl
+no_due (DataOut lines blocks) = refl
+no_due WaitWhileBusy = refl
+
 module _ {S : Type 0} (steps : S → Call → Return → S → Type 0) (card : S → Option Card) (keeps : KeepsTablesOverNoise steps card) where
   -- nothing is known of the streams
   abbrev beside_unknown : S → Both S
-  beside_unknown o = record { streams = record { answers = None; requests = None; left = None; fault = None }; other = o }
+  beside_unknown o = record { streams = record { answers = None; requests = None; left = None; fault = None; unheard = None }; other = o }
 
   pub told_keeps : KeepsTables (ToldSteps steps) card
   told_keeps o o' k event c h returned shown fine told =
@@ -42,6 +50,8 @@ module _ {S : Type 0} (steps : S → Call → Return → S → Type 0) (card : S
       (shows_other steps card keeps).0 (beside_unknown o) (beside_unknown o') k event c h returned seen fine (record {
         texts = told.texts;
         gave = told.gave;
+        due = None;
+        announced = no_due (call_of k event);
         written = tt;
         read = tt;
         heard = told.heard;

@@ -5,7 +5,7 @@ use Rattle.std.specs.Borrow.{Bor}
 use Rattle.std.specs.List.{AllByRecursion}
 use Rattle.std.specs.Io.KnownBytes.{Appends, Consumes}
 use Rattle.clap.specs.Words.{Text}
-use Rattle.sdv_card.specs.Card.{Block, Card}
+use Rattle.sdv_card.specs.Card.{Block}
 use Rattle.sdv_graph.specs.Graph.{Graph}
 use Rattle.sdv_facts.specs.Beside.{commands}
 use Rattle.sdv_graph.specs.Walk.{Pair}
@@ -19,34 +19,27 @@ use Rattle.sdv_run.specs.Run.{RunMoved, Steps, received}
 use Rattle.sdv_trace.specs.Trace.{lines}
 use Rattle.sdv_run.specs.Step.{World}
 use Rattle.sdv_run.specs.Ran.{Ran}
-use Rattle.sdv_run.specs.OnCard.{RanBeside}
 use Rattle.sdv_text.proofs.WrittenLaws.{appends_more}
 use Rattle.sdv_lines.specs.declared.fault.ProtocolFault.TheVariants as faults
 use Rattle.sdv_lines.specs.declared.fault.PortFault.{PortFault}
 use Rattle.sdv_lines.specs.declared.fault.PortFault.TheVariants.{Lines, Commands}
 use Rattle.sdv_lines.specs.declared.port.LinePort.{LinePort}
-use Rattle.sdv_lines.specs.Streams.{AppendsFront, LineSteps, Streams, TellsEnd, limited, streams_of}
+use Rattle.sdv_lines.specs.Streams.{AppendsFront, LineSteps, Streams, TellsEnd, limited, streams_of, unheard_at, unheard_command}
 use Rattle.sdv_program.specs.Requests.{DriveNames}
 use Rattle.sdv_program.specs.declared.fault.Fault.{Fault}
 use Rattle.sdv_program.specs.declared.fault.Fault.TheVariants.{File, Script, Certificate, Refused, Memory}
 use Rattle.sdv_program.specs.Files.{Files}
 use Rattle.sdv_commands.specs.Run.{FileUse, IsUnread, IsUnusable, IsUsed, as_input, as_output, as_text, blocks_of, some_use}
 use Rattle.sdv_commands.proofs.GivenLaws.{both_used, input_gave, text_gave}
-use Rattle.sdv_commands.proofs.RunMaps.{seen, seen_run}
 use Rattle.sdv_commands.specs.declared.drive.Given.{Given}
 use Rattle.sdv_commands.specs.declared.drive.Outcome.{Outcome}
 use Rattle.sdv_commands.specs.declared.drive.Outcome.TheVariants.{Lost, Ended, Stopped}
 use Rattle.sdv_commands.proofs.TalkLaws.{few_asked, said, spends_few, talks}
 use Rattle.sdv_commands.specs.Talk.{Talked, Talks, answer_lines, events_of, requests}
 use Rattle.sdv_program.specs.Outcomes.{outcome_of as ended_as}
-use Rattle.sdv_commands.specs.Drive.{AnswersOutcome, AreGiven, ComesOut, DriveFails, DrivesApart, EndsDrive, FailsToTrace, IsDrive, IsTraced, Takes, TellsIfEnded, outcome_of, uses_of}
+use Rattle.sdv_commands.specs.Drive.{AnswersOutcome, AreGiven, ComesOut, DriveFails, DrivesApart, EndsDrive, FailsToTrace, IsDrive, IsTraced, Takes, TellsIfEnded, TracesUnheard, outcome_of, uses_of}
 
 -- THE RUN over the streams of a port
-
-ran_of : {S : Type 0} (steps : Steps S) (card : S → Option Card) (g : Graph) (most : ℕ) (w w' : World S) (result : Result End RunFault)
-    → RanBeside steps card g most w w' result → Ran steps g w w' result
-ran_of steps card g most w w' (Ok end) ran = ran.0
-ran_of steps card g most w w' (Err fault) ran = ran.0
 
 moved_of : {S : Type 0} (steps : Steps S) (g : Graph) (w w' : World S) (result : Result End RunFault) (ran : Ran steps g w w' result)
     → RunMoved g.kind steps w.port (events_of steps g w w' result ran) w'.port
@@ -57,26 +50,18 @@ module _ {R W : Type 0} (remaining : R → Option (List ℕ)) (contents : W → 
   abbrev pub streams : LinePort R W → Streams
   streams port = streams_of remaining contents port
 
-  pub run_of_lines : (g : Graph) (most : ℕ) (w w' : World (LinePort R W)) (result : Result End RunFault)
-      → RanBeside (λ p call returned p'. LineSteps (streams p) call returned (streams p')) (λ p. None) g most w w' result
-      → Ran LineSteps g (seen streams w) (seen streams w') result
-  run_of_lines g most w w' result ran =
-      ran_of LineSteps (λ s. None) g most (seen streams w) (seen streams w') result
-      (seen_run streams (λ p call returned p'. LineSteps (streams p) call returned (streams p')) LineSteps (λ p call returned p' step. step)
-      (λ p. None) (λ s. None) (λ p. refl) g most w w' result ran)
-
 -- what was run within the limit, with what it asked and heard
-pub drove : (given : Given) (outcome : Outcome) (out out' trace trace' : Option (List ℕ)) (s begun after t s' : Streams) → s.fault ≡ None
+pub drove : (given : Given) (outcome : Outcome) (out out' trace traced trace' : Option (List ℕ)) (s begun after t s' : Streams) → s.fault ≡ None
     → (a : Acceptance) → IsAccepted (string_bytes given.script) (string_bytes given.certificate) a
     → begun ≡ limited (Some a.bound) s → t ≡ limited s.left after
     → (result : Result End RunFault) (input left : List Block) → input ≡ blocks_of given.input.items
     → Ran LineSteps a.graph (record { port = begun; input = input; out = out; trace = trace })
-    (record { port = after; input = left; out = out'; trace = trace' }) result
-    → TellsIfEnded result t s' → outcome ≡ outcome_of s'.fault result → IsDrive given outcome out out' trace trace' s s'
-drove given outcome out out' trace trace' s begun after t s' well a accepted limit lifted result input left same ran told came =
+    (record { port = after; input = left; out = out'; trace = traced }) result
+    → TracesUnheard (unheard_command t) traced trace' → TellsIfEnded result t s' → outcome ≡ outcome_of s'.fault result → IsDrive given outcome out out' trace trace' s s'
+drove given outcome out out' trace traced trace' s begun after t s' well a accepted limit lifted result input left same ran unheard told came =
     let b = limited (Some a.bound) s in
     let w : World Streams = record { port = b; input = blocks_of given.input.items; out = out; trace = trace } in
-    let w' : World Streams = record { port = after; input = left; out = out'; trace = trace' } in
+    let w' : World Streams = record { port = after; input = left; out = out'; trace = traced } in
     let within : Ran LineSteps a.graph (record { port = b; input = input; out = out; trace = trace }) w' result =
     subst (λ p. Ran LineSteps a.graph (record { port = p; input = input; out = out; trace = trace }) w' result) limit ran in
     let run : Ran LineSteps a.graph w w' result =
@@ -89,9 +74,11 @@ drove given outcome out out' trace trace' s begun after t s' well a accepted lim
       result = result;
       after = after;
       left = left;
+      traced = traced;
       ran = run;
       talks = talk;
       few = few_asked a.graph.kind a.bound es b after refl talk;
+      unheard = subst (λ p. TracesUnheard (unheard_command p) traced trace') lifted unheard;
       told = subst (λ p. TellsIfEnded result p s') lifted told;
       came_out = came;
     }
@@ -142,8 +129,9 @@ talked_at (Some why) g es s t e well talk = absurd (cc well)
 
 module _ (files : Files) (names : DriveNames) (given : Given) (are : AreGiven files names given) (s s' : Streams) where
   -- the parts of a run that came out so
-  module _ (out out' trace trace' : Option (List ℕ)) (outs : Takes files names.output out out') (traces : Takes files names.trace trace trace')
-      (a : Acceptance) (accepted : IsAccepted (string_bytes given.script) (string_bytes given.certificate) a) (after : Streams) (left : List Block) where
+  module _ (out out' trace traced trace' : Option (List ℕ)) (outs : Takes files names.output out out') (traces : Takes files names.trace trace trace')
+      (a : Acceptance) (accepted : IsAccepted (string_bytes given.script) (string_bytes given.certificate) a) (after : Streams) (left : List Block)
+      (unheard : TracesUnheard (unheard_command after) traced trace') where
     abbrev begun : Streams
     begun = limited (Some a.bound) s
 
@@ -151,12 +139,14 @@ module _ (files : Files) (names : DriveNames) (given : Given) (are : AreGiven fi
     world = record { port = begun; input = blocks_of given.input.items; out = out; trace = trace }
 
     abbrev world' : World Streams
-    world' = record { port = after; input = left; out = out'; trace = trace' }
+    world' = record { port = after; input = left; out = out'; trace = traced }
 
     ends_so : (end : End) (ran : Ran LineSteps a.graph world world' (Ok end)) → Talks a.graph.kind ran.events begun after
         → TellsIfEnded (Ok end) (limited s.left after) s' → s'.fault ≡ None → EndsDrive files names end s s'
     ends_so end ran talk told well =
         let was : WasTold (end_line end) (limited s.left after) s' = was_told (end_line end) told.0 (limited s.left after) s' told.1 well in
+        let none : unheard_command after ≡ None = ap (λ o. unheard_at o after.unheard) was.well in
+        let same : trace' ≡ traced = subst (λ u. TracesUnheard u traced trace') none unheard in
         let talked : Talked a.graph.kind ran.events begun after = talked_at after.fault a.graph ran.events begun after refl was.well talk in
         record {
           given = given;
@@ -168,11 +158,15 @@ module _ (files : Files) (names : DriveNames) (given : Given) (are : AreGiven fi
           few = spends_few (commands ran.events) a.bound (Some a.bound) after.left refl talked.spent;
           left = left;
           input = ran.happened.input;
-          written = appends_more s.requests after.requests s'.requests (requests a.graph.kind ran.events) (end_line end) talked.written was.written;
+          dues = talked.dues;
+          announced = talked.announced;
+          written = appends_more s.requests after.requests s'.requests (requests a.graph.kind ran.events talked.dues) (end_line end) talked.written
+              was.written;
           answers = talked.answers;
           are_answers = talked.are_answers;
           read = subst (λ known. Consumes s.answers known (answer_lines talked.answers)) (sym was.quiet) talked.read;
-          trace = traces (lines ran.events ++ end_line end) ran.trace;
+          trace = traces (lines ran.events ++ end_line end)
+              (subst (λ known. Appends trace known (lines ran.events ++ end_line end)) (sym same) ran.trace);
           output = outs (received ran.events) ran.output;
         }
 
@@ -194,26 +188,26 @@ module _ (files : Files) (names : DriveNames) (s s' : Streams) where
   ends_of : (end : End) → ComesOut files names (Ended end) s s' → EndsDrive files names end s s'
   ends_of end came =
       let drive = came.traced.drive in
-      ends_by files names came.given came.are_given s s' came.out came.out' came.traced.trace came.traced.trace' came.taken came.traced.traced
-      drive.acceptance drive.accepted drive.after drive.left end drive.result drive.ran drive.talks drive.told
+      ends_by files names came.given came.are_given s s' came.out came.out' came.traced.trace drive.traced came.traced.trace' came.taken came.traced.traced
+      drive.acceptance drive.accepted drive.after drive.left drive.unheard end drive.result drive.ran drive.talks drive.told
       (ended_so end s'.fault drive.result drive.came_out)
 
   quiet_of : ComesOut files names (Stopped runs.Memory) s s' → s' ≡ s
   quiet_of came =
       let drive = came.traced.drive in
-      quiet_by files names came.given came.are_given s s' came.out came.out' came.traced.trace came.traced.trace' came.taken came.traced.traced
-      drive.acceptance drive.accepted drive.after drive.left drive.result drive.ran drive.told (no_memory s'.fault drive.result drive.came_out)
+      quiet_by files names came.given came.are_given s s' came.out came.out' came.traced.trace drive.traced came.traced.trace' came.taken came.traced.traced
+      drive.acceptance drive.accepted drive.after drive.left drive.unheard drive.result drive.ran drive.told (no_memory s'.fault drive.result drive.came_out)
 
   pub answered : (outcome : Outcome) (r : Result (Unit {0}) Fault) → AnswersOutcome outcome r → ComesOut files names outcome s s'
       → OnOk r (EndsDrive files names ends.Done s s')
-  answered (Lost why) r is came = rw is.2 tt
+  answered (Lost why) r is came = rw is.1 tt
   answered (Ended ends.Done) r is came = rw is (ends_of ends.Done came)
   answered (Ended (ends.Fault name)) r is came = rw is tt
   answered (Stopped fault) r is came = rw is tt
 
   pub answered_fails : (outcome : Outcome) (r : Result (Unit {0}) Fault) → AnswersOutcome outcome r → ComesOut files names outcome s s'
       → IfErr r (λ fault. DriveFails files names fault s s')
-  answered_fails (Lost why) r is came = rw is.2 (inr (inl (is.1, why, came)))
+  answered_fails (Lost why) r is came = rw is.1 came
   answered_fails (Ended ends.Done) r is came = rw is tt
   answered_fails (Ended (ends.Fault name)) r is came = rw is (ends.Fault name, (λ same. absurd (cc same)), ends_of (ends.Fault name) came)
   answered_fails (Stopped runs.Reply) r is came = rw is came
@@ -285,7 +279,7 @@ module _ (files : Files) (names : DriveNames) (s s' : Streams) where
     fails_of : (fault : Fault) → FailsToTrace files names given fault s s' → DriveFails files names fault s s'
     fails_of (File file) (is, inl (uncreated, quiet)) = inl (trace_unusable file.now is uncreated, quiet)
     fails_of (File file) (is, inr (unfinished, lost)) =
-        inr (inr (record { given = given; are_given = are; lost = lost; is_file = inl is; unfinished = unfinished }))
+        inr (record { given = given; are_given = are; lost = lost; is_file = inl is; unfinished = unfinished })
     fails_of (Script fault) (refuses, quiet) = record { given = given; are_given = are; refused = refuses; quiet = quiet }
     fails_of (Certificate fault) (refuses, quiet) = record { given = given; are_given = are; refused = refuses; quiet = quiet }
     fails_of (Refused fault) (refuses, quiet) = record { given = given; are_given = are; refused = refuses; quiet = quiet }
@@ -300,13 +294,13 @@ module _ (files : Files) (names : DriveNames) (s s' : Streams) where
     -- the file of the output does not take all
     pub finish_fails : (file : Bor Text) → Some file.now ≡ names.output → files.unfinished file.now → (outcome : Outcome) (out out' : Option (List ℕ))
         → IsTraced files names given outcome out out' s s' → DriveFails files names (File file) s s'
-    finish_fails file output unfinished outcome out out' traced = inr (inr (record {
+    finish_fails file output unfinished outcome out out' traced = inr (record {
       given = given;
       are_given = are;
       lost = record { outcome = outcome; out = out; out' = out'; trace = traced.trace; trace' = traced.trace'; drive = traced.drive };
       is_file = inr (output, traced.traced);
       unfinished = unfinished;
-    }))
+    })
 
     pub comes_out : (outcome : Outcome) (out out' : Option (List ℕ)) → IsTraced files names given outcome out out' s s'
         → Takes files names.output out out' → ComesOut files names outcome s s'

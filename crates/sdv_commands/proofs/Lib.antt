@@ -1,3 +1,4 @@
+mod AnnouncingLaws
 mod AuditLaws
 mod BatchWordsLaws
 mod CertifyLaws

@@ -76,6 +76,8 @@ unsaid k es s s' o e t = subst (λ o. TalksAt o k es s s') (sym e) t
 
 nothing : (k : Kind) (s : Streams) → s.fault ≡ None → Talked k [] s s
 nothing k s f = record {
+  dues = [];
+  announced = tt;
   written = appends_none s.requests;
   answers = [];
   are_answers = tt;
@@ -87,7 +89,9 @@ nothing k s f = record {
 module _ (k : Kind) (p : Pair) (es : List Pair) (s u s' : Streams) (asked : Asked (call_of k p.0) p.1 s u) where
   more_talked : Talked k es u s' → Talked k (p ∷ es) s s'
   more_talked t = record {
-    written = appends_more s.requests u.requests s'.requests (request_of (call_of k p.0)) (requests k es) asked.written t.written;
+    dues = asked.due ∷ t.dues;
+    announced = (asked.announced, t.announced);
+    written = appends_more s.requests u.requests s'.requests (request_of asked.due (call_of k p.0)) (requests k es t.dues) asked.written t.written;
     answers = asked.heard.texts ∷ t.answers;
     are_answers = (asked.heard.answers, t.are_answers);
     read = consumes_more s.answers u.answers s'.answers (lines_of asked.heard.texts) (answer_lines t.answers) asked.heard.read t.read;

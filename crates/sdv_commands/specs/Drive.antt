@@ -1,9 +1,13 @@
 -- What the program does at `drive`: which script it runs, what it asks and hears, and what its files take.
-use Rattle.std.specs.Prelude.{◌≡◌, ◌≢◌, ◌≤◌, ◌⊎◌, ℕ, List, [], ◌∷◌, ◌++◌, Option, Some, None, Result, Ok, Err, codes, string_bytes}
-use Rattle.std.specs.Borrow.{Bor}
+use Rattle.std.specs.Prelude.{◌≡◌, ◌≢◌, ◌≤◌, ◌⊎◌, ℕ, List, [], ◌∷◌, ◌++◌, Option, Some, None, Result, Ok, Err, string_bytes}
 use Rattle.std.specs.Io.KnownBytes.{Appends, Consumes}
 use Rattle.clap.specs.Words.{Text}
+use Rattle.sdv_frames.specs.declared.command.Command.{Command}
+use Rattle.sdv_frames.specs.declared.reply.Expect.{Expect}
+use Rattle.sdv_frames.specs.declared.reply.Expect.TheVariants as expects
 use Rattle.sdv_card.specs.Card.{Block}
+use Rattle.sdv_card.specs.declared.answer.Answer.{Answer}
+use Rattle.sdv_card.specs.declared.answer.Answer.TheVariants.{Sent, TimeOut}
 use Rattle.sdv_graph.specs.Walk.{Pair, given as given_by}
 use Rattle.sdv_facts.specs.Beside.{commands}
 use Rattle.sdv_check.specs.Verified.{Acceptance, IsAccepted}
@@ -11,16 +15,18 @@ use Rattle.sdv_trace.specs.declared.end.End.{End}
 use Rattle.sdv_trace.specs.declared.end.End.TheVariants as ends
 use Rattle.sdv_run.specs.declared.fault.RunFault.{RunFault}
 use Rattle.sdv_run.specs.declared.fault.RunFault.TheVariants as runs
-use Rattle.sdv_trace.specs.Trace.{end_line}
+use Rattle.sdv_trace.specs.Trace.{command_line, end_line}
 use Rattle.sdv_run.specs.Run.{received, ending_of}
 use Rattle.sdv_trace.specs.Trace.{lines}
 use Rattle.sdv_run.specs.Ran.{IsWalk, Ran}
+use Rattle.sdv_lines.specs.declared.due.Due.{Due}
+use Rattle.sdv_lines.specs.declared.fault.Found.{Found}
 use Rattle.sdv_lines.specs.declared.fault.ProtocolFault.{ProtocolFault}
 use Rattle.sdv_lines.specs.declared.fault.PortFault.{PortFault}
 use Rattle.sdv_lines.specs.declared.fault.PortFault.TheVariants.{Lines, Commands}
-use Rattle.sdv_lines.specs.Streams.{Streams, LineSteps, TellsEnd, limited}
+use Rattle.sdv_lines.specs.Streams.{AppendsFront, Streams, LineSteps, TellsEnd, limited, unheard_command}
 use Rattle.sdv_program.specs.declared.fault.Fault.{Fault}
-use Rattle.sdv_program.specs.declared.fault.Fault.TheVariants.{File, Script, Certificate, Refused, Run, Named, Memory}
+use Rattle.sdv_program.specs.declared.fault.Fault.TheVariants.{File, Script, Certificate, Refused, Run, Unanswered, Named, Memory}
 use Rattle.sdv_program.specs.Fault.{fault_of_run}
 use Rattle.sdv_program.specs.Requests.{DriveNames}
 use Rattle.sdv_program.specs.Files.{Files}
@@ -31,7 +37,7 @@ use Rattle.sdv_commands.specs.Run.{FileUse, GivesInput, IsUnusable, Receives, as
 use Rattle.sdv_commands.specs.declared.drive.Given.{Given}
 use Rattle.sdv_commands.specs.declared.drive.Outcome.{Outcome}
 use Rattle.sdv_commands.specs.declared.drive.Outcome.TheVariants.{Lost, Ended, Stopped}
-use Rattle.sdv_commands.specs.Talk.{AreAnswers, Talks, answer_lines, answered, asked, events_of, requests, texts_of_answers}
+use Rattle.sdv_commands.specs.Talk.{AreAnnounced, AreAnswers, Talks, answer_lines, answered, asked, events_of, requests, texts_of_answers}
 
 -- THE FILES
 
@@ -61,6 +67,17 @@ abbrev pub TellsIfEnded : Result End RunFault → (s s' : Streams) → Type 0
 TellsIfEnded (Ok end) s s' = (told : Result (Unit {0}) PortFault) × TellsEnd s (end_line end) told s'
 TellsIfEnded (Err fault) s s' = s' ≡ s
 
+-- what comes of a command that waits for this, where no response comes
+abbrev pub lost_answer : Expect → Answer
+lost_answer expects.Nothing = Sent
+lost_answer expect = TimeOut
+
+-- The trace took the line of the command that was sent and not answered, if there was one, as of one whose response is lost;
+-- or a part of it, where the writer failed.
+abbrev pub TracesUnheard : Option (Command × Expect) → (trace trace' : Option (List ℕ)) → Type 0
+TracesUnheard None trace trace' = trace' ≡ trace
+TracesUnheard (Some (command, expect)) trace trace' = AppendsFront trace trace' (command_line command (lost_answer expect))
+
 -- The script, which was verified with its certificate, ran over the lines with the input blocks, and its end was told. The
 -- port sent as many commands at most as were certified, whatever was answered.
 pub record IsDrive (given : Given) (outcome : Outcome) (out out' trace trace' : Option (List ℕ))
@@ -71,14 +88,16 @@ pub record IsDrive (given : Given) (outcome : Outcome) (out out' trace trace' : 
   -- after the last event
   pub after : Streams
   pub left : List Block
+  pub traced : Option (List ℕ)
   pub ran : Ran LineSteps acceptance.graph
       (record { port = limited (Some acceptance.bound) s; input = blocks_of given.input.items; out = out; trace = trace })
-      (record { port = after; input = left; out = out'; trace = trace' }) result
+      (record { port = after; input = left; out = out'; trace = traced }) result
   pub talks : Talks acceptance.graph.kind (events_of LineSteps acceptance.graph _ _ result ran)
       (limited (Some acceptance.bound) s) after
   -- the commands whose requests were written, in whole or in part
   pub few : commands (asked acceptance.graph.kind (events_of LineSteps acceptance.graph _ _ result ran) _ after talks)
       ≤ acceptance.bound
+  pub unheard : TracesUnheard (unheard_command after) traced trace'
   -- the limit was for the run
   pub told : TellsIfEnded result (limited s.left after) s'
   pub came_out : outcome ≡ outcome_of s'.fault result
@@ -152,7 +171,9 @@ pub record EndsDrive (files : Files) (names : DriveNames) (end : End) (s s' : St
   pub few : commands events ≤ acceptance.bound
   pub left : List Block
   pub input : blocks_of given.input.items ≡ given_by events ++ left
-  pub written : Appends s.requests s'.requests (requests acceptance.graph.kind events ++ end_line end)
+  pub dues : List (Option Due)
+  pub announced : AreAnnounced acceptance.graph.kind events dues
+  pub written : Appends s.requests s'.requests (requests acceptance.graph.kind events dues ++ end_line end)
   pub answers : List (List (List ℕ))
   pub are_answers : AreAnswers acceptance.graph.kind events answers
   pub read : Consumes s.answers s'.answers (answer_lines answers)
@@ -184,20 +205,18 @@ pub record HasNoDrive (files : Files) (names : DriveNames) (fault : Fault) (s s'
   pub refused : RefusesTexts given fault
   pub quiet : s' ≡ s
 
--- what the program answers to a run that came out so; the name of the other side is `-`
+-- what the program answers to a run that came out so
 abbrev pub AnswersOutcome : Outcome → Result (Unit {0}) Fault → Type 0
-AnswersOutcome (Lost why) r = (file : Bor Text) × (file.now ≡ codes "-") × (r ≡ Err (File file))
+AnswersOutcome (Lost why) r = (found : Found) × (r ≡ Err (Unanswered (record { fault = why; found = found })))
 AnswersOutcome (Ended ends.Done) r = r ≡ Ok tt
 AnswersOutcome (Ended (ends.Fault name)) r = r ≡ Err Named
 AnswersOutcome (Stopped fault) r = r ≡ Err (fault_of_run fault)
 
--- a file: it cannot be used, or it is the other side, which broke off, or it did not take all. A run that has no memory
--- is no run fault, but want of memory
+-- a file: it cannot be used, or it did not take all. A run that has no memory is no run fault, but want of memory
 abbrev pub DriveFails : Files → DriveNames → Fault → (s s' : Streams) → Type 0
 DriveFails files names (File file) s s' =
-    (IsUnusable files (uses_of names) file.now × (s' ≡ s))
-    ⊎ (((file.now ≡ codes "-") × (why : ProtocolFault) × ComesOut files names (Lost why) s s')
-    ⊎ IsNotKept files names file.now s s')
+    (IsUnusable files (uses_of names) file.now × (s' ≡ s)) ⊎ IsNotKept files names file.now s s'
+DriveFails files names (Unanswered stop) s s' = ComesOut files names (Lost stop.fault) s s'
 DriveFails files names (Run runs.Memory) s s' = ⊥
 DriveFails files names (Run fault) s s' = ComesOut files names (Stopped fault) s s'
 DriveFails files names Named s s' = (end : End) × (end ≢ ends.Done) × EndsDrive files names end s s'

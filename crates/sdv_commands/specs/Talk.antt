@@ -15,6 +15,8 @@ use Rattle.sdv_run.specs.Ran.{Ran}
 use Rattle.sdv_lines.specs.declared.fault.PortFault.{PortFault}
 use Rattle.sdv_lines.specs.declared.fault.PortFault.TheVariants.{Lines, Commands}
 use Rattle.sdv_lines.specs.Texts.{lines_of}
+use Rattle.sdv_lines.specs.declared.due.Due.{Due}
+use Rattle.sdv_lines.specs.Due.{Announces}
 use Rattle.sdv_lines.specs.Requests.{request_of}
 use Rattle.sdv_lines.specs.Answers.{Answers}
 use Rattle.sdv_lines.specs.Streams.{Streams, Spends, Unanswered}
@@ -25,10 +27,16 @@ abbrev pub events_of : {S : Type 0} (steps : Steps S) (g : Graph) (w w' : World 
 events_of steps g w w' (Ok end) ran = ran.events
 events_of steps g w w' (Err fault) ran = ran.events
 
+-- what the requests of events announce, one after another: nothing, or the data phase that follows the command
+abbrev pub AreAnnounced : Kind → List Pair → List (Option Due) → Type 0
+AreAnnounced k [] [] = Unit {0}
+AreAnnounced k (p ∷ es) (due ∷ dues) = Announces (call_of k p.0) due × AreAnnounced k es dues
+AreAnnounced k es dues = ⊥
+
 -- the requests of events
-abbrev pub requests : Kind → List Pair → List ℕ
-requests k [] = []
-requests k (p ∷ es) = request_of (call_of k p.0) ++ requests k es
+abbrev pub requests : Kind → List Pair → List (Option Due) → List ℕ
+requests k (p ∷ es) (due ∷ dues) = request_of due (call_of k p.0) ++ requests k es dues
+requests k es dues = []
 
 -- the texts of an answer to each event, which say what it returned
 abbrev pub AreAnswers : Kind → List Pair → List (List (List ℕ)) → Type 0
@@ -42,7 +50,9 @@ answer_lines (texts ∷ answers) = lines_of texts ++ answer_lines answers
 
 -- Each event was asked for, and answered. Each command was one of those that the port still sent.
 pub record Talked (k : Kind) (es : List Pair) (s s' : Streams) : Type 0 where
-  pub written : Appends s.requests s'.requests (requests k es)
+  pub dues : List (Option Due)
+  pub announced : AreAnnounced k es dues
+  pub written : Appends s.requests s'.requests (requests k es dues)
   pub answers : List (List (List ℕ))
   pub are_answers : AreAnswers k es answers
   pub read : Consumes s.answers s'.answers (answer_lines answers)

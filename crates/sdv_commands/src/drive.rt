@@ -7,14 +7,18 @@ ghost use Rattle.sdv_program.specs.Requests.{drive_names_of};
 ghost use Rattle.sdv_lines.specs.Streams.{streams_of};
 ghost use Rattle.sdv_commands.specs.Run.{IsUnread};
 ghost use Rattle.sdv_program.specs.Outcomes.{outcome_of as ended_as};
-ghost use Rattle.sdv_commands.specs.Drive.{AnswersOutcome, AreGiven, DriveEnds, DriveFails, EndsDrive, FailsToTrace, IsDrive, IsTraced, RefusesTexts, TellsIfEnded, outcome_of, uses_of};
+ghost use Rattle.sdv_commands.specs.Drive.{AnswersOutcome, AreGiven, DriveEnds, DriveFails, EndsDrive, FailsToTrace, IsDrive, IsTraced, RefusesTexts, TellsIfEnded, TracesUnheard, lost_answer, outcome_of, uses_of};
 
+use crate::announcing::run_announced;
 use crate::given::input_in;
 use crate::named::Named;
+use sdv_card::Answer;
 use sdv_check::verify;
-use sdv_lines::{LinePort, PortFault, ProtocolFault};
+use sdv_frames::{Command, Expect};
+use sdv_lines::{AskFault, Found, LinePort, PortFault, ProtocolFault};
 use sdv_program::{DriveFiles, Fault, Role, Store, clash, text_in};
-use sdv_run::{End, RunFault, run};
+use sdv_run::{End, RunFault};
+use sdv_trace::write_command;
 use std::alloc::Global;
 use std::io::{self, Read, Write};
 
@@ -46,8 +50,8 @@ pub enum Outcome {
 ///
 /// - [`Fault::File`]: the file of the output or of the trace is one that is read, or both are one; then no file was opened.
 ///   Or a file cannot be used, and each one before it was; then nothing was asked. Or the file of the output or of the trace
-///   did not take all that it had to. The name `-` stands for the other side: it could not be asked, or did not answer, and
-///   nothing more was asked.
+///   did not take all that it had to.
+/// - [`Fault::Unanswered`]: the other side could not be asked, or gave no answer. Nothing more was asked.
 /// - [`Fault::Script`], [`Fault::Certificate`], [`Fault::Refused`]: the script is not accepted. Nothing was asked.
 /// - [`Fault::Named`]: the script ended in a fault that it names, or in `number`. The other side was told.
 /// - [`Fault::Run`]: the run stopped before its end, and the other side was told no end. Also where the next command was one
@@ -97,14 +101,17 @@ fn drive_apart<'a, S: Store, R: Read, W: Write>(
         names: &names,
     };
     match names.output {
-        None => end_of(drive_traced(named, &given, port, &mut io::sink())?),
+        None => {
+            let outcome = drive_traced(named, &given, port, &mut io::sink())?;
+            end_of(outcome, port.found())
+        }
         Some(file) => {
             let mut sink = files.create(file).ok_or(Fault::File(file))?;
             let outcome = drive_traced(named, &given, port, &mut sink)?;
             if !files.finish(file, sink) {
                 return Err(Fault::File(file));
             }
-            end_of(outcome)
+            end_of(outcome, port.found())
         }
     }
 }
@@ -149,10 +156,10 @@ fn drive_traced<'a, S: Store, R: Read, W: Write, O: Write>(
         names,
     } = named;
     match names.trace {
-        None => Ok(drive_given(alloc, given, port, out, &mut io::sink())?),
+        None => Ok(drive_given(alloc, given, names.plain, port, out, &mut io::sink())?),
         Some(file) => {
             let mut sink = files.create(file).ok_or(Fault::File(file))?;
-            let outcome = drive_given(alloc, given, port, out, &mut sink)?;
+            let outcome = drive_given(alloc, given, names.plain, port, out, &mut sink)?;
             if !files.finish(file, sink) {
                 return Err(Fault::File(file));
             }
@@ -173,6 +180,7 @@ fn drive_traced<'a, S: Store, R: Read, W: Write, O: Write>(
 fn drive_given<R: Read, W: Write, O: Write, T: Write>(
     alloc: Global,
     given: &Given,
+    plain: bool,
     port: &mut LinePort<R, W>,
     out: &mut O,
     trace: &mut T,
@@ -189,10 +197,31 @@ fn drive_given<R: Read, W: Write, O: Write, T: Write>(
     let (input, _) = given.input.as_slice().as_chunks::<512>();
     // The certificate bounds what cards make a script send. Answers that no card gives may lead to more.
     let before = port.limit_commands(Some(accepted.bound()));
-    let end = run(alloc, &accepted, port, input, out, trace);
+    let end = run_announced(alloc, accepted.graph(), plain, port, input, out, trace);
     let _ = port.limit_commands(before);
+    trace_unheard(port.unheard(), trace);
     tell_if_ended(port, &end);
     Ok(outcome_of(port.fault(), end))
+}
+
+/// Writes the line of a command that was sent and not answered, as of one whose response is lost. The trace has none of it
+/// yet.
+fn trace_unheard<T: Write>(unheard: Option<(Command, Expect)>, trace: &mut T)
+    ensures { TracesUnheard unheard (T.contents trace.old) (T.contents trace.new) }
+{
+    if let Some((command, expect)) = unheard {
+        let _ = write_command(trace, command, &lost(expect));
+    }
+}
+
+/// What comes of a command that waits for this, where no response comes.
+fn lost(expect: Expect) -> Answer
+    ensures { result ≡ lost_answer expect }
+{
+    match expect {
+        Expect::Nothing => Answer::Sent,
+        _ => Answer::TimeOut,
+    }
 }
 
 /// Tells the other side of the end that a run came to. The port keeps why it could not.
@@ -217,12 +246,12 @@ fn outcome_of(fault: Option<PortFault>, end: Result<End, RunFault>) -> Outcome
     }
 }
 
-/// What the program answers, by how a run over lines came out.
-fn end_of(outcome: Outcome) -> Result<(), Fault<'static>>
+/// What the program answers, by how a run over lines came out, and what was found in the line that was read last.
+fn end_of(outcome: Outcome, found: Found) -> Result<(), Fault<'static>>
     ensures { AnswersOutcome outcome result }
 {
     match outcome {
-        Outcome::Lost(_) => Err(Fault::File("-")),
+        Outcome::Lost(fault) => Err(Fault::Unanswered(AskFault { fault, found })),
         Outcome::Ended(End::Done) => Ok(()),
         Outcome::Ended(End::Fault(_)) => Err(Fault::Named),
         Outcome::Stopped(fault) => Err(Fault::from(fault)),

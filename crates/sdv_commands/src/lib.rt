@@ -9,7 +9,7 @@
 //!   stopped, and image, output and file of registers have what the run left. Over a file of the machine nothing is
 //!   claimed of its blocks, since anyone may write them.
 //! - `drive` asks the requests of a run of the verified script and nothing else, at most the certified number of
-//!   commands (`specs/Drive.antt`, `specs/Talk.antt`). Where the other side answers as a port that shows a card of the
+//!   commands (`specs/Drive.antt`, `specs/Talk.antt`). A command that was not answered is the last line of its trace. Where the other side answers as a port that shows a card of the
 //!   profile, the run is beside that card, also where it breaks off (`specs/BesideCard.antt`). `card` makes one call
 //!   of the simulator for each request, in order; whatever ends it, the image's file has the card's blocks, or the
 //!   fault names that file.
@@ -23,6 +23,7 @@
 //! - No command opens a file where an output is one of its other files, by what the store says of two names.
 #![tactic(auto)]
 
+mod announcing;
 mod attempt;
 pub mod audit;
 pub mod batch;

@@ -4,12 +4,11 @@ use Rattle.std.specs.Prelude.{IfSome}
 use Rattle.std.proofs.lemmas.List.{take_more_set}
 use Rattle.std.specs.List.{AllByRecursion}
 use Rattle.std.specs.Io.KnownBytes.{Consumes}
-use Rattle.hex.proofs.HexLemmas.{decode_of-ok}
 use Rattle.sdv_card.specs.Card.{Block}
 use Rattle.sdv_trace.specs.Trace.{line_feed}
 use Rattle.sdv_lines.specs.declared.fault.ProtocolFault.{ProtocolFault}
 use Rattle.sdv_lines.specs.declared.fault.ProtocolFault.TheVariants as faults
-use Rattle.sdv_lines.specs.Texts.{IsText, AreDigits, AreBlocks, lines_of}
+use Rattle.sdv_lines.specs.Texts.{IsText, IsLine, AreDigits, AreBlocks, lines_of, trimmed, trims}
 use Rattle.sdv_lines.specs.Reading.{ReadsNoLine, HasNoDigits, ReadsNoDigits, DigitsRead, HasNoBlocks, ReadsNoBlocks, BlocksRead}
 use Rattle.sdv_lines.proofs.LineLaws.{consumes_none, consumes_more}
 use Rattle.sdv_lines.proofs.HeardLaws.{split_one, not_text, no_longer}
@@ -29,20 +28,19 @@ no_digits count None new faults.Line r = tt
 no_digits count (Some xs) new faults.Line (front, back, is, t, long) =
     λ text bytes rest small u a len e.
     let less = no_longer text front rest back t (sym e ∙ is) in
-    let twice = (decode_of-ok text bytes a).2 in
-    absurd (omega (arith, less, twice, len, small, long))
+    absurd (omega (arith, less, u.1, long))
 no_digits count old new faults.Read r = tt
 no_digits count old new faults.Write r = absurd r
 
 -- the line was another
-pub wrong_digits : (count : ℕ) (old new : Option (List ℕ)) (text : List ℕ) → IsText text → Consumes old new (text ++ line_feed)
-    → ((bytes : List ℕ) → AreDigits text bytes → length bytes ≡ count → ⊥) → IfSome old (HasNoDigits count)
+pub wrong_digits : (count : ℕ) (old new : Option (List ℕ)) (text : List ℕ) → IsLine text → Consumes old new (text ++ line_feed)
+    → ((bytes : List ℕ) → AreDigits (trimmed text) bytes → length bytes ≡ count → ⊥) → IfSome old (HasNoDigits count)
 wrong_digits count None new text t c n = tt
 wrong_digits count (Some xs) None text t c n = absurd c
 wrong_digits count (Some xs) (Some ys) text t c n =
     λ other bytes rest small u a len e.
-    let same = split_one other text rest ys u t (sym e ∙ behind_line text ys xs c) in
-    n bytes (subst (λ (l : List ℕ). AreDigits l bytes) same.0 a) len
+    let same = split_one other text rest ys u.0 t.0 (sym e ∙ behind_line text ys xs c) in
+    n bytes (subst (λ (l : List ℕ). AreDigits (trimmed l) bytes) same.0 a) len
 
 -- LINES ONE AFTER ANOTHER
 
@@ -51,12 +49,12 @@ lines_more [] text = refl
 lines_more (first ∷ texts) text =
     ap (λ l. first ++ (10 ∷ l)) (lines_more texts text) ∙ sym (append_assoc first (10 ∷ lines_of texts) (text ++ line_feed))
 
-texts_more : (texts : List (List ℕ)) (text : List ℕ) → AllByRecursion IsText texts → IsText text → AllByRecursion IsText (texts ++ text ∷ [])
+texts_more : (texts : List (List ℕ)) (text : List ℕ) → AllByRecursion IsLine texts → IsLine text → AllByRecursion IsLine (texts ++ text ∷ [])
 texts_more [] text a t = (t, tt)
 texts_more (first ∷ texts) text a t = (a.0, texts_more texts text a.1 t)
 
-are_more : (texts : List (List ℕ)) (blocks : List Block) (text : List ℕ) (block : Block) → AreBlocks texts blocks → AreDigits text block
-    → length block ≡ 512 → AreBlocks (texts ++ text ∷ []) (blocks ++ block ∷ [])
+are_more : (texts : List (List ℕ)) (blocks : List Block) (text : List ℕ) (block : Block) → AreBlocks (trims texts) blocks
+    → AreDigits (trimmed text) block → length block ≡ 512 → AreBlocks (trims (texts ++ text ∷ [])) (blocks ++ block ∷ [])
 are_more [] [] text block a d n = (d, n, tt)
 are_more [] (other ∷ blocks) text block a d n = absurd a
 are_more (first ∷ texts) [] text block a d n = absurd a
@@ -81,8 +79,8 @@ one_read old mid new blocks i block lt r (d, n) =
 
 -- THE NEXT LINE WAS NO BLOCK
 
-next_of : (texts others : List (List ℕ)) (done blocks : List Block) (ys rest : List ℕ) → AllByRecursion IsText texts → AreBlocks texts done
-    → AllByRecursion IsText others → AreBlocks others blocks → length done < length blocks → lines_of texts ++ ys ≡ lines_of others ++ rest
+next_of : (texts others : List (List ℕ)) (done blocks : List Block) (ys rest : List ℕ) → AllByRecursion IsLine texts → AreBlocks (trims texts) done
+    → AllByRecursion IsLine others → AreBlocks (trims others) blocks → length done < length blocks → lines_of texts ++ ys ≡ lines_of others ++ rest
     → HasNoDigits 512 ys → ⊥
 next_of [] [] [] [] ys rest p a q b lt e n = absurd (omega (arith, lt))
 next_of [] [] [] (block ∷ blocks) ys rest p a q b lt e n = b
@@ -95,7 +93,7 @@ next_of (text ∷ texts) [] (block ∷ done) [] ys rest p a q b lt e n = absurd 
 next_of (text ∷ texts) [] (block ∷ done) (first ∷ blocks) ys rest p a q b lt e n = b
 next_of (text ∷ texts) (other ∷ others) (block ∷ done) [] ys rest p a q b lt e n = b
 next_of (text ∷ texts) (other ∷ others) (block ∷ done) (first ∷ blocks) ys rest p a q b lt e n =
-    let same = split_one text other (lines_of texts ++ ys) (lines_of others ++ rest) p.0 q.0
+    let same = split_one text other (lines_of texts ++ ys) (lines_of others ++ rest) p.0.0 q.0.0
     (sym (append_assoc text (10 ∷ lines_of texts) ys) ∙ e ∙ append_assoc other (10 ∷ lines_of others) rest) in
     let less : length done < length blocks = omega (arith, lt) in
     next_of texts others done blocks ys rest p.1 a.2 q.1 b.2 less same.1 n

@@ -23,7 +23,7 @@ use Rattle.sdv_lines.specs.declared.words.TheConstants as words
 use Rattle.sdv_lines.specs.declared.fault.ProtocolFault.{ProtocolFault}
 use Rattle.sdv_lines.specs.declared.fault.ProtocolFault.TheVariants as faults
 use Rattle.sdv_trace.specs.Trace.{line_feed}
-use Rattle.sdv_lines.specs.Texts.{IsText, lines_of}
+use Rattle.sdv_lines.specs.Texts.{IsText, IsLine, lines_of, trimmed, trims}
 use Rattle.sdv_lines.specs.Answers.{IsReplyOf, IsWordOf, SaysLost, TellsReply, TellsAnswer, data_end_text, wait_end_text, IsAnswer}
 use Rattle.sdv_lines.specs.Reading.{BeginsLong, ReadsNoLine}
 use Rattle.sdv_lines.specs.Streams.{Heard, HasNoAnswer, Unheard}
@@ -54,60 +54,6 @@ no_longer (x ∷ t) (y ∷ front) rest back p e =
     let less = no_longer t front rest back p.1 tails in
     omega (arith, less)
 
--- THE FIRST LINE OF AN ANSWER HAS 1,024 BYTES AT MOST
-
-word_short : (format text : List ℕ) (word : ℕ) → length format ≡ 3 → IsWordOf format word text → length text ≤ LONGEST
-word_short format text word n w =
-    let digits = (decode_of-ok w.reply.digits (to_be_bytes w32 word) w.reply.are).2 in
-    let four : length (to_be_bytes w32 word) ≡ 4 = refl in
-    omega (arith, ap length w.reply.split, length-append format w.reply.digits, digits, four, n)
-
-register_short : (format text bytes : List ℕ) → length format ≡ 3 → length bytes ≡ 15 → IsReplyOf format bytes text → length text ≤ LONGEST
-register_short format text bytes n fifteen r =
-    let digits = (decode_of-ok r.digits bytes r.are).2 in
-    omega (arith, ap length r.split, length-append format r.digits, digits, fifteen, n)
-
-reply_short : (expect : Expect) (reply : Reply) (text : List ℕ) → TellsReply expect reply text → length text ≤ LONGEST
-reply_short (expects.R1 wanted) (R1 index status) text t = word_short words.R1_CAME.now text status refl t.1
-reply_short expects.R2 (R2 register) text t = register_short words.R2_CAME.now text register refl t.0 t.1
-reply_short expects.R3 (R3 ocr) text t = word_short words.R3_CAME.now text ocr refl t
-reply_short expects.R6 (R6 word) text t = word_short words.R6_CAME.now text word refl t
-reply_short expects.R7 (R7 word) text t = word_short words.R7_CAME.now text word refl t
-reply_short expect reply text t = absurd t
-
-short_word : (word text : List ℕ) → length word ≤ LONGEST → text ≡ word → length text ≤ LONGEST
-short_word word text n e = omega (arith, n, ap length e)
-
-lost_short : (text : List ℕ) → SaysLost text → length text ≤ LONGEST
-lost_short text (inl t) = short_word words.TIMEOUT.now text (omega arith) t
-lost_short text (inr t) = short_word words.DAMAGED.now text (omega arith) t
-
-answer_short : (expect : Expect) (answer : Answer) (text : List ℕ) → TellsAnswer expect answer text → length text ≤ LONGEST
-answer_short expects.Nothing answers.Sent text t = short_word words.NOTHING.now text (omega arith) t
-answer_short (expects.R1 i) answers.TimeOut text t = lost_short text t
-answer_short expects.R2 answers.TimeOut text t = lost_short text t
-answer_short expects.R3 answers.TimeOut text t = lost_short text t
-answer_short expects.R6 answers.TimeOut text t = lost_short text t
-answer_short expects.R7 answers.TimeOut text t = lost_short text t
-answer_short (expects.R1 i) (answers.Reply reply) text t = reply_short (expects.R1 i) reply text t
-answer_short expects.R2 (answers.Reply reply) text t = reply_short expects.R2 reply text t
-answer_short expects.R3 (answers.Reply reply) text t = reply_short expects.R3 reply text t
-answer_short expects.R6 (answers.Reply reply) text t = reply_short expects.R6 reply text t
-answer_short expects.R7 (answers.Reply reply) text t = reply_short expects.R7 reply text t
-answer_short expect answer text t = absurd t
-
-first_short : (call : Call) (text : List ℕ) (texts : List (List ℕ)) (returned : Return) → IsAnswer call (text ∷ texts) returned → length text ≤ LONGEST
-first_short (Exchange command expect) text [] (Answered answer) a = answer_short expect answer text a
-first_short (DataIn lines count) text texts (BlocksIn ends.Ok blocks) a = short_word words.OK.now text (omega arith) a.0
-first_short (DataIn lines count) text [] (BlocksIn ends.Cut blocks) a = short_word words.CUT.now text (omega arith) a.0
-first_short (DataInRegister lines count) text (digits ∷ []) (RegisterIn ends.Ok bytes) a = short_word words.OK.now text (omega arith) a.0
-first_short (DataInRegister lines count) text [] (RegisterIn ends.Cut bytes) a = short_word words.CUT.now text (omega arith) a.0
-first_short (DataOut lines blocks) text [] (BlocksOut ends.Ok) a = short_word words.OK.now text (omega arith) a
-first_short (DataOut lines blocks) text [] (BlocksOut ends.Cut) a = short_word words.CUT.now text (omega arith) a
-first_short WaitWhileBusy text [] (Waited waits.Ok) a = short_word words.OK.now text (omega arith) a
-first_short WaitWhileBusy text [] (Waited waits.Late) a = short_word words.LATE.now text (omega arith) a
-first_short call text texts returned a = absurd a
-
 -- no answer has no line
 pub nonempty : (call : Call) (returned : Return) → IsAnswer call [] returned → ⊥
 nonempty (Exchange command expect) returned a = a
@@ -132,23 +78,23 @@ unended call bytes t (text ∷ texts) rest returned a e =
 overlong : (call : Call) (bytes : List ℕ) → BeginsLong bytes → HasNoAnswer call bytes
 overlong call bytes b [] rest returned a e = nonempty call returned a.says
 overlong call bytes (front, back, is, t, long) (text ∷ texts) rest returned a e =
-    let short = first_short call text texts returned a.says in
+    let short = a.lines.0.1 in
     let less = no_longer text front (lines_of texts ++ rest) back t (sym (first_line text texts rest bytes e) ∙ is) in
     absurd (omega (arith, short, less, long))
 
 -- bytes whose first line is that of no answer
-pub wrong_line : (call : Call) (text rest bytes : List ℕ) → IsText text → bytes ≡ text ++ 10 ∷ rest
-    → ((texts : List (List ℕ)) (returned : Return) → IsAnswer call (text ∷ texts) returned → ⊥) → HasNoAnswer call bytes
+pub wrong_line : (call : Call) (text rest bytes : List ℕ) → IsLine text → bytes ≡ text ++ 10 ∷ rest
+    → ((texts : List (List ℕ)) (returned : Return) → IsAnswer call (trimmed text ∷ texts) returned → ⊥) → HasNoAnswer call bytes
 wrong_line call text rest bytes t is other [] back returned a e = nonempty call returned a.says
 wrong_line call text rest bytes t is other (first ∷ texts) back returned a e =
-    let same = split_one first text (lines_of texts ++ back) rest a.lines.0 t (sym (first_line first texts back bytes e) ∙ is) in
-    other texts returned (subst (λ (l : List ℕ). IsAnswer call (l ∷ texts) returned) same.0 a.says)
+    let same = split_one first text (lines_of texts ++ back) rest a.lines.0.0 t.0 (sym (first_line first texts back bytes e) ∙ is) in
+    other (trims texts) returned (subst (λ (l : List ℕ). IsAnswer call (trimmed l ∷ trims texts) returned) same.0 a.says)
 
 -- ANSWERS
 
 -- an answer of one line
-pub heard_one : (call : Call) (returned : Return) (old new : Option (List ℕ)) (text : List ℕ) → IsText text → Consumes old new (text ++ line_feed)
-    → IsAnswer call (text ∷ []) returned → Heard call returned old new
+pub heard_one : (call : Call) (returned : Return) (old new : Option (List ℕ)) (text : List ℕ) → IsLine text → Consumes old new (text ++ line_feed)
+    → IsAnswer call (trimmed text ∷ []) returned → Heard call returned old new
 heard_one call returned old new text t c a = record { texts = text ∷ []; answers = record { lines = (t, tt); says = a }; read = c }
 
 -- no line was read
@@ -161,8 +107,8 @@ unread call old new faults.Read r = tt
 unread call old new faults.Write r = absurd r
 
 -- a line that is that of no answer
-pub refused : (call : Call) (old new : Option (List ℕ)) (text : List ℕ) → IsText text → Consumes old new (text ++ line_feed)
-    → ((texts : List (List ℕ)) (returned : Return) → IsAnswer call (text ∷ texts) returned → ⊥) → IfSome old (HasNoAnswer call)
+pub refused : (call : Call) (old new : Option (List ℕ)) (text : List ℕ) → IsLine text → Consumes old new (text ++ line_feed)
+    → ((texts : List (List ℕ)) (returned : Return) → IsAnswer call (trimmed text ∷ texts) returned → ⊥) → IfSome old (HasNoAnswer call)
 refused call None new text t c other = tt
 refused call (Some xs) None text t c other = absurd c
 refused call (Some xs) (Some ys) text t c other = wrong_line call text ys xs t (c ∙ append_assoc text (10 ∷ []) ys) other

@@ -1,12 +1,14 @@
 -- Texts without a line feed, and lines at the front of what a reader has left.
-use Rattle.std.proofs.Common.{◌≡◌, ℕ, ◌<◌, List, [], ◌∷◌, ◌++◌, length, Option, Some, None, Err, refl, sym, ap, ◌∙◌, subst, append_assoc, arith, length-append}
+use Rattle.std.proofs.Common.{◌≡◌, ℕ, ◌<◌, ◌≤◌, ◌-◌, List, [], ◌∷◌, ◌++◌, length, Option, Some, None, Err, refl, sym, ap, ◌∙◌, subst, append_assoc, arith, length-append, length-take-le}
+use Rattle.std.specs.Char.{is_ascii_whitespace}
+use Rattle.std.specs.List.{suffix_len}
 use Rattle.std.proofs.lemmas.List.{append-nil}
 use Rattle.std.specs.Prelude.{IfSome}
 use Rattle.std.specs.Io.KnownBytes.{Consumes, IsAtEnd}
 use Rattle.sdv_lines.specs.declared.line.TheConstants.{LONGEST}
 use Rattle.sdv_lines.specs.declared.fault.ProtocolFault.{ProtocolFault}
 use Rattle.sdv_lines.specs.declared.fault.ProtocolFault.TheVariants as faults
-use Rattle.sdv_lines.specs.Texts.{IsText}
+use Rattle.sdv_lines.specs.Texts.{IsText, trimmed}
 use Rattle.sdv_lines.specs.Reading.{ReadsByte, BeginsLong, ReadsNone}
 
 -- WHAT A READER LOSES
@@ -22,6 +24,12 @@ consumes_more (Some xs) (Some ys) None a b p q = absurd q
 consumes_more (Some xs) (Some ys) (Some zs) a b p q = p ∙ ap (λ l. a ++ l) q ∙ sym (append_assoc a b zs)
 
 -- TEXTS
+
+pub trimmed_fits : (text : List ℕ) → length (trimmed text) ≤ length text
+trimmed_fits text =
+    let front : length text - suffix_len is_ascii_whitespace text ≤ length text = omega arith in
+    let all = length-take-le (length text - suffix_len is_ascii_whitespace text) text front in
+    omega (arith, front, all)
 
 pub text_more : (text : List ℕ) (byte : ℕ) → IsText text → (byte ≡ 10 → ⊥) → IsText (text ++ byte ∷ [])
 text_more [] byte t n = (n, tt)

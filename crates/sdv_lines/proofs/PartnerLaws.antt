@@ -25,7 +25,7 @@ use Rattle.sdv_card.specs.CommandTable.{expect_of}
 use Rattle.sdv_card.specs.Modes.{line_count}
 use Rattle.sdv_card.specs.Step.{Step}
 use Rattle.sdv_lines.specs.declared.words.TheConstants as words
-use Rattle.sdv_lines.specs.Texts.{AreDigits, AreBlocks}
+use Rattle.sdv_lines.specs.Texts.{AreDigits, AreBlocks, trims}
 use Rattle.sdv_lines.specs.Answers.{IsReplyOf, IsWordOf, SaysLost, TellsReply, TellsAnswer, data_end_text, wait_end_text, IsAnswer}
 use Rattle.sdv_lines.specs.Partner.{BothSteps, other_card, ShowsOtherCard}
 
@@ -208,7 +208,7 @@ module _ {S : Type 0} (steps : S → Call → Return → S → Type 0) (card : S
       let kept : KeptOverNoise card event c made.gave b'.other = keeps b.other b'.other k event c h made.gave seen fine made.step in
       record {
         after = kept.after;
-        step = same_step k event made.texts returned (counts_as made.gave) c kept.after made.heard.says made.told kept.step;
+        step = same_step k event (trims made.texts) returned (counts_as made.gave) c kept.after made.heard.says made.told kept.step;
         shown = record { shown = kept.shown.shown; shows = kept.shown.shows; same = kept.shown.same; count = kept.shown.count };
       }
 
@@ -216,6 +216,8 @@ module _ {S : Type 0} (steps : S → Call → Return → S → Type 0) (card : S
   shows_other = (
     both_keep,
     λ call returned b b' made. record {
+      due = made.due;
+      announced = made.announced;
       written = made.written;
       heard = record { texts = made.texts; answers = made.heard; read = made.read };
       spent = made.spent;

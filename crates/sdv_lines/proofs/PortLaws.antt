@@ -5,7 +5,9 @@ use Rattle.sdv_card.specs.Port.{Call}
 use Rattle.sdv_card.specs.ScriptEvent.{Return}
 use Rattle.sdv_lines.specs.declared.fault.ProtocolFault.{ProtocolFault}
 use Rattle.sdv_lines.specs.declared.fault.PortFault.TheVariants.{Lines}
-use Rattle.sdv_lines.specs.Streams.{Asked, Asks, Failed, GaveUp, IsSilent, LineSteps, Spends, Streams, TakesCommand, commands_of, limited}
+use Rattle.sdv_lines.specs.declared.due.Due.{Due}
+use Rattle.sdv_lines.specs.Due.{Announces}
+use Rattle.sdv_lines.specs.Streams.{Asked, Asks, Failed, GaveUp, IsSilent, LineSteps, Spends, Streams, TakesCommand, command_in, commands_of, limited}
 
 -- no command
 pub spends_none : (left : Option ℕ) → Spends 0 left left
@@ -14,33 +16,33 @@ spends_none (Some n) =
     let all : n ≡ 0 + n = omega arith in
     (n, refl, all)
 
-failed_by : {A : Type 0} (call : Call) (returns : A → Return) (s s' : Streams) (result : Result A ProtocolFault) (why : ProtocolFault) → result ≡ Err why
-    → Asks call returns s.answers s'.answers s.requests s'.requests result → Failed why call s.answers s'.answers s.requests s'.requests
-failed_by call returns s s' (Ok x) why is asks = absurd (cc is)
-failed_by call returns s s' (Err fault) why is asks =
+failed_by : {A : Type 0} (due : Option Due) (call : Call) (returns : A → Return) (s s' : Streams) (result : Result A ProtocolFault) (why : ProtocolFault) → result ≡ Err why
+    → Asks due call returns s.answers s'.answers s.requests s'.requests result → Failed why due call s.answers s'.answers s.requests s'.requests
+failed_by due call returns s s' (Ok x) why is asks = absurd (cc is)
+failed_by due call returns s s' (Err fault) why is asks =
     let same : fault ≡ why = cc in
-    subst (λ f. Failed f call s.answers s'.answers s.requests s'.requests) same asks
+    subst (λ f. Failed f due call s.answers s'.answers s.requests s'.requests) same asks
 
 -- its streams failed
-pub gave_up : {A : Type 0} (call : Call) (returns : A → Return) (returned : Return) (s s' : Streams) (result : Result A ProtocolFault) (why : ProtocolFault)
-    → s.fault ≡ None → Asks call returns s.answers s'.answers s.requests s'.requests result → result ≡ Err why → Spends (commands_of call) s.left s'.left
-    → s'.fault ≡ Some (Lines why) → IsSilent call returned → LineSteps s call returned s'
-gave_up call returns returned s s' result why well asks is spent kept silent =
+pub gave_up : {A : Type 0} (due : Option Due) (call : Call) (returns : A → Return) (returned : Return) (s s' : Streams) (result : Result A ProtocolFault) (why : ProtocolFault)
+    → Announces call due → s.fault ≡ None → Asks due call returns s.answers s'.answers s.requests s'.requests result → result ≡ Err why → Spends (commands_of call) s.left s'.left
+    → s'.fault ≡ Some (Lines why) → s'.unheard ≡ command_in call → IsSilent call returned → LineSteps s call returned s'
+gave_up due call returns returned s s' result why announced well asks is spent kept unheard silent =
     let gave : GaveUp call returned s s' = record {
       why = Lines why;
-      unanswered = (failed_by call returns s s' result why is asks, spent, kept);
+      unanswered = ((due, announced, failed_by due call returns s s' result why is asks), spent, kept, unheard);
       silent = silent;
     } in
     subst (λ o. MatchOption o (Asked call returned s s' ⊎ GaveUp call returned s s') (λ _. (s' ≡ s) × IsSilent call returned)) (sym well) (inr gave)
 
 -- the same of a command, which was taken first
-pub command_gave_up : {A : Type 0} (call : Call) (returns : A → Return) (returned : Return) (s t s' : Streams) (result : Result A ProtocolFault)
-    (why : ProtocolFault) (taken : Bool) → s.fault ≡ None → taken ≡ true → TakesCommand taken s t → commands_of call ≡ 1
-    → Asks call returns t.answers s'.answers t.requests s'.requests result → result ≡ Err why → s'.left ≡ t.left → s'.fault ≡ Some (Lines why)
-    → IsSilent call returned → LineSteps s call returned s'
-command_gave_up call returns returned s t s' result why taken well is_taken takes one asks is left kept silent =
+pub command_gave_up : {A : Type 0} (due : Option Due) (call : Call) (returns : A → Return) (returned : Return) (s t s' : Streams) (result : Result A ProtocolFault)
+    (why : ProtocolFault) (taken : Bool) → Announces call due → s.fault ≡ None → taken ≡ true → TakesCommand taken s t → commands_of call ≡ 1
+    → Asks due call returns t.answers s'.answers t.requests s'.requests result → result ≡ Err why → s'.left ≡ t.left → s'.fault ≡ Some (Lines why)
+    → s'.unheard ≡ command_in call → IsSilent call returned → LineSteps s call returned s'
+command_gave_up due call returns returned s t s' result why taken announced well is_taken takes one asks is left kept unheard silent =
     let took : Spends 1 s.left t.left × (t ≡ limited t.left s) = subst (λ b. TakesCommand b s t) is_taken takes in
-    let asked : Asks call returns s.answers s'.answers s.requests s'.requests result =
-    subst (λ u. Asks call returns u.answers s'.answers u.requests s'.requests result) took.1 asks in
+    let asked : Asks due call returns s.answers s'.answers s.requests s'.requests result =
+    subst (λ u. Asks due call returns u.answers s'.answers u.requests s'.requests result) took.1 asks in
     let spent : Spends (commands_of call) s.left s'.left = subst (λ n. Spends n s.left s'.left) (sym one) (subst (λ l. Spends 1 s.left l) (sym left) took.0) in
-    gave_up call returns returned s s' result why well asked is spent kept silent
+    gave_up due call returns returned s s' result why announced well asked is spent kept unheard silent

@@ -10,7 +10,7 @@ use Rattle.sdv_lines.specs.declared.fault.ProtocolFault.{ProtocolFault}
 use Rattle.sdv_lines.specs.declared.fault.ProtocolFault.TheVariants as faults
 use Rattle.sdv_lines.specs.declared.hearing.Request.{Request}
 use Rattle.sdv_lines.specs.declared.hearing.Request.TheVariants as requests
-use Rattle.sdv_lines.specs.Texts.{IsText, AreBlocks, lines_of}
+use Rattle.sdv_lines.specs.Texts.{IsLine, AreBlocks, lines_of, trimmed, trims}
 use Rattle.sdv_lines.specs.Reading.{ReadsNoLine, HasNoBlocks, ReadsNoBlocks, BlocksRead}
 use Rattle.sdv_lines.specs.Hearing.{read_request}
 use Rattle.sdv_lines.specs.Serving.{answer_of, IsRequest, Turn, Made, Served, Does, NoRequest, Unended, Overlong, Unknown, TooMany, NoBlocks, NotHeard, Stops, lines_in, Serves, ServedAll, lines_read}
@@ -28,27 +28,27 @@ not_heard room (Some xs) a' faults.Line r = Overlong r
 not_heard room a a' faults.Read r = tt
 not_heard room a a' faults.Write r = absurd r
 
-pub unknown : (room : ℕ) (a a' : Option (List ℕ)) (text : List ℕ) → IsText text → Consumes a a' (text ++ line_feed) → read_request text ≡ None
+pub unknown : (room : ℕ) (a a' : Option (List ℕ)) (text : List ℕ) → IsLine text → Consumes a a' (text ++ line_feed) → read_request (trimmed text) ≡ None
     → IfSome a (NoRequest room)
 unknown room None a' text t c n = tt
 unknown room (Some xs) None text t c n = absurd c
 unknown room (Some xs) (Some ys) text t c n = Unknown text ys t (behind_line text ys xs c) n
 
-pub too_many : (room count lines : ℕ) (a a' : Option (List ℕ)) (text : List ℕ) → IsText text → Consumes a a' (text ++ line_feed)
-    → (read_request text ≡ Some (requests.DataIn count lines)) ⊎ (read_request text ≡ Some (requests.DataOut count lines))
+pub too_many : (room count lines : ℕ) (a a' : Option (List ℕ)) (text : List ℕ) → IsLine text → Consumes a a' (text ++ line_feed)
+    → (read_request (trimmed text) ≡ Some (requests.DataIn count lines)) ⊎ (read_request (trimmed text) ≡ Some (requests.DataOut count lines))
     → room < count → IfSome a (NoRequest room)
 too_many room count lines None a' text t c said more = tt
 too_many room count lines (Some xs) None text t c said more = absurd c
 too_many room count lines (Some xs) (Some ys) text t c said more = TooMany text ys count lines t (behind_line text ys xs c) said more
 
-no_blocks : (room count lines : ℕ) (a mid : Option (List ℕ)) (text : List ℕ) → IsText text → Consumes a mid (text ++ line_feed)
-    → read_request text ≡ Some (requests.DataOut count lines) → IfSome mid (HasNoBlocks count) → IfSome a (NoRequest room)
+no_blocks : (room count lines : ℕ) (a mid : Option (List ℕ)) (text : List ℕ) → IsLine text → Consumes a mid (text ++ line_feed)
+    → read_request (trimmed text) ≡ Some (requests.DataOut count lines) → IfSome mid (HasNoBlocks count) → IfSome a (NoRequest room)
 no_blocks room count lines None mid text t c said n = tt
 no_blocks room count lines (Some xs) None text t c said n = absurd c
 no_blocks room count lines (Some xs) (Some ys) text t c said n = NoBlocks text ys count lines t (behind_line text ys xs c) said n
 
-not_blocks : (room count lines : ℕ) (a mid a' : Option (List ℕ)) (text : List ℕ) (fault : ProtocolFault) → IsText text
-    → Consumes a mid (text ++ line_feed) → read_request text ≡ Some (requests.DataOut count lines) → ReadsNoBlocks fault count mid a'
+not_blocks : (room count lines : ℕ) (a mid a' : Option (List ℕ)) (text : List ℕ) (fault : ProtocolFault) → IsLine text
+    → Consumes a mid (text ++ line_feed) → read_request (trimmed text) ≡ Some (requests.DataOut count lines) → ReadsNoBlocks fault count mid a'
     → NotHeard fault room a a'
 not_blocks room count lines a mid a' text faults.Closed t c said n = (no_blocks room count lines a mid text t c said n.0, n.1)
 not_blocks room count lines a mid a' text faults.Line t c said n = no_blocks room count lines a mid text t c said n
@@ -57,7 +57,7 @@ not_blocks room count lines a mid a' text faults.Write t c said n = absurd n
 
 -- ONE REQUEST
 
-same_length : (texts : List (List ℕ)) (blocks : List Block) → AreBlocks texts blocks → length texts ≡ length blocks
+same_length : (texts : List (List ℕ)) (blocks : List Block) → AreBlocks (trims texts) blocks → length texts ≡ length blocks
 same_length [] [] a = refl
 same_length [] (block ∷ blocks) a = absurd a
 same_length (text ∷ texts) [] a = absurd a
@@ -77,15 +77,15 @@ module _ {S : Type 0} (steps : S → Call → Return → S → Type 0) where
   turn_done room lines turn p p' a a' r r' (Err fault) n made (is, front) =
       subst (λ f. Stops steps f room p p' a a' r r') (sym is) (record { turn = turn; made = made; front = front })
 
-  pub one_line : (room : ℕ) (call : Call) (text : List ℕ) (p p' : S) (a a' r r' : Option (List ℕ)) (result : Result (Unit {0}) ProtocolFault) → IsText text
-      → Consumes a a' (text ++ line_feed) → IsRequest call (text ∷ []) → Does steps call p p' r r' result → Serves steps room 1 p p' a a' r r' result
+  pub one_line : (room : ℕ) (call : Call) (text : List ℕ) (p p' : S) (a a' r r' : Option (List ℕ)) (result : Result (Unit {0}) ProtocolFault) → IsLine text
+      → Consumes a a' (text ++ line_feed) → IsRequest call (trimmed text ∷ []) → Does steps call p p' r r' result → Serves steps room 1 p p' a a' r r' result
   one_line room call text p p' a a' r r' result t c asks (returned, step, sent) =
       turn_done room 1 (record { texts = text ∷ []; call = call; returned = returned }) p p' a a' r r' result refl
       (record { lines = (t, tt); asks = asks; read = c; step = step }) sent
 
   pub out_lines : (room lines : ℕ) (blocks : List Block) (text : List ℕ) (p p' : S) (a mid a' r r' : Option (List ℕ))
-      (result : Result (Unit {0}) ProtocolFault) → IsText text → Consumes a mid (text ++ line_feed)
-      → read_request text ≡ Some (requests.DataOut (length blocks) lines) → BlocksRead mid a' blocks → Does steps (DataOut lines blocks) p p' r r' result
+      (result : Result (Unit {0}) ProtocolFault) → IsLine text → Consumes a mid (text ++ line_feed)
+      → read_request (trimmed text) ≡ Some (requests.DataOut (length blocks) lines) → BlocksRead mid a' blocks → Does steps (DataOut lines blocks) p p' r r' result
       → Serves steps room (1 + length blocks) p p' a a' r r' result
   out_lines room lines blocks text p p' a mid a' r r' result t c said b (returned, step, sent) =
       let same = same_length b.texts blocks b.are in
@@ -99,8 +99,8 @@ module _ {S : Type 0} (steps : S → Call → Return → S → Type 0) where
         step = step;
       }) sent
 
-  pub blocks_stop : (room count lines : ℕ) (text : List ℕ) (p : S) (a mid a' r : Option (List ℕ)) (fault : ProtocolFault) → IsText text
-      → Consumes a mid (text ++ line_feed) → read_request text ≡ Some (requests.DataOut count lines) → ReadsNoBlocks fault count mid a'
+  pub blocks_stop : (room count lines : ℕ) (text : List ℕ) (p : S) (a mid a' r : Option (List ℕ)) (fault : ProtocolFault) → IsLine text
+      → Consumes a mid (text ++ line_feed) → read_request (trimmed text) ≡ Some (requests.DataOut count lines) → ReadsNoBlocks fault count mid a'
       → Stops steps fault room p p a a' r r
   blocks_stop room count lines text p a mid a' r fault t c said n =
       stops room p a a' r fault (not_blocks room count lines a mid a' text fault t c said n)

@@ -15,7 +15,7 @@ use Rattle.sdv_card.specs.declared.answer.WaitEnd.TheVariants as waits
 use Rattle.sdv_card.specs.Port.{Call, Exchange, DataIn, DataInRegister, DataOut, WaitWhileBusy}
 use Rattle.sdv_card.specs.ScriptEvent.{Return, Answered, BlocksIn, RegisterIn, BlocksOut, Waited}
 use Rattle.sdv_lines.specs.declared.words.TheConstants as words
-use Rattle.sdv_lines.specs.Texts.{AreDigits, AreBlocks, IsText}
+use Rattle.sdv_lines.specs.Texts.{AreDigits, AreBlocks, IsLine, trims}
 
 -- a text is the name of a format, and then the digits of these bytes
 pub record IsReplyOf (format bytes text : List ℕ) : Type 0 where
@@ -72,7 +72,7 @@ IsAnswer (DataOut lines blocks) (text ∷ []) (BlocksOut end) = text ≡ data_en
 IsAnswer WaitWhileBusy (text ∷ []) (Waited end) = text ≡ wait_end_text end
 IsAnswer call texts returned = ⊥
 
--- texts are an answer to a call
+-- texts are an answer to a call; blanks at their ends say nothing
 pub record Answers (call : Call) (texts : List (List ℕ)) (returned : Return) : Type 0 where
-  pub lines : AllByRecursion IsText texts
-  pub says : IsAnswer call texts returned
+  pub lines : AllByRecursion IsLine texts
+  pub says : IsAnswer call (trims texts) returned

@@ -1,5 +1,5 @@
 -- What the text of a request's first line says, read from left to right.
-use Rattle.std.specs.Prelude.{◌==◌, ◌&&◌, ◌||◌, ◌<◌, ◌≤◌, is_some, nat_le, nat_lt, ℕ, List, length, take, drop, Bool, Option, Some, None, Result, Ok, Err, if◌then◌else◌}
+use Rattle.std.specs.Prelude.{◌==◌, ◌&&◌, ◌||◌, ◌<◌, ◌≤◌, is_some, nat_le, nat_lt, ℕ, List, length, take, drop, Bool, false, Option, Some, None, Result, Ok, Err, if◌then◌else◌}
 use Rattle.std.specs.Int.{w32, from_be_bytes}
 use Rattle.hex.specs.declared.error.FromHexError.{FromHexError}
 use Rattle.hex.specs.Hex.{decode_sized}
@@ -32,16 +32,43 @@ word_if (Err fault) rest = None
 unfoldable pub read_word : List ℕ → Read ℕ
 read_word bs = if nat_le 8 (length bs) then word_if (decode_sized (take 8 bs) 4) (drop 8 bs) else None
 
--- the response that is waited for, to the command of this index
+-- how many blocks or bytes a phase has, with the words behind that number, and over how many data lines
+abbrev pub phase_if : (count lines : ℕ) → List ℕ → Option (ℕ × ℕ)
+phase_if count lines rest =
+    if ((lines == 1) || (lines == 4) || (lines == 8)) && is_end rest then Some (count, lines) else None
+
+unfoldable pub read_counted : (unit : List ℕ) → List ℕ → Option (ℕ × ℕ)
+read_counted unit bs =
+    read_number bs >>= λ count.
+    after unit count.1 >>= λ rest.
+    read_number rest >>= λ lines.
+    phase_if count.0 lines.0 lines.1
+
+-- the data phase that a command announces, or nothing
+abbrev pub announces_in : Option (List ℕ) → Bool
+announces_in None = false
+announces_in (Some rest) = is_some (read_counted words.LINES.now rest) || is_some (read_counted words.BYTES.now rest)
+
+abbrev pub announces_out : Option (List ℕ) → Bool
+announces_out None = false
+announces_out (Some rest) = is_some (read_counted words.LINES.now rest)
+
+abbrev pub is_announcement : List ℕ → Bool
+is_announcement bs =
+    is_end bs || announces_in (after words.IN_FOLLOWS.now bs) || announces_out (after words.OUT_FOLLOWS.now bs)
+
+-- the response that is waited for, to the command of this index; the phase that follows is announced or not
+abbrev pub expect_if : Expect → List ℕ → Option Expect
+expect_if expect rest = if is_announcement rest then Some expect else None
+
 unfoldable pub read_expect : (index : ℕ) → List ℕ → Option Expect
 read_expect index bs =
-    if is_word words.NOTHING.now bs then Some expects.Nothing
-    else if is_word words.R1.now bs then Some (expects.R1 index)
-    else if is_word words.R2.now bs then Some expects.R2
-    else if is_word words.R3.now bs then Some expects.R3
-    else if is_word words.R6.now bs then Some expects.R6
-    else if is_word words.R7.now bs then Some expects.R7
-    else None
+    or_else (after words.NOTHING.now bs) (expect_if expects.Nothing)
+    (or_else (after words.R1.now bs) (expect_if (expects.R1 index))
+    (or_else (after words.R2.now bs) (expect_if expects.R2)
+    (or_else (after words.R3.now bs) (expect_if expects.R3)
+    (or_else (after words.R6.now bs) (expect_if expects.R6)
+    (or_else (after words.R7.now bs) (expect_if expects.R7) None)))))
 
 -- a command, behind its word
 abbrev pub command_if : (index argument : ℕ) → Option Expect → Option Request
@@ -58,16 +85,8 @@ read_command bs =
     command_if index.0 word.0 (read_expect index.0 expect)
 
 -- how many blocks or bytes a phase has, and over how many data lines, behind its word
-abbrev pub phase_if : (count lines : ℕ) → List ℕ → Option (ℕ × ℕ)
-phase_if count lines rest =
-    if ((lines == 1) || (lines == 4) || (lines == 8)) && is_end rest then Some (count, lines) else None
-
-unfoldable pub read_phase : List ℕ → Option (ℕ × ℕ)
-read_phase bs =
-    read_number bs >>= λ count.
-    after words.LINES.now count.1 >>= λ rest.
-    read_number rest >>= λ lines.
-    phase_if count.0 lines.0 lines.1
+abbrev pub read_phase : List ℕ → Option (ℕ × ℕ)
+read_phase bs = read_counted words.LINES.now bs
 
 abbrev pub blocks_in : List ℕ → Option Request
 blocks_in bs = read_phase bs >>= λ p. Some (requests.DataIn p.0 p.1)

@@ -1,4 +1,5 @@
 pub mod Texts
+pub mod Due
 pub mod Requests
 pub mod Answers
 pub mod Reading

@@ -6,7 +6,9 @@ use Rattle.sdv_card.specs.Card.{Card}
 use Rattle.sdv_card.specs.Damage.{counts_as}
 use Rattle.sdv_card.specs.Port.{Call, KeepsTables}
 use Rattle.sdv_card.specs.ScriptEvent.{Return}
-use Rattle.sdv_lines.specs.Texts.{lines_of}
+use Rattle.sdv_lines.specs.Texts.{lines_of, trims}
+use Rattle.sdv_lines.specs.declared.due.Due.{Due}
+use Rattle.sdv_lines.specs.Due.{Announces}
 use Rattle.sdv_lines.specs.Requests.{request_of}
 use Rattle.sdv_lines.specs.Answers.{IsAnswer, Answers}
 use Rattle.sdv_lines.specs.Streams.{Streams, Asked, Spends, commands_of}
@@ -18,14 +20,16 @@ pub record Both (S : Type 0) : Type 0 where
 
 -- texts tell what a call of the other side gave; a damaged response counts as a lost one
 abbrev pub Tells : Call → List (List ℕ) → Return → Type 0
-Tells call texts gave = IsAnswer call texts (counts_as gave)
+Tells call texts gave = IsAnswer call (trims texts) (counts_as gave)
 
 -- one call of each: the lines that the port read are an answer that tells what the other side's call gave
 pub record BothMade {S : Type 0} (steps : S → Call → Return → S → Type 0) (call : Call) (returned : Return)
     (b b' : Both S) : Type 0 where
   pub texts : List (List ℕ)
   pub gave : Return
-  pub written : Appends b.streams.requests b'.streams.requests (request_of call)
+  pub due : Option Due
+  pub announced : Announces call due
+  pub written : Appends b.streams.requests b'.streams.requests (request_of due call)
   pub read : Consumes b.streams.answers b'.streams.answers (lines_of texts)
   pub heard : Answers call texts returned
   pub told : Tells call texts gave

@@ -7,7 +7,7 @@ use Rattle.sdv_lines.specs.declared.fault.ProtocolFault.TheVariants as faults
 use Rattle.sdv_lines.specs.declared.line.TheConstants.{LONGEST}
 use Rattle.sdv_trace.specs.Trace.{line_feed}
 use Rattle.sdv_card.specs.Card.{Block}
-use Rattle.sdv_lines.specs.Texts.{IsText, AreDigits, AreBlocks, lines_of}
+use Rattle.sdv_lines.specs.Texts.{IsText, IsLine, AreDigits, AreBlocks, lines_of, trimmed, trims}
 
 -- a byte was read, or none is left, or the reader failed
 abbrev pub ReadsByte : Option (List ℕ) → Option (List ℕ) → Result ℕ ProtocolFault → Type 0
@@ -16,7 +16,7 @@ ReadsByte old new (Err faults.Closed) = IsAtEnd old × IsAtEnd new
 ReadsByte old new (Err faults.Read) = Unit {0}
 ReadsByte old new (Err fault) = ⊥
 
--- bytes begin with a text of more than 1,024 bytes
+-- bytes begin with a text that is longer than any line
 abbrev pub BeginsLong : List ℕ → Type 0
 BeginsLong bytes = (front back : List ℕ) × (bytes ≡ front ++ back) × IsText front × (LONGEST < length front)
 
@@ -35,7 +35,7 @@ ReadsNone fault old new text =
 -- a line was read, without its line feed, or none was
 abbrev pub ReadsLine : {A : Type 0} → (old new : Option (List ℕ)) → (text : List ℕ) → Result A ProtocolFault → Type 0
 ReadsLine old new text result =
-    MatchResult result (λ _. IsText text × (length text ≤ LONGEST) × Consumes old new (text ++ line_feed))
+    MatchResult result (λ _. IsLine text × Consumes old new (text ++ line_feed))
     (λ fault. ReadsNone fault old new text)
 
 -- DIGITS: a line of digits of so many bytes, 512 at most
@@ -43,7 +43,7 @@ ReadsLine old new text result =
 -- bytes begin with no such line
 abbrev pub HasNoDigits : ℕ → List ℕ → Type 0
 HasNoDigits count xs =
-    (text bytes rest : List ℕ) → count ≤ 512 → IsText text → AreDigits text bytes → length bytes ≡ count →
+    (text bytes rest : List ℕ) → count ≤ 512 → IsLine text → AreDigits (trimmed text) bytes → length bytes ≡ count →
     xs ≡ text ++ 10 ∷ rest → ⊥
 
 abbrev pub ReadsNoDigits : ProtocolFault → ℕ → Option (List ℕ) → Option (List ℕ) → Type 0
@@ -55,8 +55,8 @@ ReadsNoDigits fault count old new = ⊥
 -- a line of the digits of these bytes
 pub record DigitsRead (old new : Option (List ℕ)) (bytes : List ℕ) : Type 0 where
   pub text : List ℕ
-  pub line : IsText text
-  pub are : AreDigits text bytes
+  pub line : IsLine text
+  pub are : AreDigits (trimmed text) bytes
   pub short : length bytes ≤ 512
   pub read : Consumes old new (text ++ line_feed)
 
@@ -71,7 +71,8 @@ ReadsDigits old new count bytes result =
 -- bytes begin with no such lines
 abbrev pub HasNoBlocks : ℕ → List ℕ → Type 0
 HasNoBlocks count xs =
-    (texts : List (List ℕ)) (blocks : List Block) (rest : List ℕ) → AllByRecursion IsText texts → AreBlocks texts blocks →
+    (texts : List (List ℕ)) (blocks : List Block) (rest : List ℕ) → AllByRecursion IsLine texts →
+    AreBlocks (trims texts) blocks →
     length blocks ≡ count → xs ≡ lines_of texts ++ rest → ⊥
 
 abbrev pub ReadsNoBlocks : ProtocolFault → ℕ → Option (List ℕ) → Option (List ℕ) → Type 0
@@ -83,8 +84,8 @@ ReadsNoBlocks fault count old new = ⊥
 -- lines of the digits of these blocks
 pub record BlocksRead (old new : Option (List ℕ)) (blocks : List Block) : Type 0 where
   pub texts : List (List ℕ)
-  pub lines : AllByRecursion IsText texts
-  pub are : AreBlocks texts blocks
+  pub lines : AllByRecursion IsLine texts
+  pub are : AreBlocks (trims texts) blocks
   pub read : Consumes old new (lines_of texts)
 
 abbrev pub ReadsBlocks : {A : Type 0} → (old new : Option (List ℕ)) → (count : ℕ) → (blocks : List Block) →

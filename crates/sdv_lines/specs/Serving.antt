@@ -13,7 +13,7 @@ use Rattle.sdv_lines.specs.declared.fault.ProtocolFault.TheVariants as faults
 use Rattle.sdv_lines.specs.declared.fault.ServeFault.{ServeFault}
 use Rattle.sdv_lines.specs.declared.hearing.Request.{Request}
 use Rattle.sdv_lines.specs.declared.hearing.Request.TheVariants as requests
-use Rattle.sdv_lines.specs.Texts.{IsText, AreBlocks, lines_of}
+use Rattle.sdv_lines.specs.Texts.{IsText, IsLine, AreBlocks, lines_of, trimmed, trims}
 use Rattle.sdv_lines.specs.Requests.{block_texts}
 use Rattle.sdv_lines.specs.Answers.{data_end_text, wait_end_text}
 use Rattle.sdv_lines.specs.Reading.{BeginsLong, HasNoBlocks}
@@ -56,8 +56,8 @@ pub record Turn : Type 0 where
 -- the request was read, and the call made
 pub record Made {S : Type 0} (steps : S → Call → Return → S → Type 0) (turn : Turn) (p p' : S)
     (a a' : Option (List ℕ)) : Type 0 where
-  pub lines : AllByRecursion IsText turn.texts
-  pub asks : IsRequest turn.call turn.texts
+  pub lines : AllByRecursion IsLine turn.texts
+  pub asks : IsRequest turn.call (trims turn.texts)
   pub read : Consumes a a' (lines_of turn.texts)
   pub step : steps p turn.call turn.returned p'
 
@@ -85,18 +85,19 @@ Does steps call p p' r r' result =
 pub data NoRequest (room : ℕ) (bytes : List ℕ) : Type 0 where
   -- no line
   Unended : IsText bytes → NoRequest room bytes
-  -- a line of more than 1,024 bytes
+  -- a line of more than 1,025 bytes
   Overlong : BeginsLong bytes → NoRequest room bytes
   -- a line that says nothing
-  Unknown : (text rest : List ℕ) → IsText text → bytes ≡ text ++ 10 ∷ rest → read_request text ≡ None →
+  Unknown : (text rest : List ℕ) → IsLine text → bytes ≡ text ++ 10 ∷ rest → read_request (trimmed text) ≡ None →
       NoRequest room bytes
   -- a phase of too many blocks
-  TooMany : (text rest : List ℕ) (count lines : ℕ) → IsText text → bytes ≡ text ++ 10 ∷ rest
-      → (read_request text ≡ Some (requests.DataIn count lines)) ⊎ (read_request text ≡ Some (requests.DataOut count lines))
+  TooMany : (text rest : List ℕ) (count lines : ℕ) → IsLine text → bytes ≡ text ++ 10 ∷ rest
+      → (read_request (trimmed text) ≡ Some (requests.DataIn count lines))
+      ⊎ (read_request (trimmed text) ≡ Some (requests.DataOut count lines))
       → room < count → NoRequest room bytes
   -- blocks that are none
-  NoBlocks : (text rest : List ℕ) (count lines : ℕ) → IsText text → bytes ≡ text ++ 10 ∷ rest
-      → read_request text ≡ Some (requests.DataOut count lines) → HasNoBlocks count rest → NoRequest room bytes
+  NoBlocks : (text rest : List ℕ) (count lines : ℕ) → IsLine text → bytes ≡ text ++ 10 ∷ rest
+      → read_request (trimmed text) ≡ Some (requests.DataOut count lines) → HasNoBlocks count rest → NoRequest room bytes
 
 -- why no request was read
 abbrev pub NotHeard : ProtocolFault → (room : ℕ) → (a a' : Option (List ℕ)) → Type 0
@@ -126,14 +127,15 @@ Serves steps room lines p p' a a' r r' result =
 -- the last line of a host was read, or no byte was left where a request would begin
 abbrev pub Ends : (a a' : Option (List ℕ)) → Type 0
 Ends a a' =
-    ((text : List ℕ) × IsText text × (is_last text ≡ true) × Consumes a a' (text ++ line_feed))
+    ((text : List ℕ) × IsLine text × (is_last (trimmed text) ≡ true) × Consumes a a' (text ++ line_feed))
     ⊎ (IsAtEnd a × IsAtEnd a')
 
 -- the first line of a request was read, or the host ended, or what came is none, whatever room there is
 abbrev pub ReadsRequest : (a a' : Option (List ℕ)) → Result (Option Request) ProtocolFault → Type 0
 ReadsRequest a a' (Ok None) = Ends a a'
 ReadsRequest a a' (Ok (Some request)) =
-    ((text : List ℕ) × IsText text × (read_request text ≡ Some request) × Consumes a a' (text ++ line_feed)) × IsInRange request
+    ((text : List ℕ) × IsLine text × (read_request (trimmed text) ≡ Some request) × Consumes a a' (text ++ line_feed))
+    × IsInRange request
 ReadsRequest a a' (Err fault) = (room : ℕ) → NotHeard fault room a a'
 
 -- ALL REQUESTS, one after another

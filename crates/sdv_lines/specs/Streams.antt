@@ -2,6 +2,8 @@
 -- many commands it still sends.
 use Rattle.std.specs.Prelude.{◌≡◌, ◌⊎◌, Bool, ℕ, List, ◌+◌, ◌++◌, length, Option, Some, None, MatchBool, MatchOption, Result, Err, MatchResult, IfSome}
 use Rattle.std.specs.Io.KnownBytes.{Appends, Consumes, IsAtEnd}
+use Rattle.sdv_frames.specs.declared.command.Command.{Command}
+use Rattle.sdv_frames.specs.declared.reply.Expect.{Expect}
 use Rattle.sdv_frames.specs.declared.fault.FrameFault.TheVariants.{Length}
 use Rattle.sdv_card.specs.declared.answer.Answer.TheVariants.{Damaged}
 use Rattle.sdv_card.specs.declared.answer.DataEnd.TheVariants.{Cut}
@@ -14,6 +16,8 @@ use Rattle.sdv_lines.specs.declared.fault.PortFault.{PortFault}
 use Rattle.sdv_lines.specs.declared.fault.PortFault.TheVariants.{Lines, Commands}
 use Rattle.sdv_lines.specs.declared.port.LinePort.{LinePort}
 use Rattle.sdv_lines.specs.Texts.{lines_of}
+use Rattle.sdv_lines.specs.declared.due.Due.{Due}
+use Rattle.sdv_lines.specs.Due.{Announces}
 use Rattle.sdv_lines.specs.Requests.{request_of}
 use Rattle.sdv_lines.specs.Answers.{Answers}
 
@@ -26,6 +30,8 @@ pub record Streams : Type 0 where
   -- how many commands it still sends, where there is a limit
   pub left : Option ℕ
   pub fault : Option PortFault
+  -- the command that it kept when its streams failed, with the response that it waited for
+  pub unheard : Option (Command × Expect)
 
 -- a new port: it sends any number of commands
 abbrev pub IsNew : (answers requests : Option (List ℕ)) → Streams → Type 0
@@ -41,6 +47,11 @@ limited left s = record s { left = left }
 abbrev pub commands_of : Call → ℕ
 commands_of (Exchange command expect) = 1
 commands_of call = 0
+
+-- the command of a call that is one
+abbrev pub command_in : Call → Option (Command × Expect)
+command_in (Exchange command expect) = Some (command, expect)
+command_in call = None
 
 -- so many commands were taken of those that are left; without a limit any number may be
 abbrev pub Spends : ℕ → (left left' : Option ℕ) → Type 0
@@ -88,15 +99,16 @@ Hears call returns old new result =
 -- A CALL
 
 -- its streams failed: the request was written in part and nothing was read, or it was written and no answer was read
-abbrev pub Failed : ProtocolFault → Call → (a a' r r' : Option (List ℕ)) → Type 0
-Failed faults.Write call a a' r r' = AppendsFront r r' (request_of call) × (a' ≡ a)
-Failed fault call a a' r r' = Appends r r' (request_of call) × Unheard fault call a a'
+abbrev pub Failed : ProtocolFault → Option Due → Call → (a a' r r' : Option (List ℕ)) → Type 0
+Failed faults.Write due call a a' r r' = AppendsFront r r' (request_of due call) × (a' ≡ a)
+Failed fault due call a a' r r' = Appends r r' (request_of due call) × Unheard fault call a a'
 
--- its request was written and its answer read, or its streams failed
-abbrev pub Asks : {A : Type 0} → Call → (A → Return) → (a a' r r' : Option (List ℕ)) → Result A ProtocolFault → Type 0
-Asks call returns a a' r r' result =
-    MatchResult result (λ x. Appends r r' (request_of call) × Heard call (returns x) a a')
-    (λ fault. Failed fault call a a' r r')
+-- its request was written, and announced this, and its answer was read; or its streams failed
+abbrev pub Asks : {A : Type 0} → Option Due → Call → (A → Return) → (a a' r r' : Option (List ℕ)) →
+    Result A ProtocolFault → Type 0
+Asks due call returns a a' r r' result =
+    MatchResult result (λ x. Appends r r' (request_of due call) × Heard call (returns x) a a')
+    (λ fault. Failed fault due call a a' r r')
 
 -- THE STEPS OF A PORT OF LINES
 
@@ -111,7 +123,9 @@ IsSilent call returned = ⊥
 
 -- a call was asked and answered
 pub record Asked (call : Call) (returned : Return) (s s' : Streams) : Type 0 where
-  pub written : Appends s.requests s'.requests (request_of call)
+  pub due : Option Due
+  pub announced : Announces call due
+  pub written : Appends s.requests s'.requests (request_of due call)
   pub heard : Heard call returned s.answers s'.answers
   pub spent : Spends (commands_of call) s.left s'.left
   pub well : s'.fault ≡ None
@@ -120,8 +134,9 @@ pub record Asked (call : Call) (returned : Return) (s s' : Streams) : Type 0 whe
 -- nothing was written or read.
 abbrev pub Unanswered : PortFault → Call → (s s' : Streams) → Type 0
 Unanswered (Lines why) call s s' =
-    Failed why call s.answers s'.answers s.requests s'.requests × Spends (commands_of call) s.left s'.left
-    × (s'.fault ≡ Some (Lines why))
+    ((due : Option Due) × Announces call due × Failed why due call s.answers s'.answers s.requests s'.requests)
+    × Spends (commands_of call) s.left s'.left
+    × (s'.fault ≡ Some (Lines why)) × (s'.unheard ≡ command_in call)
 Unanswered Commands call s s' =
     (commands_of call ≡ 1) × (s.left ≡ Some 0) × (s' ≡ record s { fault = Some Commands })
 
@@ -153,4 +168,13 @@ streams_of remaining contents port = record {
   requests = contents port.writer;
   left = port.commands_left;
   fault = port.fault;
+  unheard = port.unheard;
 }
+
+-- the command that was not answered because the streams failed, if that was one
+abbrev pub unheard_at : Option PortFault → Option (Command × Expect) → Option (Command × Expect)
+unheard_at (Some (Lines why)) unheard = unheard
+unheard_at fault unheard = None
+
+abbrev pub unheard_command : Streams → Option (Command × Expect)
+unheard_command s = unheard_at s.fault s.unheard

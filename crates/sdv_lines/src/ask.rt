@@ -1,6 +1,6 @@
 //! Calls of a port over two streams: each writes its request, and then reads its answer.
 
-ghost use Rattle.std.specs.Prelude.{ℕ, List, length};
+ghost use Rattle.std.specs.Prelude.{ℕ, List, length, None};
 ghost use Rattle.sdv_card.specs.Card.{Block};
 ghost use Rattle.sdv_card.specs.Port.{Exchange, DataIn, DataInRegister, DataOut, WaitWhileBusy};
 ghost use Rattle.sdv_card.specs.ScriptEvent.{Answered, BlocksIn, RegisterIn, BlocksOut, Waited};
@@ -10,7 +10,8 @@ ghost use Rattle.sdv_lines.specs.Streams.{Sends, Hears, Asks};
 
 use crate::answer::{answer_of, data_end_of, wait_end_of};
 use crate::digits::{read_blocks, read_digits, send_blocks_behind};
-use crate::fault::ProtocolFault;
+use crate::due::Due;
+use crate::fault::{ProtocolFault, Wanted};
 use crate::line::{Line, read_line, send};
 use crate::request::{exchange_request, phase_request};
 use crate::words;
@@ -19,39 +20,44 @@ use sdv_frames::{Command, Expect};
 use std::io::{Read, Write};
 
 /// Reads the answer to a command.
-fn hear_answer<R: Read>(reader: &mut R, expect: Expect) -> Result<Answer, ProtocolFault>
+fn hear_answer<R: Read>(
+    reader: &mut R,
+    line: &mut Line,
+    expect: Expect,
+) -> Result<Answer, ProtocolFault>
     ensures { (command : Command) → Hears (Exchange command expect) Answered (R.remaining reader.old)
         (R.remaining reader.new) result }
 {
-    let mut line = Line::new();
-    read_line(reader, &mut line)?;
-    match answer_of(expect, line.as_slice()) {
+    read_line(reader, line, Wanted::Answer(expect))?;
+    match answer_of(expect, line.words()) {
         Some(answer) => Ok(answer),
         None => Err(ProtocolFault::Line),
     }
 }
 
 /// Reads the answer to a wait.
-fn hear_wait<R: Read>(reader: &mut R) -> Result<WaitEnd, ProtocolFault>
+fn hear_wait<R: Read>(reader: &mut R, line: &mut Line) -> Result<WaitEnd, ProtocolFault>
     ensures { Hears WaitWhileBusy Waited (R.remaining reader.old) (R.remaining reader.new) result }
 {
-    let mut line = Line::new();
-    read_line(reader, &mut line)?;
-    match wait_end_of(line.as_slice()) {
+    read_line(reader, line, Wanted::WaitEnd)?;
+    match wait_end_of(line.words()) {
         Some(end) => Ok(end),
         None => Err(ProtocolFault::Line),
     }
 }
 
 /// Reads the answer to a phase of blocks from the card, and the blocks.
-fn hear_blocks<R: Read>(reader: &mut R, blocks: &mut [[u8; 512]]) -> Result<DataEnd, ProtocolFault>
+fn hear_blocks<R: Read>(
+    reader: &mut R,
+    line: &mut Line,
+    blocks: &mut [[u8; 512]],
+) -> Result<DataEnd, ProtocolFault>
     ensures { (lines : ℕ) → Hears (DataIn lines (length blocks.old)) (λ end. BlocksIn end blocks.new)
         (R.remaining reader.old) (R.remaining reader.new) result }
 {
-    let mut line = Line::new();
-    read_line(reader, &mut line)?;
-    match data_end_of(line.as_slice()) {
-        Some(DataEnd::Ok) => match read_blocks(reader, &mut line, blocks) {
+    read_line(reader, line, Wanted::PhaseEnd)?;
+    match data_end_of(line.words()) {
+        Some(DataEnd::Ok) => match read_blocks(reader, line, blocks) {
             Ok(()) => Ok(DataEnd::Ok),
             Err(fault) => Err(fault),
         },
@@ -61,14 +67,17 @@ fn hear_blocks<R: Read>(reader: &mut R, blocks: &mut [[u8; 512]]) -> Result<Data
 }
 
 /// Reads the answer to a phase of a register, and its bytes.
-fn hear_register<R: Read>(reader: &mut R, bytes: &mut [u8]) -> Result<DataEnd, ProtocolFault>
+fn hear_register<R: Read>(
+    reader: &mut R,
+    line: &mut Line,
+    bytes: &mut [u8],
+) -> Result<DataEnd, ProtocolFault>
     ensures { (lines : ℕ) → Hears (DataInRegister lines (length bytes.old)) (λ end. RegisterIn end bytes.new)
         (R.remaining reader.old) (R.remaining reader.new) result }
 {
-    let mut line = Line::new();
-    read_line(reader, &mut line)?;
-    match data_end_of(line.as_slice()) {
-        Some(DataEnd::Ok) => match read_digits(reader, &mut line, bytes) {
+    read_line(reader, line, Wanted::PhaseEnd)?;
+    match data_end_of(line.words()) {
+        Some(DataEnd::Ok) => match read_digits(reader, line, bytes) {
             Ok(()) => Ok(DataEnd::Ok),
             Err(fault) => Err(fault),
         },
@@ -78,13 +87,12 @@ fn hear_register<R: Read>(reader: &mut R, bytes: &mut [u8]) -> Result<DataEnd, P
 }
 
 /// Reads the answer to a phase of blocks to the card.
-fn hear_data_end<R: Read>(reader: &mut R) -> Result<DataEnd, ProtocolFault>
+fn hear_data_end<R: Read>(reader: &mut R, line: &mut Line) -> Result<DataEnd, ProtocolFault>
     ensures { (lines : ℕ) (blocks : List Block) → Hears (DataOut lines blocks) BlocksOut (R.remaining reader.old)
         (R.remaining reader.new) result }
 {
-    let mut line = Line::new();
-    read_line(reader, &mut line)?;
-    match data_end_of(line.as_slice()) {
+    read_line(reader, line, Wanted::PhaseEnd)?;
+    match data_end_of(line.words()) {
         Some(end) => Ok(end),
         None => Err(ProtocolFault::Line),
     }
@@ -96,13 +104,13 @@ fn send_blocks<W: Write>(
     lines: u8,
     blocks: &[[u8; 512]],
 ) -> Result<(), ProtocolFault>
-    ensures { Sends (W.contents writer.old) (W.contents writer.new) result (request_of (DataOut lines blocks.now)) }
+    ensures { Sends (W.contents writer.old) (W.contents writer.new) result (request_of None (DataOut lines blocks.now)) }
 {
     let line = phase_request(words::DATA_OUT, blocks.len(), lines);
     send_blocks_behind(writer, line.as_slice(), blocks)
 }
 
-/// Sends a command, and hears what came of it.
+/// Sends a command, whose request announces this, and hears what came of it.
 ///
 /// # Errors
 ///
@@ -110,14 +118,16 @@ fn send_blocks<W: Write>(
 pub fn exchange<R: Read, W: Write>(
     reader: &mut R,
     writer: &mut W,
+    line: &mut Line,
     command: Command,
     expect: Expect,
+    due: Option<Due>,
 ) -> Result<Answer, ProtocolFault>
-    ensures { Asks (Exchange command expect) Answered (R.remaining reader.old) (R.remaining reader.new)
+    ensures { Asks due (Exchange command expect) Answered (R.remaining reader.old) (R.remaining reader.new)
         (W.contents writer.old) (W.contents writer.new) result }
 {
-    send(writer, exchange_request(command, expect).as_slice())?;
-    hear_answer(reader, expect)
+    send(writer, exchange_request(command, expect, due).as_slice())?;
+    hear_answer(reader, line, expect)
 }
 
 /// Waits while the card is busy.
@@ -125,12 +135,16 @@ pub fn exchange<R: Read, W: Write>(
 /// # Errors
 ///
 /// Each [`ProtocolFault`].
-pub fn wait<R: Read, W: Write>(reader: &mut R, writer: &mut W) -> Result<WaitEnd, ProtocolFault>
-    ensures { Asks WaitWhileBusy Waited (R.remaining reader.old) (R.remaining reader.new)
+pub fn wait<R: Read, W: Write>(
+    reader: &mut R,
+    writer: &mut W,
+    line: &mut Line,
+) -> Result<WaitEnd, ProtocolFault>
+    ensures { Asks None WaitWhileBusy Waited (R.remaining reader.old) (R.remaining reader.new)
         (W.contents writer.old) (W.contents writer.new) result }
 {
     send(writer, words::WAIT_LINE)?;
-    hear_wait(reader)
+    hear_wait(reader, line)
 }
 
 /// Receives as many blocks as there is room for.
@@ -141,17 +155,18 @@ pub fn wait<R: Read, W: Write>(reader: &mut R, writer: &mut W) -> Result<WaitEnd
 pub fn data_in<R: Read, W: Write>(
     reader: &mut R,
     writer: &mut W,
+    line: &mut Line,
     lines: u8,
     blocks: &mut [[u8; 512]],
 ) -> Result<DataEnd, ProtocolFault>
-    ensures { Asks (DataIn lines (length blocks.old)) (λ end. BlocksIn end blocks.new) (R.remaining reader.old)
+    ensures { Asks None (DataIn lines (length blocks.old)) (λ end. BlocksIn end blocks.new) (R.remaining reader.old)
         (R.remaining reader.new) (W.contents writer.old) (W.contents writer.new) result }
 {
     send(
         writer,
         phase_request(words::DATA_IN, blocks.len(), lines).as_slice(),
     )?;
-    hear_blocks(reader, blocks)
+    hear_blocks(reader, line, blocks)
 }
 
 /// Receives as many bytes of a register as there is room for.
@@ -162,17 +177,18 @@ pub fn data_in<R: Read, W: Write>(
 pub fn data_in_register<R: Read, W: Write>(
     reader: &mut R,
     writer: &mut W,
+    line: &mut Line,
     lines: u8,
     bytes: &mut [u8],
 ) -> Result<DataEnd, ProtocolFault>
-    ensures { Asks (DataInRegister lines (length bytes.old)) (λ end. RegisterIn end bytes.new) (R.remaining reader.old)
+    ensures { Asks None (DataInRegister lines (length bytes.old)) (λ end. RegisterIn end bytes.new) (R.remaining reader.old)
         (R.remaining reader.new) (W.contents writer.old) (W.contents writer.new) result }
 {
     send(
         writer,
         phase_request(words::REGISTER, bytes.len(), lines).as_slice(),
     )?;
-    hear_register(reader, bytes)
+    hear_register(reader, line, bytes)
 }
 
 /// Gives blocks.
@@ -183,12 +199,13 @@ pub fn data_in_register<R: Read, W: Write>(
 pub fn data_out<R: Read, W: Write>(
     reader: &mut R,
     writer: &mut W,
+    line: &mut Line,
     lines: u8,
     blocks: &[[u8; 512]],
 ) -> Result<DataEnd, ProtocolFault>
-    ensures { Asks (DataOut lines blocks.now) BlocksOut (R.remaining reader.old) (R.remaining reader.new)
+    ensures { Asks None (DataOut lines blocks.now) BlocksOut (R.remaining reader.old) (R.remaining reader.new)
         (W.contents writer.old) (W.contents writer.new) result }
 {
     send_blocks(writer, lines, blocks)?;
-    hear_data_end(reader)
+    hear_data_end(reader, line)
 }

@@ -8,7 +8,7 @@ ghost use Rattle.sdv_lines.specs.Requests.{block_texts};
 ghost use Rattle.sdv_lines.specs.Streams.{Sends};
 ghost use Rattle.sdv_lines.specs.Texts.{lines_of};
 
-use crate::fault::ProtocolFault;
+use crate::fault::{ProtocolFault, Wanted};
 use crate::line::{Line, flush, put, read_line, send};
 use std::io::{Read, Write};
 
@@ -111,8 +111,8 @@ pub fn read_digits<R: Read>(
 ) -> Result<(), ProtocolFault>
     ensures { ReadsDigits (R.remaining reader.old) (R.remaining reader.new) (length bytes.old) bytes.new result }
 {
-    read_line(reader, line)?;
-    match hex::decode_to_slice(line.as_slice(), bytes) {
+    read_line(reader, line, Wanted::Digits(bytes.len().min(512) as u16))?;
+    match hex::decode_to_slice(line.words(), bytes) {
         Ok(()) => Ok(()),
         Err(_) => Err(ProtocolFault::Line),
     }

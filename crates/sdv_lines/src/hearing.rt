@@ -2,7 +2,7 @@
 
 ghost use Rattle.std.specs.Prelude.{◌≡◌, ◌^◌, min, option_map, IfSome};
 ghost use Rattle.sdv_text.specs.Fronts.{after, is_word, is_digit, run, number_after};
-ghost use Rattle.sdv_lines.specs.Hearing.{read_number, read_word, read_expect, read_command, read_phase, register_in, read_request, is_last, IsInRange};
+ghost use Rattle.sdv_lines.specs.Hearing.{read_number, read_word, read_counted, read_expect, expect_if, is_announcement, read_command, read_phase, register_in, read_request, is_last, IsInRange};
 
 use crate::words;
 use sdv_frames::{Command, Expect};
@@ -55,25 +55,75 @@ fn word(text: &[u8]) -> Read<'_, u32>
     }
 }
 
+/// How many blocks or bytes a phase has, with the words behind that number, and over how many data lines.
+#[tactic(auto, unfolding(crate::specs::Hearing::read_counted))]
+fn counted(unit: &[u8], text: &[u8]) -> Option<(u32, u8)>
+    ensures { result ≡ read_counted unit.now text.now }
+{
+    let (count, rest) = number(text)?;
+    let rest = after(rest, unit)?;
+    let (lines, rest) = number(rest)?;
+    if !rest.is_empty() {
+        return None;
+    }
+    match lines {
+        1 => Some((count, 1)),
+        4 => Some((count, 4)),
+        8 => Some((count, 8)),
+        _ => None,
+    }
+}
+
+/// Whether a command announces its data phase so, or none.
+fn is_announcement(text: &[u8]) -> bool
+    ensures { result ≡ is_announcement text.now }
+{
+    if text.is_empty() {
+        return true;
+    }
+    if let Some(rest) = after(text, words::IN_FOLLOWS) {
+        return counted(words::LINES, rest).is_some() || counted(words::BYTES, rest).is_some();
+    }
+    match after(text, words::OUT_FOLLOWS) {
+        Some(rest) => counted(words::LINES, rest).is_some(),
+        None => false,
+    }
+}
+
+/// The response that is waited for, where the rest of the line announces a phase or nothing.
+fn expect_if(expect: Expect, rest: &[u8]) -> Option<Expect>
+    ensures { result ≡ expect_if expect rest.now }
+{
+    if is_announcement(rest) {
+        Some(expect)
+    } else {
+        None
+    }
+}
+
 /// The response that is waited for, to the command of this index.
 #[tactic(auto, unfolding(crate::specs::Hearing::read_expect))]
 fn expect(index: u8, text: &[u8]) -> Option<Expect>
     ensures { result ≡ read_expect index text.now }
 {
-    if is_word(text, words::NOTHING) {
-        Some(Expect::Nothing)
-    } else if is_word(text, words::R1) {
-        Some(Expect::R1(index))
-    } else if is_word(text, words::R2) {
-        Some(Expect::R2)
-    } else if is_word(text, words::R3) {
-        Some(Expect::R3)
-    } else if is_word(text, words::R6) {
-        Some(Expect::R6)
-    } else if is_word(text, words::R7) {
-        Some(Expect::R7)
-    } else {
-        None
+    if let Some(rest) = after(text, words::NOTHING) {
+        return expect_if(Expect::Nothing, rest);
+    }
+    if let Some(rest) = after(text, words::R1) {
+        return expect_if(Expect::R1(index), rest);
+    }
+    if let Some(rest) = after(text, words::R2) {
+        return expect_if(Expect::R2, rest);
+    }
+    if let Some(rest) = after(text, words::R3) {
+        return expect_if(Expect::R3, rest);
+    }
+    if let Some(rest) = after(text, words::R6) {
+        return expect_if(Expect::R6, rest);
+    }
+    match after(text, words::R7) {
+        Some(rest) => expect_if(Expect::R7, rest),
+        None => None,
     }
 }
 
@@ -98,22 +148,10 @@ fn command(text: &[u8]) -> Option<Request>
 }
 
 /// How many blocks or bytes a phase has, and over how many data lines, behind its word.
-#[tactic(auto, unfolding(crate::specs::Hearing::read_phase))]
 fn phase(text: &[u8]) -> Option<(u32, u8)>
     ensures { result ≡ read_phase text.now }
 {
-    let (count, rest) = number(text)?;
-    let rest = after(rest, words::LINES)?;
-    let (lines, rest) = number(rest)?;
-    if !rest.is_empty() {
-        return None;
-    }
-    match lines {
-        1 => Some((count, 1)),
-        4 => Some((count, 4)),
-        8 => Some((count, 8)),
-        _ => None,
-    }
+    counted(words::LINES, text)
 }
 
 /// A phase of a register, behind its word.

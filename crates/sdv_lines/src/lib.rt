@@ -6,10 +6,13 @@
 //! says what a call does to the two streams; `specs/Serving.antt` has the other side, and `specs/Partner.antt` both.
 //!
 //! - Each call of a `LinePort` writes exactly its request, reads exactly an answer, and returns what the answer says
-//!   (`LineSteps`). An answer `damaged` is heard as a time-out.
-//! - If a stream fails, ends or brings no answer, the port keeps why, and from then on neither reads nor writes; it
-//!   answers damaged, cut or late. At a command beyond `limit_commands` it gives up in the same way, and writes
-//!   nothing (`Spends`).
+//!   (`LineSteps`). An answer `damaged` is heard as a time-out. Blanks at the end of a line say nothing (`trimmed`).
+//! - The request of a command announces nothing, or the data phase that the command table has for it (`specs/Due.antt`).
+//!   Whoever made the port says how many blocks CMD18 and CMD25 move, and over how many data lines; `serve` makes the same
+//!   call with and without an announcement.
+//! - If a stream fails, ends or brings no answer, the port keeps why, and the command that was not answered, and from
+//!   then on neither reads nor writes; it answers damaged, cut or late. At a command beyond `limit_commands` it gives up
+//!   in the same way, and writes nothing (`Spends`).
 //! - `serve` makes one call for each request, in order. It ends well at the host's last line, or where no byte is left
 //!   between two requests, and nowhere else; else it names the first request that it did not serve, by its line.
 //! - `laws::shows_the_card_of_the_other_side`: if the other side makes each call once, by a port that shows a card and
@@ -21,6 +24,7 @@ mod answer;
 mod ask;
 mod card_side;
 mod digits;
+mod due;
 mod fault;
 mod hearing;
 pub mod laws;
@@ -31,5 +35,6 @@ mod serving;
 mod words;
 
 pub use card_side::serve;
-pub use fault::{PortFault, ProtocolFault, ServeFault};
+pub use due::{Announcement, Due, Load};
+pub use fault::{AskFault, Found, PortFault, ProtocolFault, ServeFault, Wanted};
 pub use port::LinePort;

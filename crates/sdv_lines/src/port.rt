@@ -1,15 +1,18 @@
 //! The port.
 
 ghost use Rattle.std.specs.Prelude.{◌≡◌, None};
+ghost use Rattle.sdv_card.specs.Port.{Exchange};
 ghost use Rattle.sdv_card.proofs.PortLaws.{shows_none_keeps};
 ghost use Rattle.sdv_trace.specs.Trace.{end_line};
-ghost use Rattle.sdv_lines.specs.Streams.{IsNew, LineSteps, TakesCommand, TellsEnd, limited, streams_of};
+ghost use Rattle.sdv_lines.specs.Due.{Announces};
+ghost use Rattle.sdv_lines.specs.Streams.{IsNew, LineSteps, TakesCommand, TellsEnd, limited, streams_of, unheard_command};
 
 use crate::ask;
-use crate::fault::PortFault;
-use crate::line::send;
+use crate::due::{Announcement, Due, due_of};
+use crate::fault::{Found, PortFault};
+use crate::line::{Line, send};
 use sdv_card::{Answer, CardPort, DataEnd, WaitEnd};
-use sdv_frames::{Command, Expect, FrameFault};
+use sdv_frames::{Command, Expect, FrameFault, Reply};
 use sdv_trace::{End, end_line};
 use std::io::{Read, Write};
 use std::mem;
@@ -28,6 +31,14 @@ pub struct LinePort<R, W> {
     /// How many commands it still sends, where there is a limit.
     commands_left: Option<u64>,
     fault: Option<PortFault>,
+    /// What the host announced at its next command.
+    announced: Option<Announcement>,
+    /// The card said last that it takes the next command as an application command.
+    application: bool,
+    /// The command that was sent when its streams failed, if one was, and what it waited for.
+    unheard: Option<(Command, Expect)>,
+    /// The line that it read last.
+    heard: Line,
 }
 
 impl<R: Read, W: Write> LinePort<R, W> {
@@ -41,6 +52,10 @@ impl<R: Read, W: Write> LinePort<R, W> {
             writer,
             commands_left: None,
             fault: None,
+            announced: None,
+            application: false,
+            unheard: None,
+            heard: Line::new(),
         }
     }
 
@@ -51,6 +66,22 @@ impl<R: Read, W: Write> LinePort<R, W> {
         self.fault
     }
 
+    /// The command that was not answered because the streams failed, if that was one, with the response that it waited
+    /// for. Its request was written, perhaps in part.
+    pub fn unheard(&self) -> Option<(Command, Expect)>
+        ensures { result ≡ unheard_command (streams_of R.remaining W.contents self.now) }
+    {
+        match self.fault {
+            Some(PortFault::Lines(_)) => self.unheard,
+            _ => None,
+        }
+    }
+
+    /// What people are told of the line that was read last.
+    pub fn found(&self) -> Found {
+        self.heard.found()
+    }
+
     /// Sends so many commands at most from now on, or any number. Phases and waits do not count. Returns the limit before:
     /// how many commands were left of it.
     pub fn limit_commands(&mut self, most: Option<u64>) -> Option<u64>
@@ -59,6 +90,21 @@ impl<R: Read, W: Write> LinePort<R, W> {
             ≡ limited most (streams_of R.remaining W.contents self.old) }
     {
         mem::replace(&mut self.commands_left, most)
+    }
+
+    /// Has the request of the next command announce the data phase that follows it, if one does.
+    pub fn announce(&mut self, announcement: Announcement)
+        ensures { streams_of R.remaining W.contents self.new ≡ streams_of R.remaining W.contents self.old }
+    {
+        self.announced = Some(announcement);
+    }
+
+    /// The phase that the request of this command announces, if it is the next one.
+    fn due(&self, command: Command, expect: Expect) -> Option<Due>
+        ensures { Announces (Exchange command expect) result }
+    {
+        let announced = self.announced?;
+        due_of(command, expect, self.application, announced)
     }
 
     /// Takes one of the commands that are left. False: none is.
@@ -113,14 +159,27 @@ impl<R: Read, W: Write> CardPort for LinePort<R, W> {
         if self.fault.is_some() {
             return Answer::Damaged(FrameFault::Length);
         }
+        let due = self.due(command, expect);
+        self.announced = None;
         if !self.take_command() {
             self.fault = Some(PortFault::Commands);
             return Answer::Damaged(FrameFault::Length);
         }
-        match ask::exchange(&mut self.reader, &mut self.writer, command, expect) {
-            Ok(answer) => answer,
+        match ask::exchange(
+            &mut self.reader,
+            &mut self.writer,
+            &mut self.heard,
+            command,
+            expect,
+            due,
+        ) {
+            Ok(answer) => {
+                self.application = is_application(command, &answer);
+                answer
+            }
             Err(fault) => {
                 self.fault = Some(PortFault::Lines(fault));
+                self.unheard = Some((command, expect));
                 Answer::Damaged(FrameFault::Length)
             }
         }
@@ -130,10 +189,17 @@ impl<R: Read, W: Write> CardPort for LinePort<R, W> {
         if self.fault.is_some() {
             return DataEnd::Cut;
         }
-        match ask::data_in(&mut self.reader, &mut self.writer, lines, blocks) {
+        match ask::data_in(
+            &mut self.reader,
+            &mut self.writer,
+            &mut self.heard,
+            lines,
+            blocks,
+        ) {
             Ok(end) => end,
             Err(fault) => {
                 self.fault = Some(PortFault::Lines(fault));
+                self.unheard = None;
                 DataEnd::Cut
             }
         }
@@ -143,10 +209,17 @@ impl<R: Read, W: Write> CardPort for LinePort<R, W> {
         if self.fault.is_some() {
             return DataEnd::Cut;
         }
-        match ask::data_in_register(&mut self.reader, &mut self.writer, lines, bytes) {
+        match ask::data_in_register(
+            &mut self.reader,
+            &mut self.writer,
+            &mut self.heard,
+            lines,
+            bytes,
+        ) {
             Ok(end) => end,
             Err(fault) => {
                 self.fault = Some(PortFault::Lines(fault));
+                self.unheard = None;
                 DataEnd::Cut
             }
         }
@@ -156,10 +229,17 @@ impl<R: Read, W: Write> CardPort for LinePort<R, W> {
         if self.fault.is_some() {
             return DataEnd::Cut;
         }
-        match ask::data_out(&mut self.reader, &mut self.writer, lines, blocks) {
+        match ask::data_out(
+            &mut self.reader,
+            &mut self.writer,
+            &mut self.heard,
+            lines,
+            blocks,
+        ) {
             Ok(end) => end,
             Err(fault) => {
                 self.fault = Some(PortFault::Lines(fault));
+                self.unheard = None;
                 DataEnd::Cut
             }
         }
@@ -169,12 +249,21 @@ impl<R: Read, W: Write> CardPort for LinePort<R, W> {
         if self.fault.is_some() {
             return WaitEnd::Late;
         }
-        match ask::wait(&mut self.reader, &mut self.writer) {
+        match ask::wait(&mut self.reader, &mut self.writer, &mut self.heard) {
             Ok(end) => end,
             Err(fault) => {
                 self.fault = Some(PortFault::Lines(fault));
+                self.unheard = None;
                 WaitEnd::Late
             }
         }
+    }
+}
+
+/// Whether the answer to CMD55 says that the card takes the next command as an application command.
+fn is_application(command: Command, answer: &Answer) -> bool {
+    match answer {
+        Answer::Reply(Reply::R1 { status, .. }) => command.index == 55 && *status >> 5 & 1 == 1,
+        _ => false,
     }
 }

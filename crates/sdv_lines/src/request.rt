@@ -5,9 +5,10 @@ ghost use Rattle.arrayvec.specs.ArrayVec.{array_vec_len};
 ghost use Rattle.sdv_card.specs.Port.{Exchange};
 ghost use Rattle.sdv_card.specs.ScriptEvent.{Answered};
 ghost use Rattle.sdv_trace.specs.Trace.{line_feed};
-ghost use Rattle.sdv_lines.specs.Requests.{expect_text, phase_text, request_of};
+ghost use Rattle.sdv_lines.specs.Requests.{due_text, expect_text, load_front, load_unit, phase_text, request_of};
 ghost use Rattle.sdv_lines.specs.Serving.{answer_of};
 
+use crate::due::{Due, Load};
 use crate::words;
 use sdv_card::Answer;
 use sdv_frames::{Command, Expect};
@@ -29,13 +30,50 @@ fn put_expect(line: &mut LineBytes, expect: Expect)
     }
 }
 
-/// The request of an exchange.
-pub fn exchange_request(command: Command, expect: Expect) -> LineBytes
-    ensures { result.items ≡ request_of (Exchange command expect) }
+/// What stands before the number of a phase that is announced.
+fn front_of(load: Load) -> &'static [u8]
+    ensures text { result.now ≡ load_front load }
+    ensures len { length result.now ≤ 5 }
+{
+    match load {
+        Load::BlocksIn | Load::BytesIn => words::IN_FOLLOWS,
+        Load::BlocksOut => words::OUT_FOLLOWS,
+    }
+}
+
+/// What stands between the number of a phase that is announced and its data lines.
+fn unit_of(load: Load) -> &'static [u8]
+    ensures text { result.now ≡ load_unit load }
+    ensures len { length result.now ≤ 13 }
+{
+    match load {
+        Load::BytesIn => words::BYTES,
+        Load::BlocksIn | Load::BlocksOut => words::LINES,
+    }
+}
+
+/// The data phase that a command announces, if one does.
+fn put_due(line: &mut LineBytes, due: Option<Due>)
+    requires { array_vec_len line.old + 58 ≤ 96 }
+    ensures items { line.new.items ≡ line.old.items ++ due_text due }
+    ensures len { array_vec_len line.new ≤ array_vec_len line.old + 58 }
+{
+    if let Some(due) = due {
+        put(line, front_of(due.load));
+        put_decimal(line, u64::from(due.count));
+        put(line, unit_of(due.load));
+        put_decimal(line, u64::from(due.lines));
+    }
+}
+
+/// The request of an exchange, which may announce a phase.
+pub fn exchange_request(command: Command, expect: Expect, due: Option<Due>) -> LineBytes
+    ensures { result.items ≡ request_of due (Exchange command expect) }
 {
     let mut line = LineBytes::new();
     put_command(&mut line, command);
     put_expect(&mut line, expect);
+    put_due(&mut line, due);
     put(&mut line, b"\n");
     line
 }

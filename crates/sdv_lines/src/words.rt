@@ -17,7 +17,14 @@ pub const WAIT_LINE: &[u8] = b"WAIT\n";
 // What stands before the number of data lines, and between the parts of a command.
 pub const LINES: &[u8] = b" lines ";
 
+pub const BYTES: &[u8] = b" bytes lines ";
+
 pub const SPACE: &[u8] = b" ";
+
+// What stands before the data phase that a command announces.
+pub const IN_FOLLOWS: &[u8] = b" in ";
+
+pub const OUT_FOLLOWS: &[u8] = b" out ";
 
 // The last line of a host.
 pub const DONE: &[u8] = b"done";

@@ -53,7 +53,7 @@ commands =
     ∷ command (codes "audit") (required (codes "KIND") ∷ required (codes "TRACE") ∷ flag (codes "json")
     ∷ flag (codes "annotate") ∷ with_value (codes "script") ∷ with_value (codes "registers") ∷ flag (codes "svg") ∷ [])
     ∷ command (codes "drive") (script ∷ certificate ∷ with_value (codes "in") ∷ with_value (codes "out")
-    ∷ with_value (codes "trace") ∷ [])
+    ∷ with_value (codes "trace") ∷ flag (codes "plain") ∷ [])
     ∷ command (codes "card") (card ∷ optional (codes "IMAGE") ∷ schedule ∷ flag (codes "describe") ∷ [])
     ∷ command (codes "review") (script ∷ flag (codes "json") ∷ [])
     ∷ command (codes "try") (script ∷ card ∷ image ∷ schedule ∷ with_value (codes "in") ∷ with_value (codes "out")

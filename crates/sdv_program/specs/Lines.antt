@@ -128,6 +128,7 @@ by_drive_words rows =
       input = first_of (codes "in") rows;
       output = first_of (codes "out") rows;
       trace = first_of (codes "trace") rows;
+      plain = is_set (codes "plain") rows;
     })) rows
 
 abbrev pub by_card_words : List Row → Option Line

@@ -47,6 +47,8 @@ pub record DriveNames : Type 0 where
   pub input : Option Text
   pub output : Option Text
   pub trace : Option Text
+  -- requests announce no data phases
+  pub plain : Bool
 
 -- the files of a card that answers lines, by their names
 pub record CardNames : Type 0 where
@@ -152,6 +154,7 @@ drive_names_of files = record {
   input = option_map (λ file. file.now) files.input;
   output = option_map (λ file. file.now) files.output;
   trace = option_map (λ file. file.now) files.trace;
+  plain = files.plain;
 }
 
 abbrev pub card_names_of : CardFiles → CardNames

@@ -8,6 +8,7 @@ ghost use Rattle.sdv_program.specs.Fault.{block_fault_name, kind_name, run_fault
 
 use crate::line::LineFault;
 use crate::mistake::USAGE;
+use crate::stopped::{say_ask, say_serve};
 use itoa::Buffer;
 use sdv_audit::{TraceFault, TraceLineFault};
 use sdv_block::BlockFault;
@@ -16,7 +17,7 @@ use sdv_certify::CertifyFault;
 use sdv_check::{CertFault, CheckFault, VerifyFault};
 use sdv_emit::EmitFault;
 use sdv_image::SimFault;
-use sdv_lines::{ProtocolFault, ServeFault};
+use sdv_lines::{AskFault, ServeFault};
 use sdv_named_schedules::ScheduleFault;
 use sdv_refute::TryFault;
 use sdv_review::ReviewFault;
@@ -80,6 +81,8 @@ pub enum Fault<'a> {
     NoPath,
     /// A request in lines was not answered.
     Request(ServeFault),
+    /// The other side of the lines could not be asked, or gave no answer.
+    Unanswered(AskFault),
     /// The run of a script ended in a fault that the script names; its trace says so.
     Named,
     /// An audit or a review found something; its report says what.
@@ -277,7 +280,11 @@ impl<'a> Fault<'a> {
             Fault::Trace(_) | Fault::Stray(_) | Fault::Found | Fault::OtherKind | Fault::Wrong(_) =>
                 1,
             Fault::NoRun { .. } | Fault::Schedule(_) | Fault::NoPath => 1,
-            Fault::Usage | Fault::File(_) | Fault::Request(_) | Fault::Output => 2,
+            Fault::Usage
+            | Fault::File(_)
+            | Fault::Request(_)
+            | Fault::Unanswered(_)
+            | Fault::Output => 2,
             Fault::Memory => 3,
         }
     }
@@ -319,7 +326,8 @@ impl<'a> Fault<'a> {
             | Fault::Wrong(_)
             | Fault::NoRun { .. }
             | Fault::NoPath
-            | Fault::Request(_) => say_to_people(self, err),
+            | Fault::Request(_)
+            | Fault::Unanswered(_) => say_to_people(self, err),
         }
     }
 
@@ -501,6 +509,8 @@ fn say_to_people<E: Write>(fault: Fault<'_>, err: &mut E) -> io::Result<()>
 {
     let (words, name, line) = match fault {
         Fault::Wrong(event) => return say_wrong(event, err),
+        Fault::Request(stop) => return say_serve(&stop, err),
+        Fault::Unanswered(stop) => return say_ask(&stop, err),
         Fault::NoRun {
             runs,
             mishaps,
@@ -513,11 +523,6 @@ fn say_to_people<E: Write>(fault: Fault<'_>, err: &mut E) -> io::Result<()>
         }
         Fault::Trace(TraceFault::Length { line }) => ("trace fault ", "Length line ", line),
         Fault::Stray(line) => ("trace fault ", "Script line ", line),
-        Fault::Request(fault) => (
-            "request fault ",
-            request_fault_name(fault.fault),
-            fault.line,
-        ),
         Fault::Schedule(ScheduleFault::Event(line)) => (NO_EVENT, " with a colon in line ", line),
         Fault::Schedule(ScheduleFault::Mishap(line)) => (NO_MISHAP, " in line ", line),
         fault => return say_words(&[plain_words(fault).as_bytes(), b"\n"], err),
@@ -564,16 +569,6 @@ fn line_fault_name(fault: TraceLineFault) -> &'static str {
         TraceLineFault::Count => "Count line ",
         TraceLineFault::End => "End line ",
         TraceLineFault::Lines => "Lines line ",
-    }
-}
-
-/// The name of why a request was not answered, before the number of its line.
-fn request_fault_name(fault: ProtocolFault) -> &'static str {
-    match fault {
-        ProtocolFault::Write => "Write line ",
-        ProtocolFault::Read => "Read line ",
-        ProtocolFault::Closed => "Closed line ",
-        ProtocolFault::Line => "Line line ",
     }
 }
 

@@ -30,6 +30,7 @@ mod pages;
 mod request;
 mod seek_file;
 mod source;
+mod stopped;
 mod table;
 mod uses;
 

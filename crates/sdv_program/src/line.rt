@@ -70,6 +70,8 @@ pub struct DriveFiles<'a> {
     pub output: Option<&'a str>,
     /// Where the trace goes. Without it there is none.
     pub trace: Option<&'a str>,
+    /// Whether requests announce no data phases.
+    pub plain: bool,
 }
 
 /// The words of a card that answers lines, or that is described.
@@ -361,6 +363,7 @@ fn drive_in<'a>(matches: &ArgMatches<'a>) -> Option<Line<'a>>
         input: word_in(matches, "in"),
         output: word_in(matches, "out"),
         trace: word_in(matches, "trace"),
+        plain: is_set(matches, "plain"),
     }))
 }
 

@@ -163,6 +163,10 @@ pub static COMMANDS: [CommandEntry; 13] = [
             IN,
             OUT,
             Word::WithValue("trace", "FILE", "the file that takes the trace of the run"),
+            Word::Flag(
+                "plain",
+                "prints commands without the data phases that follow them",
+            ),
         ],
         help: "runs the script over lines: requests are printed, and answers read",
     },

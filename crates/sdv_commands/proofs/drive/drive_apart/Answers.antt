@@ -7,11 +7,11 @@ use Rattle.sdv_program.specs.Requests.{drive_names_of}
 use Rattle.sdv_commands.proofs.DriveLaws.{answered, answered_fails, comes_out, finish_fails, unmade_fails, untraced_fails}
 use Rattle.sdv_commands.proofs.drive.drive_apart.Goals as goal
 
-pub returns-in_err-drive_traced-in-None-clause-fails : goal.returns-in_err-drive_traced-in-None-clause-fails
-returns-in_err-drive_traced-in-None-clause-fails g c =
+pub returns-in_err-outcome-in-None-clause-fails : goal.returns-in_err-outcome-in-None-clause-fails
+returns-in_err-outcome-in-None-clause-fails g c =
     untraced_fails (g.S.Store.known c.args.files.now) (drive_names_of c.args.names) _ _ c.in_ok-given.given c.in_ok-given.ensures.given
-    c.in_err-drive_traced-in-None.field-0.0 c.from_residual-in_err-drive_traced-in-None.result
-    c.in_err-drive_traced-in-None.ensures.fails c.from_residual-in_err-drive_traced-in-None.ensures.1
+    c.in_err-outcome-in-None.field-0.0 c.from_residual-in_err-outcome-in-None.result
+    c.in_err-outcome-in-None.ensures.fails c.from_residual-in_err-outcome-in-None.ensures.1
 
 -- without a file for the output
 none_taken : (files : Files) (output : Option Text) (bytes : List ℕ) → output ≡ None → Receives files output bytes
@@ -22,18 +22,18 @@ returns-in-None-clause-done g c =
     let files : Files = g.S.Store.known c.args.files.now in
     let names = drive_names_of c.args.names in
     let output = ap (option_map (λ file. file.now)) c.in-None.is in
-    answered files names _ _ c.in_ok-drive_traced-in-None.field-0 c.end_of.result c.end_of.ensures
-    (comes_out files names _ _ c.in_ok-given.given c.in_ok-given.ensures.given c.in_ok-drive_traced-in-None.field-0 _ _
-    c.in_ok-drive_traced-in-None.ensures.traced (λ bytes appends. none_taken files names.output bytes output))
+    answered files names _ _ c.in_ok-outcome-in-None.outcome c.end_of.result c.end_of.ensures
+    (comes_out files names _ _ c.in_ok-given.given c.in_ok-given.ensures.given c.in_ok-outcome-in-None.outcome _ _
+    c.in_ok-outcome-in-None.ensures.traced (λ bytes appends. none_taken files names.output bytes output))
 
 pub returns-in-None-clause-fails : goal.returns-in-None-clause-fails
 returns-in-None-clause-fails g c =
     let files : Files = g.S.Store.known c.args.files.now in
     let names = drive_names_of c.args.names in
     let output = ap (option_map (λ file. file.now)) c.in-None.is in
-    answered_fails files names _ _ c.in_ok-drive_traced-in-None.field-0 c.end_of.result c.end_of.ensures
-    (comes_out files names _ _ c.in_ok-given.given c.in_ok-given.ensures.given c.in_ok-drive_traced-in-None.field-0 _ _
-    c.in_ok-drive_traced-in-None.ensures.traced (λ bytes appends. none_taken files names.output bytes output))
+    answered_fails files names _ _ c.in_ok-outcome-in-None.outcome c.end_of.result c.end_of.ensures
+    (comes_out files names _ _ c.in_ok-given.given c.in_ok-given.ensures.given c.in_ok-outcome-in-None.outcome _ _
+    c.in_ok-outcome-in-None.ensures.traced (λ bytes appends. none_taken files names.output bytes output))
 
 pub returns-in_err-sink-in-Some-clause-fails : goal.returns-in_err-sink-in-Some-clause-fails
 returns-in_err-sink-in-Some-clause-fails g c =

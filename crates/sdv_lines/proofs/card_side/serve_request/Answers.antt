@@ -3,6 +3,7 @@ use Rattle.std.proofs.lemmas.List.{length-replicate}
 use Rattle.std.specs.Prelude.{Some}
 use Rattle.sdv_card.specs.Port.{Exchange, DataIn, DataInRegister, WaitWhileBusy}
 use Rattle.sdv_lines.specs.declared.hearing.Request.TheVariants as requests
+use Rattle.sdv_lines.specs.Texts.{trimmed}
 use Rattle.sdv_lines.specs.Hearing.{read_request, IsInRange}
 use Rattle.sdv_lines.specs.Reading.{ReadsNoBlocks}
 use Rattle.sdv_lines.specs.Serving.{Does}
@@ -71,7 +72,7 @@ returns-in-Ok g c = λ text before t said read.
     let count = c.in-DataOut.count in
     let blocks = c.read_blocks.new.blocks in
     let all : length blocks ≡ count = c.in-Ok.ensures.1 ∙ length-take-le count c.args.room.now c.if-count-room-2.false in
-    let asks : read_request text ≡ Some (requests.DataOut (length blocks) c.in-DataOut.lines) =
+    let asks : read_request (trimmed text) ≡ Some (requests.DataOut (length blocks) c.in-DataOut.lines) =
     said ∙ ap Some c.in-DataOut.is ∙ ap (λ n. Some (requests.DataOut n c.in-DataOut.lines)) (sym all) in
     as_asked steps (length c.args.room.now) c.args.request (requests.DataOut (length blocks) c.in-DataOut.lines)
     _ _ _ _ _ _ c.serve_data_out.result (c.in-DataOut.is ∙ ap (λ n. requests.DataOut n c.in-DataOut.lines) (sym all))

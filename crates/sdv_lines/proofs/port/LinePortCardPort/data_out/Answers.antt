@@ -15,6 +15,7 @@ returns-in-Err g c =
       requests = g.W.Write.contents c.data_out.new.writer;
       left = c.args.self.now.commands_left;
       fault = Some (Lines c.in-Err.fault);
+      unheard = None;
     } in
     let well : c.args.self.now.fault ≡ None = search rules in
-    gave_up (DataOut c.args.lines c.args.blocks.now) (λ end. BlocksOut end) (BlocksOut Cut) s s' c.data_out.result c.in-Err.fault well c.data_out.ensures c.in-Err.is (spends_none s.left) refl refl
+    gave_up None (DataOut c.args.lines c.args.blocks.now) (λ end. BlocksOut end) (BlocksOut Cut) s s' c.data_out.result c.in-Err.fault refl well c.data_out.ensures c.in-Err.is (spends_none s.left) refl refl refl

@@ -17,8 +17,9 @@ returns-in-Err g c =
       requests = g.W.Write.contents c.exchange.new.writer;
       left = c.take_command.new.self.commands_left;
       fault = Some (Lines c.in-Err.fault);
+      unheard = Some (c.args.command, c.args.expect);
     } in
     let well : c.args.self.now.fault ≡ None = search rules in
     let taken : c.take_command.result ≡ true = search rules in
-    command_gave_up (Exchange c.args.command c.args.expect) (λ answer. Answered answer) (Answered (Damaged Length)) s t s' c.exchange.result
-    c.in-Err.fault c.take_command.result well taken c.take_command.ensures refl c.exchange.ensures c.in-Err.is refl refl refl
+    command_gave_up c.due-due.result (Exchange c.args.command c.args.expect) (λ answer. Answered answer) (Answered (Damaged Length)) s t s' c.exchange.result
+    c.in-Err.fault c.take_command.result c.due-due.ensures well taken c.take_command.ensures refl c.exchange.ensures c.in-Err.is refl refl refl refl

@@ -15,6 +15,7 @@ returns-in-Err g c =
       requests = g.W.Write.contents c.wait.new.writer;
       left = c.args.self.now.commands_left;
       fault = Some (Lines c.in-Err.fault);
+      unheard = None;
     } in
     let well : c.args.self.now.fault ≡ None = search rules in
-    gave_up (WaitWhileBusy) (λ end. Waited end) (Waited Late) s s' c.wait.result c.in-Err.fault well c.wait.ensures c.in-Err.is (spends_none s.left) refl refl
+    gave_up None (WaitWhileBusy) (λ end. Waited end) (Waited Late) s s' c.wait.result c.in-Err.fault refl well c.wait.ensures c.in-Err.is (spends_none s.left) refl refl refl

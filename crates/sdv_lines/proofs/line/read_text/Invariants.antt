@@ -2,7 +2,7 @@ use Rattle.std.proofs.Common.{◌≡◌, length}
 use Rattle.arrayvec.specs.ArrayVec.{array_vec_len}
 use Rattle.std.specs.Io.KnownBytes.{Consumes}
 use Rattle.sdv_lines.specs.Texts.{IsText}
-use Rattle.sdv_lines.proofs.line.read_line.Given as goal
+use Rattle.sdv_lines.proofs.line.read_text.Given as goal
 
 -- the bytes so far are a text, and were read
 abbrev pub invariant-loop : goal.invariant-loop

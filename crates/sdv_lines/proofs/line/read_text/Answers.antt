@@ -1,7 +1,7 @@
 use Rattle.std.proofs.Common.{◌≡◌, arith, length}
 use Rattle.sdv_lines.specs.declared.line.TheConstants.{LONGEST}
 use Rattle.sdv_lines.proofs.LineLaws.{too_long}
-use Rattle.sdv_lines.proofs.line.read_line.Goals as goal
+use Rattle.sdv_lines.proofs.line.read_text.Goals as goal
 
 pub returns-else-byte-eq10-2 : goal.returns-else-byte-eq10-2
 returns-else-byte-eq10-2 g c =
