@@ -1,4 +1,5 @@
-Lines that are no answer to what a host asked: it gives up, and its trace has what came before.
+Lines that are no answer to what a host asked: it gives up, and says which line was wrong. Its trace ends with the command that
+was not answered.
 
   $ printf 'card sd\nsend 0 { else { } }\nsend 55 { timeout { fault lost } else { fault told } }\n' > a.sdv; sdv certify a.sdv > a.cert
   $ tell() { printf -- "-\n$1" | sdv drive a.sdv a.cert --trace trace 2>&1 > asked; echo $? $(tail -n 1 trace); }
@@ -10,27 +11,95 @@ Lines that are no answer to what a host asked: it gives up, and its trace has wh
   CMD0 00000000 -
   CMD55 00000000 R1
   fault lost
-  $ for line in '' - ok R1 'R1 ' 'R1 0000012' 'R1 000001200' 'R1 0000012g' 'R1 00000120 ' ' R1 00000120' 'R1 00000120\r' 'r1 00000120' 'R2 00000120' \
-  >     'R1  00000120' 'timeout ' Timeout damage 'damaged ' 'CMD55 00000000 R1 00000120'; do tell "$line\n"; done | sort | uniq -c
-       19 2 CMD0 00000000 -
-       19 cannot use -
-  $ for front in '' R 'R1 00000120' timeout; do tell "$front"; done | sort | uniq -c
-        4 2 CMD0 00000000 -
-        4 cannot use -
+  $ for line in '' - ok R1 'R1 ' 'R1 0000012' 'R1 000001200' 'R1 0000012g' ' R1 00000120' 'r1 00000120' 'R2 00000120' 'R1  00000120' 'R1 \r00000120' \
+  >     Timeout damage 'CMD55 00000000 R1 00000120' '\033[0m\t\377'; do tell "$line\n"; cat asked; done | grep -v ^CMD
+  answer fault Line line 2: found "", expected R1 and 8 digits, timeout or damaged
+  2 CMD55 00000000 timeout
+  answer fault Line line 2: found "-", expected R1 and 8 digits, timeout or damaged
+  2 CMD55 00000000 timeout
+  answer fault Line line 2: found "ok", expected R1 and 8 digits, timeout or damaged
+  2 CMD55 00000000 timeout
+  answer fault Line line 2: found "R1", expected R1 and 8 digits, timeout or damaged
+  2 CMD55 00000000 timeout
+  answer fault Line line 2: found "R1 ", expected R1 and 8 digits, timeout or damaged
+  2 CMD55 00000000 timeout
+  answer fault Line line 2: found "R1 0000012", expected R1 and 8 digits, timeout or damaged
+  2 CMD55 00000000 timeout
+  answer fault Line line 2: found "R1 000001200", expected R1 and 8 digits, timeout or damaged
+  2 CMD55 00000000 timeout
+  answer fault Line line 2: found "R1 0000012g", expected R1 and 8 digits, timeout or damaged
+  2 CMD55 00000000 timeout
+  answer fault Line line 2: found " R1 00000120", expected R1 and 8 digits, timeout or damaged
+  2 CMD55 00000000 timeout
+  answer fault Line line 2: found "r1 00000120", expected R1 and 8 digits, timeout or damaged
+  2 CMD55 00000000 timeout
+  answer fault Line line 2: found "R2 00000120", expected R1 and 8 digits, timeout or damaged
+  2 CMD55 00000000 timeout
+  answer fault Line line 2: found "R1  00000120", expected R1 and 8 digits, timeout or damaged
+  2 CMD55 00000000 timeout
+  answer fault Line line 2: found "R1 ?00000120", expected R1 and 8 digits, timeout or damaged
+  2 CMD55 00000000 timeout
+  answer fault Line line 2: found "Timeout", expected R1 and 8 digits, timeout or damaged
+  2 CMD55 00000000 timeout
+  answer fault Line line 2: found "damage", expected R1 and 8 digits, timeout or damaged
+  2 CMD55 00000000 timeout
+  answer fault Line line 2: found "CMD55 00000000 R1 00000120", expected R1 and 8 digits, timeout or damaged
+  2 CMD55 00000000 timeout
+  answer fault Line line 2: found "?[0m??", expected R1 and 8 digits, timeout or damaged
+  2 CMD55 00000000 timeout
+  $ for front in '' R 'R1 00000120' timeout; do tell "$front"; tail -n 1 asked; done
+  answer fault Closed line 2: found the end, expected R1 and 8 digits, timeout or damaged
+  2 CMD55 00000000 timeout
+  CMD55 00000000 R1
+  answer fault Closed line 2: found the end behind "R", expected R1 and 8 digits, timeout or damaged
+  2 CMD55 00000000 timeout
+  CMD55 00000000 R1
+  answer fault Closed line 2: found the end behind "R1 00000120", expected R1 and 8 digits, timeout or damaged
+  2 CMD55 00000000 timeout
+  CMD55 00000000 R1
+  answer fault Closed line 2: found the end behind "timeout", expected R1 and 8 digits, timeout or damaged
+  2 CMD55 00000000 timeout
+  CMD55 00000000 R1
+  $ tell "$(head -c 2000 /dev/zero | tr '\0' 0)\n"; tail -n 1 asked
+  answer fault Line line 2: found "000000000000000000000000000000000000000000000000".., expected R1 and 8 digits, timeout or damaged
+  2 CMD55 00000000 timeout
+  CMD55 00000000 R1
+
+Where no response is waited for, the trace has the command as it was sent.
+
   $ for line in timeout damaged 'R1 00000900'; do printf "$line\n" | sdv drive a.sdv a.cert --trace trace 2>&1 > asked; echo $?; done; cat trace
-  cannot use -
+  answer fault Line line 1: found "timeout", expected -
   2
-  cannot use -
+  answer fault Line line 1: found "damaged", expected -
   2
-  cannot use -
+  answer fault Line line 1: found "R1 00000900", expected -
   2
+  CMD0 00000000 -
+
+Blanks at the end of a line and a carriage return say nothing, on either side; a line of a block has room for one of them.
+
+  $ for line in 'R1 00000120 ' 'R1 00000120\r' 'timeout \t \r' 'damaged  '; do tell "$line\n"; done
+  1 fault told
+  1 fault told
+  1 fault lost
+  1 fault lost
+  $ zeros=$(printf '%01024d' 0)
+  $ small=$EXAMPLES/sd_byte.card
+  $ printf 'CMD0 00000000 -\r\nWAIT  \r\nIN 1 lines 1\t\nOUT 1 lines 1\r\n%s\r\ndone \r\nWAIT\n' $zeros | sdv card $small new:16
+  -
+  ok
+  cut
+  cut
+  $ printf 'OUT 1 lines 1\r\n%s \r\n' $zeros | sdv card $small new:16
+  request fault Line line 1: found "000000000000000000000000000000000000000000000000".. in line 2, expected 1024 hexadecimal digits
+  [2]
 
 Once it gave up, it asks for nothing more.
 
   $ printf -- '-\nlost\nR1 00000120\n' | sdv drive a.sdv a.cert
   CMD0 00000000 -
   CMD55 00000000 R1
-  cannot use -
+  answer fault Line line 2: found "lost", expected R1 and 8 digits, timeout or damaged
   [2]
 
 The requests with their data lines; each line of blocks, as it is given and received.
@@ -45,7 +114,7 @@ The requests with their data lines; each line of blocks, as it is given and rece
   WAIT
   WAIT
   CMD13 00010000 R1
-  CMD8 00000000 R1
+  CMD8 00000000 R1 in 512 bytes lines 8
   REG 512 lines 8
   done
   REG 512 ok
@@ -75,14 +144,81 @@ A run may send as many commands as its certificate bounds; phases and waits are 
 Lines that are no request to a card: it ends, with the number of the line.
 
   $ small=$EXAMPLES/sd_byte.card
-  $ for line in '' 'WAIT ' wait done. 'IN 8' 'IN 1 lines 2' 'IN 3 lines 5' 'IN x lines 4' 'IN 1 lines 4 ' 'REG 513 lines 1' 'CMD64 00000000 R1' 'CMD17 0000000 R1' 'CMD17 000000000 R1' \
+  $ for line in '' ' WAIT' wait done. 'IN 8' 'IN 1 lines 2' 'IN 3 lines 5' 'IN x lines 4' 'IN 65536 lines 4' 'REG 513 lines 1' 'CMD64 00000000 R1' 'CMD17 0000000 R1' 'CMD17 000000000 R1' \
   >     'CMD17 00000000 X' 'CMD17 00000000' 'CMD 00000000 R1' ok; do printf "WAIT\n$line\n" | sdv card $small new:16 2>&1; echo $?; done | uniq -c | sort | uniq -c
        17       1 2
        17       1 ok
-       17       1 request fault Line line 2
+        1       1 request fault Line line 2: found " WAIT", expected a request
+        1       1 request fault Line line 2: found "", expected a request
+        1       1 request fault Line line 2: found "CMD 00000000 R1", expected a request
+        1       1 request fault Line line 2: found "CMD17 0000000 R1", expected a request
+        1       1 request fault Line line 2: found "CMD17 00000000 X", expected a request
+        1       1 request fault Line line 2: found "CMD17 00000000", expected a request
+        1       1 request fault Line line 2: found "CMD17 000000000 R1", expected a request
+        1       1 request fault Line line 2: found "CMD64 00000000 R1", expected a request
+        1       1 request fault Line line 2: found "IN 1 lines 2", expected a request
+        1       1 request fault Line line 2: found "IN 3 lines 5", expected a request
+        1       1 request fault Line line 2: found "IN 65536 lines 4", expected at most 65535 blocks
+        1       1 request fault Line line 2: found "IN 8", expected a request
+        1       1 request fault Line line 2: found "IN x lines 4", expected a request
+        1       1 request fault Line line 2: found "REG 513 lines 1", expected a request
+        1       1 request fault Line line 2: found "done.", expected a request
+        1       1 request fault Line line 2: found "ok", expected a request
+        1       1 request fault Line line 2: found "wait", expected a request
   $ printf 'WAIT\nfault mute\nWAIT\n' | sdv card $small new:16
   ok
   $ printf 'WAIT\nOUT 1 lines 4\n' | sdv card $small new:16
   ok
-  request fault Closed line 2
+  request fault Closed line 2: found the end in line 3, expected 1024 hexadecimal digits
   [2]
+  $ printf 'WAIT\nOUT 2 lines 4\n%s\n00\n' $zeros | sdv card $small new:16
+  ok
+  request fault Line line 2: found "00" in line 4, expected 1024 hexadecimal digits
+  [2]
+
+A command announces the data phase that follows it, and the card side reads it with and without that.
+
+  $ for line in ' in 1 lines 1' ' in 8 lines 4' ' in 512 bytes lines 8' ' out 65535 lines 4' '' ' in 1' ' in lines 1' ' in 1 lines 2' ' out 8 bytes lines 1' ' in 1 lines 1 in 1 lines 1' ' in  1 lines 1' \
+  >     ' up 1 lines 1' ' in 1 bytes' ' in 1 bytes lines 3'; do printf "CMD17 00000000 R1$line\n" | sdv card $small new:16 2>&1; done
+  timeout
+  timeout
+  timeout
+  timeout
+  timeout
+  request fault Line line 1: found "CMD17 00000000 R1 in 1", expected a request
+  request fault Line line 1: found "CMD17 00000000 R1 in lines 1", expected a request
+  request fault Line line 1: found "CMD17 00000000 R1 in 1 lines 2", expected a request
+  request fault Line line 1: found "CMD17 00000000 R1 out 8 bytes lines 1", expected a request
+  request fault Line line 1: found "CMD17 00000000 R1 in 1 lines 1 in 1 lines 1", expected a request
+  request fault Line line 1: found "CMD17 00000000 R1 in  1 lines 1", expected a request
+  request fault Line line 1: found "CMD17 00000000 R1 up 1 lines 1", expected a request
+  request fault Line line 1: found "CMD17 00000000 R1 in 1 bytes", expected a request
+  request fault Line line 1: found "CMD17 00000000 R1 in 1 bytes lines 3", expected a request
+  [2]
+  $ mkfifo requests answers; head -c 1024 /dev/zero > in
+  $ talk() { sdv card $EXAMPLES/$1 new:$2 < requests > answers & sdv drive script cert --in in --trace trace $3 < answers | tee requests; }
+  $ sdv batch sd "write 8 2 read 9 1" > script; sdv certify script > cert
+  $ talk sd_block.card 1024 | grep -v '^0*$' > announced; cp trace trace.announced; talk sd_block.card 1024 --plain | grep -v '^0*$' > plain
+  $ diff plain announced | grep '^>' | cut -c 3-; cmp trace trace.announced; sed 's/ in .*//; s/ out .*//' announced | cmp - plain
+  CMD25 00000008 R1 out 2 lines 1
+  CMD17 00000009 R1 in 1 lines 1
+  $ for script in emmc_ext_csd emmc_eight_lines sd_write_poll; do cp $EXAMPLES/$script.sdv script; sdv certify script > cert; kind=${script%%_*}
+  >     talk ${kind}_block.card $([ $kind = sd ] && echo 1024 || echo 2048) | grep -E ' (in|out) '; done
+  CMD8 00000000 R1 in 512 bytes lines 1
+  CMD8 00000000 R1 in 512 bytes lines 1
+  CMD8 00000000 R1 in 512 bytes lines 8
+  CMD24 00000003 R1 out 1 lines 1
+
+The bytes of ACMD51 and ACMD13, which follow a CMD55 that was answered with APP_CMD; a plain CMD13 has no data.
+
+  $ { sed -n '/^card/,/^let cap/p' $EXAMPLES/sd_bring_up.sdv; echo 'send 13 { clean { } else { fault a } } send 55 { app { } else { fault b } }'
+  >   echo 'send 51 { clean { } else { fault c } } recv reg { ok { } else { fault d } } send 55 { app { } else { fault e } } send 13 { clean { } else { fault f } } recv reg { ok { } else { fault g } } done'; } > script
+  $ sdv certify script > cert && talk sd_block.card 1024 | tail -n 8
+  CMD13 12340000 R1
+  CMD55 12340000 R1
+  CMD51 00000000 R1 in 8 bytes lines 1
+  REG 8 lines 1
+  CMD55 12340000 R1
+  CMD13 12340000 R1 in 64 bytes lines 1
+  REG 64 lines 1
+  done

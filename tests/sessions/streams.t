@@ -43,15 +43,15 @@ A request that is none ends it, with the number of its line.
 
   $ printf 'CMD0 00000000 -\nCMD64 00000000 -\nWAIT\n' | sdv card $card new:1024
   -
-  request fault Line line 2
+  request fault Line line 2: found "CMD64 00000000 -", expected a request
   [2]
   $ printf 'CMD0 00000000 -\nOUT 1 lines 4\n00\n' | sdv card $card new:1024
   -
-  request fault Line line 2
+  request fault Line line 2: found "00" in line 3, expected 1024 hexadecimal digits
   [2]
   $ printf 'CMD0 00000000 -\nWAI' | sdv card $card new:1024
   -
-  request fault Closed line 2
+  request fault Closed line 2: found the end behind "WAI", expected a request
   [2]
 
 Cards and images that cannot be used.
@@ -88,20 +88,22 @@ The host alone asks line by line. An answer that is none, and the end of its inp
   CMD0 00000000 -
   CMD8 000001aa R7
   CMD55 00000000 R1
-  cannot use -
+  answer fault Line line 3: found "R1 120", expected R1 and 8 digits, timeout or damaged
   [2]
   $ cat trace
   CMD0 00000000 -
   CMD8 000001aa R7 000001aa
+  CMD55 00000000 timeout
   $ printf '%s\n' - 'R7 000001aa' | sdv drive $up $cert --trace trace
   CMD0 00000000 -
   CMD8 000001aa R7
   CMD55 00000000 R1
-  cannot use -
+  answer fault Closed line 3: found the end, expected R1 and 8 digits, timeout or damaged
   [2]
   $ cat trace
   CMD0 00000000 -
   CMD8 000001aa R7 000001aa
+  CMD55 00000000 timeout
 
 A damaged answer is as good as a lost one.
 
@@ -123,9 +125,10 @@ Where no response is waited for, none is damaged.
 
   $ echo damaged | sdv drive $up $cert --trace trace
   CMD0 00000000 -
-  cannot use -
+  answer fault Line line 1: found "damaged", expected -
   [2]
   $ cat trace
+  CMD0 00000000 -
 
 Nothing is asked where the script is not accepted, or a file cannot be used.
 

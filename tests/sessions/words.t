@@ -107,7 +107,7 @@ Which word is wrong.
 An option is no value, and behind `--` there is none.
 
   $ sdv drive $up $cert --in --out o; sdv frame -- -1 0; sdv explain -- --why a b; sdv review -- --json --json
-  usage: --in needs FILE: sdv drive SCRIPT CERT [--in FILE] [--out FILE] [--trace FILE]
+  usage: --in needs FILE: sdv drive SCRIPT CERT [--in FILE] [--out FILE] [--trace FILE] [--plain]
   usage: -1 is no INDEX (from 0 to 63): sdv frame INDEX ARG
   usage: b is one word too many: sdv explain SCRIPT [CERT] [--why] [--dot] [--no-faults]
   usage: --json is one word too many: sdv review SCRIPT [--json]
@@ -142,9 +142,9 @@ The page of a command.
       --out FILE: the file that takes the blocks that the script receives
       --each: prints how each run with one mishap ends
       --lines: the trace says where the host changes its data lines
-      --in FILE: the blocks that the script gives, a whole number of them
       --out FILE: the file that takes the blocks that the script receives
       --trace FILE: the file that takes the trace of the run
+      --plain: prints commands without the data phases that follow them
       SCHEDULE: a file with a digit from 0 to 7 for each event: what the card does there
       --describe: prints the description in words, or the line that is wrong; no IMAGE stands there
   $ sdv explain -h
