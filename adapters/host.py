@@ -22,9 +22,10 @@ class Card:
         print(lines[0], "->", answer)
         return answer
 
-    def command(self, index, argument, response="R1"):
-        """The word of the response; None where none came in time, or a damaged one: the card may have taken the command or not."""
-        answer = self.ask(f"CMD{index} {argument:08x} {response}")
+    def command(self, index, argument, response="R1", data=""):
+        """The word of the response; None where none came in time, or a damaged one: the card may have taken the command or not. The
+        request announces the data that follow, if any do."""
+        answer = self.ask(f"CMD{index} {argument:08x} {response}{data}")
         if answer == "-":
             return 0
         return None if answer in ("timeout", "damaged") else int(answer.split()[1], 16)
@@ -81,10 +82,10 @@ def main():
     block = bytes(range(256)) * 2
     read = None
     for _ in range(5):
-        if card.command(24, address) is not None and card.give([block]):
+        if card.command(24, address, data=" out 1 lines 1") is not None and card.give([block]):
             card.ask("WAIT")
         until_transfer(card, rca)
-        if card.command(17, address) is not None:
+        if card.command(17, address, data=" in 1 lines 1") is not None:
             read = card.receive(1)
         until_transfer(card, rca)
         if read == block:

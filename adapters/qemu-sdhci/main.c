@@ -182,26 +182,24 @@ static void read_block(uint8_t *block)
     }
 }
 
-/* The data lines that the card was told to use. */
-static uint32_t lines_of_card = 1;
-
-/* The data that follow a command: by its index, and for 13 and 51 by the application flag of the card. How many blocks there will be
- * comes with the phase. */
-static struct sdhci_data data_of(uint32_t index, bool application)
+/* The data that follow a command, as its request announces them: ` in 8 lines 4`, ` in 512 bytes lines 1`, ` out 8 lines 4`, or
+ * nothing. False if it is none of these. */
+static bool read_data(const char *text, struct sdhci_data *data)
 {
-    struct sdhci_data data = {SDHCI_NO_DATA, 512, 0, 0};
+    char way[4];
+    uint32_t count;
 
-    data.lines = lines_of_card;
-    data.blocks = index == 18 || index == 25 ? 0 : 1;
-    if (index == 17 || index == 18)
-        data.direction = SDHCI_TO_HOST;
-    if (index == 24 || index == 25)
-        data.direction = SDHCI_TO_CARD;
-    if (application && (index == 13 || index == 51)) {
-        data.direction = SDHCI_TO_HOST;
-        data.block_bytes = index == 13 ? 64 : 8;
-    }
-    return data;
+    data->block_bytes = 512;
+    if (*text == '\0')
+        return true;
+    if (sscanf(text, " %3s %" SCNu32 " lines %" SCNu32, way, &count, &data->lines) == 3)
+        data->blocks = count;
+    else if (sscanf(text, " %3s %" SCNu32 " bytes lines %" SCNu32, way, &data->block_bytes, &data->lines) == 3)
+        data->blocks = 1;
+    else
+        return false;
+    data->direction = strcmp(way, "in") == 0 ? SDHCI_TO_HOST : SDHCI_TO_CARD;
+    return true;
 }
 
 static enum sdhci_response response_of(const char *name)
@@ -209,25 +207,20 @@ static enum sdhci_response response_of(const char *name)
     return *name == '-' ? SDHCI_NONE : (enum sdhci_response)(name[1] - '0');
 }
 
-/* CMD<index> <argument> <response> */
+/* CMD<index> <argument> <response>, and the data that follow */
 static bool answer_command(const char *line)
 {
-    static bool application; /* the card said that it takes the next command as an application command */
     struct sdhci_command command = {0};
     struct sdhci_answer answer = {SDHCI_TIMEOUT, 0, {0}};
     char name[4];
+    int end = 0;
 
-    if (sscanf(line, "CMD%" SCNu32 " %" SCNx32 " %3s", &command.index, &command.argument, name) != 3)
+    if (sscanf(line, "CMD%" SCNu32 " %" SCNx32 " %3s%n", &command.index, &command.argument, name, &end) != 3
+        || !read_data(line + end, &command.data))
         return false;
     command.response = response_of(name);
     command.busy = command.index == 7 || command.index == 12 || command.index == 38;
-    command.data = data_of(command.index, application);
     sdhci_exchange(&host, &command, &answer);
-    if (application && command.index == 6 && answer.outcome == SDHCI_ANSWERED)
-        lines_of_card = command.argument == 2 ? 4 : 1;
-    if (command.index == 0)
-        lines_of_card = 1;
-    application = command.index == 55 && answer.outcome == SDHCI_ANSWERED && answer.word >> 5 & 1;
     switch (answer.outcome) {
     case SDHCI_SENT:
         puts("-");
@@ -249,7 +242,7 @@ static bool answer_command(const char *line)
     return true;
 }
 
-/* The data lines of the phase are those that the card was told to use, and the command had them. */
+/* The data lines of the phase came with the command. */
 static void answer_phase(const char *word, uint32_t count)
 {
     uint32_t block_bytes = strcmp(word, "REG") == 0 ? count : 512, blocks = strcmp(word, "REG") == 0 ? 1 : count, i;
